@@ -1,5 +1,5 @@
 -- What looks, collections and the end of a slot's use tell and leave.
-use Rattle.std.proofs.Common.{◌≡◌, ℕ, zero, suc, ◌+◌, ◌-◌, ◌%◌, ◌<◌, ◌≤◌, inr, ⊎_elim, List, [], length, get_or, set, Option, Some, None, Bool, true, false, not, ◌&&◌, ◌||◌, ◌==◌, Result, Ok, refl, sym, ap, subst, ◌∙◌, arith, nat_lt, get_or-set_same, get_or-set_other, add-zero, IsSome}
+use Rattle.std.proofs.Common.{◌≡◌, ℕ, zero, suc, ◌+◌, ◌-◌, ◌%◌, ◌<◌, inr, List, [], length, get_or, set, Option, Some, None, Bool, true, false, not, ◌&&◌, ◌||◌, ◌==◌, Result, Ok, refl, sym, ap, subst, ◌∙◌, arith, nat_lt, get_or-set_same, get_or-set_other, add-zero, IsSome}
 use Rattle.std.specs.Prelude.{is_some, is_none}
 use Rattle.std.proofs.lemmas.Bool.{cases_lt, cases_eq, eqb-true, eq-eqb, lt-ltb, ne_eqb, cases_Bool, and_from}
 use Rattle.std.proofs.lemmas.Option.{same_Some}
@@ -33,6 +33,7 @@ use Rattle.protocol.proofs.keeps.Searching.{within_some}
 use Rattle.std.proofs.lemmas.List.{set-get_or}
 use Rattle.passive_core.proofs.Acting.{made_is}
 use Rattle.protocol.proofs.slots.MarkRows.{clear_from, collected_from, mark_grows, mark_there, mark_written, marks_grow_more, marks_grow_none, passed_from, row_elsewhere, snapshot_stands}
+use Rattle.protocol.proofs.Either.{either}
 
 -- an event whose test passes is allowed
 pub guard_some : (b : Bool) (s : State) (r : Reply) → b ≡ true → IsSome (guard b (some_outcome s r))
@@ -176,10 +177,9 @@ mark_beside marks t c m j off = cell_other no_mark marks t c m t j (λ _ same. o
 
 shows_clear : (m : Mark) (w : ℕ) → (m.clear ≡ true → w ≡ 0) → (m.clear || (w == 0)) ≡ not (nat_lt 0 w)
 shows_clear m zero zero_if = or_last m.clear (zero == 0) refl
-shows_clear m (suc w) zero_if = ⊎_elim
-    (λ (clear : m.clear ≡ true). absurd (omega (arith, zero_if clear)))
-    (λ (not_yet : m.clear ≡ false). rw (not_yet, ne_eqb (suc w) 0 (λ same. omega arith), lt-ltb 0 (suc w) (omega arith)) refl)
-    (cases_Bool m.clear)
+shows_clear m (suc w) zero_if = either (cases_Bool m.clear)
+    (λ clear. absurd (omega (arith, zero_if clear)))
+    (λ not_yet. rw (not_yet, ne_eqb (suc w) 0 (λ same. omega arith), lt-ltb 0 (suc w) (omega arith)) refl)
 
 pub passive_clears : (s : State) (t c : ℕ) → Holds s → is_retired (slot_at s.slots t) ≡ true → (mark_after_passive_look (mark_at s.marks t c) (passive_at s.passive c t)).clear ≡ not (has_passive s t c)
 passive_clears s t c on gone =
@@ -248,10 +248,7 @@ gathered_total s t e on rest gone all = all_collected on.balance t e (at_rest_te
 pub gathered_words : (s : State) (t : ℕ) → Holds s → is_retired (slot_at s.slots t) ≡ true → AllCollected s t → (c : ℕ) → count_at s.counts c t ≡ 0
 gathered_words s t on gone all c =
     let e = is_retired_tells (slot_at s.slots t) gone in
-    ⊎_elim
-    (λ (lt : c < s.settings.cpus). on.balance.emptied c t e.0 e.1 (all c lt))
-    (λ (ge : s.settings.cpus ≤ c). on.balance.beyond c t ge)
-    (cases_lt c s.settings.cpus)
+    either (cases_lt c s.settings.cpus) (λ lt. on.balance.emptied c t e.0 e.1 (all c lt)) (λ ge. on.balance.beyond c t ge)
 
 -- The end of a slot's use
 
@@ -296,21 +293,19 @@ gave_up s n t d u on kept of drained is =
     let new : List ℕ = set s.totals u (total_at s.totals u - 1) in
     subst (λ (x : State). Empties s x t) (sym is) (record {
       only = refl;
-      totals = λ v off. ap (λ (k : Option ℕ). total_at new v + count_given_up k (slot_at s.slots v)) kept ∙ ⊎_elim
-          (λ (same : v ≡ u).
+      totals = λ v off. ap (λ (k : Option ℕ). total_at new v + count_given_up k (slot_at s.slots v)) kept ∙ either (cases_eq v u)
+          (λ same.
           let has : has_number d (slot_at s.slots v) ≡ true = ap (λ (k : ℕ). has_number d (slot_at s.slots k)) same ∙ has_it d driver.0 (slot_at s.slots u) driver.1 driver.2 in
           let one : count_given_up (Some d) (slot_at s.slots v) ≡ 1 = ap one_if has in
           let here : total_at new v ≡ total_at s.totals u - 1 = ap (total_at new) same ∙ get_or-set_same s.totals u (total_at s.totals u - 1) 0 lt in
           omega (arith, one, here, some, ap (total_at s.totals) same))
-          (λ (other : v ≡ u → ⊥).
-          let lacks : has_number d (slot_at s.slots v) ≡ false = ⊎_elim
-          (λ (has : has_number d (slot_at s.slots v) ≡ true).
+          (λ other.
+          let lacks : has_number d (slot_at s.slots v) ≡ false = either (cases_Bool (has_number d (slot_at s.slots v)))
+          (λ has.
           let f = number_in d (slot_at s.slots v) has in
           absurd (other (one_number s.history s.slots u v driver.0 f.0 on.slots driver.1 f.1 (f.2 ∙ sym driver.2)).0))
-          (λ (not_ : has_number d (slot_at s.slots v) ≡ false). not_)
-          (cases_Bool (has_number d (slot_at s.slots v))) in
-          omega (arith, ap one_if lacks, get_or-set_other s.totals u v (total_at s.totals u - 1) 0 other))
-          (cases_eq v u);
+          (λ not_. not_) in
+          omega (arith, ap one_if lacks, get_or-set_other s.totals u v (total_at s.totals u - 1) 0 other));
       total = get_or-set_other s.totals u t (total_at s.totals u - 1) 0 (λ same. driver.4 (sym same)) ∙ told.5;
     })
 
@@ -325,10 +320,9 @@ holders_are_open s on rest t c b e gone in_ may =
     let was = on.slots.retired t e gone in
     let lt : c < s.settings.cpus = omega (arith, within_some s.begins c b in_, on.shape.begins) in
     let w = snapshot_stands s t c on rest (ap is_retired gone) lt in
-    let same : section_at s c ≡ w.0 = ⊎_elim
-    (λ (is : section_at s c ≡ w.0). is)
-    (λ (off : section_at s c ≡ w.0 → ⊥). absurd (omega (arith, on.grace.changed t was.2.0 c b w.0 e gone was.2.1 in_ w.1 off, may.unended was.2.0 was.2.1)))
-    (cases_eq (section_at s c) w.0) in
+    let same : section_at s c ≡ w.0 = either (cases_eq (section_at s c) w.0)
+    (λ is. is)
+    (λ off. absurd (omega (arith, on.grace.changed t was.2.0 c b w.0 e gone was.2.1 in_ w.1 off, may.unended was.2.0 was.2.1))) in
     still_open (begin_at s c) (mark_at s.marks t c).snapshot b w.0 (section_at s c) in_ w.1 same
 
 -- passive references stay while only marks change

@@ -1,5 +1,5 @@
 -- The walk of a lookup that nothing disturbs: what each load leaves, and what the last one answers.
-use Rattle.std.proofs.Common.{◌≡◌, ℕ, zero, suc, ◌<◌, ◌⊎◌, inl, inr, ⊎_elim, List, length, get_or, set, Option, Some, None, Bool, true, false, refl, sym, ap, subst, ◌∙◌, arith, get_or-set_same}
+use Rattle.std.proofs.Common.{◌≡◌, ℕ, zero, suc, ◌<◌, ◌⊎◌, inl, inr, List, length, get_or, set, Option, Some, None, Bool, true, false, refl, sym, ap, subst, ◌∙◌, arith, get_or-set_same}
 use Rattle.std.proofs.lemmas.List.{set-set, set-get_or}
 use Rattle.registry_values.specs.Slots.{are_words_of}
 use Rattle.registry_values.specs.declared.entry.Change.{Change}
@@ -18,6 +18,7 @@ use Rattle.protocol.specs.Events.{Outcome, guard, some_outcome, may_seek, after_
 use Rattle.passive_core.specs.Finding.{after_find, load_at, next_load}
 use Rattle.passive_core.proofs.Acting.{made_is}
 use Rattle.protocol.proofs.keeps.Searching.{Finds, FindSteps, IsFindStep, find_link, find_record, placed, searching_within, seen_now, weight}
+use Rattle.protocol.proofs.Either.{either}
 
 -- the state s of a walk of c that began in b
 pub record Walking (b s : State) (c : ℕ) : Type 0 where
@@ -126,10 +127,9 @@ load_turns b s t c key r on none walks made =
     let is : search_at s c ≡ Some q = walks.finds.searching in
     let load : load_at s c q walks.place ≡ Some (record { state = t; reply = r }) = ap (next_load s c) (sym is) ∙ made in
     let lt : c < s.settings.cpus = searching_within s c q on is in
-    let seen : (walks.place ≡ AtHead) ⊎ (seen_at s c ≡ length b.history) = ⊎_elim
-    (λ (head : walks.place ≡ AtHead). inl head)
-    (λ (all : seen_at s c ≡ length s.history). inr (all ∙ ap length (history_same b s c walks.walking)))
-    walks.finds.seen in
+    let seen : (walks.place ≡ AtHead) ⊎ (seen_at s c ≡ length b.history) = either walks.finds.seen
+    (λ head. inl head)
+    (λ all. inr (all ∙ ap length (history_same b s c walks.walking))) in
     let moved : IsMoved b c t r = subst (Moves b c) load (load_moves b s c q walks.place on lt walks.walking none seen) in
     let step : IsFindStep t c q (weight s walks.place) r = subst (FindSteps c q (weight s walks.place)) load (load_finds s c q walks.place refl on walks.finds) in
     subst (λ (n : ℕ). IsTurn b c key n t r) (ap (left s) (sym is)) (turn_of b c q (weight s walks.place) t r moved step)
@@ -140,7 +140,11 @@ walk_starts b c key lt = record {
   walking = record { same = refl; seen = refl; searches = set-set b.searches c (Some (record { key = key; start = seen_at b c; place = AtHead })) None };
   start = seen_at b c;
   place = AtHead;
-  finds = assumption (get_or-set_same b.searches c (Some (record { key = key; start = seen_at b c; place = AtHead })) None lt, inl refl);
+  finds = record {
+    searching = get_or-set_same b.searches c (Some (record { key = key; start = seen_at b c; place = AtHead })) None lt;
+    stands = tt;
+    seen = inl refl;
+  };
 }
 
 -- a walk that isn't over goes on, with less left

@@ -1,5 +1,5 @@
 -- The events on local references keep the invariant.
-use Rattle.std.proofs.Common.{Bool, Some, [], ap, arith, false, get_or, inl, inr, length, length-set, ltb-true, not, refl, set, subst, sym, true, ℕ, ⊎_elim, ◌&&◌, ◌+◌, ◌-◌, ◌<◌, ◌∙◌, ◌≡◌, ◌==◌}
+use Rattle.std.proofs.Common.{Bool, Some, [], ap, arith, false, get_or, inl, inr, length, length-set, ltb-true, not, refl, set, subst, sym, true, ℕ, ◌&&◌, ◌+◌, ◌-◌, ◌<◌, ◌∙◌, ◌≡◌, ◌==◌}
 use Rattle.std.proofs.lemmas.Bool.{and_parts, cases_Bool, eq-eqb, eqb-true}
 use Rattle.std.specs.Prelude.{if◌then◌else◌, is_none, nat_lt}
 use Rattle.protocol.proofs.counts.Counts as C
@@ -25,7 +25,7 @@ use Rattle.protocol.specs.declared.state.Due.TheVariants.{Adding, Rest, Snapshot
 use Rattle.protocol.specs.declared.state.Hand.{Hand}
 use Rattle.protocol.specs.declared.state.Hand.TheVariants.{Back, Empty, Giving, Taking}
 use Rattle.protocol.specs.declared.state.LocalPlace.TheVariants.{Lifted, Standing}
-use Rattle.registry_values.specs.declared.slot.Slot.TheVariants.{Live, Retired}
+use Rattle.protocol.proofs.Either.{either}
 
 -- the lengths and limits of the counts
 pub fit_of : (s : State) → Holds s → C.CountsFit s.settings s.slots s.marks s.counts s.nets s.totals s.hands s.keeps
@@ -72,19 +72,17 @@ held_counting s c t e on found of =
       here,
       (
         e,
-        ⊎_elim
-            (λ (live : slot_at s.slots t ≡ Live e). inl live)
-            (λ (gone : slot_at s.slots t ≡ Retired e). inr (
+        either here
+            (λ live. inl live)
+            (λ gone. inr (
               gone,
-              ⊎_elim
-                  (λ (done : (mark_at s.marks t c).collected ≡ true).
+              either (cases_Bool (mark_at s.marks t c).collected)
+                  (λ done.
                   absurd (found_not_passed s.history s.slots s.marks s.section s.begins s.found c t e on.slots on.grace on.last_found gone
                   (ap (is_number e.number) found ∙ eq-eqb e.number e.number refl)
                   (on.passive.clear c t e gone (on.passive.collected c t e gone done)).0))
-                  (λ (still : (mark_at s.marks t c).collected ≡ false). still)
-                  (cases_Bool (mark_at s.marks t c).collected),
-            ))
-            here,
+                  (λ still. still),
+            )),
       ),
     )
 

@@ -1,5 +1,5 @@
 -- Snapshots, looks and the end of a slot's use.
-use Rattle.std.proofs.Common.{Bool, List, None, Option, Some, [], ap, arith, false, get_or, get_or-set_other, get_or-set_same, inl, inr, length, not, refl, replicate, set, subst, suc, sym, take, true, zero, ℕ, ⊎_elim, ◌%◌, ◌+◌, ◌<◌, ◌||◌, ◌∙◌, ◌∷◌, ◌≡◌, ◌≢◌, ◌≤◌, ◌⊎◌}
+use Rattle.std.proofs.Common.{Bool, List, None, Option, Some, [], ap, arith, false, get_or, get_or-set_other, get_or-set_same, inl, inr, length, not, refl, replicate, set, subst, suc, sym, take, true, zero, ℕ, ◌%◌, ◌+◌, ◌<◌, ◌||◌, ◌∙◌, ◌∷◌, ◌≡◌, ◌≢◌, ◌≤◌}
 use Rattle.std.proofs.lemmas.Bool.{and_parts, eq-eqb, eqb-true, lt-ltb, or_cases}
 use Rattle.std.proofs.lemmas.Option.{same_Some}
 use Rattle.std.specs.List.{list_all}
@@ -23,6 +23,7 @@ use Rattle.registry_values.specs.declared.slot.Slot.{Slot}
 use Rattle.registry_values.specs.declared.slot.Slot.TheVariants.{Live, Retired, Vacant}
 use Rattle.protocol.proofs.slots.Occupied.{slot_cases, not_vacant}
 use Rattle.protocol.proofs.slots.Cells.{by_cell, cell_here, cell_other, cell_put, get_or_all}
+use Rattle.protocol.proofs.Either.{either}
 
 -- a fresh row of marks
 pub marks_detach : (h : List Change) (slots : List Slot) (marks : List (List Mark)) (section : List ℕ) (begins : List (Option ℕ)) (e : Entry) (n : ℕ) → slot_at slots e.slot ≡ Live e → length marks ≡ length slots → SlotsShow h slots
@@ -37,25 +38,21 @@ marks_detach h slots marks section begins e n at size show m =
     let kept : (u j : ℕ) → (u ≡ e.slot → ⊥) → mark_at (set marks e.slot (replicate n no_mark)) u j ≡ mark_at marks u j = λ u j off.
     ap (λ (r : List Mark). get_or r j no_mark) (get_or-set_other marks e.slot u (replicate n no_mark) [] off) in
     record {
-      passed = λ u p c b f is ends in_ holds. ⊎_elim
-          (λ (same : (u ≡ e.slot) × (f ≡ e)). absurd (let q : ◌≡◌ {A = Bool} false true = sym (ap (λ (x : Mark). x.passed) (fresh u c same.0)) ∙ holds in cc))
-          (λ (off : (u ≡ e.slot → ⊥) × (slot_at slots u ≡ Retired f)).
-          m.passed u p c b f off.1 (end_before h slots e f u p show le off.1 ends).1 in_ (sym (ap (λ (x : Mark). x.passed) (kept u c off.0)) ∙ holds))
-          (gone_before slots e f u lt is);
-      changed = λ u p c b w f is ends in_ snap differs. ⊎_elim
-          (λ (same : (u ≡ e.slot) × (f ≡ e)). absurd (let q : ◌≡◌ {A = Option ℕ} None (Some w) = sym (ap (λ (x : Mark). x.snapshot) (fresh u c same.0)) ∙ snap in cc))
-          (λ (off : (u ≡ e.slot → ⊥) × (slot_at slots u ≡ Retired f)).
-          m.changed u p c b w f off.1 (end_before h slots e f u p show le off.1 ends).1 in_ (sym (ap (λ (x : Mark). x.snapshot) (kept u c off.0)) ∙ snap) differs)
-          (gone_before slots e f u lt is);
-      older = λ u c w f is snap. ⊎_elim
-          (λ (same : (u ≡ e.slot) × (f ≡ e)). absurd (let q : ◌≡◌ {A = Option ℕ} None (Some w) = sym (ap (λ (x : Mark). x.snapshot) (fresh u c same.0)) ∙ snap in cc))
-          (λ (off : (u ≡ e.slot → ⊥) × (slot_at slots u ≡ Retired f)). m.older u c w f off.1 (sym (ap (λ (x : Mark). x.snapshot) (kept u c off.0)) ∙ snap))
-          (gone_before slots e f u lt is);
-      left = λ u c b w f is in_ holds snap now. ⊎_elim
-          (λ (same : (u ≡ e.slot) × (f ≡ e)). let q : ◌≡◌ {A = Bool} false true = sym (ap (λ (x : Mark). x.passed) (fresh u c same.0)) ∙ holds in cc)
-          (λ (off : (u ≡ e.slot → ⊥) × (slot_at slots u ≡ Retired f)).
-          m.left u c b w f off.1 in_ (sym (ap (λ (x : Mark). x.passed) (kept u c off.0)) ∙ holds) (sym (ap (λ (x : Mark). x.snapshot) (kept u c off.0)) ∙ snap) now)
-          (gone_before slots e f u lt is);
+      passed = λ u p c b f is ends in_ holds. either (gone_before slots e f u lt is)
+          (λ same. absurd (let q : ◌≡◌ {A = Bool} false true = sym (ap (λ (x : Mark). x.passed) (fresh u c same.0)) ∙ holds in cc))
+          (λ off.
+          m.passed u p c b f off.1 (end_before h slots e f u p show le off.1 ends).1 in_ (sym (ap (λ (x : Mark). x.passed) (kept u c off.0)) ∙ holds));
+      changed = λ u p c b w f is ends in_ snap differs. either (gone_before slots e f u lt is)
+          (λ same. absurd (let q : ◌≡◌ {A = Option ℕ} None (Some w) = sym (ap (λ (x : Mark). x.snapshot) (fresh u c same.0)) ∙ snap in cc))
+          (λ off.
+          m.changed u p c b w f off.1 (end_before h slots e f u p show le off.1 ends).1 in_ (sym (ap (λ (x : Mark). x.snapshot) (kept u c off.0)) ∙ snap) differs);
+      older = λ u c w f is snap. either (gone_before slots e f u lt is)
+          (λ same. absurd (let q : ◌≡◌ {A = Option ℕ} None (Some w) = sym (ap (λ (x : Mark). x.snapshot) (fresh u c same.0)) ∙ snap in cc))
+          (λ off. m.older u c w f off.1 (sym (ap (λ (x : Mark). x.snapshot) (kept u c off.0)) ∙ snap));
+      left = λ u c b w f is in_ holds snap now. either (gone_before slots e f u lt is)
+          (λ same. let q : ◌≡◌ {A = Bool} false true = sym (ap (λ (x : Mark). x.passed) (fresh u c same.0)) ∙ holds in cc)
+          (λ off.
+          m.left u c b w f off.1 in_ (sym (ap (λ (x : Mark). x.passed) (kept u c off.0)) ∙ holds) (sym (ap (λ (x : Mark). x.snapshot) (kept u c off.0)) ∙ snap) now);
     }
 
 -- A mark is written that says no more than is so.
@@ -95,37 +92,32 @@ changed_word (Some v) w holds = (v, refl, λ same. let q : ◌≡◌ {A = Bool} 
 pub marks_look : (z : Settings) (h : List Change) (slots : List Slot) (marks : List (List Mark)) (section : List ℕ) (begins : List (Option ℕ)) (depths seen : List ℕ) (t c : ℕ) → SectionsShow z h section begins depths seen
     → MarksHold h slots marks section begins → MarksHold h slots (set marks t (set (get_or marks t []) c (mark_after_look (mark_at marks t c) (get_or section c 0)))) section begins
 marks_look z h slots marks section begins depths seen t c shown was = marks_write h slots marks section begins t c (mark_after_look (mark_at marks t c) (get_or section c 0))
-    (λ p b e is ends in_ holds. ⊎_elim
-    (λ (before : (mark_at marks t c).passed ≡ true). was.passed t p c b e is ends in_ before)
-    (λ (now : (is_even (get_or section c 0) || has_changed (mark_at marks t c).snapshot (get_or section c 0)) ≡ true). ⊎_elim
-    (λ (even : is_even (get_or section c 0) ≡ true). absurd (omega (arith, eqb-true (get_or section c 0 % 2) 0 even, (shown.inside c b in_).0)))
-    (λ (changed : has_changed (mark_at marks t c).snapshot (get_or section c 0) ≡ true).
+    (λ p b e is ends in_ holds. either (or_cases (mark_at marks t c).passed (is_even (get_or section c 0) || has_changed (mark_at marks t c).snapshot (get_or section c 0)) holds)
+    (λ before. was.passed t p c b e is ends in_ before)
+    (λ now. either (or_cases (is_even (get_or section c 0)) (has_changed (mark_at marks t c).snapshot (get_or section c 0)) now)
+    (λ even. absurd (omega (arith, eqb-true (get_or section c 0 % 2) 0 even, (shown.inside c b in_).0)))
+    (λ changed.
     let w = changed_word (mark_at marks t c).snapshot (get_or section c 0) changed in
-    was.changed t p c b w.0 e is ends in_ w.1 w.2)
-    (or_cases (is_even (get_or section c 0)) (has_changed (mark_at marks t c).snapshot (get_or section c 0)) now))
-    (or_cases (mark_at marks t c).passed (is_even (get_or section c 0) || has_changed (mark_at marks t c).snapshot (get_or section c 0)) holds))
+    was.changed t p c b w.0 e is ends in_ w.1 w.2)))
     (λ p b w e is ends in_ snap differs. was.changed t p c b w e is ends in_ snap differs)
     (λ w e is snap. was.older t c w e is snap)
-    (λ b x e is in_ holds snap same. ⊎_elim
-    (λ (before : (mark_at marks t c).passed ≡ true). was.left t c b x e is in_ before snap same)
-    (λ (now : (is_even (get_or section c 0) || has_changed (mark_at marks t c).snapshot (get_or section c 0)) ≡ true). ⊎_elim
-    (λ (even : is_even (get_or section c 0) ≡ true). omega (arith, eqb-true (get_or section c 0 % 2) 0 even, (shown.inside c b in_).0))
-    (λ (changed : has_changed (mark_at marks t c).snapshot (get_or section c 0) ≡ true).
+    (λ b x e is in_ holds snap same. either (or_cases (mark_at marks t c).passed (is_even (get_or section c 0) || has_changed (mark_at marks t c).snapshot (get_or section c 0)) holds)
+    (λ before. was.left t c b x e is in_ before snap same)
+    (λ now. either (or_cases (is_even (get_or section c 0)) (has_changed (mark_at marks t c).snapshot (get_or section c 0)) now)
+    (λ even. omega (arith, eqb-true (get_or section c 0 % 2) 0 even, (shown.inside c b in_).0))
+    (λ changed.
     let w = changed_word (mark_at marks t c).snapshot (get_or section c 0) changed in
-    w.2 (same ∙ same_Some x w.0 (sym snap ∙ w.1)))
-    (or_cases (is_even (get_or section c 0)) (has_changed (mark_at marks t c).snapshot (get_or section c 0)) now))
-    (or_cases (mark_at marks t c).passed (is_even (get_or section c 0) || has_changed (mark_at marks t c).snapshot (get_or section c 0)) holds))
+    w.2 (same ∙ same_Some x w.0 (sym snap ∙ w.1)))))
     was
 
 -- Snapshots: a fresh row of marks has none, and all are due.
 pub snapshots_detach : (cpus : ℕ) (slots : List Slot) (marks : List (List Mark)) (e : Entry) (n : ℕ) → e.slot < length slots → SnapshotsStand cpus slots marks Rest
     → SnapshotsStand cpus (set slots e.slot (Retired e)) (set marks e.slot (replicate n no_mark)) (Snapshots e.slot 0)
-snapshots_detach cpus slots marks e n lt stand u c f is low later = ⊎_elim
-    (λ (same : (u ≡ e.slot) × (f ≡ e)). absurd (later (0, ap (λ (k : ℕ). Snapshots k 0) (sym same.0), omega arith)))
-    (λ (off : (u ≡ e.slot → ⊥) × (slot_at slots u ≡ Retired f)).
+snapshots_detach cpus slots marks e n lt stand u c f is low later = either (gone_before slots e f u lt is)
+    (λ same. absurd (later (0, ap (λ (k : ℕ). Snapshots k 0) (sym same.0), omega arith)))
+    (λ off.
     let was = stand u c f off.1 low (λ due. let q : Rest ≡ Snapshots u due.0 = due.1 in cc) in
     (was.0, ap (λ (r : List Mark). (get_or r c no_mark).snapshot) (get_or-set_other marks e.slot u (replicate n no_mark) [] off.0) ∙ was.1))
-    (gone_before slots e f u lt is)
 
 -- the snapshot that was due is taken, and the next one is due
 pub snapshots_taken : (cpus : ℕ) (slots : List Slot) (marks : List (List Mark)) (t c w : ℕ) → t < length marks → c < length (get_or marks t []) → SnapshotsStand cpus slots marks (Snapshots t c)
@@ -157,10 +149,7 @@ snapshots_marked cpus slots marks due t c m same stand u j e is low later =
 
 -- A slot becomes vacant.
 pub vacated_before : (slots : List Slot) (t u : ℕ) (f : Entry) → t < length slots → IsIn f (slot_at (set slots t Vacant) u) → (u ≡ t → ⊥) × (slot_at (set slots t Vacant) u ≡ slot_at slots u)
-vacated_before slots t u f lt is = ⊎_elim
-    (λ (same : (u ≡ t) × (slot_at (set slots t Vacant) u ≡ Vacant)). absurd (not_vacant f (slot_at (set slots t Vacant) u) same.1 is))
-    (λ (off : (u ≡ t → ⊥) × (slot_at (set slots t Vacant) u ≡ slot_at slots u)). off)
-    (slot_cases slots t Vacant u lt)
+vacated_before slots t u f lt is = either (slot_cases slots t Vacant u lt) (λ same. absurd (not_vacant f (slot_at (set slots t Vacant) u) same.1 is)) (λ off. off)
 
 pub slots_vacate : (h : List Change) (slots : List Slot) (t : ℕ) (e : Entry) → t < length slots → slot_at slots t ≡ Retired e → SlotsShow h slots → SlotsShow h (set slots t Vacant)
 slots_vacate h slots t e lt at show = record {
@@ -194,18 +183,16 @@ pub held_vacate : (h : List Change) (slots : List Slot) (marks : List (List Mark
     → ((c b : ℕ) → get_or begins c None ≡ Some b → (mark_at marks t c).passed ≡ true) → MarksHold h slots marks section begins → HeldStay h slots begins → HeldStay h (set slots t Vacant) begins
 held_vacate h slots marks section begins t e lt at show all m held c b f is hold =
     let was : IsIn f (slot_at slots f.slot) = held c b f is hold in
-    ⊎_elim
-    (λ (same : (f.slot ≡ t) × (slot_at (set slots t Vacant) f.slot ≡ Vacant)).
+    either (slot_cases slots t Vacant f.slot lt)
+    (λ same.
     let there : slot_at slots f.slot ≡ Retired e = ap (slot_at slots) same.0 ∙ at in
-    absurd (⊎_elim
-    (λ (live : slot_at slots f.slot ≡ Live f). let q : Live f ≡ Retired e = sym live ∙ there in cc)
-    (λ (gone : slot_at slots f.slot ≡ Retired f).
+    absurd (either was
+    (λ live. let q : Live f ≡ Retired e = sym live ∙ there in cc)
+    (λ gone.
     let end = (show.retired f.slot f gone).2 in
     let here : slot_at slots t ≡ Retired f = ap (slot_at slots) (sym same.0) ∙ gone in
-    omega (arith, m.passed t end.0 c b f here end.1 is (all c b is), hold.unended end.0 end.1))
-    was))
-    (λ (off : (f.slot ≡ t → ⊥) × (slot_at (set slots t Vacant) f.slot ≡ slot_at slots f.slot)). subst (IsIn f) (sym off.1) was)
-    (slot_cases slots t Vacant f.slot lt)
+    omega (arith, m.passed t end.0 c b f here end.1 is (all c b is), hold.unended end.0 end.1))))
+    (λ off. subst (IsIn f) (sym off.1) was)
 
 -- what a test passes of each of the first n
 pub list_all_within : {X : Type 0} (p : X → Bool) (xs : List X) (n i : ℕ) (d : X) → list_all p (take n xs) ≡ true → i < n → i < length xs → p (get_or xs i d) ≡ true

@@ -1,5 +1,5 @@
 -- Passive references and the marks that tell that there is none.
-use Rattle.std.proofs.Common.{Bool, List, None, Option, Some, [], ap, arith, false, get_or, get_or-set_other, get_or-set_same, inr, length, refl, replicate, set, subst, sym, true, ℕ, ⊎_elim, ◌<◌, ◌∙◌, ◌≡◌, ◌≤◌, ◌⊎◌}
+use Rattle.std.proofs.Common.{Bool, List, None, Option, Some, [], ap, arith, false, get_or, get_or-set_other, get_or-set_same, inr, length, refl, replicate, set, subst, sym, true, ℕ, ◌<◌, ◌∙◌, ◌≡◌, ◌≤◌}
 use Rattle.std.proofs.lemmas.Bool.{cases_lt, eqb-true}
 use Rattle.protocol.proofs.history.History.{one_entry}
 use Rattle.protocol.proofs.keeps.Marking.{vacated_before}
@@ -17,6 +17,7 @@ use Rattle.registry_values.specs.declared.mark.Mark.{Mark}
 use Rattle.registry_values.specs.declared.slot.Slot.{Slot}
 use Rattle.registry_values.specs.declared.slot.Slot.TheVariants.{Live, Retired, Vacant}
 use Rattle.protocol.proofs.slots.Cells.{cell_put, get_or_all, place_in}
+use Rattle.protocol.proofs.Either.{either}
 
 pub passive_attach : (cpus limit : ℕ) (slots : List Slot) (marks : List (List Mark)) (passive : List (List ℕ)) (e : Entry) → e.slot < length slots → PassiveShow cpus limit slots marks passive → PassiveShow cpus limit (set slots e.slot (Live e)) marks passive
 passive_attach cpus limit slots marks passive e lt p = record {
@@ -37,17 +38,15 @@ passive_detach cpus limit slots marks passive e n lt lm p =
     ap (λ (r : List Mark). get_or r c no_mark) (get_or-set_other marks e.slot u (replicate n no_mark) [] off) in
     record {
       vacant = λ c u. place_in Vacant slots e.slot (Retired e) (λ v x. x ≡ Vacant → passive_at passive c v ≡ 0) u lt (λ is. absurd (let q : Retired e ≡ Vacant = is in cc)) (λ off. p.vacant c u);
-      clear = λ c u f is holds. ⊎_elim
-          (λ (same : (u ≡ e.slot) × (f ≡ e)). absurd (let q : ◌≡◌ {A = Bool} false true = sym (ap (λ (x : Mark). x.clear) (fresh u c same.0)) ∙ holds in cc))
-          (λ (off : (u ≡ e.slot → ⊥) × (slot_at slots u ≡ Retired f)).
+      clear = λ c u f is holds. either (gone_before slots e f u lt is)
+          (λ same. absurd (let q : ◌≡◌ {A = Bool} false true = sym (ap (λ (x : Mark). x.clear) (fresh u c same.0)) ∙ holds in cc))
+          (λ off.
           let was = p.clear c u f off.1 (sym (ap (λ (x : Mark). x.clear) (kept u c off.0)) ∙ holds) in
-          (ap (λ (x : Mark). x.passed) (kept u c off.0) ∙ was.0, was.1))
-          (gone_before slots e f u lt is);
-      collected = λ c u f is holds. ⊎_elim
-          (λ (same : (u ≡ e.slot) × (f ≡ e)). absurd (let q : ◌≡◌ {A = Bool} false true = sym (ap (λ (x : Mark). x.collected) (fresh u c same.0)) ∙ holds in cc))
-          (λ (off : (u ≡ e.slot → ⊥) × (slot_at slots u ≡ Retired f)).
-          ap (λ (x : Mark). x.clear) (kept u c off.0) ∙ p.collected c u f off.1 (sym (ap (λ (x : Mark). x.collected) (kept u c off.0)) ∙ holds))
-          (gone_before slots e f u lt is);
+          (ap (λ (x : Mark). x.passed) (kept u c off.0) ∙ was.0, was.1));
+      collected = λ c u f is holds. either (gone_before slots e f u lt is)
+          (λ same. absurd (let q : ◌≡◌ {A = Bool} false true = sym (ap (λ (x : Mark). x.collected) (fresh u c same.0)) ∙ holds in cc))
+          (λ off.
+          ap (λ (x : Mark). x.clear) (kept u c off.0) ∙ p.collected c u f off.1 (sym (ap (λ (x : Mark). x.collected) (kept u c off.0)) ∙ holds));
       beyond = p.beyond;
       limited = p.limited;
     }
@@ -82,7 +81,7 @@ pub passive_vacate : (cpus limit : ℕ) (slots : List Slot) (marks : List (List 
     → ((c : ℕ) → c < cpus → (mark_at marks t c).clear ≡ true) → PassiveShow cpus limit slots marks passive → PassiveShow cpus limit (set slots t Vacant) marks passive
 passive_vacate cpus limit slots marks passive t e lt at all p = record {
   vacant = λ c u. place_in Vacant slots t Vacant (λ v x. x ≡ Vacant → passive_at passive c v ≡ 0) u lt
-      (λ _. ⊎_elim (λ (in_ : c < cpus). (p.clear c t e at (all c in_)).1) (λ (out : cpus ≤ c). p.beyond c t out) (cases_lt c cpus))
+      (λ _. either (cases_lt c cpus) (λ in_. (p.clear c t e at (all c in_)).1) (λ out. p.beyond c t out))
       (λ off. p.vacant c u);
   clear = λ c u f is. p.clear c u f (sym (vacated_before slots t u f lt (inr is)).1 ∙ is);
   collected = λ c u f is. p.collected c u f (sym (vacated_before slots t u f lt (inr is)).1 ∙ is);

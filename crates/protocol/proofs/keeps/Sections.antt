@@ -1,5 +1,5 @@
 -- What seats and sections keep.
-use Rattle.std.proofs.Common.{◌≡◌, ◌≢◌, ℕ, suc, ◌+◌, ◌*◌, ◌%◌, ◌<◌, ◌≤◌, inl, ⊎_elim, List, length, get_or, set, Option, Some, None, true, sym, ap, ◌∙◌, arith, get_or-set_same, get_or-set_other}
+use Rattle.std.proofs.Common.{◌≡◌, ◌≢◌, ℕ, suc, ◌+◌, ◌*◌, ◌%◌, ◌<◌, ◌≤◌, inl, List, length, get_or, set, Option, Some, None, true, sym, ap, ◌∙◌, arith, get_or-set_same, get_or-set_other}
 use Rattle.std.proofs.lemmas.Option.{none-some, same_Some}
 use Rattle.std.proofs.lemmas.Bool.{cases_lt, cases_eq}
 use Rattle.registry_values.specs.declared.entry.Entry.{Entry}
@@ -21,6 +21,7 @@ use Rattle.protocol.proofs.slots.Cells.{place_in, place_put}
 use Rattle.protocol.specs.Invariant.{SlotsShow, HeldStay, IsIn, Leads, LinksStay, MarksHold, SectionsShow, SeatsShow, StandsOn, PlaceHolds, SearchHolds, SearchesHold, FoundHold}
 use Rattle.protocol.proofs.history.History.{at_within}
 use Rattle.protocol.proofs.history.Lookup.{all_below_later}
+use Rattle.protocol.proofs.Either.{either}
 
 -- the next CPU takes its seat
 pub seats_seat : (cpus seated : ℕ) (begins : List (Option ℕ)) (searches : List (Option Search)) (hands : List Hand) → seated < cpus
@@ -55,10 +56,7 @@ seats_search cpus seated begins searches hands c x lt s = record {
 -- a CPU that does something has its seat
 pub seated_search : (cpus seated : ℕ) (begins : List (Option ℕ)) (searches : List (Option Search)) (hands : List Hand) (c : ℕ) (q : Search)
     → SeatsShow cpus seated begins searches hands → get_or searches c None ≡ Some q → c < seated
-seated_search cpus seated begins searches hands c q s is = ⊎_elim
-    (λ (lt : c < seated). lt)
-    (λ (ge : seated ≤ c). absurd (none-some q (sym (s.unsearching c ge) ∙ is)))
-    (cases_lt c seated)
+seated_search cpus seated begins searches hands c q s is = either (cases_lt c seated) (λ lt. lt) (λ ge. absurd (none-some q (sym (s.unsearching c ge) ∙ is)))
 
 -- Enter: the section begins at the length of the history.
 pub sections_enter : (z : Settings) (h : List Change) (section : List ℕ) (begins : List (Option ℕ)) (depths seen : List ℕ) (c : ℕ)
@@ -112,10 +110,9 @@ marks_enter h slots marks section begins c w cs cb up m = record {
 
 pub searches_enter : (h : List Change) (begins : List (Option ℕ)) (seen : List ℕ) (searches : List (Option Search)) (c : ℕ) (x : Option ℕ) (w : ℕ)
     → get_or searches c None ≡ None → SearchesHold h begins seen searches → SearchesHold h (set begins c x) (set seen c w) searches
-searches_enter h begins seen searches c x w idle hold j q is = ⊎_elim
-    (λ (same : j ≡ c). absurd (none-some q (sym idle ∙ (ap (λ (k : ℕ). get_or searches k None) (sym same) ∙ is))))
-    (λ (other : j ≡ c → ⊥). simp get_or-set_other (hold j q is))
-    (cases_eq j c)
+searches_enter h begins seen searches c x w idle hold j q is = either (cases_eq j c)
+    (λ same. absurd (none-some q (sym idle ∙ (ap (λ (k : ℕ). get_or searches k None) (sym same) ∙ is))))
+    (λ other. simp get_or-set_other (hold j q is))
 
 pub found_enter : (h : List Change) (begins : List (Option ℕ)) (found : List (Option Entry)) (c : ℕ) (x : Option ℕ) → get_or begins c None ≡ None → FoundHold h begins found → FoundHold h (set begins c x) found
 found_enter h begins found c x out hold j e = place_put None begins c x (λ i y. get_or found i None ≡ Some e → (b : ℕ) × (y ≡ Some b) × MayHold h b e) j
@@ -133,10 +130,9 @@ sections_exit z h section begins depths seen c b cs cb cd in_ s =
     let odd : get_or section c 0 % 2 ≡ 1 = (s.inside c b in_).0 in
     let limit : get_or section c 0 ≤ 2 * z.section_limit = s.limited c in
     record {
-      outside = λ j is. ⊎_elim
-          (λ (same : j ≡ c). (grind (arith, get_or-set_same, same, odd), grind (arith, get_or-set_same, same)))
-          (λ (other : j ≡ c → ⊥). simp get_or-set_other (s.outside j (simp get_or-set_other at is)))
-          (cases_eq j c);
+      outside = λ j is. either (cases_eq j c)
+          (λ same. (grind (arith, get_or-set_same, same, odd), grind (arith, get_or-set_same, same)))
+          (λ other. simp get_or-set_other (s.outside j (simp get_or-set_other at is)));
       inside = λ j b is. let was = open_before begins c j b cb is in let off : j ≢ c = was.0 in simp get_or-set_other (s.inside j b was.1);
       deep = λ j. grind (arith, get_or-set_same, get_or-set_other, cases_eq j c, s.deep);
       begun = λ j b is. s.begun j b (open_before begins c j b cb is).1;
@@ -165,10 +161,9 @@ marks_exit h slots marks section begins c w cs cb up m = record {
 
 pub searches_exit : (h : List Change) (begins : List (Option ℕ)) (seen : List ℕ) (searches : List (Option Search)) (c : ℕ) (x : Option ℕ)
     → get_or searches c None ≡ None → SearchesHold h begins seen searches → SearchesHold h (set begins c x) seen searches
-searches_exit h begins seen searches c x idle hold j q is = ⊎_elim
-    (λ (same : j ≡ c). absurd (none-some q (sym idle ∙ (ap (λ (k : ℕ). get_or searches k None) (sym same) ∙ is))))
-    (λ (other : j ≡ c → ⊥). simp get_or-set_other (hold j q is))
-    (cases_eq j c)
+searches_exit h begins seen searches c x idle hold j q is = either (cases_eq j c)
+    (λ same. absurd (none-some q (sym idle ∙ (ap (λ (k : ℕ). get_or searches k None) (sym same) ∙ is))))
+    (λ other. simp get_or-set_other (hold j q is))
 
 pub found_exit : (h : List Change) (begins : List (Option ℕ)) (found : List (Option Entry)) (c : ℕ) (x : Option ℕ) → c < length found → FoundHold h begins found → FoundHold h (set begins c x) (set found c None)
 found_exit h begins found c x cf hold j e = place_in None found c None (λ i y. y ≡ Some e → (b : ℕ) × (get_or (set begins c x) i None ≡ Some b) × MayHold h b e) j cf

@@ -1,5 +1,5 @@
 -- The events of passive and local references make steps of the model.
-use Rattle.std.proofs.Common.{◌≡◌, ℕ, ◌+◌, ◌-◌, ◌<◌, inr, ⊎_elim, List, [], length, get_or, set, Option, Some, None, Bool, true, false, ◌&&◌, ◌||◌, ◌==◌, nat_lt, if◌then◌else◌, refl, sym, ap, subst, ◌∙◌, arith, ltb-true}
+use Rattle.std.proofs.Common.{◌≡◌, ℕ, ◌+◌, ◌-◌, ◌<◌, inr, List, [], length, get_or, set, Option, Some, None, Bool, true, false, ◌&&◌, ◌||◌, ◌==◌, nat_lt, if◌then◌else◌, refl, sym, ap, subst, ◌∙◌, arith, ltb-true}
 use Rattle.std.proofs.lemmas.Bool.{and_parts, or_cases}
 use Rattle.registry_values.specs.declared.entry.Entry.{Entry}
 use Rattle.registry_values.specs.declared.slot.Slot.{Slot}
@@ -26,6 +26,7 @@ use Rattle.protocol.proofs.keeps.References.{snapshot_due_tells, giving_holds, b
 use Rattle.protocol.proofs.counts.Sums.{one_at, none_at, standing_within, lifted_within, local_changed, hand_changed, local_added}
 use Rattle.protocol.proofs.model.Picturing.{Alike, no_step, one_step, put_is, put_twice}
 use Rattle.protocol.proofs.keeps.CountKeeps.{hand_full}
+use Rattle.protocol.proofs.Either.{either}
 
 -- Passive references
 
@@ -69,13 +70,12 @@ add_refines s c n t on is ok =
       occupants = λ u. refl;
       keeps = λ u. refl;
     } in
-    ⊎_elim
-    (λ (f : is_number n (found_at s c) ≡ true).
+    either (or_cases (is_number n (found_at s c)) (nat_lt 0 (passive_at s.passive c t)) q.0)
+    (λ f.
     let e = found_number n (found_at s c) f in
     one_step (picture s) _ (picture (after_add s c t)) (Model.Acquires c e.0 e.1) (made e.0.number e.2))
-    (λ (h : nat_lt 0 (passive_at s.passive c t) ≡ true).
+    (λ h.
     one_step (picture s) _ (picture (after_add s c t)) (Model.Copies c n (omega (arith, ltb-true 0 (passive_at s.passive c t) h, was))) (made n refl))
-    (or_cases (is_number n (found_at s c)) (nat_lt 0 (passive_at s.passive c t)) q.0)
 
 pub sub_refines : (s : State) (c n t : ℕ) → Holds s → slot_of s.slots n ≡ Some t → may_sub s c t ≡ true → IsModelRun (picture s) (picture (after_sub s c t))
 sub_refines s c n t on is ok =

@@ -1,5 +1,5 @@
 -- Enter, exit and find: the registry that the session shows answers and changes as the core does.
-use Rattle.std.proofs.Common.{◌≡◌, ℕ, ◌+◌, ◌-◌, ◌*◌, ◌<◌, ◌≤◌, ⊎_elim, List, length, get_or, set, get_or-set_same, get_or-set_other, Option, Some, None, Bool, true, false, not, ◌&&◌, is_some, is_none, refl, sym, ap, subst, ◌∙◌, arith}
+use Rattle.std.proofs.Common.{◌≡◌, ℕ, ◌+◌, ◌-◌, ◌*◌, ◌<◌, ◌≤◌, List, length, get_or, set, get_or-set_same, get_or-set_other, Option, Some, None, Bool, true, false, not, ◌&&◌, is_some, is_none, refl, sym, ap, subst, ◌∙◌, arith}
 use Rattle.std.specs.Prelude.{if◌then◌else◌, ◌==◌, Result, Ok, Err, is_ok}
 use Rattle.std.proofs.lemmas.Bool.{cases_eq}
 use Rattle.std.proofs.lemmas.Option.{none-some}
@@ -26,6 +26,7 @@ use Rattle.registry_report.specs.Turns.{on_ok, with_section_entered, with_sectio
 use Rattle.protocol.proofs.slots.Cells.{by_place}
 use Rattle.protocol.proofs.model.Picturing.{put_here, put_other}
 use Rattle.registry_report.proofs.shows.Showing.{put_shows, twice_less}
+use Rattle.protocol.proofs.Either.{either}
 
 -- who is inside
 pub inside_is : (s : SessionState) (r : Registry) (c : ℕ) → Shows s r → is_inside r c ≡ events.is_inside s.core c
@@ -49,21 +50,19 @@ enter_answers s r c on =
 -- a section that begins has another word than any snapshot
 begun_follows : (h : List Change) (slots : List Slot) (marks : List (List Mark)) (section : List ℕ) (begins : List (Option ℕ)) (c w b : ℕ)
     → MarksHold h slots marks section begins → c < length section → c < length begins → get_or section c 0 < w → SnapshotsFollow h slots marks section begins → SnapshotsFollow h slots marks (set section c w) (set begins c (Some b))
-begun_follows h slots marks section begins c w b holds sc bc more was t p j d x e at end begun snapshot same = ⊎_elim
-    (λ (here : j ≡ c).
+begun_follows h slots marks section begins c w b holds sc bc more was t p j d x e at end begun snapshot same = either (cases_eq j c)
+    (λ here.
     let word : get_or (set section c w) j 0 ≡ w = ap (λ (k : ℕ). get_or (set section c w) k 0) here ∙ get_or-set_same section c w 0 sc in
     let old : x ≤ get_or section c 0 = holds.older t c x e at (subst (λ (k : ℕ). (mark_at marks t k).snapshot ≡ Some x) here snapshot) in
     omega arith)
-    (λ (off : j ≡ c → ⊥). was t p j d x e at end (sym (get_or-set_other begins c j (Some b) None off) ∙ begun) snapshot (sym (get_or-set_other section c j w 0 off) ∙ same))
-    (cases_eq j c)
+    (λ off. was t p j d x e at end (sym (get_or-set_other begins c j (Some b) None off) ∙ begun) snapshot (sym (get_or-set_other section c j w 0 off) ∙ same))
 
 -- a section that ends is none
 ended_follows : (h : List Change) (slots : List Slot) (marks : List (List Mark)) (section : List ℕ) (begins : List (Option ℕ)) (c w : ℕ)
     → c < length begins → SnapshotsFollow h slots marks section begins → SnapshotsFollow h slots marks (set section c w) (set begins c None)
-ended_follows h slots marks section begins c w bc was t p j d x e at end begun snapshot same = ⊎_elim
-    (λ (here : j ≡ c). absurd (none-some d (sym (get_or-set_same begins c None None bc) ∙ (ap (λ (k : ℕ). get_or (set begins c None) k None) (sym here) ∙ begun))))
-    (λ (off : j ≡ c → ⊥). was t p j d x e at end (sym (get_or-set_other begins c j None None off) ∙ begun) snapshot (sym (get_or-set_other section c j w 0 off) ∙ same))
-    (cases_eq j c)
+ended_follows h slots marks section begins c w bc was t p j d x e at end begun snapshot same = either (cases_eq j c)
+    (λ here. absurd (none-some d (sym (get_or-set_same begins c None None bc) ∙ (ap (λ (k : ℕ). get_or (set begins c None) k None) (sym here) ∙ begun))))
+    (λ off. was t p j d x e at end (sym (get_or-set_other begins c j None None off) ∙ begun) snapshot (sym (get_or-set_other section c j w 0 off) ∙ same))
 
 -- the section gets deeper or less deep
 nested_shows : (s : SessionState) (r : Registry) (c depth other : ℕ) → Holds s.core → Shows s r → c < s.core.settings.cpus → depth ≡ other

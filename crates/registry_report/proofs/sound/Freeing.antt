@@ -1,5 +1,5 @@
 -- Where nothing stands in the way of a retired entry, its slot is freed by lawful steps.
-use Rattle.std.proofs.Common.{◌≡◌, ℕ, zero, suc, ◌+◌, ◌-◌, ◌<◌, ◌≤◌, ⊎_elim, Option, Some, None, Bool, true, false, refl, sym, ap, subst, ◌∙◌, arith}
+use Rattle.std.proofs.Common.{◌≡◌, ℕ, zero, suc, ◌+◌, ◌-◌, ◌<◌, Option, Some, None, Bool, true, false, refl, sym, ap, subst, ◌∙◌, arith}
 use Rattle.std.specs.Prelude.{Ok, if◌then◌else◌}
 use Rattle.std.proofs.lemmas.Bool.{both_ways, cases_lt, lt-ltb}
 use Rattle.std.proofs.lemmas.Option.{none-some}
@@ -23,6 +23,7 @@ use Rattle.registry_report.specs.Turns.{after_advance, after_destroy, with_freed
 use Rattle.registry_report.proofs.Lookups.{end_tells}
 use Rattle.registry_report.proofs.sound.Turns.{count_none, idle_turn, is_this_own, is_this_tells, labelled_counts, least_some, not_ok, ok_turn, put_none, same_ok, still_beside}
 use Rattle.protocol.proofs.keeps.SectionKeeps.{some_from}
+use Rattle.protocol.proofs.Either.{either}
 
 -- What a stage tells
 
@@ -49,12 +50,11 @@ unheld_from r n t p on end ends stage =
           let late : b < p = hold.unended p (subst (λ (k : ℕ). EndsAt r.model.history k p) (sym same) ends) in
           let holds : has_section r n c ≡ true = ap (λ (o : Option ℕ). may_hold o (end_of r.model.history n)) in_ ∙ (ap (may_hold (Some b)) end ∙ lt-ltb b p late) in
           both_ways (has_section r n c) off holds;
-      passive = λ c. ⊎_elim
-          (λ (some : 0 < r.model.passive c n).
+      passive = λ c. either (cases_lt 0 (r.model.passive c n))
+          (λ some.
           let off : has_passive r n c ≡ false = least_none (has_passive r n) r.settings.cpus none.1 c (on.referring c n some) in
           absurd (both_ways (has_passive r n c) off (lt-ltb 0 (r.model.passive c n) some)))
-          (λ (no : r.model.passive c n ≤ 0). omega arith)
-          (cases_lt 0 (r.model.passive c n));
+          (λ no. omega arith);
       locals = omega (arith, none.2);
       keeps = λ u is.
           let off : is_this n (r.model.keeps u) ≡ false = count_none (λ t. is_this n (r.model.keeps t)) r.settings.slots u (omega (arith, none.2)) (on.keeping u n is) in
