@@ -1,5 +1,5 @@
 -- Seating all CPUs: who may act before is idle then, and stays so.
-use Rattle.std.proofs.Common.{◌≡◌, ℕ, ◌<◌, ◌≤◌, ⊎_elim, Option, Some, None, Bool, true, false, not, ◌&&◌, ◌||◌, nat_lt, refl, sym, ap, ◌∙◌}
+use Rattle.std.proofs.Common.{◌≡◌, ℕ, ◌<◌, ◌≤◌, Option, Some, None, Bool, true, false, not, ◌&&◌, ◌||◌, nat_lt, refl, sym, ap, ◌∙◌}
 use Rattle.std.specs.Prelude.{is_none}
 use Rattle.std.proofs.lemmas.Bool.{and_parts, cases_lt, lt-ltb, le-ltb}
 use Rattle.passive_core.specs.Commands.{all_seated, may_act}
@@ -8,6 +8,7 @@ use Rattle.protocol.specs.declared.event.Reply.{Reply}
 use Rattle.protocol.specs.Invariant.{Holds}
 use Rattle.protocol.specs.State.{is_empty, State, search_at, hand_at}
 use Rattle.protocol.proofs.keeps.SectionKeeps.{none_from}
+use Rattle.protocol.proofs.Either.{either}
 
 -- an idle CPU has no search
 pub idle_unsearching : (s : State) (c : ℕ) → is_idle s c ≡ true → search_at s c ≡ None
@@ -22,10 +23,7 @@ IsFree s c = (is_none (search_at s c) && is_empty (hand_at s c)) ≡ true
 acting_free : (s : State) (c : ℕ) (b : Bool) → nat_lt c s.seated ≡ b → Holds s → (not b || (b && (is_none (search_at s c) && is_empty (hand_at s c)))) ≡ true → (is_none (search_at s c) && is_empty (hand_at s c)) ≡ true
 acting_free s c true is on may = may
 acting_free s c false is on may =
-    let le : s.seated ≤ c = ⊎_elim
-    (λ (lt : c < s.seated). absurd (let q : ◌≡◌ {A = Bool} true false = sym (lt-ltb c s.seated lt) ∙ is in cc))
-    (λ (ge : s.seated ≤ c). ge)
-    (cases_lt c s.seated) in
+    let le : s.seated ≤ c = either (cases_lt c s.seated) (λ lt. absurd (let q : ◌≡◌ {A = Bool} true false = sym (lt-ltb c s.seated lt) ∙ is in cc)) (λ ge. ge) in
     rw (on.seats.unsearching c le, on.seats.empty c le) refl
 
 pub acting_idle : (s : State) (c : ℕ) → Holds s → c < s.settings.cpus → may_act s c ≡ true → is_idle (all_seated s) c ≡ true
@@ -35,10 +33,9 @@ acting_idle s c on lt may =
 
 -- seating the CPUs keeps nobody from acting
 pub acting_on : (s : State) (c : ℕ) → Holds s → may_act s c ≡ true → may_act (all_seated s) c ≡ true
-acting_on s c on may = ⊎_elim
-    (λ (lt : c < s.settings.cpus). ap (λ (b : Bool). not (nat_lt c s.settings.cpus) || b) (acting_idle s c on lt may) ∙ or_true (not (nat_lt c s.settings.cpus)))
-    (λ (ge : s.settings.cpus ≤ c). ap (λ (b : Bool). not b || is_idle (all_seated s) c) (le-ltb c s.settings.cpus ge))
-    (cases_lt c s.settings.cpus)
+acting_on s c on may = either (cases_lt c s.settings.cpus)
+    (λ lt. ap (λ (b : Bool). not (nat_lt c s.settings.cpus) || b) (acting_idle s c on lt may) ∙ or_true (not (nat_lt c s.settings.cpus)))
+    (λ ge. ap (λ (b : Bool). not b || is_idle (all_seated s) c) (le-ltb c s.settings.cpus ge))
   where
     or_true : (b : Bool) → (b || true) ≡ true
     or_true true = refl

@@ -1,5 +1,5 @@
 -- What looks, collections and the end of a slot's use tell and leave.
-use Rattle.std.proofs.Common.{◌≡◌, ℕ, zero, suc, ◌+◌, ◌-◌, ◌%◌, ◌<◌, ◌≤◌, inr, ⊎_elim, List, [], length, get_or, set, Option, Some, None, Bool, true, false, not, ◌&&◌, ◌||◌, ◌==◌, Result, Ok, refl, sym, ap, subst, ◌∙◌, arith, nat_lt, get_or-set_same, get_or-set_other, add-zero, IsSome}
+use Rattle.std.proofs.Common.{◌≡◌, ℕ, zero, suc, ◌+◌, ◌-◌, ◌%◌, ◌<◌, inr, List, [], length, get_or, set, Option, Some, None, Bool, true, false, not, ◌&&◌, ◌||◌, ◌==◌, Result, Ok, refl, sym, ap, subst, ◌∙◌, arith, nat_lt, get_or-set_same, get_or-set_other, add-zero, IsSome}
 use Rattle.std.specs.Prelude.{is_some, is_none}
 use Rattle.std.proofs.lemmas.Bool.{cases_lt, cases_eq, eqb-true, eq-eqb, lt-ltb, ne_eqb, cases_Bool, and_from}
 use Rattle.std.proofs.lemmas.Option.{same_Some}
@@ -28,11 +28,12 @@ use Rattle.protocol.proofs.counts.Bounds.{driver_positive}
 use Rattle.protocol.proofs.counts.CountBounds.{all_collected}
 use Rattle.protocol.proofs.keeps.Drivers.{kept_found}
 use Rattle.protocol.proofs.keeps.MarkKeeps.{is_drained_tells}
-use Rattle.protocol.proofs.keeps.Marking.{row_cases}
+use Rattle.protocol.proofs.slots.Cells.{cell_other}
 use Rattle.protocol.proofs.keeps.Searching.{within_some}
 use Rattle.std.proofs.lemmas.List.{set-get_or}
 use Rattle.passive_core.proofs.Acting.{made_is}
 use Rattle.protocol.proofs.slots.MarkRows.{clear_from, collected_from, mark_grows, mark_there, mark_written, marks_grow_more, marks_grow_none, passed_from, row_elsewhere, snapshot_stands}
+use Rattle.protocol.proofs.Either.{either}
 
 -- an event whose test passes is allowed
 pub guard_some : (b : Bool) (s : State) (r : Reply) → b ≡ true → IsSome (guard b (some_outcome s r))
@@ -151,12 +152,6 @@ drainable_from s t passed clear = and_from (have_passed s.settings.cpus (get_or 
 
 -- Marks that grow
 
-pub passing_grows : (a b : List (List Mark)) (t : ℕ) → MarksPass a b t → MarksGrow a b t
-passing_grows a b t x = record {
-  elsewhere = x.elsewhere;
-  here = λ c. record { snapshot = (x.here c).snapshot; passed = (x.here c).passed; clear = λ p. (x.here c).clear ∙ p; collected = λ p. (x.here c).collected ∙ p };
-}
-
 clears_none : (m : Mark) → Clears m m
 clears_none m = record { snapshot = refl; passed = λ p. p; clear = λ p. p; collected = refl }
 
@@ -174,33 +169,17 @@ marks_clear_more a b d t x y = record {
   };
 }
 
-pub passing_clears : (a b : List (List Mark)) (t : ℕ) → MarksPass a b t → MarksClear a b t
-passing_clears a b t x = record {
-  elsewhere = x.elsewhere;
-  here = λ c. record { snapshot = (x.here c).snapshot; passed = (x.here c).passed; clear = λ p. (x.here c).clear ∙ p; collected = (x.here c).collected };
-}
-
-pub clearing_grows : (a b : List (List Mark)) (t : ℕ) → MarksClear a b t → MarksGrow a b t
-clearing_grows a b t x = record {
-  elsewhere = x.elsewhere;
-  here = λ c. record { snapshot = (x.here c).snapshot; passed = (x.here c).passed; clear = (x.here c).clear; collected = λ p. (x.here c).collected ∙ p };
-}
-
 -- a mark beside the one that is written
 pub mark_beside : (marks : List (List Mark)) (t c : ℕ) (m : Mark) → SameBut marks (with_cell marks t c m) t c
-mark_beside marks t c m j off = ⊎_elim
-    (λ (here : (t ≡ t) × (j ≡ c) × (mark_at (with_cell marks t c m) t j ≡ m)). absurd (off here.1))
-    (λ (old : mark_at (with_cell marks t c m) t j ≡ mark_at marks t j). old)
-    (row_cases no_mark marks t c m t j)
+mark_beside marks t c m j off = cell_other no_mark marks t c m t j (λ _ same. off same)
 
 -- Looks at passive words
 
 shows_clear : (m : Mark) (w : ℕ) → (m.clear ≡ true → w ≡ 0) → (m.clear || (w == 0)) ≡ not (nat_lt 0 w)
 shows_clear m zero zero_if = or_last m.clear (zero == 0) refl
-shows_clear m (suc w) zero_if = ⊎_elim
-    (λ (clear : m.clear ≡ true). absurd (omega (arith, zero_if clear)))
-    (λ (not_yet : m.clear ≡ false). rw (not_yet, ne_eqb (suc w) 0 (λ same. omega arith), lt-ltb 0 (suc w) (omega arith)) refl)
-    (cases_Bool m.clear)
+shows_clear m (suc w) zero_if = either (cases_Bool m.clear)
+    (λ clear. absurd (omega (arith, zero_if clear)))
+    (λ not_yet. rw (not_yet, ne_eqb (suc w) 0 (λ same. omega arith), lt-ltb 0 (suc w) (omega arith)) refl)
 
 pub passive_clears : (s : State) (t c : ℕ) → Holds s → is_retired (slot_at s.slots t) ≡ true → (mark_after_passive_look (mark_at s.marks t c) (passive_at s.passive c t)).clear ≡ not (has_passive s t c)
 passive_clears s t c on gone =
@@ -269,10 +248,7 @@ gathered_total s t e on rest gone all = all_collected on.balance t e (at_rest_te
 pub gathered_words : (s : State) (t : ℕ) → Holds s → is_retired (slot_at s.slots t) ≡ true → AllCollected s t → (c : ℕ) → count_at s.counts c t ≡ 0
 gathered_words s t on gone all c =
     let e = is_retired_tells (slot_at s.slots t) gone in
-    ⊎_elim
-    (λ (lt : c < s.settings.cpus). on.balance.emptied c t e.0 e.1 (all c lt))
-    (λ (ge : s.settings.cpus ≤ c). on.balance.beyond c t ge)
-    (cases_lt c s.settings.cpus)
+    either (cases_lt c s.settings.cpus) (λ lt. on.balance.emptied c t e.0 e.1 (all c lt)) (λ ge. on.balance.beyond c t ge)
 
 -- The end of a slot's use
 
@@ -317,21 +293,19 @@ gave_up s n t d u on kept of drained is =
     let new : List ℕ = set s.totals u (total_at s.totals u - 1) in
     subst (λ (x : State). Empties s x t) (sym is) (record {
       only = refl;
-      totals = λ v off. ap (λ (k : Option ℕ). total_at new v + count_given_up k (slot_at s.slots v)) kept ∙ ⊎_elim
-          (λ (same : v ≡ u).
+      totals = λ v off. ap (λ (k : Option ℕ). total_at new v + count_given_up k (slot_at s.slots v)) kept ∙ either (cases_eq v u)
+          (λ same.
           let has : has_number d (slot_at s.slots v) ≡ true = ap (λ (k : ℕ). has_number d (slot_at s.slots k)) same ∙ has_it d driver.0 (slot_at s.slots u) driver.1 driver.2 in
           let one : count_given_up (Some d) (slot_at s.slots v) ≡ 1 = ap one_if has in
           let here : total_at new v ≡ total_at s.totals u - 1 = ap (total_at new) same ∙ get_or-set_same s.totals u (total_at s.totals u - 1) 0 lt in
           omega (arith, one, here, some, ap (total_at s.totals) same))
-          (λ (other : v ≡ u → ⊥).
-          let lacks : has_number d (slot_at s.slots v) ≡ false = ⊎_elim
-          (λ (has : has_number d (slot_at s.slots v) ≡ true).
+          (λ other.
+          let lacks : has_number d (slot_at s.slots v) ≡ false = either (cases_Bool (has_number d (slot_at s.slots v)))
+          (λ has.
           let f = number_in d (slot_at s.slots v) has in
           absurd (other (one_number s.history s.slots u v driver.0 f.0 on.slots driver.1 f.1 (f.2 ∙ sym driver.2)).0))
-          (λ (not_ : has_number d (slot_at s.slots v) ≡ false). not_)
-          (cases_Bool (has_number d (slot_at s.slots v))) in
-          omega (arith, ap one_if lacks, get_or-set_other s.totals u v (total_at s.totals u - 1) 0 other))
-          (cases_eq v u);
+          (λ not_. not_) in
+          omega (arith, ap one_if lacks, get_or-set_other s.totals u v (total_at s.totals u - 1) 0 other));
       total = get_or-set_other s.totals u t (total_at s.totals u - 1) 0 (λ same. driver.4 (sym same)) ∙ told.5;
     })
 
@@ -346,10 +320,9 @@ holders_are_open s on rest t c b e gone in_ may =
     let was = on.slots.retired t e gone in
     let lt : c < s.settings.cpus = omega (arith, within_some s.begins c b in_, on.shape.begins) in
     let w = snapshot_stands s t c on rest (ap is_retired gone) lt in
-    let same : section_at s c ≡ w.0 = ⊎_elim
-    (λ (is : section_at s c ≡ w.0). is)
-    (λ (off : section_at s c ≡ w.0 → ⊥). absurd (omega (arith, on.grace.changed t was.2.0 c b w.0 e gone was.2.1 in_ w.1 off, may.unended was.2.0 was.2.1)))
-    (cases_eq (section_at s c) w.0) in
+    let same : section_at s c ≡ w.0 = either (cases_eq (section_at s c) w.0)
+    (λ is. is)
+    (λ off. absurd (omega (arith, on.grace.changed t was.2.0 c b w.0 e gone was.2.1 in_ w.1 off, may.unended was.2.0 was.2.1))) in
     still_open (begin_at s c) (mark_at s.marks t c).snapshot b w.0 (section_at s c) in_ w.1 same
 
 -- passive references stay while only marks change
@@ -370,11 +343,6 @@ pub settled_free : (old new : State) (t held : ℕ) → held ≡ 0 → Empties o
 settled_free old new t held none empties = subst (λ (k : ℕ). Settles old new t (stage_of t None None k)) (sym none) empties
 
 -- Seats
-
-acts_idle : (lt : Bool) (cpus : ℕ) (before none empty : Bool) → (before ≡ false → none && empty ≡ true) → (not before || (before && (none && empty))) ≡ true → (not lt || (lt && (none && empty))) ≡ true
-acts_idle false cpus before none empty out acts = refl
-acts_idle true cpus true none empty out acts = acts
-acts_idle true cpus false none empty out acts = out refl
 
 -- and nothing of what an advance leaves keeps it from that
 pub stage_acts : (s n : State) (t d : ℕ) (stage : Stage) → s.seated ≡ s.settings.cpus → StageLeaves s n t stage → may_act s d ≡ true → may_act n d ≡ true
@@ -418,10 +386,7 @@ slots_again s m t (Local k) held left = ap (λ (x : State). x.slots) left.only
 slots_again s m t (Freed u) held left = absurd (let q : ◌≡◌ {A = Bool} true false = held in cc)
 
 marks_leave_again : (s m n : State) (t : ℕ) → LeavesMarks s m t → LeavesMarks m n t → LeavesMarks s n t
-marks_leave_again s m n t x y = record {
-  only = subst (λ (z : State). n ≡ record z { seated = z.settings.cpus; marks = n.marks }) x.only y.only;
-  marks = marks_grow_more s.marks m.marks n.marks t x.marks y.marks;
-}
+marks_leave_again s m n t x y = assumption (subst (λ (z : State). n ≡ record z { seated = z.settings.cpus; marks = n.marks }) x.only y.only, marks_grow_more s.marks m.marks n.marks t x.marks y.marks)
 
 -- the same stage was met twice
 pub leaves_again : (s m n : State) (t : ℕ) (stage : Stage) → is_freed stage ≡ false → StageLeaves s m t stage → StageLeaves m n t stage → StageLeaves s n t stage

@@ -1,5 +1,5 @@
 -- Attaches: the words that are stored, the slot that is taken, and why the entry may be linked.
-use Rattle.std.proofs.Common.{◌≡◌, ℕ, zero, suc, ◌+◌, ◌-◌, ◌<◌, ◌≤◌, ⊎_elim, List, [], ◌∷◌, ◌++◌, length, get_or, set, take, drop, replicate, get_or-set_same, Option, Some, None, Bool, true, false, not, ◌&&◌, ◌==◌, is_none, nat_lt, IsTrue, refl, sym, add-one, ap, subst, ◌∙◌, arith, lt-ltb, eq-eqb}
+use Rattle.std.proofs.Common.{◌≡◌, ℕ, zero, suc, ◌+◌, ◌-◌, ◌<◌, List, [], ◌∷◌, ◌++◌, length, get_or, set, take, drop, replicate, get_or-set_same, Option, Some, None, Bool, true, false, not, ◌&&◌, ◌==◌, is_none, nat_lt, IsTrue, refl, sym, add-one, ap, subst, ◌∙◌, arith, lt-ltb, eq-eqb}
 use Rattle.std.specs.Prelude.{Result, Ok, Err}
 use Rattle.std.specs.List.{list_all, zip}
 use Rattle.std.proofs.Math.Seq.{drop-cons}
@@ -28,22 +28,22 @@ use Rattle.registry_values.specs.Slots.{is_available, key_of_record, key_of, is_
 use Rattle.protocol.specs.State.{with_biases, at_rest, State, kept_at, local_at, no_words, row_at, total_at}
 use Rattle.passive_core.specs.Commands.{all_seated, may_act}
 use Rattle.protocol.specs.Events.{Outcome, after_count_store, after_keep, after_publish, after_row_store, after_seeing, are_unused, entry_of, has_room, room_of, is_bias, is_driver_slot, is_prepared, keeps_rightly, may_keep, may_publish, may_write, number_standing, step, with_word, words_of}
-use Rattle.protocol.specs.Invariant.{Holds}
+use Rattle.protocol.specs.Invariant.{Holds, SeatsShow}
 use Rattle.registry_values.specs.Names.{are_name_words, is_lawful}
 use Rattle.registry_values.specs.Balances.{bias}
 use Rattle.protocol.proofs.keeps.CountKeeps.{keep_keeps}
 use Rattle.registry_values.proofs.Fit.{ranges}
 use Rattle.protocol.proofs.keeps.ListKeeps.{may_write_tells}
-use Rattle.protocol.proofs.keeps.SectionKeeps.{cpus_keep, none_from}
+use Rattle.protocol.proofs.keeps.SectionKeeps.{none_from}
+use Rattle.protocol.proofs.Either.{either}
 
 -- The record words.
 
 -- a second word is stored in a row that was stored, in a slot or past them
 row_again : (rows : List RecordWords) (t : ℕ) (r : RecordWords) (k v : ℕ) → set (set rows t r) t (with_word (row_at (set rows t r) t) k v) ≡ set rows t (with_word r k v)
-row_again rows t r k v = ⊎_elim
-    (λ (lt : t < length rows). set-set rows t r (with_word (row_at (set rows t r) t) k v) ∙ ap (λ (x : RecordWords). set rows t (with_word x k v)) (get_or-set_same rows t r no_words lt))
-    (λ (ge : length rows ≤ t). set-set rows t r (with_word (row_at (set rows t r) t) k v) ∙ (set_past rows t (with_word (row_at (set rows t r) t) k v) ge ∙ sym (set_past rows t (with_word r k v) ge)))
-    (cases_lt t (length rows))
+row_again rows t r k v = either (cases_lt t (length rows))
+    (λ lt. set-set rows t r (with_word (row_at (set rows t r) t) k v) ∙ ap (λ (x : RecordWords). set rows t (with_word x k v)) (get_or-set_same rows t r no_words lt))
+    (λ ge. set-set rows t r (with_word (row_at (set rows t r) t) k v) ∙ (set_past rows t (with_word (row_at (set rows t r) t) k v) ge ∙ sym (set_past rows t (with_word r k v) ge)))
 
 abbrev pub with_row : State → ℕ → RecordWords → State
 with_row s t r = record s { rows = set s.rows t r }
@@ -208,26 +208,14 @@ words_restored s e =
 
 -- all CPUs may be seated
 pub seated_keeps : (s : State) → Holds s → Holds (all_seated s)
-seated_keeps s on = cpus_keep s s.settings.cpus s.section s.begins s.depths s.seen s.searches s.found on (record {
-  section_size = refl;
-  begin_size = refl;
-  depth_size = refl;
-  seen_size = refl;
-  search_size = refl;
-  found_size = refl;
-  held = on.held;
-  frozen_links = on.frozen_links;
-  grace = on.grace;
-  seats = record {
-    within = omega arith;
-    outside = λ c ge. on.seats.outside c (omega (arith, on.seats.within, ge));
-    unsearching = λ c ge. on.seats.unsearching c (omega (arith, on.seats.within, ge));
-    empty = λ c ge. on.seats.empty c (omega (arith, on.seats.within, ge));
-  };
-  sections = on.sections;
-  searching = on.searches;
-  last_found = on.last_found;
-})
+seated_keeps s on =
+    let seats : SeatsShow s.settings.cpus s.settings.cpus s.begins s.searches s.hands = record {
+      within = omega arith;
+      outside = λ c ge. on.seats.outside c (omega (arith, on.seats.within, ge));
+      unsearching = λ c ge. on.seats.unsearching c (omega (arith, on.seats.within, ge));
+      empty = λ c ge. on.seats.empty c (omega (arith, on.seats.within, ge));
+    } in
+    assumption
 
 -- an entry's words may be stored, and then it may be linked
 pub record MayLink (s : State) (e : Entry) : Type 0 where
@@ -239,13 +227,12 @@ may_link : (s : State) (rec : Record) (e : Entry) → Holds s → may_write s e.
     → IsTrue (is_lawful rec.name) → keeps_rightly (kept_at s.keeps e.slot) rec.kind ≡ true → MayLink s e
 may_link s rec e on writes is free room lawful keeps =
     let same : e.rec ≡ rec = ap (λ (x : Entry). x.rec) is in
-    record {
-      writes = writes;
-      links = prepared_links s e on writes (ap (λ (x : Entry). x.number) is)
+    assumption (
+      prepared_links s e on writes (ap (λ (x : Entry). x.number) is)
           (subst (λ (r : Record). IsTrue (is_lawful r.name)) (sym same) lawful)
           (ap (λ (r : Record). is_taken (key_of_record r) s.slots) same ∙ free) room
-          (ap (λ (r : Record). keeps_rightly (kept_at s.keeps e.slot) r.kind) same ∙ keeps);
-    }
+          (ap (λ (r : Record). keeps_rightly (kept_at s.keeps e.slot) r.kind) same ∙ keeps)
+    )
 
 driver_keeps : (kept : Option ℕ) (kind : Kind) → kept ≡ None → is_iface kind ≡ false → keeps_rightly kept kind ≡ true
 driver_keeps kept Iface none other = absurd (let q : ◌≡◌ {A = Bool} true false = other in cc)
@@ -308,12 +295,7 @@ iface_links s rec e id on rest is driver iface lawful =
     let holds : Holds (with_reference_kept s t id) = subst Holds (sym kept) (keep_keeps s t id n u on at place.1 may) in
     let now : kept_at (with_reference_kept s t id).keeps t ≡ Some n = get_or-set_same s.keeps t (number_standing (local_at s.locals id)) None (omega (arith, fit.0, on.shape.keeps)) ∙ ap number_standing at in
     let rightly : keeps_rightly (kept_at (with_reference_kept s t id).keeps t) rec.kind ≡ true = ap (λ (o : Option ℕ). keeps_rightly o rec.kind) now ∙ iface_keeps n rec.kind iface in
-    record {
-      writes = writes;
-      empty = fit.2;
-      holds = holds;
-      links = may_link (with_reference_kept (all_seated s) t id) rec e (seated_keeps (with_reference_kept s t id) holds) writes given.entry given.free given.room lawful rightly;
-    }
+    assumption (may_link (with_reference_kept (all_seated s) t id) rec e (seated_keeps (with_reference_kept s t id) holds) writes given.entry given.free given.room lawful rightly)
 
 -- the reference has its place again
 reference_restored : (s : State) (t id : ℕ) → kept_at s.keeps t ≡ None → with_reference_given_back (with_reference_kept s t id) t id (local_at s.locals id) ≡ s

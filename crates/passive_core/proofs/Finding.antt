@@ -1,5 +1,5 @@
 -- The walk of a lookup that nothing disturbs: what each load leaves, and what the last one answers.
-use Rattle.std.proofs.Common.{◌≡◌, ℕ, zero, suc, ◌<◌, ◌⊎◌, inl, inr, ⊎_elim, List, length, get_or, set, Option, Some, None, Bool, true, false, refl, sym, ap, subst, ◌∙◌, arith, get_or-set_same}
+use Rattle.std.proofs.Common.{◌≡◌, ℕ, zero, suc, ◌<◌, ◌⊎◌, inl, inr, List, length, get_or, set, Option, Some, None, Bool, true, false, refl, sym, ap, subst, ◌∙◌, arith, get_or-set_same}
 use Rattle.std.proofs.lemmas.List.{set-set, set-get_or}
 use Rattle.registry_values.specs.Slots.{are_words_of}
 use Rattle.registry_values.specs.declared.entry.Change.{Change}
@@ -18,6 +18,7 @@ use Rattle.protocol.specs.Events.{Outcome, guard, some_outcome, may_seek, after_
 use Rattle.passive_core.specs.Finding.{after_find, load_at, next_load}
 use Rattle.passive_core.proofs.Acting.{made_is}
 use Rattle.protocol.proofs.keeps.Searching.{Finds, FindSteps, IsFindStep, find_link, find_record, placed, searching_within, seen_now, weight}
+use Rattle.protocol.proofs.Either.{either}
 
 -- the state s of a walk of c that began in b
 pub record Walking (b s : State) (c : ℕ) : Type 0 where
@@ -29,18 +30,10 @@ history_same : (b s : State) (c : ℕ) → Walking b s c → s.history ≡ b.his
 history_same b s c walk = ap (λ (t : State). t.history) walk.same
 
 going_walks : (b s : State) (c : ℕ) (q : Search) (p : SearchPlace) → Walking b s c → Walking b (with_search_at s c q p) c
-going_walks b s c q p walk = record {
-  same = ap (λ (t : State). record t { searches = set s.searches c (Some (placed q p)) }) walk.same;
-  seen = walk.seen;
-  searches = set-set s.searches c (Some (placed q p)) None ∙ walk.searches;
-}
+going_walks b s c q p walk = assumption (ap (λ (t : State). record t { searches = set s.searches c (Some (placed q p)) }) walk.same, set-set s.searches c (Some (placed q p)) None ∙ walk.searches)
 
 seeing_walks : (b s : State) (c : ℕ) → Walking b s c → Walking b (after_seeing s c) c
-seeing_walks b s c walk = record {
-  same = ap (λ (t : State). record t { seen = set s.seen c (length s.history) }) walk.same;
-  seen = set-set s.seen c (length s.history) (length b.history) ∙ walk.seen;
-  searches = walk.searches;
-}
+seeing_walks b s c walk = assumption (ap (λ (t : State). record t { seen = set s.seen c (length s.history) }) walk.same, set-set s.seen c (length s.history) (length b.history) ∙ walk.seen)
 
 -- a walk that has seen the whole history is over
 over_is : (b s : State) (c : ℕ) (answer : Option Entry) → Walking b s c → search_at b c ≡ None → seen_at s c ≡ length b.history → search_over s c answer ≡ after_find b c answer
@@ -134,10 +127,9 @@ load_turns b s t c key r on none walks made =
     let is : search_at s c ≡ Some q = walks.finds.searching in
     let load : load_at s c q walks.place ≡ Some (record { state = t; reply = r }) = ap (next_load s c) (sym is) ∙ made in
     let lt : c < s.settings.cpus = searching_within s c q on is in
-    let seen : (walks.place ≡ AtHead) ⊎ (seen_at s c ≡ length b.history) = ⊎_elim
-    (λ (head : walks.place ≡ AtHead). inl head)
-    (λ (all : seen_at s c ≡ length s.history). inr (all ∙ ap length (history_same b s c walks.walking)))
-    walks.finds.seen in
+    let seen : (walks.place ≡ AtHead) ⊎ (seen_at s c ≡ length b.history) = either walks.finds.seen
+    (λ head. inl head)
+    (λ all. inr (all ∙ ap length (history_same b s c walks.walking))) in
     let moved : IsMoved b c t r = subst (Moves b c) load (load_moves b s c q walks.place on lt walks.walking none seen) in
     let step : IsFindStep t c q (weight s walks.place) r = subst (FindSteps c q (weight s walks.place)) load (load_finds s c q walks.place refl on walks.finds) in
     subst (λ (n : ℕ). IsTurn b c key n t r) (ap (left s) (sym is)) (turn_of b c q (weight s walks.place) t r moved step)
@@ -163,10 +155,6 @@ walk_goes_on b c key n s (Found e) turn not_found not_missed = absurd (not_found
 walk_goes_on b c key n s Missed turn not_found not_missed = absurd (not_missed refl)
 walk_goes_on b c key n s (Ref id) turn not_found not_missed = absurd turn
 walk_goes_on b c key n s Collected turn not_found not_missed = absurd turn
-
--- a walk has a search
-pub walk_searches : (b s : State) (c : ℕ) (key : Key) → Walks b s c key → (q : Search) × (search_at s c ≡ Some q)
-walk_searches b s c key walks = (record { key = key; start = walks.start; place = walks.place }, walks.finds.searching)
 
 -- The first load is made after a Seek of an idle CPU inside a section.
 pub seek_starts : (b t : State) (c : ℕ) (key : Key) (r : Reply) → c < length b.searches → may_seek b c ≡ true → guard (may_seek b c) (some_outcome (after_seek b c key) Done) ≡ Some (record { state = t; reply = r }) → Walks b t c key

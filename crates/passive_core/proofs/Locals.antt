@@ -1,5 +1,5 @@
 -- What the commands on local references rest on.
-use Rattle.std.proofs.Common.{◌≡◌, ℕ, zero, suc, ◌+◌, ◌-◌, ◌<◌, ◌≤◌, ◌⊎◌, inl, inr, ⊎_elim, List, [], ◌∷◌, ◌++◌, length, length-set, get_or, set, cond, position, Option, Some, None, IsSome, Result, Ok, Err, OnOk, OnErr, Bool, true, false, ◌&&◌, nat_lt, nat_eq, refl, sym, ap, subst, ◌∙◌, arith, sum_by, get_or-set_same, ne_eqb}
+use Rattle.std.proofs.Common.{◌≡◌, ℕ, zero, suc, ◌+◌, ◌-◌, ◌<◌, ◌⊎◌, inl, inr, List, [], ◌∷◌, ◌++◌, length, length-set, get_or, set, cond, position, Option, Some, None, IsSome, Result, Ok, Err, OnOk, OnErr, Bool, true, false, ◌&&◌, nat_lt, nat_eq, refl, sym, ap, subst, ◌∙◌, arith, sum_by, get_or-set_same, ne_eqb}
 use Rattle.std.specs.Prelude.{if◌then◌else◌, is_none}
 use Rattle.std.specs.List.{position_or_len}
 use Rattle.std.proofs.lemmas.List.{get_or_append_left, get_or_past, get_or_push, length_push, set-get_or}
@@ -16,16 +16,15 @@ use Rattle.protocol.specs.declared.state.Hand.{Hand}
 use Rattle.protocol.specs.declared.state.Hand.TheVariants.{Empty, Taking, Giving, Back}
 use Rattle.protocol.specs.declared.state.LocalPlace.{LocalPlace}
 use Rattle.protocol.specs.declared.state.LocalPlace.TheVariants.{Free, Standing, Lifted}
-use Rattle.registry_values.specs.declared.slot.Slot.TheVariants.{Retired}
 use Rattle.protocol.specs.State.{State, count_at, found_at, hand_at, local_at, mark_at, row_at, search_at, total_at, at_rest, is_empty}
 use Rattle.registry_values.specs.Balances.{bias}
 use Rattle.registry_values.specs.Marks.{no_mark, is_collected, is_some_collected}
 use Rattle.registry_values.specs.Slots.{slot_at, is_retired, slot_of}
 use Rattle.protocol.specs.Events.{Outcome, after_collected, after_count, after_count_add, after_count_down, after_hand, after_join_keeper, after_split, after_total, id_if, is_free, is_idle, least_id, load_local, may_join_keeper, split_ref, number_standing, state_after, step, some_outcome, with_local, word, words_of}
-use Rattle.protocol.specs.Invariant.{Holds, IsCounting, standing_of}
+use Rattle.protocol.specs.Invariant.{Holds, standing_of}
 use Rattle.passive_core.specs.Commands.{all_seated, may_act}
 use Rattle.passive_core.specs.Locals.{count_in, free_added, is_counting, local_slot, slot_if, with_count_less, with_count_more, with_room, with_total_less}
-use Rattle.protocol.proofs.keeps.CountKeeps.{counts_keep, empty_from}
+use Rattle.protocol.proofs.keeps.SectionKeeps.{empty_from}
 use Rattle.protocol.proofs.counts.Counts.{counting_cases, held_stays}
 use Rattle.registry_values.proofs.Fit.{ranges}
 use Rattle.protocol.proofs.slots.Numbers.{entry_attached, occupied_slot, position_fails}
@@ -33,6 +32,7 @@ use Rattle.protocol.proofs.slots.Occupied.{at_rest_tells, slot_has}
 use Rattle.passive_core.proofs.Passives.{ShowsRecord, both, found_slot, is_some, made, may_still}
 use Rattle.protocol.proofs.keeps.References.{references_places, standing_tells}
 use Rattle.protocol.proofs.slots.MarkRows.{any_within}
+use Rattle.protocol.proofs.Either.{either}
 
 -- Lists.
 
@@ -93,13 +93,11 @@ placed locals (Some id) p some = refl
 
 -- each place shows what it did
 pub added_at : (locals : List LocalPlace) (o : Option ℕ) (id : ℕ) → local_at (free_added locals o) id ≡ local_at locals id
-added_at locals None id = ⊎_elim
-    (λ (lt : id < length locals). get_or_append_left locals (Free ∷ []) Free id lt)
-    (λ (ge : length locals ≤ id). ⊎_elim
-    (λ (same : id ≡ length locals). get_or_push locals Free Free id (sym same) ∙ sym (get_or_past locals id Free ge))
-    (λ (off : id ≡ length locals → ⊥). get_or_past (locals ++ Free ∷ []) id Free (omega (arith, ge, off, length_push locals Free)) ∙ sym (get_or_past locals id Free ge))
-    (cases_eq id (length locals)))
-    (cases_lt id (length locals))
+added_at locals None id = either (cases_lt id (length locals))
+    (λ lt. get_or_append_left locals (Free ∷ []) Free id lt)
+    (λ ge. either (cases_eq id (length locals))
+    (λ same. get_or_push locals Free Free id (sym same) ∙ sym (get_or_past locals id Free ge))
+    (λ off. get_or_past (locals ++ Free ∷ []) id Free (omega (arith, ge, off, length_push locals Free)) ∙ sym (get_or_past locals id Free ge)))
 added_at locals (Some id) j = refl
 
 added_sum : (n : ℕ) (locals : List LocalPlace) (o : Option ℕ) → sum_by (standing_of n) (free_added locals o) ≡ sum_by (standing_of n) locals
@@ -109,18 +107,13 @@ added_sum n locals (Some id) = refl
 pub room_holds : (s : State) → Holds s → Holds (with_room s)
 room_holds s on =
     let o = position is_free s.locals in
-    counts_keep s s.counts s.nets s.totals s.hands s.keeps s.due (free_added s.locals o) on
-    (record { count_size = on.shape.counts; count_rows = on.shape.count_rows; net_size = on.shape.nets; net_rows = on.shape.net_rows; total_size = on.shape.totals; hand_size = on.shape.hands; keep_size = on.shape.keeps })
-    on.snapshots
-    (held_stays on.balance s.hands s.keeps (free_added s.locals o) (λ n. omega (arith, added_sum n s.locals o)))
-    (record {
-      references = references_places s.settings.cpus s.slots s.hands s.due s.due s.locals (free_added s.locals o)
+    assumption (
+      held_stays on.balance s.hands s.keeps (free_added s.locals o) (λ n. omega (arith, added_sum n s.locals o)),
+      references_places s.settings.cpus s.slots s.hands s.due s.due s.locals (free_added s.locals o)
           (λ id n at. on.references.standing id n (sym (added_at s.locals o id) ∙ at))
           (λ d id at. added_at s.locals o id ∙ at)
-          on.references.due_at on.references;
-      kept_drivers = on.kept_drivers;
-      seats = on.seats;
-    })
+          on.references.due_at on.references,
+    )
 
 -- What a live reference is to, and whether a CPU's word counts it.
 
@@ -145,20 +138,18 @@ pub count_cases : (s : State) (c n t : ℕ) → Holds s → slot_of s.slots n �
 count_cases s c n t on of low =
     let has = slot_has s.slots n t of in
     let e = has.1.0 in
-    ⊎_elim
-    (λ (counting : IsCounting s.slots s.marks c t).
+    either (counting_cases s.slots s.marks c t e has.1.1)
+    (λ counting.
     let is = on.balance.counted c t low counting in
     inl (record { some = lt-ltb 0 (count_at s.counts c t) is.1; same = eq-eqb (count_at s.counts c t) (count_at s.nets c t) is.0 }))
-    (λ (gone : (slot_at s.slots t ≡ Retired e) × ((mark_at s.marks t c).collected ≡ true)).
+    (λ gone.
     let zero_ = on.balance.emptied c t e gone.0 gone.1 in
     let used = on.balance.used c t e low (inr gone.0) in
-    inr (record {
-      none = le-ltb 0 (count_at s.counts c t) (omega (arith, zero_));
-      other = ne_eqb (count_at s.counts c t) (count_at s.nets c t) (λ same. absurd (omega (arith, same, zero_, used)));
-      retired = ap is_retired gone.0;
-      collected = gone.1;
-    }))
-    (counting_cases s.slots s.marks c t e has.1.1)
+    inr (assumption (
+      le-ltb 0 (count_at s.counts c t) (omega (arith, zero_)),
+      ne_eqb (count_at s.counts c t) (count_at s.nets c t) (λ same. absurd (omega (arith, same, zero_, used))),
+      ap is_retired gone.0,
+    )))
 
 -- The events of a release by the CPU's own count.
 
@@ -175,10 +166,7 @@ exchanged s c n id t counts = if counts then some_outcome (after_count_down (lif
 downs : (s : State) (c n id t : ℕ) → Holds s → slot_of s.slots n ≡ Some t → c < s.settings.cpus → step (lifted s c n id) (CountDown c) ≡ exchanged s c n id t (nat_lt 0 (count_at s.counts c t))
 downs s c n id t on of low =
     let hand : hand_at (lifted s c n id) c ≡ Giving n id = get_or-set_same s.hands c (Giving n id) Empty (omega (arith, low, on.shape.hands)) in
-    ⊎_elim
-    (λ (is : Counts s c t). rw (hand, of, is.some, is.same) refl)
-    (λ (is : Collected_at s c t). rw (hand, of, is.none, is.other) refl)
-    (count_cases s c n t on of low)
+    either (count_cases s c n t on of low) (λ is. rw (hand, of, is.some, is.same) refl) (λ is. rw (hand, of, is.none, is.other) refl)
 
 some_exchanged : (s : State) (c n id t : ℕ) (b : Bool) → IsSome (exchanged s c n id t b)
 some_exchanged s c n id t true = refl
@@ -259,12 +247,11 @@ keeper_joins s id n t live of may = rw (live, of, may) refl
 pub joined_keeper : (s : State) (c id n t : ℕ) → Holds s → c < s.settings.cpus → at_rest s.due ≡ true → number_standing (local_at s.locals id) ≡ Some n → slot_of s.slots n ≡ Some t → is_counting s c (local_slot s id) ≡ false → step s (JoinKeeper id) ≡ some_outcome (after_join_keeper s id t) Done
 joined_keeper s c id n t on low rest live of off =
     let none : nat_lt 0 (count_at s.counts c t) ≡ false = ap (is_counting s c) (sym (slot_is s id n t live of)) ∙ off in
-    ⊎_elim
-    (λ (is : Counts s c t). absurd (let q : ◌≡◌ {A = Bool} true false = sym is.some ∙ none in cc))
-    (λ (is : Collected_at s c t).
+    either (count_cases s c n t on of low)
+    (λ is. absurd (let q : ◌≡◌ {A = Bool} true false = sym is.some ∙ none in cc))
+    (λ is.
     keeper_joins s id n t live of (both (is_retired (slot_at s.slots t)) (at_rest s.due && is_some_collected s.settings.cpus (get_or s.marks t [])) is.retired
     (both (at_rest s.due) (is_some_collected s.settings.cpus (get_or s.marks t [])) rest (some_collected s c t on low (slot_has s.slots n t of).0 is.collected))))
-    (count_cases s c n t on of low)
 
 totals_sub : (s : State) (id t : ℕ) → step (after_join_keeper s id t) (TotalSub t) ≡ some_outcome (after_total (after_join_keeper s id t) t (total_at s.totals t - 1)) Done
 totals_sub s id t = let same : nat_eq t t ≡ true = eq-eqb t t refl in rw same refl
@@ -328,12 +315,10 @@ takes s u v c e r on found low is idle room was =
     let state = made s (step (prepared s) (CountAdd c)) _ v r (counts_up (prepared s) c t.0 e found t.1 (subst (λ (x : State). is_idle x c ≡ true) is idle) (room_at s c e.number t.0 t.1 room))
     (subst (λ (x : State). step x (CountAdd c) ≡ Some (record { state = v; reply = r })) is was) in (
       t.0,
-      record {
-        slot = t.1;
-        state = state;
-        hand = ap (λ (x : State). hand_at x c) state ∙ get_or-set_same s.hands c (Taking e.number) Empty (omega (arith, low, on.shape.hands));
-        room = subst (λ (x : State). least_id x.locals < length x.locals) (sym state) (least_added s.locals (position is_free s.locals) refl).1;
-      },
+      assumption (
+        ap (λ (x : State). hand_at x c) state ∙ get_or-set_same s.hands c (Taking e.number) Empty (omega (arith, low, on.shape.hands)),
+        subst (λ (x : State). least_id x.locals < length x.locals) (sym state) (least_added s.locals (position is_free s.locals) refl).1,
+      ),
     )
 
 -- the reference has its place, and the hand is empty again
@@ -359,10 +344,6 @@ more_count_ready s c n (Some t) on d may = may_still s on d may
 pub less_count_ready : (u : State) (c id : ℕ) (o : Option ℕ) (d : ℕ) → may_act u d ≡ true → may_act (with_count_less u c id o) d ≡ true
 less_count_ready u c id None d may = may
 less_count_ready u c id (Some t) d may = may
-
-pub less_total_ready : (u : State) (id : ℕ) (o : Option ℕ) (d : ℕ) → may_act u d ≡ true → may_act (with_total_less u id o) d ≡ true
-less_total_ready u id None d may = may
-less_total_ready u id (Some t) d may = may
 
 -- the list of places after a growth that may be refused
 pub grown_holds : {X Y : Type 0} (s : State) (locals : List LocalPlace) (result : Result X Y) → Holds s → position is_free s.locals ≡ None → OnOk result (locals ≡ s.locals ++ Free ∷ []) → OnErr result (locals ≡ s.locals) → Holds (record s { locals = locals })

@@ -1,5 +1,5 @@
 -- Lists of events, one after the other.
-use Rattle.std.proofs.Common.{get_or, get_or-set_same, replicate, ◌≡◌, ℕ, zero, suc, ◌+◌, ◌-◌, ◌<◌, ◌≤◌, inl, inr, ⊎_elim, List, [], ◌∷◌, ◌++◌, Option, Some, None, Bool, true, false, ◌&&◌, nat_lt, Ok, refl, sym, ap, subst, ◌∙◌, arith, lt-ltb}
+use Rattle.std.proofs.Common.{get_or, get_or-set_same, replicate, ◌≡◌, ℕ, zero, suc, ◌+◌, ◌-◌, ◌<◌, ◌≤◌, inl, inr, List, [], ◌∷◌, ◌++◌, Option, Some, None, Bool, true, false, ◌&&◌, nat_lt, Ok, refl, sym, ap, subst, ◌∙◌, arith, lt-ltb}
 use Rattle.std.specs.Prelude.{All, is_none, if◌then◌else◌}
 use Rattle.std.proofs.lemmas.Option.{same_Some}
 use Rattle.std.proofs.lemmas.Bool.{and_parts, eq-eqb}
@@ -9,13 +9,13 @@ use Rattle.registry_values.specs.declared.stage.Stage.{Stage}
 use Rattle.registry_values.specs.declared.stage.Stage.TheVariants.{Grace, Passive, Local, Freed}
 use Rattle.registry_values.specs.Slots.{retired_slot}
 use Rattle.protocol.specs.declared.event.Event.{Event}
-use Rattle.protocol.specs.declared.event.Event.TheVariants.{Seat, Seek, Look, LoadRecord, Publish, Unpublish, Tell, Hear, CountAdd, SplitRef, JoinRef, CountDown, SplitBack}
+use Rattle.protocol.specs.declared.event.Event.TheVariants.{Seat, Seek, LoadRecord, Publish, Unpublish, Tell, Hear, CountAdd, SplitRef, JoinRef, CountDown, SplitBack}
 use Rattle.protocol.specs.declared.event.RecordOf.{RecordOf}
 use Rattle.protocol.specs.declared.event.Reply.{Reply}
 use Rattle.protocol.specs.declared.event.Reply.TheVariants.{Done, Ref, Word}
 use Rattle.protocol.specs.Events.{after_count_add, after_count_store, after_publish, after_snapshot, after_split, after_unpublish, is_idle, least_id, load_record, may_write, some_outcome, step}
 use Rattle.protocol.specs.Invariant.{Holds}
-use Rattle.protocol.proofs.keeps.CountKeeps.{empty_from}
+use Rattle.protocol.proofs.keeps.SectionKeeps.{empty_from}
 use Rattle.registry_values.proofs.Fit.{ranges}
 use Rattle.registry_values.specs.Balances.{bias}
 use Rattle.registry_values.specs.Marks.{no_mark}
@@ -39,6 +39,7 @@ use Rattle.passive_core.specs.Advancing.{AdvanceLeaves, Settles}
 use Rattle.passive_core.proofs.Advancing.{is_freed, slots_again}
 use Rattle.passive_core.specs.Locals.{is_counting, local_slot, count_in, release_events, under_events, with_count_more}
 use Rattle.passive_core.specs.Making.{AdvanceMakes, IsWork, count_stores_from, detach_events, linking_events, prepare_events, snapshots_from, FindMakes, IsCollectionFor, IsLookFor, IsPassiveLookFor, IsSeat, IsWaiting, Makes, MakesOnly, seats_and, seats_from}
+use Rattle.protocol.proofs.Either.{either}
 
 pub makes_one : (s n : State) (event : Event) (r : Reply) → step s event ≡ Some (record { state = n; reply = r }) → Makes s (event ∷ []) n
 makes_one s n event r made = (record { state = n; reply = r }, made, refl)
@@ -170,7 +171,7 @@ find_goes_on b s t c key r load makes = (
 -- Waits
 
 pub looks_wait : (s n : State) (t : ℕ) → MakesOnly (IsLookFor t) s n → MakesOnly IsWaiting s n
-looks_wait s n t x = only_wider (IsLookFor t) IsWaiting s n (λ e is. ⊎_elim (λ (seat : IsSeat e). inl seat) (λ (looks : (c : ℕ) × (e ≡ Look (Some t) c)). inr (inr (Some t, looks.0, looks.1))) is) x
+looks_wait s n t x = only_wider (IsLookFor t) IsWaiting s n (λ e is. either is (λ seat. inl seat) (λ looks. inr (inr (Some t, looks.0, looks.1)))) x
 
 pub seats_wait : (s u n : State) → Holds s → at_rest s.due ≡ true → u ≡ all_seated s → n ≡ u → MakesOnly IsWaiting s n
 seats_wait s u n on rest seated same = subst (λ (x : State). MakesOnly IsWaiting s x) (sym same) (only_wider IsSeat IsWaiting s u (λ e is. inl is) (only_seats s u on rest seated))

@@ -1,6 +1,6 @@
 -- What the commands on passive references rest on.
-use Rattle.std.proofs.Common.{◌≡◌, ℕ, ◌+◌, ◌-◌, ◌<◌, ◌≤◌, ◌⊎◌, inl, inr, ⊎_elim, Option, Some, None, IsSome, Bool, true, false, not, ◌&&◌, ◌||◌, nat_lt, refl, sym, ap, subst, ◌∙◌}
-use Rattle.std.proofs.lemmas.Bool.{or_right, cases_lt, le-ltb}
+use Rattle.std.proofs.Common.{◌≡◌, ℕ, ◌+◌, ◌-◌, ◌<◌, Option, Some, None, IsSome, Bool, true, false, not, ◌&&◌, ◌||◌, nat_lt, refl, sym, ap, subst, ◌∙◌}
+use Rattle.std.proofs.lemmas.Bool.{or_cases, or_right, cases_lt, le-ltb}
 use Rattle.registry_values.specs.declared.entry.Entry.{Entry}
 use Rattle.protocol.specs.declared.event.Event.TheVariants.{PassiveAdd, PassiveSub}
 use Rattle.protocol.specs.declared.event.Reply.{Reply}
@@ -19,12 +19,9 @@ use Rattle.protocol.proofs.keeps.Passive.{found_number}
 use Rattle.protocol.proofs.model.RefiningReferences.{passive_put}
 use Rattle.protocol.proofs.slots.Occupied.{slot_has}
 use Rattle.passive_core.proofs.Acting.{acting_idle}
+use Rattle.protocol.proofs.Either.{either}
 
 -- A CPU that may act is idle once all have their seats.
-
-was_idle : (a b : Bool) → a ≡ true → (not a || (a && b)) ≡ true → b ≡ true
-was_idle true b is may = may
-was_idle false b is may = absurd (let q : ◌≡◌ {A = Bool} false true = is in cc)
 
 pub both : (a b : Bool) → a ≡ true → b ≡ true → (a && b) ≡ true
 both true b is too = too
@@ -32,10 +29,9 @@ both false b is too = is
 
 -- and a CPU that might act before still may
 pub may_still : (s : State) → Holds s → (d : ℕ) → may_act s d ≡ true → may_act (all_seated s) d ≡ true
-may_still s on d may = ⊎_elim
-    (λ (lt : d < s.settings.cpus). or_right (not (nat_lt d s.settings.cpus)) (is_idle (all_seated s) d) (acting_idle s d on lt may))
-    (λ (ge : s.settings.cpus ≤ d). let out : nat_lt d s.settings.cpus ≡ false = le-ltb d s.settings.cpus ge in rw out refl)
-    (cases_lt d s.settings.cpus)
+may_still s on d may = either (cases_lt d s.settings.cpus)
+    (λ lt. or_right (not (nat_lt d s.settings.cpus)) (is_idle (all_seated s) d) (acting_idle s d on lt may))
+    (λ ge. let out : nat_lt d s.settings.cpus ≡ false = le-ltb d s.settings.cpus ge in rw out refl)
 
 -- What a CPU has found, or holds a passive reference to, has its slot.
 
@@ -48,18 +44,13 @@ held_slot : (passive : _) (c : ℕ) (o : Option ℕ) → nat_lt 0 (passive_in pa
 held_slot passive c None held = absurd (let q : ◌≡◌ {A = Bool} false true = held in cc)
 held_slot passive c (Some t) held = (t, refl)
 
-either : (a b : Bool) → (a || b) ≡ true → (a ≡ true) ⊎ (b ≡ true)
-either true b is = inl refl
-either false b is = inr is
-
 pub has_slot : (s : State) (c n : ℕ) → Holds s → (is_number n (found_at s c) || nat_lt 0 (passive_of s c n)) ≡ true → (t : ℕ) × (slot_of s.slots n ≡ Some t)
-has_slot s c n on has = ⊎_elim
-    (λ (is : is_number n (found_at s c) ≡ true).
+has_slot s c n on has = either (or_cases (is_number n (found_at s c)) (nat_lt 0 (passive_of s c n)) has)
+    (λ is.
     let found = found_number n (found_at s c) is in
     let at = found_slot s c found.0 on found.1 in
     (at.0, ap (slot_of s.slots) (sym found.2) ∙ at.1))
-    (λ (held : nat_lt 0 (passive_of s c n) ≡ true). held_slot s.passive c (slot_of s.slots n) held)
-    (either (is_number n (found_at s c)) (nat_lt 0 (passive_of s c n)) has)
+    (λ held. held_slot s.passive c (slot_of s.slots n) held)
 
 -- The addition and the subtraction that a command makes, once all CPUs have their seats.
 
@@ -176,12 +167,3 @@ word_is s u n k v load shows same few was = same_word s (load s k) v (word (word
 -- a name of these words is lawful
 pub lawful_words : (s : State) (n high low : ℕ) (load : ℕ → Option Outcome) (shows : ShowsRecord s n load) → high ≡ shows.entry.rec.name.high → low ≡ shows.entry.rec.name.low → are_name_words high low ≡ true
 lawful_words s n high low load shows h l = rw (h, l) shows.lawful
-
--- other CPUs, and this one, may act as before
-pub more_ready : (s : State) (c : ℕ) (o : Option ℕ) → Holds s → (d : ℕ) → may_act s d ≡ true → may_act (with_one_more s c o) d ≡ true
-more_ready s c None on d may = may_still s on d may
-more_ready s c (Some t) on d may = may_still s on d may
-
-pub less_ready : (s : State) (c : ℕ) (o : Option ℕ) → Holds s → (d : ℕ) → may_act s d ≡ true → may_act (with_one_less s c o) d ≡ true
-less_ready s c None on d may = may_still s on d may
-less_ready s c (Some t) on d may = may_still s on d may

@@ -1,8 +1,8 @@
 -- Sections that were seen to have ended, and looks for all retired entries.
-use Rattle.std.proofs.Common.{◌≡◌, ℕ, ◌+◌, ◌%◌, ◌<◌, inr, ⊎_elim, List, length, get_or, set, Option, Some, None, Bool, true, false, not, ◌&&◌, ◌||◌, ◌==◌, refl, sym, ap, subst, ◌∙◌, arith, get_or-set_same, get_or-set_other}
+use Rattle.std.proofs.Common.{◌≡◌, ℕ, ◌+◌, ◌%◌, ◌<◌, inr, List, length, get_or, set, Option, Some, None, Bool, true, false, not, ◌&&◌, ◌||◌, ◌==◌, refl, sym, ap, subst, ◌∙◌, arith, get_or-set_same, get_or-set_other}
 use Rattle.std.specs.Prelude.{is_some}
 use Rattle.std.proofs.lemmas.Bool.{cases_eq, eq-eqb}
-use Rattle.std.proofs.lemmas.Option.{none-some, same_Some}
+use Rattle.std.proofs.lemmas.Option.{same_Some}
 use Rattle.registry_values.specs.declared.entry.Entry.{Entry}
 use Rattle.registry_values.specs.declared.mark.Mark.{Mark}
 use Rattle.registry_values.specs.declared.slot.Slot.{Slot}
@@ -20,6 +20,7 @@ use Rattle.passive_core.proofs.Advancing.{only_marks, passes_none}
 use Rattle.registry_values.proofs.Slots.{retired_slot_tells}
 use Rattle.protocol.proofs.slots.Numbers.{position_passes}
 use Rattle.protocol.proofs.slots.Occupied.{in_within, one_number}
+use Rattle.protocol.proofs.Either.{either}
 
 -- A word that hasn't changed is out of its section just where the CPU is outside.
 
@@ -29,9 +30,6 @@ out_shown w (Some b) outside inside = rw (ap (λ (k : ℕ). k == 0) (inside b re
 
 pub seen_out : (s : State) (c : ℕ) → Holds s → is_out (section_at s c) (section_at s c) ≡ not (is_inside s c)
 seen_out s c on = out_shown (section_at s c) (begin_at s c) (λ out. (on.sections.outside c out).0) (λ b in_. (on.sections.inside c b in_).0)
-
-pub not_out : (b : Bool) → b ≡ false → true ≡ not b
-not_out b is = ap not (sym is)
 
 pub sound_out : (a b : Bool) → a ≡ not b → a ≡ true → b ≡ false
 sound_out a false same is = refl
@@ -43,16 +41,14 @@ not_not a false same = ap not same
 
 -- a place of a row that was written
 pub written_below : {X : Type 0} (d : X) (P : ℕ → X → Type 0) (xs : List X) (i : ℕ) (x : X) → i < length xs → ((k : ℕ) → k < i → P k (get_or xs k d)) → P i x → (k : ℕ) → k < i + 1 → P k (get_or (set xs i x) k d)
-written_below d P xs i x lt below here k le = ⊎_elim
-    (λ (same : k ≡ i). subst (λ (j : ℕ). P j (get_or (set xs i x) j d)) (sym same) (subst (P i) (sym (get_or-set_same xs i x d lt)) here))
-    (λ (off : k ≡ i → ⊥). subst (P k) (sym (get_or-set_other xs i k x d off)) (below k (omega (arith, le, off))))
-    (cases_eq k i)
+written_below d P xs i x lt below here k le = either (cases_eq k i)
+    (λ same. subst (λ (j : ℕ). P j (get_or (set xs i x) j d)) (sym same) (subst (P i) (sym (get_or-set_same xs i x d lt)) here))
+    (λ off. subst (P k) (sym (get_or-set_other xs i k x d off)) (below k (omega (arith, le, off))))
 
 pub written_each : {X : Type 0} (d : X) (P : ℕ → X → Type 0) (xs : List X) (i : ℕ) (x : X) → i < length xs → ((k : ℕ) → P k (get_or xs k d)) → P i x → (k : ℕ) → P k (get_or (set xs i x) k d)
-written_each d P xs i x lt each here k = ⊎_elim
-    (λ (same : k ≡ i). subst (λ (j : ℕ). P j (get_or (set xs i x) j d)) (sym same) (subst (P i) (sym (get_or-set_same xs i x d lt)) here))
-    (λ (off : k ≡ i → ⊥). subst (P k) (sym (get_or-set_other xs i k x d off)) (each k))
-    (cases_eq k i)
+written_each d P xs i x lt each here k = either (cases_eq k i)
+    (λ same. subst (λ (j : ℕ). P j (get_or (set xs i x) j d)) (sym same) (subst (P i) (sym (get_or-set_same xs i x d lt)) here))
+    (λ off. subst (P k) (sym (get_or-set_other xs i k x d off)) (each k))
 
 -- No section is open: each look passes.
 
@@ -79,29 +75,20 @@ only_more s m n x y = record {
 pub only_one : (s n : State) (t : ℕ) → is_retired (slot_at s.slots t) ≡ true → n ≡ record s { marks = n.marks } → MarksPass s.marks n.marks t → OnlyPasses s n
 only_one s n t gone only marks = record {
   only = only;
-  marks = λ u c. ⊎_elim
-      (λ (same : u ≡ t). subst (λ (k : ℕ). Passes (mark_at s.marks k c) (mark_at n.marks k c)) (sym same) (marks.here c))
-      (λ (off : u ≡ t → ⊥). subst (λ (r : List Mark). Passes (mark_at s.marks u c) (get_or r c no_mark)) (sym (marks.elsewhere u off)) (passes_none (mark_at s.marks u c)))
-      (cases_eq u t);
+  marks = λ u c. either (cases_eq u t)
+      (λ same. subst (λ (k : ℕ). Passes (mark_at s.marks k c) (mark_at n.marks k c)) (sym same) (marks.here c))
+      (λ off. subst (λ (r : List Mark). Passes (mark_at s.marks u c) (get_or r c no_mark)) (sym (marks.elsewhere u off)) (passes_none (mark_at s.marks u c)));
   elsewhere = λ u is. marks.elsewhere u (λ same. let q : ◌≡◌ {A = Bool} true false = sym gone ∙ (ap (λ (k : ℕ). is_retired (slot_at s.slots k)) (sym same) ∙ is) in cc);
 }
 
 pub still_passed : (s n : State) (t : ℕ) → OnlyPasses s n → AllPassed s t → AllPassed n t
 still_passed s n t only passed c lt = (only.marks t c).passed (passed c (subst (λ (z : State). c < z.settings.cpus) only.only lt))
 
-pub still_outside : (s n : State) → OnlyPasses s n → AllOutside s → AllOutside n
-still_outside s n only outside c lt = ap (λ (z : State). is_inside z c) only.only ∙ outside c (subst (λ (z : State). c < z.settings.cpus) only.only lt)
-
 -- the slot of a retired entry's number is its own
 retired_is : (n : ℕ) (x : Slot) → is_retired x ≡ true → Some n ≡ retired_number x → (e : Entry) × (x ≡ Retired e) × (e.number ≡ n)
 retired_is n Vacant gone is = absurd (let q : ◌≡◌ {A = Bool} false true = gone in cc)
 retired_is n (Live e) gone is = absurd (let q : ◌≡◌ {A = Bool} false true = gone in cc)
 retired_is n (Retired e) gone is = (e, refl, sym (same_Some n e.number is))
-
-pub has_retired_number : (x : Slot) → is_retired x ≡ true → None ≡ retired_number x → ⊥
-has_retired_number Vacant gone is = let q : ◌≡◌ {A = Bool} false true = gone in cc
-has_retired_number (Live e) gone is = let q : ◌≡◌ {A = Bool} false true = gone in cc
-has_retired_number (Retired e) gone is = none-some e.number is
 
 pub retired_found : (s : State) (t n : ℕ) → Holds s → is_retired (slot_at s.slots t) ≡ true → Some n ≡ retired_number (slot_at s.slots t) → retired_slot s.slots n ≡ Some t
 retired_found s t n on gone is =

@@ -1,3 +1,4 @@
+pub mod Either
 pub mod counts
 pub mod history
 pub mod keeps

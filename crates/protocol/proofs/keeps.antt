@@ -8,7 +8,6 @@ pub mod Marking
 pub mod Passive
 pub mod Publishing
 pub mod References
-pub mod Referring
 pub mod SearchKeeps
 pub mod Searching
 pub mod SectionKeeps

@@ -1,5 +1,5 @@
 -- A lookup computed change by change is the one of the history, and the end of an entry is where it is detached.
-use Rattle.std.proofs.Common.{◌≡◌, ℕ, zero, suc, ◌<◌, ◌≤◌, ⊎_elim, List, length, get_or, Option, Some, None, Bool, true, false, refl, sym, ap, subst, ◌∙◌, arith, eqb-true}
+use Rattle.std.proofs.Common.{◌≡◌, ℕ, zero, suc, ◌<◌, ◌≤◌, List, length, get_or, Option, Some, None, Bool, true, false, refl, sym, ap, subst, ◌∙◌, arith, eqb-true}
 use Rattle.std.specs.Prelude.{slice_get, position, if◌then◌else◌, ◌==◌}
 use Rattle.std.proofs.lemmas.Bool.{cases_eq, eq-eqb}
 use Rattle.std.proofs.lemmas.Option.{same_Some, none-some, get_or_from_slice_get, slice_get-get_or}
@@ -15,6 +15,7 @@ use Rattle.protocol.proofs.history.History.{ends_after, one_end, one_live, at_wi
 use Rattle.registry_values.proofs.Slots.{key_from, key_same}
 use Rattle.protocol.proofs.slots.Numbers.{position_fails}
 use Rattle.registry_report.specs.Changes.{answer_after, lookup, is_end_of, end_of, place_after, entry_of, entry_of_attach}
+use Rattle.protocol.proofs.Either.{either}
 
 -- One change more
 
@@ -23,10 +24,7 @@ live_on : (h : List Change) (k : ℕ) (e : Entry) → IsLiveAt h k e → (EndsAt
 live_on h k e live on = record {
   attached = live.attached;
   begun = omega (arith, live.begun);
-  unended = λ p x. ⊎_elim
-      (λ (at : p ≡ suc k). absurd (on (subst (EndsAt h e.number) at x)))
-      (λ (off : p ≡ suc k → ⊥). let later : k < p = live.unended p x in omega arith)
-      (cases_eq p (suc k));
+  unended = λ p x. either (cases_eq p (suc k)) (λ at. absurd (on (subst (EndsAt h e.number) at x))) (λ off. let later : k < p = live.unended p x in omega arith);
 }
 
 -- who is live was so, unless this change is the attach

@@ -1,11 +1,12 @@
 -- What the events do to the balance of one slot, and how far its words and its total can go.
-use Rattle.std.proofs.Common.{◌≡◌, ℕ, ◌+◌, ◌-◌, ◌*◌, ◌<◌, ◌≤◌, ◌⊎◌, ⊎_elim, List, length, get_or, set, ap, ◌∙◌, arith, get_or-set_same, get_or-set_other}
+use Rattle.std.proofs.Common.{◌≡◌, ℕ, ◌+◌, ◌-◌, ◌*◌, ◌<◌, ◌≤◌, ◌⊎◌, List, length, get_or, set, ap, ◌∙◌, arith, get_or-set_same, get_or-set_other}
 use Rattle.std.proofs.lemmas.Bool.{cases_eq}
 use Rattle.std.proofs.lemmas.List.Sums.{sum_by-set}
 use Rattle.registry_values.specs.declared.settings.TheConstants.{MOST_CPUS}
 use Rattle.registry_values.specs.Balances.{bias}
 use Rattle.protocol.specs.Invariant.{Balances, one_if_used, itself, greatest_limit}
 use Rattle.protocol.proofs.counts.Sums.{used-le-length, words-le-used, words-at-bias, words-at-zero, is_used}
+use Rattle.protocol.proofs.Either.{either}
 
 -- no word goes further than its limit
 abbrev pub AreWords : List ℕ → Type 0
@@ -30,10 +31,9 @@ word_floor row total held adding is_adding c words lt some b =
     let sums = sum_by-set itself row c 0 0 in_ in
     let uses = sum_by-set one_if_used row c 0 0 in_ in
     let was = is_used (get_or row c 0) some in
-    let each : (d : ℕ) → get_or (set row c 0) d 0 ≤ bias + greatest_limit = λ d. ⊎_elim
-    (λ (here : d ≡ c). let none : get_or (set row c 0) d 0 ≡ 0 = ap (λ (k : ℕ). get_or (set row c 0) k 0) here ∙ get_or-set_same row c 0 0 in_ in omega arith)
-    (λ (off : d ≡ c → ⊥). let old = get_or-set_other row c d 0 0 off in omega (arith, old, words.1 d))
-    (cases_eq d c) in
+    let each : (d : ℕ) → get_or (set row c 0) d 0 ≤ bias + greatest_limit = λ d. either (cases_eq d c)
+    (λ here. let none : get_or (set row c 0) d 0 ≡ 0 = ap (λ (k : ℕ). get_or (set row c 0) k 0) here ∙ get_or-set_same row c 0 0 in_ in omega arith)
+    (λ off. let old = get_or-set_other row c d 0 0 off in omega (arith, old, words.1 d)) in
     let most = words-le-used (set row c 0) each in
     omega (arith, used, sums, uses, was, most, words.0, b.even, b.capped)
 

@@ -1,7 +1,7 @@
 -- What the invariant says of the ranges that the code's arithmetic and places need, where an event is allowed.
 use Rattle.std.proofs.Common.{◌≡◌, ℕ, ◌+◌, ◌^◌, ◌<◌, ◌≤◌, inr, length, get_or, Some, true, sym, ◌∙◌, arith}
 use Rattle.registry_values.specs.declared.entry.Entry.{Entry}
-use Rattle.protocol.specs.declared.state.Hand.TheVariants.{Empty, Taking, Giving, Back}
+use Rattle.protocol.specs.declared.state.Hand.TheVariants.{Empty, Giving, Back}
 use Rattle.protocol.specs.declared.state.Due.TheVariants.{Adding, Subtracting}
 use Rattle.protocol.specs.declared.state.Search.{Search}
 use Rattle.protocol.specs.State.{State, hand_at, found_at, count_at, total_at, kept_at, search_at}
@@ -32,9 +32,6 @@ back_within s c n id on hand = (
   hand_within s c on (λ empty. let q : Back n id ≡ Empty = sym hand ∙ empty in cc),
   lifted_within s.locals id c (back_holds s.settings.cpus s.slots s.hands s.due s.locals c n id hand on.references).1,
 )
-
-pub taking_within : (s : State) (c n : ℕ) → Holds s → hand_at s c ≡ Taking n → c < s.settings.cpus
-taking_within s c n on hand = hand_within s c on (λ empty. let q : Taking n ≡ Empty = sym hand ∙ empty in cc)
 
 pub slot_within : (s : State) (n t : ℕ) → Holds s → slot_of s.slots n ≡ Some t → t < s.settings.slots
 slot_within s n t on of = omega (arith, (slot_has s.slots n t of).0, on.shape.slots)

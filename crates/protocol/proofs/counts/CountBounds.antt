@@ -32,9 +32,6 @@ word_floor {z} {slots} {marks} {counts} {nets} {totals} {hands} {keeps} {due} {l
 pub word_ceiling : {z : Settings} {slots : List Slot} {marks : List (List Mark)} {counts nets : List (List ℕ)} {totals : List ℕ} {hands : List Hand} {keeps : List (Option ℕ)} {due : Due} {locals : List LocalPlace} → CountsHold z slots marks counts nets totals hands keeps due locals → CountsFit z slots marks counts nets totals hands keeps → (c t : ℕ) (e : Entry) → IsIn e (slot_at slots t) → count_at counts c t ≤ bias + 2 ^ 40
 word_ceiling {z} {slots} {marks} {counts} {nets} {totals} {hands} {keeps} {due} {locals} on fit c t e is = omega (arith, (are_words on fit t e is).1 c)
 
-pub word_limit : {z : Settings} {slots : List Slot} {marks : List (List Mark)} {counts nets : List (List ℕ)} {totals : List ℕ} {hands : List Hand} {keeps : List (Option ℕ)} {due : Due} {locals : List LocalPlace} → CountsHold z slots marks counts nets totals hands keeps due locals → (c t : ℕ) (e : Entry) → c < z.cpus → IsIn e (slot_at slots t) → IsCounting slots marks c t → count_at counts c t ≤ bias + z.count_limit
-word_limit {z} {slots} {marks} {counts} {nets} {totals} {hands} {keeps} {due} {locals} on c t e lt is counting = omega (arith, (on.counted c t lt counting).0, on.limited c t e is)
-
 -- a total, with what is to be added
 pub total_floor : {z : Settings} {slots : List Slot} {marks : List (List Mark)} {counts nets : List (List ℕ)} {totals : List ℕ} {hands : List Hand} {keeps : List (Option ℕ)} {due : Due} {locals : List LocalPlace} → CountsHold z slots marks counts nets totals hands keeps due locals → CountsFit z slots marks counts nets totals hands keeps → (t : ℕ) (e : Entry) → IsIn e (slot_at slots t) → bias * (1 + is_adding_at t due) + held_at locals hands keeps due e.number t ≤ total_at totals t + addition_due_at t due + MOST_CPUS * greatest_limit
 total_floor {z} {slots} {marks} {counts} {nets} {totals} {hands} {keeps} {due} {locals} on fit t e is =

@@ -1,5 +1,5 @@
 -- Each event keeps the balance of all slots.
-use Rattle.std.proofs.Common.{◌≡◌, ℕ, zero, suc, ◌+◌, ◌-◌, ◌<◌, ◌≤◌, ◌⊎◌, inl, inr, ⊎_elim, List, [], length, get_or, set, replicate, Option, Some, None, Bool, true, false, IsTrue, cond, nat_lt, ◌==◌, refl, sym, ap, subst, ◌∙◌, arith, sum_by, length-set}
+use Rattle.std.proofs.Common.{◌≡◌, ℕ, zero, suc, ◌+◌, ◌-◌, ◌<◌, ◌≤◌, ◌⊎◌, inl, inr, List, [], length, get_or, set, replicate, Option, Some, None, Bool, true, false, IsTrue, cond, nat_lt, ◌==◌, refl, sym, ap, subst, ◌∙◌, arith, sum_by, length-set}
 use Rattle.std.proofs.lemmas.Bool.{cases_lt, cases_Bool, eq-eqb, ne_eqb}
 use Rattle.std.proofs.lemmas.List.{get_or-replicate, get_or_past, length-replicate}
 use Rattle.registry_values.specs.declared.entry.Entry.{Entry}
@@ -26,6 +26,7 @@ use Rattle.protocol.proofs.counts.Sums.{one_at, none_at, standing_within, lifted
 use Rattle.protocol.proofs.counts.Balancing.{AreWords, word_floor, counted_up, counted_down, added, subtracted, published, collected as word_collected}
 use Rattle.protocol.proofs.slots.Cells.{by_place, by_cell, row_here, row_other, cell_here, cell_other, cell_cases, cell_in_new, cell_in_old, get_or_all, one_in, slot_here, slot_other, not_vacated, total_here, total_other}
 use Rattle.protocol.proofs.slots.Occupied.{not_vacant, in_within}
+use Rattle.protocol.proofs.Either.{either}
 
 -- the lengths and limits that the lemmas need
 pub record CountsFit (z : Settings) (slots : List Slot) (marks : List (List Mark)) (counts nets : List (List ℕ)) (totals : List ℕ) (hands : List Hand) (keeps : List (Option ℕ)) : Type 0 where
@@ -45,20 +46,7 @@ pub record CountsFit (z : Settings) (slots : List Slot) (marks : List (List Mark
 pub counts_fit : (s : State) → IsTrue (are_fit s.settings) → HasShape s → CountsFit s.settings s.slots s.marks s.counts s.nets s.totals s.hands s.keeps
 counts_fit s fit shape =
     let r = ranges s.settings fit in
-    record {
-      cpu_limit = r.cpus;
-      limit = r.counts;
-      slot_length = shape.slots;
-      mark_length = shape.marks;
-      mark_rows = shape.mark_rows;
-      count_length = shape.counts;
-      count_rows = shape.count_rows;
-      net_length = shape.nets;
-      net_rows = shape.net_rows;
-      total_length = shape.totals;
-      hand_length = shape.hands;
-      keep_length = shape.keeps;
-    }
+    assumption
 
 -- a word is in its row
 in_counts : {z : Settings} {slots : List Slot} {marks : List (List Mark)} {counts nets : List (List ℕ)} {totals : List ℕ} {hands : List Hand} {keeps : List (Option ℕ)} → CountsFit z slots marks counts nets totals hands keeps → (t : ℕ) (e : Entry) → IsIn e (slot_at slots t) → (t < length counts) × (length (get_or counts t []) ≡ MOST_CPUS)
@@ -75,39 +63,31 @@ in_nets {z} {slots} {marks} {counts} {nets} {totals} {hands} {keeps} fit t e is 
 
 -- a word of an occupied slot counts, or is collected
 pub counting_cases : (slots : List Slot) (marks : List (List Mark)) (c t : ℕ) (e : Entry) → IsIn e (slot_at slots t) → IsCounting slots marks c t ⊎ ((slot_at slots t ≡ Retired e) × ((mark_at marks t c).collected ≡ true))
-counting_cases slots marks c t e is = ⊎_elim
-    (λ (live : slot_at slots t ≡ Live e). inl (e, inl live))
-    (λ (gone : slot_at slots t ≡ Retired e). ⊎_elim
-    (λ (on_it : (mark_at marks t c).collected ≡ true). inr (gone, on_it))
-    (λ (off : (mark_at marks t c).collected ≡ false). inl (e, inr (gone, off)))
-    (cases_Bool (mark_at marks t c).collected))
-    is
+counting_cases slots marks c t e is = either is
+    (λ live. inl (e, inl live))
+    (λ gone. either (cases_Bool (mark_at marks t c).collected) (λ on_it. inr (gone, on_it)) (λ off. inl (e, inr (gone, off))))
 
 -- a word that counts isn't collected
 pub not_both : (slots : List Slot) (marks : List (List Mark)) (c t : ℕ) (e : Entry) → IsCounting slots marks c t → slot_at slots t ≡ Retired e → (mark_at marks t c).collected ≡ true → ⊥
-not_both slots marks c t e counting gone done = ⊎_elim
-    (λ (live : slot_at slots t ≡ Live counting.0). let q : Live counting.0 ≡ Retired e = sym live ∙ gone in cc)
-    (λ (still : (slot_at slots t ≡ Retired counting.0) × ((mark_at marks t c).collected ≡ false)). let q : ◌≡◌ {A = Bool} false true = sym still.1 ∙ done in cc)
-    counting.1
+not_both slots marks c t e counting gone done = either counting.1
+    (λ live. let q : Live counting.0 ≡ Retired e = sym live ∙ gone in cc)
+    (λ still. let q : ◌≡◌ {A = Bool} false true = sym still.1 ∙ done in cc)
 
 -- a word that is the net count counts
 pub is_counting : {z : Settings} {slots : List Slot} {marks : List (List Mark)} {counts nets : List (List ℕ)} {totals : List ℕ} {hands : List Hand} {keeps : List (Option ℕ)} {due : Due} {locals : List LocalPlace} → CountsHold z slots marks counts nets totals hands keeps due locals → (c t : ℕ) (e : Entry) → c < z.cpus → IsIn e (slot_at slots t) → count_at counts c t ≡ count_at nets c t → IsCounting slots marks c t
-is_counting {z} {slots} {marks} {counts} {nets} {totals} {hands} {keeps} {due} {locals} on c t e lt is same = ⊎_elim
-    (λ (on_it : IsCounting slots marks c t). on_it)
-    (λ (off : (slot_at slots t ≡ Retired e) × ((mark_at marks t c).collected ≡ true)). absurd (omega (arith, same, on.used c t e lt is, on.emptied c t e off.0 off.1)))
-    (counting_cases slots marks c t e is)
+is_counting {z} {slots} {marks} {counts} {nets} {totals} {hands} {keeps} {due} {locals} on c t e lt is same = either (counting_cases slots marks c t e is)
+    (λ on_it. on_it)
+    (λ off. absurd (omega (arith, same, on.used c t e lt is, on.emptied c t e off.0 off.1)))
 
 -- no word of an occupied slot goes further than its limit
 pub are_words : {z : Settings} {slots : List Slot} {marks : List (List Mark)} {counts nets : List (List ℕ)} {totals : List ℕ} {hands : List Hand} {keeps : List (Option ℕ)} {due : Due} {locals : List LocalPlace} → CountsHold z slots marks counts nets totals hands keeps due locals → CountsFit z slots marks counts nets totals hands keeps → (t : ℕ) (e : Entry) → IsIn e (slot_at slots t) → AreWords (get_or counts t [])
 are_words {z} {slots} {marks} {counts} {nets} {totals} {hands} {keeps} {due} {locals} on fit t e is = (
   (in_counts fit t e is).1,
-  λ c. ⊎_elim
-      (λ (lt : c < z.cpus). ⊎_elim
-      (λ (on_it : IsCounting slots marks c t). omega (arith, (on.counted c t lt on_it).0, on.limited c t e is, fit.limit))
-      (λ (off : (slot_at slots t ≡ Retired e) × ((mark_at marks t c).collected ≡ true)). omega (arith, on.emptied c t e off.0 off.1))
-      (counting_cases slots marks c t e is))
-      (λ (ge : z.cpus ≤ c). omega (arith, on.beyond c t ge))
-      (cases_lt c z.cpus),
+  λ c. either (cases_lt c z.cpus)
+      (λ lt. either (counting_cases slots marks c t e is)
+      (λ on_it. omega (arith, (on.counted c t lt on_it).0, on.limited c t e is, fit.limit))
+      (λ off. omega (arith, on.emptied c t e off.0 off.1)))
+      (λ ge. omega (arith, on.beyond c t ge)),
 )
 
 -- the same balance, of other terms for its numbers
@@ -268,10 +248,6 @@ count_add {z} {slots} {marks} {counts} {nets} {totals} {hands} {keeps} {due} {lo
     (omega (arith, hand_changed e.number hands c Empty (Taking n) hl hand, one_at n e.number (sym number))) refl refl)
     (λ u f off in_. omega (arith, hand_changed f.number hands c Empty (Taking n) hl hand, none_at n f.number (λ here. off (one u f in_ (sym here)))))
 
--- a reference in a hand is one that is held
-held_some : (locals : List LocalPlace) (hands : List Hand) (keeps : List (Option ℕ)) (due : Due) (c t n id : ℕ) → c < length hands → get_or hands c Empty ≡ Giving n id → 0 < held_at locals hands keeps due n t
-held_some locals hands keeps due c t n id lt hand = omega (arith, hand_changed n hands c (Giving n id) Empty lt hand, one_at n n refl)
-
 -- one less
 pub count_down : {z : Settings} {slots : List Slot} {marks : List (List Mark)} {counts nets : List (List ℕ)} {totals : List ℕ} {hands : List Hand} {keeps : List (Option ℕ)} {due : Due} {locals : List LocalPlace} → CountsHold z slots marks counts nets totals hands keeps due locals → CountsFit z slots marks counts nets totals hands keeps → (c t n id : ℕ) (e : Entry) → c < z.cpus → IsIn e (slot_at slots t) → e.number ≡ n → ((u : ℕ) (f : Entry) → IsIn f (slot_at slots u) → f.number ≡ n → u ≡ t) → IsCounting slots marks c t → get_or hands c Empty ≡ Giving n id → local_at locals id ≡ Lifted c
     → CountsHold z slots marks (with_cell counts t c (count_at counts c t - 1)) (with_cell nets t c (count_at nets c t - 1)) totals (set hands c Empty) keeps due (set locals id Free)
@@ -313,8 +289,7 @@ collect {z} {slots} {marks} {counts} {nets} {totals} {hands} {keeps} {due} {loca
           (λ off less there.
           let old : IsCounting slots marks j u = (
             there.0,
-            ⊎_elim (λ (live : slot_at slots u ≡ Live there.0). inl live)
-                (λ (back : (slot_at slots u ≡ Retired there.0) × ((mark_at (with_cell marks t c m) u j).collected ≡ false)). inr (back.0, ap (λ (k : Mark). k.collected) (sym (marks_old u j off)) ∙ back.1)) there.1,
+            either there.1 (λ live. inl live) (λ back. inr (back.0, ap (λ (k : Mark). k.collected) (sym (marks_old u j off)) ∙ back.1)),
           ) in
           let before = on.counted j u less old in
           (counts_old u j off ∙ before.0, omega (arith, counts_old u j off, before.1)))
@@ -345,8 +320,7 @@ pub remarked : {z : Settings} {slots : List Slot} {marks : List (List Mark)} {co
 remarked {z} {slots} {marks} {counts} {nets} {totals} {hands} {keeps} {due} {locals} on marks2 same = record {
   counted = λ c t lt there. on.counted c t lt (
     there.0,
-    ⊎_elim (λ (live : slot_at slots t ≡ Live there.0). inl live)
-        (λ (back : (slot_at slots t ≡ Retired there.0) × ((mark_at marks2 t c).collected ≡ false)). inr (back.0, sym (same c t) ∙ back.1)) there.1,
+    either there.1 (λ live. inl live) (λ back. inr (back.0, sym (same c t) ∙ back.1)),
   );
   used = on.used;
   emptied = λ c t e gone done. on.emptied c t e gone (sym (same c t) ∙ done);
@@ -359,30 +333,27 @@ remarked {z} {slots} {marks} {counts} {nets} {totals} {hands} {keeps} {due} {loc
 
 -- one mark is written
 pub one_marked : {z : Settings} {slots : List Slot} {marks : List (List Mark)} {counts nets : List (List ℕ)} {totals : List ℕ} {hands : List Hand} {keeps : List (Option ℕ)} {due : Due} {locals : List LocalPlace} → CountsHold z slots marks counts nets totals hands keeps due locals → (c t : ℕ) (m : Mark) → m.collected ≡ (mark_at marks t c).collected → CountsHold z slots (with_cell marks t c m) counts nets totals hands keeps due locals
-one_marked {z} {slots} {marks} {counts} {nets} {totals} {hands} {keeps} {due} {locals} on c t m same = remarked on (with_cell marks t c m) (λ j u. ⊎_elim
-    (λ (new : (u ≡ t) × (j ≡ c) × (mark_at (with_cell marks t c m) u j ≡ m)).
+one_marked {z} {slots} {marks} {counts} {nets} {totals} {hands} {keeps} {due} {locals} on c t m same = remarked on (with_cell marks t c m) (λ j u. either (cell_cases no_mark marks t c m u j)
+    (λ new.
     ap (λ (k : Mark). k.collected) new.2 ∙ (same ∙ (ap (λ (x : ℕ). (mark_at marks x c).collected) (sym new.0) ∙ ap (λ (y : ℕ). (mark_at marks u y).collected) (sym new.1))))
-    (λ (old : mark_at (with_cell marks t c m) u j ≡ mark_at marks u j). ap (λ (k : Mark). k.collected) old)
-    (cell_cases no_mark marks t c m u j))
+    (λ old. ap (λ (k : Mark). k.collected) old))
 
 -- what is due changes, but to no other slot's snapshots, and to no addition
 pub snapshots_go_on : {z : Settings} {slots : List Slot} {marks : List (List Mark)} {counts nets : List (List ℕ)} {totals : List ℕ} {hands : List Hand} {keeps : List (Option ℕ)} {due : Due} {locals : List LocalPlace} → CountsHold z slots marks counts nets totals hands keeps due locals → (t c : ℕ) (due2 : Due) → due ≡ Snapshots t c → ((due2 ≡ Rest) ⊎ ((d : ℕ) × (due2 ≡ Snapshots t d))) → CountsHold z slots marks counts nets totals hands keeps due2 locals
 snapshots_go_on {z} {slots} {marks} {counts} {nets} {totals} {hands} {keeps} {due} {locals} on t c due2 was next = rebalanced on totals hands keeps due2 locals
     (λ u f in_. moved (on.balance u f in_) refl refl (omega (arith, (nothing u).0, ap (subtraction_due_at u) was)) ((nothing u).1 ∙ sym (ap (addition_due_at u) was)) ((nothing u).2 ∙ sym (ap (is_adding_at u) was)))
     (λ u is. refl)
-    (λ u d snap. ⊎_elim
-    (λ (rest : due2 ≡ Rest). absurd (let q : Rest ≡ Snapshots u d = sym rest ∙ snap in cc))
-    (λ (more : (k : ℕ) × (due2 ≡ Snapshots t k)).
+    (λ u d snap. either next
+    (λ rest. absurd (let q : Rest ≡ Snapshots u d = sym rest ∙ snap in cc))
+    (λ more.
     let q : Snapshots t more.0 ≡ Snapshots u d = sym more.1 ∙ snap in
     let same : t ≡ u = cc in
-    (c, was ∙ ap (λ (x : ℕ). Snapshots x c) same))
-    next)
+    (c, was ∙ ap (λ (x : ℕ). Snapshots x c) same)))
   where
     nothing : (u : ℕ) → (subtraction_due_at u due2 ≡ 0) × (addition_due_at u due2 ≡ 0) × (is_adding_at u due2 ≡ 0)
-    nothing u = ⊎_elim
-        (λ (rest : due2 ≡ Rest). (ap (subtraction_due_at u) rest, ap (addition_due_at u) rest, ap (is_adding_at u) rest))
-        (λ (more : (k : ℕ) × (due2 ≡ Snapshots t k)). (ap (subtraction_due_at u) more.1, ap (addition_due_at u) more.1, ap (is_adding_at u) more.1))
-        next
+    nothing u = either next
+        (λ rest. (ap (subtraction_due_at u) rest, ap (addition_due_at u) rest, ap (is_adding_at u) rest))
+        (λ more. (ap (subtraction_due_at u) more.1, ap (addition_due_at u) more.1, ap (is_adding_at u) more.1))
 
 -- the snapshot of c is taken
 pub snapshot : {z : Settings} {slots : List Slot} {marks : List (List Mark)} {counts nets : List (List ℕ)} {totals : List ℕ} {hands : List Hand} {keeps : List (Option ℕ)} {due : Due} {locals : List LocalPlace} → CountsHold z slots marks counts nets totals hands keeps due locals → (c t : ℕ) (m : Mark) → due ≡ Snapshots t c → m.collected ≡ false
@@ -412,8 +383,7 @@ publish {z} {slots} {marks} {counts} {nets} {totals} {hands} {keeps} {due} {loca
           (λ off there.
           let old : IsCounting slots marks j u = (
             there.0,
-            ⊎_elim (λ (live : slot_at (set slots t (Live e)) u ≡ Live there.0). inl (sym (slot_old u off) ∙ live))
-                (λ (back : (slot_at (set slots t (Live e)) u ≡ Retired there.0) × ((mark_at marks u j).collected ≡ false)). inr (sym (slot_old u off) ∙ back.0, back.1)) there.1,
+            either there.1 (λ live. inl (sym (slot_old u off) ∙ live)) (λ back. inr (sym (slot_old u off) ∙ back.0, back.1)),
           ) in
           let was = on.counted j u below old in (was.0 ∙ sym (net_old u j off), was.1))
           counting;
@@ -431,7 +401,9 @@ publish {z} {slots} {marks} {counts} {nets} {totals} {hands} {keeps} {due} {loca
           (λ off there. omega (arith, net_old u j off, on.limited j u f (subst (IsIn f) (slot_old u off) there)))
           in_;
       balance = λ u f in_. by_place (λ x. IsIn f (slot_at (set slots t (Live e)) x) → Balances (get_or counts x []) (total_at totals x) (held_at locals hands keeps due f.number x) (addition_due_at x due) (is_adding_at x due)) t u
-          (λ there. moved (published (get_or counts t []) (fit.count_rows t tc) (λ j. ⊎_elim (λ (below : j < z.cpus). inr (words j below)) (λ (ge : z.cpus ≤ j). inl (on.beyond j t ge)) (cases_lt j z.cpus)))
+          (λ there. moved (published (get_or counts t []) (fit.count_rows t tc) (λ j. either (cases_lt j z.cpus)
+              (λ below. inr (words j below))
+              (λ ge. inl (on.beyond j t ge))))
           refl (on.vacant t lt vacant) (ap (λ (g : Entry). held_at locals hands keeps due g.number t) (one_in e f (slot_at (set slots t (Live e)) t) is there) ∙ none) (ap (addition_due_at t) rest) (ap (is_adding_at t) rest))
           (λ off there. on.balance u f (subst (IsIn f) (slot_old u off) there))
           in_;
@@ -443,10 +415,7 @@ publish {z} {slots} {marks} {counts} {nets} {totals} {hands} {keeps} {due} {loca
     }
   where
     at_most : (j : ℕ) → get_or (replicate MOST_CPUS bias) j 0 ≤ bias
-    at_most j = ⊎_elim
-        (λ (below : j < MOST_CPUS). omega (arith, get_or-replicate MOST_CPUS j bias 0 below))
-        (λ (ge : MOST_CPUS ≤ j). omega (arith, past j ge))
-        (cases_lt j MOST_CPUS)
+    at_most j = either (cases_lt j MOST_CPUS) (λ below. omega (arith, get_or-replicate MOST_CPUS j bias 0 below)) (λ ge. omega (arith, past j ge))
       where
         past : (k : ℕ) → MOST_CPUS ≤ k → get_or (replicate MOST_CPUS bias) k 0 ≡ 0
         past k ge = get_or_past (replicate MOST_CPUS bias) k 0 (omega (arith, length-replicate MOST_CPUS bias, ge))
@@ -472,8 +441,9 @@ unpublish {z} {slots} {marks} {counts} {nets} {totals} {hands} {keeps} {due} {lo
           (λ _. on.counted j t below (e, inl live))
           (λ off there. on.counted j u below (
             there.0,
-            ⊎_elim (λ (is_live : slot_at (set slots t (Retired e)) u ≡ Live there.0). inl (sym (slot_old u off) ∙ is_live))
-                (λ (back : (slot_at (set slots t (Retired e)) u ≡ Retired there.0) × ((mark_at marks2 u j).collected ≡ false)). inr (sym (slot_old u off) ∙ back.0, ap (λ (k : Mark). k.collected) (sym (mark_old u j off)) ∙ back.1)) there.1,
+            either there.1
+                (λ is_live. inl (sym (slot_old u off) ∙ is_live))
+                (λ back. inr (sym (slot_old u off) ∙ back.0, ap (λ (k : Mark). k.collected) (sym (mark_old u j off)) ∙ back.1)),
           ))
           counting;
       used = λ j u f below in_. on.used j u f below (was_in u f in_);
@@ -498,13 +468,11 @@ vacate {z} {slots} {marks} {counts} {nets} {totals} {hands} {keeps} {due} {local
     let was_in : (u : ℕ) (f : Entry) → IsIn f (slot_at (set slots t Vacant) u) → IsIn f (slot_at slots u) = λ u f in_. subst (IsIn f) (old u (not_vacated slots t u f lt in_)) in_ in
     record {
       counted = λ j u below counting.
-          let in_ : IsIn counting.0 (slot_at (set slots t Vacant) u) = ⊎_elim (λ (live : slot_at (set slots t Vacant) u ≡ Live counting.0). inl live)
-          (λ (back : (slot_at (set slots t Vacant) u ≡ Retired counting.0) × ((mark_at marks u j).collected ≡ false)). inr back.0) counting.1 in
+          let in_ : IsIn counting.0 (slot_at (set slots t Vacant) u) = either counting.1 (λ live. inl live) (λ back. inr back.0) in
           let off = not_vacated slots t u counting.0 lt in_ in
           on.counted j u below (
             counting.0,
-            ⊎_elim (λ (live : slot_at (set slots t Vacant) u ≡ Live counting.0). inl (sym (old u off) ∙ live))
-                (λ (back : (slot_at (set slots t Vacant) u ≡ Retired counting.0) × ((mark_at marks u j).collected ≡ false)). inr (sym (old u off) ∙ back.0, back.1)) counting.1,
+            either counting.1 (λ live. inl (sym (old u off) ∙ live)) (λ back. inr (sym (old u off) ∙ back.0, back.1)),
           );
       used = λ j u f below in_. on.used j u f below (was_in u f in_);
       emptied = λ j u f gone done. on.emptied j u f (sym (old u (not_vacated slots t u f lt (inr gone))) ∙ gone) done;
@@ -547,7 +515,7 @@ count_store {z} {slots} {marks} {counts} {nets} {totals} {hands} {keeps} {due} {
     let old : (u j : ℕ) (f : Entry) → IsIn f (slot_at slots u) → count_at (with_cell counts t c v) j u ≡ count_at counts j u = λ u j f in_. cell_other 0 counts t c v u j (λ same _. away u f in_ same) in
     record {
       counted = λ j u below counting.
-          let in_ : IsIn counting.0 (slot_at slots u) = ⊎_elim (λ (live : slot_at slots u ≡ Live counting.0). inl live) (λ (back : (slot_at slots u ≡ Retired counting.0) × ((mark_at marks u j).collected ≡ false)). inr back.0) counting.1 in
+          let in_ : IsIn counting.0 (slot_at slots u) = either counting.1 (λ live. inl live) (λ back. inr back.0) in
           let was = on.counted j u below counting in
           (old u j counting.0 in_ ∙ was.0, omega (arith, old u j counting.0 in_, was.1));
       used = on.used;
@@ -564,8 +532,7 @@ pub opening : (z : Settings) → CountsHold z (replicate z.slots Vacant) (replic
 opening z =
     let none : (t : ℕ) (e : Entry) → IsIn e (slot_at (replicate z.slots Vacant) t) → ⊥ = λ t e is. not_vacant e (slot_at (replicate z.slots Vacant) t) (get_or_all z.slots Vacant t) is in
     record {
-      counted = λ c t lt counting. absurd (none t counting.0 (⊎_elim (λ (live : slot_at (replicate z.slots Vacant) t ≡ Live counting.0). inl live)
-          (λ (back : (slot_at (replicate z.slots Vacant) t ≡ Retired counting.0) × ((mark_at (replicate z.slots (replicate MOST_CPUS no_mark)) t c).collected ≡ false)). inr back.0) counting.1));
+      counted = λ c t lt counting. absurd (none t counting.0 (either counting.1 (λ live. inl live) (λ back. inr back.0)));
       used = λ c t e lt is. absurd (none t e is);
       emptied = λ c t e is done. absurd (none t e (inr is));
       beyond = λ c t ge. zero_at z.slots t c;

@@ -1,5 +1,5 @@
 -- A reference that stands somewhere is held, and nothing is held where none stands.
-use Rattle.std.proofs.Common.{◌≡◌, ℕ, suc, ◌<◌, ◌≤◌, ⊎_elim, List, [], ◌∷◌, length, get_or, Option, Some, None, refl, sym, ap, ◌∙◌, arith, sum_by}
+use Rattle.std.proofs.Common.{◌≡◌, ℕ, suc, ◌<◌, List, [], ◌∷◌, length, get_or, Option, Some, None, refl, sym, ap, ◌∙◌, arith, sum_by}
 use Rattle.std.proofs.lemmas.List.{get_or_past}
 use Rattle.std.proofs.lemmas.List.Sums.{sum_by-cons, get_or-le-sum_by}
 use Rattle.std.proofs.lemmas.Bool.{cases_lt}
@@ -12,33 +12,18 @@ use Rattle.protocol.specs.State.{local_at, kept_at}
 use Rattle.protocol.specs.Invariant.{standing_of, in_hand, kept_of, subtraction_due_at, held_at}
 use Rattle.protocol.proofs.counts.Sums.{one_at, none_at}
 use Rattle.protocol.proofs.counts.HeldSums.{standing_not, kept_not}
+use Rattle.protocol.proofs.Either.{either}
 
 -- what a sum counts at one place
 at_some : {X : Type 0} (f : X → ℕ) (xs : List X) (i : ℕ) (d x : X) → f d ≡ 0 → get_or xs i d ≡ x → 0 < f x → 0 < sum_by f xs
-at_some f xs i d x none at some = ⊎_elim
-    (λ (lt : i < length xs). let same : f (get_or xs i d) ≡ f x = ap f at in omega (arith, get_or-le-sum_by f xs i d lt, same, some))
-    (λ (ge : length xs ≤ i). let same : f d ≡ f x = ap f (sym (get_or_past xs i d ge) ∙ at) in absurd (omega (arith, same, none, some)))
-    (cases_lt i (length xs))
+at_some f xs i d x none at some = either (cases_lt i (length xs))
+    (λ lt. let same : f (get_or xs i d) ≡ f x = ap f at in omega (arith, get_or-le-sum_by f xs i d lt, same, some))
+    (λ ge. let same : f d ≡ f x = ap f (sym (get_or_past xs i d ge) ∙ at) in absurd (omega (arith, same, none, some)))
 
 -- what counts at no place adds up to nothing
 at_none : {X : Type 0} (f : X → ℕ) (xs : List X) (d : X) → ((i : ℕ) → f (get_or xs i d) ≡ 0) → sum_by f xs ≡ 0
 at_none f [] d each = refl
 at_none f (x ∷ xs) d each = let here : f x ≡ 0 = each 0 in omega (arith, sum_by-cons f x xs, here, at_none f xs d (λ i. each (suc i)))
-
-pub held_standing : (locals : List LocalPlace) (hands : List Hand) (keeps : List (Option ℕ)) (due : Due) (n t id : ℕ) → local_at locals id ≡ Standing n → 0 < held_at locals hands keeps due n t
-held_standing locals hands keeps due n t id at = omega (arith, at_some (standing_of n) locals id Free (Standing n) refl at (omega (arith, one_at n n refl)))
-
-pub held_in_hand : (locals : List LocalPlace) (hands : List Hand) (keeps : List (Option ℕ)) (due : Due) (n t c : ℕ) → 0 < in_hand n (get_or hands c Empty) → 0 < held_at locals hands keeps due n t
-held_in_hand locals hands keeps due n t c some = omega (arith, at_some (in_hand n) hands c Empty (get_or hands c Empty) refl refl some)
-
-pub held_taking : (locals : List LocalPlace) (hands : List Hand) (keeps : List (Option ℕ)) (due : Due) (n t c : ℕ) → get_or hands c Empty ≡ Taking n → 0 < held_at locals hands keeps due n t
-held_taking locals hands keeps due n t c at = held_in_hand locals hands keeps due n t c (omega (arith, ap (in_hand n) at, one_at n n refl))
-
-pub held_giving : (locals : List LocalPlace) (hands : List Hand) (keeps : List (Option ℕ)) (due : Due) (n t c id : ℕ) → get_or hands c Empty ≡ Giving n id → 0 < held_at locals hands keeps due n t
-held_giving locals hands keeps due n t c id at = held_in_hand locals hands keeps due n t c (omega (arith, ap (in_hand n) at, one_at n n refl))
-
-pub held_back : (locals : List LocalPlace) (hands : List Hand) (keeps : List (Option ℕ)) (due : Due) (n t c id : ℕ) → get_or hands c Empty ≡ Back n id → 0 < held_at locals hands keeps due n t
-held_back locals hands keeps due n t c id at = held_in_hand locals hands keeps due n t c (omega (arith, ap (in_hand n) at, one_at n n refl))
 
 pub held_kept : (locals : List LocalPlace) (hands : List Hand) (keeps : List (Option ℕ)) (due : Due) (n t u : ℕ) → kept_at keeps u ≡ Some n → 0 < held_at locals hands keeps due n t
 held_kept locals hands keeps due n t u at = omega (arith, at_some (kept_of n) keeps u None (Some n) refl at (omega (arith, one_at n n refl)))

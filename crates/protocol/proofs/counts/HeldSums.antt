@@ -108,16 +108,7 @@ pub record Unreferred (locals : List LocalPlace) (hands : List Hand) (keeps : Li
   pub unkept : (t : ℕ) → kept_at keeps t ≡ Some n → ⊥
 
 pub unreferred : (locals : List LocalPlace) (hands : List Hand) (keeps : List (Option ℕ)) (due : Due) (n t : ℕ) → held_at locals hands keeps due n t ≡ 0 → Unreferred locals hands keeps n
-unreferred locals hands keeps due n t none = record {
-  unplaced = none_standing n locals (omega (arith, none));
-  unhanded = none_in_hand n hands (omega (arith, none));
-  unkept = none_kept n keeps (omega (arith, none));
-}
-
-pub not_subtracting : (locals : List LocalPlace) (hands : List Hand) (keeps : List (Option ℕ)) (due : Due) (n t : ℕ) → held_at locals hands keeps due n t ≡ 0 → due ≡ Subtracting t → ⊥
-not_subtracting locals hands keeps due n t none is =
-    let one : subtraction_due_at t due ≡ 1 = ap (subtraction_due_at t) is ∙ one_self t t refl in
-    omega (arith, none, one)
+unreferred locals hands keeps due n t none = assumption (none_standing n locals (omega (arith, none)), none_in_hand n hands (omega (arith, none)), none_kept n keeps (omega (arith, none)))
 
 pub nothing_held : (locals : List LocalPlace) (hands : List Hand) (keeps : List (Option ℕ)) (due : Due) (n t : ℕ) → (due ≡ Subtracting t → ⊥) → Unreferred locals hands keeps n → held_at locals hands keeps due n t ≡ 0
 nothing_held locals hands keeps due n t off free =

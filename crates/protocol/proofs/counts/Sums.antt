@@ -1,5 +1,5 @@
 -- Sums over a row of count words, over places of references, hands and kept drivers.
-use Rattle.std.proofs.Common.{◌≡◌, ◌≢◌, ℕ, zero, suc, ◌+◌, ◌*◌, ◌<◌, ◌≤◌, ◌⊎◌, ⊎_elim, List, ◌∷◌, [], ◌++◌, length, get_or, set, Option, Some, None, Bool, true, false, cond, ◌==◌, position, refl, sym, ap, ◌∙◌, arith, sum_by}
+use Rattle.std.proofs.Common.{◌≡◌, ◌≢◌, ℕ, zero, suc, ◌+◌, ◌*◌, ◌<◌, ◌≤◌, ◌⊎◌, List, ◌∷◌, [], ◌++◌, length, get_or, set, Option, Some, None, Bool, true, false, cond, ◌==◌, position, refl, sym, ap, ◌∙◌, arith, sum_by}
 use Rattle.std.proofs.lemmas.List.Sums.{sum_by-set, sum_by-cons, sum_by_push}
 use Rattle.std.proofs.lemmas.List.Quantifiers.{position-Some}
 use Rattle.std.proofs.lemmas.List.{get_or_past}
@@ -12,6 +12,7 @@ use Rattle.registry_values.specs.Balances.{bias}
 use Rattle.protocol.specs.State.{local_at, kept_at}
 use Rattle.protocol.specs.Events.{is_free, id_if, least_id, with_local}
 use Rattle.protocol.specs.Invariant.{one_if_used, itself, greatest_limit, one_if, standing_of, in_hand, kept_of}
+use Rattle.protocol.proofs.Either.{either}
 
 -- no more words are used than there are
 pub used-le-length : (row : List ℕ) → sum_by one_if_used row ≤ length row
@@ -42,7 +43,7 @@ words-at-bias (zero ∷ row) each =
 words-at-bias (suc w ∷ row) each =
     let a = sum_by-cons one_if_used (suc w) row in
     let b = sum_by-cons itself (suc w) row in
-    let here : suc w ≡ bias = ⊎_elim (λ (no : suc w ≡ 0). absurd (omega arith)) (λ (is : suc w ≡ bias). is) (each 0) in
+    let here : suc w ≡ bias = either (each 0) (λ no. absurd (omega arith)) (λ is. is) in
     let rest = words-at-bias row (λ c. each (suc c)) in omega arith
 
 -- words that are all 0
@@ -69,10 +70,7 @@ none_at m n off = ap one_if (ne_eqb m n off)
 
 -- a place of a reference that isn't free is in the list
 pub local_within : (locals : List LocalPlace) (id : ℕ) (p : LocalPlace) → local_at locals id ≡ p → Free ≢ p → id < length locals
-local_within locals id p at full = ⊎_elim
-    (λ (lt : id < length locals). lt)
-    (λ (ge : length locals ≤ id). absurd (full (sym (get_or_past locals id Free ge) ∙ at)))
-    (cases_lt id (length locals))
+local_within locals id p at full = either (cases_lt id (length locals)) (λ lt. lt) (λ ge. absurd (full (sym (get_or_past locals id Free ge) ∙ at)))
 
 pub standing_within : (locals : List LocalPlace) (id n : ℕ) → local_at locals id ≡ Standing n → id < length locals
 standing_within locals id n at = local_within locals id (Standing n) at (λ (no : Free ≡ Standing n). cc)

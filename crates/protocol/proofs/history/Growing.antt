@@ -1,5 +1,5 @@
 -- What one more change of the history keeps, whichever it is.
-use Rattle.std.proofs.Common.{◌≡◌, ℕ, zero, suc, ◌<◌, ◌≤◌, ⊎_elim, List, length, get_or, Option, Some, None, arith}
+use Rattle.std.proofs.Common.{◌≡◌, ℕ, zero, suc, ◌≤◌, List, length, get_or, Option, Some, None, arith}
 use Rattle.std.proofs.lemmas.Bool.{cases_lt}
 use Rattle.registry_values.specs.declared.slot.Key.{Key}
 use Rattle.registry_values.specs.declared.entry.Entry.{Entry}
@@ -11,6 +11,7 @@ use Rattle.protocol.specs.declared.state.SearchPlace.{SearchPlace}
 use Rattle.protocol.specs.declared.state.SearchPlace.TheVariants.{AtHead, AtNext, AtNumber, AtKind, AtHigh, AtLow, AtValue}
 use Rattle.protocol.specs.Invariant.{SectionsShow, SearchHolds, SearchesHold, FoundHold, Leads, To_end, To_entry, StandsOn, AllBelow, PlaceHolds}
 use Rattle.protocol.proofs.history.History.{ends_old, ends_was, attached_old, attached_was, live_old, live_was, length-after_change}
+use Rattle.protocol.proofs.Either.{either}
 
 pub leads_old : (h : List Change) (c : Change) (k n x : ℕ) → k ≤ length h → Leads h k n x → Leads (after_change h c) k n x
 leads_old h c k n zero le (To_end none) = To_end (λ f live lt. none f (live_was h c k f le live) lt)
@@ -22,10 +23,7 @@ hold_was h c b e hold le = record { attached = attached_was h c e hold.attached 
 pub hold_old : (h : List Change) (c : Change) (b : ℕ) (e : Entry) → b ≤ length h → MayHold h b e → MayHold (after_change h c) b e
 hold_old h c b e le hold = record {
   attached = attached_old h c e hold.attached;
-  unended = λ p x. ⊎_elim
-      (λ (lt : length h < p). omega arith)
-      (λ (ge : p ≤ length h). hold.unended p (ends_was h c e.number p x ge))
-      (cases_lt (length h) p);
+  unended = λ p x. either (cases_lt (length h) p) (λ lt. omega arith) (λ ge. hold.unended p (ends_was h c e.number p x ge));
 }
 
 pub stands_old : (h : List Change) (c : Change) (from to t : ℕ) (e : Entry) → from ≤ length h → StandsOn h from to t e → StandsOn (after_change h c) from to t e
@@ -33,10 +31,7 @@ stands_old h c from to t e le on = record {
   attached = attached_old h c e on.attached;
   at = on.at;
   begun = on.begun;
-  unended = λ p x. ⊎_elim
-      (λ (lt : length h < p). omega arith)
-      (λ (ge : p ≤ length h). on.unended p (ends_was h c e.number p x ge))
-      (cases_lt (length h) p);
+  unended = λ p x. either (cases_lt (length h) p) (λ lt. omega arith) (λ ge. on.unended p (ends_was h c e.number p x ge));
 }
 
 pub below_old : (h : List Change) (c : Change) (from to : ℕ) (key : Key) (n : ℕ) → from ≤ length h → AllBelow h from to key n → AllBelow (after_change h c) from to key n

@@ -1,5 +1,5 @@
 -- The history: what one more change does, and what a legal history rules out.
-use Rattle.std.proofs.Common.{◌≡◌, ℕ, zero, suc, ◌<◌, ◌≤◌, ◌⊎◌, inl, inr, ⊎_elim, List, ◌∷◌, [], ◌++◌, length, Option, Some, refl, sym, ap, subst, ◌∙◌, arith}
+use Rattle.std.proofs.Common.{◌≡◌, ℕ, zero, suc, ◌<◌, ◌≤◌, ◌⊎◌, inl, inr, List, ◌∷◌, [], ◌++◌, length, Option, Some, refl, sym, ap, subst, ◌∙◌, arith}
 use Rattle.std.specs.Prelude.{slice_get}
 use Rattle.std.proofs.lemmas.Option.{same_Some, slice_get_within, none-some}
 use Rattle.std.proofs.lemmas.Bool.{cases_lt}
@@ -8,6 +8,7 @@ use Rattle.registry_values.specs.declared.entry.Change.{Change}
 use Rattle.registry_values.specs.declared.entry.Change.TheVariants.{Attach, Detach}
 use Rattle.registry_values.specs.Slots.{key_of}
 use Rattle.protocol.specs.History.{change_at, after_change, IsAttached, EndsAt, IsLiveAt, IsLegal}
+use Rattle.protocol.proofs.Either.{either}
 
 get_old : (h : List Change) (c : Change) (k : ℕ) → k < length h → slice_get (h ++ c ∷ []) k ≡ slice_get h k
 get_old [] c k lt = absurd (omega arith)
@@ -46,20 +47,16 @@ at_empty (suc k) x e = none-some x e
 
 pub at_cases : (h : List Change) (c : Change) (k : ℕ) (x : Change) → change_at (after_change h c) k ≡ Some x
     → (record { old : k ≤ length h; was : change_at h k ≡ Some x }) ⊎ (record { new : k ≡ suc (length h); is : x ≡ c })
-at_cases h c k x e = ⊎_elim
-    (λ (lt : k < suc (length h)). inl (record { old = omega arith; was = sym (at_old h c k (omega arith)) ∙ e }))
-    (λ (ge : suc (length h) ≤ k).
+at_cases h c k x e = either (cases_lt k (suc (length h)))
+    (λ lt. inl (record { old = omega arith; was = sym (at_old h c k (omega arith)) ∙ e }))
+    (λ ge.
     let top : k ≤ length (after_change h c) = (at_within (after_change h c) k x e).1 in
     let same : k ≡ suc (length h) = omega (arith, length-after_change h c) in
     inr (record { new = same; is = same_Some x c (sym e ∙ ap (change_at (after_change h c)) same ∙ at_new h c) }))
-    (cases_lt k (suc (length h)))
 
 -- Two attaches at one position are one.
 same_attach : (e f : Entry) → ◌≡◌ {A = Option Change} (Some (Attach e)) (Some (Attach f)) → e ≡ f
 same_attach e f p = cc
-
-same_detach : (n m : ℕ) → ◌≡◌ {A = Option Change} (Some (Detach n)) (Some (Detach m)) → n ≡ m
-same_detach n m p = cc
 
 attach-detach : (e : Entry) (n : ℕ) → ◌≡◌ {A = Option Change} (Some (Attach e)) (Some (Detach n)) → ⊥
 attach-detach e n p = cc
@@ -83,13 +80,9 @@ not_twice h legal n p (suc q) x y lt =
     omega (arith, live.1.unended p (subst (λ m. EndsAt h m p) (sym live.2) x))
 
 pub one_end : (h : List Change) → IsLegal h → (n p q : ℕ) → EndsAt h n p → EndsAt h n q → p ≡ q
-one_end h legal n p q x y = ⊎_elim
-    (λ (lt : p < q). absurd (not_twice h legal n p q x y lt))
-    (λ (ge : q ≤ p). ⊎_elim
-    (λ (lt : q < p). absurd (not_twice h legal n q p y x lt))
-    (λ (le : p ≤ q). omega arith)
-    (cases_lt q p))
-    (cases_lt p q)
+one_end h legal n p q x y = either (cases_lt p q)
+    (λ lt. absurd (not_twice h legal n p q x y lt))
+    (λ ge. either (cases_lt q p) (λ lt. absurd (not_twice h legal n q p y x lt)) (λ le. omega arith))
 
 -- live after k changes, so live after fewer, from the attach on
 pub live_down : (h : List Change) (k j : ℕ) (e : Entry) → IsLiveAt h k e → e.number ≤ j → j ≤ k → IsLiveAt h j e
@@ -104,13 +97,11 @@ later_same h legal k e f le lf same lt = go f.number refl
 
 -- two live entries with one key are one
 pub one_live : (h : List Change) → IsLegal h → (k : ℕ) (e f : Entry) → IsLiveAt h k e → IsLiveAt h k f → key_of e ≡ key_of f → e ≡ f
-one_live h legal k e f le lf same = ⊎_elim
-    (λ (lt : e.number < f.number). absurd (later_same h legal k e f le lf same lt))
-    (λ (ge : f.number ≤ e.number). ⊎_elim
-    (λ (lt : f.number < e.number). absurd (later_same h legal k f e lf le (sym same) lt))
-    (λ (le2 : e.number ≤ f.number). one_entry h e f le.attached lf.attached (omega arith))
-    (cases_lt f.number e.number))
-    (cases_lt e.number f.number)
+one_live h legal k e f le lf same = either (cases_lt e.number f.number)
+    (λ lt. absurd (later_same h legal k e f le lf same lt))
+    (λ ge. either (cases_lt f.number e.number)
+    (λ lt. absurd (later_same h legal k f e lf le (sym same) lt))
+    (λ le2. one_entry h e f le.attached lf.attached (omega arith)))
 
 -- just after the end of e none is live with its key
 pub none_at_end : (h : List Change) → IsLegal h → (p : ℕ) (e f : Entry) → IsAttached h e → EndsAt h e.number p → IsLiveAt h p f → key_of f ≡ key_of e → ⊥
@@ -119,12 +110,11 @@ none_at_end h legal (suc p) e f att x lf same =
     let live = legal.ends_live p e.number x in
     let is : live.0 ≡ e = one_entry h live.0 e live.1.attached att live.2 in
     let le : IsLiveAt h p e = subst (IsLiveAt h p) is live.1 in
-    let down : f.number ≤ p = ⊎_elim
-    (λ (lt : f.number < suc p). omega arith)
-    (λ (ge : suc p ≤ f.number).
+    let down : f.number ≤ p = either (cases_lt f.number (suc p))
+    (λ lt. omega arith)
+    (λ ge.
     let at : f.number ≡ suc p = omega (arith, lf.begun) in
-    absurd (attach-detach f e.number (sym lf.attached ∙ (ap (change_at h) at ∙ x))))
-    (cases_lt f.number (suc p)) in
+    absurd (attach-detach f e.number (sym lf.attached ∙ (ap (change_at h) at ∙ x)))) in
     let one : f ≡ e = one_live h legal p f e (live_down h (suc p) p f lf down (omega arith)) le same in
     omega (arith, lf.unended (suc p) (subst (λ (g : Entry). EndsAt h g.number (suc p)) (sym one) x))
 
@@ -145,10 +135,7 @@ pub live_old : (h : List Change) (c : Change) (k : ℕ) (e : Entry) → k ≤ le
 live_old h c k e le live = record {
   attached = attached_old h c e live.attached;
   begun = live.begun;
-  unended = λ p x. ⊎_elim
-      (λ (lt : k < p). lt)
-      (λ (ge : p ≤ k). live.unended p (ends_was h c e.number p x (omega arith)))
-      (cases_lt k p);
+  unended = λ p x. either (cases_lt k p) (λ lt. lt) (λ ge. live.unended p (ends_was h c e.number p x (omega arith)));
 }
 
 pub live_was : (h : List Change) (c : Change) (k : ℕ) (e : Entry) → k ≤ length h → IsLiveAt (after_change h c) k e → IsLiveAt h k e

@@ -1,5 +1,5 @@
 -- What a walk over links finds is lawful.
-use Rattle.std.proofs.Common.{◌≡◌, ℕ, zero, suc, ◌<◌, ◌≤◌, ◌⊎◌, inl, inr, ⊎_elim, List, Option, Some, None, refl, sym, ap, subst, ◌∙◌, arith}
+use Rattle.std.proofs.Common.{◌≡◌, ℕ, zero, suc, ◌<◌, ◌≤◌, ◌⊎◌, inl, inr, List, Option, Some, None, refl, sym, ap, subst, ◌∙◌, arith}
 use Rattle.std.proofs.lemmas.Bool.{cases_lt, cases_eq}
 use Rattle.registry_values.specs.declared.entry.Kind.{Kind}
 use Rattle.registry_values.specs.declared.entry.Kind.TheVariants.{Iface, Driver}
@@ -12,6 +12,7 @@ use Rattle.registry_values.specs.Slots.{key_of}
 use Rattle.protocol.specs.History.{change_at, IsAttached, EndsAt, IsLiveAt, IsLegal, IsLookup, IsLawful}
 use Rattle.protocol.specs.Invariant.{Leads, To_end, To_entry, AllBelow, StandsOn}
 use Rattle.protocol.proofs.history.History.{one_entry, ends_after, none_at_end, at_within}
+use Rattle.protocol.proofs.Either.{either}
 
 -- What a link tells that leads to the greatest entry below n that was live at some point, where the walk goes from `from`, and the pass ends at `to` now.
 pub data Ahead (h : List Change) (from to : ℕ) (key : Key) (n : ℕ) : ℕ → Type 0 where
@@ -28,23 +29,19 @@ Unended h n k = (p : ℕ) → EndsAt h n p → k < p
 ends_here : (h : List Change) (n k : ℕ) (x : Option Change) → change_at h k ≡ x → EndsAt h n k ⊎ (EndsAt h n k → ⊥)
 ends_here h n k None e = inr (λ (y : EndsAt h n k). let z : ◌≡◌ {A = Option Change} None (Some (Detach n)) = sym e ∙ y in cc)
 ends_here h n k (Some (Attach f)) e = inr (λ (y : EndsAt h n k). let z : ◌≡◌ {A = Option Change} (Some (Attach f)) (Some (Detach n)) = sym e ∙ y in cc)
-ends_here h n k (Some (Detach m)) e = ⊎_elim
-    (λ (same : m ≡ n). inl (e ∙ ap (λ (j : ℕ). Some (Detach j)) same))
-    (λ (other : m ≡ n → ⊥). inr (λ (y : EndsAt h n k). let z : ◌≡◌ {A = Option Change} (Some (Detach m)) (Some (Detach n)) = sym e ∙ y in other cc))
-    (cases_eq m n)
+ends_here h n k (Some (Detach m)) e = either (cases_eq m n)
+    (λ same. inl (e ∙ ap (λ (j : ℕ). Some (Detach j)) same))
+    (λ other. inr (λ (y : EndsAt h n k). let z : ◌≡◌ {A = Option Change} (Some (Detach m)) (Some (Detach n)) = sym e ∙ y in other cc))
 
 pub end_by : (h : List Change) (n k : ℕ) → Ended h n k ⊎ Unended h n k
 end_by h n zero = inr (λ p x. (at_within h p (Detach n) x).0)
-end_by h n (suc k) = ⊎_elim
-    (λ (e : Ended h n k). inl (e.0, omega (arith, e.1), e.2))
-    (λ (u : Unended h n k). ⊎_elim
-    (λ (y : EndsAt h n (suc k)). inl (suc k, omega arith, y))
-    (λ (no : EndsAt h n (suc k) → ⊥). inr (λ (p : ℕ) (x : EndsAt h n p). ⊎_elim
-    (λ (same : p ≡ suc k). absurd (no (subst (EndsAt h n) same x)))
-    (λ (other : p ≡ suc k → ⊥). let above : k < p = u p x in omega arith)
-    (cases_eq p (suc k))))
-    (ends_here h n (suc k) (change_at h (suc k)) refl))
-    (end_by h n k)
+end_by h n (suc k) = either (end_by h n k)
+    (λ e. inl (e.0, omega (arith, e.1), e.2))
+    (λ u. either (ends_here h n (suc k) (change_at h (suc k)) refl)
+    (λ y. inl (suc k, omega arith, y))
+    (λ no. inr (λ (p : ℕ) (x : EndsAt h n p). either (cases_eq p (suc k))
+    (λ same. absurd (no (subst (EndsAt h n) same x)))
+    (λ other. let above : k < p = u p x in omega arith))))
 
 cases_kind : (k l : Kind) → (k ≡ l) ⊎ (k ≡ l → ⊥)
 cases_kind Iface Iface = inl refl
@@ -53,23 +50,17 @@ cases_kind Driver Iface = inr (λ (e : Driver ≡ Iface). cc)
 cases_kind Driver Driver = inl refl
 
 cases_name : (k l : Name) → (k ≡ l) ⊎ (k ≡ l → ⊥)
-cases_name k l = ⊎_elim
-    (λ (b : k.high ≡ l.high). ⊎_elim
-    (λ (c : k.low ≡ l.low). inl (λ i. record { high = b i; low = c i }))
-    (λ (c : k.low ≡ l.low → ⊥). inr (λ (e : k ≡ l). c (ap (λ (m : Name). m.low) e)))
-    (cases_eq k.low l.low))
-    (λ (b : k.high ≡ l.high → ⊥). inr (λ (e : k ≡ l). b (ap (λ (m : Name). m.high) e)))
-    (cases_eq k.high l.high)
+cases_name k l = either (cases_eq k.high l.high)
+    (λ b. either (cases_eq k.low l.low) (λ c. inl (λ i. record { high = b i; low = c i })) (λ c. inr (λ (e : k ≡ l). c (ap (λ (m : Name). m.low) e))))
+    (λ b. inr (λ (e : k ≡ l). b (ap (λ (m : Name). m.high) e)))
 
 -- two keys are one, or they aren't
 pub cases_key : (k l : Key) → (k ≡ l) ⊎ (k ≡ l → ⊥)
-cases_key k l = ⊎_elim
-    (λ (a : k.kind ≡ l.kind). ⊎_elim
-    (λ (b : k.name ≡ l.name). inl (λ i. record { kind = a i; name = b i }))
-    (λ (b : k.name ≡ l.name → ⊥). inr (λ (e : k ≡ l). b (ap (λ (m : Key). m.name) e)))
-    (cases_name k.name l.name))
-    (λ (a : k.kind ≡ l.kind → ⊥). inr (λ (e : k ≡ l). a (ap (λ (m : Key). m.kind) e)))
-    (cases_kind k.kind l.kind)
+cases_key k l = either (cases_kind k.kind l.kind)
+    (λ a. either (cases_name k.name l.name)
+    (λ b. inl (λ i. record { kind = a i; name = b i }))
+    (λ b. inr (λ (e : k ≡ l). b (ap (λ (m : Key). m.name) e))))
+    (λ a. inr (λ (e : k ≡ l). a (ap (λ (m : Key). m.kind) e)))
 
 -- an entry with the key is live after k changes, or none is, among the first m positions
 abbrev pub Looked : List Change → ℕ → Key → ℕ → Type 0
@@ -86,69 +77,60 @@ looked_at h legal k key m (Some (Attach e)) is =
     let number : e.number ≡ m = legal.numbered m e is in
     let att : IsAttached h e = ap (change_at h) number ∙ is in
     let one : (f : Entry) → IsLiveAt h k f → f.number ≡ m → f ≡ e = λ f live at. one_entry h f e live.attached att (at ∙ sym number) in
-    ⊎_elim
-    (λ (same : key_of e ≡ key). ⊎_elim
-    (λ (ended : Ended h e.number k). inr (λ (f : Entry) (live : IsLiveAt h k f) (at : f.number ≡ m) (same : key_of f ≡ key).
+    either (cases_key (key_of e) key)
+    (λ same. either (end_by h e.number k)
+    (λ ended. inr (λ (f : Entry) (live : IsLiveAt h k f) (at : f.number ≡ m) (same : key_of f ≡ key).
     omega (arith, live.unended ended.0 (subst (λ (n : ℕ). EndsAt h n ended.0) (number ∙ sym at) ended.2), ended.1)))
-    (λ (un : Unended h e.number k). ⊎_elim
-    (λ (le : m < suc k). inl (e, record { attached = att; begun = omega arith; unended = un }, same))
-    (λ (gt : suc k ≤ m). inr (λ (f : Entry) (live : IsLiveAt h k f) (at : f.number ≡ m) (same : key_of f ≡ key). omega (arith, live.begun)))
-    (cases_lt m (suc k)))
-    (end_by h e.number k))
-    (λ (other : key_of e ≡ key → ⊥). inr (λ (f : Entry) (live : IsLiveAt h k f) (at : f.number ≡ m) (same : key_of f ≡ key).
+    (λ un. either (cases_lt m (suc k))
+    (λ le. inl (e, record { attached = att; begun = omega arith; unended = un }, same))
+    (λ gt. inr (λ (f : Entry) (live : IsLiveAt h k f) (at : f.number ≡ m) (same : key_of f ≡ key). omega (arith, live.begun)))))
+    (λ other. inr (λ (f : Entry) (live : IsLiveAt h k f) (at : f.number ≡ m) (same : key_of f ≡ key).
     other (ap (key_of) (sym (one f live at)) ∙ same)))
-    (cases_key (key_of e) key)
 
 look_by : (h : List Change) → IsLegal h → (k : ℕ) (key : Key) (m : ℕ) → Looked h k key m
 look_by h legal k key zero = inr (λ (e : Entry) (live : IsLiveAt h k e) (le : e.number ≤ 0) (same : key_of e ≡ key).
     omega (arith, (at_within h e.number (Attach e) live.attached).0))
-look_by h legal k key (suc m) = ⊎_elim
-    (λ (found : (e : Entry) × IsLiveAt h k e × (key_of e ≡ key)). inl found)
-    (λ (none : (e : Entry) → IsLiveAt h k e → e.number ≤ m → key_of e ≡ key → ⊥). ⊎_elim
-    (λ (found : (e : Entry) × IsLiveAt h k e × (key_of e ≡ key)). inl found)
-    (λ (here : (e : Entry) → IsLiveAt h k e → e.number ≡ suc m → key_of e ≡ key → ⊥). inr (λ (e : Entry) (live : IsLiveAt h k e) (le : e.number ≤ suc m) (same : key_of e ≡ key). ⊎_elim
-    (λ (at : e.number ≡ suc m). here e live at same)
-    (λ (off : e.number ≡ suc m → ⊥). none e live (omega arith) same)
-    (cases_eq e.number (suc m))))
-    (looked_at h legal k key (suc m) (change_at h (suc m)) refl))
-    (look_by h legal k key m)
+look_by h legal k key (suc m) = either (look_by h legal k key m)
+    (λ found. inl found)
+    (λ none. either (looked_at h legal k key (suc m) (change_at h (suc m)) refl)
+    (λ found. inl found)
+    (λ here. inr (λ (e : Entry) (live : IsLiveAt h k e) (le : e.number ≤ suc m) (same : key_of e ≡ key). either (cases_eq e.number (suc m))
+    (λ at. here e live at same)
+    (λ off. none e live (omega arith) same))))
 
 -- The entry that a search found is a lawful answer.
 pub found_lawful : (h : List Change) → IsLegal h → (from to t : ℕ) (e : Entry) (key : Key) → from ≤ to → StandsOn h from to t e → key_of e ≡ key → IsLawful h from to key (Some e)
-found_lawful h legal from to t e key le on same = ⊎_elim
-    (λ (lt : e.number < suc from). record {
+found_lawful h legal from to t e key le on same = either (cases_lt e.number (suc from))
+    (λ lt. record {
       point = from;
       from_on = omega arith;
       up_to = le;
       answered = (record { attached = on.attached; begun = omega arith; unended = on.unended }, same);
     })
-    (λ (ge : suc from ≤ e.number). record {
+    (λ ge. record {
       point = e.number;
       from_on = omega arith;
       up_to = on.begun;
       answered = (record { attached = on.attached; begun = omega arith; unended = λ p x. ends_after h legal e.number p x }, same);
     })
-    (cases_lt e.number (suc from))
 
 -- That a search came to the end is a lawful answer.
 pub missed_lawful : (h : List Change) → IsLegal h → (from to : ℕ) (key : Key) → from ≤ to → AllBelow h from to key 0 → IsLawful h from to key None
-missed_lawful h legal from to key le below = ⊎_elim
-    (λ (found : (e : Entry) × IsLiveAt h from e × (key_of e ≡ key)). ⊎_elim
-    (λ (ended : Ended h found.0.number to). record {
+missed_lawful h legal from to key le below = either (look_by h legal from key from)
+    (λ found. either (end_by h found.0.number to)
+    (λ ended. record {
       point = ended.0;
       from_on = omega (arith, found.1.unended ended.0 ended.2);
       up_to = ended.1;
       answered = λ f live same. none_at_end h legal ended.0 found.0 f found.1.attached ended.2 live (same ∙ sym found.2);
     })
-    (λ (un : Unended h found.0.number to). absurd (omega (arith, below found.0 found.1 un found.2)))
-    (end_by h found.0.number to))
-    (λ (none : (e : Entry) → IsLiveAt h from e → e.number ≤ from → key_of e ≡ key → ⊥). record {
+    (λ un. absurd (omega (arith, below found.0 found.1 un found.2))))
+    (λ none. record {
       point = from;
       from_on = omega arith;
       up_to = le;
       answered = λ f live same. none f live live.begun same;
     })
-    (look_by h legal from key from)
 
 -- an answer that was right at one point only
 pub find_exact : (h : List Change) (k : ℕ) (key : Key) (answer : Option Entry) → IsLawful h k k key answer → IsLookup h k key answer

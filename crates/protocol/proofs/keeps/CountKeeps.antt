@@ -1,20 +1,20 @@
 -- The events on local references keep the invariant.
-use Rattle.std.proofs.Common.{Bool, List, Option, Some, [], ap, arith, false, get_or, inl, inr, length, length-set, ltb-true, not, refl, subst, sym, true, ℕ, ⊎_elim, ◌&&◌, ◌+◌, ◌-◌, ◌<◌, ◌∙◌, ◌≡◌, ◌==◌}
+use Rattle.std.proofs.Common.{Bool, Some, [], ap, arith, false, get_or, inl, inr, length, length-set, ltb-true, not, refl, set, subst, sym, true, ℕ, ◌&&◌, ◌+◌, ◌-◌, ◌<◌, ◌∙◌, ◌≡◌, ◌==◌}
 use Rattle.std.proofs.lemmas.Bool.{and_parts, cases_Bool, eq-eqb, eqb-true}
 use Rattle.std.specs.Prelude.{if◌then◌else◌, is_none, nat_lt}
 use Rattle.protocol.proofs.counts.Counts as C
 use Rattle.protocol.proofs.keeps.ListKeeps.{CountsOf, cell_sized, may_write_tells, false_from}
 use Rattle.protocol.proofs.keeps.MarkKeeps.{mark_place, may_examine_tells}
 use Rattle.protocol.proofs.keeps.Marking.{list_all_within, marks_write, snapshots_marked}
-use Rattle.protocol.proofs.slots.Occupied.{at_rest_tells, one_number, slot_has, slot_its}
+use Rattle.protocol.proofs.slots.Occupied.{at_rest_tells, is_retired_tells, one_number, slot_has, slot_its, slot_occupied}
 use Rattle.protocol.proofs.keeps.Passive.{found_not_passed, passive_marked}
-use Rattle.protocol.proofs.keeps.References.{back_holds, due_adding, due_subtracting, giving_holds, hand_seated}
-use Rattle.protocol.proofs.keeps.Referring.{Refers, collect_refers, collected_refers, count_add_refers, count_down_refers, join_keeper_refers, join_refers, keep_refers, split_back_refers, split_refers, total_refers}
-use Rattle.protocol.proofs.keeps.SectionKeeps.{none_from}
+use Rattle.protocol.proofs.keeps.Drivers.{drivers_keep}
+use Rattle.protocol.proofs.keeps.References.{back_holds, due_adding, due_subtracting, giving_holds, hand_seated, references_collect, references_collected, references_count_add, references_count_down, references_join, references_join_keeper, references_keep, references_split, references_split_back, references_total, seats_hand}
+use Rattle.protocol.proofs.keeps.SectionKeeps.{idle_parts, idle_tells, none_from}
 use Rattle.protocol.specs.Events.{after_collect, after_collected, after_count_add, after_count_down, after_count_store, after_hand, after_join_keeper, after_keep, after_split, after_total, exchange, is_drainable, is_driver_slot, is_idle, is_number, may_collect, may_count, may_examine, may_join, may_join_keeper, may_keep, may_write, some_outcome}
 use Rattle.registry_values.specs.Marks.{mark_after_collect, are_clear, have_passed, is_clear, is_some_collected, no_mark}
-use Rattle.protocol.specs.Invariant.{AreRows, Holds, IsCounting, IsIn, SnapshotsStand}
-use Rattle.protocol.specs.State.{at_rest, is_empty, State, count_at, found_at, hand_at, kept_at, local_at, mark_at, search_at, total_at}
+use Rattle.protocol.specs.Invariant.{Holds, IsCounting, IsIn, SeatsShow, SnapshotsStand}
+use Rattle.protocol.specs.State.{at_rest, State, count_at, found_at, hand_at, kept_at, local_at, mark_at, total_at}
 use Rattle.registry_values.specs.Slots.{is_retired, slot_of, slot_at}
 use Rattle.registry_values.specs.Balances.{bias}
 use Rattle.protocol.specs.Taken.{Keeps}
@@ -24,33 +24,8 @@ use Rattle.protocol.specs.declared.state.Due.{Due}
 use Rattle.protocol.specs.declared.state.Due.TheVariants.{Adding, Rest, Snapshots, Subtracting}
 use Rattle.protocol.specs.declared.state.Hand.{Hand}
 use Rattle.protocol.specs.declared.state.Hand.TheVariants.{Back, Empty, Giving, Taking}
-use Rattle.protocol.specs.declared.state.LocalPlace.{LocalPlace}
 use Rattle.protocol.specs.declared.state.LocalPlace.TheVariants.{Lifted, Standing}
-use Rattle.registry_values.specs.declared.slot.Slot.TheVariants.{Live, Retired}
-
--- the state with other counts and references
-abbrev pub with_counts : State → List (List ℕ) → List (List ℕ) → List ℕ → List Hand → List (Option ℕ) → Due → List LocalPlace → State
-with_counts s counts nets totals hands keeps due locals = record s { counts = counts; nets = nets; totals = totals; hands = hands; keeps = keeps; due = due; locals = locals }
-
--- their lengths
-pub record SizesStay (s : State) (counts nets : List (List ℕ)) (totals : List ℕ) (hands : List Hand) (keeps : List (Option ℕ)) : Type 0 where
-  pub count_size : length counts ≡ s.settings.slots
-  pub count_rows : AreRows counts
-  pub net_size : length nets ≡ s.settings.slots
-  pub net_rows : AreRows nets
-  pub total_size : length totals ≡ s.settings.slots
-  pub hand_size : length hands ≡ s.settings.cpus
-  pub keep_size : length keeps ≡ s.settings.slots
-
--- an event that writes no other lists keeps the invariant
-pub counts_keep : (s : State) (counts nets : List (List ℕ)) (totals : List ℕ) (hands : List Hand) (keeps : List (Option ℕ)) (due : Due) (locals : List LocalPlace)
-    → Holds s → SizesStay s counts nets totals hands keeps → SnapshotsStand s.settings.cpus s.slots s.marks due
-    → CountsOf (with_counts s counts nets totals hands keeps due locals) → Refers (with_counts s counts nets totals hands keeps due locals) → Holds (with_counts s counts nets totals hands keeps due locals)
-counts_keep s counts nets totals hands keeps due locals on sizes snapshots balance refers = assumption
-
--- the three clauses on references
-pub refers_of : (s : State) → Holds s → Refers s
-refers_of s on = record { references = on.references; kept_drivers = on.kept_drivers; seats = on.seats }
+use Rattle.protocol.proofs.Either.{either}
 
 -- the lengths and limits of the counts
 pub fit_of : (s : State) → Holds s → C.CountsFit s.settings s.slots s.marks s.counts s.nets s.totals s.hands s.keeps
@@ -63,25 +38,19 @@ snapshots_all s next none on t c e is low later = on.snapshots t c e is low (λ 
 pub not_at_rest : (due : Due) (t d : ℕ) → due ≡ Rest → due ≡ Snapshots t d → ⊥
 not_at_rest due t d rest is = let q : Rest ≡ Snapshots t d = sym rest ∙ is in cc
 
--- What the tests tell.
-pub empty_from : (h : Hand) → is_empty h ≡ true → h ≡ Empty
-empty_from Empty is = refl
-empty_from (Taking n) is = absurd (let q : ◌≡◌ {A = Bool} false true = is in cc)
-empty_from (Giving n id) is = absurd (let q : ◌≡◌ {A = Bool} false true = is in cc)
-empty_from (Back n id) is = absurd (let q : ◌≡◌ {A = Bool} false true = is in cc)
-
--- an idle CPU is in range with nothing in its hand
-pub idle_tells : (s : State) (c : ℕ) → Holds s → is_idle s c ≡ true → (c < s.settings.cpus) × (hand_at s c ≡ Empty)
-idle_tells s c on idle =
-    let p = and_parts (nat_lt c s.seated) (is_none (search_at s c) && is_empty (hand_at s c)) idle in
-    let q = and_parts (is_none (search_at s c)) (is_empty (hand_at s c)) p.1 in
-    (omega (arith, ltb-true c s.seated p.0, on.seats.within), empty_from (hand_at s c) q.1)
-
 -- a CPU with something in its hand is in range
 pub hand_within : (s : State) (c : ℕ) → Holds s → (hand_at s c ≡ Empty → ⊥) → c < s.settings.cpus
-hand_within s c on off =
-    let lt : c < s.seated = hand_seated s.settings.cpus s.seated s.begins s.searches s.hands c off on.seats in
-    omega (arith, lt, on.seats.within)
+hand_within s c on off = omega (arith, hand_seated s.settings.cpus s.seated s.begins s.searches s.hands c off on.seats, on.seats.within)
+
+-- a hand that is written: the seats stay
+hand_put : (s : State) (c : ℕ) (h : Hand) → Holds s → c < s.seated → (length (set s.hands c h) ≡ s.settings.cpus) × SeatsShow s.settings.cpus s.seated s.begins s.searches (set s.hands c h)
+hand_put s c h on lt = (length-set s.hands c h ∙ on.shape.hands, seats_hand s.settings.cpus s.seated s.begins s.searches s.hands c h lt on.seats)
+
+-- a hand that wasn't empty
+pub hand_full : (s : State) (c : ℕ) (h x : Hand) → Holds s → hand_at s c ≡ x → (x ≡ Empty → ⊥) → (c < length s.hands) × ((length (set s.hands c h) ≡ s.settings.cpus) × SeatsShow s.settings.cpus s.seated s.begins s.searches (set s.hands c h))
+hand_full s c h x on hand full =
+    let lt = hand_seated s.settings.cpus s.seated s.begins s.searches s.hands c (λ empty. full (sym hand ∙ empty)) on.seats in
+    (omega (arith, lt, on.seats.within, on.shape.hands), hand_put s c h on lt)
 
 -- the slot that a number has is the only one
 pub only_slot : (s : State) (t n : ℕ) (e : Entry) → Holds s → IsIn e (slot_at s.slots t) → e.number ≡ n → (u : ℕ) (f : Entry) → IsIn f (slot_at s.slots u) → f.number ≡ n → u ≡ t
@@ -103,19 +72,17 @@ held_counting s c t e on found of =
       here,
       (
         e,
-        ⊎_elim
-            (λ (live : slot_at s.slots t ≡ Live e). inl live)
-            (λ (gone : slot_at s.slots t ≡ Retired e). inr (
+        either here
+            (λ live. inl live)
+            (λ gone. inr (
               gone,
-              ⊎_elim
-                  (λ (done : (mark_at s.marks t c).collected ≡ true).
+              either (cases_Bool (mark_at s.marks t c).collected)
+                  (λ done.
                   absurd (found_not_passed s.history s.slots s.marks s.section s.begins s.found c t e on.slots on.grace on.last_found gone
                   (ap (is_number e.number) found ∙ eq-eqb e.number e.number refl)
                   (on.passive.clear c t e gone (on.passive.collected c t e gone done)).0))
-                  (λ (still : (mark_at s.marks t c).collected ≡ false). still)
-                  (cases_Bool (mark_at s.marks t c).collected),
-            ))
-            here,
+                  (λ still. still),
+            )),
       ),
     )
 
@@ -128,46 +95,51 @@ count_add_keeps s c t e on found of may =
     assumption (
       cell_sized s.counts t c (count_at s.counts c t + 1) on.shape.counts on.shape.count_rows,
       cell_sized s.nets t c (count_at s.nets c t + 1) on.shape.nets on.shape.net_rows,
-      length-set s.hands c (Taking e.number) ∙ on.shape.hands,
+      hand_put s c (Taking e.number) on (idle_parts s c p.0).0,
       C.count_add on.balance (fit_of s on) c t e.number e idle.0 counting.0 refl (only_slot s t e.number e on counting.0 refl) counting.1 idle.1 fits,
-      count_add_refers s c e.number t p.0 of (refers_of s on),
+      references_count_add s.settings.cpus s.slots s.hands s.due s.locals c e.number (slot_occupied s.slots e.number t of) on.references,
     )
 
 pub split_keeps : (s : State) (c n : ℕ) → Holds s → hand_at s c ≡ Taking n → Holds (after_split s c n)
 split_keeps s c n on hand =
-    let lt : c < s.settings.cpus = hand_within s c on (λ empty. let q : Taking n ≡ Empty = sym hand ∙ empty in cc) in
-    assumption (length-set s.hands c Empty ∙ on.shape.hands, C.split_ref on.balance c n (omega (arith, lt, on.shape.hands)) hand, split_refers s c n hand (refers_of s on))
+    let full = hand_full s c Empty (Taking n) on hand (λ is. let q : Taking n ≡ Empty = is in cc) in
+    assumption (full.1, C.split_ref on.balance c n full.0 hand, references_split s.settings.cpus s.slots s.hands s.due s.locals c n hand on.references)
 
 pub join_keeps : (s : State) (c n id : ℕ) → Holds s → local_at s.locals id ≡ Standing n → is_idle s c ≡ true → Holds (after_hand s c (Giving n id) id (Lifted c))
 join_keeps s c n id on at idle =
     let told = idle_tells s c on idle in
-    assumption (length-set s.hands c (Giving n id) ∙ on.shape.hands, C.join_ref on.balance c n id (omega (arith, told.0, on.shape.hands)) told.1 at, join_refers s c n id idle at (refers_of s on))
+    assumption (
+      hand_put s c (Giving n id) on (idle_parts s c idle).0,
+      C.join_ref on.balance c n id (omega (arith, told.0, on.shape.hands)) told.1 at,
+      references_join s.settings.cpus s.slots s.hands s.due s.locals c n id at on.references,
+    )
 
 -- the word isn't collected, and one is counted down
 pub count_down_keeps : (s : State) (c n id t : ℕ) → Holds s → hand_at s c ≡ Giving n id → slot_of s.slots n ≡ Some t → count_at s.counts c t ≡ count_at s.nets c t → Holds (after_count_down s c t id)
 count_down_keeps s c n id t on hand of same =
-    let lt : c < s.settings.cpus = hand_within s c on (λ empty. let q : Giving n id ≡ Empty = sym hand ∙ empty in cc) in
+    let full = hand_full s c Empty (Giving n id) on hand (λ is. let q : Giving n id ≡ Empty = is in cc) in
+    let lt : c < s.settings.cpus = omega (arith, full.0, on.shape.hands) in
     let lifted = (giving_holds s.settings.cpus s.slots s.hands s.due s.locals c n id hand on.references).1 in
     let has = slot_has s.slots n t of in
     assumption (
       cell_sized s.counts t c (count_at s.counts c t - 1) on.shape.counts on.shape.count_rows,
       cell_sized s.nets t c (count_at s.nets c t - 1) on.shape.nets on.shape.net_rows,
-      length-set s.hands c Empty ∙ on.shape.hands,
+      full.1,
       C.count_down on.balance (fit_of s on) c t n id has.1.0 lt has.1.1 has.1.2 (only_slot s t n has.1.0 on has.1.1 has.1.2) (C.is_counting on.balance c t has.1.0 lt has.1.1 same) hand lifted,
-      count_down_refers s c n id t hand (refers_of s on),
+      references_count_down s.settings.cpus s.slots s.hands s.due s.locals c n id hand on.references,
     )
 
 -- the word is collected, and the reference stays
 pub collected_keeps : (s : State) (c n id : ℕ) → Holds s → hand_at s c ≡ Giving n id → Holds (after_collected s c n id)
 collected_keeps s c n id on hand =
-    let lt : c < s.settings.cpus = hand_within s c on (λ empty. let q : Giving n id ≡ Empty = sym hand ∙ empty in cc) in
-    assumption (length-set s.hands c (Back n id) ∙ on.shape.hands, C.found_collected on.balance c n id (omega (arith, lt, on.shape.hands)) hand, collected_refers s c n id hand (refers_of s on))
+    let full = hand_full s c (Back n id) (Giving n id) on hand (λ is. let q : Giving n id ≡ Empty = is in cc) in
+    assumption (full.1, C.found_collected on.balance c n id full.0 hand, references_collected s.settings.cpus s.slots s.hands s.due s.locals c n id hand on.references)
 
 pub split_back_keeps : (s : State) (c n id : ℕ) → Holds s → hand_at s c ≡ Back n id → Holds (after_hand s c Empty id (Standing n))
 split_back_keeps s c n id on hand =
-    let lt : c < s.settings.cpus = hand_within s c on (λ empty. let q : Back n id ≡ Empty = sym hand ∙ empty in cc) in
+    let full = hand_full s c Empty (Back n id) on hand (λ is. let q : Back n id ≡ Empty = is in cc) in
     let lifted = (back_holds s.settings.cpus s.slots s.hands s.due s.locals c n id hand on.references).1 in
-    assumption (length-set s.hands c Empty ∙ on.shape.hands, C.split_back on.balance c n id (omega (arith, lt, on.shape.hands)) hand lifted, split_back_refers s c n id hand (refers_of s on))
+    assumption (full.1, C.split_back on.balance c n id full.0 hand lifted, references_split_back s.settings.cpus s.slots s.hands s.due s.locals c n id hand on.references)
 
 pub collect_keeps : (s : State) (t c : ℕ) → Holds s → may_collect s t c ≡ true → Holds (after_collect s t c)
 collect_keeps s t c on may =
@@ -190,12 +162,12 @@ collect_keeps s t c on may =
       passive_marked s.settings.cpus s.settings.passive_limit s.slots s.marks s.passive t c (mark_after_collect (mark_at s.marks t c))
           (λ e is holds. on.passive.clear c t e is holds) (λ e is holds. clear) on.passive,
       C.collect on.balance (fit_of s on) c t told.2.0 told.1 told.0 told.2.1 still,
-      collect_refers s t c may (refers_of s on),
+      references_collect s.settings.cpus s.slots s.hands s.due s.locals t (count_at s.counts c t) told.2.0 told.2.1 on.references,
     )
 
 -- a total is all that is written, and the keeper is at rest again
 total_keeps : (s : State) (t v : ℕ) → Holds s → ((u d : ℕ) → s.due ≡ Snapshots u d → ⊥) → CountsOf (after_total s t v) → Holds (after_total s t v)
-total_keeps s t v on none balance = assumption (length-set s.totals t v ∙ on.shape.totals, snapshots_all s Rest none on, total_refers s t v (refers_of s on))
+total_keeps s t v on none balance = assumption (length-set s.totals t v ∙ on.shape.totals, snapshots_all s Rest none on, references_total s.settings.cpus s.slots s.hands s.due s.locals on.references)
 
 pub total_add_keeps : (s : State) (t old : ℕ) → Holds s → s.due ≡ Adding t old → Holds (after_total s t (total_at s.totals t + old - bias))
 total_add_keeps s t old on due =
@@ -215,10 +187,11 @@ join_keeper_keeps s id n t on at of may =
     let q = and_parts (at_rest s.due) (is_some_collected s.settings.cpus (get_or s.marks t [])) p.1 in
     let rest : s.due ≡ Rest = at_rest_tells s.due q.0 in
     let has = slot_has s.slots n t of in
+    let gone = is_retired_tells (slot_at s.slots t) p.0 in
     assumption (
       snapshots_all s (Subtracting t) (λ u d is. not_at_rest s.due u d rest is) on,
       C.join_keeper on.balance t n id has.1.0 rest has.1.1 has.1.2 (only_slot s t n has.1.0 on has.1.1 has.1.2) at,
-      join_keeper_refers s id n t at may (refers_of s on),
+      references_join_keeper s.settings.cpus s.slots s.hands s.due s.locals id n t gone.0 at gone.1 on.references,
     )
 
 pub keep_keeps : (s : State) (t id n u : ℕ) → Holds s → local_at s.locals id ≡ Standing n → slot_of s.slots n ≡ Some u → may_keep s t u ≡ true → Holds (after_keep s t id n)
@@ -229,7 +202,8 @@ keep_keeps s t id n u on at of may =
     assumption (
       length-set s.keeps t (Some n) ∙ on.shape.keeps,
       C.keep on.balance t n id (omega (arith, told.1, on.shape.slots, on.shape.keeps)) (none_from (kept_at s.keeps t) q.0) at,
-      keep_refers s t id n u at of may (refers_of s on),
+      references_keep s.settings.cpus s.slots s.hands s.due s.locals id n at on.references,
+      drivers_keep s.slots s.keeps t n u told.2 of q.1 on.kept_drivers,
     )
 
 -- the word decides between counting down and handing back

@@ -1,5 +1,5 @@
 -- Each event keeps what is so of kept drivers.
-use Rattle.std.proofs.Common.{◌≡◌, ℕ, ◌<◌, ◌≤◌, ◌⊎◌, inl, inr, ⊎_elim, List, length, set, replicate, Bool, true, false, Option, Some, None, refl, sym, ap, subst, ◌∙◌, get_or-set_other}
+use Rattle.std.proofs.Common.{◌≡◌, ℕ, ◌<◌, inl, inr, List, length, set, replicate, Bool, true, false, Option, Some, None, refl, sym, ap, subst, ◌∙◌, get_or-set_other}
 use Rattle.std.proofs.lemmas.Bool.{cases_eq}
 use Rattle.registry_values.specs.declared.entry.Kind.{Kind}
 use Rattle.registry_values.specs.declared.entry.Kind.TheVariants.{Iface, Driver}
@@ -10,13 +10,14 @@ use Rattle.registry_values.specs.declared.slot.Slot.TheVariants.{Vacant, Live, R
 use Rattle.protocol.specs.declared.state.Hand.{Hand}
 use Rattle.protocol.specs.declared.state.LocalPlace.{LocalPlace}
 use Rattle.protocol.specs.declared.state.Due.{Due}
-use Rattle.registry_values.specs.Slots.{slot_at, slot_of, is_iface, is_driver}
+use Rattle.registry_values.specs.Slots.{slot_at, slot_of, is_driver}
 use Rattle.protocol.specs.State.{kept_at}
-use Rattle.protocol.specs.Events.{keeps_rightly, is_driver_slot, is_iface_slot}
+use Rattle.protocol.specs.Events.{keeps_rightly, is_driver_slot}
 use Rattle.protocol.specs.Invariant.{IsIn, SlotsShow, held_at, DriversKept}
 use Rattle.protocol.proofs.slots.Occupied.{written_cases, in_other, in_written, in_within, not_vacant, live_one, retired_one, one_in, in_published, in_unpublished, in_vacated, one_number, slot_has}
 use Rattle.protocol.proofs.counts.HeldSums.{Unreferred, unreferred}
 use Rattle.protocol.proofs.slots.Cells.{get_or_all}
+use Rattle.protocol.proofs.Either.{either}
 
 -- the driver d has its slot
 abbrev pub HasDriver : List Slot → ℕ → Type 0
@@ -24,18 +25,16 @@ HasDriver slots d = (u : ℕ) × (e : Entry) × IsIn e (slot_at slots u) × (e.n
 
 -- Which drivers stay where one slot is written: those that the new slot still has.
 pub has_driver_set : (slots : List Slot) (t : ℕ) (x : Slot) (d : ℕ) → t < length slots → ((f : Entry) → IsIn f (slot_at slots t) → f.number ≡ d → f.rec.kind ≡ Driver → IsIn f x) → HasDriver slots d → HasDriver (set slots t x) d
-has_driver_set slots t x d lt stays was = ⊎_elim
-    (λ (same : was.0 ≡ t). (t, was.1, in_written slots t x was.1 lt (stays was.1 (subst (λ (k : ℕ). IsIn was.1 (slot_at slots k)) same was.2) was.3 was.4), was.3, was.4))
-    (λ (off : was.0 ≡ t → ⊥). (was.0, was.1, in_other slots t x was.1 was.0 off was.2, was.3, was.4))
-    (cases_eq was.0 t)
+has_driver_set slots t x d lt stays was = either (cases_eq was.0 t)
+    (λ same. (t, was.1, in_written slots t x was.1 lt (stays was.1 (subst (λ (k : ℕ). IsIn was.1 (slot_at slots k)) same was.2) was.3 was.4), was.3, was.4))
+    (λ off. (was.0, was.1, in_other slots t x was.1 was.0 off was.2, was.3, was.4))
 
 pub drivers_publish : (slots : List Slot) (keeps : List (Option ℕ)) (t : ℕ) (e : Entry) → t < length slots → slot_at slots t ≡ Vacant → keeps_rightly (kept_at keeps t) e.rec.kind ≡ true → DriversKept slots keeps → DriversKept (set slots t (Live e)) keeps
 drivers_publish slots keeps t e lt vacant right kept = record {
-  rightly = λ u f is. ⊎_elim
-      (λ (same : (u ≡ t) × (f ≡ e)).
+  rightly = λ u f is. either (in_published slots t u e f lt is)
+      (λ same.
       subst (λ (g : Entry). keeps_rightly (kept_at keeps u) g.rec.kind ≡ true) (sym same.1) (subst (λ (k : ℕ). keeps_rightly (kept_at keeps k) e.rec.kind ≡ true) (sym same.0) right))
-      (λ (old : IsIn f (slot_at slots u)). kept.rightly u f old)
-      (in_published slots t u e f lt is);
+      (λ old. kept.rightly u f old);
   drivers = λ u d at. has_driver_set slots t (Live e) d lt (λ f is number kind. absurd (not_vacant f (slot_at slots t) vacant is)) (kept.drivers u d at);
 }
 
@@ -70,10 +69,9 @@ drivers_kept_sub slots hands keeps due locals t e at none kept =
       rightly = λ u f is.
           let off : u ≡ t → ⊥ = (in_vacated slots t u e f at is).0 in
           subst (λ (k : Option ℕ). keeps_rightly k f.rec.kind ≡ true) (sym (get_or-set_other keeps t u None None off)) (gone.rightly u f is);
-      drivers = λ u d holds. ⊎_elim
-          (λ (here : (u ≡ t) × (kept_at (set keeps t None) u ≡ None)). absurd (let q : ◌≡◌ {A = Option ℕ} (Some d) None = sym holds ∙ here.1 in cc))
-          (λ (other : ((u ≡ t → ⊥) ⊎ (length keeps ≤ t)) × (kept_at (set keeps t None) u ≡ kept_at keeps u)). gone.drivers u d (sym other.1 ∙ holds))
-          (written_cases None keeps t None u);
+      drivers = λ u d holds. either (written_cases None keeps t None u)
+          (λ here. absurd (let q : ◌≡◌ {A = Option ℕ} (Some d) None = sym holds ∙ here.1 in cc))
+          (λ other. gone.drivers u d (sym other.1 ∙ holds));
     }
 
 -- What keeps and what is kept.
@@ -141,19 +139,10 @@ is_driver_tells : (k : Kind) → is_driver k ≡ true → k ≡ Driver
 is_driver_tells Iface test = absurd (let q : ◌≡◌ {A = Bool} false true = test in cc)
 is_driver_tells Driver test = refl
 
-is_iface_tells : (k : Kind) → is_iface k ≡ true → k ≡ Iface
-is_iface_tells Iface test = refl
-is_iface_tells Driver test = absurd (let q : ◌≡◌ {A = Bool} false true = test in cc)
-
 pub driver_slot_tells : (x : Slot) → is_driver_slot x ≡ true → (e : Entry) × IsIn e x × (e.rec.kind ≡ Driver)
 driver_slot_tells Vacant test = absurd (let q : ◌≡◌ {A = Bool} false true = test in cc)
 driver_slot_tells (Live e) test = (e, inl refl, is_driver_tells e.rec.kind test)
 driver_slot_tells (Retired e) test = (e, inr refl, is_driver_tells e.rec.kind test)
-
-pub iface_slot_tells : (x : Slot) → is_iface_slot x ≡ true → (e : Entry) × IsIn e x × (e.rec.kind ≡ Iface)
-iface_slot_tells Vacant test = absurd (let q : ◌≡◌ {A = Bool} false true = test in cc)
-iface_slot_tells (Live e) test = (e, inl refl, is_iface_tells e.rec.kind test)
-iface_slot_tells (Retired e) test = (e, inr refl, is_iface_tells e.rec.kind test)
 
 -- the slot of n holds a driver
 pub slot_has_driver : (slots : List Slot) (n u : ℕ) → slot_of slots n ≡ Some u → is_driver_slot (slot_at slots u) ≡ true → HasDriver slots n
@@ -168,12 +157,11 @@ drivers_keep slots keeps t n u vacant found test kept = record {
   rightly = λ v e is.
       let off : v ≡ t → ⊥ = λ same. not_vacant e (slot_at slots v) (ap (slot_at slots) same ∙ vacant) is in
       subst (λ (k : Option ℕ). keeps_rightly k e.rec.kind ≡ true) (sym (get_or-set_other keeps t v (Some n) None off)) (kept.rightly v e is);
-  drivers = λ v d holds. ⊎_elim
-      (λ (here : (v ≡ t) × (kept_at (set keeps t (Some n)) v ≡ Some n)).
+  drivers = λ v d holds. either (written_cases None keeps t (Some n) v)
+      (λ here.
       let same : n ≡ d = (let q : ◌≡◌ {A = Option ℕ} (Some n) (Some d) = sym here.1 ∙ holds in cc) in
       subst (HasDriver slots) same (slot_has_driver slots n u found test))
-      (λ (other : ((v ≡ t → ⊥) ⊎ (length keeps ≤ t)) × (kept_at (set keeps t (Some n)) v ≡ kept_at keeps v)). kept.drivers v d (sym other.1 ∙ holds))
-      (written_cases None keeps t (Some n) v);
+      (λ other. kept.drivers v d (sym other.1 ∙ holds));
 }
 
 pub drivers_opening : (slots others : ℕ) → DriversKept (replicate slots Vacant) (replicate others None)

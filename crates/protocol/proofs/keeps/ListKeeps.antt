@@ -1,5 +1,5 @@
 -- The keeper's events on the list keep the invariant: stores to a vacant slot, Publish and Unpublish.
-use Rattle.std.proofs.Common.{Bool, List, None, Option, Some, [], ap, arith, false, get_or, get_or-set_other, get_or-set_same, inl, inr, length, length-set, ltb-true, not, refl, replicate, set, subst, suc, sym, true, zero, ℕ, ⊎_elim, ◌&&◌, ◌+◌, ◌<◌, ◌∙◌, ◌≡◌, ◌≢◌, ◌≤◌}
+use Rattle.std.proofs.Common.{Bool, List, None, Option, Some, [], ap, arith, false, get_or, get_or-set_other, get_or-set_same, inl, inr, length, length-set, ltb-true, not, refl, replicate, set, subst, suc, sym, true, zero, ℕ, ◌&&◌, ◌+◌, ◌<◌, ◌∙◌, ◌≡◌, ◌≢◌, ◌≤◌}
 use Rattle.std.proofs.lemmas.Bool.{and_from, and_parts, cases_eq, cases_lt, eq-eqb, eqb-true, leb-true}
 use Rattle.std.proofs.lemmas.List.{set_past}
 use Rattle.std.proofs.lemmas.List.Folds.{list_any_at}
@@ -31,6 +31,7 @@ use Rattle.protocol.specs.declared.state.RecordWords.{RecordWords}
 use Rattle.registry_values.specs.declared.slot.Slot.{Slot}
 use Rattle.registry_values.specs.declared.slot.Slot.TheVariants.{Live, Retired, Vacant}
 use Rattle.protocol.proofs.slots.Occupied.{not_vacant, is_vacant_tells, at_rest_tells}
+use Rattle.protocol.proofs.Either.{either}
 
 -- the clauses that other files keep, at a state
 abbrev pub CountsOf : State → Type 0
@@ -108,18 +109,16 @@ live_count_put slots t x y lt at = subst (λ (z : Slot). live_count (set slots t
 
 -- a row with a place for each CPU is written
 pub rows_put : {X : Type 0} (rows : List (List X)) (t : ℕ) (row : List X) → length row ≡ MOST_CPUS → AreRows rows → AreRows (set rows t row)
-rows_put {X} rows t row size are u lt = ⊎_elim
-    (λ (same : u ≡ t). ap (λ (k : ℕ). length (get_or (set rows t row) k [])) same ∙ (ap (λ (r : List X). length r) (get_or-set_same rows t row [] (omega (arith, length-set rows t row))) ∙ size))
-    (λ (off : u ≡ t → ⊥). ap (λ (r : List X). length r) (get_or-set_other rows t u row [] off) ∙ are u (omega (arith, length-set rows t row)))
-    (cases_eq u t)
+rows_put {X} rows t row size are u lt = either (cases_eq u t)
+    (λ same. ap (λ (k : ℕ). length (get_or (set rows t row) k [])) same ∙ (ap (λ (r : List X). length r) (get_or-set_same rows t row [] (omega (arith, length-set rows t row))) ∙ size))
+    (λ off. ap (λ (r : List X). length r) (get_or-set_other rows t u row [] off) ∙ are u (omega (arith, length-set rows t row)))
 
 -- and so where one place of a row is
 pub rows_cell : {X : Type 0} (rows : List (List X)) (t c : ℕ) (x : X) → AreRows rows → AreRows (set rows t (set (get_or rows t []) c x))
-rows_cell {X} rows t c x are u lt = ⊎_elim
-    (λ (in_ : t < length rows). rows_put rows t (set (get_or rows t []) c x) (length-set (get_or rows t []) c x ∙ are t in_) are u lt)
-    (λ (out : length rows ≤ t). let same = set_past rows t (set (get_or rows t []) c x) out in
+rows_cell {X} rows t c x are u lt = either (cases_lt t (length rows))
+    (λ in_. rows_put rows t (set (get_or rows t []) c x) (length-set (get_or rows t []) c x ∙ are t in_) are u lt)
+    (λ out. let same = set_past rows t (set (get_or rows t []) c x) out in
     ap (λ (r : List (List X)). length (get_or r u [])) same ∙ are u (subst (λ (r : List (List X)). u < length r) same lt))
-    (cases_lt t (length rows))
 
 -- they are as many as before, too
 pub cell_sized : {X : Type 0} (rows : List (List X)) (t c : ℕ) (x : X) {n : ℕ} → length rows ≡ n → AreRows rows → (length (with_cell rows t c x) ≡ n) × AreRows (with_cell rows t c x)
@@ -252,12 +251,11 @@ unlink_own s e (Some p) on at rest is counts references drivers =
     let g = before_leads s.slots s.next e.slot p size is in
     let off : s.head ≡ suc e.slot → ⊥ = head_leads_on s.history s.slots s.head s.next e g.0 p on.slots on.list at g.1 g.2 in
     let kept : (u : ℕ) (f : Entry) → IsIn f (slot_at s.slots u) → ((slot_at s.slots u ≡ Live f) → (u ≡ e.slot)) → get_or (set s.next p (get_or s.next e.slot 0)) u 0 ≡ get_or s.next u 0
-    = λ u f x only. get_or-set_other s.next p u (get_or s.next e.slot 0) 0 (λ same. ⊎_elim
-    (λ (live : slot_at s.slots u ≡ Live f).
+    = λ u f x only. get_or-set_other s.next p u (get_or s.next e.slot 0) 0 (λ same. either x
+    (λ live.
     let word : get_or s.next e.slot 0 ≡ suc e.slot = ap (λ (k : ℕ). get_or s.next k 0) (sym (only live) ∙ same) ∙ g.2 in
     omega (arith, (link_to s.history s.slots e e.number (get_or s.next e.slot 0) on.slots at word (on.list.links e.slot e at)).0))
-    (λ (gone : slot_at s.slots u ≡ Retired f). let q : Live g.0 ≡ Retired f = sym g.1 ∙ (ap (slot_at s.slots) (sym same) ∙ gone) in cc)
-    x) in
+    (λ gone. let q : Live g.0 ≡ Retired f = sym g.1 ∙ (ap (slot_at s.slots) (sym same) ∙ gone) in cc)) in
     fit_unlinked s e s.head (set s.next p (get_or s.next e.slot 0)) on at rest (length-set s.next p (get_or s.next e.slot 0))
     (list_unlink_mid s.history s.slots s.head s.next e g.0 p at on.slots size off g.1 g.2 on.list)
     (links_detach s.history s.slots s.head s.next (set s.next p (get_or s.next e.slot 0)) s.begins e on.legal at on.slots on.list kept on.frozen_links)

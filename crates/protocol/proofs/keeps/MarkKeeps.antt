@@ -1,5 +1,5 @@
 -- Snapshots, looks, passive references and the end of a slot's use keep the invariant; the opening state has it.
-use Rattle.std.proofs.Common.{Bool, List, None, Option, Some, [], ap, arith, false, get_or, length, length-set, ltb-true, refl, replicate, set, subst, suc, sym, true, zero, ℕ, ⊎_elim, ◌%◌, ◌&&◌, ◌+◌, ◌-◌, ◌<◌, ◌||◌, ◌∙◌, ◌≡◌, ◌≤◌}
+use Rattle.std.proofs.Common.{Bool, List, None, Option, Some, [], ap, arith, false, get_or, length, length-set, ltb-true, refl, replicate, set, subst, suc, sym, true, zero, ℕ, ◌%◌, ◌&&◌, ◌+◌, ◌-◌, ◌<◌, ◌||◌, ◌∙◌, ◌≡◌, ◌≤◌}
 use Rattle.std.proofs.lemmas.Bool.{and_parts, cases_lt, eqb-true, or_cases}
 use Rattle.std.proofs.lemmas.List.{get_or_past, length-replicate}
 use Rattle.std.proofs.lemmas.Option.{none-some}
@@ -14,7 +14,7 @@ use Rattle.registry_values.specs.Marks.{mark_after_passive_look, mark_after_look
 use Rattle.protocol.specs.Invariant.{AreRows, DueHolds, Holds, IsIn, SnapshotsStand, To_end}
 use Rattle.registry_values.proofs.Fit.{ranges}
 use Rattle.registry_values.specs.Limits.{are_fit}
-use Rattle.protocol.specs.State.{at_rest, is_empty, State, found_at, hand_at, kept_at, mark_at, no_words, opening, passive_at, search_at, section_at, total_at}
+use Rattle.protocol.specs.State.{at_rest, State, found_at, kept_at, mark_at, no_words, opening, passive_at, section_at, total_at}
 use Rattle.registry_values.specs.Slots.{is_retired, live_count, slot_of, slot_at}
 use Rattle.registry_values.specs.Balances.{bias}
 use Rattle.registry_values.specs.declared.entry.Change.TheVariants.{Attach, Detach}
@@ -28,7 +28,9 @@ use Rattle.registry_values.specs.declared.slot.Slot.{Slot}
 use Rattle.registry_values.specs.declared.slot.Slot.TheVariants.{Live, Retired, Vacant}
 use Rattle.protocol.proofs.slots.Occupied.{not_vacant, slot_has, is_retired_tells, at_rest_tells}
 use Rattle.protocol.proofs.keeps.References.{snapshot_due_tells}
+use Rattle.protocol.proofs.keeps.SectionKeeps.{idle_tells}
 use Rattle.protocol.proofs.slots.Cells.{get_or_all}
+use Rattle.protocol.proofs.Either.{either}
 
 -- no more CPUs than a row has places
 pub cpus_fit : (z : Settings) → IsTrue (are_fit z) → z.cpus ≤ MOST_CPUS
@@ -87,44 +89,37 @@ look_passive_keeps s t c on may counts =
       passive_marked s.settings.cpus s.settings.passive_limit s.slots s.marks s.passive t c (mark_after_passive_look (mark_at s.marks t c) (passive_at s.passive c t))
           (λ e is holds. (
             passed,
-            ⊎_elim
-                (λ (before : (mark_at s.marks t c).clear ≡ true). (on.passive.clear c t e is before).1)
-                (λ (now : (passive_at s.passive c t == 0) ≡ true). eqb-true (passive_at s.passive c t) 0 now)
-                (or_cases (mark_at s.marks t c).clear (passive_at s.passive c t == 0) holds),
+            either (or_cases (mark_at s.marks t c).clear (passive_at s.passive c t == 0) holds)
+                (λ before. (on.passive.clear c t e is before).1)
+                (λ now. eqb-true (passive_at s.passive c t) 0 now),
           ))
           (λ e is holds. ap (λ (b : Bool). b || (passive_at s.passive c t == 0)) (on.passive.collected c t e is holds)) on.passive,
     )
-
--- an idle CPU is in range
-pub idle_within : (s : State) (c : ℕ) → Holds s → is_idle s c ≡ true → c < s.settings.cpus
-idle_within s c on idle = omega (arith, ltb-true c s.seated (and_parts (nat_lt c s.seated) (is_none (search_at s c) && is_empty (hand_at s c)) idle).0, on.seats.within)
 
 pub add_keeps : (s : State) (c n t : ℕ) → Holds s → slot_of s.slots n ≡ Some t → may_add s c n t ≡ true → Holds (after_add s c t)
 add_keeps s c n t on of may =
     let p = and_parts (is_idle s c) ((is_number n (found_at s c) || nat_lt 0 (passive_at s.passive c t)) && nat_lt (passive_at s.passive c t) s.settings.passive_limit) may in
     let q = and_parts (is_number n (found_at s c) || nat_lt 0 (passive_at s.passive c t)) (nat_lt (passive_at s.passive c t) s.settings.passive_limit) p.1 in
-    let low : c < s.settings.cpus = idle_within s c on p.0 in
+    let low : c < s.settings.cpus = (idle_tells s c on p.0).0 in
     let fits : passive_at s.passive c t < s.settings.passive_limit = ltb-true (passive_at s.passive c t) s.settings.passive_limit q.1 in
     let there = slot_has s.slots n t of in
     assumption (
       cell_sized s.passive t c (passive_at s.passive c t + 1) on.shape.passive on.shape.passive_rows,
       passive_counted s.settings.cpus s.settings.passive_limit s.slots s.marks s.passive c t (passive_at s.passive c t + 1) low (omega (arith, fits))
           (λ vacant. not_vacant there.1.0 (slot_at s.slots t) vacant there.1.1)
-          (λ e gone clear. ⊎_elim
-          (λ (f : is_number n (found_at s c) ≡ true).
+          (λ e gone clear. either (or_cases (is_number n (found_at s c)) (nat_lt 0 (passive_at s.passive c t)) q.0)
+          (λ f.
           let same : there.1.0 ≡ e = is_retired_one there.1.0 e (slot_at s.slots t) gone there.1.1 in
           let number : n ≡ e.number = sym there.1.2 ∙ ap (λ (g : Entry). g.number) same in
           found_not_passed s.history s.slots s.marks s.section s.begins s.found c t e on.slots on.grace on.last_found gone (ap (λ (k : ℕ). is_number k (found_at s c)) (sym number) ∙ f) (on.passive.clear c t e gone clear).0)
-          (λ (h : nat_lt 0 (passive_at s.passive c t) ≡ true). omega (arith, ltb-true 0 (passive_at s.passive c t) h, (on.passive.clear c t e gone clear).1))
-          (or_cases (is_number n (found_at s c)) (nat_lt 0 (passive_at s.passive c t)) q.0))
+          (λ h. omega (arith, ltb-true 0 (passive_at s.passive c t) h, (on.passive.clear c t e gone clear).1)))
           on.passive,
     )
   where
     is_retired_one : (f e : Entry) (x : Slot) → x ≡ Retired e → IsIn f x → f ≡ e
-    is_retired_one f e x at is = ⊎_elim
-        (λ (live : x ≡ Live f). absurd (let q : Live f ≡ Retired e = sym live ∙ at in cc))
-        (λ (gone : x ≡ Retired f). let q : Retired f ≡ Retired e = sym gone ∙ at in cc)
-        is
+    is_retired_one f e x at is = either is
+        (λ live. absurd (let q : Live f ≡ Retired e = sym live ∙ at in cc))
+        (λ gone. let q : Retired f ≡ Retired e = sym gone ∙ at in cc)
 
 pub sub_keeps : (s : State) (c t : ℕ) → Holds s → may_sub s c t ≡ true → Holds (after_sub s c t)
 sub_keeps s c t on may =
@@ -132,7 +127,7 @@ sub_keeps s c t on may =
     let some : 0 < passive_at s.passive c t = ltb-true 0 (passive_at s.passive c t) p.1 in
     assumption (
       cell_sized s.passive t c (passive_at s.passive c t - 1) on.shape.passive on.shape.passive_rows,
-      passive_counted s.settings.cpus s.settings.passive_limit s.slots s.marks s.passive c t (passive_at s.passive c t - 1) (idle_within s c on p.0) (omega (arith, on.passive.limited c t))
+      passive_counted s.settings.cpus s.settings.passive_limit s.slots s.marks s.passive c t (passive_at s.passive c t - 1) (idle_tells s c on p.0).0 (omega (arith, on.passive.limited c t))
           (λ vacant. omega (arith, some, on.passive.vacant c t vacant)) (λ e gone clear. omega (arith, some, (on.passive.clear c t e gone clear).1)) on.passive,
     )
 
@@ -183,10 +178,7 @@ vacated_keeps s t totals keeps on drained total_size keep_size counts references
     )
   where
     within_begin : (xs : List (Option ℕ)) (c b : ℕ) → get_or xs c None ≡ Some b → c < length xs
-    within_begin xs c b is = ⊎_elim
-        (λ (lt : c < length xs). lt)
-        (λ (ge : length xs ≤ c). absurd (none-some b (sym (get_or_past xs c None ge) ∙ is)))
-        (cases_lt c (length xs))
+    within_begin xs c b is = either (cases_lt c (length xs)) (λ lt. lt) (λ ge. absurd (none-some b (sym (get_or_past xs c None ge) ∙ is)))
 
 pub vacate_keeps : (s : State) (t : ℕ) → Holds s → may_vacate s t ≡ true
     → CountsOf (after_vacate s t) → ReferencesOf (after_vacate s t) → DriversOf (after_vacate s t) → Holds (after_vacate s t)

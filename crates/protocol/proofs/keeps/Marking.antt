@@ -1,6 +1,6 @@
 -- Snapshots, looks and the end of a slot's use.
-use Rattle.std.proofs.Common.{Bool, List, None, Option, Some, [], ap, arith, false, get_or, get_or-set_other, get_or-set_same, inl, inr, length, not, refl, replicate, set, subst, suc, sym, take, true, zero, ℕ, ⊎_elim, ◌%◌, ◌+◌, ◌<◌, ◌||◌, ◌∙◌, ◌∷◌, ◌≡◌, ◌≢◌, ◌≤◌, ◌⊎◌}
-use Rattle.std.proofs.lemmas.Bool.{and_parts, cases_eq, eq-eqb, eqb-true, lt-ltb, or_cases}
+use Rattle.std.proofs.Common.{Bool, List, None, Option, Some, [], ap, arith, false, get_or, get_or-set_other, get_or-set_same, inl, inr, length, not, refl, replicate, set, subst, suc, sym, take, true, zero, ℕ, ◌%◌, ◌+◌, ◌<◌, ◌||◌, ◌∙◌, ◌∷◌, ◌≡◌, ◌≢◌, ◌≤◌}
+use Rattle.std.proofs.lemmas.Bool.{and_parts, eq-eqb, eqb-true, lt-ltb, or_cases}
 use Rattle.std.proofs.lemmas.Option.{same_Some}
 use Rattle.std.specs.List.{list_all}
 use Rattle.std.specs.Prelude.{if◌then◌else◌, nat_lt}
@@ -22,7 +22,8 @@ use Rattle.protocol.specs.declared.state.RecordWords.{RecordWords}
 use Rattle.registry_values.specs.declared.slot.Slot.{Slot}
 use Rattle.registry_values.specs.declared.slot.Slot.TheVariants.{Live, Retired, Vacant}
 use Rattle.protocol.proofs.slots.Occupied.{slot_cases, not_vacant}
-use Rattle.protocol.proofs.slots.Cells.{cell_cases, cell_here, get_or_all}
+use Rattle.protocol.proofs.slots.Cells.{by_cell, cell_here, cell_other, cell_put, get_or_all}
+use Rattle.protocol.proofs.Either.{either}
 
 -- a fresh row of marks
 pub marks_detach : (h : List Change) (slots : List Slot) (marks : List (List Mark)) (section : List ℕ) (begins : List (Option ℕ)) (e : Entry) (n : ℕ) → slot_at slots e.slot ≡ Live e → length marks ≡ length slots → SlotsShow h slots
@@ -37,31 +38,22 @@ marks_detach h slots marks section begins e n at size show m =
     let kept : (u j : ℕ) → (u ≡ e.slot → ⊥) → mark_at (set marks e.slot (replicate n no_mark)) u j ≡ mark_at marks u j = λ u j off.
     ap (λ (r : List Mark). get_or r j no_mark) (get_or-set_other marks e.slot u (replicate n no_mark) [] off) in
     record {
-      passed = λ u p c b f is ends in_ holds. ⊎_elim
-          (λ (same : (u ≡ e.slot) × (f ≡ e)). absurd (let q : ◌≡◌ {A = Bool} false true = sym (ap (λ (x : Mark). x.passed) (fresh u c same.0)) ∙ holds in cc))
-          (λ (off : (u ≡ e.slot → ⊥) × (slot_at slots u ≡ Retired f)).
-          m.passed u p c b f off.1 (end_before h slots e f u p show le off.1 ends).1 in_ (sym (ap (λ (x : Mark). x.passed) (kept u c off.0)) ∙ holds))
-          (gone_before slots e f u lt is);
-      changed = λ u p c b w f is ends in_ snap differs. ⊎_elim
-          (λ (same : (u ≡ e.slot) × (f ≡ e)). absurd (let q : ◌≡◌ {A = Option ℕ} None (Some w) = sym (ap (λ (x : Mark). x.snapshot) (fresh u c same.0)) ∙ snap in cc))
-          (λ (off : (u ≡ e.slot → ⊥) × (slot_at slots u ≡ Retired f)).
-          m.changed u p c b w f off.1 (end_before h slots e f u p show le off.1 ends).1 in_ (sym (ap (λ (x : Mark). x.snapshot) (kept u c off.0)) ∙ snap) differs)
-          (gone_before slots e f u lt is);
-      older = λ u c w f is snap. ⊎_elim
-          (λ (same : (u ≡ e.slot) × (f ≡ e)). absurd (let q : ◌≡◌ {A = Option ℕ} None (Some w) = sym (ap (λ (x : Mark). x.snapshot) (fresh u c same.0)) ∙ snap in cc))
-          (λ (off : (u ≡ e.slot → ⊥) × (slot_at slots u ≡ Retired f)). m.older u c w f off.1 (sym (ap (λ (x : Mark). x.snapshot) (kept u c off.0)) ∙ snap))
-          (gone_before slots e f u lt is);
-      left = λ u c b w f is in_ holds snap now. ⊎_elim
-          (λ (same : (u ≡ e.slot) × (f ≡ e)). let q : ◌≡◌ {A = Bool} false true = sym (ap (λ (x : Mark). x.passed) (fresh u c same.0)) ∙ holds in cc)
-          (λ (off : (u ≡ e.slot → ⊥) × (slot_at slots u ≡ Retired f)).
-          m.left u c b w f off.1 in_ (sym (ap (λ (x : Mark). x.passed) (kept u c off.0)) ∙ holds) (sym (ap (λ (x : Mark). x.snapshot) (kept u c off.0)) ∙ snap) now)
-          (gone_before slots e f u lt is);
+      passed = λ u p c b f is ends in_ holds. either (gone_before slots e f u lt is)
+          (λ same. absurd (let q : ◌≡◌ {A = Bool} false true = sym (ap (λ (x : Mark). x.passed) (fresh u c same.0)) ∙ holds in cc))
+          (λ off.
+          m.passed u p c b f off.1 (end_before h slots e f u p show le off.1 ends).1 in_ (sym (ap (λ (x : Mark). x.passed) (kept u c off.0)) ∙ holds));
+      changed = λ u p c b w f is ends in_ snap differs. either (gone_before slots e f u lt is)
+          (λ same. absurd (let q : ◌≡◌ {A = Option ℕ} None (Some w) = sym (ap (λ (x : Mark). x.snapshot) (fresh u c same.0)) ∙ snap in cc))
+          (λ off.
+          m.changed u p c b w f off.1 (end_before h slots e f u p show le off.1 ends).1 in_ (sym (ap (λ (x : Mark). x.snapshot) (kept u c off.0)) ∙ snap) differs);
+      older = λ u c w f is snap. either (gone_before slots e f u lt is)
+          (λ same. absurd (let q : ◌≡◌ {A = Option ℕ} None (Some w) = sym (ap (λ (x : Mark). x.snapshot) (fresh u c same.0)) ∙ snap in cc))
+          (λ off. m.older u c w f off.1 (sym (ap (λ (x : Mark). x.snapshot) (kept u c off.0)) ∙ snap));
+      left = λ u c b w f is in_ holds snap now. either (gone_before slots e f u lt is)
+          (λ same. let q : ◌≡◌ {A = Bool} false true = sym (ap (λ (x : Mark). x.passed) (fresh u c same.0)) ∙ holds in cc)
+          (λ off.
+          m.left u c b w f off.1 in_ (sym (ap (λ (x : Mark). x.passed) (kept u c off.0)) ∙ holds) (sym (ap (λ (x : Mark). x.snapshot) (kept u c off.0)) ∙ snap) now);
     }
-
--- one place of one row is written
-pub row_cases : {X : Type 0} (d : X) (rows : List (List X)) (t c : ℕ) (m : X) (u j : ℕ)
-    → ((u ≡ t) × (j ≡ c) × (get_or (get_or (set rows t (set (get_or rows t []) c m)) u []) j d ≡ m)) ⊎ (get_or (get_or (set rows t (set (get_or rows t []) c m)) u []) j d ≡ get_or (get_or rows u []) j d)
-row_cases {X} d rows t c m u j = cell_cases d rows t c m u j
 
 -- A mark is written that says no more than is so.
 pub marks_write : (h : List Change) (slots : List Slot) (marks : List (List Mark)) (section : List ℕ) (begins : List (Option ℕ)) (t c : ℕ) (m : Mark)
@@ -71,32 +63,15 @@ pub marks_write : (h : List Change) (slots : List Slot) (marks : List (List Mark
     → ((b w : ℕ) (e : Entry) → slot_at slots t ≡ Retired e → get_or begins c None ≡ Some b → m.passed ≡ true → m.snapshot ≡ Some w → get_or section c 0 ≡ w → ⊥)
     → MarksHold h slots marks section begins → MarksHold h slots (set marks t (set (get_or marks t []) c m)) section begins
 marks_write h slots marks section begins t c m passes changes olds lefts was = record {
-  passed = λ u p j b e is ends in_ holds. ⊎_elim
-      (λ (same : (u ≡ t) × (j ≡ c) × (mark_at (set marks t (set (get_or marks t []) c m)) u j ≡ m)).
-      passes p b e (ap (slot_at slots) (sym same.0) ∙ is) ends (ap (λ (k : ℕ). get_or begins k None) (sym same.1) ∙ in_) (ap (λ (x : Mark). x.passed) (sym same.2) ∙ holds))
-      (λ (old : mark_at (set marks t (set (get_or marks t []) c m)) u j ≡ mark_at marks u j).
-      was.passed u p j b e is ends in_ (ap (λ (x : Mark). x.passed) (sym old) ∙ holds))
-      (row_cases no_mark marks t c m u j);
-  changed = λ u p j b w e is ends in_ snap differs. ⊎_elim
-      (λ (same : (u ≡ t) × (j ≡ c) × (mark_at (set marks t (set (get_or marks t []) c m)) u j ≡ m)).
-      changes p b w e (ap (slot_at slots) (sym same.0) ∙ is) ends (ap (λ (k : ℕ). get_or begins k None) (sym same.1) ∙ in_) (ap (λ (x : Mark). x.snapshot) (sym same.2) ∙ snap)
-      (λ x. differs (ap (λ (k : ℕ). get_or section k 0) same.1 ∙ x)))
-      (λ (old : mark_at (set marks t (set (get_or marks t []) c m)) u j ≡ mark_at marks u j).
-      was.changed u p j b w e is ends in_ (ap (λ (x : Mark). x.snapshot) (sym old) ∙ snap) differs)
-      (row_cases no_mark marks t c m u j);
-  older = λ u j w e is snap. ⊎_elim
-      (λ (same : (u ≡ t) × (j ≡ c) × (mark_at (set marks t (set (get_or marks t []) c m)) u j ≡ m)).
-      let word : get_or section j 0 ≡ get_or section c 0 = ap (λ (k : ℕ). get_or section k 0) same.1 in
-      omega (arith, olds w e (ap (slot_at slots) (sym same.0) ∙ is) (ap (λ (x : Mark). x.snapshot) (sym same.2) ∙ snap)))
-      (λ (old : mark_at (set marks t (set (get_or marks t []) c m)) u j ≡ mark_at marks u j). was.older u j w e is (ap (λ (x : Mark). x.snapshot) (sym old) ∙ snap))
-      (row_cases no_mark marks t c m u j);
-  left = λ u j b w e is in_ holds snap now. ⊎_elim
-      (λ (same : (u ≡ t) × (j ≡ c) × (mark_at (set marks t (set (get_or marks t []) c m)) u j ≡ m)).
-      lefts b w e (ap (slot_at slots) (sym same.0) ∙ is) (ap (λ (k : ℕ). get_or begins k None) (sym same.1) ∙ in_) (ap (λ (x : Mark). x.passed) (sym same.2) ∙ holds)
-      (ap (λ (x : Mark). x.snapshot) (sym same.2) ∙ snap) (ap (λ (k : ℕ). get_or section k 0) (sym same.1) ∙ now))
-      (λ (old : mark_at (set marks t (set (get_or marks t []) c m)) u j ≡ mark_at marks u j).
-      was.left u j b w e is in_ (ap (λ (x : Mark). x.passed) (sym old) ∙ holds) (ap (λ (x : Mark). x.snapshot) (sym old) ∙ snap) now)
-      (row_cases no_mark marks t c m u j);
+  passed = λ u p j b e. cell_put no_mark marks t c m (λ v i x. slot_at slots v ≡ Retired e → EndsAt h e.number p → get_or begins i None ≡ Some b → x.passed ≡ true → p ≤ b) u j
+      (passes p b e) (was.passed u p j b e);
+  changed = λ u p j b w e. cell_put no_mark marks t c m
+      (λ v i x. slot_at slots v ≡ Retired e → EndsAt h e.number p → get_or begins i None ≡ Some b → x.snapshot ≡ Some w → (get_or section i 0 ≡ w → ⊥) → p ≤ b) u j
+      (changes p b w e) (was.changed u p j b w e);
+  older = λ u j w e. cell_put no_mark marks t c m (λ v i x. slot_at slots v ≡ Retired e → x.snapshot ≡ Some w → w ≤ get_or section i 0) u j (olds w e) (was.older u j w e);
+  left = λ u j b w e. cell_put no_mark marks t c m
+      (λ v i x. slot_at slots v ≡ Retired e → get_or begins i None ≡ Some b → x.passed ≡ true → x.snapshot ≡ Some w → get_or section i 0 ≡ w → ⊥) u j
+      (lefts b w e) (was.left u j b w e);
 }
 
 -- the snapshot is the word itself
@@ -117,92 +92,64 @@ changed_word (Some v) w holds = (v, refl, λ same. let q : ◌≡◌ {A = Bool} 
 pub marks_look : (z : Settings) (h : List Change) (slots : List Slot) (marks : List (List Mark)) (section : List ℕ) (begins : List (Option ℕ)) (depths seen : List ℕ) (t c : ℕ) → SectionsShow z h section begins depths seen
     → MarksHold h slots marks section begins → MarksHold h slots (set marks t (set (get_or marks t []) c (mark_after_look (mark_at marks t c) (get_or section c 0)))) section begins
 marks_look z h slots marks section begins depths seen t c shown was = marks_write h slots marks section begins t c (mark_after_look (mark_at marks t c) (get_or section c 0))
-    (λ p b e is ends in_ holds. ⊎_elim
-    (λ (before : (mark_at marks t c).passed ≡ true). was.passed t p c b e is ends in_ before)
-    (λ (now : (is_even (get_or section c 0) || has_changed (mark_at marks t c).snapshot (get_or section c 0)) ≡ true). ⊎_elim
-    (λ (even : is_even (get_or section c 0) ≡ true). absurd (omega (arith, eqb-true (get_or section c 0 % 2) 0 even, (shown.inside c b in_).0)))
-    (λ (changed : has_changed (mark_at marks t c).snapshot (get_or section c 0) ≡ true).
+    (λ p b e is ends in_ holds. either (or_cases (mark_at marks t c).passed (is_even (get_or section c 0) || has_changed (mark_at marks t c).snapshot (get_or section c 0)) holds)
+    (λ before. was.passed t p c b e is ends in_ before)
+    (λ now. either (or_cases (is_even (get_or section c 0)) (has_changed (mark_at marks t c).snapshot (get_or section c 0)) now)
+    (λ even. absurd (omega (arith, eqb-true (get_or section c 0 % 2) 0 even, (shown.inside c b in_).0)))
+    (λ changed.
     let w = changed_word (mark_at marks t c).snapshot (get_or section c 0) changed in
-    was.changed t p c b w.0 e is ends in_ w.1 w.2)
-    (or_cases (is_even (get_or section c 0)) (has_changed (mark_at marks t c).snapshot (get_or section c 0)) now))
-    (or_cases (mark_at marks t c).passed (is_even (get_or section c 0) || has_changed (mark_at marks t c).snapshot (get_or section c 0)) holds))
+    was.changed t p c b w.0 e is ends in_ w.1 w.2)))
     (λ p b w e is ends in_ snap differs. was.changed t p c b w e is ends in_ snap differs)
     (λ w e is snap. was.older t c w e is snap)
-    (λ b x e is in_ holds snap same. ⊎_elim
-    (λ (before : (mark_at marks t c).passed ≡ true). was.left t c b x e is in_ before snap same)
-    (λ (now : (is_even (get_or section c 0) || has_changed (mark_at marks t c).snapshot (get_or section c 0)) ≡ true). ⊎_elim
-    (λ (even : is_even (get_or section c 0) ≡ true). omega (arith, eqb-true (get_or section c 0 % 2) 0 even, (shown.inside c b in_).0))
-    (λ (changed : has_changed (mark_at marks t c).snapshot (get_or section c 0) ≡ true).
+    (λ b x e is in_ holds snap same. either (or_cases (mark_at marks t c).passed (is_even (get_or section c 0) || has_changed (mark_at marks t c).snapshot (get_or section c 0)) holds)
+    (λ before. was.left t c b x e is in_ before snap same)
+    (λ now. either (or_cases (is_even (get_or section c 0)) (has_changed (mark_at marks t c).snapshot (get_or section c 0)) now)
+    (λ even. omega (arith, eqb-true (get_or section c 0 % 2) 0 even, (shown.inside c b in_).0))
+    (λ changed.
     let w = changed_word (mark_at marks t c).snapshot (get_or section c 0) changed in
-    w.2 (same ∙ same_Some x w.0 (sym snap ∙ w.1)))
-    (or_cases (is_even (get_or section c 0)) (has_changed (mark_at marks t c).snapshot (get_or section c 0)) now))
-    (or_cases (mark_at marks t c).passed (is_even (get_or section c 0) || has_changed (mark_at marks t c).snapshot (get_or section c 0)) holds))
+    w.2 (same ∙ same_Some x w.0 (sym snap ∙ w.1)))))
     was
 
 -- Snapshots: a fresh row of marks has none, and all are due.
 pub snapshots_detach : (cpus : ℕ) (slots : List Slot) (marks : List (List Mark)) (e : Entry) (n : ℕ) → e.slot < length slots → SnapshotsStand cpus slots marks Rest
     → SnapshotsStand cpus (set slots e.slot (Retired e)) (set marks e.slot (replicate n no_mark)) (Snapshots e.slot 0)
-snapshots_detach cpus slots marks e n lt stand u c f is low later = ⊎_elim
-    (λ (same : (u ≡ e.slot) × (f ≡ e)). absurd (later (0, ap (λ (k : ℕ). Snapshots k 0) (sym same.0), omega arith)))
-    (λ (off : (u ≡ e.slot → ⊥) × (slot_at slots u ≡ Retired f)).
+snapshots_detach cpus slots marks e n lt stand u c f is low later = either (gone_before slots e f u lt is)
+    (λ same. absurd (later (0, ap (λ (k : ℕ). Snapshots k 0) (sym same.0), omega arith)))
+    (λ off.
     let was = stand u c f off.1 low (λ due. let q : Rest ≡ Snapshots u due.0 = due.1 in cc) in
     (was.0, ap (λ (r : List Mark). (get_or r c no_mark).snapshot) (get_or-set_other marks e.slot u (replicate n no_mark) [] off.0) ∙ was.1))
-    (gone_before slots e f u lt is)
 
 -- the snapshot that was due is taken, and the next one is due
 pub snapshots_taken : (cpus : ℕ) (slots : List Slot) (marks : List (List Mark)) (t c w : ℕ) → t < length marks → c < length (get_or marks t []) → SnapshotsStand cpus slots marks (Snapshots t c)
     → SnapshotsStand cpus slots (set marks t (set (get_or marks t []) c (snapshot_mark w))) (if nat_lt (c + 1) cpus then Snapshots t (c + 1) else Rest)
-snapshots_taken cpus slots marks t c w lt cl stand u j e is low later = ⊎_elim
-    (λ (new : (u ≡ t) × (j ≡ c) × (mark_at (set marks t (set (get_or marks t []) c (snapshot_mark w))) u j ≡ snapshot_mark w)). (w, ap (λ (m : Mark). m.snapshot) new.2))
-    (λ (old : mark_at (set marks t (set (get_or marks t []) c (snapshot_mark w))) u j ≡ mark_at marks u j).
-    ⊎_elim
-    (λ (here : (u ≡ t) × (j ≡ c)). (
-      w,
-      ap (λ (k : ℕ). (mark_at (set marks t (set (get_or marks t []) c (snapshot_mark w))) k j).snapshot) here.0
-          ∙ (ap (λ (k : ℕ). (mark_at (set marks t (set (get_or marks t []) c (snapshot_mark w))) t k).snapshot) here.1 ∙ ap (λ (m : Mark). m.snapshot) (cell_here no_mark marks t c (snapshot_mark w) lt cl)),
-    ))
-    (λ (off : (u ≡ t) × (j ≡ c) → ⊥).
+snapshots_taken cpus slots marks t c w lt cl stand u j e is low later =
+    by_cell (λ v i. (x : ℕ) × ((mark_at (set marks t (set (get_or marks t []) c (snapshot_mark w))) v i).snapshot ≡ Some x)) t c u j
+    (w, ap (λ (m : Mark). m.snapshot) (cell_here no_mark marks t c (snapshot_mark w) lt cl))
+    (λ off.
     let was = stand u j e is low (λ due. later_due off due) in
-    (was.0, ap (λ (m : Mark). m.snapshot) old ∙ was.1))
-    pair_cases)
-    (row_cases no_mark marks t c (snapshot_mark w) u j)
+    (was.0, ap (λ (m : Mark). m.snapshot) (cell_other no_mark marks t c (snapshot_mark w) u j off) ∙ was.1))
   where
-    pair_cases : ((u ≡ t) × (j ≡ c)) ⊎ ((u ≡ t) × (j ≡ c) → ⊥)
-    pair_cases = ⊎_elim
-        (λ (x : u ≡ t). ⊎_elim (λ (y : j ≡ c). inl (x, y)) (λ (y : j ≡ c → ⊥). inr (λ p. y p.1)) (cases_eq j c))
-        (λ (x : u ≡ t → ⊥). inr (λ p. x p.0))
-        (cases_eq u t)
-
-    later_due : ((u ≡ t) × (j ≡ c) → ⊥) → IsSnapshotDue (Snapshots t c) u j → ⊥
+    later_due : (u ≡ t → j ≡ c → ⊥) → IsSnapshotDue (Snapshots t c) u j → ⊥
     later_due off due =
         let q : Snapshots t c ≡ Snapshots u due.0 = due.1 in
         let slot : t ≡ u = cc in
         let first : c ≡ due.0 = cc in
-        let apart : j ≢ c = λ same. off (sym slot, same) in
+        let apart : j ≢ c = λ same. off (sym slot) same in
         let more : c + 1 < cpus = omega (arith, due.2, apart, first, low) in
         later (c + 1, ap (λ (b : Bool). if b then Snapshots t (c + 1) else Rest) (lt-ltb (c + 1) cpus more) ∙ ap (λ (k : ℕ). Snapshots k (c + 1)) slot, omega (arith, due.2, apart, first))
-
--- what is due changes, and no snapshot that was due is taken for done
-pub snapshots_due : (cpus : ℕ) (slots : List Slot) (marks : List (List Mark)) (due now : Due) → ((t c : ℕ) → IsSnapshotDue due t c → IsSnapshotDue now t c) → SnapshotsStand cpus slots marks due → SnapshotsStand cpus slots marks now
-snapshots_due cpus slots marks due now still stand t c e is low later = stand t c e is low (λ d. later (still t c d))
 
 -- a mark is written that keeps its snapshot
 pub snapshots_marked : (cpus : ℕ) (slots : List Slot) (marks : List (List Mark)) (due : Due) (t c : ℕ) (m : Mark) → m.snapshot ≡ (mark_at marks t c).snapshot → SnapshotsStand cpus slots marks due
     → SnapshotsStand cpus slots (set marks t (set (get_or marks t []) c m)) due
 snapshots_marked cpus slots marks due t c m same stand u j e is low later =
-    let was = stand u j e is low later in
-    ⊎_elim
-    (λ (new : (u ≡ t) × (j ≡ c) × (mark_at (set marks t (set (get_or marks t []) c m)) u j ≡ m)).
-    (was.0, ap (λ (x : Mark). x.snapshot) new.2 ∙ (same ∙ (ap (λ (k : ℕ). (mark_at marks k c).snapshot) (sym new.0) ∙ (ap (λ (k : ℕ). (mark_at marks u k).snapshot) (sym new.1) ∙ was.1)))))
-    (λ (old : mark_at (set marks t (set (get_or marks t []) c m)) u j ≡ mark_at marks u j). (was.0, ap (λ (x : Mark). x.snapshot) old ∙ was.1))
-    (row_cases no_mark marks t c m u j)
+    cell_put no_mark marks t c m (λ v i x. v ≡ u → i ≡ j → (w : ℕ) × (x.snapshot ≡ Some w)) u j
+    (λ there here. let was = stand u j e is low later in
+    (was.0, same ∙ (ap (λ (k : ℕ). (mark_at marks k c).snapshot) there ∙ (ap (λ (k : ℕ). (mark_at marks u k).snapshot) here ∙ was.1))))
+    (λ _ _. stand u j e is low later) refl refl
 
 -- A slot becomes vacant.
 pub vacated_before : (slots : List Slot) (t u : ℕ) (f : Entry) → t < length slots → IsIn f (slot_at (set slots t Vacant) u) → (u ≡ t → ⊥) × (slot_at (set slots t Vacant) u ≡ slot_at slots u)
-vacated_before slots t u f lt is = ⊎_elim
-    (λ (same : (u ≡ t) × (slot_at (set slots t Vacant) u ≡ Vacant)). absurd (not_vacant f (slot_at (set slots t Vacant) u) same.1 is))
-    (λ (off : (u ≡ t → ⊥) × (slot_at (set slots t Vacant) u ≡ slot_at slots u)). off)
-    (slot_cases slots t Vacant u lt)
+vacated_before slots t u f lt is = either (slot_cases slots t Vacant u lt) (λ same. absurd (not_vacant f (slot_at (set slots t Vacant) u) same.1 is)) (λ off. off)
 
 pub slots_vacate : (h : List Change) (slots : List Slot) (t : ℕ) (e : Entry) → t < length slots → slot_at slots t ≡ Retired e → SlotsShow h slots → SlotsShow h (set slots t Vacant)
 slots_vacate h slots t e lt at show = record {
@@ -236,18 +183,16 @@ pub held_vacate : (h : List Change) (slots : List Slot) (marks : List (List Mark
     → ((c b : ℕ) → get_or begins c None ≡ Some b → (mark_at marks t c).passed ≡ true) → MarksHold h slots marks section begins → HeldStay h slots begins → HeldStay h (set slots t Vacant) begins
 held_vacate h slots marks section begins t e lt at show all m held c b f is hold =
     let was : IsIn f (slot_at slots f.slot) = held c b f is hold in
-    ⊎_elim
-    (λ (same : (f.slot ≡ t) × (slot_at (set slots t Vacant) f.slot ≡ Vacant)).
+    either (slot_cases slots t Vacant f.slot lt)
+    (λ same.
     let there : slot_at slots f.slot ≡ Retired e = ap (slot_at slots) same.0 ∙ at in
-    absurd (⊎_elim
-    (λ (live : slot_at slots f.slot ≡ Live f). let q : Live f ≡ Retired e = sym live ∙ there in cc)
-    (λ (gone : slot_at slots f.slot ≡ Retired f).
+    absurd (either was
+    (λ live. let q : Live f ≡ Retired e = sym live ∙ there in cc)
+    (λ gone.
     let end = (show.retired f.slot f gone).2 in
     let here : slot_at slots t ≡ Retired f = ap (slot_at slots) (sym same.0) ∙ gone in
-    omega (arith, m.passed t end.0 c b f here end.1 is (all c b is), hold.unended end.0 end.1))
-    was))
-    (λ (off : (f.slot ≡ t → ⊥) × (slot_at (set slots t Vacant) f.slot ≡ slot_at slots f.slot)). subst (IsIn f) (sym off.1) was)
-    (slot_cases slots t Vacant f.slot lt)
+    omega (arith, m.passed t end.0 c b f here end.1 is (all c b is), hold.unended end.0 end.1))))
+    (λ off. subst (IsIn f) (sym off.1) was)
 
 -- what a test passes of each of the first n
 pub list_all_within : {X : Type 0} (p : X → Bool) (xs : List X) (n i : ℕ) (d : X) → list_all p (take n xs) ≡ true → i < n → i < length xs → p (get_or xs i d) ≡ true

@@ -1,8 +1,8 @@
 -- Passive references and the marks that tell that there is none.
-use Rattle.std.proofs.Common.{Bool, List, None, Option, Some, [], ap, arith, false, get_or, get_or-set_other, get_or-set_same, inr, length, refl, replicate, set, subst, sym, true, ℕ, ⊎_elim, ◌<◌, ◌∙◌, ◌≡◌, ◌≤◌, ◌⊎◌}
+use Rattle.std.proofs.Common.{Bool, List, None, Option, Some, [], ap, arith, false, get_or, get_or-set_other, get_or-set_same, inr, length, refl, replicate, set, subst, sym, true, ℕ, ◌<◌, ◌∙◌, ◌≡◌, ◌≤◌}
 use Rattle.std.proofs.lemmas.Bool.{cases_lt, eqb-true}
 use Rattle.protocol.proofs.history.History.{one_entry}
-use Rattle.protocol.proofs.keeps.Marking.{row_cases, vacated_before}
+use Rattle.protocol.proofs.keeps.Marking.{vacated_before}
 use Rattle.protocol.proofs.keeps.Publishing.{retired_before}
 use Rattle.protocol.proofs.keeps.Unlinking.{gone_before}
 use Rattle.protocol.specs.Events.{is_number}
@@ -16,15 +16,12 @@ use Rattle.registry_values.specs.declared.entry.Entry.{Entry}
 use Rattle.registry_values.specs.declared.mark.Mark.{Mark}
 use Rattle.registry_values.specs.declared.slot.Slot.{Slot}
 use Rattle.registry_values.specs.declared.slot.Slot.TheVariants.{Live, Retired, Vacant}
-use Rattle.protocol.proofs.slots.Occupied.{slot_cases}
-use Rattle.protocol.proofs.slots.Cells.{get_or_all}
+use Rattle.protocol.proofs.slots.Cells.{cell_put, get_or_all, place_in}
+use Rattle.protocol.proofs.Either.{either}
 
 pub passive_attach : (cpus limit : ℕ) (slots : List Slot) (marks : List (List Mark)) (passive : List (List ℕ)) (e : Entry) → e.slot < length slots → PassiveShow cpus limit slots marks passive → PassiveShow cpus limit (set slots e.slot (Live e)) marks passive
 passive_attach cpus limit slots marks passive e lt p = record {
-  vacant = λ c u is. ⊎_elim
-      (λ (same : (u ≡ e.slot) × (slot_at (set slots e.slot (Live e)) u ≡ Live e)). absurd (let q : Vacant ≡ Live e = sym is ∙ same.1 in cc))
-      (λ (off : (u ≡ e.slot → ⊥) × (slot_at (set slots e.slot (Live e)) u ≡ slot_at slots u)). p.vacant c u (sym off.1 ∙ is))
-      (slot_cases slots e.slot (Live e) u lt);
+  vacant = λ c u. place_in Vacant slots e.slot (Live e) (λ v x. x ≡ Vacant → passive_at passive c v ≡ 0) u lt (λ is. absurd (let q : Live e ≡ Vacant = is in cc)) (λ off. p.vacant c u);
   clear = λ c u f is. p.clear c u f (retired_before slots e u f lt is);
   collected = λ c u f is. p.collected c u f (retired_before slots e u f lt is);
   beyond = p.beyond;
@@ -40,21 +37,16 @@ passive_detach cpus limit slots marks passive e n lt lm p =
     let kept : (u c : ℕ) → (u ≡ e.slot → ⊥) → mark_at (set marks e.slot (replicate n no_mark)) u c ≡ mark_at marks u c = λ u c off.
     ap (λ (r : List Mark). get_or r c no_mark) (get_or-set_other marks e.slot u (replicate n no_mark) [] off) in
     record {
-      vacant = λ c u is. ⊎_elim
-          (λ (same : (u ≡ e.slot) × (slot_at (set slots e.slot (Retired e)) u ≡ Retired e)). absurd (let q : Vacant ≡ Retired e = sym is ∙ same.1 in cc))
-          (λ (off : (u ≡ e.slot → ⊥) × (slot_at (set slots e.slot (Retired e)) u ≡ slot_at slots u)). p.vacant c u (sym off.1 ∙ is))
-          (slot_cases slots e.slot (Retired e) u lt);
-      clear = λ c u f is holds. ⊎_elim
-          (λ (same : (u ≡ e.slot) × (f ≡ e)). absurd (let q : ◌≡◌ {A = Bool} false true = sym (ap (λ (x : Mark). x.clear) (fresh u c same.0)) ∙ holds in cc))
-          (λ (off : (u ≡ e.slot → ⊥) × (slot_at slots u ≡ Retired f)).
+      vacant = λ c u. place_in Vacant slots e.slot (Retired e) (λ v x. x ≡ Vacant → passive_at passive c v ≡ 0) u lt (λ is. absurd (let q : Retired e ≡ Vacant = is in cc)) (λ off. p.vacant c u);
+      clear = λ c u f is holds. either (gone_before slots e f u lt is)
+          (λ same. absurd (let q : ◌≡◌ {A = Bool} false true = sym (ap (λ (x : Mark). x.clear) (fresh u c same.0)) ∙ holds in cc))
+          (λ off.
           let was = p.clear c u f off.1 (sym (ap (λ (x : Mark). x.clear) (kept u c off.0)) ∙ holds) in
-          (ap (λ (x : Mark). x.passed) (kept u c off.0) ∙ was.0, was.1))
-          (gone_before slots e f u lt is);
-      collected = λ c u f is holds. ⊎_elim
-          (λ (same : (u ≡ e.slot) × (f ≡ e)). absurd (let q : ◌≡◌ {A = Bool} false true = sym (ap (λ (x : Mark). x.collected) (fresh u c same.0)) ∙ holds in cc))
-          (λ (off : (u ≡ e.slot → ⊥) × (slot_at slots u ≡ Retired f)).
-          ap (λ (x : Mark). x.clear) (kept u c off.0) ∙ p.collected c u f off.1 (sym (ap (λ (x : Mark). x.collected) (kept u c off.0)) ∙ holds))
-          (gone_before slots e f u lt is);
+          (ap (λ (x : Mark). x.passed) (kept u c off.0) ∙ was.0, was.1));
+      collected = λ c u f is holds. either (gone_before slots e f u lt is)
+          (λ same. absurd (let q : ◌≡◌ {A = Bool} false true = sym (ap (λ (x : Mark). x.collected) (fresh u c same.0)) ∙ holds in cc))
+          (λ off.
+          ap (λ (x : Mark). x.clear) (kept u c off.0) ∙ p.collected c u f off.1 (sym (ap (λ (x : Mark). x.collected) (kept u c off.0)) ∙ holds));
       beyond = p.beyond;
       limited = p.limited;
     }
@@ -66,20 +58,8 @@ pub passive_marked : (cpus limit : ℕ) (slots : List Slot) (marks : List (List 
     → PassiveShow cpus limit slots marks passive → PassiveShow cpus limit slots (set marks t (set (get_or marks t []) c m)) passive
 passive_marked cpus limit slots marks passive t c m says collects p = record {
   vacant = p.vacant;
-  clear = λ j u f is holds. ⊎_elim
-      (λ (same : (u ≡ t) × (j ≡ c) × (mark_at (set marks t (set (get_or marks t []) c m)) u j ≡ m)).
-      let now = says f (ap (slot_at slots) (sym same.0) ∙ is) (ap (λ (x : Mark). x.clear) (sym same.2) ∙ holds) in
-      (ap (λ (x : Mark). x.passed) same.2 ∙ now.0, ap (λ (k : ℕ). passive_at passive k u) same.1 ∙ (ap (passive_at passive c) same.0 ∙ now.1)))
-      (λ (old : mark_at (set marks t (set (get_or marks t []) c m)) u j ≡ mark_at marks u j).
-      let was = p.clear j u f is (ap (λ (x : Mark). x.clear) (sym old) ∙ holds) in
-      (ap (λ (x : Mark). x.passed) old ∙ was.0, was.1))
-      (row_cases no_mark marks t c m u j);
-  collected = λ j u f is holds. ⊎_elim
-      (λ (same : (u ≡ t) × (j ≡ c) × (mark_at (set marks t (set (get_or marks t []) c m)) u j ≡ m)).
-      ap (λ (x : Mark). x.clear) same.2 ∙ collects f (ap (slot_at slots) (sym same.0) ∙ is) (ap (λ (x : Mark). x.collected) (sym same.2) ∙ holds))
-      (λ (old : mark_at (set marks t (set (get_or marks t []) c m)) u j ≡ mark_at marks u j).
-      ap (λ (x : Mark). x.clear) old ∙ p.collected j u f is (ap (λ (x : Mark). x.collected) (sym old) ∙ holds))
-      (row_cases no_mark marks t c m u j);
+  clear = λ j u f. cell_put no_mark marks t c m (λ v i x. slot_at slots v ≡ Retired f → x.clear ≡ true → (x.passed ≡ true) × (passive_at passive i v ≡ 0)) u j (says f) (p.clear j u f);
+  collected = λ j u f. cell_put no_mark marks t c m (λ v i x. slot_at slots v ≡ Retired f → x.collected ≡ true → x.clear ≡ true) u j (collects f) (p.collected j u f);
   beyond = p.beyond;
   limited = p.limited;
 }
@@ -88,41 +68,21 @@ passive_marked cpus limit slots marks passive t c m says collects p = record {
 pub passive_counted : (cpus limit : ℕ) (slots : List Slot) (marks : List (List Mark)) (passive : List (List ℕ)) (c t n : ℕ) → c < cpus → n ≤ limit → (slot_at slots t ≡ Vacant → ⊥)
     → ((e : Entry) → slot_at slots t ≡ Retired e → (mark_at marks t c).clear ≡ true → ⊥)
     → PassiveShow cpus limit slots marks passive → PassiveShow cpus limit slots marks (set passive t (set (get_or passive t []) c n))
-passive_counted cpus limit slots marks passive c t n lt fits full open_ p =
-    let cases : (j u : ℕ) → ((u ≡ t) × (j ≡ c) × (passive_at (set passive t (set (get_or passive t []) c n)) j u ≡ n)) ⊎ (passive_at (set passive t (set (get_or passive t []) c n)) j u ≡ passive_at passive j u)
-    = λ j u. row_cases 0 passive t c n u j in
-    record {
-      vacant = λ j u is. ⊎_elim
-          (λ (same : (u ≡ t) × (j ≡ c) × (passive_at (set passive t (set (get_or passive t []) c n)) j u ≡ n)). absurd (full (ap (slot_at slots) (sym same.0) ∙ is)))
-          (λ (old : passive_at (set passive t (set (get_or passive t []) c n)) j u ≡ passive_at passive j u). old ∙ p.vacant j u is)
-          (cases j u);
-      clear = λ j u f is holds. ⊎_elim
-          (λ (same : (u ≡ t) × (j ≡ c) × (passive_at (set passive t (set (get_or passive t []) c n)) j u ≡ n)).
-          absurd (open_ f (ap (slot_at slots) (sym same.0) ∙ is) (ap (λ (k : ℕ). (mark_at marks k c).clear) (sym same.0) ∙ (ap (λ (k : ℕ). (mark_at marks u k).clear) (sym same.1) ∙ holds))))
-          (λ (old : passive_at (set passive t (set (get_or passive t []) c n)) j u ≡ passive_at passive j u).
-          let was = p.clear j u f is holds in (was.0, old ∙ was.1))
-          (cases j u);
-      collected = p.collected;
-      beyond = λ j u past. ⊎_elim
-          (λ (same : (u ≡ t) × (j ≡ c) × (passive_at (set passive t (set (get_or passive t []) c n)) j u ≡ n)). absurd (omega (arith, same.1)))
-          (λ (old : passive_at (set passive t (set (get_or passive t []) c n)) j u ≡ passive_at passive j u). old ∙ p.beyond j u past)
-          (cases j u);
-      limited = λ j u. ⊎_elim
-          (λ (same : (u ≡ t) × (j ≡ c) × (passive_at (set passive t (set (get_or passive t []) c n)) j u ≡ n)). subst (λ (x : ℕ). x ≤ limit) (sym same.2) fits)
-          (λ (old : passive_at (set passive t (set (get_or passive t []) c n)) j u ≡ passive_at passive j u). subst (λ (x : ℕ). x ≤ limit) (sym old) (p.limited j u))
-          (cases j u);
-    }
+passive_counted cpus limit slots marks passive c t n lt fits full open_ p = record {
+  vacant = λ j u. cell_put 0 passive t c n (λ v i x. slot_at slots v ≡ Vacant → x ≡ 0) u j (λ is. absurd (full is)) (p.vacant j u);
+  clear = λ j u f. cell_put 0 passive t c n (λ v i x. slot_at slots v ≡ Retired f → (mark_at marks v i).clear ≡ true → ((mark_at marks v i).passed ≡ true) × (x ≡ 0)) u j
+      (λ is holds. absurd (open_ f is holds)) (p.clear j u f);
+  collected = p.collected;
+  beyond = λ j u. cell_put 0 passive t c n (λ v i x. cpus ≤ i → x ≡ 0) u j (λ past. absurd (omega (arith, past, lt))) (p.beyond j u);
+  limited = λ j u. cell_put 0 passive t c n (λ v i x. x ≤ limit) u j fits (p.limited j u);
+}
 
 pub passive_vacate : (cpus limit : ℕ) (slots : List Slot) (marks : List (List Mark)) (passive : List (List ℕ)) (t : ℕ) (e : Entry) → t < length slots → slot_at slots t ≡ Retired e
     → ((c : ℕ) → c < cpus → (mark_at marks t c).clear ≡ true) → PassiveShow cpus limit slots marks passive → PassiveShow cpus limit (set slots t Vacant) marks passive
 passive_vacate cpus limit slots marks passive t e lt at all p = record {
-  vacant = λ c u is. ⊎_elim
-      (λ (same : (u ≡ t) × (slot_at (set slots t Vacant) u ≡ Vacant)). ap (passive_at passive c) same.0 ∙ ⊎_elim
-      (λ (in_ : c < cpus). (p.clear c t e at (all c in_)).1)
-      (λ (out : cpus ≤ c). p.beyond c t out)
-      (cases_lt c cpus))
-      (λ (off : (u ≡ t → ⊥) × (slot_at (set slots t Vacant) u ≡ slot_at slots u)). p.vacant c u (sym off.1 ∙ is))
-      (slot_cases slots t Vacant u lt);
+  vacant = λ c u. place_in Vacant slots t Vacant (λ v x. x ≡ Vacant → passive_at passive c v ≡ 0) u lt
+      (λ _. either (cases_lt c cpus) (λ in_. (p.clear c t e at (all c in_)).1) (λ out. p.beyond c t out))
+      (λ off. p.vacant c u);
   clear = λ c u f is. p.clear c u f (sym (vacated_before slots t u f lt (inr is)).1 ∙ is);
   collected = λ c u f is. p.collected c u f (sym (vacated_before slots t u f lt (inr is)).1 ∙ is);
   beyond = p.beyond;

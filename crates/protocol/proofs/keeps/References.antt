@@ -1,5 +1,5 @@
 -- Each event keeps what is so of local references: places, hands, and what the keeper must do next.
-use Rattle.std.proofs.Common.{◌≡◌, ℕ, ◌+◌, ◌<◌, ◌≤◌, ◌==◌, ◌⊎◌, inl, inr, ⊎_elim, List, [], ◌∷◌, ◌++◌, length, get_or, set, replicate, nat_lt, if◌then◌else◌, Bool, true, false, Option, Some, None, position, refl, sym, ap, subst, ◌∙◌, arith, length-set, get_or-set_same, get_or-set_other}
+use Rattle.std.proofs.Common.{◌≡◌, ℕ, ◌+◌, ◌<◌, ◌≤◌, ◌==◌, ◌⊎◌, inl, inr, List, [], ◌∷◌, ◌++◌, length, get_or, set, replicate, nat_lt, if◌then◌else◌, Bool, true, false, Option, Some, None, position, refl, sym, ap, subst, ◌∙◌, arith, length-set, get_or-set_same, get_or-set_other}
 use Rattle.std.proofs.lemmas.List.{get_or_past, get_or_append_left, get_or_push, length_push}
 use Rattle.std.proofs.lemmas.List.Quantifiers.{position-Some}
 use Rattle.std.proofs.lemmas.Bool.{cases_lt, cases_eq, and_parts, eqb-true, cond_both, ltb-true, ltb-false}
@@ -20,6 +20,7 @@ use Rattle.protocol.specs.Invariant.{Occupies, held_at, HandHolds, DueHolds, Ref
 use Rattle.protocol.proofs.slots.Occupied.{place_cases, place_within, written_cases, in_within, occupies_publish, occupies_unpublish, occupies_vacate}
 use Rattle.protocol.proofs.counts.HeldSums.{number_of, Unreferred, unreferred}
 use Rattle.protocol.proofs.slots.Cells.{get_or_all}
+use Rattle.protocol.proofs.Either.{either}
 
 -- Slots change, places and hands stay.
 
@@ -129,19 +130,16 @@ pub references_hand : (cpus : ℕ) (slots : List Slot) (hands : List Hand) (due 
     → ReferencesHold cpus slots hands due locals → ReferencesHold cpus slots (set hands c h) due others
 references_hand cpus slots hands due locals others c h placed leaves holds refer = record {
   standing = placed;
-  in_hands = λ d. ⊎_elim
-      (λ (lt : c < length hands). ⊎_elim
-      (λ (same : (d ≡ c) × (get_or (set hands c h) d Empty ≡ h)).
+  in_hands = λ d. either (cases_lt c (length hands))
+      (λ lt. either (place_cases Empty hands c h d lt)
+      (λ same.
       subst (HandHolds slots others d) (sym same.1) (subst (λ (k : ℕ). HandHolds slots others k h) (sym same.0) holds))
-      (λ (off : (d ≡ c → ⊥) × (get_or (set hands c h) d Empty ≡ get_or hands d Empty)).
-      subst (HandHolds slots others d) (sym off.1) (hand_places slots locals others d (get_or hands d Empty) (λ id at. leaves d id off.0 at) (refer.in_hands d)))
-      (place_cases Empty hands c h d lt))
-      (λ (ge : length hands ≤ c). ⊎_elim
-      (λ (same : d ≡ c). subst (HandHolds slots others d) (sym (get_or_past (set hands c h) d Empty (omega (arith, length-set hands c h)))) tt)
-      (λ (off : d ≡ c → ⊥).
-      subst (HandHolds slots others d) (sym (get_or-set_other hands c d h Empty off)) (hand_places slots locals others d (get_or hands d Empty) (λ id at. leaves d id off at) (refer.in_hands d)))
-      (cases_eq d c))
-      (cases_lt c (length hands));
+      (λ off.
+      subst (HandHolds slots others d) (sym off.1) (hand_places slots locals others d (get_or hands d Empty) (λ id at. leaves d id off.0 at) (refer.in_hands d))))
+      (λ ge. either (cases_eq d c)
+      (λ same. subst (HandHolds slots others d) (sym (get_or_past (set hands c h) d Empty (omega (arith, length-set hands c h)))) tt)
+      (λ off.
+      subst (HandHolds slots others d) (sym (get_or-set_other hands c d h Empty off)) (hand_places slots locals others d (get_or hands d Empty) (λ id at. leaves d id off at) (refer.in_hands d))));
   due_at = refer.due_at;
 }
 
@@ -160,10 +158,7 @@ references_places cpus slots hands due next_due locals others placed leaves now 
 -- a place that stands after a write is the one written, or stood before
 standing_set : (slots : List Slot) (locals : List LocalPlace) (id : ℕ) (p : LocalPlace) → ((n : ℕ) → p ≡ Standing n → Occupies slots n) → ((j n : ℕ) → local_at locals j ≡ Standing n → Occupies slots n)
     → (j n : ℕ) → local_at (set locals id p) j ≡ Standing n → Occupies slots n
-standing_set slots locals id p new old j n at = ⊎_elim
-    (λ (here : (j ≡ id) × (local_at (set locals id p) j ≡ p)). new n (sym here.1 ∙ at))
-    (λ (off : ((j ≡ id → ⊥) ⊎ (length locals ≤ id)) × (local_at (set locals id p) j ≡ local_at locals j)). old j n (sym off.1 ∙ at))
-    (written_cases Free locals id p j)
+standing_set slots locals id p new old j n at = either (written_cases Free locals id p j) (λ here. new n (sym here.1 ∙ at)) (λ off. old j n (sym off.1 ∙ at))
 
 -- a place that no CPU but c has lifted is written
 pub set_leaves : (c : ℕ) (locals : List LocalPlace) (id : ℕ) (p : LocalPlace) → ((d : ℕ) → (d ≡ c → ⊥) → local_at locals id ≡ Lifted d → ⊥) → LeavesLifted c locals (set locals id p)
@@ -232,19 +227,17 @@ with_local_same locals id p le = cond_both (nat_lt id (length locals)) (set loca
 pub with_local_other : (locals : List LocalPlace) (id : ℕ) (p : LocalPlace) (j : ℕ) → id ≤ length locals → (j ≡ id → ⊥) → local_at (with_local locals id p) j ≡ local_at locals j
 with_local_other locals id p j le off = cond_both (nat_lt id (length locals)) (set locals id p) (locals ++ p ∷ []) (λ (xs : List LocalPlace). local_at xs j ≡ local_at locals j)
     (λ (below : nat_lt id (length locals) ≡ true). get_or-set_other locals id j p Free off)
-    (λ (past : nat_lt id (length locals) ≡ false). ⊎_elim
-    (λ (lt : j < length locals). get_or_append_left locals (p ∷ []) Free j lt)
-    (λ (ge : length locals ≤ j).
+    (λ (past : nat_lt id (length locals) ≡ false). either (cases_lt j (length locals))
+    (λ lt. get_or_append_left locals (p ∷ []) Free j lt)
+    (λ ge.
     let end : id ≡ length locals = omega (arith, le, ltb-false id (length locals) past) in
-    let gt : length locals < j = ⊎_elim (λ (same : j ≡ length locals). absurd (off (same ∙ sym end))) (λ (no : j ≡ length locals → ⊥). omega arith) (cases_eq j (length locals)) in
-    get_or_past (locals ++ p ∷ []) j Free (omega (arith, gt, length_push locals p)) ∙ sym (get_or_past locals j Free ge))
-    (cases_lt j (length locals)))
+    let gt : length locals < j = either (cases_eq j (length locals)) (λ same. absurd (off (same ∙ sym end))) (λ no. omega arith) in
+    get_or_past (locals ++ p ∷ []) j Free (omega (arith, gt, length_push locals p)) ∙ sym (get_or_past locals j Free ge)))
 
 pub local_cases : (locals : List LocalPlace) (id : ℕ) (p : LocalPlace) (j : ℕ) → id ≤ length locals → ((j ≡ id) × (local_at (with_local locals id p) j ≡ p)) ⊎ ((j ≡ id → ⊥) × (local_at (with_local locals id p) j ≡ local_at locals j))
-local_cases locals id p j le = ⊎_elim
-    (λ (same : j ≡ id). inl (same, ap (local_at (with_local locals id p)) same ∙ with_local_same locals id p le))
-    (λ (off : j ≡ id → ⊥). inr (off, with_local_other locals id p j le off))
-    (cases_eq j id)
+local_cases locals id p j le = either (cases_eq j id)
+    (λ same. inl (same, ap (local_at (with_local locals id p)) same ∙ with_local_same locals id p le))
+    (λ off. inr (off, with_local_other locals id p j le off))
 
 -- a place that was not free stays where another is written at the least id
 pub least_stays : (locals : List LocalPlace) (p q : LocalPlace) (j : ℕ) → (Free ≡ q → ⊥) → local_at locals j ≡ q → local_at (with_local locals (least_id locals) p) j ≡ q
@@ -254,11 +247,10 @@ pub references_split : (cpus : ℕ) (slots : List Slot) (hands : List Hand) (due
     → ReferencesHold cpus slots hands due locals → ReferencesHold cpus slots (set hands c Empty) due (with_local locals (least_id locals) (Standing n))
 references_split cpus slots hands due locals c n hand refer =
     references_hand cpus slots hands due locals (with_local locals (least_id locals) (Standing n)) c Empty
-    (λ j m at. ⊎_elim
-    (λ (here : (j ≡ least_id locals) × (local_at (with_local locals (least_id locals) (Standing n)) j ≡ Standing n)).
+    (λ j m at. either (local_cases locals (least_id locals) (Standing n) j (least_within locals))
+    (λ here.
     stands_still slots n m (taking_occupied cpus slots hands due locals c n hand refer) (sym here.1 ∙ at))
-    (λ (off : (j ≡ least_id locals → ⊥) × (local_at (with_local locals (least_id locals) (Standing n)) j ≡ local_at locals j)). refer.standing j m (sym off.1 ∙ at))
-    (local_cases locals (least_id locals) (Standing n) j (least_within locals)))
+    (λ off. refer.standing j m (sym off.1 ∙ at)))
     (λ d id off at. least_stays locals (Standing n) (Lifted d) id (λ same. let q : Free ≡ Lifted d = same in cc) at)
     tt refer
 
@@ -344,17 +336,7 @@ references_opening cpus slots = record {
 
 -- a CPU whose hand isn't empty has a seat
 pub hand_seated : (cpus seated : ℕ) (begins : List (Option ℕ)) (searches : List (Option Search)) (hands : List Hand) (c : ℕ) → (get_or hands c Empty ≡ Empty → ⊥) → SeatsShow cpus seated begins searches hands → c < seated
-hand_seated cpus seated begins searches hands c off seats = ⊎_elim
-    (λ (lt : c < seated). lt)
-    (λ (ge : seated ≤ c). absurd (off (seats.empty c ge)))
-    (cases_lt c seated)
-
--- a CPU with a search under way has a seat
-pub search_seated : (cpus seated : ℕ) (begins : List (Option ℕ)) (searches : List (Option Search)) (hands : List Hand) (c : ℕ) (q : Search) → get_or searches c None ≡ Some q → SeatsShow cpus seated begins searches hands → c < seated
-search_seated cpus seated begins searches hands c q at seats = ⊎_elim
-    (λ (lt : c < seated). lt)
-    (λ (ge : seated ≤ c). absurd (let p : ◌≡◌ {A = Option Search} (Some q) None = sym at ∙ seats.unsearching c ge in cc))
-    (cases_lt c seated)
+hand_seated cpus seated begins searches hands c off seats = either (cases_lt c seated) (λ lt. lt) (λ ge. absurd (off (seats.empty c ge)))
 
 pub seats_hand : (cpus seated : ℕ) (begins : List (Option ℕ)) (searches : List (Option Search)) (hands : List Hand) (c : ℕ) (h : Hand) → c < seated
     → SeatsShow cpus seated begins searches hands → SeatsShow cpus seated begins searches (set hands c h)
@@ -363,15 +345,6 @@ seats_hand cpus seated begins searches hands c h lt seats = record {
   outside = seats.outside;
   unsearching = seats.unsearching;
   empty = λ d ge. get_or-set_other hands c d h Empty (λ same. omega (arith, lt, ge, same)) ∙ seats.empty d ge;
-}
-
--- one more CPU has its seat
-pub seats_seat : (cpus seated : ℕ) (begins : List (Option ℕ)) (searches : List (Option Search)) (hands : List Hand) (c : ℕ) → c ≡ seated → c < cpus → SeatsShow cpus seated begins searches hands → SeatsShow cpus (c + 1) begins searches hands
-seats_seat cpus seated begins searches hands c is lt seats = record {
-  within = omega arith;
-  outside = λ d ge. seats.outside d (omega arith);
-  unsearching = λ d ge. seats.unsearching d (omega arith);
-  empty = λ d ge. seats.empty d (omega arith);
 }
 
 pub seats_opening : (cpus : ℕ) → SeatsShow cpus 0 (replicate cpus None) (replicate cpus None) (replicate cpus Empty)

@@ -1,5 +1,5 @@
 -- A walk over links: what each load leaves holds, and what ends it is lawful.
-use Rattle.std.proofs.Common.{◌≡◌, ℕ, zero, suc, ◌+◌, ◌*◌, ◌<◌, ◌≤◌, ◌⊎◌, inl, inr, ⊎_elim, List, length, get_or, set, Option, Some, None, Bool, true, false, ◌&&◌, nat_eq, refl, sym, ap, subst, ◌∙◌, arith, get_or-set_same, get_or-set_other, eqb-true}
+use Rattle.std.proofs.Common.{◌≡◌, ℕ, zero, suc, ◌+◌, ◌*◌, ◌<◌, ◌≤◌, ◌⊎◌, inl, inr, List, length, get_or, set, Option, Some, None, Bool, true, false, ◌&&◌, nat_eq, refl, sym, ap, subst, ◌∙◌, arith, get_or-set_same, get_or-set_other, eqb-true}
 use Rattle.std.proofs.lemmas.Option.{same_Some, none-some}
 use Rattle.std.proofs.lemmas.List.{get_or_past}
 use Rattle.std.proofs.lemmas.Bool.{cases_lt, cases_eq, and_parts}
@@ -12,7 +12,6 @@ use Rattle.protocol.specs.declared.event.Reply.{Reply}
 use Rattle.protocol.specs.declared.event.Reply.TheVariants.{Done, Word, Found, Missed, Ref, Collected}
 use Rattle.registry_values.specs.declared.slot.Key.{Key}
 use Rattle.protocol.specs.declared.state.RecordWords.{RecordWords}
-use Rattle.registry_values.specs.declared.slot.Slot.TheVariants.{Live, Retired}
 use Rattle.protocol.specs.declared.state.Loaded.{Loaded}
 use Rattle.protocol.specs.declared.state.Loaded.TheVariants.{On, Over}
 use Rattle.protocol.specs.declared.state.SearchPlace.{SearchPlace}
@@ -27,48 +26,42 @@ use Rattle.protocol.specs.Invariant.{IsIn, SearchHolds, SearchesHold, FoundHold,
 use Rattle.protocol.proofs.history.History.{at_within, one_entry}
 use Rattle.protocol.proofs.history.Lookup.{Ahead, No_more, One_more, step_ahead, all_below_later, found_lawful, missed_lawful, find_exact}
 use Rattle.protocol.proofs.slots.Occupied.{in_within}
+use Rattle.protocol.proofs.Either.{either}
 
 -- a place that shows something is within the list
 pub within_some : {X : Type 0} (xs : List (Option X)) (c : ℕ) (x : X) → get_or xs c None ≡ Some x → c < length xs
-within_some xs c x is = ⊎_elim
-    (λ (lt : c < length xs). lt)
-    (λ (ge : length xs ≤ c). absurd (none-some x (sym (get_or_past xs c None ge) ∙ is)))
-    (cases_lt c (length xs))
+within_some xs c x is = either (cases_lt c (length xs)) (λ lt. lt) (λ ge. absurd (none-some x (sym (get_or_past xs c None ge) ∙ is)))
 
 -- c's search is over
 pub searches_over : (h : List Change) (begins : List (Option ℕ)) (seen : List ℕ) (searches : List (Option Search)) (c : ℕ) → c < length searches
     → SearchesHold h begins seen searches → SearchesHold h begins seen (set searches c None)
-searches_over h begins seen searches c cs hold j q is = ⊎_elim
-    (λ (same : j ≡ c). absurd (none-some q (sym (get_or-set_same searches c None None cs) ∙ (ap (λ (k : ℕ). get_or (set searches c None) k None) (sym same) ∙ is))))
-    (λ (other : j ≡ c → ⊥). hold j q (simp get_or-set_other at is))
-    (cases_eq j c)
+searches_over h begins seen searches c cs hold j q is = either (cases_eq j c)
+    (λ same. absurd (none-some q (sym (get_or-set_same searches c None None cs) ∙ (ap (λ (k : ℕ). get_or (set searches c None) k None) (sym same) ∙ is))))
+    (λ other. hold j q (simp get_or-set_other at is))
 
 -- c's search is q now
 pub searches_on : (h : List Change) (begins : List (Option ℕ)) (seen : List ℕ) (searches : List (Option Search)) (c : ℕ) (q : Search) → c < length searches
     → SearchHolds h (get_or begins c None) (get_or seen c 0) q
     → SearchesHold h begins seen searches → SearchesHold h begins seen (set searches c (Some q))
-searches_on h begins seen searches c q cs now hold j r is = ⊎_elim
-    (λ (same : j ≡ c).
+searches_on h begins seen searches c q cs now hold j r is = either (cases_eq j c)
+    (λ same.
     let one : q ≡ r = same_Some q r (sym (get_or-set_same searches c (Some q) None cs) ∙ (ap (λ (k : ℕ). get_or (set searches c (Some q)) k None) (sym same) ∙ is)) in
     subst (λ (k : ℕ). SearchHolds h (get_or begins k None) (get_or seen k 0) r) (sym same) (subst (SearchHolds h (get_or begins c None) (get_or seen c 0)) one now))
-    (λ (other : j ≡ c → ⊥). hold j r (simp get_or-set_other at is))
-    (cases_eq j c)
+    (λ other. hold j r (simp get_or-set_other at is))
 
 -- a lookup's answer becomes the last found entry
 pub found_none : (h : List Change) (begins : List (Option ℕ)) (found : List (Option Entry)) (c : ℕ) → c < length found → FoundHold h begins found → FoundHold h begins (set found c None)
-found_none h begins found c cf hold j e is = ⊎_elim
-    (λ (same : j ≡ c). absurd (none-some e (sym (get_or-set_same found c None None cf) ∙ (ap (λ (k : ℕ). get_or (set found c None) k None) (sym same) ∙ is))))
-    (λ (other : j ≡ c → ⊥). hold j e (simp get_or-set_other at is))
-    (cases_eq j c)
+found_none h begins found c cf hold j e is = either (cases_eq j c)
+    (λ same. absurd (none-some e (sym (get_or-set_same found c None None cf) ∙ (ap (λ (k : ℕ). get_or (set found c None) k None) (sym same) ∙ is))))
+    (λ other. hold j e (simp get_or-set_other at is))
 
 pub found_some : (h : List Change) (begins : List (Option ℕ)) (found : List (Option Entry)) (c b : ℕ) (f : Entry) → c < length found
     → get_or begins c None ≡ Some b → MayHold h b f → FoundHold h begins found → FoundHold h begins (set found c (Some f))
-found_some h begins found c b f cf in_ may hold j e is = ⊎_elim
-    (λ (same : j ≡ c).
+found_some h begins found c b f cf in_ may hold j e is = either (cases_eq j c)
+    (λ same.
     let one : f ≡ e = same_Some f e (sym (get_or-set_same found c (Some f) None cf) ∙ (ap (λ (k : ℕ). get_or (set found c (Some f)) k None) (sym same) ∙ is)) in
     (b, ap (λ (k : ℕ). get_or begins k None) same ∙ in_, subst (MayHold h b) one may))
-    (λ (other : j ≡ c → ⊥). hold j e (simp get_or-set_other at is))
-    (cases_eq j c)
+    (λ other. hold j e (simp get_or-set_other at is))
 
 -- a walk of c from `from`: its section began before, and nothing of it is yet to come
 pub record Walks (s : State) (c from : ℕ) : Type 0 where
@@ -124,16 +117,15 @@ pub next_ahead : (s : State) (c from to t : ℕ) (key : Key) (e : Entry) → Hol
     → StandsOn s.history from to t e → AllBelow s.history from to key e.number → Ahead s.history from (length s.history) key e.number (get_or s.next t 0)
 next_ahead s c from to t key e on walk le stands below =
     let later : AllBelow s.history from (length s.history) key e.number = all_below_later s.history from to (length s.history) key e.number le below in
-    ⊎_elim
-    (λ (live : slot_at s.slots t ≡ Live e).
+    either (stands_in s c from to t e on walk stands)
+    (λ live.
     step_ahead s.history from (length s.history) (length s.history) e.number key (get_or s.next t 0) walk.by_now (omega arith) later (on.list.links t e live))
-    (λ (gone : slot_at s.slots t ≡ Retired e).
+    (λ gone.
     let end : (p : ℕ) × EndsAt s.history e.number p = (on.slots.retired t e gone).2 in
     let past : from < end.0 = stands.unended end.0 end.1 in
     step_ahead s.history from end.0 (length s.history) e.number key (get_or s.next t 0)
     (omega arith) (at_within s.history end.0 (Detach e.number) end.1).1 later
     (on.frozen_links t end.0 c walk.begin e gone end.1 walk.open_since (omega (arith, walk.since))))
-    (stands_in s c from to t e on walk stands)
 
 -- the link at the place of a walk, and what it leads to
 pub at_next_ahead : (s : State) (c from to t : ℕ) (key : Key) → Holds s → Walks s c from → to ≤ length s.history → (p : PlaceHolds s.history from to key (AtNext t))
@@ -247,9 +239,9 @@ key_to_words key = grind arith
 -- the entry that a walk stands on has another key: what is left is below it
 pub key_differs : (s : State) (from to t : ℕ) (key : Key) (e : Entry) → StandsOn s.history from to t e → AllBelow s.history from to key (suc e.number)
     → are_words_of key (kind_word e.rec.kind) e.rec.name.high e.rec.name.low ≡ false → AllBelow s.history from to key e.number
-key_differs s from to t key e stands below test f live un same = ⊎_elim
-    (λ (lt : f.number < e.number). lt)
-    (λ (ge : e.number ≤ f.number).
+key_differs s from to t key e stands below test f live un same = either (cases_lt f.number e.number)
+    (λ lt. lt)
+    (λ ge.
     let number : f.number ≡ e.number = omega (arith, below f live un same) in
     let one : f ≡ e = one_entry s.history f e live.attached stands.attached number in
     let is : key ≡ key_of e = sym same ∙ ap key_of one in
@@ -257,7 +249,6 @@ key_differs s from to t key e stands below test f live un same = ⊎_elim
     subst (λ (k : Key). are_words_of key (kind_word k.kind) k.name.high k.name.low ≡ true) is (key_to_words key) in
     let no : ◌≡◌ {A = Bool} true false = sym yes ∙ test in
     absurd cc)
-    (cases_lt f.number e.number)
 
 -- the walk stands on just the entry that is answered
 pub found_is : (s : State) (c from to t n : ℕ) (q : Search) (e : Entry) → Holds s → Walks s c from → StandsOn s.history from to t e → n ≡ e.number → q.key ≡ key_of e
@@ -400,8 +391,7 @@ find_link s c q on finds = find_steps s c q (weight s q.place) (load_link s c q 
     (load_link_steps s c (length s.history) q q.place on (walks_now s c q on finds.searching) finds.searching finds.stands)
 
 pub find_record : (s : State) (c : ℕ) (q : Search) → Holds s → Finds s c q → FindSteps c q (weight s q.place) (load_searched s c q q.place)
-find_record s c q on finds = ⊎_elim
-    (λ (head : q.place ≡ AtHead). subst (λ (p : SearchPlace). FindSteps c q (weight s p) (load_searched s c q p)) (sym head) tt)
-    (λ (all : seen_at s c ≡ length s.history). find_steps s c q (weight s q.place) (load_searched s c q q.place) (record_sees s c q q.place finds.seen)
+find_record s c q on finds = either finds.seen
+    (λ head. subst (λ (p : SearchPlace). FindSteps c q (weight s p) (load_searched s c q p)) (sym head) tt)
+    (λ all. find_steps s c q (weight s q.place) (load_searched s c q q.place) (record_sees s c q q.place finds.seen)
     (load_searched_steps s c (length s.history) q q.place on (walks_now s c q on finds.searching) (omega arith) finds.searching finds.stands))
-    finds.seen

@@ -1,11 +1,11 @@
 -- Seats, sections and notes keep the invariant.
-use Rattle.std.proofs.Common.{◌≡◌, ℕ, ◌+◌, ◌*◌, ◌<◌, List, length, Option, Some, None, Bool, true, false, ◌&&◌, is_none, is_some, nat_eq, nat_lt, refl, sym, subst, ◌∙◌, arith, length-set, ltb-true, eqb-true}
+use Rattle.std.proofs.Common.{◌≡◌, ℕ, ◌+◌, ◌*◌, ◌<◌, length, Option, Some, None, Bool, true, false, ◌&&◌, is_none, is_some, nat_eq, nat_lt, refl, sym, subst, ◌∙◌, arith, length-set, ltb-true, eqb-true}
 use Rattle.std.proofs.lemmas.Bool.{and_parts}
-use Rattle.registry_values.specs.declared.entry.Entry.{Entry}
-use Rattle.protocol.specs.declared.state.Search.{Search}
+use Rattle.protocol.specs.declared.state.Hand.{Hand}
+use Rattle.protocol.specs.declared.state.Hand.TheVariants.{Empty, Taking, Giving, Back}
 use Rattle.protocol.specs.State.{State, section_at, begin_at, depth_at, search_at, hand_at, at_rest, is_empty}
 use Rattle.protocol.specs.Events.{is_idle, is_outside, is_inside, may_seat, after_seat, may_enter, after_enter, may_exit, after_exit, after_seeing}
-use Rattle.protocol.specs.Invariant.{HeldStay, LinksStay, MarksHold, SectionsShow, SeatsShow, SearchesHold, FoundHold, Holds}
+use Rattle.protocol.specs.Invariant.{SeatsShow, Holds}
 use Rattle.protocol.proofs.keeps.Sections.{seats_seat, seats_begin, sections_enter, held_enter, links_enter, marks_enter, searches_enter, found_enter, sections_exit, held_exit, links_exit, marks_exit, searches_exit, found_exit, sections_see, searches_see}
 
 -- What the tests tell.
@@ -24,39 +24,15 @@ idle_parts s c ok =
     let p1 = and_parts (is_none (search_at s c)) (is_empty (hand_at s c)) p.1 in
     (ltb-true c s.seated p.0, none_from (search_at s c) p1.0, p1.1)
 
--- the state with other lists of its sections and searches
-abbrev pub with_cpus : State → ℕ → List ℕ → List (Option ℕ) → List ℕ → List ℕ → List (Option Search) → List (Option Entry) → State
-with_cpus s seated section begins depths seen searches found = record s {
-  section = section;
-  seated = seated;
-  begins = begins;
-  depths = depths;
-  seen = seen;
-  searches = searches;
-  found = found;
-}
+pub empty_from : (h : Hand) → is_empty h ≡ true → h ≡ Empty
+empty_from Empty is = refl
+empty_from (Taking n) is = absurd (let q : ◌≡◌ {A = Bool} false true = is in cc)
+empty_from (Giving n id) is = absurd (let q : ◌≡◌ {A = Bool} false true = is in cc)
+empty_from (Back n id) is = absurd (let q : ◌≡◌ {A = Bool} false true = is in cc)
 
--- what of the invariant speaks of those lists
-pub record CpusHold (s : State) (seated : ℕ) (section : List ℕ) (begins : List (Option ℕ)) (depths seen : List ℕ) (searches : List (Option Search)) (found : List (Option Entry)) : Type 0 where
-  pub section_size : length section ≡ length s.section
-  pub begin_size : length begins ≡ length s.begins
-  pub depth_size : length depths ≡ length s.depths
-  pub seen_size : length seen ≡ length s.seen
-  pub search_size : length searches ≡ length s.searches
-  pub found_size : length found ≡ length s.found
-  pub held : HeldStay s.history s.slots begins
-  pub frozen_links : LinksStay s.history s.slots s.next begins
-  pub grace : MarksHold s.history s.slots s.marks section begins
-  pub seats : SeatsShow s.settings.cpus seated begins searches s.hands
-  pub sections : SectionsShow s.settings s.history section begins depths seen
-  pub searching : SearchesHold s.history begins seen searches
-  pub last_found : FoundHold s.history begins found
-
--- an event that writes no other lists keeps the invariant
-pub cpus_keep : (s : State) (seated : ℕ) (section : List ℕ) (begins : List (Option ℕ)) (depths seen : List ℕ) (searches : List (Option Search)) (found : List (Option Entry))
-    → Holds s → CpusHold s seated section begins depths seen searches found → Holds (with_cpus s seated section begins depths seen searches found)
-cpus_keep s seated section begins depths seen searches found on now =
-    assumption (now.section_size ∙ on.shape.sections, now.begin_size ∙ on.shape.begins, now.depth_size ∙ on.shape.depths, now.seen_size ∙ on.shape.seen, now.search_size ∙ on.shape.searches, now.found_size ∙ on.shape.found)
+-- and in range with nothing in its hand
+pub idle_tells : (s : State) (c : ℕ) → Holds s → is_idle s c ≡ true → (c < s.settings.cpus) × (hand_at s c ≡ Empty)
+idle_tells s c on idle = let p = idle_parts s c idle in (omega (arith, p.0, on.seats.within), empty_from (hand_at s c) p.2)
 
 pub seat_keeps : (s : State) (c : ℕ) → Holds s → may_seat s c ≡ true → Holds (after_seat s c)
 seat_keeps s c on ok =
@@ -130,6 +106,4 @@ see_keeps s c on lt =
     )
 
 pub hear_keeps : (s : State) (c : ℕ) → Holds s → is_idle s c ≡ true → Holds (after_seeing s c)
-hear_keeps s c on ok =
-    let idle = idle_parts s c ok in
-    see_keeps s c on (omega (arith, idle.0, on.seats.within))
+hear_keeps s c on ok = see_keeps s c on (idle_tells s c on ok).0

@@ -1,6 +1,6 @@
 -- What seats and sections keep.
-use Rattle.std.proofs.Common.{◌≡◌, ◌≢◌, ℕ, suc, ◌+◌, ◌*◌, ◌%◌, ◌<◌, ◌≤◌, inl, ⊎_elim, List, length, get_or, set, Option, Some, None, sym, ap, subst, ◌∙◌, arith, get_or-set_same, get_or-set_other}
-use Rattle.std.proofs.lemmas.Option.{none-some}
+use Rattle.std.proofs.Common.{◌≡◌, ◌≢◌, ℕ, suc, ◌+◌, ◌*◌, ◌%◌, ◌<◌, ◌≤◌, inl, List, length, get_or, set, Option, Some, None, true, sym, ap, ◌∙◌, arith, get_or-set_same, get_or-set_other}
+use Rattle.std.proofs.lemmas.Option.{none-some, same_Some}
 use Rattle.std.proofs.lemmas.Bool.{cases_lt, cases_eq}
 use Rattle.registry_values.specs.declared.entry.Entry.{Entry}
 use Rattle.registry_values.specs.declared.entry.Change.{Change}
@@ -16,9 +16,12 @@ use Rattle.protocol.specs.declared.state.Search.{Search}
 use Rattle.protocol.specs.declared.state.Hand.{Hand}
 use Rattle.registry_values.specs.Slots.{slot_at}
 use Rattle.protocol.specs.State.{mark_at}
-use Rattle.protocol.specs.Invariant.{SlotsShow, HeldStay, LinksStay, MarksHold, SectionsShow, SeatsShow, StandsOn, PlaceHolds, SearchHolds, SearchesHold, FoundHold}
+use Rattle.protocol.specs.History.{EndsAt, MayHold}
+use Rattle.protocol.proofs.slots.Cells.{place_in, place_put}
+use Rattle.protocol.specs.Invariant.{SlotsShow, HeldStay, IsIn, Leads, LinksStay, MarksHold, SectionsShow, SeatsShow, StandsOn, PlaceHolds, SearchHolds, SearchesHold, FoundHold}
 use Rattle.protocol.proofs.history.History.{at_within}
 use Rattle.protocol.proofs.history.Lookup.{all_below_later}
+use Rattle.protocol.proofs.Either.{either}
 
 -- the next CPU takes its seat
 pub seats_seat : (cpus seated : ℕ) (begins : List (Option ℕ)) (searches : List (Option Search)) (hands : List Hand) → seated < cpus
@@ -53,17 +56,7 @@ seats_search cpus seated begins searches hands c x lt s = record {
 -- a CPU that does something has its seat
 pub seated_search : (cpus seated : ℕ) (begins : List (Option ℕ)) (searches : List (Option Search)) (hands : List Hand) (c : ℕ) (q : Search)
     → SeatsShow cpus seated begins searches hands → get_or searches c None ≡ Some q → c < seated
-seated_search cpus seated begins searches hands c q s is = ⊎_elim
-    (λ (lt : c < seated). lt)
-    (λ (ge : seated ≤ c). absurd (none-some q (sym (s.unsearching c ge) ∙ is)))
-    (cases_lt c seated)
-
-pub seated_begin : (cpus seated : ℕ) (begins : List (Option ℕ)) (searches : List (Option Search)) (hands : List Hand) (c b : ℕ)
-    → SeatsShow cpus seated begins searches hands → get_or begins c None ≡ Some b → c < seated
-seated_begin cpus seated begins searches hands c b s is = ⊎_elim
-    (λ (lt : c < seated). lt)
-    (λ (ge : seated ≤ c). absurd (none-some b (sym (s.outside c ge) ∙ is)))
-    (cases_lt c seated)
+seated_search cpus seated begins searches hands c q s is = either (cases_lt c seated) (λ lt. lt) (λ ge. absurd (none-some q (sym (s.unsearching c ge) ∙ is)))
 
 -- Enter: the section begins at the length of the history.
 pub sections_enter : (z : Settings) (h : List Change) (section : List ℕ) (begins : List (Option ℕ)) (depths seen : List ℕ) (c : ℕ)
@@ -73,14 +66,10 @@ pub sections_enter : (z : Settings) (h : List Change) (section : List ℕ) (begi
 sections_enter z h section begins depths seen c cs cb cd cw out room s =
     let even : get_or section c 0 % 2 ≡ 0 = (s.outside c out).0 in
     record {
-      outside = λ j is. ⊎_elim
-          (λ (same : j ≡ c). absurd (grind (arith, get_or-set_same, is, same)))
-          (λ (other : j ≡ c → ⊥). simp get_or-set_other (s.outside j (simp get_or-set_other at is)))
-          (cases_eq j c);
-      inside = λ j b is. ⊎_elim
-          (λ (same : j ≡ c). (grind (arith, get_or-set_same, same, even), grind (arith, get_or-set_same, same)))
-          (λ (other : j ≡ c → ⊥). simp get_or-set_other (s.inside j b (simp get_or-set_other at is)))
-          (cases_eq j c);
+      outside = λ j. place_in None begins c (Some (length h)) (λ i y. y ≡ None → (get_or (set section c (get_or section c 0 + 1)) i 0 % 2 ≡ 0) × (get_or (set depths c 1) i 0 ≡ 0)) j cb
+          (λ is. absurd (let q : Some (length h) ≡ None = is in cc)) (λ off is. simp get_or-set_other (s.outside j is));
+      inside = λ j b. place_in None begins c (Some (length h)) (λ i y. y ≡ Some b → (get_or (set section c (get_or section c 0 + 1)) i 0 % 2 ≡ 1) × (1 ≤ get_or (set depths c 1) i 0)) j cb
+          (λ is. (grind (arith, get_or-set_same, even), grind (arith, get_or-set_same))) (λ off is. simp get_or-set_other (s.inside j b is));
       deep = λ j. grind (arith, get_or-set_same, get_or-set_other, cases_eq j c, s.deep);
       begun = λ j b is. grind (arith, get_or-set_same, get_or-set_other, cases_eq j c, s.begun);
       prefix = λ j. grind (arith, get_or-set_same, get_or-set_other, cases_eq j c, s.prefix);
@@ -88,77 +77,51 @@ sections_enter z h section begins depths seen c cs cb cd cw out room s =
     }
 
 pub held_enter : (h : List Change) (slots : List Slot) (begins : List (Option ℕ)) (c : ℕ) → c < length begins → SlotsShow h slots → HeldStay h slots begins → HeldStay h slots (set begins c (Some (length h)))
-held_enter h slots begins c cb show held j b e is hold = ⊎_elim
-    (λ (same : j ≡ c).
-    let now : b ≡ length h = grind (arith, get_or-set_same, is, same) in
-    inl (show.placed e (record { attached = hold.attached; begun = (at_within h e.number (Attach e) hold.attached).1; unended = λ p x. omega (arith, hold.unended p x) })))
-    (λ (other : j ≡ c → ⊥). held j b e (simp get_or-set_other at is) hold)
-    (cases_eq j c)
+held_enter h slots begins c cb show held j b e = place_put None begins c (Some (length h)) (λ i x. x ≡ Some b → MayHold h b e → IsIn e (slot_at slots e.slot)) j
+    (λ is hold. inl (show.placed e (record { attached = hold.attached; begun = (at_within h e.number (Attach e) hold.attached).1; unended = λ p x. omega (arith, hold.unended p x, same_Some (length h) b is) })))
+    (held j b e)
+
+-- no entry ends after a section that begins now
+none_ends : (h : List Change) (b p n : ℕ) → ◌≡◌ {A = Option ℕ} (Some (length h)) (Some b) → EndsAt h n p → p ≤ b
+none_ends h b p n is ends = omega (arith, same_Some (length h) b is, (at_within h p (Detach n) ends).1)
 
 pub links_enter : (h : List Change) (slots : List Slot) (next : List ℕ) (begins : List (Option ℕ)) (c : ℕ) → c < length begins → LinksStay h slots next begins → LinksStay h slots next (set begins c (Some (length h)))
-links_enter h slots next begins c cb links t p j b e gone ends is lt = ⊎_elim
-    (λ (same : j ≡ c).
-    let now : b ≡ length h = grind (arith, get_or-set_same, is, same) in
-    absurd (omega (arith, (at_within h p (Detach e.number) ends).1)))
-    (λ (other : j ≡ c → ⊥). links t p j b e gone ends (simp get_or-set_other at is) lt)
-    (cases_eq j c)
+links_enter h slots next begins c cb links t p j b e gone ends = place_put None begins c (Some (length h)) (λ i x. x ≡ Some b → b < p → Leads h p e.number (get_or next t 0)) j
+    (λ is lt. absurd (omega (arith, lt, none_ends h b p e.number is ends))) (links t p j b e gone ends)
 
 -- a word that grows is above what it was at each snapshot
 pub older_grown : (h : List Change) (slots : List Slot) (marks : List (List Mark)) (section : List ℕ) (begins : List (Option ℕ)) (c w : ℕ) → c < length section → get_or section c 0 < w → MarksHold h slots marks section begins
     → (t j x : ℕ) (e : Entry) → slot_at slots t ≡ Retired e → (mark_at marks t j).snapshot ≡ Some x → x ≤ get_or (set section c w) j 0
-older_grown h slots marks section begins c w cs up m t j x e gone snap = ⊎_elim
-    (λ (same : j ≡ c).
-    let now : get_or (set section c w) j 0 ≡ w = ap (λ (k : ℕ). get_or (set section c w) k 0) same ∙ get_or-set_same section c w 0 cs in
-    let old : get_or section j 0 ≡ get_or section c 0 = ap (λ (k : ℕ). get_or section k 0) same in
-    omega (arith, m.older t j x e gone snap))
-    (λ (other : j ≡ c → ⊥). omega (arith, get_or-set_other section c j w 0 other, m.older t j x e gone snap))
-    (cases_eq j c)
+older_grown h slots marks section begins c w cs up m t j x e gone = place_put 0 section c w (λ i y. (mark_at marks t i).snapshot ≡ Some x → x ≤ y) j
+    (λ snap. omega (arith, m.older t c x e gone snap, up)) (m.older t j x e gone)
 
 pub marks_enter : (h : List Change) (slots : List Slot) (marks : List (List Mark)) (section : List ℕ) (begins : List (Option ℕ)) (c w : ℕ) → c < length section → c < length begins → get_or section c 0 < w
     → MarksHold h slots marks section begins → MarksHold h slots marks (set section c w) (set begins c (Some (length h)))
 marks_enter h slots marks section begins c w cs cb up m = record {
-  passed = λ t p j b e gone ends is yes. ⊎_elim
-      (λ (same : j ≡ c).
-      let now : b ≡ length h = grind (arith, get_or-set_same, is, same) in
-      omega (arith, (at_within h p (Detach e.number) ends).1))
-      (λ (other : j ≡ c → ⊥). m.passed t p j b e gone ends (simp get_or-set_other at is) yes)
-      (cases_eq j c);
-  changed = λ t p j b x e gone ends is snap off. ⊎_elim
-      (λ (same : j ≡ c).
-      let now : b ≡ length h = grind (arith, get_or-set_same, is, same) in
-      omega (arith, (at_within h p (Detach e.number) ends).1))
-      (λ (other : j ≡ c → ⊥). m.changed t p j b x e gone ends (simp get_or-set_other at is) snap (simp get_or-set_other at off))
-      (cases_eq j c);
+  passed = λ t p j b e gone ends. place_put None begins c (Some (length h)) (λ i y. y ≡ Some b → (mark_at marks t i).passed ≡ true → p ≤ b) j
+      (λ is yes. none_ends h b p e.number is ends) (m.passed t p j b e gone ends);
+  changed = λ t p j b x e gone ends. place_in None begins c (Some (length h)) (λ i y. y ≡ Some b → (mark_at marks t i).snapshot ≡ Some x → (get_or (set section c w) i 0 ≡ x → ⊥) → p ≤ b) j cb
+      (λ is snap off. none_ends h b p e.number is ends) (λ other is snap off. m.changed t p j b x e gone ends is snap (simp get_or-set_other at off));
   older = older_grown h slots marks section begins c w cs up m;
-  left = λ t j b x e gone is yes snap now. ⊎_elim
-      (λ (same : j ≡ c).
-      let word : get_or (set section c w) j 0 ≡ w = ap (λ (k : ℕ). get_or (set section c w) k 0) same ∙ get_or-set_same section c w 0 cs in
-      let old : get_or section j 0 ≡ get_or section c 0 = ap (λ (k : ℕ). get_or section k 0) same in
-      omega (arith, m.older t j x e gone snap))
-      (λ (other : j ≡ c → ⊥). m.left t j b x e gone (sym (get_or-set_other begins c j (Some (length h)) None other) ∙ is) yes snap (sym (get_or-set_other section c j w 0 other) ∙ now))
-      (cases_eq j c);
+  left = λ t j b x e gone. place_in None begins c (Some (length h)) (λ i y. y ≡ Some b → (mark_at marks t i).passed ≡ true → (mark_at marks t i).snapshot ≡ Some x → get_or (set section c w) i 0 ≡ x → ⊥) j cb
+      (λ is yes snap now. omega (arith, m.older t c x e gone snap, up, get_or-set_same section c w 0 cs, now))
+      (λ other is yes snap now. m.left t j b x e gone is yes snap (sym (get_or-set_other section c j w 0 other) ∙ now));
 }
 
 pub searches_enter : (h : List Change) (begins : List (Option ℕ)) (seen : List ℕ) (searches : List (Option Search)) (c : ℕ) (x : Option ℕ) (w : ℕ)
     → get_or searches c None ≡ None → SearchesHold h begins seen searches → SearchesHold h (set begins c x) (set seen c w) searches
-searches_enter h begins seen searches c x w idle hold j q is = ⊎_elim
-    (λ (same : j ≡ c). absurd (none-some q (sym idle ∙ (ap (λ (k : ℕ). get_or searches k None) (sym same) ∙ is))))
-    (λ (other : j ≡ c → ⊥). simp get_or-set_other (hold j q is))
-    (cases_eq j c)
+searches_enter h begins seen searches c x w idle hold j q is = either (cases_eq j c)
+    (λ same. absurd (none-some q (sym idle ∙ (ap (λ (k : ℕ). get_or searches k None) (sym same) ∙ is))))
+    (λ other. simp get_or-set_other (hold j q is))
 
 pub found_enter : (h : List Change) (begins : List (Option ℕ)) (found : List (Option Entry)) (c : ℕ) (x : Option ℕ) → get_or begins c None ≡ None → FoundHold h begins found → FoundHold h (set begins c x) found
-found_enter h begins found c x out hold j e is = ⊎_elim
-    (λ (same : j ≡ c). absurd (none-some (hold j e is).0 (sym out ∙ (ap (λ (k : ℕ). get_or begins k None) (sym same) ∙ (hold j e is).1))))
-    (λ (other : j ≡ c → ⊥). simp get_or-set_other (hold j e is))
-    (cases_eq j c)
+found_enter h begins found c x out hold j e = place_put None begins c x (λ i y. get_or found i None ≡ Some e → (b : ℕ) × (y ≡ Some b) × MayHold h b e) j
+    (λ is. absurd (none-some (hold c e is).0 (sym out ∙ (hold c e is).1))) (hold j e)
 
 -- Exit: the section ends.
 -- what is open after c's section ended was open before, and isn't c's
 pub open_before : (begins : List (Option ℕ)) (c j b : ℕ) → c < length begins → get_or (set begins c None) j None ≡ Some b → (j ≢ c) × (get_or begins j None ≡ Some b)
-open_before begins c j b cb is = ⊎_elim
-    (λ (same : j ≡ c). absurd (none-some b (sym (get_or-set_same begins c None None cb) ∙ (ap (λ (k : ℕ). get_or (set begins c None) k None) (sym same) ∙ is))))
-    (λ (other : j ≡ c → ⊥). (other, simp get_or-set_other at is))
-    (cases_eq j c)
+open_before begins c j b cb is = place_in None begins c None (λ i y. y ≡ Some b → (i ≢ c) × (get_or begins i None ≡ Some b)) j cb (λ none. absurd (none-some b none)) (λ off was. (off, was)) is
 
 pub sections_exit : (z : Settings) (h : List Change) (section : List ℕ) (begins : List (Option ℕ)) (depths seen : List ℕ) (c b : ℕ)
     → c < length section → c < length begins → c < length depths → get_or begins c None ≡ Some b → SectionsShow z h section begins depths seen
@@ -167,18 +130,14 @@ sections_exit z h section begins depths seen c b cs cb cd in_ s =
     let odd : get_or section c 0 % 2 ≡ 1 = (s.inside c b in_).0 in
     let limit : get_or section c 0 ≤ 2 * z.section_limit = s.limited c in
     record {
-      outside = λ j is. ⊎_elim
-          (λ (same : j ≡ c). (grind (arith, get_or-set_same, same, odd), grind (arith, get_or-set_same, same)))
-          (λ (other : j ≡ c → ⊥). simp get_or-set_other (s.outside j (simp get_or-set_other at is)))
-          (cases_eq j c);
+      outside = λ j is. either (cases_eq j c)
+          (λ same. (grind (arith, get_or-set_same, same, odd), grind (arith, get_or-set_same, same)))
+          (λ other. simp get_or-set_other (s.outside j (simp get_or-set_other at is)));
       inside = λ j b is. let was = open_before begins c j b cb is in let off : j ≢ c = was.0 in simp get_or-set_other (s.inside j b was.1);
       deep = λ j. grind (arith, get_or-set_same, get_or-set_other, cases_eq j c, s.deep);
       begun = λ j b is. s.begun j b (open_before begins c j b cb is).1;
       prefix = s.prefix;
-      limited = λ j. ⊎_elim
-          (λ (same : j ≡ c). let now : get_or section c 0 + 1 ≤ 2 * z.section_limit = omega arith in grind (arith, get_or-set_same, same))
-          (λ (other : j ≡ c → ⊥). simp get_or-set_other (s.limited j))
-          (cases_eq j c);
+      limited = λ j. place_put 0 section c (get_or section c 0 + 1) (λ _ y. y ≤ 2 * z.section_limit) j (omega arith) (s.limited j);
     }
 
 pub held_exit : (h : List Change) (slots : List Slot) (begins : List (Option ℕ)) (c : ℕ) → c < length begins → HeldStay h slots begins → HeldStay h slots (set begins c None)
@@ -202,16 +161,13 @@ marks_exit h slots marks section begins c w cs cb up m = record {
 
 pub searches_exit : (h : List Change) (begins : List (Option ℕ)) (seen : List ℕ) (searches : List (Option Search)) (c : ℕ) (x : Option ℕ)
     → get_or searches c None ≡ None → SearchesHold h begins seen searches → SearchesHold h (set begins c x) seen searches
-searches_exit h begins seen searches c x idle hold j q is = ⊎_elim
-    (λ (same : j ≡ c). absurd (none-some q (sym idle ∙ (ap (λ (k : ℕ). get_or searches k None) (sym same) ∙ is))))
-    (λ (other : j ≡ c → ⊥). simp get_or-set_other (hold j q is))
-    (cases_eq j c)
+searches_exit h begins seen searches c x idle hold j q is = either (cases_eq j c)
+    (λ same. absurd (none-some q (sym idle ∙ (ap (λ (k : ℕ). get_or searches k None) (sym same) ∙ is))))
+    (λ other. simp get_or-set_other (hold j q is))
 
 pub found_exit : (h : List Change) (begins : List (Option ℕ)) (found : List (Option Entry)) (c : ℕ) (x : Option ℕ) → c < length found → FoundHold h begins found → FoundHold h (set begins c x) (set found c None)
-found_exit h begins found c x cf hold j e is = ⊎_elim
-    (λ (same : j ≡ c). absurd (none-some e (sym (get_or-set_same found c None None cf) ∙ (ap (λ (k : ℕ). get_or (set found c None) k None) (sym same) ∙ is))))
-    (λ (other : j ≡ c → ⊥). simp get_or-set_other (hold j e (simp get_or-set_other at is)))
-    (cases_eq j c)
+found_exit h begins found c x cf hold j e = place_in None found c None (λ i y. y ≡ Some e → (b : ℕ) × (get_or (set begins c x) i None ≡ Some b) × MayHold h b e) j cf
+    (λ is. absurd (none-some e is)) (λ off is. simp get_or-set_other (hold j e is))
 
 -- Hear: the pass is the whole history.
 pub sections_see : (z : Settings) (h : List Change) (section : List ℕ) (begins : List (Option ℕ)) (depths seen : List ℕ) (c : ℕ) → c < length seen
@@ -220,18 +176,8 @@ sections_see z h section begins depths seen c cs s = record {
   outside = s.outside;
   inside = s.inside;
   deep = s.deep;
-  begun = λ j b is. ⊎_elim
-      (λ (same : j ≡ c).
-      let now : get_or (set seen c (length h)) j 0 ≡ length h = ap (λ (k : ℕ). get_or (set seen c (length h)) k 0) same ∙ get_or-set_same seen c (length h) 0 cs in
-      omega (arith, s.begun j b is, s.prefix j))
-      (λ (other : j ≡ c → ⊥). simp get_or-set_other (s.begun j b is))
-      (cases_eq j c);
-  prefix = λ j. ⊎_elim
-      (λ (same : j ≡ c).
-      let now : get_or (set seen c (length h)) j 0 ≡ length h = ap (λ (k : ℕ). get_or (set seen c (length h)) k 0) same ∙ get_or-set_same seen c (length h) 0 cs in
-      omega arith)
-      (λ (other : j ≡ c → ⊥). simp get_or-set_other (s.prefix j))
-      (cases_eq j c);
+  begun = λ j b. place_put 0 seen c (length h) (λ i y. get_or begins i None ≡ Some b → b ≤ y) j (λ is. omega (arith, s.begun c b is, s.prefix c)) (s.begun j b);
+  prefix = λ j. place_put 0 seen c (length h) (λ _ y. y ≤ length h) j (omega arith) (s.prefix j);
   limited = s.limited;
 }
 
@@ -249,16 +195,8 @@ place_later h from to later key (AtValue t n) le p = (p.0, stands_later h from t
 
 pub searches_see : (z : Settings) (h : List Change) (section : List ℕ) (begins : List (Option ℕ)) (depths seen : List ℕ) (searches : List (Option Search)) (c : ℕ) → c < length seen
     → SectionsShow z h section begins depths seen → SearchesHold h begins seen searches → SearchesHold h begins (set seen c (length h)) searches
-searches_see z h section begins depths seen searches c cw s hold j q is =
-    let was : SearchHolds h (get_or begins j None) (get_or seen j 0) q = hold j q is in
-    ⊎_elim
-    (λ (same : j ≡ c).
-    let now : get_or (set seen c (length h)) j 0 ≡ length h = ap (λ (k : ℕ). get_or (set seen c (length h)) k 0) same ∙ get_or-set_same seen c (length h) 0 cw in
-    let le : get_or seen j 0 ≤ length h = s.prefix j in
-    subst (λ (v : ℕ). SearchHolds h (get_or begins j None) v q) (sym now) (record {
-      begun = was.begun;
-      started = omega (arith, was.started);
-      stands = place_later h q.start (get_or seen j 0) (length h) q.key q.place le was.stands;
-    }))
-    (λ (other : j ≡ c → ⊥). simp get_or-set_other was)
-    (cases_eq j c)
+searches_see z h section begins depths seen searches c cw s hold j q = place_put 0 seen c (length h) (λ i y. get_or searches i None ≡ Some q → SearchHolds h (get_or begins i None) y q) j
+    (λ is.
+    let was = hold c q is in
+    record { begun = was.begun; started = omega (arith, was.started, s.prefix c); stands = place_later h q.start (get_or seen c 0) (length h) q.key q.place (s.prefix c) was.stands })
+    (hold j q)

@@ -1,5 +1,5 @@
 -- An entry is unlinked, in the middle of the list or at its head.
-use Rattle.std.proofs.Common.{Bool, List, None, Option, Some, ap, arith, false, get_or, get_or-set_other, get_or-set_same, inl, inr, length, refl, set, subst, suc, sym, true, zero, ℕ, ⊎_elim, ◌+◌, ◌<◌, ◌∙◌, ◌≡◌, ◌≢◌, ◌≤◌, ◌⊎◌}
+use Rattle.std.proofs.Common.{Bool, List, None, Option, Some, ap, arith, false, get_or, get_or-set_other, get_or-set_same, inl, inr, length, refl, set, subst, suc, sym, true, zero, ℕ, ◌+◌, ◌<◌, ◌∙◌, ◌≡◌, ◌≢◌, ◌≤◌, ◌⊎◌}
 use Rattle.std.proofs.lemmas.Bool.{and_from, and_parts, cases_eq, cases_lt, eq-eqb, eqb-true}
 use Rattle.std.proofs.lemmas.List.{get_or_past}
 use Rattle.std.proofs.lemmas.List.Quantifiers.{position-Some}
@@ -9,7 +9,7 @@ use Rattle.std.specs.Prelude.{◌==◌}
 use Rattle.protocol.proofs.history.Growing.{hold_was, leads_old}
 use Rattle.protocol.proofs.history.History.{at_cases, at_new, at_within, attached_old, ends_old, length-after_change, live_down, live_old, live_was, one_end, one_entry}
 use Rattle.protocol.proofs.slots.Numbers.{position_fails}
-use Rattle.protocol.specs.History.{EndsAt, IsAttached, IsLegal, IsLiveAt, after_change, change_at}
+use Rattle.protocol.specs.History.{EndsAt, IsAttached, IsLegal, IsLiveAt, after_change}
 use Rattle.protocol.specs.Invariant.{HeldStay, IsIn, Leads, LinksStay, ListShows, RowsShow, SlotsShow, To_end, To_entry}
 use Rattle.registry_values.specs.Slots.{is_live, leads_to, slot_before, slot_at}
 use Rattle.registry_values.specs.declared.entry.Change.{Change}
@@ -19,37 +19,31 @@ use Rattle.protocol.specs.declared.state.RecordWords.{RecordWords}
 use Rattle.registry_values.specs.declared.slot.Slot.{Slot}
 use Rattle.registry_values.specs.declared.slot.Slot.TheVariants.{Live, Retired, Vacant}
 use Rattle.protocol.proofs.slots.Occupied.{slot_cases, live_one}
+use Rattle.protocol.proofs.Either.{either}
 
 -- an attach is an older one
 pub attached_before : (h : List Change) (n : ℕ) (f : Entry) → IsAttached (after_change h (Detach n)) f → (f.number ≤ length h) × IsAttached h f
-attached_before h n f x = ⊎_elim
-    (λ (old : record { old : f.number ≤ length h; was : change_at h f.number ≡ Some (Attach f) }). (old.old, old.was))
-    (λ (new : record { new : f.number ≡ suc (length h); is : Attach f ≡ Detach n }). absurd (let q : Attach f ≡ Detach n = new.is in cc))
-    (at_cases h (Detach n) f.number (Attach f) x)
+attached_before h n f x = either (at_cases h (Detach n) f.number (Attach f) x) (λ old. (old.old, old.was)) (λ new. absurd (let q : Attach f ≡ Detach n = new.is in cc))
 
 pub legal_detach : (h : List Change) (e : Entry) → IsLegal h → IsLiveAt h (length h) e → IsLegal (after_change h (Detach e.number))
 legal_detach h e legal live = record {
-  numbered = λ k f x. ⊎_elim
-      (λ (old : record { old : k ≤ length h; was : change_at h k ≡ Some (Attach f) }). legal.numbered k f old.was)
-      (λ (new : record { new : k ≡ suc (length h); is : Attach f ≡ Detach e.number }). absurd (let q : Attach f ≡ Detach e.number = new.is in cc))
-      (at_cases h (Detach e.number) k (Attach f) x);
-  new_key = λ k f g x lg same. ⊎_elim
-      (λ (old : record { old : suc k ≤ length h; was : change_at h (suc k) ≡ Some (Attach f) }). legal.new_key k f g old.was (live_was h (Detach e.number) k g (omega (arith, old.old)) lg) same)
-      (λ (new : record { new : suc k ≡ suc (length h); is : Attach f ≡ Detach e.number }). absurd (let q : Attach f ≡ Detach e.number = new.is in cc))
-      (at_cases h (Detach e.number) (suc k) (Attach f) x);
-  new_slot = λ k f g x lg same. ⊎_elim
-      (λ (old : record { old : suc k ≤ length h; was : change_at h (suc k) ≡ Some (Attach f) }). legal.new_slot k f g old.was (live_was h (Detach e.number) k g (omega (arith, old.old)) lg) same)
-      (λ (new : record { new : suc k ≡ suc (length h); is : Attach f ≡ Detach e.number }). absurd (let q : Attach f ≡ Detach e.number = new.is in cc))
-      (at_cases h (Detach e.number) (suc k) (Attach f) x);
-  ends_live = λ k n x. ⊎_elim
-      (λ (old : record { old : suc k ≤ length h; was : change_at h (suc k) ≡ Some (Detach n) }).
+  numbered = λ k f x. either (at_cases h (Detach e.number) k (Attach f) x)
+      (λ old. legal.numbered k f old.was)
+      (λ new. absurd (let q : Attach f ≡ Detach e.number = new.is in cc));
+  new_key = λ k f g x lg same. either (at_cases h (Detach e.number) (suc k) (Attach f) x)
+      (λ old. legal.new_key k f g old.was (live_was h (Detach e.number) k g (omega (arith, old.old)) lg) same)
+      (λ new. absurd (let q : Attach f ≡ Detach e.number = new.is in cc));
+  new_slot = λ k f g x lg same. either (at_cases h (Detach e.number) (suc k) (Attach f) x)
+      (λ old. legal.new_slot k f g old.was (live_was h (Detach e.number) k g (omega (arith, old.old)) lg) same)
+      (λ new. absurd (let q : Attach f ≡ Detach e.number = new.is in cc));
+  ends_live = λ k n x. either (at_cases h (Detach e.number) (suc k) (Detach n) x)
+      (λ old.
       let l : (f : Entry) × IsLiveAt h k f × (f.number ≡ n) = legal.ends_live k n old.was in
       (l.0, live_old h (Detach e.number) k l.0 (omega (arith, old.old)) l.1, l.2))
-      (λ (new : record { new : suc k ≡ suc (length h); is : Detach n ≡ Detach e.number }).
+      (λ new.
       let now : length h ≡ k = omega (arith, new.new) in
       let same : e.number ≡ n = let q : Detach n ≡ Detach e.number = new.is in cc in
-      (e, live_old h (Detach e.number) k e (omega arith) (subst (λ (m : ℕ). IsLiveAt h m e) now live), same))
-      (at_cases h (Detach e.number) (suc k) (Detach n) x);
+      (e, live_old h (Detach e.number) k e (omega arith) (subst (λ (m : ℕ). IsLiveAt h m e) now live), same));
 }
 
 -- what is live after the detach: all that was, but for e
@@ -57,10 +51,9 @@ pub still_there : (h : List Change) (e f : Entry) → IsLiveAt h (length h) f �
 still_there h e f live off = record {
   attached = attached_old h (Detach e.number) f live.attached;
   begun = omega (arith, live.begun);
-  unended = λ p x. ⊎_elim
-      (λ (old : record { old : p ≤ length h; was : change_at h p ≡ Some (Detach f.number) }). absurd (omega (arith, live.unended p old.was, old.old)))
-      (λ (new : record { new : p ≡ suc (length h); is : Detach f.number ≡ Detach e.number }). absurd (off (let q : Detach f.number ≡ Detach e.number = new.is in cc)))
-      (at_cases h (Detach e.number) p (Detach f.number) x);
+  unended = λ p x. either (at_cases h (Detach e.number) p (Detach f.number) x)
+      (λ old. absurd (omega (arith, live.unended p old.was, old.old)))
+      (λ new. absurd (off (let q : Detach f.number ≡ Detach e.number = new.is in cc)));
 }
 
 pub was_there : (h : List Change) (e f : Entry) → IsLiveAt (after_change h (Detach e.number)) (suc (length h)) f → IsLiveAt h (length h) f × (f.number ≢ e.number)
@@ -107,13 +100,11 @@ find_link h slots head next e show list live (suc fuel) n zero le lt (To_end non
 find_link h slots head next e show list live (suc fuel) n _ le lt (To_entry g lg low most) =
     let at : slot_at slots g.slot ≡ Live g = show.placed g lg in
     let above : e.number ≤ g.number = most e live lt in
-    ⊎_elim
-    (λ (same : g.number ≡ e.number). inl (ap (λ (i : Entry). suc i.slot) (one_entry h g e lg.attached live.attached same)))
-    (λ (off : g.number ≡ e.number → ⊥). ⊎_elim
-    (λ (here : get_or next g.slot 0 ≡ suc e.slot). inr (g, at, here))
-    (λ (further : (i : Entry) × (slot_at slots i.slot ≡ Live i) × (get_or next i.slot 0 ≡ suc e.slot)). inr further)
-    (find_link h slots head next e show list live fuel g.number (get_or next g.slot 0) (omega arith) (omega arith) (list.links g.slot g at)))
-    (cases_eq g.number e.number)
+    either (cases_eq g.number e.number)
+    (λ same. inl (ap (λ (i : Entry). suc i.slot) (one_entry h g e lg.attached live.attached same)))
+    (λ off. either (find_link h slots head next e show list live fuel g.number (get_or next g.slot 0) (omega arith) (omega arith) (list.links g.slot g at))
+    (λ here. inr (g, at, here))
+    (λ further. inr further))
 
 pub live_entry : (x : Slot) → is_live x ≡ true → (g : Entry) × (x ≡ Live g)
 live_entry Vacant is = absurd (let q : ◌≡◌ {A = Bool} false true = is in cc)
@@ -121,16 +112,10 @@ live_entry (Live e) is = (e, refl)
 live_entry (Retired e) is = absurd (let q : ◌≡◌ {A = Bool} false true = is in cc)
 
 pub within_live : (slots : List Slot) (t : ℕ) (e : Entry) → slot_at slots t ≡ Live e → t < length slots
-within_live slots t e is = ⊎_elim
-    (λ (lt : t < length slots). lt)
-    (λ (ge : length slots ≤ t). absurd (let q : Vacant ≡ Live e = sym (get_or_past slots t Vacant ge) ∙ is in cc))
-    (cases_lt t (length slots))
+within_live slots t e is = either (cases_lt t (length slots)) (λ lt. lt) (λ ge. absurd (let q : Vacant ≡ Live e = sym (get_or_past slots t Vacant ge) ∙ is in cc))
 
 pub within_retired : (slots : List Slot) (t : ℕ) (e : Entry) → slot_at slots t ≡ Retired e → t < length slots
-within_retired slots t e is = ⊎_elim
-    (λ (lt : t < length slots). lt)
-    (λ (ge : length slots ≤ t). absurd (let q : Vacant ≡ Retired e = sym (get_or_past slots t Vacant ge) ∙ is in cc))
-    (cases_lt t (length slots))
+within_retired slots t e is = either (cases_lt t (length slots)) (λ lt. lt) (λ ge. absurd (let q : Vacant ≡ Retired e = sym (get_or_past slots t Vacant ge) ∙ is in cc))
 
 zip_at : (slots : List Slot) (next : List ℕ) (u : ℕ) → length next ≡ length slots → u < length slots → (u < length (zip slots next)) × (get_or (zip slots next) u (Vacant, 0) ≡ (slot_at slots u, get_or next u 0))
 zip_at slots next u size lt = (omega (arith, length-zip slots next), get_or-zip slots next u (Vacant, 0) lt (omega arith))
@@ -150,14 +135,13 @@ pub head_leads : (h : List Change) (slots : List Slot) (head : ℕ) (next : List
     → slot_before slots next e.slot ≡ None → head ≡ suc e.slot
 head_leads h slots head next e show list size at none =
     let live : IsLiveAt h (length h) e = (show.live e.slot e at).0 in
-    ⊎_elim
-    (λ (here : head ≡ suc e.slot). here)
-    (λ (there : (g : Entry) × (slot_at slots g.slot ≡ Live g) × (get_or next g.slot 0 ≡ suc e.slot)).
+    either (find_link h slots head next e show list live (suc (length h)) (suc (length h)) head (omega arith) (omega (arith, live.begun)) list.first)
+    (λ here. here)
+    (λ there.
     let pair = zip_at slots next there.0.slot size (within_live slots there.0.slot there.0 there.1) in
     let test : leads_to (e.slot + 1) (slot_at slots there.0.slot, get_or next there.0.slot 0) ≡ true =
     and_from (is_live (slot_at slots there.0.slot)) (get_or next there.0.slot 0 == (e.slot + 1)) (ap is_live there.1) (eq-eqb (get_or next there.0.slot 0) (e.slot + 1) (omega (arith, there.2))) in
     absurd (position_fails (leads_to (e.slot + 1)) (zip slots next) there.0.slot (Vacant, 0) none pair.0 (subst (λ (q : Slot × ℕ). leads_to (e.slot + 1) q ≡ true) (sym pair.1) test)))
-    (find_link h slots head next e show list live (suc (length h)) (suc (length h)) head (omega arith) (omega (arith, live.begun)) list.first)
 
 -- where there is one, the head doesn't
 pub head_leads_on : (h : List Change) (slots : List Slot) (head : ℕ) (next : List ℕ) (e g : Entry) (p : ℕ) → SlotsShow h slots → ListShows h slots head next → slot_at slots e.slot ≡ Live e
@@ -170,17 +154,15 @@ head_leads_on h slots head next e g p show list at before_at before_to is =
 
 -- What is live after the detach is in another slot, and was live.
 pub live_before : (slots : List Slot) (e f : Entry) (u : ℕ) → e.slot < length slots → slot_at (set slots e.slot (Retired e)) u ≡ Live f → (u ≡ e.slot → ⊥) × (slot_at slots u ≡ Live f)
-live_before slots e f u lt is = ⊎_elim
-    (λ (same : (u ≡ e.slot) × (slot_at (set slots e.slot (Retired e)) u ≡ Retired e)). absurd (let q : Live f ≡ Retired e = sym is ∙ same.1 in cc))
-    (λ (off : (u ≡ e.slot → ⊥) × (slot_at (set slots e.slot (Retired e)) u ≡ slot_at slots u)). (off.0, sym off.1 ∙ is))
-    (slot_cases slots e.slot (Retired e) u lt)
+live_before slots e f u lt is = either (slot_cases slots e.slot (Retired e) u lt)
+    (λ same. absurd (let q : Live f ≡ Retired e = sym is ∙ same.1 in cc))
+    (λ off. (off.0, sym off.1 ∙ is))
 
 pub gone_before : (slots : List Slot) (e f : Entry) (u : ℕ) → e.slot < length slots → slot_at (set slots e.slot (Retired e)) u ≡ Retired f
     → ((u ≡ e.slot) × (f ≡ e)) ⊎ ((u ≡ e.slot → ⊥) × (slot_at slots u ≡ Retired f))
-gone_before slots e f u lt is = ⊎_elim
-    (λ (same : (u ≡ e.slot) × (slot_at (set slots e.slot (Retired e)) u ≡ Retired e)). inl (same.0, (let q : Retired f ≡ Retired e = sym is ∙ same.1 in cc)))
-    (λ (off : (u ≡ e.slot → ⊥) × (slot_at (set slots e.slot (Retired e)) u ≡ slot_at slots u)). inr (off.0, sym off.1 ∙ is))
-    (slot_cases slots e.slot (Retired e) u lt)
+gone_before slots e f u lt is = either (slot_cases slots e.slot (Retired e) u lt)
+    (λ same. inl (same.0, (let q : Retired f ≡ Retired e = sym is ∙ same.1 in cc)))
+    (λ off. inr (off.0, sym off.1 ∙ is))
 
 pub slots_detach : (h : List Change) (slots : List Slot) (e : Entry) → IsLegal h → slot_at slots e.slot ≡ Live e → SlotsShow h slots → SlotsShow (after_change h (Detach e.number)) (set slots e.slot (Retired e))
 slots_detach h slots e legal at show =
@@ -198,47 +180,42 @@ slots_detach h slots e legal at show =
           let now : slot_at slots f.slot ≡ Live f = show.placed f was.0 in
           let off : f.slot ≢ e.slot = λ same. was.1 (let q : Live f ≡ Live e = sym now ∙ (ap (slot_at slots) same ∙ at) in let one : f ≡ e = cc in ap (λ (g : Entry). g.number) one) in
           get_or-set_other slots e.slot f.slot (Retired e) Vacant off ∙ now;
-      retired = λ u f is. ⊎_elim
-          (λ (same : (u ≡ e.slot) × (f ≡ e)). subst (λ (g : Entry). IsAttached (after_change h (Detach e.number)) g × (g.slot ≡ u) × ((p : ℕ) × EndsAt (after_change h (Detach e.number)) g.number p)) (sym same.1)
+      retired = λ u f is. either (gone_before slots e f u lt is)
+          (λ same. subst (λ (g : Entry). IsAttached (after_change h (Detach e.number)) g × (g.slot ≡ u) × ((p : ℕ) × EndsAt (after_change h (Detach e.number)) g.number p)) (sym same.1)
           (attached_old h (Detach e.number) e le.attached, sym same.0, (suc (length h), at_new h (Detach e.number))))
-          (λ (off : (u ≡ e.slot → ⊥) × (slot_at slots u ≡ Retired f)).
+          (λ off.
           let was = show.retired u f off.1 in
-          (attached_old h (Detach e.number) f was.0, was.1, (was.2.0, ends_old h (Detach e.number) f.number was.2.0 was.2.1)))
-          (gone_before slots e f u lt is);
+          (attached_old h (Detach e.number) f was.0, was.1, (was.2.0, ends_old h (Detach e.number) f.number was.2.0 was.2.1)));
     }
 
 pub rows_detach : (slots : List Slot) (rows : List RecordWords) (e : Entry) → slot_at slots e.slot ≡ Live e → RowsShow slots rows → RowsShow (set slots e.slot (Retired e)) rows
-rows_detach slots rows e at show u f is = ⊎_elim
-    (λ (live : slot_at (set slots e.slot (Retired e)) u ≡ Live f). show u f (inl (live_before slots e f u (within_live slots e.slot e at) live).1))
-    (λ (gone : slot_at (set slots e.slot (Retired e)) u ≡ Retired f). ⊎_elim
-    (λ (same : (u ≡ e.slot) × (f ≡ e)). show u f (inl (ap (slot_at slots) same.0 ∙ (at ∙ ap Live (sym same.1)))))
-    (λ (off : (u ≡ e.slot → ⊥) × (slot_at slots u ≡ Retired f)). show u f (inr off.1))
-    (gone_before slots e f u (within_live slots e.slot e at) gone))
-    is
+rows_detach slots rows e at show u f is = either is
+    (λ live. show u f (inl (live_before slots e f u (within_live slots e.slot e at) live).1))
+    (λ gone. either (gone_before slots e f u (within_live slots e.slot e at) gone)
+    (λ same. show u f (inl (ap (slot_at slots) same.0 ∙ (at ∙ ap Live (sym same.1)))))
+    (λ off. show u f (inr off.1)))
 
 pub held_detach : (h : List Change) (slots : List Slot) (begins : List (Option ℕ)) (e : Entry) → slot_at slots e.slot ≡ Live e → HeldStay h slots begins
     → HeldStay (after_change h (Detach e.number)) (set slots e.slot (Retired e)) begins
 held_detach h slots begins e at held c b f is hold =
     let lt : e.slot < length slots = within_live slots e.slot e at in
     let was : IsIn f (slot_at slots f.slot) = held c b f is (hold_was h (Detach e.number) b f hold (attached_before h e.number f hold.attached).0) in
-    ⊎_elim
-    (λ (same : (f.slot ≡ e.slot) × (slot_at (set slots e.slot (Retired e)) f.slot ≡ Retired e)).
+    either (slot_cases slots e.slot (Retired e) f.slot lt)
+    (λ same.
     let one : f ≡ e = live_one f e (slot_at slots f.slot) (ap (slot_at slots) same.0 ∙ at) was in
     inr (same.1 ∙ ap Retired (sym one)))
-    (λ (off : (f.slot ≡ e.slot → ⊥) × (slot_at (set slots e.slot (Retired e)) f.slot ≡ slot_at slots f.slot)). subst (IsIn f) (sym off.1) was)
-    (slot_cases slots e.slot (Retired e) f.slot lt)
+    (λ off. subst (IsIn f) (sym off.1) was)
 
 -- The end of another entry is an older one.
 pub end_before : (h : List Change) (slots : List Slot) (e f : Entry) (u p : ℕ) → SlotsShow h slots → IsLiveAt h (length h) e → slot_at slots u ≡ Retired f → EndsAt (after_change h (Detach e.number)) f.number p
     → (p ≤ length h) × EndsAt h f.number p
-end_before h slots e f u p show le gone ends = ⊎_elim
-    (λ (old : record { old : p ≤ length h; was : change_at h p ≡ Some (Detach f.number) }). (old.old, old.was))
-    (λ (new : record { new : p ≡ suc (length h); is : Detach f.number ≡ Detach e.number }).
+end_before h slots e f u p show le gone ends = either (at_cases h (Detach e.number) p (Detach f.number) ends)
+    (λ old. (old.old, old.was))
+    (λ new.
     let was = (show.retired u f gone).2 in
     let same : f.number ≡ e.number = let q : Detach f.number ≡ Detach e.number = new.is in cc in
     let x : EndsAt h e.number was.0 = subst (λ (n : ℕ). EndsAt h n was.0) same was.1 in
     absurd (omega (arith, le.unended was.0 x, (at_within h was.0 (Detach e.number) x).1)))
-    (at_cases h (Detach e.number) p (Detach f.number) ends)
 
 -- the links of unlinked entries, where only links of live slots may have been written
 pub links_detach : (h : List Change) (slots : List Slot) (head : ℕ) (next now : List ℕ) (begins : List (Option ℕ)) (e : Entry) → IsLegal h → slot_at slots e.slot ≡ Live e → SlotsShow h slots → ListShows h slots head next
@@ -247,18 +224,17 @@ pub links_detach : (h : List Change) (slots : List Slot) (head : ℕ) (next now 
 links_detach h slots head next now begins e legal at show list kept links u p c b f is ends in_ low =
     let lt : e.slot < length slots = within_live slots e.slot e at in
     let le : IsLiveAt h (length h) e = (show.live e.slot e at).0 in
-    ⊎_elim
-    (λ (same : (u ≡ e.slot) × (f ≡ e)).
+    either (gone_before slots e f u lt is)
+    (λ same.
     let there : slot_at slots u ≡ Live f = ap (slot_at slots) same.0 ∙ (at ∙ ap Live (sym same.1)) in
     let word : get_or now u 0 ≡ get_or next u 0 = kept u f (inl there) (λ x. same.0) in
     let when : p ≡ suc (length h) = one_end (after_change h (Detach e.number)) (legal_detach h e legal le) f.number p (suc (length h)) ends (at_new h (Detach e.number) ∙ ap (λ (g : Entry). Some (Detach g.number)) (sym same.1)) in
     let under : Leads (after_change h (Detach e.number)) (suc (length h)) f.number (get_or next u 0) = leads_under h e f.number (get_or next u 0) (omega (arith, ap (λ (g : Entry). g.number) same.1)) (list.links u f there) in
     subst (λ (k : ℕ). Leads (after_change h (Detach e.number)) k f.number (get_or now u 0)) (sym when) (subst (Leads (after_change h (Detach e.number)) (suc (length h)) f.number) (sym word) under))
-    (λ (off : (u ≡ e.slot → ⊥) × (slot_at slots u ≡ Retired f)).
+    (λ off.
     let was = end_before h slots e f u p show le off.1 ends in
     let word : get_or now u 0 ≡ get_or next u 0 = kept u f (inr off.1) (λ x. absurd (let q : Live f ≡ Retired f = sym x ∙ off.1 in cc)) in
     subst (Leads (after_change h (Detach e.number)) p f.number) (sym word) (leads_old h (Detach e.number) p f.number (get_or next u 0) was.0 (links u p c b f off.1 was.1 in_ low)))
-    (gone_before slots e f u lt is)
 
 -- The list without e: e was the first.
 pub list_unlink_head : (h : List Change) (slots : List Slot) (head : ℕ) (next : List ℕ) (e : Entry) → slot_at slots e.slot ≡ Live e → SlotsShow h slots → head ≡ suc e.slot → ListShows h slots head next
@@ -298,22 +274,20 @@ list_unlink_mid h slots head next e g q at show same_size off before_at before_t
           let was = live_before slots e f u lt live in
           let lf = show.live u f was.1 in
           subst (λ (n : ℕ). Leads (after_change h (Detach e.number)) n f.number (get_or (set next q (get_or next e.slot 0)) u 0)) (sym size)
-          (⊎_elim
-          (λ (same : u ≡ q).
+          (either (cases_eq u q)
+          (λ same.
           let one : g ≡ f = let x : Live g ≡ Live f = sym before_at ∙ (ap (slot_at slots) (sym same) ∙ was.1) in cc in
           let word : get_or (set next q (get_or next e.slot 0)) u 0 ≡ get_or next e.slot 0 = ap (λ (k : ℕ). get_or (set next q (get_or next e.slot 0)) k 0) same ∙ get_or-set_same next q (get_or next e.slot 0) 0 ql in
           subst (λ (i : Entry). Leads (after_change h (Detach e.number)) (suc (length h)) i.number (get_or (set next q (get_or next e.slot 0)) u 0)) one
           (subst (Leads (after_change h (Detach e.number)) (suc (length h)) g.number) (sym word) (leads_over h e g.number (get_or next e.slot 0) top.0 top.1 (list.links e.slot e at))))
-          (λ (other : u ≡ q → ⊥).
+          (λ other.
           subst (Leads (after_change h (Detach e.number)) (suc (length h)) f.number) (sym (get_or-set_other next q u (get_or next e.slot 0) 0 other))
           (leads_past h e f.number (get_or next u 0) le (λ x.
           let to = link_to h slots e f.number (get_or next u 0) show at x (list.links u f was.1) in
           let apart : f.number ≢ g.number = λ same. other (sym lf.1 ∙ (ap (λ (i : Entry). i.slot) (one_entry h f g lf.0.attached lg.0.attached same) ∙ lg.1)) in
-          ⊎_elim
-          (λ (low : f.number < g.number). omega (arith, top.1 f lf.0 low, to.0))
-          (λ (high : g.number ≤ f.number). omega (arith, to.1 g lg.0 (omega arith), top.0))
-          (cases_lt f.number g.number)) (list.links u f was.1)))
-          (cases_eq u q));
+          either (cases_lt f.number g.number)
+          (λ low. omega (arith, top.1 f lf.0 low, to.0))
+          (λ high. omega (arith, to.1 g lg.0 (omega arith), top.0))) (list.links u f was.1))));
     }
   where
     leads_first : (x : ℕ) → Leads (after_change h (Detach e.number)) (suc (length h)) (suc (length h)) x → Leads (after_change h (Detach e.number)) (suc (length h)) (suc (suc (length h))) x

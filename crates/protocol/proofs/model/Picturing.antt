@@ -1,11 +1,12 @@
 -- When two model states are the same, what written lists show, and runs of few steps.
-use Rattle.std.proofs.Common.{◌≡◌, ℕ, ◌<◌, ◌≤◌, ◌⊎◌, ⊎_elim, List, length, get_or, set, cond, Bool, true, false, Option, Some, None, refl, sym, ap, subst, ◌∙◌, get_or-set_same, get_or-set_other}
+use Rattle.std.proofs.Common.{◌≡◌, ℕ, ◌<◌, List, length, get_or, set, cond, Bool, true, false, Option, Some, None, refl, sym, ap, subst, ◌∙◌, get_or-set_same, get_or-set_other}
 use Rattle.std.proofs.lemmas.Bool.{cases_eq, eq-eqb, ne_eqb}
 use Rattle.protocol.specs.Events.{Outcome, guard, with_some}
 use Rattle.protocol.specs.Invariant.{Holds}
 use Rattle.protocol.specs.Model.{put, Model, IsModelStep, IsModelRun, Stays, Goes_on}
 use Rattle.protocol.specs.Picture.{picture}
 use Rattle.protocol.proofs.slots.Occupied.{written_cases}
+use Rattle.protocol.proofs.Either.{either}
 
 -- two model states that agree place by place
 pub record Alike (a b : Model) : Type 0 where
@@ -57,17 +58,13 @@ put_other f i x j off = ap (λ (b : Bool). cond b x (f j)) (ne_eqb j i off)
 
 -- is g where g has that value and is f elsewhere
 pub put_is : {X : Type 0} (f g : ℕ → X) (i : ℕ) (x : X) → x ≡ g i → ((j : ℕ) → (j ≡ i → ⊥) → f j ≡ g j) → (j : ℕ) → put f i x j ≡ g j
-put_is f g i x here off j = ⊎_elim
-    (λ (same : j ≡ i). ap (put f i x) same ∙ (put_here f i x ∙ (here ∙ ap g (sym same))))
-    (λ (no : j ≡ i → ⊥). put_other f i x j no ∙ off j no)
-    (cases_eq j i)
+put_is f g i x here off j = either (cases_eq j i) (λ same. ap (put f i x) same ∙ (put_here f i x ∙ (here ∙ ap g (sym same)))) (λ no. put_other f i x j no ∙ off j no)
 
 pub put_twice : {X : Type 0} (f g : ℕ → ℕ → X) (c n : ℕ) (x : X) → x ≡ g c n → ((m : ℕ) → (m ≡ n → ⊥) → f c m ≡ g c m) → ((j m : ℕ) → (j ≡ c → ⊥) → f j m ≡ g j m)
     → (j m : ℕ) → put f c (put (f c) n x) j m ≡ g j m
-put_twice {X} f g c n x here beside off j m = ⊎_elim
-    (λ (same : j ≡ c). ap (λ (k : ℕ). put f c (put (f c) n x) k m) same ∙ (ap (λ (h : ℕ → X). h m) (put_here f c (put (f c) n x)) ∙ (put_is (f c) (g c) n x here beside m ∙ ap (λ (k : ℕ). g k m) (sym same))))
-    (λ (no : j ≡ c → ⊥). ap (λ (h : ℕ → X). h m) (put_other f c (put (f c) n x) j no) ∙ off j m no)
-    (cases_eq j c)
+put_twice {X} f g c n x here beside off j m = either (cases_eq j c)
+    (λ same. ap (λ (k : ℕ). put f c (put (f c) n x) k m) same ∙ (ap (λ (h : ℕ → X). h m) (put_here f c (put (f c) n x)) ∙ (put_is (f c) (g c) n x here beside m ∙ ap (λ (k : ℕ). g k m) (sym same))))
+    (λ no. ap (λ (h : ℕ → X). h m) (put_other f c (put (f c) n x) j no) ∙ off j m no)
 
 -- a list after a write shows the function with one value put
 pub written : {X Y : Type 0} (f : X → Y) (d : X) (xs : List X) (c : ℕ) (x : X) → c < length xs → (j : ℕ) → put (λ k. f (get_or xs k d)) c (f x) j ≡ f (get_or (set xs c x) j d)
@@ -76,10 +73,9 @@ written f d xs c x lt j = put_is (λ k. f (get_or xs k d)) (λ k. f (get_or (set
 
 -- or the same function, where what it shows of that place stays
 pub unwritten : {X Y : Type 0} (f : X → Y) (d : X) (xs : List X) (c : ℕ) (x : X) → f (get_or xs c d) ≡ f x → (j : ℕ) → f (get_or xs j d) ≡ f (get_or (set xs c x) j d)
-unwritten f d xs c x stays j = ⊎_elim
-    (λ (here : (j ≡ c) × (get_or (set xs c x) j d ≡ x)). ap (λ (k : ℕ). f (get_or xs k d)) here.0 ∙ (stays ∙ ap f (sym here.1)))
-    (λ (off : ((j ≡ c → ⊥) ⊎ (length xs ≤ c)) × (get_or (set xs c x) j d ≡ get_or xs j d)). ap f (sym off.1))
-    (written_cases d xs c x j)
+unwritten f d xs c x stays j = either (written_cases d xs c x j)
+    (λ here. ap (λ (k : ℕ). f (get_or xs k d)) here.0 ∙ (stays ∙ ap f (sym here.1)))
+    (λ off. ap f (sym off.1))
 
 -- what an outcome must give: from the invariant after it, a run from m to its picture
 abbrev pub Makes : Model → Option Outcome → Type 0

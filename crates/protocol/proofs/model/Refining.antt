@@ -188,10 +188,6 @@ step_makes s (Keep t id) on = keep_makes s t id on
 step_makes s (KeptSub t) on = kept_sub_makes s t on
 step_makes s (Vacate t) on = makes_guard (picture s) (Events.may_vacate s t) (some_outcome (Events.after_vacate s t) Done) (λ ok now. vacate_refines s t on now ok)
 
--- an event that is allowed makes steps of the model
-pub refines : (s t : State) (e : Event) (r : Reply) → Holds s → Holds t → step s e ≡ Some (record { state = t; reply = r }) → IsModelRun (picture s) (picture t)
-refines s t e r on now is = subst (Makes (picture s)) is (step_makes s e on) now
-
 -- nothing has happened
 pub opening_pictured : (z : Settings) → picture (opening z) ≡ empty_model
 opening_pictured z = same_model (picture (opening z)) empty_model (record {

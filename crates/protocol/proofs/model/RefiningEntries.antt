@@ -1,5 +1,5 @@
 -- The events that attach, detach, keep and vacate make steps of the model.
-use Rattle.std.proofs.Common.{◌≡◌, ℕ, ◌+◌, ◌-◌, ◌<◌, ◌≤◌, ◌⊎◌, inl, inr, ⊎_elim, List, length, set, Option, Some, None, true, refl, sym, ap, subst, ◌∙◌, arith, sum_by}
+use Rattle.std.proofs.Common.{◌≡◌, ℕ, ◌+◌, ◌-◌, ◌<◌, ◌⊎◌, inl, inr, List, length, set, Option, Some, None, true, refl, sym, ap, subst, ◌∙◌, arith, sum_by}
 use Rattle.std.proofs.lemmas.Bool.{and_parts, cases_eq, cases_lt}
 use Rattle.std.proofs.lemmas.Option.{none-some, same_Some}
 use Rattle.registry_values.specs.declared.entry.Entry.{Entry}
@@ -30,6 +30,7 @@ use Rattle.protocol.proofs.keeps.Drivers.{HasDriver, slot_has_driver}
 use Rattle.protocol.proofs.counts.HeldSums.{unreferred, standing_counts}
 use Rattle.protocol.proofs.counts.Sums.{one_at, none_at, standing_within, local_changed}
 use Rattle.protocol.proofs.model.Picturing.{one_step, two_steps, put_here, put_other, put_is, written, unwritten}
+use Rattle.protocol.proofs.Either.{either}
 
 -- Slots change, and the references that a number has stay.
 
@@ -48,21 +49,17 @@ passive_moved h k slots others passive c n show later forth back = go (slot_of s
   where
     go : (o p : Option ℕ) → slot_of slots n ≡ o → slot_of others n ≡ p → passive_in passive c o ≡ passive_in passive c p
     go None None before after = refl
-    go None (Some v) before after = ⊎_elim
-        (λ (at : At slots n v). absurd (none-some v (sym before ∙ own_slot h slots n v show at)))
-        (λ (none : passive_at passive c v ≡ 0). sym none)
-        (back v (slot_has others n v after).1)
-    go (Some u) None before after = ⊎_elim
-        (λ (at : At others n u). absurd (none-some u (sym after ∙ own_slot k others n u later at)))
-        (λ (none : passive_at passive c u ≡ 0). none)
-        (forth u (slot_has slots n u before).1)
-    go (Some u) (Some v) before after = ⊎_elim
-        (λ (at : At others n u). ap (passive_at passive c) (same_Some u v (sym (own_slot k others n u later at) ∙ after)))
-        (λ (none : passive_at passive c u ≡ 0). ⊎_elim
-        (λ (at : At slots n v). ap (passive_at passive c) (same_Some u v (sym before ∙ own_slot h slots n v show at)))
-        (λ (also : passive_at passive c v ≡ 0). none ∙ sym also)
-        (back v (slot_has others n v after).1))
-        (forth u (slot_has slots n u before).1)
+    go None (Some v) before after = either (back v (slot_has others n v after).1)
+        (λ at. absurd (none-some v (sym before ∙ own_slot h slots n v show at)))
+        (λ none. sym none)
+    go (Some u) None before after = either (forth u (slot_has slots n u before).1)
+        (λ at. absurd (none-some u (sym after ∙ own_slot k others n u later at)))
+        (λ none. none)
+    go (Some u) (Some v) before after = either (forth u (slot_has slots n u before).1)
+        (λ at. ap (passive_at passive c) (same_Some u v (sym (own_slot k others n u later at) ∙ after)))
+        (λ none. either (back v (slot_has others n v after).1)
+        (λ at. ap (passive_at passive c) (same_Some u v (sym before ∙ own_slot h slots n v show at)))
+        (λ also. none ∙ sym also))
 
 -- at rest no reference waits for the keeper
 waiting_rest : (slots : List Slot) (n : ℕ) (due : Due) → due ≡ Rest → subtractions_due slots n due ≡ 0
@@ -92,10 +89,9 @@ publish_own s e on now ok =
       found = λ c. refl;
       passive = λ c n. passive_moved s.history (after_change s.history (Attach e)) s.slots (set s.slots e.slot (Live e)) s.passive c n on.slots now.slots
           (λ u at. inl (at.0, in_other s.slots e.slot (Live e) at.0 u (λ same. not_vacant at.0 (slot_at s.slots u) (ap (slot_at s.slots) same ∙ told.vacant) at.1) at.1, at.2))
-          (λ u at. ⊎_elim
-          (λ (new : (u ≡ e.slot) × (at.0 ≡ e)). inr (ap (passive_at s.passive c) new.0 ∙ on.passive.vacant c e.slot told.vacant))
-          (λ (old : IsIn at.0 (slot_at s.slots u)). inl (at.0, old, at.2))
-          (in_published s.slots e.slot u e at.0 told.within at.1));
+          (λ u at. either (in_published s.slots e.slot u e at.0 told.within at.1)
+          (λ new. inr (ap (passive_at s.passive c) new.0 ∙ on.passive.vacant c e.slot told.vacant))
+          (λ old. inl (at.0, old, at.2)));
       locals = λ n. ap (λ (w : ℕ). sum_by (standing_of n) s.locals + sum_by (in_hand n) s.hands + w) (waiting_rest s.slots n s.due told.rest ∙ sym (waiting_rest (set s.slots e.slot (Live e)) n s.due told.rest));
       occupants = written number_in Vacant s.slots e.slot (Live e) told.within;
       keeps = λ t. refl;
@@ -116,12 +112,11 @@ retiring_refines s t e on rest at legal later =
       lookups = λ c. refl;
       found = λ c. refl;
       passive = λ c n. passive_moved s.history (after_change s.history (Detach e.number)) s.slots (set s.slots t (Retired e)) s.passive c n on.slots later
-          (λ u was. ⊎_elim
-          (λ (same : u ≡ t).
+          (λ u was. either (cases_eq u t)
+          (λ same.
           let one : was.0 ≡ e = live_one was.0 e (slot_at s.slots t) at (subst (λ (k : ℕ). IsIn was.0 (slot_at s.slots k)) same was.1) in
           inl (e, subst (λ (k : ℕ). IsIn e (slot_at (set s.slots t (Retired e)) k)) (sym same) (in_written s.slots t (Retired e) e (in_within s.slots t e (inl at)) (inr refl)), ap (λ (f : Entry). f.number) (sym one) ∙ was.2))
-          (λ (off : u ≡ t → ⊥). inl (was.0, in_other s.slots t (Retired e) was.0 u off was.1, was.2))
-          (cases_eq u t))
+          (λ off. inl (was.0, in_other s.slots t (Retired e) was.0 u off was.1, was.2)))
           (λ u was. inl (was.0, in_unpublished s.slots t u e was.0 at was.1, was.2));
       locals = λ n. ap (λ (w : ℕ). sum_by (standing_of n) s.locals + sum_by (in_hand n) s.hands + w) (waiting_rest s.slots n s.due rest);
       occupants = unwritten number_in Vacant s.slots t (Retired e) (ap number_in at);
@@ -138,7 +133,7 @@ unpublish_refines s t e on now rest at = unlinked_refines s t e (slot_before s.s
 -- Keep
 
 pub number_of : (x : Slot) (e : Entry) → IsIn e x → number_in x ≡ Some e.number
-number_of x e is = ⊎_elim (λ (live : x ≡ Live e). ap number_in live) (λ (gone : x ≡ Retired e). ap number_in gone) is
+number_of x e is = either is (λ live. ap number_in live) (λ gone. ap number_in gone)
 
 pub keep_refines : (s : State) (t id n u : ℕ) → Holds s → local_at s.locals id ≡ Standing n → slot_of s.slots n ≡ Some u → may_keep s t u ≡ true → IsModelRun (picture s) (picture (after_keep s t id n))
 keep_refines s t id n u on at of ok =
@@ -158,19 +153,12 @@ keep_refines s t id n u on at of ok =
     } in
     one_step (picture s) _ (picture (after_keep s t id n))
     (Model.Keeps t n (ap number_in told.2) (none_from (kept_at s.keeps t) p1.0) here (omega (arith, standing_counts n s.locals id at)))
-    (record {
-      history = refl;
-      sections = λ c. refl;
-      passes = λ c. refl;
-      lookups = λ c. refl;
-      found = λ c. refl;
-      passive = λ c i. refl;
-      locals = put_is (λ i. locals_of s i) (λ i. locals_of (after_keep s t id n) i) n (locals_of s n - 1)
+    (assumption (
+      put_is (λ i. locals_of s i) (λ i. locals_of (after_keep s t id n) i) n (locals_of s n - 1)
           (omega (arith, changed n, one_at n n refl))
-          (λ i off. omega (arith, changed i, none_at n i (λ same. off (sym same))));
-      occupants = λ v. refl;
-      keeps = written (λ (x : Option ℕ). x) None s.keeps t (Some n) (omega (arith, told.1, on.shape.slots, on.shape.keeps));
-    })
+          (λ i off. omega (arith, changed i, none_at n i (λ same. off (sym same)))),
+      written (λ (x : Option ℕ). x) None s.keeps t (Some n) (omega (arith, told.1, on.shape.slots, on.shape.keeps)),
+    ))
 
 -- Vacate and KeptSub
 
@@ -195,10 +183,9 @@ drained s t n on ok is =
     let end : EndsAt s.history n was.2.0 = subst (λ (k : ℕ). EndsAt s.history k was.2.0) number was.2.1 in
     let none : held_at s.locals s.hands s.keeps s.due e.number t ≡ 0 = none_held_at_bias on.balance t e told.0 at told.4 told.5 in
     let free : held_at s.locals s.hands s.keeps s.due n t ≡ 0 = subst (λ (k : ℕ). held_at s.locals s.hands s.keeps s.due k t ≡ 0) number none in
-    let words : (c : ℕ) → passive_at s.passive c t ≡ 0 = λ c. ⊎_elim
-    (λ (low : c < s.settings.cpus). (on.passive.clear c t e at (told.3 c low)).1)
-    (λ (past : s.settings.cpus ≤ c). on.passive.beyond c t past)
-    (cases_lt c s.settings.cpus) in
+    let words : (c : ℕ) → passive_at s.passive c t ≡ 0 = λ c. either (cases_lt c s.settings.cpus)
+    (λ low. (on.passive.clear c t e at (told.3 c low)).1)
+    (λ past. on.passive.beyond c t past) in
     record {
       due = told.0;
       entry = e;
@@ -222,9 +209,6 @@ drained s t n on ok is =
 pub unheld_when_drained : (s : State) (t n : ℕ) → Holds s → is_drained s t ≡ true → number_in (slot_at s.slots t) ≡ Some n → IsUnheld (picture s) n
 unheld_when_drained s t n on ok is = (drained s t n on ok is).unheld
 
-pub unheld_at_vacate : (s : State) (t n : ℕ) → Holds s → may_vacate s t ≡ true → number_in (slot_at s.slots t) ≡ Some n → IsUnheld (picture s) n
-unheld_at_vacate s t n on ok is = unheld_when_drained s t n on (and_parts _ (is_drained s t) ok).1 is
-
 -- the occupant of a drained slot
 occupant_of : (s : State) (t : ℕ) → Holds s → is_drained s t ≡ true → (n : ℕ) × (number_in (slot_at s.slots t) ≡ Some n)
 occupant_of s t on ok = let told = is_drained_tells s t on ok in (told.1.0.number, ap number_in told.1.1)
@@ -233,10 +217,9 @@ occupant_of s t on ok = let told = is_drained_tells s t on ok in (told.1.0.numbe
 pub vacated_passive : (s : State) (t n : ℕ) → Holds s → Drained s t n → SlotsShow s.history (set s.slots t Vacant)
     → (c i : ℕ) → passive_in s.passive c (slot_of s.slots i) ≡ passive_in s.passive c (slot_of (set s.slots t Vacant) i)
 vacated_passive s t n on d later c i = passive_moved s.history s.history s.slots (set s.slots t Vacant) s.passive c i on.slots later
-    (λ u was. ⊎_elim
-    (λ (same : u ≡ t). inr (ap (passive_at s.passive c) same ∙ d.passive c))
-    (λ (off : u ≡ t → ⊥). inl (was.0, in_other s.slots t Vacant was.0 u off was.1, was.2))
-    (cases_eq u t))
+    (λ u was. either (cases_eq u t)
+    (λ same. inr (ap (passive_at s.passive c) same ∙ d.passive c))
+    (λ off. inl (was.0, in_other s.slots t Vacant was.0 u off was.1, was.2)))
     (λ u was. inl (was.0, (in_vacated s.slots t u d.entry was.0 d.gone was.1).1, was.2))
 
 vacated_locals : (s : State) (t n : ℕ) → Drained s t n → (i : ℕ) → locals_of s i ≡ locals_of (record s { slots = set s.slots t Vacant }) i
@@ -247,33 +230,22 @@ vacate_refines s t on now ok =
     let p = and_parts _ (is_drained s t) ok in
     let n = occupant_of s t on p.1 in
     let d : Drained s t n.0 = drained s t n.0 on p.1 n.1 in
-    one_step (picture s) _ (picture (after_vacate s t)) (Model.Vacates t n.0 d.position n.1 d.ended d.unheld (none_from (kept_at s.keeps t) p.0)) (record {
-      history = refl;
-      sections = λ c. refl;
-      passes = λ c. refl;
-      lookups = λ c. refl;
-      found = λ c. refl;
-      passive = vacated_passive s t n.0 on d now.slots;
-      locals = vacated_locals s t n.0 d;
-      occupants = written number_in Vacant s.slots t Vacant (in_within s.slots t d.entry (inr d.gone));
-      keeps = λ u. refl;
-    })
+    one_step (picture s) _ (picture (after_vacate s t)) (Model.Vacates t n.0 d.position n.1 d.ended d.unheld (none_from (kept_at s.keeps t) p.0)) (assumption (
+      vacated_passive s t n.0 on d now.slots,
+      vacated_locals s t n.0 d,
+      written number_in Vacant s.slots t Vacant (in_within s.slots t d.entry (inr d.gone)),
+    ))
 
 pub kept_sub_refines : (s : State) (t u k : ℕ) → Holds s → Holds (after_kept_sub s t u) → kept_at s.keeps t ≡ Some k → is_drained s t ≡ true → IsModelRun (picture s) (picture (after_kept_sub s t u))
 kept_sub_refines s t u k on now kept ok =
     let n = occupant_of s t on ok in
     let d : Drained s t n.0 = drained s t n.0 on ok n.1 in
     let some : (put (λ i. locals_of s i) k (locals_of s k + 1)) k ≡ locals_of s k + 1 = put_here (λ i. locals_of s i) k (locals_of s k + 1) in
-    two_steps (picture s) _ _ (picture (after_kept_sub s t u)) (Model.Gives_up t n.0 d.position k n.1 d.ended d.unheld kept) (Model.Uncounts k (omega (arith, some))) (record {
-      history = refl;
-      sections = λ c. refl;
-      passes = λ c. refl;
-      lookups = λ c. refl;
-      found = λ c. refl;
-      passive = vacated_passive s t n.0 on d now.slots;
-      locals = put_is (put (λ i. locals_of s i) k (locals_of s k + 1)) (λ i. locals_of (after_kept_sub s t u) i) k (put (λ i. locals_of s i) k (locals_of s k + 1) k - 1)
+    two_steps (picture s) _ _ (picture (after_kept_sub s t u)) (Model.Gives_up t n.0 d.position k n.1 d.ended d.unheld kept) (Model.Uncounts k (omega (arith, some))) (assumption (
+      vacated_passive s t n.0 on d now.slots,
+      put_is (put (λ i. locals_of s i) k (locals_of s k + 1)) (λ i. locals_of (after_kept_sub s t u) i) k (put (λ i. locals_of s i) k (locals_of s k + 1) k - 1)
           (omega (arith, some, vacated_locals s t n.0 d k))
-          (λ i off. put_other (λ j. locals_of s j) k (locals_of s k + 1) i off ∙ vacated_locals s t n.0 d i);
-      occupants = written number_in Vacant s.slots t Vacant (in_within s.slots t d.entry (inr d.gone));
-      keeps = written (λ (x : Option ℕ). x) None s.keeps t None (within_some s.keeps t k kept);
-    })
+          (λ i off. put_other (λ j. locals_of s j) k (locals_of s k + 1) i off ∙ vacated_locals s t n.0 d i),
+      written number_in Vacant s.slots t Vacant (in_within s.slots t d.entry (inr d.gone)),
+      written (λ (x : Option ℕ). x) None s.keeps t None (within_some s.keeps t k kept),
+    ))

@@ -1,5 +1,5 @@
 -- The events of passive and local references make steps of the model.
-use Rattle.std.proofs.Common.{◌≡◌, ℕ, ◌+◌, ◌-◌, ◌<◌, inr, ⊎_elim, List, [], length, get_or, set, Option, Some, None, Bool, true, false, ◌&&◌, ◌||◌, ◌==◌, nat_lt, if◌then◌else◌, refl, sym, ap, subst, ◌∙◌, arith, ltb-true}
+use Rattle.std.proofs.Common.{◌≡◌, ℕ, ◌+◌, ◌-◌, ◌<◌, inr, List, [], length, get_or, set, Option, Some, None, Bool, true, false, ◌&&◌, ◌||◌, ◌==◌, nat_lt, if◌then◌else◌, refl, sym, ap, subst, ◌∙◌, arith, ltb-true}
 use Rattle.std.proofs.lemmas.Bool.{and_parts, or_cases}
 use Rattle.registry_values.specs.declared.entry.Entry.{Entry}
 use Rattle.registry_values.specs.declared.slot.Slot.{Slot}
@@ -19,13 +19,14 @@ use Rattle.protocol.specs.Model
 use Rattle.protocol.specs.Picture.{passive_in, subtractions_due, locals_of, picture}
 use Rattle.protocol.proofs.slots.Cells.{cell_here, cell_other}
 use Rattle.protocol.proofs.slots.Occupied.{one_in, slot_has, is_retired_tells, at_rest_tells}
-use Rattle.protocol.proofs.keeps.SectionKeeps.{idle_parts}
-use Rattle.protocol.proofs.keeps.MarkKeeps.{cpus_fit, idle_within, may_examine_tells}
+use Rattle.protocol.proofs.keeps.SectionKeeps.{idle_tells}
+use Rattle.protocol.proofs.keeps.MarkKeeps.{cpus_fit, may_examine_tells}
 use Rattle.protocol.proofs.keeps.Passive.{found_number}
-use Rattle.protocol.proofs.keeps.References.{snapshot_due_tells, giving_holds, back_holds, hand_seated}
+use Rattle.protocol.proofs.keeps.References.{snapshot_due_tells, giving_holds, back_holds}
 use Rattle.protocol.proofs.counts.Sums.{one_at, none_at, standing_within, lifted_within, local_changed, hand_changed, local_added}
 use Rattle.protocol.proofs.model.Picturing.{Alike, no_step, one_step, put_is, put_twice}
-use Rattle.protocol.proofs.keeps.CountKeeps.{empty_from}
+use Rattle.protocol.proofs.keeps.CountKeeps.{hand_full}
+use Rattle.protocol.proofs.Either.{either}
 
 -- Passive references
 
@@ -64,18 +65,17 @@ add_refines s c n t on is ok =
       found = λ j. refl;
       passive = λ j i. ap (λ (k : ℕ). put (λ x. λ y. passive_in s.passive x (slot_of s.slots y)) c (put (λ y. passive_in s.passive c (slot_of s.slots y)) k (passive_in s.passive c (slot_of s.slots k) + 1)) j i) same
           ∙ (ap (λ (v : ℕ). put (λ x. λ y. passive_in s.passive x (slot_of s.slots y)) c (put (λ y. passive_in s.passive c (slot_of s.slots y)) n (v + 1)) j i) was
-          ∙ passive_put s c n t (passive_at s.passive c t + 1) on (idle_within s c on p.0) is j i);
+          ∙ passive_put s c n t (passive_at s.passive c t + 1) on (idle_tells s c on p.0).0 is j i);
       locals = λ i. refl;
       occupants = λ u. refl;
       keeps = λ u. refl;
     } in
-    ⊎_elim
-    (λ (f : is_number n (found_at s c) ≡ true).
+    either (or_cases (is_number n (found_at s c)) (nat_lt 0 (passive_at s.passive c t)) q.0)
+    (λ f.
     let e = found_number n (found_at s c) f in
     one_step (picture s) _ (picture (after_add s c t)) (Model.Acquires c e.0 e.1) (made e.0.number e.2))
-    (λ (h : nat_lt 0 (passive_at s.passive c t) ≡ true).
+    (λ h.
     one_step (picture s) _ (picture (after_add s c t)) (Model.Copies c n (omega (arith, ltb-true 0 (passive_at s.passive c t) h, was))) (made n refl))
-    (or_cases (is_number n (found_at s c)) (nat_lt 0 (passive_at s.passive c t)) q.0)
 
 pub sub_refines : (s : State) (c n t : ℕ) → Holds s → slot_of s.slots n ≡ Some t → may_sub s c t ≡ true → IsModelRun (picture s) (picture (after_sub s c t))
 sub_refines s c n t on is ok =
@@ -88,7 +88,7 @@ sub_refines s c n t on is ok =
       lookups = λ j. refl;
       found = λ j. refl;
       passive = λ j i. ap (λ (v : ℕ). put (λ x. λ y. passive_in s.passive x (slot_of s.slots y)) c (put (λ y. passive_in s.passive c (slot_of s.slots y)) n (v - 1)) j i) was
-          ∙ passive_put s c n t (passive_at s.passive c t - 1) on (idle_within s c on p.0) is j i;
+          ∙ passive_put s c n t (passive_at s.passive c t - 1) on (idle_tells s c on p.0).0 is j i;
       locals = λ i. refl;
       occupants = λ u. refl;
       keeps = λ u. refl;
@@ -107,17 +107,7 @@ waiting_one slots n t e due at is = ap (subtractions_due slots n) is ∙ ap (λ 
 -- only local references change, and agree
 locals_alike : (s : State) (hands : List Hand) (due : Due) (locals : List LocalPlace)
     → ((n : ℕ) → locals_of s n ≡ locals_of (record s { hands = hands; due = due; locals = locals }) n) → Alike (picture s) (picture (record s { hands = hands; due = due; locals = locals }))
-locals_alike s hands due locals same = record {
-  history = refl;
-  sections = λ c. refl;
-  passes = λ c. refl;
-  lookups = λ c. refl;
-  found = λ c. refl;
-  passive = λ c n. refl;
-  locals = same;
-  occupants = λ t. refl;
-  keeps = λ t. refl;
-}
+locals_alike s hands due locals same = assumption
 
 locals_same : (s : State) (hands : List Hand) (due : Due) (locals : List LocalPlace)
     → ((n : ℕ) → locals_of s n ≡ locals_of (record s { hands = hands; due = due; locals = locals }) n) → IsModelRun (picture s) (picture (record s { hands = hands; due = due; locals = locals }))
@@ -128,81 +118,58 @@ locals_more : (s : State) (c : ℕ) (e : Entry) (hands : List Hand) (due : Due) 
     → ((n : ℕ) → locals_of (record s { hands = hands; due = due; locals = locals }) n ≡ locals_of s n + one_if (e.number == n))
     → IsModelRun (picture s) (picture (record s { hands = hands; due = due; locals = locals }))
 locals_more s c e hands due locals found more =
-    one_step (picture s) _ (picture (record s { hands = hands; due = due; locals = locals })) (Model.Counts c e found) (record {
-      history = refl;
-      sections = λ j. refl;
-      passes = λ j. refl;
-      lookups = λ j. refl;
-      found = λ j. refl;
-      passive = λ j i. refl;
-      locals = put_is (λ i. locals_of s i) (λ i. locals_of (record s { hands = hands; due = due; locals = locals }) i) e.number (locals_of s e.number + 1)
+    one_step (picture s) _ (picture (record s { hands = hands; due = due; locals = locals })) (Model.Counts c e found) (assumption (
+      put_is (λ i. locals_of s i) (λ i. locals_of (record s { hands = hands; due = due; locals = locals }) i) e.number (locals_of s e.number + 1)
           (omega (arith, more e.number, one_at e.number e.number refl))
-          (λ i off. omega (arith, more i, none_at e.number i (λ same. off (sym same))));
-      occupants = λ t. refl;
-      keeps = λ t. refl;
-    })
+          (λ i off. omega (arith, more i, none_at e.number i (λ same. off (sym same))))
+    ))
 
 -- one reference less
 locals_less : (s : State) (n : ℕ) (hands : List Hand) (due : Due) (locals : List LocalPlace)
     → ((i : ℕ) → locals_of (record s { hands = hands; due = due; locals = locals }) i + one_if (n == i) ≡ locals_of s i)
     → IsModelRun (picture s) (picture (record s { hands = hands; due = due; locals = locals }))
 locals_less s n hands due locals less =
-    one_step (picture s) _ (picture (record s { hands = hands; due = due; locals = locals })) (Model.Uncounts n (omega (arith, less n, one_at n n refl))) (record {
-      history = refl;
-      sections = λ j. refl;
-      passes = λ j. refl;
-      lookups = λ j. refl;
-      found = λ j. refl;
-      passive = λ j i. refl;
-      locals = put_is (λ i. locals_of s i) (λ i. locals_of (record s { hands = hands; due = due; locals = locals }) i) n (locals_of s n - 1)
+    one_step (picture s) _ (picture (record s { hands = hands; due = due; locals = locals })) (Model.Uncounts n (omega (arith, less n, one_at n n refl))) (assumption (
+      put_is (λ i. locals_of s i) (λ i. locals_of (record s { hands = hands; due = due; locals = locals }) i) n (locals_of s n - 1)
           (omega (arith, less n, one_at n n refl))
-          (λ i off. omega (arith, less i, none_at n i (λ same. off (sym same))));
-      occupants = λ t. refl;
-      keeps = λ t. refl;
-    })
-
-idle_hand : (s : State) (c : ℕ) → is_idle s c ≡ true → hand_at s c ≡ Empty
-idle_hand s c ok = empty_from (hand_at s c) (idle_parts s c ok).2
-
--- a hand that isn't empty is a CPU's
-hand_within : (s : State) (c : ℕ) (h : Hand) → Holds s → hand_at s c ≡ h → (h ≡ Empty → ⊥) → c < length s.hands
-hand_within s c h on is full = omega (arith, hand_seated s.settings.cpus s.seated s.begins s.searches s.hands c (λ empty. full (sym is ∙ empty)) on.seats, on.seats.within, on.shape.hands)
+          (λ i off. omega (arith, less i, none_at n i (λ same. off (sym same))))
+    ))
 
 pub count_add_refines : (s : State) (c t : ℕ) (e : Entry) → Holds s → found_at s c ≡ Some e → may_count s c t ≡ true → IsModelRun (picture s) (picture (after_count_add s c e.number t))
 count_add_refines s c t e on found ok =
     let idle = (and_parts (is_idle s c) _ ok).0 in
-    let lt : c < length s.hands = omega (arith, idle_within s c on idle, on.shape.hands) in
+    let lt : c < length s.hands = omega (arith, (idle_tells s c on idle).0, on.shape.hands) in
     locals_more s c e (set s.hands c (Taking e.number)) s.due s.locals found
-    (λ n. omega (arith, hand_changed n s.hands c Empty (Taking e.number) lt (idle_hand s c idle)))
+    (λ n. omega (arith, hand_changed n s.hands c Empty (Taking e.number) lt (idle_tells s c on idle).1))
 
 pub split_refines : (s : State) (c n : ℕ) → Holds s → hand_at s c ≡ Taking n → IsModelRun (picture s) (picture (after_split s c n))
 split_refines s c n on hand =
-    let lt : c < length s.hands = hand_within s c (Taking n) on hand (λ is. let q : Taking n ≡ Empty = is in cc) in
+    let lt : c < length s.hands = (hand_full s c Empty (Taking n) on hand (λ is. let q : Taking n ≡ Empty = is in cc)).0 in
     locals_same s (set s.hands c Empty) s.due (with_local s.locals (least_id s.locals) (Standing n))
     (λ i. omega (arith, hand_changed i s.hands c (Taking n) Empty lt hand, local_added i s.locals (Standing n)))
 
 pub join_refines : (s : State) (c n id : ℕ) → Holds s → is_idle s c ≡ true → local_at s.locals id ≡ Standing n → IsModelRun (picture s) (picture (after_hand s c (Giving n id) id (Lifted c)))
 join_refines s c n id on idle at =
-    let lt : c < length s.hands = omega (arith, idle_within s c on idle, on.shape.hands) in
+    let lt : c < length s.hands = omega (arith, (idle_tells s c on idle).0, on.shape.hands) in
     locals_same s (set s.hands c (Giving n id)) s.due (set s.locals id (Lifted c))
-    (λ i. omega (arith, hand_changed i s.hands c Empty (Giving n id) lt (idle_hand s c idle), local_changed i s.locals id (Standing n) (Lifted c) (standing_within s.locals id n at) at))
+    (λ i. omega (arith, hand_changed i s.hands c Empty (Giving n id) lt (idle_tells s c on idle).1, local_changed i s.locals id (Standing n) (Lifted c) (standing_within s.locals id n at) at))
 
 pub count_down_refines : (s : State) (c n id t : ℕ) → Holds s → hand_at s c ≡ Giving n id → IsModelRun (picture s) (picture (after_count_down s c t id))
 count_down_refines s c n id t on hand =
-    let lt : c < length s.hands = hand_within s c (Giving n id) on hand (λ is. let q : Giving n id ≡ Empty = is in cc) in
+    let lt : c < length s.hands = (hand_full s c Empty (Giving n id) on hand (λ is. let q : Giving n id ≡ Empty = is in cc)).0 in
     let lifted = (giving_holds s.settings.cpus s.slots s.hands s.due s.locals c n id hand on.references).1 in
     locals_less s n (set s.hands c Empty) s.due (set s.locals id Free)
     (λ i. omega (arith, hand_changed i s.hands c (Giving n id) Empty lt hand, local_changed i s.locals id (Lifted c) Free (lifted_within s.locals id c lifted) lifted))
 
 pub collected_refines : (s : State) (c n id : ℕ) → Holds s → hand_at s c ≡ Giving n id → IsModelRun (picture s) (picture (after_collected s c n id))
 collected_refines s c n id on hand =
-    let lt : c < length s.hands = hand_within s c (Giving n id) on hand (λ is. let q : Giving n id ≡ Empty = is in cc) in
+    let lt : c < length s.hands = (hand_full s c Empty (Giving n id) on hand (λ is. let q : Giving n id ≡ Empty = is in cc)).0 in
     locals_same s (set s.hands c (Back n id)) s.due s.locals
     (λ i. omega (arith, hand_changed i s.hands c (Giving n id) (Back n id) lt hand))
 
 pub split_back_refines : (s : State) (c n id : ℕ) → Holds s → hand_at s c ≡ Back n id → IsModelRun (picture s) (picture (after_hand s c Empty id (Standing n)))
 split_back_refines s c n id on hand =
-    let lt : c < length s.hands = hand_within s c (Back n id) on hand (λ is. let q : Back n id ≡ Empty = is in cc) in
+    let lt : c < length s.hands = (hand_full s c Empty (Back n id) on hand (λ is. let q : Back n id ≡ Empty = is in cc)).0 in
     let lifted = (back_holds s.settings.cpus s.slots s.hands s.due s.locals c n id hand on.references).1 in
     locals_same s (set s.hands c Empty) s.due (set s.locals id (Standing n))
     (λ i. omega (arith, hand_changed i s.hands c (Back n id) Empty lt hand, local_changed i s.locals id (Lifted c) (Standing n) (lifted_within s.locals id c lifted) lifted))

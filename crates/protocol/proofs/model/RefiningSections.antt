@@ -1,5 +1,5 @@
 -- Seats, sections, notes and lookups make steps of the model.
-use Rattle.std.proofs.Common.{◌≡◌, ℕ, zero, suc, ◌*◌, ◌<◌, length, Option, Some, None, true, ◌&&◌, nat_eq, nat_lt, refl, ap, subst, arith}
+use Rattle.std.proofs.Common.{◌≡◌, ℕ, zero, suc, ◌*◌, ◌<◌, length, Option, Some, None, true, ◌&&◌, nat_eq, nat_lt, ap, subst, arith}
 use Rattle.std.proofs.lemmas.Bool.{and_parts}
 use Rattle.registry_values.specs.declared.entry.Entry.{Entry}
 use Rattle.registry_values.specs.declared.slot.Key.{Key}
@@ -17,8 +17,7 @@ use Rattle.protocol.specs.Model.{Model, IsModelStep, IsModelRun, Stays, Goes_on}
 use Rattle.protocol.specs.Model
 use Rattle.protocol.specs.Picture.{lookup_of, picture}
 use Rattle.protocol.proofs.keeps.Searching.{within_some}
-use Rattle.protocol.proofs.keeps.SectionKeeps.{none_from, some_from, idle_parts}
-use Rattle.protocol.proofs.keeps.MarkKeeps.{idle_within}
+use Rattle.protocol.proofs.keeps.SectionKeeps.{none_from, some_from, idle_parts, idle_tells}
 use Rattle.protocol.proofs.keeps.SearchKeeps.{AnswersLookup, link_answers, record_answers}
 use Rattle.protocol.proofs.model.Picturing.{Alike, Makes, same_model, no_step, one_step, written, unwritten}
 
@@ -29,18 +28,11 @@ pub enter_refines : (s : State) (c : ℕ) → Holds s → may_enter s c ≡ true
 enter_refines s c on ok =
     let p = and_parts (is_idle s c) (is_outside s c && nat_lt (section_at s c) (2 * s.settings.section_limit)) ok in
     let p1 = and_parts (is_outside s c) (nat_lt (section_at s c) (2 * s.settings.section_limit)) p.1 in
-    let lt : c < s.settings.cpus = idle_within s c on p.0 in
-    one_step (picture s) _ (picture (after_enter s c)) (Model.Enters c (none_from (begin_at s c) p1.0)) (record {
-      history = refl;
-      sections = written (λ (x : Option ℕ). x) None s.begins c (Some (length s.history)) (omega (arith, lt, on.shape.begins));
-      passes = written (λ (x : ℕ). x) 0 s.seen c (length s.history) (omega (arith, lt, on.shape.seen));
-      lookups = λ j. refl;
-      found = λ j. refl;
-      passive = λ j n. refl;
-      locals = λ n. refl;
-      occupants = λ t. refl;
-      keeps = λ t. refl;
-    })
+    let lt : c < s.settings.cpus = (idle_tells s c on p.0).0 in
+    one_step (picture s) _ (picture (after_enter s c)) (Model.Enters c (none_from (begin_at s c) p1.0)) (assumption (
+      written (λ (x : Option ℕ). x) None s.begins c (Some (length s.history)) (omega (arith, lt, on.shape.begins)),
+      written (λ (x : ℕ). x) 0 s.seen c (length s.history) (omega (arith, lt, on.shape.seen)),
+    ))
 
 pub exit_refines : (s : State) (c : ℕ) → Holds s → may_exit s c ≡ true → IsModelRun (picture s) (picture (after_exit s c))
 exit_refines s c on ok =
@@ -48,74 +40,42 @@ exit_refines s c on ok =
     let p1 = and_parts (is_inside s c) (nat_eq (depth_at s c) 1) p.1 in
     let idle = idle_parts s c p.0 in
     let in_ : (b : ℕ) × (begin_at s c ≡ Some b) = some_from (begin_at s c) p1.0 in
-    let lt : c < s.settings.cpus = idle_within s c on p.0 in
-    one_step (picture s) _ (picture (after_exit s c)) (Model.Exits c in_.0 in_.1 (ap lookup_of idle.1)) (record {
-      history = refl;
-      sections = written (λ (x : Option ℕ). x) None s.begins c None (omega (arith, lt, on.shape.begins));
-      passes = λ j. refl;
-      lookups = λ j. refl;
-      found = written (λ (x : Option Entry). x) None s.found c None (omega (arith, lt, on.shape.found));
-      passive = λ j n. refl;
-      locals = λ n. refl;
-      occupants = λ t. refl;
-      keeps = λ t. refl;
-    })
+    let lt : c < s.settings.cpus = (idle_tells s c on p.0).0 in
+    one_step (picture s) _ (picture (after_exit s c)) (Model.Exits c in_.0 in_.1 (ap lookup_of idle.1)) (assumption (
+      written (λ (x : Option ℕ). x) None s.begins c None (omega (arith, lt, on.shape.begins)),
+      written (λ (x : Option Entry). x) None s.found c None (omega (arith, lt, on.shape.found)),
+    ))
 
 -- the pass of a CPU grows to the whole history
 see_step : (s : State) (c : ℕ) → Holds s → c < s.settings.cpus → IsModelStep (picture s) (picture (after_seeing s c))
 see_step s c on lt = subst (IsModelStep (picture s))
-    (same_model _ (picture (after_seeing s c)) (record {
-      history = refl;
-      sections = λ j. refl;
-      passes = written (λ (x : ℕ). x) 0 s.seen c (length s.history) (omega (arith, lt, on.shape.seen));
-      lookups = λ j. refl;
-      found = λ j. refl;
-      passive = λ j n. refl;
-      locals = λ n. refl;
-      occupants = λ t. refl;
-      keeps = λ t. refl;
-    }))
+    (same_model _ (picture (after_seeing s c)) (assumption (written (λ (x : ℕ). x) 0 s.seen c (length s.history) (omega (arith, lt, on.shape.seen)))))
     (Model.Sees c (length s.history) (on.sections.prefix c) (omega arith))
 
 pub seeing_refines : (s : State) (c : ℕ) → Holds s → c < s.settings.cpus → IsModelRun (picture s) (picture (after_seeing s c))
 seeing_refines s c on lt = Goes_on _ _ Stays (see_step s c on lt)
 
 pub hear_refines : (s : State) (c : ℕ) → Holds s → is_idle s c ≡ true → IsModelRun (picture s) (picture (after_seeing s c))
-hear_refines s c on ok = seeing_refines s c on (idle_within s c on ok)
+hear_refines s c on ok = seeing_refines s c on (idle_tells s c on ok).0
 
 pub seek_refines : (s : State) (c : ℕ) (key : Key) → Holds s → may_seek s c ≡ true → IsModelRun (picture s) (picture (after_seek s c key))
 seek_refines s c key on ok =
     let p = and_parts (is_idle s c) (is_inside s c) ok in
     let idle = idle_parts s c p.0 in
     let in_ : (b : ℕ) × (begin_at s c ≡ Some b) = some_from (begin_at s c) p.1 in
-    let lt : c < s.settings.cpus = idle_within s c on p.0 in
-    one_step (picture s) _ (picture (after_seek s c key)) (Model.Seeks c in_.0 key in_.1 (ap lookup_of idle.1)) (record {
-      history = refl;
-      sections = λ j. refl;
-      passes = λ j. refl;
-      lookups = written lookup_of None s.searches c (Some (record { key = key; start = seen_at s c; place = AtHead })) (omega (arith, lt, on.shape.searches));
-      found = λ j. refl;
-      passive = λ j n. refl;
-      locals = λ n. refl;
-      occupants = λ t. refl;
-      keeps = λ t. refl;
-    })
+    let lt : c < s.settings.cpus = (idle_tells s c on p.0).0 in
+    one_step (picture s) _ (picture (after_seek s c key)) (Model.Seeks c in_.0 key in_.1 (ap lookup_of idle.1)) (assumption (
+      written lookup_of None s.searches c (Some (record { key = key; start = seen_at s c; place = AtHead })) (omega (arith, lt, on.shape.searches))
+    ))
 
 -- a lookup is over, with a lawful answer
 over_step : (s : State) (c : ℕ) (q : Search) (answer : Option Entry) → c < length s.found → search_at s c ≡ Some q
     → IsLawful s.history q.start (seen_at s c) q.key answer → IsModelStep (picture s) (picture (search_over s c answer))
 over_step s c q answer lt is lawful = subst (IsModelStep (picture s))
-    (same_model _ (picture (search_over s c answer)) (record {
-      history = refl;
-      sections = λ j. refl;
-      passes = λ j. refl;
-      lookups = written lookup_of None s.searches c None (within_some s.searches c q is);
-      found = written (λ (x : Option Entry). x) None s.found c answer lt;
-      passive = λ j n. refl;
-      locals = λ n. refl;
-      occupants = λ t. refl;
-      keeps = λ t. refl;
-    }))
+    (same_model _ (picture (search_over s c answer)) (assumption (
+      written lookup_of None s.searches c None (within_some s.searches c q is),
+      written (λ (x : Option Entry). x) None s.found c answer lt,
+    )))
     (Model.Answers c (record { key = q.key; start = q.start }) answer (ap lookup_of is) lawful)
 
 pub over_refines : (s : State) (c : ℕ) (q : Search) (answer : Option Entry) → Holds s → search_at s c ≡ Some q
@@ -124,17 +84,7 @@ over_refines s c q answer on is lawful = Goes_on _ _ Stays (over_step s c q answ
 
 -- a search that goes on shows nothing
 going_on_alike : (s : State) (c : ℕ) (q : Search) (place : SearchPlace) → search_at s c ≡ Some q → Alike (picture s) (picture (with_search_at s c q place))
-going_on_alike s c q place is = record {
-  history = refl;
-  sections = λ j. refl;
-  passes = λ j. refl;
-  lookups = unwritten lookup_of None s.searches c (Some (record { key = q.key; start = q.start; place = place })) (ap lookup_of is);
-  found = λ j. refl;
-  passive = λ j n. refl;
-  locals = λ n. refl;
-  occupants = λ t. refl;
-  keeps = λ t. refl;
-}
+going_on_alike s c q place is = assumption (unwritten lookup_of None s.searches c (Some (record { key = q.key; start = q.start; place = place })) (ap lookup_of is))
 
 pub going_on_refines : (s : State) (c : ℕ) (q : Search) (place : SearchPlace) → search_at s c ≡ Some q → IsModelRun (picture s) (picture (with_search_at s c q place))
 going_on_refines s c q place is = no_step (picture s) (picture (with_search_at s c q place)) (going_on_alike s c q place is)

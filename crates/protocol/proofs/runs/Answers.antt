@@ -1,5 +1,5 @@
 -- Each answer of a lookup is lawful, and a search has its start from its Seek on.
-use Rattle.std.proofs.Common.{◌≡◌, ℕ, ◌≤◌, ◌⊎◌, inl, inr, ⊎_elim, List, [], ◌∷◌, ◌++◌, length, get_or, set, Option, Some, None, refl, sym, ap, subst, ◌∙◌, arith}
+use Rattle.std.proofs.Common.{◌≡◌, ℕ, ◌≤◌, inl, inr, List, [], ◌∷◌, ◌++◌, length, get_or, set, Option, Some, None, refl, sym, ap, subst, ◌∙◌, arith}
 use Rattle.std.proofs.lemmas.Option.{none-some, same_Some}
 use Rattle.registry_values.specs.declared.entry.Entry.{Entry}
 use Rattle.registry_values.specs.declared.entry.Change.{Change}
@@ -9,17 +9,17 @@ use Rattle.protocol.specs.declared.event.Event.TheVariants.{Seek}
 use Rattle.protocol.specs.declared.event.Reply.{Reply}
 use Rattle.protocol.specs.declared.event.Reply.TheVariants.{Done, Word, Found, Missed, Ref, Collected}
 use Rattle.registry_values.specs.declared.slot.Key.{Key}
-use Rattle.protocol.specs.declared.state.SearchPlace.{SearchPlace}
 use Rattle.protocol.specs.declared.state.Search.{Search}
 use Rattle.protocol.specs.History.{IsLawful}
 use Rattle.protocol.specs.State.{State, opening, seen_at, search_at}
-use Rattle.protocol.specs.Events.{Outcome, step, state_after, after_seeing}
+use Rattle.protocol.specs.Events.{Outcome, step, state_after}
 use Rattle.protocol.specs.Invariant.{Holds}
 use Rattle.protocol.specs.Laws.{after, after_event, answer_of, IsAnswered, HasBegun, AnswersLawfully, LawfulAnswers}
 use Rattle.protocol.proofs.slots.Occupied.{written_cases}
 use Rattle.protocol.proofs.keeps.SearchKeeps.{IsAnswer}
 use Rattle.protocol.proofs.runs.Steps.{IsOn, Sort, Refused, Left, Entered, Exited, Sought, Heard, Searched, Published, Unpublished, Kept, Gave_up, Vacated, step_sort}
 use Rattle.protocol.proofs.runs.Reuse.{every_run_keeps}
+use Rattle.protocol.proofs.Either.{either}
 
 -- Answers
 
@@ -67,35 +67,29 @@ was_under_way : (s n : State) (e : Event) (c : ℕ) (q : Search) → n.searches 
 was_under_way s n e c q same is = inl (q, sym (ap (λ (xs : List (Option Search)). get_or xs c None) same) ∙ is, refl, refl)
 
 on_begun : (s n : State) (e : Event) (c j : ℕ) (q old : Search) → search_at s j ≡ Some old → IsOn s j old n → search_at n c ≡ Some q → HasBegun s e c q
-on_begun s n e c j q old under on is = ⊎_elim
-    (λ (over : n.searches ≡ set s.searches j None).
+on_begun s n e c j q old under on is = either on
+    (λ over.
     let now : get_or (set s.searches j None) c None ≡ Some q = sym (ap (λ (xs : List (Option Search)). get_or xs c None) over) ∙ is in
-    ⊎_elim
-    (λ (here : (c ≡ j) × (get_or (set s.searches j None) c None ≡ None)). absurd (none-some q (sym here.1 ∙ now)))
-    (λ (off : ((c ≡ j → ⊥) ⊎ (length s.searches ≤ j)) × (get_or (set s.searches j None) c None ≡ get_or s.searches c None)). inl (q, sym off.1 ∙ now, refl, refl))
-    (written_cases None s.searches j None c))
-    (λ (at : (p : SearchPlace) × (n.searches ≡ set s.searches j (Some (record { key = old.key; start = old.start; place = p })))).
+    either (written_cases None s.searches j None c) (λ here. absurd (none-some q (sym here.1 ∙ now))) (λ off. inl (q, sym off.1 ∙ now, refl, refl)))
+    (λ at.
     let new : Search = record { key = old.key; start = old.start; place = at.0 } in
     let now : get_or (set s.searches j (Some new)) c None ≡ Some q = sym (ap (λ (xs : List (Option Search)). get_or xs c None) at.1) ∙ is in
-    ⊎_elim
-    (λ (here : (c ≡ j) × (get_or (set s.searches j (Some new)) c None ≡ Some new)).
+    either (written_cases None s.searches j (Some new) c)
+    (λ here.
     let same : new ≡ q = same_Some new q (sym here.1 ∙ now) in
     inl (old, ap (search_at s) here.0 ∙ under, ap (λ (x : Search). x.start) same, ap (λ (x : Search). x.key) same))
-    (λ (off : ((c ≡ j → ⊥) ⊎ (length s.searches ≤ j)) × (get_or (set s.searches j (Some new)) c None ≡ get_or s.searches c None)). inl (q, sym off.1 ∙ now, refl, refl))
-    (written_cases None s.searches j (Some new) c))
-    on
+    (λ off. inl (q, sym off.1 ∙ now, refl, refl)))
 
 begun : (s : State) (e : Event) (o : Option Outcome) (c : ℕ) (q : Search) → Sort s e o → search_at (state_after s o) c ≡ Some q → HasBegun s e c q
 begun s _ _ c q (Refused e) is = was_under_way s s e c q refl is
 begun s _ _ c q (Left e o same) is = was_under_way s o.state e c q same.searches is
 begun s _ _ c q (Entered j may) is = inl (q, is, refl, refl)
 begun s _ _ c q (Exited j may) is = inl (q, is, refl, refl)
-begun s _ _ c q (Sought j kind name may) is = ⊎_elim
-    (λ (here : (c ≡ j) × (_ ≡ Some _)).
+begun s _ _ c q (Sought j kind name may) is = either (written_cases None s.searches j (Some (record { key = record { kind = kind; name = name }; start = seen_at s j; place = _ })) c)
+    (λ here.
     let same = same_Some _ q (sym here.1 ∙ is) in
     inr (ap (λ (x : Search). Seek j x.key.kind x.key.name) same ∙ ap (λ (k : ℕ). Seek k q.key.kind q.key.name) (sym here.0), ap (λ (x : Search). x.start) (sym same) ∙ ap (seen_at s) (sym here.0)))
     (λ off. inl (q, sym off.1 ∙ is, refl, refl))
-    (written_cases None s.searches j (Some (record { key = record { kind = kind; name = name }; start = seen_at s j; place = _ })) c)
 begun s _ _ c q (Heard j may) is = inl (q, is, refl, refl)
 begun s _ _ c q (Searched e j old o of under loads answers) is = on_begun s o.state e c j q old under loads.searches is
 begun s _ _ c q (Published u e row may) is = inl (q, is, refl, refl)
@@ -113,10 +107,7 @@ pass_same : (s n : State) (c : ℕ) → n.seen ≡ s.seen → seen_at s c ≤ se
 pass_same s n c same = let is = ap (λ (xs : List ℕ). get_or xs c 0) same in omega (arith, is)
 
 pass_sees : (s : State) (c j : ℕ) → Holds s → seen_at s c ≤ get_or (set s.seen j (length s.history)) c 0
-pass_sees s c j on = ⊎_elim
-    (λ (here : (c ≡ j) × (get_or (set s.seen j (length s.history)) c 0 ≡ length s.history)). omega (arith, here.1, on.sections.prefix c))
-    (λ (off : ((c ≡ j → ⊥) ⊎ (length s.seen ≤ j)) × (get_or (set s.seen j (length s.history)) c 0 ≡ get_or s.seen c 0)). omega (arith, off.1))
-    (written_cases 0 s.seen j (length s.history) c)
+pass_sees s c j on = either (written_cases 0 s.seen j (length s.history) c) (λ here. omega (arith, here.1, on.sections.prefix c)) (λ off. omega (arith, off.1))
 
 passes : (s : State) (e : Event) (o : Option Outcome) (c : ℕ) → Holds s → Sort s e o → seen_at s c ≤ seen_at (state_after s o) c
 passes s _ _ c on (Refused e) = pass_same s s c refl
@@ -125,10 +116,9 @@ passes s _ _ c on (Entered j may) = pass_sees s c j on
 passes s _ _ c on (Exited j may) = pass_same s s c refl
 passes s _ _ c on (Sought j kind name may) = pass_same s s c refl
 passes s _ _ c on (Heard j may) = pass_sees s c j on
-passes s _ _ c on (Searched e j q o of under loads answers) = ⊎_elim
-    (λ (same : o.state.seen ≡ s.seen). pass_same s o.state c same)
-    (λ (sees : o.state.seen ≡ (after_seeing s j).seen). subst (λ (xs : List ℕ). seen_at s c ≤ get_or xs c 0) (sym sees) (pass_sees s c j on))
-    loads.seen
+passes s _ _ c on (Searched e j q o of under loads answers) = either loads.seen
+    (λ same. pass_same s o.state c same)
+    (λ sees. subst (λ (xs : List ℕ). seen_at s c ≤ get_or xs c 0) (sym sees) (pass_sees s c j on))
 passes s _ _ c on (Published u e row may) = pass_same s s c refl
 passes s _ _ c on (Unpublished u e n at gone) = pass_same s n c gone.seen
 passes s _ _ c on (Kept u id d v may) = pass_same s s c refl

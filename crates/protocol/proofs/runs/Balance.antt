@@ -1,5 +1,5 @@
 -- At rest the balance of each slot is its local references held.
-use Rattle.std.proofs.Common.{◌≡◌, ℕ, ◌<◌, inl, inr, ⊎_elim, Some, None, Bool, true, false, refl, sym, ap, subst, arith}
+use Rattle.std.proofs.Common.{◌≡◌, ℕ, ◌<◌, inl, inr, Some, None, Bool, true, false, refl, sym, ap, subst, arith}
 use Rattle.std.proofs.lemmas.Option.{none-some}
 use Rattle.registry_values.specs.declared.entry.Entry.{Entry}
 use Rattle.registry_values.specs.declared.slot.Slot.{Slot}
@@ -13,6 +13,7 @@ use Rattle.protocol.specs.Picture.{number_in, subtractions_due}
 use Rattle.protocol.specs.Laws.{after, occupant_of, held_of, IsBalanced, BalancesAtRest, BalanceAtRest}
 use Rattle.protocol.proofs.runs.Reuse.{every_run_keeps, number_is}
 use Rattle.protocol.proofs.slots.Occupied.{at_rest_tells}
+use Rattle.protocol.proofs.Either.{either}
 
 vacant_number : (x : Slot) → number_in x ≡ None → x ≡ Vacant
 vacant_number Vacant is = refl
@@ -51,10 +52,7 @@ balances_at_rest s on rest = record {
   balanced = λ t n is. slot_balanced s t n on rest is;
   vacant = λ t lt is. vacant_balanced s t on lt is;
   counted = on.balance.counted;
-  emptied = λ c t e is off. ⊎_elim
-      (λ (live : slot_at s.slots t ≡ Live e). absurd (off (e, inl live)))
-      (λ (gone : slot_at s.slots t ≡ Retired e). emptied s c t e (mark_at s.marks t c).collected on gone refl off)
-      is;
+  emptied = λ c t e is off. either is (λ live. absurd (off (e, inl live))) (λ gone. emptied s c t e (mark_at s.marks t c).collected on gone refl off);
   beyond = on.balance.beyond;
   held = λ t n is. held_same s n t (at_rest_tells s.due rest);
 }

@@ -1,5 +1,5 @@
 -- Safe reuse over runs, and drivers that outlive their interfaces.
-use Rattle.std.proofs.Common.{◌≡◌, ℕ, ◌≤◌, ⊎_elim, List, [], ◌∷◌, ◌++◌, length, Some, sym, ap, subst, ◌∙◌, arith}
+use Rattle.std.proofs.Common.{◌≡◌, ℕ, ◌≤◌, List, [], ◌∷◌, ◌++◌, length, Some, sym, ap, subst, ◌∙◌, arith}
 use Rattle.registry_values.specs.declared.entry.Change.{Change}
 use Rattle.protocol.specs.declared.event.Event.{Event}
 use Rattle.protocol.specs.State.{State, opening, kept_at}
@@ -13,6 +13,7 @@ use Rattle.protocol.proofs.runs.Steps.{step_sort, after_more}
 use Rattle.protocol.proofs.runs.Reuse.{every_run_keeps, number_is, goes, comes, given_vacant, keeps_same, goes_or_stays}
 use Rattle.protocol.proofs.runs.Answers.{history_grows}
 use Rattle.protocol.proofs.keeps.Drivers.{rightly_some}
+use Rattle.protocol.proofs.Either.{either}
 
 after_holds : (s : State) (e : Event) → Holds s → Holds (after_event s e)
 after_holds s e on = after_keeps s (step s e) on (step_keeps s e on)
@@ -43,10 +44,9 @@ numbered s t n on is =
     omega (arith, within.1, e.2)
 
 stays : (s : State) (e : Event) (t u d : ℕ) → Holds s → kept_at s.keeps t ≡ Some d → occupant_of s u ≡ Some d → occupant_of (after_event s e) u ≡ Some d
-stays s e t u d on keeps is = ⊎_elim
-    (λ (stays : occupant_of (after_event s e) u ≡ Some d). stays)
-    (λ (off : occupant_of (after_event s e) u ≡ Some d → ⊥). absurd ((goes s e (step s e) u d on (step_sort s e on) is off).2.keeps t keeps))
-    (goes_or_stays (occupant_of (after_event s e) u) d)
+stays s e t u d on keeps is = either (goes_or_stays (occupant_of (after_event s e) u) d)
+    (λ stays. stays)
+    (λ off. absurd ((goes s e (step s e) u d on (step_sort s e on) is off).2.keeps t keeps))
 
 throughout : (s : State) (es : List Event) (t u n d : ℕ) → Holds s → occupant_of s t ≡ Some n → kept_at s.keeps t ≡ Some d → occupant_of s u ≡ Some d → occupant_of (after s es) t ≡ Some n
     → (kept_at (after s es).keeps t ≡ Some d) × (occupant_of (after s es) u ≡ Some d)
@@ -57,12 +57,11 @@ throughout s (e ∷ es) t u n d on is keeps stands last =
     let also : occupant_of then t ≡ Some n = sym (ap (λ (k : State). occupant_of k t) same) ∙ last in
     let grows = longer s e on in
     let old = numbered s t n on is in
-    ⊎_elim
-    (λ (now : occupant_of (after_event s e) t ≡ Some n).
+    either (goes_or_stays (occupant_of (after_event s e) t) n)
+    (λ now.
     let rest = throughout (after_event s e) es t u n d (after_holds s e on) now (keeps_same s e (step s e) t n on (step_sort s e on) is now ∙ keeps) (stays s e t u d on keeps stands) also in
     (ap (λ (k : State). kept_at k.keeps t) same ∙ rest.0, ap (λ (k : State). occupant_of k u) same ∙ rest.1))
-    (λ (off : occupant_of (after_event s e) t ≡ Some n → ⊥). absurd (never (after_event s e) es t n (after_holds s e on) (omega (arith, old, grows)) off also))
-    (goes_or_stays (occupant_of (after_event s e) t) n)
+    (λ off. absurd (never (after_event s e) es t n (after_holds s e on) (omega (arith, old, grows)) off also))
 
 pub reuses_safely : (s : State) → Holds s → ReusesSafely s
 reuses_safely s on = record {

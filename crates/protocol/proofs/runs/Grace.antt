@@ -1,5 +1,5 @@
 -- The grace law: what the word of a CPU tells of its sections.
-use Rattle.std.proofs.Common.{◌≡◌, ℕ, ◌*◌, ◌%◌, ◌⊎◌, inl, inr, ⊎_elim, List, [], ◌∷◌, get_or, Option, Some, None, ◌&&◌, nat_lt, IsSome, refl, sym, ap, ◌∙◌, arith, get_or-set_other}
+use Rattle.std.proofs.Common.{◌≡◌, ℕ, ◌*◌, ◌⊎◌, inl, inr, List, [], ◌∷◌, get_or, Option, Some, None, ◌&&◌, nat_lt, IsSome, refl, sym, ap, ◌∙◌, arith, get_or-set_other}
 use Rattle.std.proofs.lemmas.Bool.{and_parts, cases_eq}
 use Rattle.std.proofs.lemmas.Option.{none-some}
 use Rattle.protocol.specs.declared.event.Event.{Event}
@@ -12,6 +12,7 @@ use Rattle.protocol.proofs.keeps.Keeping.{step_keeps, after_keeps}
 use Rattle.protocol.proofs.keeps.SectionKeeps.{none_from}
 use Rattle.protocol.proofs.runs.Steps.{Sort, Refused, Left, Entered, Exited, Sought, Heard, Searched, Published, Unpublished, Kept, Gave_up, Vacated, step_sort, after_more}
 use Rattle.protocol.proofs.runs.Reuse.{every_run_keeps}
+use Rattle.protocol.proofs.Either.{either}
 
 -- the word of c and the begin of its section are as they were
 abbrev Same : ℕ → State → State → Type 0
@@ -24,17 +25,15 @@ lists_same c s t words begins = (ap (λ (xs : List ℕ). get_or xs c 0) words, a
 stays_open : (s : State) (c b : ℕ) (e : Event) (o : Option Outcome) → Sort s e o → begin_at s c ≡ Some b → Same c s (state_after s o) ⊎ ((e ≡ Exit c) × IsSome o)
 stays_open s c b _ _ (Refused e) in_ = inl (refl, refl)
 stays_open s c b _ _ (Left e o same) in_ = inl (lists_same c s o.state same.section same.begins)
-stays_open s c b _ _ (Entered j may) in_ = ⊎_elim
-    (λ (same : c ≡ j). absurd (
+stays_open s c b _ _ (Entered j may) in_ = either (cases_eq c j)
+    (λ same. absurd (
     let p = and_parts (is_idle s j) (is_outside s j && nat_lt (section_at s j) (2 * s.settings.section_limit)) may in
     let q = and_parts (is_outside s j) (nat_lt (section_at s j) (2 * s.settings.section_limit)) p.1 in
     none-some b (sym (none_from (begin_at s j) q.0) ∙ (ap (begin_at s) (sym same) ∙ in_))))
-    (λ (off : c ≡ j → ⊥). inl (get_or-set_other s.section j c _ 0 off, get_or-set_other s.begins j c _ None off))
-    (cases_eq c j)
-stays_open s c b _ _ (Exited j may) in_ = ⊎_elim
-    (λ (same : c ≡ j). inr (ap Exit (sym same), refl))
-    (λ (off : c ≡ j → ⊥). inl (get_or-set_other s.section j c _ 0 off, get_or-set_other s.begins j c _ None off))
-    (cases_eq c j)
+    (λ off. inl (get_or-set_other s.section j c _ 0 off, get_or-set_other s.begins j c _ None off))
+stays_open s c b _ _ (Exited j may) in_ = either (cases_eq c j)
+    (λ same. inr (ap Exit (sym same), refl))
+    (λ off. inl (get_or-set_other s.section j c _ 0 off, get_or-set_other s.begins j c _ None off))
 stays_open s c b _ _ (Sought j kind name may) in_ = inl (refl, refl)
 stays_open s c b _ _ (Heard j may) in_ = inl (refl, refl)
 stays_open s c b _ _ (Searched e j q o of under loads answers) in_ = inl (lists_same c s o.state loads.section loads.begins)
@@ -47,27 +46,21 @@ stays_open s c b _ _ (Vacated u may) in_ = inl (refl, refl)
 -- over a list of events the section stays as it is, or has an exit
 stays_or_exits : (s : State) (c b : ℕ) (es : List Event) → Holds s → begin_at s c ≡ Some b → Same c s (after s es) ⊎ HasExit s c es
 stays_or_exits s c b [] on in_ = inl (refl, refl)
-stays_or_exits s c b (e ∷ es) on in_ = ⊎_elim
-    (λ (same : Same c s (after_event s e)). ⊎_elim
-    (λ (rest : Same c (after_event s e) (after (after_event s e) es)). inl (
+stays_or_exits s c b (e ∷ es) on in_ = either (stays_open s c b e (step s e) (step_sort s e on) in_)
+    (λ same. either (stays_or_exits (after_event s e) c b es (after_keeps s (step s e) on (step_keeps s e on)) (same.1 ∙ in_))
+    (λ rest. inl (
       ap (λ (t : State). section_at t c) (after_more s e es) ∙ (rest.0 ∙ same.0),
       ap (λ (t : State). begin_at t c) (after_more s e es) ∙ (rest.1 ∙ same.1),
     ))
-    (λ (exits : HasExit (after_event s e) c es). inr (inr exits))
-    (stays_or_exits (after_event s e) c b es (after_keeps s (step s e) on (step_keeps s e on)) (same.1 ∙ in_)))
-    (λ (exit : (e ≡ Exit c) × IsSome (step s e)). inr (inl exit))
-    (stays_open s c b e (step s e) (step_sort s e on) in_)
+    (λ exits. inr (inr exits)))
+    (λ exit. inr (inl exit))
 
 pub ends_by_exit : (s : State) → Holds s → EndsByExit s
-ends_by_exit s on c b later in_ moved = ⊎_elim
-    (λ (same : Same c s (after s later)).
+ends_by_exit s on c b later in_ moved = either (stays_or_exits s c b later on in_)
+    (λ same.
     let odd = (on.sections.inside c b in_).0 in
-    absurd (⊎_elim
-    (λ (even : section_at (after s later) c % 2 ≡ 0). omega (arith, even, odd, same.0))
-    (λ (off : section_at (after s later) c ≡ section_at s c → ⊥). off same.0)
-    moved))
-    (λ (exits : HasExit s c later). exits)
-    (stays_or_exits s c b later on in_)
+    absurd (either moved (λ even. omega (arith, even, odd, same.0)) (λ off. off same.0)))
+    (λ exits. exits)
 
 pub grace_law : GraceLaw
 grace_law z events fit = ends_by_exit (after (opening z) events) (every_run_keeps z events fit)

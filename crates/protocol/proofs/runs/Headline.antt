@@ -1,5 +1,5 @@
 -- The headline for the core.
-use Rattle.std.proofs.Common.{◌≡◌, ℕ, inl, inr, ⊎_elim, List, Option, Some, None, refl, sym, ap, ◌∙◌, arith}
+use Rattle.std.proofs.Common.{◌≡◌, ℕ, inl, inr, List, Option, Some, None, refl, sym, ap, ◌∙◌, arith}
 use Rattle.std.proofs.lemmas.Option.{none-some}
 use Rattle.registry_values.specs.declared.entry.Entry.{Entry}
 use Rattle.protocol.specs.declared.event.Event.{Event}
@@ -21,6 +21,7 @@ use Rattle.protocol.proofs.model.RefiningEntries.{drained, number_of}
 use Rattle.protocol.proofs.runs.Reuse.{every_run_keeps, goes_or_stays, given_vacant, destroyed_drained}
 use Rattle.protocol.proofs.runs.Answers.{answers_lawful, search_begun}
 use Rattle.protocol.proofs.runs.Balance.{slot_balanced, vacant_balanced}
+use Rattle.protocol.proofs.Either.{either}
 
 -- a number that no slot has: nothing waits for the keeper
 one_waits : (x : Slot) (n : ℕ) → ((e : Entry) → IsIn e x → e.number ≡ n → ⊥) → one_if (has_number n x) ≡ 0
@@ -57,10 +58,9 @@ elsewhere s e on attached off is =
     off (ap (occupant_of s) (ap (λ (f : Entry). f.slot) (sym one) ∙ was.1) ∙ (number_of (slot_at s.slots is.0) is.1 is.2 ∙ ap (λ (k : ℕ). Some k) is.3))
 
 destroyed : (s : State) (event : Event) (e : Entry) → Holds s → destroyed_slot event ≡ Some e.slot → IsAllowed s event → IsAttached s.history e → IsUnheld (picture s) e.number
-destroyed s event e on of allowed attached = ⊎_elim
-    (λ (is : occupant_of s e.slot ≡ Some e.number). (drained s e.slot e.number on (destroyed_drained s event e.slot of allowed) is).unheld)
-    (λ (off : occupant_of s e.slot ≡ Some e.number → ⊥). unheld_unoccupied s e on attached (elsewhere s e on attached off))
-    (goes_or_stays (occupant_of s e.slot) e.number)
+destroyed s event e on of allowed attached = either (goes_or_stays (occupant_of s e.slot) e.number)
+    (λ is. (drained s e.slot e.number on (destroyed_drained s event e.slot of allowed) is).unheld)
+    (λ off. unheld_unoccupied s e on attached (elsewhere s e on attached off))
 
 given : (s : State) (event : Event) (e : Entry) → Holds s → given_slot event ≡ Some e.slot → IsAllowed s event → IsAttached s.history e → IsUnheld (picture s) e.number
 given s event e on of allowed attached =

@@ -1,5 +1,5 @@
 -- Safe reuse: which events move an occupant, and what holds nothing then.
-use Rattle.std.proofs.Common.{◌≡◌, ℕ, suc, ◌+◌, ◌-◌, ◌≤◌, ◌⊎◌, inl, inr, ⊎_elim, List, length, get_or, set, Option, Some, None, Bool, true, false, not, ◌&&◌, ◌==◌, nat_lt, if◌then◌else◌, IsSome, refl, sym, ap, subst, ◌∙◌, arith, get_or-set_same, get_or-set_other}
+use Rattle.std.proofs.Common.{◌≡◌, ℕ, suc, ◌+◌, ◌-◌, ◌⊎◌, inl, inr, List, length, set, Option, Some, None, Bool, true, false, not, ◌&&◌, ◌==◌, nat_lt, if◌then◌else◌, IsSome, refl, sym, ap, subst, ◌∙◌, arith, get_or-set_same, get_or-set_other}
 use Rattle.std.proofs.lemmas.Bool.{and_parts, cases_eq, eqb-true}
 use Rattle.std.proofs.lemmas.Option.{none-some, same_Some}
 use Rattle.registry_values.specs.declared.entry.Entry.{Entry}
@@ -23,6 +23,7 @@ use Rattle.protocol.proofs.slots.Occupied.{written_cases, in_within}
 use Rattle.protocol.proofs.keeps.ListKeeps.{may_write_tells}
 use Rattle.protocol.proofs.keeps.MarkKeeps.{is_drained_tells}
 use Rattle.protocol.proofs.runs.Steps.{Sort, Refused, Left, Entered, Exited, Sought, Heard, Searched, Published, Unpublished, Kept, Gave_up, Vacated}
+use Rattle.protocol.proofs.Either.{either}
 
 -- Every run keeps the invariant.
 
@@ -38,10 +39,7 @@ number_is (Retired e) n is = (e, inr refl, same_Some e.number n is)
 
 -- what a written slot list has at a place
 moved : (slots : List Slot) (t : ℕ) (x : Slot) (u : ℕ) → ((u ≡ t) × (number_in (slot_at (set slots t x) u) ≡ number_in x)) ⊎ (number_in (slot_at (set slots t x) u) ≡ number_in (slot_at slots u))
-moved slots t x u = ⊎_elim
-    (λ (here : (u ≡ t) × (get_or (set slots t x) u Vacant ≡ x)). inl (here.0, ap number_in here.1))
-    (λ (off : ((u ≡ t → ⊥) ⊎ (length slots ≤ t)) × (get_or (set slots t x) u Vacant ≡ get_or slots u Vacant)). inr (ap number_in off.1))
-    (written_cases Vacant slots t x u)
+moved slots t x u = either (written_cases Vacant slots t x u) (λ here. inl (here.0, ap number_in here.1)) (λ off. inr (ap number_in off.1))
 
 -- an event by which n goes from t
 abbrev Goes : State → Event → ℕ → ℕ → Type 0
@@ -49,12 +47,11 @@ Goes s e t n = (destroyed_slot e ≡ Some t) × ((p : ℕ) × EndsAt s.history n
 
 vacated_goes : (s : State) (e : Event) (t u n : ℕ) → Holds s → destroyed_slot e ≡ Some u → is_drained s u ≡ true → occupant_of s t ≡ Some n
     → (number_in (slot_at (set s.slots u Vacant) t) ≡ Some n → ⊥) → Goes s e t n
-vacated_goes s e t u n on of ok is off = ⊎_elim
-    (λ (here : (t ≡ u) × (number_in (slot_at (set s.slots u Vacant) t) ≡ None)).
+vacated_goes s e t u n on of ok is off = either (moved s.slots u Vacant t)
+    (λ here.
     let d : Drained s t n = drained s t n on (subst (λ (k : ℕ). is_drained s k ≡ true) (sym here.0) ok) is in
     (of ∙ ap (λ (k : ℕ). Some k) (sym here.0), (d.position, d.ended), d.unheld))
-    (λ (same : number_in (slot_at (set s.slots u Vacant) t) ≡ number_in (slot_at s.slots t)). absurd (off (same ∙ is)))
-    (moved s.slots u Vacant t)
+    (λ same. absurd (off (same ∙ is)))
 
 -- the slots stay
 stays_put : (s n : State) (t i : ℕ) → n.slots ≡ s.slots → occupant_of s t ≡ Some i → (occupant_of n t ≡ Some i → ⊥) → ⊥
@@ -68,17 +65,15 @@ goes s _ _ t n on (Exited c may) is off = absurd (off is)
 goes s _ _ t n on (Sought c kind name may) is off = absurd (off is)
 goes s _ _ t n on (Heard c may) is off = absurd (off is)
 goes s _ _ t n on (Searched e c q o of under loads answers) is off = absurd (stays_put s o.state t n loads.slots is off)
-goes s _ _ t n on (Published u e row may) is off = absurd (⊎_elim
-    (λ (here : (t ≡ u) × (number_in (slot_at (set s.slots u (Live e)) t) ≡ Some e.number)).
+goes s _ _ t n on (Published u e row may) is off = absurd (either (moved s.slots u (Live e) t)
+    (λ here.
     let told = may_write_tells s u on.shape (and_parts (may_write s u) _ may).0 in
     none-some n (sym (ap number_in (ap (slot_at s.slots) here.0 ∙ told.2)) ∙ is))
-    (λ (same : number_in (slot_at (set s.slots u (Live e)) t) ≡ number_in (slot_at s.slots t)). off (same ∙ is))
-    (moved s.slots u (Live e) t))
-goes s _ _ t n on (Unpublished u e after at gone) is off = absurd (⊎_elim
-    (λ (here : (t ≡ u) × (number_in (slot_at (set s.slots u (Retired e)) t) ≡ Some e.number)).
+    (λ same. off (same ∙ is)))
+goes s _ _ t n on (Unpublished u e after at gone) is off = absurd (either (moved s.slots u (Retired e) t)
+    (λ here.
     off (ap (λ (slots : List Slot). number_in (slot_at slots t)) gone.slots ∙ (here.1 ∙ (sym (ap number_in (ap (slot_at s.slots) here.0 ∙ at)) ∙ is))))
-    (λ (same : number_in (slot_at (set s.slots u (Retired e)) t) ≡ number_in (slot_at s.slots t)). off (ap (λ (slots : List Slot). number_in (slot_at slots t)) gone.slots ∙ (same ∙ is)))
-    (moved s.slots u (Retired e) t))
+    (λ same. off (ap (λ (slots : List Slot). number_in (slot_at slots t)) gone.slots ∙ (same ∙ is))))
 goes s _ _ t n on (Kept u id d v may) is off = absurd (off is)
 goes s _ _ t n on (Gave_up u d v keeps of ok) is off = vacated_goes s (KeptSub u) t u n on refl ok is off
 goes s _ _ t n on (Vacated u may) is off = vacated_goes s (Vacate u) t u n on refl (and_parts _ (is_drained s u) may).1 is off
@@ -91,10 +86,7 @@ stays_away : (s n : State) (t i : ℕ) → n.slots ≡ s.slots → (occupant_of 
 stays_away s n t i same off is = off (sym (ap (λ (slots : List Slot). number_in (slot_at slots t)) same) ∙ is)
 
 vacated_away : (s : State) (t u n : ℕ) → (occupant_of s t ≡ Some n → ⊥) → number_in (slot_at (set s.slots u Vacant) t) ≡ Some n → ⊥
-vacated_away s t u n off is = ⊎_elim
-    (λ (here : (t ≡ u) × (number_in (slot_at (set s.slots u Vacant) t) ≡ None)). none-some n (sym here.1 ∙ is))
-    (λ (same : number_in (slot_at (set s.slots u Vacant) t) ≡ number_in (slot_at s.slots t)). off (sym same ∙ is))
-    (moved s.slots u Vacant t)
+vacated_away s t u n off is = either (moved s.slots u Vacant t) (λ here. none-some n (sym here.1 ∙ is)) (λ same. off (sym same ∙ is))
 
 pub comes : (s : State) (e : Event) (o : Option Outcome) (t n : ℕ) → Holds s → Sort s e o → (occupant_of s t ≡ Some n → ⊥) → occupant_of (state_after s o) t ≡ Some n → Comes s e t n
 comes s _ _ t n on (Refused e) off is = absurd (off is)
@@ -104,21 +96,17 @@ comes s _ _ t n on (Exited c may) off is = absurd (off is)
 comes s _ _ t n on (Sought c kind name may) off is = absurd (off is)
 comes s _ _ t n on (Heard c may) off is = absurd (off is)
 comes s _ _ t n on (Searched e c q o of under loads answers) off is = absurd (stays_away s o.state t n loads.slots off is)
-comes s _ _ t n on (Published u e row may) off is = ⊎_elim
-    (λ (here : (t ≡ u) × (number_in (slot_at (set s.slots u (Live e)) t) ≡ Some e.number)).
+comes s _ _ t n on (Published u e row may) off is = either (moved s.slots u (Live e) t)
+    (λ here.
     let p = and_parts (may_write s u) (e.number == length s.history + 1 && (not (is_taken (key_of e) s.slots) && (has_room s && is_prepared s u e.rec.kind))) may in
     let number = and_parts (e.number == length s.history + 1) _ p.1 in
     let told = may_write_tells s u on.shape p.0 in
     let same : e.number ≡ n = same_Some e.number n (sym here.1 ∙ is) in
     (ap Publish (sym here.0), ap number_in (ap (slot_at s.slots) here.0 ∙ told.2), omega (arith, same, eqb-true e.number (length s.history + 1) number.0)))
-    (λ (same : number_in (slot_at (set s.slots u (Live e)) t) ≡ number_in (slot_at s.slots t)). absurd (off (sym same ∙ is)))
-    (moved s.slots u (Live e) t)
+    (λ same. absurd (off (sym same ∙ is)))
 comes s _ _ t n on (Unpublished u e after at gone) off is = absurd (
     let there : number_in (slot_at (set s.slots u (Retired e)) t) ≡ Some n = sym (ap (λ (slots : List Slot). number_in (slot_at slots t)) gone.slots) ∙ is in
-    ⊎_elim
-    (λ (here : (t ≡ u) × (number_in (slot_at (set s.slots u (Retired e)) t) ≡ Some e.number)). off (ap number_in (ap (slot_at s.slots) here.0 ∙ at) ∙ (sym here.1 ∙ there)))
-    (λ (same : number_in (slot_at (set s.slots u (Retired e)) t) ≡ number_in (slot_at s.slots t)). off (sym same ∙ there))
-    (moved s.slots u (Retired e) t))
+    either (moved s.slots u (Retired e) t) (λ here. off (ap number_in (ap (slot_at s.slots) here.0 ∙ at) ∙ (sym here.1 ∙ there))) (λ same. off (sym same ∙ there)))
 comes s _ _ t n on (Kept u id d v may) off is = absurd (off is)
 comes s _ _ t n on (Gave_up u d v keeps of ok) off is = absurd (vacated_away s t u n off is)
 comes s _ _ t n on (Vacated u may) off is = absurd (vacated_away s t u n off is)
@@ -178,14 +166,13 @@ destroyed_drained s event u of allowed = asked _ (step s event) (destroyed_asks 
 -- Drivers
 
 vacated_keeps : (s : State) (t u n : ℕ) → Holds s → is_drained s u ≡ true → occupant_of s t ≡ Some n → number_in (slot_at (set s.slots u Vacant) t) ≡ Some n → (t ≡ u → ⊥)
-vacated_keeps s t u n on ok is now same = ⊎_elim
-    (λ (here : (t ≡ u) × (number_in (slot_at (set s.slots u Vacant) t) ≡ None)). none-some n (sym here.1 ∙ now))
-    (λ (stays : number_in (slot_at (set s.slots u Vacant) t) ≡ number_in (slot_at s.slots t)). absurd (
+vacated_keeps s t u n on ok is now same = either (moved s.slots u Vacant t)
+    (λ here. none-some n (sym here.1 ∙ now))
+    (λ stays. absurd (
     let told = is_drained_tells s u on ok in
     let lt = in_within s.slots u told.1.0 (inr told.1.1) in
     let gone : number_in (slot_at (set s.slots u Vacant) t) ≡ None = ap number_in (ap (slot_at (set s.slots u Vacant)) same ∙ get_or-set_same s.slots u Vacant Vacant lt) in
     none-some n (sym gone ∙ now)))
-    (moved s.slots u Vacant t)
 
 pub keeps_same : (s : State) (e : Event) (o : Option Outcome) (t n : ℕ) → Holds s → Sort s e o → occupant_of s t ≡ Some n → occupant_of (state_after s o) t ≡ Some n
     → kept_at (state_after s o).keeps t ≡ kept_at s.keeps t
@@ -207,7 +194,4 @@ keeps_same s _ _ t n on (Vacated u may) is now = refl
 -- the occupant of a slot goes or stays
 pub goes_or_stays : (x : Option ℕ) (n : ℕ) → (x ≡ Some n) ⊎ (x ≡ Some n → ⊥)
 goes_or_stays None n = inr (λ is. none-some n is)
-goes_or_stays (Some m) n = ⊎_elim
-    (λ (same : m ≡ n). inl (ap (λ (k : ℕ). Some k) same))
-    (λ (off : m ≡ n → ⊥). inr (λ is. off (same_Some m n is)))
-    (cases_eq m n)
+goes_or_stays (Some m) n = either (cases_eq m n) (λ same. inl (ap (λ (k : ℕ). Some k) same)) (λ off. inr (λ is. off (same_Some m n is)))

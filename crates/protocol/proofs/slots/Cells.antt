@@ -1,28 +1,25 @@
 -- Places of rows, of slots and of totals, after one is written.
-use Rattle.std.proofs.Common.{◌≡◌, ℕ, zero, suc, ◌<◌, ◌≤◌, ◌⊎◌, inl, inr, ⊎_elim, List, [], length, get_or, set, replicate, refl, sym, ap, subst, ◌∙◌, get_or-set_same, get_or-set_other}
+use Rattle.std.proofs.Common.{◌≡◌, ℕ, zero, suc, ◌<◌, ◌⊎◌, inl, inr, List, [], length, get_or, set, replicate, refl, sym, ap, subst, ◌∙◌, get_or-set_same, get_or-set_other}
 use Rattle.std.proofs.lemmas.List.{set_past}
 use Rattle.std.proofs.lemmas.Bool.{cases_lt, cases_eq}
 use Rattle.registry_values.specs.declared.entry.Entry.{Entry}
 use Rattle.registry_values.specs.declared.slot.Slot.{Slot}
-use Rattle.registry_values.specs.declared.slot.Slot.TheVariants.{Vacant, Live, Retired}
+use Rattle.registry_values.specs.declared.slot.Slot.TheVariants.{Vacant}
 use Rattle.protocol.specs.State.{cell, with_cell, total_at}
 use Rattle.registry_values.specs.Slots.{slot_at}
 use Rattle.protocol.specs.Invariant.{IsIn}
-use Rattle.protocol.proofs.slots.Occupied.{not_vacant}
+use Rattle.protocol.proofs.slots.Occupied.{not_vacant, one_in as same_in, place_cases, written_cases}
+use Rattle.protocol.proofs.Either.{either}
 
 -- it is the place that was written, or another
 pub by_place : (P : ℕ → Type 0) (c j : ℕ) → P c → ((j ≡ c → ⊥) → P j) → P j
-by_place P c j here other = ⊎_elim (λ (same : j ≡ c). subst P (sym same) here) (λ (off : j ≡ c → ⊥). other off) (cases_eq j c)
+by_place P c j here other = either (cases_eq j c) (λ same. subst P (sym same) here) (λ off. other off)
 
 -- the same of a place in a row
 pub by_cell : (P : ℕ → ℕ → Type 0) (t c u j : ℕ) → P t c → ((u ≡ t → j ≡ c → ⊥) → P u j) → P u j
-by_cell P t c u j here other = ⊎_elim
-    (λ (same : u ≡ t). ⊎_elim
-    (λ (too : j ≡ c). subst (λ (k : ℕ). P k j) (sym same) (subst (P t) (sym too) here))
-    (λ (off : j ≡ c → ⊥). other (λ _ is. off is))
-    (cases_eq j c))
-    (λ (off : u ≡ t → ⊥). other (λ is _. off is))
-    (cases_eq u t)
+by_cell P t c u j here other = either (cases_eq u t)
+    (λ same. either (cases_eq j c) (λ too. subst (λ (k : ℕ). P k j) (sym same) (subst (P t) (sym too) here)) (λ off. other (λ _ is. off is)))
+    (λ off. other (λ is _. off is))
 
 -- the row that was written, and the others
 pub row_here : {X : Type 0} (rows : List (List X)) (t c : ℕ) (x : X) → t < length rows → get_or (with_cell rows t c x) t [] ≡ set (get_or rows t []) c x
@@ -35,33 +32,46 @@ pub cell_here : {X : Type 0} (d : X) (rows : List (List X)) (t c : ℕ) (x : X) 
 cell_here {X} d rows t c x lt cl = ap (λ (r : List X). get_or r c d) (row_here rows t c x lt) ∙ get_or-set_same (get_or rows t []) c x d cl
 
 pub cell_other : {X : Type 0} (d : X) (rows : List (List X)) (t c : ℕ) (x : X) (u j : ℕ) → (u ≡ t → j ≡ c → ⊥) → cell d (with_cell rows t c x) u j ≡ cell d rows u j
-cell_other {X} d rows t c x u j off = ⊎_elim
-    (λ (same : u ≡ t). ⊎_elim
-    (λ (lt : t < length rows).
+cell_other {X} d rows t c x u j off = either (cases_eq u t)
+    (λ same. either (cases_lt t (length rows))
+    (λ lt.
     ap (λ (k : ℕ). cell d (with_cell rows t c x) k j) same ∙ (ap (λ (r : List X). get_or r j d) (row_here rows t c x lt)
     ∙ (get_or-set_other (get_or rows t []) c j x d (off same) ∙ ap (λ (k : ℕ). cell d rows k j) (sym same))))
-    (λ (ge : length rows ≤ t). ap (λ (r : List (List X)). cell d r u j) (set_past rows t (set (get_or rows t []) c x) ge))
-    (cases_lt t (length rows)))
-    (λ (away : u ≡ t → ⊥). ap (λ (r : List X). get_or r j d) (row_other rows t c x u away))
-    (cases_eq u t)
+    (λ ge. ap (λ (r : List (List X)). cell d r u j) (set_past rows t (set (get_or rows t []) c x) ge)))
+    (λ away. ap (λ (r : List X). get_or r j d) (row_other rows t c x u away))
 
 -- what was written, or what stood there
 pub cell_cases : {X : Type 0} (d : X) (rows : List (List X)) (t c : ℕ) (x : X) (u j : ℕ) → ((u ≡ t) × (j ≡ c) × (cell d (with_cell rows t c x) u j ≡ x)) ⊎ (cell d (with_cell rows t c x) u j ≡ cell d rows u j)
-cell_cases {X} d rows t c x u j = ⊎_elim
-    (λ (same : u ≡ t). ⊎_elim
-    (λ (too : j ≡ c). ⊎_elim
-    (λ (lt : t < length rows). ⊎_elim
-    (λ (cl : c < length (get_or rows t [])).
+cell_cases {X} d rows t c x u j = either (cases_eq u t)
+    (λ same. either (cases_eq j c)
+    (λ too. either (cases_lt t (length rows))
+    (λ lt. either (cases_lt c (length (get_or rows t [])))
+    (λ cl.
     inl (same, too, ap (λ (k : ℕ). cell d (with_cell rows t c x) k j) same ∙ (ap (λ (k : ℕ). cell d (with_cell rows t c x) t k) too ∙ cell_here d rows t c x lt cl)))
-    (λ (ge : length (get_or rows t []) ≤ c).
-    inr (ap (λ (k : ℕ). cell d (with_cell rows t c x) k j) same ∙ (ap (λ (r : List X). get_or r j d) (row_here rows t c x lt ∙ set_past (get_or rows t []) c x ge) ∙ ap (λ (k : ℕ). cell d rows k j) (sym same))))
-    (cases_lt c (length (get_or rows t []))))
-    (λ (ge : length rows ≤ t). inr (ap (λ (r : List (List X)). cell d r u j) (set_past rows t (set (get_or rows t []) c x) ge)))
-    (cases_lt t (length rows)))
-    (λ (off : j ≡ c → ⊥). inr (cell_other d rows t c x u j (λ _ is. off is)))
-    (cases_eq j c))
-    (λ (off : u ≡ t → ⊥). inr (cell_other d rows t c x u j (λ is _. off is)))
-    (cases_eq u t)
+    (λ ge.
+    inr (ap (λ (k : ℕ). cell d (with_cell rows t c x) k j) same ∙ (ap (λ (r : List X). get_or r j d) (row_here rows t c x lt ∙ set_past (get_or rows t []) c x ge) ∙ ap (λ (k : ℕ). cell d rows k j) (sym same)))))
+    (λ ge. inr (ap (λ (r : List (List X)). cell d r u j) (set_past rows t (set (get_or rows t []) c x) ge))))
+    (λ off. inr (cell_other d rows t c x u j (λ _ is. off is))))
+    (λ off. inr (cell_other d rows t c x u j (λ is _. off is)))
+
+-- what holds of a place after a write: of what was written there, and of each place before
+pub place_put : {X : Type 0} (d : X) (xs : List X) (t : ℕ) (x : X) (P : ℕ → X → Type 0) (u : ℕ) → P t x → P u (get_or xs u d) → P u (get_or (set xs t x) u d)
+place_put {X} d xs t x P u here old = either (written_cases d xs t x u)
+    (λ same. subst (P u) (sym same.1) (subst (λ (k : ℕ). P k x) (sym same.0) here))
+    (λ off. subst (P u) (sym off.1) old)
+
+-- the same of a place in the list, where the others alone are asked of
+pub place_in : {X : Type 0} (d : X) (xs : List X) (t : ℕ) (x : X) (P : ℕ → X → Type 0) (u : ℕ) → t < length xs → P t x → ((u ≡ t → ⊥) → P u (get_or xs u d)) → P u (get_or (set xs t x) u d)
+place_in {X} d xs t x P u lt here other = either (place_cases d xs t x u lt)
+    (λ same. subst (P u) (sym same.1) (subst (λ (k : ℕ). P k x) (sym same.0) here))
+    (λ off. subst (P u) (sym off.1) (other off.0))
+
+-- of a place in a row
+pub cell_put : {X : Type 0} (d : X) (rows : List (List X)) (t c : ℕ) (x : X) (P : ℕ → ℕ → X → Type 0) (u j : ℕ) → P t c x → P u j (cell d rows u j) → P u j (cell d (with_cell rows t c x) u j)
+cell_put {X} d rows t c x P u j here old = either (cell_cases d rows t c x u j)
+    (λ same.
+    subst (P u j) (sym same.2) (subst (λ (k : ℕ). P k j x) (sym same.0) (subst (λ (k : ℕ). P t k x) (sym same.1) here)))
+    (λ was. subst (P u j) (sym was) old)
 
 -- a row that was written whole
 pub cell_in_new : {X : Type 0} (d : X) (rows : List (List X)) (t : ℕ) (row : List X) (j : ℕ) → t < length rows → cell d (set rows t row) t j ≡ get_or row j d
@@ -78,16 +88,7 @@ get_or_all (suc n) x (suc i) = get_or_all n x i
 
 -- a slot has one entry
 pub one_in : (e f : Entry) (x : Slot) → IsIn e x → IsIn f x → f ≡ e
-one_in e f x first second = ⊎_elim
-    (λ (live : x ≡ Live e). ⊎_elim
-    (λ (too : x ≡ Live f). let q : Live f ≡ Live e = sym too ∙ live in cc)
-    (λ (gone : x ≡ Retired f). absurd (let q : Retired f ≡ Live e = sym gone ∙ live in cc))
-    second)
-    (λ (retired : x ≡ Retired e). ⊎_elim
-    (λ (live : x ≡ Live f). absurd (let q : Live f ≡ Retired e = sym live ∙ retired in cc))
-    (λ (too : x ≡ Retired f). let q : Retired f ≡ Retired e = sym too ∙ retired in cc)
-    second)
-    first
+one_in e f x first second = same_in f e x first second
 
 -- the slot that was written, and the others
 pub slot_here : (slots : List Slot) (t : ℕ) (x : Slot) → t < length slots → slot_at (set slots t x) t ≡ x

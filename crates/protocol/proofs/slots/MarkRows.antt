@@ -1,5 +1,5 @@
 -- Rows of marks: how they grow, and what all their marks say together.
-use Rattle.std.proofs.Common.{◌≡◌, ℕ, zero, suc, ◌<◌, ⊎_elim, List, [], ◌∷◌, length, get_or, set, take, Some, Bool, true, false, ◌||◌, refl, sym, ap, subst, ◌∙◌, arith, get_or-set_same, get_or-set_other}
+use Rattle.std.proofs.Common.{◌≡◌, ℕ, zero, suc, ◌<◌, List, [], ◌∷◌, length, get_or, set, take, Some, Bool, true, false, ◌||◌, refl, sym, ap, ◌∙◌, arith, get_or-set_same, get_or-set_other}
 use Rattle.std.proofs.lemmas.Bool.{and_from}
 use Rattle.std.specs.List.{list_all, list_any}
 use Rattle.protocol.specs.declared.state.Due.TheVariants.{Rest, Snapshots}
@@ -10,7 +10,7 @@ use Rattle.protocol.specs.Invariant.{Holds}
 use Rattle.protocol.specs.State.{at_rest, State, mark_at, with_cell}
 use Rattle.registry_values.specs.Slots.{is_retired, slot_at}
 use Rattle.registry_values.proofs.Fit.{ranges}
-use Rattle.protocol.proofs.keeps.Marking.{row_cases}
+use Rattle.protocol.proofs.slots.Cells.{cell_put}
 use Rattle.protocol.proofs.slots.Occupied.{at_rest_tells, is_retired_tells}
 
 pub snapshot_stands : (s : State) (t c : ℕ) → Holds s → at_rest s.due ≡ true → is_retired (slot_at s.slots t) ≡ true → c < s.settings.cpus → (w : ℕ) × ((mark_at s.marks t c).snapshot ≡ Some w)
@@ -20,11 +20,7 @@ snapshot_stands s t c on rest gone lt =
 
 -- one mark of a row is written
 pub mark_written : (P : Mark → Mark → Type 0) (marks : List (List Mark)) (t c : ℕ) (m : Mark) → ((x : Mark) → P x x) → P (mark_at marks t c) m → (j : ℕ) → P (mark_at marks t j) (mark_at (with_cell marks t c m) t j)
-mark_written P marks t c m same new j = ⊎_elim
-    (λ (here : (t ≡ t) × (j ≡ c) × (mark_at (with_cell marks t c m) t j ≡ m)).
-    subst (λ (x : Mark). P (mark_at marks t j) x) (sym here.2) (subst (λ (k : ℕ). P (mark_at marks t k) m) (sym here.1) new))
-    (λ (old : mark_at (with_cell marks t c m) t j ≡ mark_at marks t j). subst (λ (x : Mark). P (mark_at marks t j) x) (sym old) (same (mark_at marks t j)))
-    (row_cases no_mark marks t c m t j)
+mark_written P marks t c m same new j = cell_put no_mark marks t c m (λ v i x. v ≡ t → P (mark_at marks v i) x) t j (λ _. new) (λ _. same (mark_at marks t j)) refl
 
 pub row_elsewhere : {X : Type 0} (rows : List (List X)) (t c : ℕ) (x : X) → SameElsewhere rows (with_cell rows t c x) t
 row_elsewhere rows t c x u off = get_or-set_other rows t u (set (get_or rows t []) c x) [] off

@@ -1,5 +1,5 @@
 -- Which slot has the entry with a number.
-use Rattle.std.proofs.Common.{Bool, List, None, Some, ap, arith, false, get_or, length, refl, sym, true, ℕ, ⊎_elim, ◌<◌, ◌∙◌, ◌≡◌, ◌≤◌}
+use Rattle.std.proofs.Common.{Bool, List, None, Some, ap, arith, false, get_or, length, refl, sym, true, ℕ, ◌<◌, ◌∙◌, ◌≡◌}
 use Rattle.std.proofs.lemmas.Bool.{cases_lt, eq-eqb, lt-ltb}
 use Rattle.std.proofs.lemmas.List.{get_or_past}
 use Rattle.std.proofs.lemmas.List.Sums.{fails_before_first}
@@ -15,13 +15,13 @@ use Rattle.registry_values.specs.declared.entry.Entry.{Entry}
 use Rattle.registry_values.specs.declared.slot.Slot.{Slot}
 use Rattle.registry_values.specs.declared.slot.Slot.TheVariants.{Live, Retired, Vacant}
 use Rattle.protocol.proofs.slots.Occupied.{slot_has}
+use Rattle.protocol.proofs.Either.{either}
 
 -- where a place passes, one is found
 pub position_passes : {X : Type 0} (p : X → Bool) (xs : List X) (k : ℕ) (d : X) → k < length xs → p (get_or xs k d) ≡ true → (i : ℕ) × (position p xs ≡ Some i)
-position_passes p xs k d lt passes = ⊎_elim
-    (λ (in_ : position_or_len p xs < length xs). (position_or_len p xs, ap (λ (b : Bool). if b then Some (position_or_len p xs) else None) (lt-ltb (position_or_len p xs) (length xs) in_)))
-    (λ (out : length xs ≤ position_or_len p xs). absurd (let q : ◌≡◌ {A = Bool} true false = sym passes ∙ fails_before_first p xs k d (omega arith) in cc))
-    (cases_lt (position_or_len p xs) (length xs))
+position_passes p xs k d lt passes = either (cases_lt (position_or_len p xs) (length xs))
+    (λ in_. (position_or_len p xs, ap (λ (b : Bool). if b then Some (position_or_len p xs) else None) (lt-ltb (position_or_len p xs) (length xs) in_)))
+    (λ out. absurd (let q : ◌≡◌ {A = Bool} true false = sym passes ∙ fails_before_first p xs k d (omega arith) in cc))
 
 -- and where none is found, no place passes
 pub position_fails : {X : Type 0} (p : X → Bool) (xs : List X) (k : ℕ) (d : X) → position p xs ≡ None → k < length xs → p (get_or xs k d) ≡ true → ⊥
@@ -29,10 +29,9 @@ position_fails p xs k d none lt passes = let i = position_passes p xs k d lt pas
 
 -- an entry in a slot is attached, in that slot
 pub entry_attached : (h : List Change) (slots : List Slot) (e : Entry) (t : ℕ) → SlotsShow h slots → IsIn e (slot_at slots t) → IsAttached h e × (e.slot ≡ t)
-entry_attached h slots e t show is = ⊎_elim
-    (λ (live : slot_at slots t ≡ Live e). let was = show.live t e live in (was.0.attached, was.1))
-    (λ (gone : slot_at slots t ≡ Retired e). let was = show.retired t e gone in (was.0, was.1))
-    is
+entry_attached h slots e t show is = either is
+    (λ live. let was = show.live t e live in (was.0.attached, was.1))
+    (λ gone. let was = show.retired t e gone in (was.0, was.1))
 
 -- two entries in slots with one number are one, in one slot
 pub one_number : (h : List Change) (slots : List Slot) (e f : Entry) (t u : ℕ) → SlotsShow h slots → IsIn e (slot_at slots t) → IsIn f (slot_at slots u) → e.number ≡ f.number → (e ≡ f) × (t ≡ u)
@@ -44,19 +43,14 @@ one_number h slots e f t u show x y same =
 
 -- a slot that has an entry is in range
 pub within_in : (slots : List Slot) (e : Entry) (t : ℕ) → IsIn e (slot_at slots t) → t < length slots
-within_in slots e t is = ⊎_elim
-    (λ (lt : t < length slots). lt)
-    (λ (ge : length slots ≤ t). absurd (⊎_elim
-    (λ (live : slot_at slots t ≡ Live e). let q : Vacant ≡ Live e = sym (get_or_past slots t Vacant ge) ∙ live in cc)
-    (λ (gone : slot_at slots t ≡ Retired e). let q : Vacant ≡ Retired e = sym (get_or_past slots t Vacant ge) ∙ gone in cc)
-    is))
-    (cases_lt t (length slots))
+within_in slots e t is = either (cases_lt t (length slots))
+    (λ lt. lt)
+    (λ ge. absurd (either is
+    (λ live. let q : Vacant ≡ Live e = sym (get_or_past slots t Vacant ge) ∙ live in cc)
+    (λ gone. let q : Vacant ≡ Retired e = sym (get_or_past slots t Vacant ge) ∙ gone in cc)))
 
 has_own : (e : Entry) (x : Slot) → IsIn e x → has_number e.number x ≡ true
-has_own e x is = ⊎_elim
-    (λ (live : x ≡ Live e). ap (has_number e.number) live ∙ eq-eqb e.number e.number refl)
-    (λ (gone : x ≡ Retired e). ap (has_number e.number) gone ∙ eq-eqb e.number e.number refl)
-    is
+has_own e x is = either is (λ live. ap (has_number e.number) live ∙ eq-eqb e.number e.number refl) (λ gone. ap (has_number e.number) gone ∙ eq-eqb e.number e.number refl)
 
 -- the slot of an entry's number is its own
 pub slot_number : (h : List Change) (slots : List Slot) (e : Entry) (t : ℕ) → SlotsShow h slots → IsIn e (slot_at slots t) → slot_of slots e.number ≡ Some t

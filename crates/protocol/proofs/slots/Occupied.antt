@@ -1,5 +1,5 @@
 -- Slots and the entries in them, and how a written slot changes which numbers are occupied.
-use Rattle.std.proofs.Common.{◌≡◌, ℕ, zero, suc, ◌+◌, ◌<◌, ◌≤◌, ◌⊎◌, inl, inr, ⊎_elim, List, [], ◌∷◌, length, get_or, set, cond, Bool, true, false, Some, None, position, refl, sym, ap, subst, ◌∙◌, arith, get_or-set_same, get_or-set_other}
+use Rattle.std.proofs.Common.{◌≡◌, ℕ, zero, suc, ◌+◌, ◌<◌, ◌≤◌, ◌⊎◌, inl, inr, List, [], ◌∷◌, length, get_or, set, cond, Bool, true, false, Some, None, position, refl, sym, ap, subst, ◌∙◌, arith, get_or-set_same, get_or-set_other}
 use Rattle.std.proofs.lemmas.List.{get_or_past, set_past}
 use Rattle.std.proofs.lemmas.Option.{slice_get_within}
 use Rattle.std.proofs.lemmas.List.Quantifiers.{position-Some}
@@ -16,30 +16,23 @@ use Rattle.protocol.specs.History.{IsAttached, change_at}
 use Rattle.registry_values.specs.Slots.{slot_at, has_number, slot_of, is_vacant, is_retired}
 use Rattle.protocol.specs.State.{at_rest}
 use Rattle.protocol.specs.Invariant.{IsIn, Occupies, SlotsShow}
+use Rattle.protocol.proofs.Either.{either}
 
 -- a place of a list after one is written
 pub place_cases : {X : Type 0} (d : X) (xs : List X) (t : ℕ) (x : X) (u : ℕ) → t < length xs → ((u ≡ t) × (get_or (set xs t x) u d ≡ x)) ⊎ ((u ≡ t → ⊥) × (get_or (set xs t x) u d ≡ get_or xs u d))
-place_cases {X} d xs t x u lt = ⊎_elim
-    (λ (same : u ≡ t). inl (same, ap (λ (k : ℕ). get_or (set xs t x) k d) same ∙ get_or-set_same xs t x d lt))
-    (λ (off : u ≡ t → ⊥). inr (off, get_or-set_other xs t u x d off))
-    (cases_eq u t)
+place_cases {X} d xs t x u lt = either (cases_eq u t)
+    (λ same. inl (same, ap (λ (k : ℕ). get_or (set xs t x) k d) same ∙ get_or-set_same xs t x d lt))
+    (λ off. inr (off, get_or-set_other xs t u x d off))
 
 -- a place that shows more than the default is in the list
 pub place_within : {X : Type 0} (d : X) (xs : List X) (t : ℕ) → (get_or xs t d ≡ d → ⊥) → t < length xs
-place_within {X} d xs t off = ⊎_elim
-    (λ (lt : t < length xs). lt)
-    (λ (ge : length xs ≤ t). absurd (off (get_or_past xs t d ge)))
-    (cases_lt t (length xs))
+place_within {X} d xs t off = either (cases_lt t (length xs)) (λ lt. lt) (λ ge. absurd (off (get_or_past xs t d ge)))
 
 -- a write past the end changes nothing, so a written place shows what was written or what it did
 pub written_cases : {X : Type 0} (d : X) (xs : List X) (t : ℕ) (x : X) (u : ℕ) → ((u ≡ t) × (get_or (set xs t x) u d ≡ x)) ⊎ (((u ≡ t → ⊥) ⊎ (length xs ≤ t)) × (get_or (set xs t x) u d ≡ get_or xs u d))
-written_cases {X} d xs t x u = ⊎_elim
-    (λ (lt : t < length xs). ⊎_elim
-    (λ (here : (u ≡ t) × (get_or (set xs t x) u d ≡ x)). inl here)
-    (λ (off : (u ≡ t → ⊥) × (get_or (set xs t x) u d ≡ get_or xs u d)). inr (inl off.0, off.1))
-    (place_cases d xs t x u lt))
-    (λ (ge : length xs ≤ t). inr (inr ge, ap (λ (ys : List X). get_or ys u d) (set_past xs t x ge)))
-    (cases_lt t (length xs))
+written_cases {X} d xs t x u = either (cases_lt t (length xs))
+    (λ lt. either (place_cases d xs t x u lt) (λ here. inl here) (λ off. inr (inl off.0, off.1)))
+    (λ ge. inr (inr ge, ap (λ (ys : List X). get_or ys u d) (set_past xs t x ge)))
 
 pub slot_cases : (slots : List Slot) (t : ℕ) (x : Slot) (u : ℕ) → t < length slots → ((u ≡ t) × (slot_at (set slots t x) u ≡ x)) ⊎ ((u ≡ t → ⊥) × (slot_at (set slots t x) u ≡ slot_at slots u))
 slot_cases slots t x u lt = place_cases Vacant slots t x u lt
@@ -52,39 +45,26 @@ pub in_written : (slots : List Slot) (t : ℕ) (x : Slot) (f : Entry) → t < le
 in_written slots t x f lt is = subst (IsIn f) (sym (get_or-set_same slots t x Vacant lt)) is
 
 pub not_vacant : (f : Entry) (x : Slot) → x ≡ Vacant → IsIn f x → ⊥
-not_vacant f x vacant is = ⊎_elim
-    (λ (live : x ≡ Live f). let q : Live f ≡ Vacant = sym live ∙ vacant in cc)
-    (λ (gone : x ≡ Retired f). let q : Retired f ≡ Vacant = sym gone ∙ vacant in cc)
-    is
+not_vacant f x vacant is = either is (λ live. let q : Live f ≡ Vacant = sym live ∙ vacant in cc) (λ gone. let q : Retired f ≡ Vacant = sym gone ∙ vacant in cc)
 
 -- an occupied slot is in the list
 pub in_within : (slots : List Slot) (t : ℕ) (e : Entry) → IsIn e (slot_at slots t) → t < length slots
 in_within slots t e is = place_within Vacant slots t (λ v. not_vacant e (slot_at slots t) v is)
 
 pub live_one : (f e : Entry) (x : Slot) → x ≡ Live e → IsIn f x → f ≡ e
-live_one f e x at is = ⊎_elim
-    (λ (live : x ≡ Live f). let q : Live f ≡ Live e = sym live ∙ at in cc)
-    (λ (gone : x ≡ Retired f). absurd (let q : Retired f ≡ Live e = sym gone ∙ at in cc))
-    is
+live_one f e x at is = either is (λ live. let q : Live f ≡ Live e = sym live ∙ at in cc) (λ gone. absurd (let q : Retired f ≡ Live e = sym gone ∙ at in cc))
 
 pub retired_one : (f e : Entry) (x : Slot) → x ≡ Retired e → IsIn f x → f ≡ e
-retired_one f e x at is = ⊎_elim
-    (λ (live : x ≡ Live f). absurd (let q : Live f ≡ Retired e = sym live ∙ at in cc))
-    (λ (gone : x ≡ Retired f). let q : Retired f ≡ Retired e = sym gone ∙ at in cc)
-    is
+retired_one f e x at is = either is (λ live. absurd (let q : Live f ≡ Retired e = sym live ∙ at in cc)) (λ gone. let q : Retired f ≡ Retired e = sym gone ∙ at in cc)
 
 pub one_in : (f e : Entry) (x : Slot) → IsIn e x → IsIn f x → f ≡ e
-one_in f e x at is = ⊎_elim
-    (λ (live : x ≡ Live e). live_one f e x live is)
-    (λ (gone : x ≡ Retired e). retired_one f e x gone is)
-    at
+one_in f e x at is = either at (λ live. live_one f e x live is) (λ gone. retired_one f e x gone is)
 
 -- Which numbers stay occupied where one slot is written: those whose entry the new slot still has.
 pub occupies_set : (slots : List Slot) (t : ℕ) (x : Slot) (n : ℕ) → t < length slots → ((f : Entry) → IsIn f (slot_at slots t) → f.number ≡ n → IsIn f x) → Occupies slots n → Occupies (set slots t x) n
-occupies_set slots t x n lt stays was = ⊎_elim
-    (λ (same : was.0 ≡ t). (t, was.1, in_written slots t x was.1 lt (stays was.1 (subst (λ (k : ℕ). IsIn was.1 (slot_at slots k)) same was.2) was.3), was.3))
-    (λ (off : was.0 ≡ t → ⊥). (was.0, was.1, in_other slots t x was.1 was.0 off was.2, was.3))
-    (cases_eq was.0 t)
+occupies_set slots t x n lt stays was = either (cases_eq was.0 t)
+    (λ same. (t, was.1, in_written slots t x was.1 lt (stays was.1 (subst (λ (k : ℕ). IsIn was.1 (slot_at slots k)) same was.2) was.3), was.3))
+    (λ off. (was.0, was.1, in_other slots t x was.1 was.0 off was.2, was.3))
 
 pub occupies_publish : (slots : List Slot) (t : ℕ) (x : Slot) (n : ℕ) → t < length slots → slot_at slots t ≡ Vacant → Occupies slots n → Occupies (set slots t x) n
 occupies_publish slots t x n lt vacant was = occupies_set slots t x n lt (λ f is number. absurd (not_vacant f (slot_at slots t) vacant is)) was
@@ -99,23 +79,20 @@ occupies_vacate slots t e n at other was = occupies_set slots t Vacant n (in_wit
 
 -- an entry of the new slots is the published one, or was there
 pub in_published : (slots : List Slot) (t u : ℕ) (e f : Entry) → t < length slots → IsIn f (slot_at (set slots t (Live e)) u) → ((u ≡ t) × (f ≡ e)) ⊎ IsIn f (slot_at slots u)
-in_published slots t u e f lt is = ⊎_elim
-    (λ (same : (u ≡ t) × (slot_at (set slots t (Live e)) u ≡ Live e)). inl (same.0, live_one f e (slot_at (set slots t (Live e)) u) same.1 is))
-    (λ (off : (u ≡ t → ⊥) × (slot_at (set slots t (Live e)) u ≡ slot_at slots u)). inr (subst (IsIn f) off.1 is))
-    (slot_cases slots t (Live e) u lt)
+in_published slots t u e f lt is = either (slot_cases slots t (Live e) u lt)
+    (λ same. inl (same.0, live_one f e (slot_at (set slots t (Live e)) u) same.1 is))
+    (λ off. inr (subst (IsIn f) off.1 is))
 
 pub in_unpublished : (slots : List Slot) (t u : ℕ) (e f : Entry) → slot_at slots t ≡ Live e → IsIn f (slot_at (set slots t (Retired e)) u) → IsIn f (slot_at slots u)
-in_unpublished slots t u e f at is = ⊎_elim
-    (λ (same : (u ≡ t) × (slot_at (set slots t (Retired e)) u ≡ Retired e)).
+in_unpublished slots t u e f at is = either (slot_cases slots t (Retired e) u (in_within slots t e (inl at)))
+    (λ same.
     subst (λ (g : Entry). IsIn g (slot_at slots u)) (sym (retired_one f e (slot_at (set slots t (Retired e)) u) same.1 is)) (inl (ap (slot_at slots) same.0 ∙ at)))
-    (λ (off : (u ≡ t → ⊥) × (slot_at (set slots t (Retired e)) u ≡ slot_at slots u)). subst (IsIn f) off.1 is)
-    (slot_cases slots t (Retired e) u (in_within slots t e (inl at)))
+    (λ off. subst (IsIn f) off.1 is)
 
 pub in_vacated : (slots : List Slot) (t u : ℕ) (e f : Entry) → slot_at slots t ≡ Retired e → IsIn f (slot_at (set slots t Vacant) u) → (u ≡ t → ⊥) × IsIn f (slot_at slots u)
-in_vacated slots t u e f at is = ⊎_elim
-    (λ (same : (u ≡ t) × (slot_at (set slots t Vacant) u ≡ Vacant)). absurd (not_vacant f (slot_at (set slots t Vacant) u) same.1 is))
-    (λ (off : (u ≡ t → ⊥) × (slot_at (set slots t Vacant) u ≡ slot_at slots u)). (off.0, subst (IsIn f) off.1 is))
-    (slot_cases slots t Vacant u (in_within slots t e (inr at)))
+in_vacated slots t u e f at is = either (slot_cases slots t Vacant u (in_within slots t e (inr at)))
+    (λ same. absurd (not_vacant f (slot_at (set slots t Vacant) u) same.1 is))
+    (λ off. (off.0, subst (IsIn f) off.1 is))
 
 -- what a slot of the new list is that was retired and isn't the one written
 pub retired_other : (slots : List Slot) (t u : ℕ) (x : Slot) (e : Entry) → slot_at slots u ≡ Retired e → (u ≡ t → ⊥) → slot_at (set slots t x) u ≡ Retired e
@@ -124,10 +101,7 @@ retired_other slots t u x e at off = get_or-set_other slots t u x Vacant off ∙
 -- Numbers are unique.
 
 pub attached_in : (h : List Change) (slots : List Slot) (t : ℕ) (e : Entry) → SlotsShow h slots → IsIn e (slot_at slots t) → IsAttached h e × (e.slot ≡ t)
-attached_in h slots t e show is = ⊎_elim
-    (λ (live : slot_at slots t ≡ Live e). let was = show.live t e live in (was.0.attached, was.1))
-    (λ (gone : slot_at slots t ≡ Retired e). let was = show.retired t e gone in (was.0, was.1))
-    is
+attached_in h slots t e show is = either is (λ live. let was = show.live t e live in (was.0.attached, was.1)) (λ gone. let was = show.retired t e gone in (was.0, was.1))
 
 -- two entries with one number are one, in one slot
 pub one_number : (h : List Change) (slots : List Slot) (t u : ℕ) (e f : Entry) → SlotsShow h slots → IsIn e (slot_at slots t) → IsIn f (slot_at slots u) → f.number ≡ e.number → (u ≡ t) × (f ≡ e)
@@ -157,10 +131,7 @@ number_in n (Live e) has = (e, inl refl, eqb-true e.number n has)
 number_in n (Retired e) has = (e, inr refl, eqb-true e.number n has)
 
 pub has_it : (n : ℕ) (e : Entry) (x : Slot) → IsIn e x → e.number ≡ n → has_number n x ≡ true
-has_it n e x is number = ⊎_elim
-    (λ (live : x ≡ Live e). ap (has_number n) live ∙ eq-eqb e.number n number)
-    (λ (gone : x ≡ Retired e). ap (has_number n) gone ∙ eq-eqb e.number n number)
-    is
+has_it n e x is number = either is (λ live. ap (has_number n) live ∙ eq-eqb e.number n number) (λ gone. ap (has_number n) gone ∙ eq-eqb e.number n number)
 
 -- the slot that `slot_of` finds has the entry
 pub slot_has : (slots : List Slot) (n t : ℕ) → slot_of slots n ≡ Some t → (t < length slots) × ((e : Entry) × IsIn e (slot_at slots t) × (e.number ≡ n))

@@ -1,5 +1,5 @@
 -- The commands that change who is attached: what they give and leave.
-use Rattle.std.proofs.Common.{◌≡◌, ℕ, suc, ◌<◌, inl, inr, ⊎_elim, List, length, get_or, set, replicate, Option, Some, None, Bool, true, false, refl, sym, ap, subst, ◌∙◌, arith}
+use Rattle.std.proofs.Common.{◌≡◌, ℕ, suc, ◌<◌, inl, inr, List, length, get_or, set, replicate, Option, Some, None, Bool, true, false, refl, sym, ap, subst, ◌∙◌, arith}
 use Rattle.std.specs.Prelude.{IsTrue, if◌then◌else◌, not, Result, Ok, Err}
 use Rattle.std.proofs.lemmas.Bool.{cases_eq, not-false}
 use Rattle.std.proofs.lemmas.List.{set-set}
@@ -47,6 +47,7 @@ use Rattle.registry_report.proofs.shows.Attached.{attach_answers, attach_iface_a
 use Rattle.registry_report.proofs.calls.Giving.{gives, leaves}
 use Rattle.registry_report.proofs.shows.Published.{detach_counts, detach_follows, retired_tallies}
 use Rattle.registry_report.proofs.shows.Sectioned.{inside_is}
+use Rattle.protocol.proofs.Either.{either}
 
 -- Attach
 
@@ -56,15 +57,7 @@ attached_shows s r c rec e holds later on is =
     let given = given_tells s.core rec e is in
     let fit = first_fit_tells s.core e.slot holds given.fit in
     let number : e.number ≡ suc (length s.core.history) = omega (arith, ap (λ (x : Entry). x.number) given.entry) in
-    linked_shows (with_core s (all_seated s.core)) r c e (seated_keeps s.core holds) later (record {
-      settings = on.settings;
-      model = on.model;
-      sections = on.sections;
-      live = on.live;
-      grace = on.grace;
-      tallies = on.tallies;
-      labels = on.labels;
-    }) (omega (arith, fit.0, holds.shape.slots)) (is_vacant_tells (slot_at s.core.slots e.slot) fit.1) number
+    linked_shows (with_core s (all_seated s.core)) r c e (seated_keeps s.core holds) later (assumption) (omega (arith, fit.0, holds.shape.slots)) (is_vacant_tells (slot_at s.core.slots e.slot) fit.1) number
 
 -- what was given and left, of an answer a
 abbrev AttachDone : SessionState → Registry → ℕ → Record → Result Entry Refusal → Type 0
@@ -77,15 +70,14 @@ attach_by s r c rec (Err f) result holds on at is later =
       gives (command_answer {X = Entry} (Err f)) (command_answer (attach_answer r c rec)) (ap command_answer answer),
       leaves (command_answer {X = Entry} (Err f)) s (on_ok r (attach_answer r c rec) (with_attached r c)) (subst (λ (b : Result Entry Refusal). Shows s (on_ok r b (with_attached r c))) (sym answer) on),
     )
-attach_by s r c rec (Ok e) result holds on at is later = ⊎_elim
-    (λ (done : result ≡ Ok e).
+attach_by s r c rec (Ok e) result holds on at is later = either is
+    (λ done.
     let answer : attach_answer r c rec ≡ Ok e = sym (attach_answers s r c rec holds on) ∙ at in
     let given : core.given_entry s.core rec ≡ Ok e = (attach_tells (events.is_inside s.core c) (is_iface rec.kind) (core.given_entry s.core rec) e at).2 in
     let kept : Holds (core.with_attached s.core c e) = subst (λ (b : Result Entry Refusal). Holds (after_attach s.core c b)) done later in
     subst (AttachDone s r c rec) (sym done)
     (ap command_answer answer, subst (λ (b : Result Entry Refusal). Shows (with_core s (core.with_attached s.core c e)) (on_ok r b (with_attached r c))) (sym answer) (attached_shows s r c rec e holds kept on given)))
-    (λ (full : result ≡ Err NoMemory). subst (AttachDone s r c rec) (sym full) (tt, tt))
-    is
+    (λ full. subst (AttachDone s r c rec) (sym full) (tt, tt))
 
 pub attach_done : (s : SessionState) (r : Registry) (c : ℕ) (rec : Record) (result : Result Entry Refusal) → Holds s.core → Shows s r → IsAnswer (core.attach_answer s.core c rec) result → Holds (after_attach s.core c result) → AttachDone s r c rec result
 attach_done s r c rec result holds on is later = attach_by s r c rec (core.attach_answer s.core c rec) result holds on refl is later
@@ -127,8 +119,8 @@ plug_by s r c rec x id n (Err f) result is on small at place iface lawful answer
           (subst (λ (o : Option ℕ). Shows s (on_some r o (λ d. on_ok r (plug_answer r c rec x) (λ e. with_attached_iface r c e x d)))) (sym label)
           (subst (λ (b : Result Entry Hitch). Shows s (on_ok r b (λ e. with_attached_iface r c e x n))) (sym answer) on)),
     )
-plug_by s r c rec x id n (Ok e) result is on small at place iface lawful answered due later = ⊎_elim
-    (λ (done : result ≡ Ok e).
+plug_by s r c rec x id n (Ok e) result is on small at place iface lawful answered due later = either due
+    (λ done.
     let label = label_is s r x id n on at place in
     let parts = attach_tells (events.is_inside s.core c) (not (core.is_to_driver s.core id)) (core.given_entry s.core rec) e answered in
     let answer : plug_answer r c rec x ≡ Ok e = ap (λ (o : Option ℕ). with_label o (λ d. command_answer (attach_iface_answer r c rec d))) label ∙ ap command_answer (sym (attach_iface_answers s r c rec id n is.holds on place) ∙ answered) in
@@ -139,8 +131,7 @@ plug_by s r c rec x id n (Ok e) result is on small at place iface lawful answere
           (subst (λ (b : Result Entry Hitch). Shows (after_plugging s c x id (Ok e)) (on_ok r b (λ f. with_attached_iface r c f x n))) (sym answer)
           (plugged_shows s r c rec e x id n is on small at place (not-false (core.is_to_driver s.core id) parts.1) iface lawful kept parts.2)),
     ))
-    (λ (full : result ≡ Err NoMemory). subst (PlugDone s r c rec x id) (sym full) (tt, tt))
-    due
+    (λ full. subst (PlugDone s r c rec x id) (sym full) (tt, tt))
 
 pub plug_done : (s : SessionState) (r : Registry) (c : ℕ) (rec : Record) (x id n : ℕ) (result : Result Entry Refusal) → IsSession s → Shows s r → x < 26 → get_or s.locals x None ≡ Some id → local_at s.core.locals id ≡ Standing n
     → is_iface rec.kind ≡ true → IsTrue (is_lawful rec.name) → IsAnswer (core.attach_iface_answer s.core c rec id) result → Holds (after_attach_iface s.core c id result) → PlugDone s r c rec x id result
@@ -155,12 +146,11 @@ retired_by s c e before = after_seeing (with_all_snapshots (with_retired (with_l
 retired_passive : (s : State) (e : Entry) (c n : ℕ) → Holds s → SlotsShow (after_change s.history (Detach e.number)) (set s.slots e.slot (Retired e)) → slot_at s.slots e.slot ≡ Live e
     → passive_in s.passive c (slot_of s.slots n) ≡ passive_in s.passive c (slot_of (set s.slots e.slot (Retired e)) n)
 retired_passive s e c n on later at = passive_moved s.history (after_change s.history (Detach e.number)) s.slots (set s.slots e.slot (Retired e)) s.passive c n on.slots later
-    (λ u was. ⊎_elim
-    (λ (same : u ≡ e.slot).
+    (λ u was. either (cases_eq u e.slot)
+    (λ same.
     let one : was.0 ≡ e = live_one was.0 e (slot_at s.slots e.slot) at (subst (λ (k : ℕ). IsIn was.0 (slot_at s.slots k)) same was.1) in
     inl (e, subst (λ (k : ℕ). IsIn e (slot_at (set s.slots e.slot (Retired e)) k)) (sym same) (in_written s.slots e.slot (Retired e) e (in_within s.slots e.slot e (inl at)) (inr refl)), ap (λ (f : Entry). f.number) (sym one) ∙ was.2))
-    (λ (off : u ≡ e.slot → ⊥). inl (was.0, in_other s.slots e.slot (Retired e) was.0 u off was.1, was.2))
-    (cases_eq u e.slot))
+    (λ off. inl (was.0, in_other s.slots e.slot (Retired e) was.0 u off was.1, was.2)))
     (λ u was. inl (was.0, in_unpublished s.slots e.slot u e was.0 at was.1, was.2))
 
 -- what a live entry has no end for
@@ -191,24 +181,18 @@ detached_follows s r e blank row holds on at =
 
 detached_by : (s : SessionState) (r : Registry) (c : ℕ) (e : Entry) (before : Option ℕ) → Holds s.core → Holds (retired_by s.core c e before) → Shows s r → slot_at s.core.slots e.slot ≡ Live e
     → Shows (with_core s (retired_by s.core c e before)) (with_detached r c e)
-detached_by s r c e None holds later on at = record {
-  settings = on.settings;
-  model = detached_model s r c e holds on at later.slots;
-  sections = on.sections;
-  live = detach_counts s.core.history s.core.slots e.slot e (in_within s.core.slots e.slot e (inl at)) at on.live;
-  grace = detached_follows s r e (replicate MOST_CPUS no_mark) (snapshot_row s.core) holds on at;
-  tallies = retired_tallies s.core.settings.cpus s.core.history s.core.slots s.core.counts s.core.nets s.core.totals r.acquired r.released r.given_up r.is_collected e.slot e at on.tallies;
-  labels = on.labels;
-}
-detached_by s r c e (Some p) holds later on at = record {
-  settings = on.settings;
-  model = detached_model s r c e holds on at later.slots;
-  sections = on.sections;
-  live = detach_counts s.core.history s.core.slots e.slot e (in_within s.core.slots e.slot e (inl at)) at on.live;
-  grace = detached_follows s r e (replicate MOST_CPUS no_mark) (snapshot_row s.core) holds on at;
-  tallies = retired_tallies s.core.settings.cpus s.core.history s.core.slots s.core.counts s.core.nets s.core.totals r.acquired r.released r.given_up r.is_collected e.slot e at on.tallies;
-  labels = on.labels;
-}
+detached_by s r c e None holds later on at = assumption (
+  detached_model s r c e holds on at later.slots,
+  detach_counts s.core.history s.core.slots e.slot e (in_within s.core.slots e.slot e (inl at)) at on.live,
+  detached_follows s r e (replicate MOST_CPUS no_mark) (snapshot_row s.core) holds on at,
+  retired_tallies s.core.settings.cpus s.core.history s.core.slots s.core.counts s.core.nets s.core.totals r.acquired r.released r.given_up r.is_collected e.slot e at on.tallies,
+)
+detached_by s r c e (Some p) holds later on at = assumption (
+  detached_model s r c e holds on at later.slots,
+  detach_counts s.core.history s.core.slots e.slot e (in_within s.core.slots e.slot e (inl at)) at on.live,
+  detached_follows s r e (replicate MOST_CPUS no_mark) (snapshot_row s.core) holds on at,
+  retired_tallies s.core.settings.cpus s.core.history s.core.slots s.core.counts s.core.nets s.core.totals r.acquired r.released r.given_up r.is_collected e.slot e at on.tallies,
+)
 
 abbrev DetachDone : SessionState → Registry → ℕ → Key → Result Entry Refusal → Type 0
 DetachDone s r c key result = Gives (command_answer result) (command_answer (detach_answer r c key)) × Leaves (command_answer result) (Shows (with_core s (after_detach s.core c result)) (on_ok r (detach_answer r c key) (with_detached r c)))

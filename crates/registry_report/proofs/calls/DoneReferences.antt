@@ -1,5 +1,5 @@
 -- What the calls on references gave and left: `v` is the session as its callers see it, `k` the core afterwards.
-use Rattle.std.proofs.Common.{◌≡◌, ℕ, ◌<◌, ⊎_elim, get_or, set, Option, Some, None, Bool, true, false, nat_lt, refl, sym, ap, subst, ◌∙◌, arith}
+use Rattle.std.proofs.Common.{◌≡◌, ℕ, ◌<◌, get_or, set, Option, Some, None, Bool, true, false, nat_lt, refl, sym, ap, subst, ◌∙◌, arith}
 use Rattle.std.proofs.lemmas.Option.{same_Some}
 use Rattle.std.specs.Prelude.{[], is_ok, IsErr, IsErrAnd, IsTrue, Result, Ok, Err}
 use Rattle.registry_values.specs.declared.entry.Entry.{Entry}
@@ -35,6 +35,7 @@ use Rattle.registry_report.proofs.calls.Done.{Does, seen}
 use Rattle.registry_report.proofs.calls.Giving.{gives, leaves}
 use Rattle.registry_report.proofs.shows.Referred.{acquire_shows, at_free_label, at_taken_label, copy_reference_answers, copy_shows, held_answers, number_if, image, read_of, read_reference_answers, read_shows, reference_answers, release_reference_answers, release_shows, seated_shows}
 use Rattle.registry_report.proofs.calls.Sessions.{live_place, new_place}
+use Rattle.protocol.proofs.Either.{either}
 
 -- a refusal came back as a hitch
 pub told_err : {X : Type 0} (result : Result X Hitch) (f : Refusal) → IsErr result → IsErrAnd result (λ h. h ≡ Refused f) → result ≡ Err (Refused f)
@@ -151,14 +152,13 @@ pub count_fails : (s v : SessionState) (k : State) (r : Registry) (c x : ℕ) (f
     → Does given (count_answer r c x) (with_core s k) (on_ok r (count_answer r c x) (with_one_counted r c x))
 count_fails s v k r c x f given view is on low free due left told =
     let sees = seen s v r view on in
-    ⊎_elim
-    (λ (full : f ≡ NoMemory).
+    either (count_error s.core (count_refusal s.core c (found_at s.core c)) f due)
+    (λ full.
     let none : given ≡ Err (Refused NoMemory) = told ∙ ap (λ (g : Refusal). Err (Refused g)) full in
     subst (λ (g : Result ℕ Hitch). Does g (count_answer r c x) (with_core s k) (on_ok r (count_answer r c x) (with_one_counted r c x))) (sym none) (tt, tt))
-    (λ (why : count_refusal s.core c (found_at s.core c) ≡ Some f).
+    (λ why.
     let answer : count_answer r c x ≡ Err (Refused f) = at_free_label (r.local_labels x) (command_answer (count_of_found r c (r.model.found c))) (label_none s r x sees free) ∙ ap command_answer (refuses s r c f is.holds sees low why) in
     refused_does given (count_answer r c x) f s v k r (with_one_counted r c x) told answer left sees)
-    (count_error s.core (count_refusal s.core c (found_at s.core c)) f due)
 
 -- the place of the new reference says the number found
 new_number : (s k : State) (c id : ℕ) (e : Entry) → Holds s → found_at s c ≡ Some e → id ≡ least_id s.locals → k ≡ after_acquire_local s c (Ok id) → number_standing (local_at k.locals id) ≡ Some e.number

@@ -1,5 +1,5 @@
 -- What keeps the labels of a session right.
-use Rattle.std.proofs.Common.{◌≡◌, ℕ, ◌<◌, ◌⊎◌, inl, inr, ⊎_elim, zero, suc, List, length, replicate, Bool, true, false, Option, Some, None, if◌then◌else◌, refl, sym, ap, ◌∙◌, arith, length-set, get_or-set_same, get_or-set_other, Ok}
+use Rattle.std.proofs.Common.{◌≡◌, ℕ, ◌<◌, ◌⊎◌, inl, inr, zero, suc, List, length, replicate, Bool, true, false, Option, Some, None, if◌then◌else◌, refl, sym, ap, ◌∙◌, arith, length-set, get_or-set_same, get_or-set_other, Ok}
 use Rattle.std.specs.Prelude.{is_some, slice_index_or, slice_set}
 use Rattle.std.proofs.lemmas.Bool.{cases_eq}
 use Rattle.registry_values.specs.declared.entry.Entry.{Entry}
@@ -17,6 +17,7 @@ use Rattle.passive_core.proofs.Locals.{live_slot, slot_is}
 use Rattle.passive_core.proofs.Passives.{found_slot}
 use Rattle.protocol.proofs.keeps.References.{least_free, least_stays, least_within, with_local_same}
 use Rattle.registry_report.specs.Session.{SessionState, IsSession, label_answer}
+use Rattle.protocol.proofs.Either.{either}
 
 -- What the core's commands leave of the places of local references
 
@@ -98,17 +99,13 @@ same_places s core on stays same = record {
 
 -- what stands at the label that was written, or at another
 label_cases : (labels : List (Option ℕ)) (x y : ℕ) (o : Option ℕ) → x < length labels → ((y ≡ x) × (slice_index_or (slice_set labels x o) y None ≡ o)) ⊎ ((y ≡ x → ⊥) × (slice_index_or (slice_set labels x o) y None ≡ slice_index_or labels y None))
-label_cases labels x y o below = ⊎_elim
-    (λ (same : y ≡ x). inl (same, rw same (get_or-set_same labels x o None below)))
-    (λ (off : y ≡ x → ⊥). inr (off, get_or-set_other labels x y o None off))
-    (cases_eq y x)
+label_cases labels x y o below = either (cases_eq y x)
+    (λ same. inl (same, rw same (get_or-set_same labels x o None below)))
+    (λ off. inr (off, get_or-set_other labels x y o None off))
 
 -- at a label that was emptied stands nothing
 emptied : (labels : List (Option ℕ)) (x y id : ℕ) → x < length labels → slice_index_or (slice_set labels x None) y None ≡ Some id → (y ≡ x → ⊥) × (slice_index_or labels y None ≡ Some id)
-emptied labels x y id below at = ⊎_elim
-    (λ (here : (y ≡ x) × (slice_index_or (slice_set labels x None) y None ≡ None)). let none = here.1 in let no : ⊥ = cc in absurd no)
-    (λ (off : (y ≡ x → ⊥) × (slice_index_or (slice_set labels x None) y None ≡ slice_index_or labels y None)). (off.0, sym off.1 ∙ at))
-    (label_cases labels x y None below)
+emptied labels x y id below at = either (label_cases labels x y None below) (λ here. let none = here.1 in let no : ⊥ = cc in absurd no) (λ off. (off.0, sym off.1 ∙ at))
 
 -- the label's reference was given up
 pub given_up : (s : SessionState) (core : State) (x id : ℕ) → IsSession s → Stays s.core core → x < 26 → slice_index_or s.locals x None ≡ Some id → core.locals ≡ slice_set s.core.locals id Free
@@ -158,22 +155,18 @@ taken_up s core x id n on stays low least is =
       holds = stays.holds;
       passive_labels = on.passive_labels;
       local_labels = length-set s.locals x (Some id) ∙ on.local_labels;
-      live = λ y j at. ⊎_elim
-          (λ (here : (y ≡ x) × (slice_index_or (slice_set s.locals x (Some id)) y None ≡ Some id)). live_at core id j n (some_same id j (sym here.1 ∙ at)) (new_place s core id n least is))
-          (λ (off : (y ≡ x → ⊥) × (slice_index_or (slice_set s.locals x (Some id)) y None ≡ slice_index_or s.locals y None)).
+      live = λ y j at. either (label_cases s.locals x y (Some id) below)
+          (λ here. live_at core id j n (some_same id j (sym here.1 ∙ at)) (new_place s core id n least is))
+          (λ off.
           let p = live_place (local_at s.core.locals j) (on.live y j (sym off.1 ∙ at)) in
-          live_at core j j p.0 refl (ap (λ (l : List LocalPlace). local_at l j) is ∙ least_stays s.core.locals (Standing n) (Standing p.0) j (λ same. let q : Free ≡ Standing p.0 = same in cc) p.1))
-          (label_cases s.locals x y (Some id) below);
-      apart = λ y z j at and. ⊎_elim
-          (λ (here : (y ≡ x) × (slice_index_or (slice_set s.locals x (Some id)) y None ≡ Some id)). ⊎_elim
-          (λ (there : (z ≡ x) × (slice_index_or (slice_set s.locals x (Some id)) z None ≡ Some id)). here.0 ∙ sym there.0)
-          (λ (far : (z ≡ x → ⊥) × (slice_index_or (slice_set s.locals x (Some id)) z None ≡ slice_index_or s.locals z None)).
-          absurd (free_dies s z j on (sym (some_same id j (sym here.1 ∙ at)) ∙ least) (sym far.1 ∙ and)))
-          (label_cases s.locals x z (Some id) below))
-          (λ (off : (y ≡ x → ⊥) × (slice_index_or (slice_set s.locals x (Some id)) y None ≡ slice_index_or s.locals y None)). ⊎_elim
-          (λ (there : (z ≡ x) × (slice_index_or (slice_set s.locals x (Some id)) z None ≡ Some id)).
+          live_at core j j p.0 refl (ap (λ (l : List LocalPlace). local_at l j) is ∙ least_stays s.core.locals (Standing n) (Standing p.0) j (λ same. let q : Free ≡ Standing p.0 = same in cc) p.1));
+      apart = λ y z j at and. either (label_cases s.locals x y (Some id) below)
+          (λ here. either (label_cases s.locals x z (Some id) below)
+          (λ there. here.0 ∙ sym there.0)
+          (λ far.
+          absurd (free_dies s z j on (sym (some_same id j (sym here.1 ∙ at)) ∙ least) (sym far.1 ∙ and))))
+          (λ off. either (label_cases s.locals x z (Some id) below)
+          (λ there.
           absurd (free_dies s y j on (sym (some_same id j (sym there.1 ∙ and)) ∙ least) (sym off.1 ∙ at)))
-          (λ (far : (z ≡ x → ⊥) × (slice_index_or (slice_set s.locals x (Some id)) z None ≡ slice_index_or s.locals z None)). on.apart y z j (sym off.1 ∙ at) (sym far.1 ∙ and))
-          (label_cases s.locals x z (Some id) below))
-          (label_cases s.locals x y (Some id) below);
+          (λ far. on.apart y z j (sym off.1 ∙ at) (sym far.1 ∙ and)));
     }

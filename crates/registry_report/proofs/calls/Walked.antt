@@ -31,12 +31,6 @@ enter_done s r c result holds on low is = (
   leaves (command_answer result) (with_core s (after_enter_command s.core c)) (on_ok r (enter_answer r c) (λ done. with_section_entered r c)) (enter_shows s r c holds on low),
 )
 
--- outside a section there is no call
-pub exit_outside : (s : SessionState) (r : Registry) (c : ℕ) → Shows s r → events.is_inside s.core c ≡ false → (exit_answer r c ≡ Err NotInside) × Shows s (on_ok r (exit_answer r c) (with_section_exited r c))
-exit_outside s r c on out =
-    let answer : exit_answer r c ≡ Err NotInside = ap (λ (b : Bool). if b then Ok (not (r.depths c == 1)) else Err NotInside) (inside_is s r c on ∙ out) in
-    (answer, subst (λ (b : Result Bool Hitch). Shows s (on_ok r b (with_section_exited r c))) (sym answer) on)
-
 -- whether the section is open after an exit
 stays_open : (r : Registry) (c : ℕ) (stays : Bool) → is_inside r c ≡ true → is_inside (with_section_exited r c stays) c ≡ stays
 stays_open r c true in_ = in_
@@ -50,11 +44,6 @@ exit_inside s r c stays holds on low in_ is =
     let answer : exit_answer r c ≡ Ok (not (r.depths c == 1)) = ap (λ (b : Bool). if b then Ok (not (r.depths c == 1)) else Err NotInside) (inside_is s r c on ∙ in_) in
     let after : is_inside (with_section_exited r c (not (r.depths c == 1))) c ≡ stays = inside_is (with_core s (after_exit_command s.core c)) (with_section_exited r c (not (r.depths c == 1))) c shows ∙ sym is in
     (answer ∙ ap (λ (b : Bool). Ok b) (sym (stays_open r c (not (r.depths c == 1)) (inside_is s r c on ∙ in_)) ∙ after), subst (λ (b : Result Bool Hitch). Shows (with_core s (after_exit_command s.core c)) (on_ok r b (with_section_exited r c))) (sym answer) shows)
-
-pub find_outside : (s : SessionState) (r : Registry) (c : ℕ) (key : Key) → Shows s r → events.is_inside s.core c ≡ false → (find_answer r c key ≡ Err NotInside) × Shows s (on_ok r (find_answer r c key) (with_found r c))
-find_outside s r c key on out =
-    let answer : find_answer r c key ≡ Err NotInside = ap (λ (b : Bool). if b then Ok (lookup_now r key) else Err NotInside) (inside_is s r c on ∙ out) in
-    (answer, subst (λ (b : Result (Option Entry) Hitch). Shows s (on_ok r b (with_found r c))) (sym answer) on)
 
 pub find_inside : (s : SessionState) (r : Registry) (c : ℕ) (key : Key) (found : Option Entry) → Holds s.core → Shows s r → c < s.core.settings.cpus → events.is_inside s.core c ≡ true → IsLookupNow s.core key found
     → (find_answer r c key ≡ Ok found) × Shows (with_core s (after_find (all_seated s.core) c found)) (on_ok r (find_answer r c key) (with_found r c))

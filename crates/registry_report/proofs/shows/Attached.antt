@@ -1,5 +1,5 @@
 -- Attach, plug and detach: the registry that the session shows answers and changes as the core does.
-use Rattle.std.proofs.Common.{◌≡◌, ℕ, suc, ◌-◌, ◌<◌, inl, inr, ⊎_elim, List, ◌∷◌, [], length, get_or, set, get_or-set_same, get_or-set_other, Option, Some, None, Bool, true, false, is_some, is_none, ◌&&◌, ◌||◌, refl, sym, ap, ◌∙◌, arith, sum_by}
+use Rattle.std.proofs.Common.{◌≡◌, ℕ, suc, ◌-◌, ◌<◌, inl, inr, List, ◌∷◌, [], length, get_or, set, get_or-set_same, get_or-set_other, Option, Some, None, Bool, true, false, is_some, is_none, ◌&&◌, ◌||◌, refl, sym, ap, ◌∙◌, arith, sum_by}
 use Rattle.std.specs.Prelude.{not}
 use Rattle.std.specs.List.{list_any, zip}
 use Rattle.std.proofs.lemmas.Slice.Zip.{length-zip, get_or-zip}
@@ -46,6 +46,7 @@ use Rattle.registry_report.proofs.Lookups.{entry_is, lookup_is, one_lookup}
 use Rattle.registry_report.proofs.shows.Published.{published_tallies, attach_counts, attach_follows}
 use Rattle.registry_report.proofs.shows.Sectioned.{inside_is}
 use Rattle.registry_report.proofs.shows.Showing.{put_shows}
+use Rattle.protocol.proofs.Either.{either}
 
 -- Answers
 
@@ -121,10 +122,9 @@ published_passive : (s : State) (e : Entry) (c n : ℕ) → Holds s → SlotsSho
     → passive_in s.passive c (slot_of s.slots n) ≡ passive_in s.passive c (slot_of (set s.slots e.slot (Live e)) n)
 published_passive s e c n on later lt vacant = passive_moved s.history (after_change s.history (Attach e)) s.slots (set s.slots e.slot (Live e)) s.passive c n on.slots later
     (λ u at. inl (at.0, in_other s.slots e.slot (Live e) at.0 u (λ same. not_vacant at.0 (slot_at s.slots u) (ap (slot_at s.slots) same ∙ vacant) at.1) at.1, at.2))
-    (λ u at. ⊎_elim
-    (λ (new : (u ≡ e.slot) × (at.0 ≡ e)). inr (ap (passive_at s.passive c) new.0 ∙ on.passive.vacant c e.slot vacant))
-    (λ (old : IsIn at.0 (slot_at s.slots u)). inl (at.0, old, at.2))
-    (in_published s.slots e.slot u e at.0 lt at.1))
+    (λ u at. either (in_published s.slots e.slot u e at.0 lt at.1)
+    (λ new. inr (ap (passive_at s.passive c) new.0 ∙ on.passive.vacant c e.slot vacant))
+    (λ old. inl (at.0, old, at.2)))
 
 -- an entry is linked in a vacant slot, under the next number
 pub linked_shows : (s : SessionState) (r : Registry) (c : ℕ) (e : Entry) → Holds s.core → Holds (with_linked s.core c e) → Shows s r → e.slot < length s.core.slots → slot_at s.core.slots e.slot ≡ Vacant → e.number ≡ suc (length s.core.history)
@@ -154,10 +154,9 @@ linked_shows s r c e holds later on lt vacant number = record {
 
 -- what a label's reference is to is a driver
 driver_in : (h : List Change) (slots : List Slot) (t : ℕ) (e : Entry) → SlotsShow h slots → IsIn e (slot_at slots t) → events.is_driver_slot (slot_at slots t) ≡ is_driver_number h e.number
-driver_in h slots t e on is = ⊎_elim
-    (λ (live : slot_at slots t ≡ Live e). ap events.is_driver_slot live ∙ sym (ap is_driver_entry (entry_is h e (attached_in h slots t e on is).0)))
-    (λ (gone : slot_at slots t ≡ Retired e). ap events.is_driver_slot gone ∙ sym (ap is_driver_entry (entry_is h e (attached_in h slots t e on is).0)))
-    is
+driver_in h slots t e on is = either is
+    (λ live. ap events.is_driver_slot live ∙ sym (ap is_driver_entry (entry_is h e (attached_in h slots t e on is).0)))
+    (λ gone. ap events.is_driver_slot gone ∙ sym (ap is_driver_entry (entry_is h e (attached_in h slots t e on is).0)))
 
 driver_at : (s : State) (n : ℕ) → Holds s → Occupies s.slots n → core.is_driver_in s.slots (slot_of s.slots n) ≡ is_driver_number s.history n
 driver_at s n holds is =
@@ -190,17 +189,12 @@ pub keeping_shows : (s : SessionState) (r : Registry) (t x id n : ℕ) → IsSes
     → Shows (record s { core = core.with_reference_kept (all_seated s.core) t id; locals = set s.locals x None }) (record r { model = with_reference_kept r.model t n; local_labels = put r.local_labels x None })
 keeping_shows s r t x id n is on low small at place = record {
   settings = on.settings;
-  model = record {
-    history = on.model.history;
-    sections = on.model.sections;
-    last_found = on.model.last_found;
-    held = on.model.held;
-    counted = put_is r.model.locals (λ m. sum_by (standing_of m) (set s.core.locals id Free)) n (r.model.locals n - 1)
+  model = assumption (
+    put_is r.model.locals (λ m. sum_by (standing_of m) (set s.core.locals id Free)) n (r.model.locals n - 1)
         (omega (arith, on.model.counted n, local_changed n s.core.locals id (Standing n) Free (standing_within s.core.locals id n place) place, one_at n n refl))
-        (λ m off. omega (arith, on.model.counted m, local_changed m s.core.locals id (Standing n) Free (standing_within s.core.locals id n place) place, none_at n m (λ same. off (sym same))));
-    occupants = on.model.occupants;
-    kept = put_shows r.model.keeps None s.core.keeps t (Some n) (events.number_standing (local_at s.core.locals id)) (omega (arith, is.holds.shape.keeps)) on.model.kept (sym (ap events.number_standing place));
-  };
+        (λ m off. omega (arith, on.model.counted m, local_changed m s.core.locals id (Standing n) Free (standing_within s.core.locals id n place) place, none_at n m (λ same. off (sym same)))),
+    put_shows r.model.keeps None s.core.keeps t (Some n) (events.number_standing (local_at s.core.locals id)) (omega (arith, is.holds.shape.keeps)) on.model.kept (sym (ap events.number_standing place)),
+  );
   sections = on.sections;
   live = on.live;
   grace = on.grace;

@@ -1,5 +1,5 @@
 -- Local references: the registry that the session shows answers and changes as the core does.
-use Rattle.std.proofs.Common.{◌≡◌, ℕ, ◌+◌, ◌-◌, ◌<◌, ◌≤◌, ◌⊎◌, inl, inr, ⊎_elim, List, [], length, get_or, set, get_or-set_same, get_or-set_other, Option, Some, None, Bool, true, false, not, is_some, nat_lt, refl, sym, ap, subst, ◌∙◌, arith, sum_by}
+use Rattle.std.proofs.Common.{◌≡◌, ℕ, ◌+◌, ◌-◌, ◌<◌, ◌≤◌, ◌⊎◌, inl, inr, List, [], length, get_or, set, get_or-set_same, get_or-set_other, Option, Some, None, Bool, true, false, not, is_some, nat_lt, refl, sym, ap, subst, ◌∙◌, arith, sum_by}
 use Rattle.std.specs.Prelude.{if◌then◌else◌, Result, Ok, Err}
 use Rattle.std.proofs.lemmas.Bool.{cases_Bool, cases_eq, cases_lt, lt-ltb, le-ltb}
 use Rattle.std.proofs.lemmas.Option.{none-some}
@@ -34,6 +34,7 @@ use Rattle.registry_report.specs.Registry.{Registry}
 use Rattle.registry_report.specs.Session.{IsSession, SessionState}
 use Rattle.registry_report.specs.Shows.{Shows, ShowsTallies, number_at}
 use Rattle.registry_report.specs.Turns.{with_one_counted, put_at, with_one_uncounted}
+use Rattle.protocol.proofs.Either.{either}
 
 -- In general
 
@@ -42,10 +43,9 @@ pub put_at_here : {X : Type 0} (f : ℕ → ℕ → X) (c n : ℕ) (x : X) → p
 put_at_here {X} f c n x = ap (λ (g : ℕ → X). g n) (put_here f c (put (f c) n x)) ∙ put_here (f c) n x
 
 pub put_at_other : {X : Type 0} (f : ℕ → ℕ → X) (c n : ℕ) (x : X) (d m : ℕ) → (d ≡ c → m ≡ n → ⊥) → put_at f c n x d m ≡ f d m
-put_at_other {X} f c n x d m off = ⊎_elim
-    (λ (same : d ≡ c). ap (λ (k : ℕ). put_at f c n x k m) same ∙ (ap (λ (g : ℕ → X). g m) (put_here f c (put (f c) n x)) ∙ (put_other (f c) n x m (off same) ∙ ap (λ (k : ℕ). f k m) (sym same))))
-    (λ (no : d ≡ c → ⊥). ap (λ (g : ℕ → X). g m) (put_other f c (put (f c) n x) d no))
-    (cases_eq d c)
+put_at_other {X} f c n x d m off = either (cases_eq d c)
+    (λ same. ap (λ (k : ℕ). put_at f c n x k m) same ∙ (ap (λ (g : ℕ → X). g m) (put_here f c (put (f c) n x)) ∙ (put_other (f c) n x m (off same) ∙ ap (λ (k : ℕ). f k m) (sym same))))
+    (λ no. ap (λ (g : ℕ → X). g m) (put_other f c (put (f c) n x) d no))
 
 -- The place of a count
 
@@ -260,15 +260,7 @@ changed : (s : SessionState) (r : Registry) (counts nets : List (List ℕ)) (tot
     (record r { model = with_locals r.model n k; acquired = acquired; released = released; given_up = given_up; local_labels = labels })
 changed s r counts nets totals places ids n k acquired released given_up labels on number_standing tallies stand = record {
   settings = on.settings;
-  model = record {
-    history = on.model.history;
-    sections = on.model.sections;
-    last_found = on.model.last_found;
-    held = on.model.held;
-    counted = number_standing;
-    occupants = on.model.occupants;
-    kept = on.model.kept;
-  };
+  model = assumption;
   sections = on.sections;
   live = on.live;
   grace = on.grace;
@@ -281,10 +273,7 @@ found_uncollected : (s : SessionState) (r : Registry) (c t : ℕ) (e : Entry) �
 found_uncollected s r c t e holds on low found of =
     let is = held_counting s.core c t e holds found of in
     let some = (holds.balance.counted c t low is.1).1 in
-    ⊎_elim
-    (λ (dry : r.is_collected e.number ≡ true). absurd (omega (arith, some, on.tallies.collected t c e is.0 dry)))
-    (λ (live : r.is_collected e.number ≡ false). live)
-    (cases_Bool (r.is_collected e.number))
+    either (cases_Bool (r.is_collected e.number)) (λ dry. absurd (omega (arith, some, on.tallies.collected t c e is.0 dry))) (λ live. live)
 
 -- the sum of the live references with one more
 more_standing : (s : SessionState) (r : Registry) (n : ℕ) → Shows s r → (m : ℕ) → put r.model.locals n (r.model.locals n + 1) m ≡ sum_by (standing_of m) (with_local s.core.locals (least_id s.core.locals) (Standing n))
@@ -340,13 +329,10 @@ pub acquire_local_shows : (s : SessionState) (r : Registry) (c x id : ℕ) → I
     → IsCounted s.core (count_refusal s.core c (found_at s.core c)) (Ok id) → Counts s r c x id
 acquire_local_shows s r c x id session on low within is =
     let told = counts_tell s r c session.holds on low is.0 in
-    record {
-      entry = told.0;
-      found = told.1;
-      answers = told.2;
-      shows = subst (λ (k : ℕ). Shows (record s { core = after_counting s.core c (found_at s.core c); locals = set s.locals x (Some k) }) (with_one_counted r c x told.0.number)) (sym is.1)
-          (counting_shows s r c x told.0 session on low within told.1);
-    }
+    assumption (
+      subst (λ (k : ℕ). Shows (record s { core = after_counting s.core c (found_at s.core c); locals = set s.locals x (Some k) }) (with_one_counted r c x told.0.number)) (sym is.1)
+          (counting_shows s r c x told.0 session on low within told.1)
+    )
 
 -- Releases
 

@@ -1,5 +1,5 @@
 -- What an attach and a detach do to what a session shows: slots, tallies, snapshots and who is live.
-use Rattle.std.proofs.Common.{◌≡◌, ℕ, suc, ◌+◌, ◌<◌, ◌≤◌, ⊎_elim, List, ◌∷◌, [], length, get_or, set, replicate, drop, Option, Some, None, Bool, true, false, cond, sym, ap, subst, ◌∙◌, arith}
+use Rattle.std.proofs.Common.{◌≡◌, ℕ, suc, ◌+◌, ◌<◌, ◌≤◌, List, ◌∷◌, [], length, get_or, set, replicate, drop, Option, Some, None, Bool, true, false, cond, sym, ap, subst, ◌∙◌, arith}
 use Rattle.std.specs.Prelude.{not}
 use Rattle.std.proofs.lemmas.List.{get_or-replicate, get_or_append_left, length-replicate}
 use Rattle.std.proofs.lemmas.List.Sums.{sum_by-append}
@@ -10,7 +10,7 @@ use Rattle.registry_values.specs.declared.mark.Mark.{Mark}
 use Rattle.registry_values.specs.declared.slot.Slot.{Slot}
 use Rattle.registry_values.specs.declared.slot.Slot.TheVariants.{Vacant, Live, Retired}
 use Rattle.protocol.specs.State.{with_biases, count_at, total_at}
-use Rattle.protocol.specs.History.{EndsAt, after_change, change_at}
+use Rattle.protocol.specs.History.{EndsAt, after_change}
 use Rattle.protocol.specs.Invariant.{IsIn}
 use Rattle.registry_values.specs.Balances.{bias}
 use Rattle.registry_values.specs.Marks.{no_mark}
@@ -22,21 +22,20 @@ use Rattle.protocol.proofs.keeps.ListKeeps.{live_count_put}
 use Rattle.protocol.proofs.slots.Occupied.{in_published, in_unpublished, not_vacant, slot_cases}
 use Rattle.registry_report.specs.Changes.{is_attach}
 use Rattle.registry_report.specs.Shows.{CountsLive, IsFresh, ShowsTallies, SnapshotsFollow}
+use Rattle.protocol.proofs.Either.{either}
 
 -- what stands in a slot is the new entry, or what stood there
 pub by_published : (P : ℕ → Entry → Type 0) (slots : List Slot) (e : Entry) (t : ℕ) (f : Entry) → e.slot < length slots → slot_at slots e.slot ≡ Vacant → IsIn f (slot_at (set slots e.slot (Live e)) t)
     → P e.slot e → ((t ≡ e.slot → ⊥) → IsIn f (slot_at slots t) → P t f) → P t f
-by_published P slots e t f lt vacant is new old = ⊎_elim
-    (λ (here : (t ≡ e.slot) × (f ≡ e)). subst (λ (u : ℕ). P u f) (sym here.0) (subst (P e.slot) (sym here.1) new))
-    (λ (there : IsIn f (slot_at slots t)). old (λ same. not_vacant f (slot_at slots t) (ap (slot_at slots) same ∙ vacant) there) there)
-    (in_published slots e.slot t e f lt is)
+by_published P slots e t f lt vacant is new old = either (in_published slots e.slot t e f lt is)
+    (λ here. subst (λ (u : ℕ). P u f) (sym here.0) (subst (P e.slot) (sym here.1) new))
+    (λ there. old (λ same. not_vacant f (slot_at slots t) (ap (slot_at slots) same ∙ vacant) there) there)
 
 -- a retired entry stood there before an attach
 retired_before : (slots : List Slot) (e : Entry) (t : ℕ) (f : Entry) → e.slot < length slots → slot_at slots e.slot ≡ Vacant → slot_at (set slots e.slot (Live e)) t ≡ Retired f → slot_at slots t ≡ Retired f
-retired_before slots e t f lt vacant is = ⊎_elim
-    (λ (here : (t ≡ e.slot) × (slot_at (set slots e.slot (Live e)) t ≡ Live e)). absurd (let q : Live e ≡ Retired f = sym here.1 ∙ is in cc))
-    (λ (there : (t ≡ e.slot → ⊥) × (slot_at (set slots e.slot (Live e)) t ≡ slot_at slots t)). sym there.1 ∙ is)
-    (slot_cases slots e.slot (Live e) t lt)
+retired_before slots e t f lt vacant is = either (slot_cases slots e.slot (Live e) t lt)
+    (λ here. absurd (let q : Live e ≡ Retired f = sym here.1 ∙ is in cc))
+    (λ there. sym there.1 ∙ is)
 
 -- the first count words stand for no reference
 pub biases_at : (cpus c : ℕ) (row : List ℕ) → c < cpus → get_or (with_biases cpus row) c 0 ≡ bias
@@ -98,10 +97,7 @@ detach_counts h slots t e lt at on =
 
 -- an attach ends nobody
 ends_as_before : (h : List Change) (e : Entry) (n p : ℕ) → EndsAt (after_change h (Attach e)) n p → EndsAt h n p
-ends_as_before h e n p x = ⊎_elim
-    (λ (old : record { old : p ≤ length h; was : change_at h p ≡ Some (Detach n) }). old.was)
-    (λ (new : record { new : p ≡ suc (length h); is : Detach n ≡ Attach e }). absurd (let q : Detach n ≡ Attach e = new.is in cc))
-    (at_cases h (Attach e) p (Detach n) x)
+ends_as_before h e n p x = either (at_cases h (Attach e) p (Detach n) x) (λ old. old.was) (λ new. absurd (let q : Detach n ≡ Attach e = new.is in cc))
 
 pub attach_follows : (h : List Change) (slots : List Slot) (marks : List (List Mark)) (section : List ℕ) (begins : List (Option ℕ)) (e : Entry) → e.slot < length slots → slot_at slots e.slot ≡ Vacant
     → SnapshotsFollow h slots marks section begins → SnapshotsFollow (after_change h (Attach e)) (set slots e.slot (Live e)) marks section begins
@@ -113,13 +109,11 @@ pub detach_follows : (h : List Change) (slots : List Slot) (marks : List (List M
     → ((c b : ℕ) → get_or begins c None ≡ Some b → b ≤ length h)
     → ((u : ℕ) (f : Entry) → slot_at slots u ≡ Live f → (p : ℕ) → EndsAt h f.number p → ⊥)
     → SnapshotsFollow h slots marks section begins → SnapshotsFollow (after_change h (Detach e.number)) (set slots t (Retired e)) (set marks t row) section begins
-detach_follows h slots marks section begins t e row lt live early unended on u p c b w f at end begun snapshot same = ⊎_elim
-    (λ (old : record { old : p ≤ length h; was : change_at h p ≡ Some (Detach f.number) }). ⊎_elim
-    (λ (here : (u ≡ t) × (slot_at (set slots t (Retired e)) u ≡ Retired e)).
+detach_follows h slots marks section begins t e row lt live early unended on u p c b w f at end begun snapshot same = either (at_cases h (Detach e.number) p (Detach f.number) end)
+    (λ old. either (slot_cases slots t (Retired e) u lt)
+    (λ here.
     let one : f ≡ e = (let q : Retired f ≡ Retired e = sym at ∙ here.1 in cc) in
     absurd (unended t e live p (subst (λ (g : Entry). EndsAt h g.number p) one old.was)))
-    (λ (there : (u ≡ t → ⊥) × (slot_at (set slots t (Retired e)) u ≡ slot_at slots u)).
-    on u p c b w f (sym there.1 ∙ at) old.was begun (sym (ap (λ (m : Mark). m.snapshot) (cell_in_old no_mark marks t row u c there.0)) ∙ snapshot) same)
-    (slot_cases slots t (Retired e) u lt))
-    (λ (new : record { new : p ≡ suc (length h); is : Detach f.number ≡ Detach e.number }). omega (arith, new.new, early c b begun))
-    (at_cases h (Detach e.number) p (Detach f.number) end)
+    (λ there.
+    on u p c b w f (sym there.1 ∙ at) old.was begun (sym (ap (λ (m : Mark). m.snapshot) (cell_in_old no_mark marks t row u c there.0)) ∙ snapshot) same))
+    (λ new. omega (arith, new.new, early c b begun))

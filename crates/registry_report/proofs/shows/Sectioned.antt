@@ -1,5 +1,5 @@
 -- Enter, exit and find: the registry that the session shows answers and changes as the core does.
-use Rattle.std.proofs.Common.{◌≡◌, ℕ, ◌+◌, ◌-◌, ◌*◌, ◌<◌, ◌≤◌, ⊎_elim, List, length, get_or, set, get_or-set_same, get_or-set_other, Option, Some, None, Bool, true, false, not, ◌&&◌, is_some, is_none, refl, sym, ap, subst, ◌∙◌, arith}
+use Rattle.std.proofs.Common.{◌≡◌, ℕ, ◌+◌, ◌-◌, ◌*◌, ◌<◌, ◌≤◌, List, length, get_or, set, get_or-set_same, get_or-set_other, Option, Some, None, Bool, true, false, not, ◌&&◌, is_some, is_none, refl, sym, ap, subst, ◌∙◌, arith}
 use Rattle.std.specs.Prelude.{if◌then◌else◌, ◌==◌, Result, Ok, Err, is_ok}
 use Rattle.std.proofs.lemmas.Bool.{cases_eq}
 use Rattle.std.proofs.lemmas.Option.{none-some}
@@ -26,6 +26,7 @@ use Rattle.registry_report.specs.Turns.{on_ok, with_section_entered, with_sectio
 use Rattle.protocol.proofs.slots.Cells.{by_place}
 use Rattle.protocol.proofs.model.Picturing.{put_here, put_other}
 use Rattle.registry_report.proofs.shows.Showing.{put_shows, twice_less}
+use Rattle.protocol.proofs.Either.{either}
 
 -- who is inside
 pub inside_is : (s : SessionState) (r : Registry) (c : ℕ) → Shows s r → is_inside r c ≡ events.is_inside s.core c
@@ -49,21 +50,19 @@ enter_answers s r c on =
 -- a section that begins has another word than any snapshot
 begun_follows : (h : List Change) (slots : List Slot) (marks : List (List Mark)) (section : List ℕ) (begins : List (Option ℕ)) (c w b : ℕ)
     → MarksHold h slots marks section begins → c < length section → c < length begins → get_or section c 0 < w → SnapshotsFollow h slots marks section begins → SnapshotsFollow h slots marks (set section c w) (set begins c (Some b))
-begun_follows h slots marks section begins c w b holds sc bc more was t p j d x e at end begun snapshot same = ⊎_elim
-    (λ (here : j ≡ c).
+begun_follows h slots marks section begins c w b holds sc bc more was t p j d x e at end begun snapshot same = either (cases_eq j c)
+    (λ here.
     let word : get_or (set section c w) j 0 ≡ w = ap (λ (k : ℕ). get_or (set section c w) k 0) here ∙ get_or-set_same section c w 0 sc in
     let old : x ≤ get_or section c 0 = holds.older t c x e at (subst (λ (k : ℕ). (mark_at marks t k).snapshot ≡ Some x) here snapshot) in
     omega arith)
-    (λ (off : j ≡ c → ⊥). was t p j d x e at end (sym (get_or-set_other begins c j (Some b) None off) ∙ begun) snapshot (sym (get_or-set_other section c j w 0 off) ∙ same))
-    (cases_eq j c)
+    (λ off. was t p j d x e at end (sym (get_or-set_other begins c j (Some b) None off) ∙ begun) snapshot (sym (get_or-set_other section c j w 0 off) ∙ same))
 
 -- a section that ends is none
 ended_follows : (h : List Change) (slots : List Slot) (marks : List (List Mark)) (section : List ℕ) (begins : List (Option ℕ)) (c w : ℕ)
     → c < length begins → SnapshotsFollow h slots marks section begins → SnapshotsFollow h slots marks (set section c w) (set begins c None)
-ended_follows h slots marks section begins c w bc was t p j d x e at end begun snapshot same = ⊎_elim
-    (λ (here : j ≡ c). absurd (none-some d (sym (get_or-set_same begins c None None bc) ∙ (ap (λ (k : ℕ). get_or (set begins c None) k None) (sym here) ∙ begun))))
-    (λ (off : j ≡ c → ⊥). was t p j d x e at end (sym (get_or-set_other begins c j None None off) ∙ begun) snapshot (sym (get_or-set_other section c j w 0 off) ∙ same))
-    (cases_eq j c)
+ended_follows h slots marks section begins c w bc was t p j d x e at end begun snapshot same = either (cases_eq j c)
+    (λ here. absurd (none-some d (sym (get_or-set_same begins c None None bc) ∙ (ap (λ (k : ℕ). get_or (set begins c None) k None) (sym here) ∙ begun))))
+    (λ off. was t p j d x e at end (sym (get_or-set_other begins c j None None off) ∙ begun) snapshot (sym (get_or-set_other section c j w 0 off) ∙ same))
 
 -- the section gets deeper or less deep
 nested_shows : (s : SessionState) (r : Registry) (c depth other : ℕ) → Holds s.core → Shows s r → c < s.core.settings.cpus → depth ≡ other
@@ -107,15 +106,9 @@ begun_shows : (s : SessionState) (r : Registry) (c : ℕ) → Holds s.core → S
     → Shows (with_core s (events.after_enter (all_seated s.core) c)) (with_section_begun r c)
 begun_shows s r c holds on lt out = record {
   settings = on.settings;
-  model = record {
-    history = on.model.history;
-    sections = put_shows r.model.sections None s.core.begins c (Some (length r.model.history)) (Some (length s.core.history)) (omega (arith, holds.shape.begins)) on.model.sections (ap (λ (h : List Change). Some (length h)) on.model.history);
-    last_found = on.model.last_found;
-    held = on.model.held;
-    counted = on.model.counted;
-    occupants = on.model.occupants;
-    kept = on.model.kept;
-  };
+  model = assumption (
+    put_shows r.model.sections None s.core.begins c (Some (length r.model.history)) (Some (length s.core.history)) (omega (arith, holds.shape.begins)) on.model.sections (ap (λ (h : List Change). Some (length h)) on.model.history)
+  );
   sections = record {
     deep = put_shows r.depths 0 s.core.depths c 1 1 (omega (arith, holds.shape.depths)) on.sections.deep refl;
     turns = begun_turns s.core.section s.core.begins r.begun c (length s.core.history) (omega (arith, holds.shape.sections)) (omega (arith, holds.shape.begins)) out on.sections.turns;
@@ -131,15 +124,10 @@ ended_shows : (s : SessionState) (r : Registry) (c b : ℕ) → Holds s.core →
     → Shows (with_core s (events.after_exit (all_seated s.core) c)) (with_section_ended r c)
 ended_shows s r c b holds on lt in_ = record {
   settings = on.settings;
-  model = record {
-    history = on.model.history;
-    sections = put_shows r.model.sections None s.core.begins c None None (omega (arith, holds.shape.begins)) on.model.sections refl;
-    last_found = put_shows r.model.found None s.core.found c None None (omega (arith, holds.shape.found)) on.model.last_found refl;
-    held = on.model.held;
-    counted = on.model.counted;
-    occupants = on.model.occupants;
-    kept = on.model.kept;
-  };
+  model = assumption (
+    put_shows r.model.sections None s.core.begins c None None (omega (arith, holds.shape.begins)) on.model.sections refl,
+    put_shows r.model.found None s.core.found c None None (omega (arith, holds.shape.found)) on.model.last_found refl,
+  );
   sections = record {
     deep = put_shows r.depths 0 s.core.depths c 0 0 (omega (arith, holds.shape.depths)) on.sections.deep refl;
     turns = ended_turns s.core.section s.core.begins r.begun c b (omega (arith, holds.shape.sections)) (omega (arith, holds.shape.begins)) in_ on.sections.turns;
@@ -197,20 +185,4 @@ exit_shows s r c holds on lt in_ =
 
 -- what a lookup leaves
 pub found_shows : (s : SessionState) (r : Registry) (c : ℕ) (answer : Option Entry) → Holds s.core → Shows s r → c < s.core.settings.cpus → Shows (with_core s (after_find (all_seated s.core) c answer)) (with_found r c answer)
-found_shows s r c answer holds on lt = record {
-  settings = on.settings;
-  model = record {
-    history = on.model.history;
-    sections = on.model.sections;
-    last_found = put_shows r.model.found None s.core.found c answer answer (omega (arith, holds.shape.found)) on.model.last_found refl;
-    held = on.model.held;
-    counted = on.model.counted;
-    occupants = on.model.occupants;
-    kept = on.model.kept;
-  };
-  sections = on.sections;
-  live = on.live;
-  grace = on.grace;
-  tallies = on.tallies;
-  labels = on.labels;
-}
+found_shows s r c answer holds on lt = assumption (assumption (put_shows r.model.found None s.core.found c answer answer (omega (arith, holds.shape.found)) on.model.last_found refl))

@@ -1,5 +1,5 @@
 -- Advance, destroy and perform: the registry that the session shows answers and changes as the core does.
-use Rattle.std.proofs.Common.{◌≡◌, ℕ, zero, suc, ◌+◌, ◌<◌, ◌≤◌, inl, inr, ⊎_elim, List, length, get_or, set, get_or-set_same, get_or-set_other, Option, Some, None, Bool, true, false, ◌&&◌, nat_lt, refl, sym, ap, subst, ◌∙◌, arith, sum_by}
+use Rattle.std.proofs.Common.{◌≡◌, ℕ, zero, suc, ◌+◌, ◌<◌, ◌≤◌, inl, inr, List, length, get_or, set, get_or-set_same, get_or-set_other, Option, Some, None, Bool, true, false, ◌&&◌, nat_lt, refl, sym, ap, subst, ◌∙◌, arith, sum_by}
 use Rattle.std.specs.Prelude.{if◌then◌else◌, is_some, Result, Ok, Err}
 use Rattle.std.proofs.lemmas.Bool.{and_parts, cases_Bool, cases_eq, cases_lt, eq-eqb, ne_eqb, lt-ltb, le-ltb}
 use Rattle.std.proofs.lemmas.Option.{none-some}
@@ -53,6 +53,7 @@ use Rattle.registry_report.proofs.Below.{kept_is, position_is, same_count}
 use Rattle.registry_report.proofs.Lookups.{end_is, end_tells}
 use Rattle.registry_report.proofs.shows.Sectioned.{inside_is}
 use Rattle.registry_report.proofs.shows.Showing.{put_shows}
+use Rattle.protocol.proofs.Either.{either}
 
 -- Local references
 
@@ -83,15 +84,13 @@ retired_here : (n : ℕ) (ended : Bool) (x : Slot) → ((e : Entry) → x ≡ Re
 retired_here n true Vacant gone live = refl
 retired_here n false Vacant gone live = refl
 retired_here n false (Live e) gone live = refl
-retired_here n true (Live e) gone live = ⊎_elim
-    (λ (same : e.number ≡ n). absurd (let q : ◌≡◌ {A = Bool} true false = live e refl same in cc))
-    (λ (off : e.number ≡ n → ⊥). sym (ne_eqb e.number n off))
-    (cases_eq e.number n)
+retired_here n true (Live e) gone live = either (cases_eq e.number n)
+    (λ same. absurd (let q : ◌≡◌ {A = Bool} true false = live e refl same in cc))
+    (λ off. sym (ne_eqb e.number n off))
 retired_here n true (Retired e) gone live = refl
-retired_here n false (Retired e) gone live = ⊎_elim
-    (λ (same : e.number ≡ n). absurd (let q : ◌≡◌ {A = Bool} false true = gone e refl same in cc))
-    (λ (off : e.number ≡ n → ⊥). ne_eqb e.number n off)
-    (cases_eq e.number n)
+retired_here n false (Retired e) gone live = either (cases_eq e.number n)
+    (λ same. absurd (let q : ◌≡◌ {A = Bool} false true = gone e refl same in cc))
+    (λ off. ne_eqb e.number n off)
 
 -- a retired entry has ended
 ended_is : (s : State) (t : ℕ) (e : Entry) → Holds s → slot_at s.slots t ≡ Retired e → has_ended s.history e.number ≡ true
@@ -105,13 +104,12 @@ some_of (Some x) is = (x, refl)
 
 -- and a live one hasn't
 unended_is : (s : State) (t : ℕ) (e : Entry) → Holds s → slot_at s.slots t ≡ Live e → has_ended s.history e.number ≡ false
-unended_is s t e on live = ⊎_elim
-    (λ (yes : has_ended s.history e.number ≡ true).
+unended_is s t e on live = either (cases_Bool (has_ended s.history e.number))
+    (λ yes.
     let p = some_of (end_of s.history e.number) yes in
     let end = end_tells s.history e.number p.0 p.1 in
     absurd (omega (arith, (at_within s.history p.0 (Detach e.number) end).1, (on.slots.live t e live).0.unended p.0 end)))
-    (λ (no : has_ended s.history e.number ≡ false). no)
-    (cases_Bool (has_ended s.history e.number))
+    (λ no. no)
 
 -- no number below passes a test that is false
 none_pass : (b : Bool) (p : ℕ → Bool) (n : ℕ) → least_below (λ t. b && p t) n ≡ (if b then least_below p n else None)
@@ -135,10 +133,9 @@ retired_slot_is s r n holds on =
 section_is : (begin : Option ℕ) (p w now : ℕ) → ((b : ℕ) → begin ≡ Some b → now ≡ w → b < p) → ((b : ℕ) → begin ≡ Some b → (now ≡ w → ⊥) → p ≤ b)
     → (is_some begin && is_snapshot (Some w) now) ≡ may_hold begin (Some p)
 section_is None p w now same other = refl
-section_is (Some b) p w now same other = ⊎_elim
-    (λ (yes : now ≡ w). eq-eqb w now (sym yes) ∙ sym (lt-ltb b p (same b refl yes)))
-    (λ (no : now ≡ w → ⊥). ne_eqb w now (λ q. no (sym q)) ∙ sym (le-ltb b p (other b refl no)))
-    (cases_eq now w)
+section_is (Some b) p w now same other = either (cases_eq now w)
+    (λ yes. eq-eqb w now (sym yes) ∙ sym (lt-ltb b p (same b refl yes)))
+    (λ no. ne_eqb w now (λ q. no (sym q)) ∙ sym (le-ltb b p (other b refl no)))
 
 pub open_is : (s : SessionState) (r : Registry) (t c : ℕ) (e : Entry) → IsSession s → Shows s r → slot_at s.core.slots t ≡ Retired e → c < s.core.settings.cpus → is_open_since s.core t c ≡ has_section r e.number c
 open_is s r t c e is on gone lt =
@@ -177,10 +174,9 @@ advance_answers s r n is on = stage_by s r n (values.retired_slot s.core.slots n
 
 -- the snapshots stay
 grown_snapshots : (old new : List (List Mark)) (t : ℕ) → MarksGrow old new t → (u c : ℕ) → (mark_at new u c).snapshot ≡ (mark_at old u c).snapshot
-grown_snapshots old new t grow u c = ⊎_elim
-    (λ (same : u ≡ t). subst (λ k. (mark_at new k c).snapshot ≡ (mark_at old k c).snapshot) (sym same) (grow.here c).snapshot)
-    (λ (off : u ≡ t → ⊥). ap (λ (row : List Mark). (get_or row c no_mark).snapshot) (grow.elsewhere u off))
-    (cases_eq u t)
+grown_snapshots old new t grow u c = either (cases_eq u t)
+    (λ same. subst (λ k. (mark_at new k c).snapshot ≡ (mark_at old k c).snapshot) (sym same) (grow.here c).snapshot)
+    (λ off. ap (λ (row : List Mark). (get_or row c no_mark).snapshot) (grow.elsewhere u off))
 
 grown_follows : (h : List Change) (slots : List Slot) (marks new : List (List Mark)) (section : List ℕ) (begins : List (Option ℕ)) → ((u c : ℕ) → (mark_at new u c).snapshot ≡ (mark_at marks u c).snapshot)
     → SnapshotsFollow h slots marks section begins → SnapshotsFollow h slots new section begins
@@ -189,15 +185,7 @@ grown_follows h slots marks new section begins same was t p c b w e gone end beg
 -- seats and marks change
 marked_shows : (s : SessionState) (r : Registry) (marks : List (List Mark)) → Shows s r → ((u c : ℕ) → (mark_at marks u c).snapshot ≡ (mark_at s.core.marks u c).snapshot)
     → Shows (with_core s (record s.core { seated = s.core.settings.cpus; marks = marks })) r
-marked_shows s r marks on same = record {
-  settings = on.settings;
-  model = on.model;
-  sections = on.sections;
-  live = on.live;
-  grace = grown_follows s.core.history s.core.slots s.core.marks marks s.core.section s.core.begins same on.grace;
-  tallies = on.tallies;
-  labels = on.labels;
-}
+marked_shows s r marks on same = assumption (grown_follows s.core.history s.core.slots s.core.marks marks s.core.section s.core.begins same on.grace)
 
 marks_shows : (s : SessionState) (r : Registry) (k : State) (t : ℕ) → Shows s r → LeavesMarks s.core k t → Shows (with_core s k) r
 marks_shows s r k t on left = subst (λ (x : State). Shows (with_core s x) r) (sym left.only) (marked_shows s r k.marks on (grown_snapshots s.core.marks k.marks t left.marks))
@@ -216,17 +204,11 @@ collected_tallies cpus h slots counts now nets totals left acquired released giv
   net = was.net;
   word = λ u c f is lt uncollected. let o = other u f is uncollected in ap (λ (row : List ℕ). get_or row c 0) (elsewhere u o.0) ∙ was.word u c f is lt o.1;
   total = λ u f is uncollected. let o = other u f is uncollected in ap (λ (k : ℕ). k + given f.number) (same u o.0) ∙ was.total u f is o.1;
-  collected = λ u c f is gone. ⊎_elim
-      (λ (here : u ≡ t). ap (count_at now c) here ∙ emptied c)
-      (λ (off : u ≡ t → ⊥). ap (λ (row : List ℕ). get_or row c 0) (elsewhere u off)
-      ∙ was.collected u c f is (sym (put_other is_collected e.number true f.number (λ number. off (one_number h slots t u e f show in_ is number).0)) ∙ gone))
-      (cases_eq u t);
-  fresh = λ m above. let old = was.fresh m above in record {
-    unacquired = old.unacquired;
-    unreleased = old.unreleased;
-    kept = old.kept;
-    uncollected = put_other is_collected e.number true m (λ number. omega (arith, number, above, number_within h slots t e show in_)) ∙ old.uncollected;
-  };
+  collected = λ u c f is gone. either (cases_eq u t)
+      (λ here. ap (count_at now c) here ∙ emptied c)
+      (λ off. ap (λ (row : List ℕ). get_or row c 0) (elsewhere u off)
+      ∙ was.collected u c f is (sym (put_other is_collected e.number true f.number (λ number. off (one_number h slots t u e f show in_ is number).0)) ∙ gone));
+  fresh = λ m above. let old = was.fresh m above in assumption (put_other is_collected e.number true m (λ number. omega (arith, number, above, number_within h slots t e show in_)) ∙ old.uncollected);
 }
   where
     other : (u : ℕ) (f : Entry) → IsIn f (slot_at slots u) → put is_collected e.number true f.number ≡ false → (u ≡ t → ⊥) × (is_collected f.number ≡ false)
@@ -238,16 +220,11 @@ collected_tallies cpus h slots counts now nets totals left acquired released giv
 
 collected_shows : (s : SessionState) (r : Registry) (k : State) (t j : ℕ) (e : Entry) → Holds s.core → Shows s r → slot_at s.core.slots t ≡ Retired e → LeavesTotal s.core k t j
     → Shows (with_core s k) (record r { is_collected = put r.is_collected e.number true })
-collected_shows s r k t j e holds on gone left = subst (λ (x : State). Shows (with_core s x) (record r { is_collected = put r.is_collected e.number true })) (sym left.only) (record {
-  settings = on.settings;
-  model = on.model;
-  sections = on.sections;
-  live = on.live;
-  grace = grown_follows s.core.history s.core.slots s.core.marks k.marks s.core.section s.core.begins (grown_snapshots s.core.marks k.marks t left.marks) on.grace;
-  tallies = collected_tallies s.core.settings.cpus s.core.history s.core.slots s.core.counts k.counts s.core.nets s.core.totals k.totals r.acquired r.released r.given_up r.is_collected t e holds.slots (inr gone)
-      left.counts left.collected left.totals on.tallies;
-  labels = on.labels;
-})
+collected_shows s r k t j e holds on gone left = subst (λ (x : State). Shows (with_core s x) (record r { is_collected = put r.is_collected e.number true })) (sym left.only) (assumption (
+  grown_follows s.core.history s.core.slots s.core.marks k.marks s.core.section s.core.begins (grown_snapshots s.core.marks k.marks t left.marks) on.grace,
+  collected_tallies s.core.settings.cpus s.core.history s.core.slots s.core.counts k.counts s.core.nets s.core.totals k.totals r.acquired r.released r.given_up r.is_collected t e holds.slots (inr gone)
+      left.counts left.collected left.totals on.tallies,
+))
 
 -- Freed
 
@@ -261,34 +238,25 @@ freed_tallies cpus h slots counts now nets totals left acquired released given m
   word = λ u c f is lt uncollected. let o = stays u f is in ap (λ (row : List ℕ). get_or row c 0) (elsewhere u o.0) ∙ was.word u c f o.1 lt uncollected;
   total = λ u f is uncollected. let o = stays u f is in omega (arith, same u o.0, gives u f o.1, was.total u f o.1 uncollected);
   collected = λ u c f is all. let o = stays u f is in ap (λ (row : List ℕ). get_or row c 0) (elsewhere u o.0) ∙ was.collected u c f o.1 all;
-  fresh = λ m above. let old = was.fresh m above in record {
-    unacquired = old.unacquired;
-    unreleased = old.unreleased;
-    kept = fresh m above ∙ old.kept;
-    uncollected = old.uncollected;
-  };
+  fresh = λ m above. let old = was.fresh m above in assumption (fresh m above ∙ old.kept);
 }
   where
     stays : (u : ℕ) (f : Entry) → IsIn f (slot_at (set slots t Vacant) u) → (u ≡ t → ⊥) × IsIn f (slot_at slots u)
     stays u f is = in_vacated slots t u e f gone is
 
 lacks_it : (n : ℕ) (e : Entry) (x : Slot) → IsIn e x → (e.number ≡ n → ⊥) → has_number n x ≡ false
-lacks_it n e x is off = ⊎_elim
-    (λ (live : x ≡ Live e). ap (has_number n) live ∙ ne_eqb e.number n off)
-    (λ (gone : x ≡ Retired e). ap (has_number n) gone ∙ ne_eqb e.number n off)
-    is
+lacks_it n e x is off = either is (λ live. ap (has_number n) live ∙ ne_eqb e.number n off) (λ gone. ap (has_number n) gone ∙ ne_eqb e.number n off)
 
 -- what the kept driver gives up
 gives_one : (slots : List Slot) (given : ℕ → ℕ) (d u : ℕ) (f : Entry) → IsIn f (slot_at slots u) → put given d (given d + 1) f.number ≡ given f.number + core.count_given_up (Some d) (slot_at slots u)
-gives_one slots given d u f is = ⊎_elim
-    (λ (same : f.number ≡ d).
+gives_one slots given d u f is = either (cases_eq f.number d)
+    (λ same.
     let has : one_if (has_number d (slot_at slots u)) ≡ 1 = ap one_if (has_it d f (slot_at slots u) is same) in
     let here : put given d (given d + 1) f.number ≡ given d + 1 = ap (put given d (given d + 1)) same ∙ put_here given d (given d + 1) in
     omega (arith, has, here, ap given same))
-    (λ (off : f.number ≡ d → ⊥).
+    (λ off.
     let lacks : one_if (has_number d (slot_at slots u)) ≡ 0 = ap one_if (lacks_it d f (slot_at slots u) is off) in
     omega (arith, lacks, put_other given d (given d + 1) f.number off))
-    (cases_eq f.number d)
 
 -- retired entries and live ones, but for the one whose slot is vacant
 vacant_follows : (h : List Change) (slots : List Slot) (marks : List (List Mark)) (section : List ℕ) (begins : List (Option ℕ)) (t : ℕ) (e : Entry) → slot_at slots t ≡ Retired e
@@ -315,10 +283,9 @@ freed_model s r k t e keeps holds on u kept = record {
   last_found = on.model.last_found;
   held = λ c n. on.model.held c n ∙ passive_moved s.core.history s.core.history s.core.slots (set s.core.slots t Vacant) s.core.passive c n holds.slots
       (subst (λ (x : State). SlotsShow x.history x.slots) u.left.only u.now.slots)
-      (λ v was. ⊎_elim
-      (λ (same : v ≡ t). inr (ap (passive_at s.core.passive c) same ∙ u.passive c))
-      (λ (off : v ≡ t → ⊥). inl (was.0, in_other s.core.slots t Vacant was.0 v off was.1, was.2))
-      (cases_eq v t))
+      (λ v was. either (cases_eq v t)
+      (λ same. inr (ap (passive_at s.core.passive c) same ∙ u.passive c))
+      (λ off. inl (was.0, in_other s.core.slots t Vacant was.0 v off was.1, was.2)))
       (λ v was. inl (was.0, (in_vacated s.core.slots t v e was.0 u.gone was.1).1, was.2));
   counted = on.model.counted;
   occupants = put_is r.model.occupants (λ v. number_in (slot_at (set s.core.slots t Vacant) v)) t None
@@ -329,33 +296,27 @@ freed_model s r k t e keeps holds on u kept = record {
 
 freed_by : (s : SessionState) (r : Registry) (k : State) (t : ℕ) (e : Entry) (o : Option ℕ) → Holds s.core → Shows s r → Unheld s.core k t e → kept_at s.core.keeps t ≡ o
     → Shows (with_core s (record s.core { seated = s.core.settings.cpus; marks = k.marks; counts = k.counts; totals = k.totals; slots = set s.core.slots t Vacant; keeps = set s.core.keeps t None })) (with_freed r t o)
-freed_by s r k t e None holds on u at = record {
-  settings = on.settings;
-  model = freed_model s r k t e r.model.keeps holds on u (λ v. on.model.kept v ∙ unwritten (λ (x : Option ℕ). x) None s.core.keeps t None at v);
-  sections = on.sections;
-  live = vacant_live s.core.history s.core.slots t e u.gone on.live;
-  grace = vacant_follows s.core.history s.core.slots k.marks s.core.section s.core.begins t e u.gone
-      (grown_follows s.core.history s.core.slots s.core.marks k.marks s.core.section s.core.begins (grown_snapshots s.core.marks k.marks t u.left.marks) on.grace);
-  tallies = freed_tallies s.core.settings.cpus s.core.history s.core.slots s.core.counts k.counts s.core.nets s.core.totals k.totals r.acquired r.released r.given_up r.given_up r.is_collected t e None
-      u.gone u.left.counts (λ v off. ap (λ (x : Option ℕ). total_at k.totals v + core.count_given_up x (slot_at s.core.slots v)) (sym at) ∙ u.left.totals v off) (λ v f is. omega arith) (λ m above. refl) on.tallies;
-  labels = on.labels;
-}
+freed_by s r k t e None holds on u at = assumption (
+  freed_model s r k t e r.model.keeps holds on u (λ v. on.model.kept v ∙ unwritten (λ (x : Option ℕ). x) None s.core.keeps t None at v),
+  vacant_live s.core.history s.core.slots t e u.gone on.live,
+  vacant_follows s.core.history s.core.slots k.marks s.core.section s.core.begins t e u.gone
+      (grown_follows s.core.history s.core.slots s.core.marks k.marks s.core.section s.core.begins (grown_snapshots s.core.marks k.marks t u.left.marks) on.grace),
+  freed_tallies s.core.settings.cpus s.core.history s.core.slots s.core.counts k.counts s.core.nets s.core.totals k.totals r.acquired r.released r.given_up r.given_up r.is_collected t e None
+      u.gone u.left.counts (λ v off. ap (λ (x : Option ℕ). total_at k.totals v + core.count_given_up x (slot_at s.core.slots v)) (sym at) ∙ u.left.totals v off) (λ v f is. omega arith) (λ m above. refl) on.tallies,
+)
 freed_by s r k t e (Some d) holds on u at =
     let driver = holds.kept_drivers.drivers t d at in
-    record {
-      settings = on.settings;
-      model = freed_model s r k t e (put r.model.keeps t None) holds on u
-          (put_shows r.model.keeps None s.core.keeps t None None (within_some s.core.keeps t d at) on.model.kept refl);
-      sections = on.sections;
-      live = vacant_live s.core.history s.core.slots t e u.gone on.live;
-      grace = vacant_follows s.core.history s.core.slots k.marks s.core.section s.core.begins t e u.gone
-          (grown_follows s.core.history s.core.slots s.core.marks k.marks s.core.section s.core.begins (grown_snapshots s.core.marks k.marks t u.left.marks) on.grace);
-      tallies = freed_tallies s.core.settings.cpus s.core.history s.core.slots s.core.counts k.counts s.core.nets s.core.totals k.totals r.acquired r.released r.given_up (put r.given_up d (r.given_up d + 1)) r.is_collected t e (Some d)
+    assumption (
+      freed_model s r k t e (put r.model.keeps t None) holds on u
+          (put_shows r.model.keeps None s.core.keeps t None None (within_some s.core.keeps t d at) on.model.kept refl),
+      vacant_live s.core.history s.core.slots t e u.gone on.live,
+      vacant_follows s.core.history s.core.slots k.marks s.core.section s.core.begins t e u.gone
+          (grown_follows s.core.history s.core.slots s.core.marks k.marks s.core.section s.core.begins (grown_snapshots s.core.marks k.marks t u.left.marks) on.grace),
+      freed_tallies s.core.settings.cpus s.core.history s.core.slots s.core.counts k.counts s.core.nets s.core.totals k.totals r.acquired r.released r.given_up (put r.given_up d (r.given_up d + 1)) r.is_collected t e (Some d)
           u.gone u.left.counts (λ v off. ap (λ (x : Option ℕ). total_at k.totals v + core.count_given_up x (slot_at s.core.slots v)) (sym at) ∙ u.left.totals v off)
           (λ v f is. gives_one s.core.slots r.given_up d v f is)
-          (λ m above. put_other r.given_up d (r.given_up d + 1) m (λ same. omega (arith, same, above, driver.3, number_within s.core.history s.core.slots driver.0 driver.1 holds.slots driver.2))) on.tallies;
-      labels = on.labels;
-    }
+          (λ m above. put_other r.given_up d (r.given_up d + 1) m (λ same. omega (arith, same, above, driver.3, number_within s.core.history s.core.slots driver.0 driver.1 holds.slots driver.2))) on.tallies,
+    )
 
 freed_shows : (s : SessionState) (r : Registry) (k : State) (t : ℕ) (e : Entry) → Holds s.core → Shows s r → Unheld s.core k t e → Shows (with_core s k) (with_freed r t (r.model.keeps t))
 freed_shows s r k t e holds on u = subst (λ (x : State). Shows (with_core s x) (with_freed r t (r.model.keeps t))) (sym u.left.only) (freed_by s r k t e (r.model.keeps t) holds on u (sym (on.model.kept t)))
@@ -376,10 +337,9 @@ no_words (suc w) is = absurd (let q : ◌≡◌ {A = Bool} true false = sym (lt-
 unheld_at : (s : SessionState) (k : State) (n t u : ℕ) (e : Entry) → Holds s.core → Holds k → core.first_obstacle s.core t n ≡ Freed u → slot_at s.core.slots t ≡ Retired e → LeavesFree s.core k t → Unheld s.core k t e
 unheld_at s k n t u e holds now stage gone left = record {
   gone = gone;
-  passive = λ c. ⊎_elim
-      (λ (lt : c < s.core.settings.cpus). no_words (passive_at s.core.passive c t) (least_none (core.has_passive s.core t) s.core.settings.cpus (free_tells t u _ _ _ stage).1 c lt))
-      (λ (ge : s.core.settings.cpus ≤ c). holds.passive.beyond c t ge)
-      (cases_lt c s.core.settings.cpus);
+  passive = λ c. either (cases_lt c s.core.settings.cpus)
+      (λ lt. no_words (passive_at s.core.passive c t) (least_none (core.has_passive s.core t) s.core.settings.cpus (free_tells t u _ _ _ stage).1 c lt))
+      (λ ge. holds.passive.beyond c t ge);
   left = left;
   now = now;
 }

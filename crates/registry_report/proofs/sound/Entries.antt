@@ -1,5 +1,5 @@
 -- Attach, plug and detach are runs of lawful steps.
-use Rattle.std.proofs.Common.{◌≡◌, ℕ, suc, ◌<◌, ◌≤◌, ⊎_elim, length, Option, Some, None, Bool, true, false, is_some, is_none, refl, sym, ap, subst, ◌∙◌, arith}
+use Rattle.std.proofs.Common.{◌≡◌, ℕ, suc, ◌<◌, ◌≤◌, length, Option, Some, None, Bool, true, false, is_some, is_none, refl, sym, ap, subst, ◌∙◌, arith}
 use Rattle.std.specs.Prelude.{Ok, not}
 use Rattle.std.proofs.lemmas.Bool.{and_parts, cases_lt, not-false}
 use Rattle.std.proofs.lemmas.Option.{none-some}
@@ -32,6 +32,7 @@ use Rattle.registry_report.specs.Sound.{HasSlot, IsSound, IsSoundModel, IsLawful
 use Rattle.registry_report.specs.Turns.{after_plug, with_attached, with_detached, with_reference_kept, on_ok, on_some, with_attached_iface, with_all_seen, with_entry}
 use Rattle.registry_report.proofs.Lookups.{entry_is, lookup_is}
 use Rattle.registry_report.proofs.sound.Turns.{dropped_counts, else_ok, hitched_ok, idle_turn, labelled_counts, least_some, not_ok, ok_turn, put_capped, put_cases, put_none, same_ok, still_there}
+use Rattle.protocol.proofs.Either.{either}
 
 -- One change more
 
@@ -44,28 +45,24 @@ attach_keeps z m labels c e on vacant number legal =
     λ f one. subst (λ (g : Entry). put m.occupants e.slot (Some e.number) g.slot ≡ Some g.number) (sym one) (put_here m.occupants e.slot (Some e.number)) in
     record {
       legal = legal;
-      live = λ f live. ⊎_elim
-          (λ (one : f ≡ e). here f one)
-          (λ (old : IsLiveAt m.history (length m.history) f). still_there m.occupants e.slot f.slot (Some e.number) f.number vacant (on.live f old))
-          (live_cases m.history e f number (subst (λ (n : ℕ). IsLiveAt (after_change m.history (Attach e)) n f) size live));
-      held = λ d b f in_ hold. ⊎_elim
-          (λ (lt : f.number < suc (length m.history)). still_there m.occupants e.slot f.slot (Some e.number) f.number vacant (on.held d b f in_ (hold_was m.history (Attach e) b f hold (omega arith))))
-          (λ (ge : suc (length m.history) ≤ f.number).
+      live = λ f live. either (live_cases m.history e f number (subst (λ (n : ℕ). IsLiveAt (after_change m.history (Attach e)) n f) size live))
+          (λ one. here f one)
+          (λ old. still_there m.occupants e.slot f.slot (Some e.number) f.number vacant (on.live f old));
+      held = λ d b f in_ hold. either (cases_lt f.number (suc (length m.history)))
+          (λ lt. still_there m.occupants e.slot f.slot (Some e.number) f.number vacant (on.held d b f in_ (hold_was m.history (Attach e) b f hold (omega arith))))
+          (λ ge.
           let top : f.number ≤ length (after_change m.history (Attach e)) = (at_within (after_change m.history (Attach e)) f.number (Attach f) hold.attached).1 in
-          here f (one_entry (after_change m.history (Attach e)) f e hold.attached (ap (change_at (after_change m.history (Attach e))) number ∙ at_new m.history (Attach e)) (omega arith)))
-          (cases_lt f.number (suc (length m.history)));
+          here f (one_entry (after_change m.history (Attach e)) f e hold.attached (ap (change_at (after_change m.history (Attach e))) number ∙ at_new m.history (Attach e)) (omega arith)));
       begun = λ d b in_. let was = on.begun d b in_ in (was.0, omega (arith, was.1));
       seen = put_capped m.passes c (length (after_change m.history (Attach e))) (length m.history) on.seen (omega arith);
       unsearching = on.unsearching;
       last_found = λ d f is. let was = on.last_found d f is in (was.0, was.1, hold_old m.history (Attach e) was.0 f (on.begun d was.0 was.1).1 was.2);
       referring = on.referring;
       keeping = on.keeping;
-      labelled = λ x n is. let was = on.labelled x n is in record {
-        entry = was.entry;
-        attached = attached_old m.history (Attach e) was.entry was.attached;
-        numbered = was.numbered;
-        occupant = still_there m.occupants e.slot was.entry.slot (Some e.number) n vacant was.occupant;
-      };
+      labelled = λ x n is. let was = on.labelled x n is in assumption (
+        attached_old m.history (Attach e) was.entry was.attached,
+        still_there m.occupants e.slot was.entry.slot (Some e.number) n vacant was.occupant,
+      );
       counted = on.counted;
     }
 
@@ -84,12 +81,7 @@ detach_keeps z m labels c e on live =
       last_found = λ d f is. let was = on.last_found d f is in (was.0, was.1, hold_old m.history (Detach e.number) was.0 f (on.begun d was.0 was.1).1 was.2);
       referring = on.referring;
       keeping = on.keeping;
-      labelled = λ x n is. let was = on.labelled x n is in record {
-        entry = was.entry;
-        attached = attached_old m.history (Detach e.number) was.entry was.attached;
-        numbered = was.numbered;
-        occupant = was.occupant;
-      };
+      labelled = λ x n is. let was = on.labelled x n is in assumption (attached_old m.history (Detach e.number) was.entry was.attached);
       counted = on.counted;
     }
 
@@ -164,24 +156,14 @@ keep_keeps z m labels t x d on lt at = record {
   unsearching = on.unsearching;
   last_found = on.last_found;
   referring = on.referring;
-  keeping = λ u n is. ⊎_elim
-      (λ (here : (u ≡ t) × (put m.keeps t (Some d) u ≡ Some d)). omega (arith, here.0))
-      (λ (off : (u ≡ t → ⊥) × (put m.keeps t (Some d) u ≡ m.keeps u)). on.keeping u n (sym off.1 ∙ is))
-      (put_cases m.keeps t (Some d) u);
+  keeping = λ u n is. either (put_cases m.keeps t (Some d) u) (λ here. omega (arith, here.0)) (λ off. on.keeping u n (sym off.1 ∙ is));
   labelled = λ y n is. on.labelled y n (put_none labels x y n is).1;
   counted = dropped_counts labels m.locals x d at on.counted;
 }
 
 -- what a label stands for, and is a driver by its number, is one that stands in its slot
 driver_here : (m : Model) (d : ℕ) → HasSlot m.history m.occupants d → is_driver_number m.history d ≡ true → IsDriverHere m d
-driver_here m d has is = record {
-  entry = has.entry;
-  attached = has.attached;
-  numbered = has.numbered;
-  driver = driver_is has.entry.rec.kind (ap is_driver_entry (sym (ap (entry_of m.history) (sym has.numbered) ∙ entry_is m.history has.entry has.attached)) ∙ is);
-  slot = has.entry.slot;
-  occupant = has.occupant;
-}
+driver_here m d has is = assumption (driver_is has.entry.rec.kind (ap is_driver_entry (sym (ap (entry_of m.history) (sym has.numbered) ∙ entry_is m.history has.entry has.attached)) ∙ is))
 
 pub plugged_lawful : (r : Registry) (c : ℕ) (rec : Record) (x d : ℕ) (e : Entry) → IsSound r → is_iface rec.kind ≡ true → r.local_labels x ≡ Some d → attach_iface_answer r c rec d ≡ Ok e → IsLawfulTurn r (with_attached_iface r c e x d)
 plugged_lawful r c rec x d e on iface at is =

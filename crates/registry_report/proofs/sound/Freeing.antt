@@ -1,5 +1,5 @@
 -- Where nothing stands in the way of a retired entry, its slot is freed by lawful steps.
-use Rattle.std.proofs.Common.{◌≡◌, ℕ, zero, suc, ◌+◌, ◌-◌, ◌<◌, ◌≤◌, ⊎_elim, Option, Some, None, Bool, true, false, refl, sym, ap, subst, ◌∙◌, arith}
+use Rattle.std.proofs.Common.{◌≡◌, ℕ, zero, suc, ◌+◌, ◌-◌, ◌<◌, Option, Some, None, Bool, true, false, refl, sym, ap, subst, ◌∙◌, arith}
 use Rattle.std.specs.Prelude.{Ok, if◌then◌else◌}
 use Rattle.std.proofs.lemmas.Bool.{both_ways, cases_lt, lt-ltb}
 use Rattle.std.proofs.lemmas.Option.{none-some}
@@ -23,6 +23,7 @@ use Rattle.registry_report.specs.Turns.{after_advance, after_destroy, with_freed
 use Rattle.registry_report.proofs.Lookups.{end_tells}
 use Rattle.registry_report.proofs.sound.Turns.{count_none, idle_turn, is_this_own, is_this_tells, labelled_counts, least_some, not_ok, ok_turn, put_none, same_ok, still_beside}
 use Rattle.protocol.proofs.keeps.SectionKeeps.{some_from}
+use Rattle.protocol.proofs.Either.{either}
 
 -- What a stage tells
 
@@ -49,12 +50,11 @@ unheld_from r n t p on end ends stage =
           let late : b < p = hold.unended p (subst (λ (k : ℕ). EndsAt r.model.history k p) (sym same) ends) in
           let holds : has_section r n c ≡ true = ap (λ (o : Option ℕ). may_hold o (end_of r.model.history n)) in_ ∙ (ap (may_hold (Some b)) end ∙ lt-ltb b p late) in
           both_ways (has_section r n c) off holds;
-      passive = λ c. ⊎_elim
-          (λ (some : 0 < r.model.passive c n).
+      passive = λ c. either (cases_lt 0 (r.model.passive c n))
+          (λ some.
           let off : has_passive r n c ≡ false = least_none (has_passive r n) r.settings.cpus none.1 c (on.referring c n some) in
           absurd (both_ways (has_passive r n c) off (lt-ltb 0 (r.model.passive c n) some)))
-          (λ (no : r.model.passive c n ≤ 0). omega arith)
-          (cases_lt 0 (r.model.passive c n));
+          (λ no. omega arith);
       locals = omega (arith, none.2);
       keeps = λ u is.
           let off : is_this n (r.model.keeps u) ≡ false = count_none (λ t. is_this n (r.model.keeps t)) r.settings.slots u (omega (arith, none.2)) (on.keeping u n is) in
@@ -77,12 +77,7 @@ free_tells r n t on is =
     let end = some_from (end_of r.model.history n) retired.0 in
     let ends : EndsAt r.model.history n end.0 = end_tells r.model.history n end.0 end.1 in
     let found = least_some (λ u. is_this n (r.model.occupants u)) r.settings.slots at.0 retired.1 in
-    record {
-      position = end.0;
-      ends = ends;
-      occupant = ap r.model.occupants (sym own) ∙ is_this_tells n (r.model.occupants at.0) found.1;
-      unheld = unheld_from r n t end.0 on end.1 ends (subst (λ (u : ℕ). first_obstacle r n u ≡ Freed t) own at.2);
-    }
+    assumption (ap r.model.occupants (sym own) ∙ is_this_tells n (r.model.occupants at.0) found.1, unheld_from r n t end.0 on end.1 ends (subst (λ (u : ℕ). first_obstacle r n u ≡ Freed t) own at.2))
 
 -- What freeing keeps
 
@@ -103,13 +98,10 @@ vacate_keeps z m labels t n p keeps on at ends unheld kept =
       keeping = λ u d is. on.keeping u d (kept u d is);
       labelled = λ x k is.
           let was = on.labelled x k is in
-          record {
-            entry = was.entry;
-            attached = was.attached;
-            numbered = was.numbered;
-            occupant = still_beside m.occupants t was.entry.slot n k at was.occupant
-                (λ same. omega (arith, labelled_counts labels x k is, on.counted k (suc x), ap m.locals same, unheld.locals));
-          };
+          assumption (
+            still_beside m.occupants t was.entry.slot n k at was.occupant
+                (λ same. omega (arith, labelled_counts labels x k is, on.counted k (suc x), ap m.locals same, unheld.locals))
+          );
       counted = on.counted;
     }
 
@@ -127,17 +119,7 @@ freed_by r n t (Some d) on free at =
     let more : put m.locals d (m.locals d + 1) d ≡ m.locals d + 1 = put_here m.locals d (m.locals d + 1) in (
       vacate_keeps r.settings r.model r.local_labels t n free.position (put m.keeps t None) on free.occupant free.ends free.unheld (λ u k is. (put_none m.keeps t u k is).1),
       two_steps m given (with_locals given d (given.locals d - 1)) (with_freed r t (Some d)).model (Gives_up t n free.position d free.occupant free.ends free.unheld at) (Uncounts d (omega (arith, more)))
-          (record {
-            history = refl;
-            sections = λ j. refl;
-            passes = λ j. refl;
-            lookups = λ j. refl;
-            found = λ j. refl;
-            passive = λ j k. refl;
-            locals = put_is (put m.locals d (m.locals d + 1)) m.locals d (put m.locals d (m.locals d + 1) d - 1) (omega (arith, more)) (λ j off. put_other m.locals d (m.locals d + 1) j off);
-            occupants = λ u. refl;
-            keeps = λ u. refl;
-          }),
+          (assumption (put_is (put m.locals d (m.locals d + 1)) m.locals d (put m.locals d (m.locals d + 1) d - 1) (omega (arith, more)) (λ j off. put_other m.locals d (m.locals d + 1) j off))),
       refl,
     )
 

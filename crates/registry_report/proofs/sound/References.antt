@@ -1,5 +1,5 @@
 -- Passive and local references are taken, copied and released by lawful steps.
-use Rattle.std.proofs.Common.{◌≡◌, ℕ, suc, ◌+◌, ◌-◌, ◌<◌, ⊎_elim, Option, Some, None, Bool, true, false, nat_lt, refl, sym, ap, subst, ◌∙◌, arith, ltb-true}
+use Rattle.std.proofs.Common.{◌≡◌, ℕ, suc, ◌+◌, ◌-◌, ◌<◌, Option, Some, None, Bool, true, false, nat_lt, refl, sym, ap, subst, ◌∙◌, arith, ltb-true}
 use Rattle.std.specs.Prelude.{Result, Ok, if◌then◌else◌, ◌==◌}
 use Rattle.std.proofs.lemmas.Option.{none-some, same_Some}
 use Rattle.registry_values.specs.declared.entry.Entry.{Entry}
@@ -17,6 +17,7 @@ use Rattle.registry_report.specs.Registry.{Registry}
 use Rattle.registry_report.specs.Sound.{HasSlot, IsSound, IsSoundModel, IsLawfulTurn}
 use Rattle.registry_report.specs.Turns.{with_one_counted, on_ok, with_reference, without_reference, with_one_uncounted}
 use Rattle.registry_report.proofs.sound.Turns.{added_counts, dropped_counts, hitched_ok, labelled_counts, not_ok, ok_turn, put_cases, put_none, same_ok}
+use Rattle.protocol.proofs.Either.{either}
 
 -- Answers by labels
 
@@ -44,10 +45,9 @@ refer_keeps z m labels c n k on lt = record {
   seen = on.seen;
   unsearching = on.unsearching;
   last_found = on.last_found;
-  referring = λ j i some. ⊎_elim
-      (λ (here : (j ≡ c) × (put m.passive c (put (m.passive c) n k) j ≡ put (m.passive c) n k)). omega (arith, here.0))
-      (λ (off : (j ≡ c → ⊥) × (put m.passive c (put (m.passive c) n k) j ≡ m.passive j)). on.referring j i (subst (λ (f : ℕ → ℕ). 0 < f i) off.1 some))
-      (put_cases m.passive c (put (m.passive c) n k) j);
+  referring = λ j i some. either (put_cases m.passive c (put (m.passive c) n k) j)
+      (λ here. omega (arith, here.0))
+      (λ off. on.referring j i (subst (λ (f : ℕ → ℕ). 0 < f i) off.1 some));
   keeping = on.keeping;
   labelled = on.labelled;
   counted = on.counted;
@@ -118,10 +118,9 @@ count_keeps z m labels x n on free has = record {
   last_found = on.last_found;
   referring = on.referring;
   keeping = on.keeping;
-  labelled = λ y k is. ⊎_elim
-      (λ (here : (y ≡ x) × (put labels x (Some n) y ≡ Some n)). subst (HasSlot m.history m.occupants) (same_Some n k (sym here.1 ∙ is)) has)
-      (λ (off : (y ≡ x → ⊥) × (put labels x (Some n) y ≡ labels y)). on.labelled y k (sym off.1 ∙ is))
-      (put_cases labels x (Some n) y);
+  labelled = λ y k is. either (put_cases labels x (Some n) y)
+      (λ here. subst (HasSlot m.history m.occupants) (same_Some n k (sym here.1 ∙ is)) has)
+      (λ off. on.labelled y k (sym off.1 ∙ is));
   counted = added_counts labels m.locals x n free on.counted;
 }
 

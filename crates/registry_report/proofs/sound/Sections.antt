@@ -1,5 +1,5 @@
 -- Enter, exit and find are runs of lawful steps.
-use Rattle.std.proofs.Common.{◌≡◌, ℕ, ◌+◌, ◌<◌, ⊎_elim, length, Option, Some, None, Bool, true, false, not, refl, sym, ap, subst, ◌∙◌, arith}
+use Rattle.std.proofs.Common.{◌≡◌, ℕ, ◌+◌, ◌<◌, length, Option, Some, None, Bool, true, false, not, refl, sym, ap, subst, ◌∙◌, arith}
 use Rattle.std.specs.Prelude.{Ok, if◌then◌else◌, ◌==◌}
 use Rattle.std.proofs.lemmas.Option.{same_Some}
 use Rattle.registry_values.specs.declared.entry.Entry.{Entry}
@@ -20,6 +20,7 @@ use Rattle.registry_report.specs.Turns.{with_section_begun, with_section_entered
 use Rattle.registry_report.proofs.Lookups.{lookup_is}
 use Rattle.registry_report.proofs.sound.Turns.{ok_turn, put_capped, put_cases, put_none, same_ok, still_there, then_ok}
 use Rattle.protocol.proofs.keeps.SectionKeeps.{some_from}
+use Rattle.protocol.proofs.Either.{either}
 
 -- Enter
 
@@ -29,18 +30,16 @@ begin_keeps : (z : Settings) (m : Model) (labels : ℕ → Option ℕ) (c : ℕ)
 begin_keeps z m labels c on lt out = record {
   legal = on.legal;
   live = on.live;
-  held = λ d b f in_ hold. ⊎_elim
-      (λ (here : (d ≡ c) × (put m.sections c (Some (length m.history)) d ≡ Some (length m.history))).
+  held = λ d b f in_ hold. either (put_cases m.sections c (Some (length m.history)) d)
+      (λ here.
       let now : b ≡ length m.history = same_Some b (length m.history) (sym in_ ∙ here.1) in
       on.live f (record { attached = hold.attached; begun = (at_within m.history f.number (Attach f) hold.attached).1; unended = λ p x. omega (arith, hold.unended p x) }))
-      (λ (off : (d ≡ c → ⊥) × (put m.sections c (Some (length m.history)) d ≡ m.sections d)). on.held d b f (sym off.1 ∙ in_) hold)
-      (put_cases m.sections c (Some (length m.history)) d);
-  begun = λ d b in_. ⊎_elim
-      (λ (here : (d ≡ c) × (put m.sections c (Some (length m.history)) d ≡ Some (length m.history))).
+      (λ off. on.held d b f (sym off.1 ∙ in_) hold);
+  begun = λ d b in_. either (put_cases m.sections c (Some (length m.history)) d)
+      (λ here.
       let now : b ≡ length m.history = same_Some b (length m.history) (sym in_ ∙ here.1) in
       (omega (arith, here.0), omega arith))
-      (λ (off : (d ≡ c → ⊥) × (put m.sections c (Some (length m.history)) d ≡ m.sections d)). on.begun d b (sym off.1 ∙ in_))
-      (put_cases m.sections c (Some (length m.history)) d);
+      (λ off. on.begun d b (sym off.1 ∙ in_));
   seen = put_capped m.passes c (length m.history) (length m.history) on.seen (omega arith);
   unsearching = on.unsearching;
   last_found = λ d f is. let was = on.last_found d f is in (was.0, still_there m.sections c d (Some (length m.history)) was.0 out was.1, was.2);
@@ -103,13 +102,12 @@ find_keeps z m labels c b answer on in_ live = record {
   begun = on.begun;
   seen = put_capped m.passes c (length m.history) (length m.history) on.seen (omega arith);
   unsearching = on.unsearching;
-  last_found = λ d f is. ⊎_elim
-      (λ (here : (d ≡ c) × (put m.found c answer d ≡ answer)).
+  last_found = λ d f is. either (put_cases m.found c answer d)
+      (λ here.
       let now = live f (sym here.1 ∙ is) in
       let low = (on.begun c b in_).1 in
       (b, ap m.sections here.0 ∙ in_, record { attached = now.attached; unended = λ p x. omega (arith, now.unended p x, low) }))
-      (λ (off : (d ≡ c → ⊥) × (put m.found c answer d ≡ m.found d)). on.last_found d f (sym off.1 ∙ is))
-      (put_cases m.found c answer d);
+      (λ off. on.last_found d f (sym off.1 ∙ is));
   referring = on.referring;
   keeping = on.keeping;
   labelled = on.labelled;
@@ -136,17 +134,9 @@ find_run r c b key on in_ =
       up_to = omega (arith, here);
       answered = lookup_is m.history on.legal key (length m.history);
     } in
-    let alike : Alike (record seen { lookups = put seen.lookups c None; found = put m.found c (lookup_now r key) }) (with_found r c (lookup_now r key)).model = record {
-      history = refl;
-      sections = λ j. refl;
-      passes = λ j. refl;
-      lookups = put_is (put m.lookups c (Some q)) m.lookups c None (sym (on.unsearching c)) (λ j off. put_other m.lookups c (Some q) j off);
-      found = λ j. refl;
-      passive = λ j n. refl;
-      locals = λ n. refl;
-      occupants = λ t. refl;
-      keeps = λ t. refl;
-    } in
+    let alike : Alike (record seen { lookups = put seen.lookups c None; found = put m.found c (lookup_now r key) }) (with_found r c (lookup_now r key)).model = assumption (
+      put_is (put m.lookups c (Some q)) m.lookups c None (sym (on.unsearching c)) (λ j off. put_other m.lookups c (Some q) j off)
+    ) in
     subst (IsModelRun m) (same_model (record seen { lookups = put seen.lookups c None; found = put m.found c (lookup_now r key) }) (with_found r c (lookup_now r key)).model alike)
     (Goes_on seen _ (Goes_on sought _ (Goes_on m _ Stays (Seeks c b key in_ (on.unsearching c))) (Sees c (length m.history) (on.seen c) (omega arith)))
     (Answers c q (lookup_now r key) (put_here m.lookups c (Some q)) lawful))

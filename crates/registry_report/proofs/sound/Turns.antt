@@ -1,5 +1,5 @@
 -- A function with one value put, labels that are counted, least numbers, and answers behind tests: what the turns share.
-use Rattle.std.proofs.Common.{◌≡◌, ℕ, zero, suc, ◌+◌, ◌-◌, ◌<◌, ◌≤◌, ◌⊎◌, inl, inr, ⊎_elim, List, [], ◌∷◌, Option, Some, None, Bool, true, false, refl, sym, ap, subst, ◌∙◌, arith, eqb-true}
+use Rattle.std.proofs.Common.{◌≡◌, ℕ, zero, suc, ◌+◌, ◌-◌, ◌<◌, ◌≤◌, ◌⊎◌, inl, inr, List, [], ◌∷◌, Option, Some, None, Bool, true, false, refl, sym, ap, subst, ◌∙◌, arith, eqb-true}
 use Rattle.std.specs.Prelude.{Result, Ok, Err, if◌then◌else◌}
 use Rattle.std.proofs.lemmas.Bool.{cases_eq, cases_lt, eq-eqb, ne_eqb}
 use Rattle.std.specs.List.{All}
@@ -20,21 +20,16 @@ use Rattle.registry_values.specs.declared.settings.Settings.{Settings}
 use Rattle.registry_values.specs.declared.entry.Change.TheVariants.{Attach, Detach}
 use Rattle.protocol.specs.History.{IsLegal}
 use Rattle.protocol.proofs.history.History.{at_empty}
+use Rattle.protocol.proofs.Either.{either}
 
 -- A function with one value put
 
 pub put_cases : {X : Type 0} (f : ℕ → X) (i : ℕ) (x : X) (j : ℕ) → ((j ≡ i) × (put f i x j ≡ x)) ⊎ ((j ≡ i → ⊥) × (put f i x j ≡ f j))
-put_cases {X} f i x j = ⊎_elim
-    (λ (same : j ≡ i). inl (same, ap (put f i x) same ∙ put_here f i x))
-    (λ (off : j ≡ i → ⊥). inr (off, put_other f i x j off))
-    (cases_eq j i)
+put_cases {X} f i x j = either (cases_eq j i) (λ same. inl (same, ap (put f i x) same ∙ put_here f i x)) (λ off. inr (off, put_other f i x j off))
 
 -- what stands where nothing was taken away stood there before
 pub put_none : {X : Type 0} (f : ℕ → Option X) (i j : ℕ) (y : X) → put f i None j ≡ Some y → (j ≡ i → ⊥) × (f j ≡ Some y)
-put_none {X} f i j y is = ⊎_elim
-    (λ (here : (j ≡ i) × (put f i None j ≡ None)). absurd (none-some y (sym here.1 ∙ is)))
-    (λ (off : (j ≡ i → ⊥) × (put f i None j ≡ f j)). (off.0, sym off.1 ∙ is))
-    (put_cases f i None j)
+put_none {X} f i j y is = either (put_cases f i None j) (λ here. absurd (none-some y (sym here.1 ∙ is))) (λ off. (off.0, sym off.1 ∙ is))
 
 -- a full place stays so, where an empty one is written
 pub still_there : {X : Type 0} (f : ℕ → Option X) (i j : ℕ) (x : Option X) (y : X) → f i ≡ None → f j ≡ Some y → put f i x j ≡ Some y
@@ -46,10 +41,7 @@ still_beside f i j n k full is other = put_other f i None j (λ same. other (sam
 
 -- each value is at most n
 pub put_capped : (f : ℕ → ℕ) (i n m : ℕ) → ((j : ℕ) → f j ≤ m) → m ≤ n → (j : ℕ) → put f i n j ≤ n
-put_capped f i n m all le j = ⊎_elim
-    (λ (here : (j ≡ i) × (put f i n j ≡ n)). omega (arith, here.1))
-    (λ (off : (j ≡ i → ⊥) × (put f i n j ≡ f j)). omega (arith, off.1, all j))
-    (put_cases f i n j)
+put_capped f i n m all le j = either (put_cases f i n j) (λ here. omega (arith, here.1)) (λ off. omega (arith, off.1, all j))
 
 -- Labels
 
@@ -73,16 +65,15 @@ count_before labels n x l (suc k) le =
 -- past x there is what the new one makes of it
 count_past : (labels : ℕ → Option ℕ) (n x : ℕ) (l : Option ℕ) (k : ℕ) → x < k → labels_for (put labels x l) n k + one_if (is_this n (labels x)) ≡ labels_for labels n k + one_if (is_this n l)
 count_past labels n x l zero lt = absurd (omega arith)
-count_past labels n x l (suc k) lt = ⊎_elim
-    (λ (low : x < k).
+count_past labels n x l (suc k) lt = either (cases_lt x k)
+    (λ low.
     let here : one_if (is_this n (put labels x l k)) ≡ one_if (is_this n (labels k)) = ap (λ (o : Option ℕ). one_if (is_this n o)) (put_other labels x l k (λ same. omega arith)) in
     omega (arith, here, count_past labels n x l k low))
-    (λ (ge : k ≤ x).
+    (λ ge.
     let same : k ≡ x = omega arith in
     let here : one_if (is_this n (put labels x l k)) ≡ one_if (is_this n l) = ap (λ (o : Option ℕ). one_if (is_this n o)) (ap (put labels x l) same ∙ put_here labels x l) in
     let was : one_if (is_this n (labels k)) ≡ one_if (is_this n (labels x)) = ap (λ (j : ℕ). one_if (is_this n (labels j))) same in
     omega (arith, here, was, count_before labels n x l k ge))
-    (cases_lt x k)
 
 count_more : (p : ℕ → Bool) (k j : ℕ) → count_below p k ≤ count_below p (k + j)
 count_more p k zero = let same : k + 0 ≡ k = omega arith in omega (arith, ap (count_below p) same)
@@ -98,48 +89,43 @@ labelled_counts labels x n is =
 
 -- of another number nothing changes
 count_beside : (labels : ℕ → Option ℕ) (n x : ℕ) (l : Option ℕ) (k : ℕ) → is_this n (labels x) ≡ false → is_this n l ≡ false → labels_for (put labels x l) n k ≡ labels_for labels n k
-count_beside labels n x l k was now = ⊎_elim
-    (λ (low : x < k). omega (arith, ap one_if was, ap one_if now, count_past labels n x l k low))
-    (λ (ge : k ≤ x). count_before labels n x l k ge)
-    (cases_lt x k)
+count_beside labels n x l k was now = either (cases_lt x k)
+    (λ low. omega (arith, ap one_if was, ap one_if now, count_past labels n x l k low))
+    (λ ge. count_before labels n x l k ge)
 
 -- a label is given up with the reference that it stands for
 pub dropped_counts : (labels : ℕ → Option ℕ) (locals : ℕ → ℕ) (x n : ℕ) → labels x ≡ Some n → ((m k : ℕ) → labels_for labels m k ≤ locals m)
     → (m k : ℕ) → labels_for (put labels x None) m k ≤ put locals n (locals n - 1) m
-dropped_counts labels locals x n is all m k = ⊎_elim
-    (λ (here : (m ≡ n) × (put locals n (locals n - 1) m ≡ locals n - 1)).
+dropped_counts labels locals x n is all m k = either (put_cases locals n (locals n - 1) m)
+    (λ here.
     let top : ℕ = k + suc x in
     let more : labels_for (put labels x None) m k ≤ labels_for (put labels x None) m (k + suc x) = count_more (λ y. is_this m (put labels x None y)) k (suc x) in
     let change = count_past labels m x None (k + suc x) (omega arith) in
     let one : one_if (is_this m (labels x)) ≡ 1 = ap (λ (o : Option ℕ). one_if (is_this m o)) is ∙ ap one_if (eq-eqb n m (sym here.0)) in
     omega (arith, more, change, one, here.1, all m (k + suc x), ap locals here.0))
-    (λ (off : (m ≡ n → ⊥) × (put locals n (locals n - 1) m ≡ locals m)).
+    (λ off.
     let was : is_this m (labels x) ≡ false = ap (is_this m) is ∙ is_this_other n m (λ same. off.0 (sym same)) in
     omega (arith, count_beside labels m x None k was refl, off.1, all m k))
-    (put_cases locals n (locals n - 1) m)
 
 -- and one is filled with one more
 pub added_counts : (labels : ℕ → Option ℕ) (locals : ℕ → ℕ) (x n : ℕ) → labels x ≡ None → ((m k : ℕ) → labels_for labels m k ≤ locals m)
     → (m k : ℕ) → labels_for (put labels x (Some n)) m k ≤ put locals n (locals n + 1) m
-added_counts labels locals x n free all m k = ⊎_elim
-    (λ (here : (m ≡ n) × (put locals n (locals n + 1) m ≡ locals n + 1)).
+added_counts labels locals x n free all m k = either (put_cases locals n (locals n + 1) m)
+    (λ here.
     let one : one_if (is_this m (Some n)) ≡ 1 = ap one_if (eq-eqb n m (sym here.0)) in
     let none : one_if (is_this m (labels x)) ≡ 0 = ap (λ (o : Option ℕ). one_if (is_this m o)) free in
-    ⊎_elim
-    (λ (low : x < k). omega (arith, count_past labels m x (Some n) k low, one, none, here.1, all m k, ap locals here.0))
-    (λ (ge : k ≤ x). omega (arith, count_before labels m x (Some n) k ge, here.1, all m k, ap locals here.0))
-    (cases_lt x k))
-    (λ (off : (m ≡ n → ⊥) × (put locals n (locals n + 1) m ≡ locals m)).
+    either (cases_lt x k)
+    (λ low. omega (arith, count_past labels m x (Some n) k low, one, none, here.1, all m k, ap locals here.0))
+    (λ ge. omega (arith, count_before labels m x (Some n) k ge, here.1, all m k, ap locals here.0)))
+    (λ off.
     omega (arith, count_beside labels m x (Some n) k (ap (is_this m) free) (is_this_other n m (λ same. off.0 (sym same))), off.1, all m k))
-    (put_cases locals n (locals n + 1) m)
 
 -- where none is counted, none passes
 pub count_none : (p : ℕ → Bool) (k t : ℕ) → count_below p k ≡ 0 → t < k → p t ≡ false
 count_none p zero t none lt = absurd (omega arith)
-count_none p (suc k) t none lt = ⊎_elim
-    (λ (low : t < k). count_none p k t (omega (arith, none)) low)
-    (λ (ge : k ≤ t). ap p (let same : t ≡ k = omega arith in same) ∙ no_one (p k) (omega (arith, none)))
-    (cases_lt t k)
+count_none p (suc k) t none lt = either (cases_lt t k)
+    (λ low. count_none p k t (omega (arith, none)) low)
+    (λ ge. ap p (let same : t ≡ k = omega arith in same) ∙ no_one (p k) (omega (arith, none)))
   where
     no_one : (b : Bool) → one_if b ≡ 0 → b ≡ false
     no_one true is = absurd (omega (arith, is))
@@ -159,10 +145,9 @@ next_some None false n c is = absurd (none-some c is)
 -- the least number that passes does
 pub least_some : (p : ℕ → Bool) (n c : ℕ) → least_below p n ≡ Some c → (c < n) × (p c ≡ true)
 least_some p zero c is = absurd (none-some c is)
-least_some p (suc n) c is = ⊎_elim
-    (λ (low : least_below p n ≡ Some c). let was = least_some p n c low in (omega (arith, was.0), was.1))
-    (λ (here : (c ≡ n) × (p n ≡ true)). (omega (arith, here.0), ap p here.0 ∙ here.1))
-    (next_some (least_below p n) (p n) n c is)
+least_some p (suc n) c is = either (next_some (least_below p n) (p n) n c is)
+    (λ low. let was = least_some p n c low in (omega (arith, was.0), was.1))
+    (λ here. (omega (arith, here.0), ap p here.0 ∙ here.1))
 
 -- Tests and answers
 

@@ -9,7 +9,8 @@ use Rattle.passive_core.specs.Making.{Makes, linking_events}
 use Rattle.passive_core.proofs.Making.{begun_makes, linking_makes}
 use Rattle.protocol.specs.State.{State}
 use Rattle.protocol.specs.Invariant.{Holds}
-use Rattle.passive_core.proofs.Attaching.{answer_refused, call_acts, call_restored, driver_links}
+use Rattle.passive_core.proofs.Attaching.{MayLink, answer_refused, call_acts, call_restored, driver_links}
+use Rattle.passive_core.proofs.machine.Core.attach.Goals.{In_ok-entry}
 use Rattle.passive_core.proofs.machine.Core.attach.Goals as goal
 
 pub returns-in_err-entry-clause-answer : goal.returns-in_err-entry-clause-answer
@@ -17,21 +18,15 @@ returns-in_err-entry-clause-answer c = subst (λ (r : Result Entry Refusal). IsA
     (sym (handed_on c.from_residual.result c.in_err-entry.field-0.0 c.from_residual.ensures.0 c.from_residual.ensures.1))
     (answer_refused _ _ _ _ _ _ _ c.inside.ensures c.is_iface.ensures c.given_entry-given.ensures.value c.in_err-entry.ensures.value)
 
+-- the entry's words may be stored, and then it may be linked
+linking : (c : In_ok-entry) → MayLink (all_seated c.args.self.now) c.in_ok-entry.entry
+linking c = driver_links c.args.self.now c.args.rec c.in_ok-entry.entry (subst Holds c.self.view_is c.self.invariant) c.requires.rest (sym c.given_entry-given.ensures.value ∙ c.in_ok-entry.ensures.fit.2) (sym c.is_iface.ensures ∙ c.in_ok-entry.ensures.fit.1) c.requires.lawful
+
 pub prepare-requires : goal.prepare-requires
-prepare-requires c =
-    let s = c.args.self.now in
-    let e = c.in_ok-entry.entry in
-    let on = subst Holds c.self.view_is c.self.invariant in
-    let may = driver_links s c.args.rec e on c.requires.rest (sym c.given_entry-given.ensures.value ∙ c.in_ok-entry.ensures.fit.2) (sym c.is_iface.ensures ∙ c.in_ok-entry.ensures.fit.1) c.requires.lawful in
-    rw (c.begin_change.ensures.after, c.in_ok-make_room.ensures.same) may.writes
+prepare-requires c = rw (c.begin_change.ensures.after, c.in_ok-make_room.ensures.same) (linking (goal.at.prepare-requires c).In_ok-entry).writes
 
 pub link-requires : goal.link-requires
-link-requires c =
-    let s = c.args.self.now in
-    let e = c.in_ok-entry.entry in
-    let on = subst Holds c.self.view_is c.self.invariant in
-    let may = driver_links s c.args.rec e on c.requires.rest (sym c.given_entry-given.ensures.value ∙ c.in_ok-entry.ensures.fit.2) (sym c.is_iface.ensures ∙ c.in_ok-entry.ensures.fit.1) c.requires.lawful in
-    rw (c.prepare.ensures.after, c.begin_change.ensures.after, c.in_ok-make_room.ensures.same) may.links
+link-requires c = rw (c.prepare.ensures.after, c.begin_change.ensures.after, c.in_ok-make_room.ensures.same) (linking (goal.at.link-requires c).In_ok-entry).links
 
 pub restore-requires-clause-holds : goal.restore-requires-clause-holds
 restore-requires-clause-holds c =
@@ -52,12 +47,10 @@ pub returns-in-Ok-clause-made : goal.returns-in-Ok-clause-made
 returns-in-Ok-clause-made c =
     let s = c.args.self.now in
     let e = c.in_ok-entry.entry in
-    let on = subst Holds c.self.view_is c.self.invariant in
-    let may = driver_links s c.args.rec e on c.requires.rest (sym c.given_entry-given.ensures.value ∙ c.in_ok-entry.ensures.fit.2) (sym c.is_iface.ensures ∙ c.in_ok-entry.ensures.fit.1) c.requires.lawful in
     let u = c.begin_change.new.self in
     let n = c.end_change.new.self in
     let seated : u ≡ all_seated s = c.begin_change.ensures.after ∙ ap all_seated c.in_ok-make_room.ensures.same in
-    let links = linking_makes u c.prepare.new.self c.link.new.self n e c.args.c c.prepare.ensures.made (rw (c.prepare.ensures.after, seated) may.links) c.in-Ok.ensures.ok c.end_change.ensures.made in
+    let links = linking_makes u c.prepare.new.self c.link.new.self n e c.args.c c.prepare.ensures.made (rw (c.prepare.ensures.after, seated) (linking (goal.at.returns-in-Ok-clause-made c).In_ok-entry).links) c.in-Ok.ensures.ok c.end_change.ensures.made in
     begun_makes s c.make_room.new.self u n c.args.c (linking_events s c.args.c e) c.in_ok-make_room.ensures.same c.begin_change.ensures.made (subst (λ (x : State). Makes u (linking_events x c.args.c e) n) seated links)
 
 pub returns-in-Err-clause-made : goal.returns-in-Err-clause-made

@@ -3,7 +3,7 @@ use Rattle.protocol.specs.Invariant.{Holds}
 use Rattle.protocol.specs.Events.{step}
 use Rattle.passive_core.specs.Locals.{is_counting, with_count_less}
 use Rattle.protocol.specs.declared.event.Event.TheVariants.{JoinRef, CountDown, SplitBack}
-use Rattle.protocol.proofs.keeps.CountKeeps.{idle_tells}
+use Rattle.protocol.proofs.keeps.SectionKeeps.{idle_tells}
 use Rattle.passive_core.proofs.Locals.{back_allowed, counted_down, down_allowed, down_fell, down_went, gone_back, joins, live_slot, slot_is}
 use Rattle.passive_core.proofs.Passives.{made}
 use Rattle.protocol.proofs.keeps.References.{standing_tells}

@@ -11,6 +11,7 @@ use Rattle.registry_values.specs.declared.slot.Key.{Key}
 use Rattle.passive_core.proofs.Acting.{acting_idle, acting_on, idle_unsearching}
 use Rattle.passive_core.proofs.Finding.{IsTurn, Walks, left, load_turns, seek_starts, walk_goes_on}
 use Rattle.passive_core.proofs.Making.{find_goes_on, find_starts}
+use Rattle.passive_core.proofs.machine.Core.find.Goals.{After-load_next}
 use Rattle.passive_core.proofs.machine.Core.find.Goals as goal
 
 pub make-requires-clause-allowed : goal.make-requires-clause-allowed
@@ -42,46 +43,32 @@ turns b s t c key q r before lt ready on walks is made =
     subst (IsTurn (all_seated b) c key (left s (search_at s c)) t) is
     (load_turns (all_seated b) s t c key q on (idle_unsearching (all_seated b) c (acting_idle b c before lt ready)) walks made)
 
+-- what the load that ends the walk tells
+turned : (c : After-load_next) (r : Reply) → c.load_next.result ≡ r
+    → IsTurn (all_seated c.args.self.now) c.args.c (record { kind = c.args.kind; name = c.args.name.now }) (left c.walk.self (search_at c.walk.self c.args.c)) c.load_next.new.self r
+turned c r is = turns c.args.self.now c.walk.self c.load_next.new.self c.args.c (record { kind = c.args.kind; name = c.args.name.now }) c.load_next.result r (subst Holds c.self.view_is c.self.invariant)
+    c.requires.known c.requires.ready c.load_next.ensures.holds c.walk.invariant.0 is c.load_next.ensures.made
+
 pub returns-in-Found-clause-answer : goal.returns-in-Found-clause-answer
-returns-in-Found-clause-answer c =
-    let on : Holds c.args.self.now = subst Holds c.self.view_is c.self.invariant in
-    (turns c.args.self.now c.walk.self c.load_next.new.self c.args.c (record { kind = c.args.kind; name = c.args.name.now }) c.load_next.result (Found c.in-Found.entry) on
-    c.requires.known c.requires.ready c.load_next.ensures.holds c.walk.invariant.0 c.in-Found.is c.load_next.ensures.made).0
+returns-in-Found-clause-answer c = (turned (goal.at.returns-in-Found-clause-answer c).After-load_next (Found c.in-Found.entry) c.in-Found.is).0
 
 pub returns-in-Found-clause-after : goal.returns-in-Found-clause-after
-returns-in-Found-clause-after c =
-    let on : Holds c.args.self.now = subst Holds c.self.view_is c.self.invariant in
-    (turns c.args.self.now c.walk.self c.load_next.new.self c.args.c (record { kind = c.args.kind; name = c.args.name.now }) c.load_next.result (Found c.in-Found.entry) on
-    c.requires.known c.requires.ready c.load_next.ensures.holds c.walk.invariant.0 c.in-Found.is c.load_next.ensures.made).1
+returns-in-Found-clause-after c = (turned (goal.at.returns-in-Found-clause-after c).After-load_next (Found c.in-Found.entry) c.in-Found.is).1
 
 pub returns-in-Missed-clause-answer : goal.returns-in-Missed-clause-answer
-returns-in-Missed-clause-answer c =
-    let on : Holds c.args.self.now = subst Holds c.self.view_is c.self.invariant in
-    (turns c.args.self.now c.walk.self c.load_next.new.self c.args.c (record { kind = c.args.kind; name = c.args.name.now }) c.load_next.result Missed on
-    c.requires.known c.requires.ready c.load_next.ensures.holds c.walk.invariant.0 c.in-Missed.is c.load_next.ensures.made).0
+returns-in-Missed-clause-answer c = (turned (goal.at.returns-in-Missed-clause-answer c).After-load_next Missed c.in-Missed.is).0
 
 pub returns-in-Missed-clause-after : goal.returns-in-Missed-clause-after
-returns-in-Missed-clause-after c =
-    let on : Holds c.args.self.now = subst Holds c.self.view_is c.self.invariant in
-    (turns c.args.self.now c.walk.self c.load_next.new.self c.args.c (record { kind = c.args.kind; name = c.args.name.now }) c.load_next.result Missed on
-    c.requires.known c.requires.ready c.load_next.ensures.holds c.walk.invariant.0 c.in-Missed.is c.load_next.ensures.made).1
+returns-in-Missed-clause-after c = (turned (goal.at.returns-in-Missed-clause-after c).After-load_next Missed c.in-Missed.is).1
 
 ready_after : (s t : State) (c : ℕ) (answer : Option Entry) → Holds s → t ≡ after_find (all_seated s) c answer → (d : ℕ) → may_act s d ≡ true → may_act t d ≡ true
 ready_after s t c answer on after d may = subst (λ (x : State). may_act x d ≡ true) (sym after) (acting_on s d on may)
 
 pub returns-in-Found-clause-ready : goal.returns-in-Found-clause-ready
-returns-in-Found-clause-ready c =
-    let on : Holds c.args.self.now = subst Holds c.self.view_is c.self.invariant in
-    ready_after c.args.self.now c.load_next.new.self c.args.c (Some c.in-Found.entry) on
-    (turns c.args.self.now c.walk.self c.load_next.new.self c.args.c (record { kind = c.args.kind; name = c.args.name.now }) c.load_next.result (Found c.in-Found.entry) on
-    c.requires.known c.requires.ready c.load_next.ensures.holds c.walk.invariant.0 c.in-Found.is c.load_next.ensures.made).1
+returns-in-Found-clause-ready c = ready_after c.args.self.now c.load_next.new.self c.args.c (Some c.in-Found.entry) (subst Holds c.self.view_is c.self.invariant) (turned (goal.at.returns-in-Found-clause-ready c).After-load_next (Found c.in-Found.entry) c.in-Found.is).1
 
 pub returns-in-Missed-clause-ready : goal.returns-in-Missed-clause-ready
-returns-in-Missed-clause-ready c =
-    let on : Holds c.args.self.now = subst Holds c.self.view_is c.self.invariant in
-    ready_after c.args.self.now c.load_next.new.self c.args.c None on
-    (turns c.args.self.now c.walk.self c.load_next.new.self c.args.c (record { kind = c.args.kind; name = c.args.name.now }) c.load_next.result Missed on
-    c.requires.known c.requires.ready c.load_next.ensures.holds c.walk.invariant.0 c.in-Missed.is c.load_next.ensures.made).1
+returns-in-Missed-clause-ready c = ready_after c.args.self.now c.load_next.new.self c.args.c None (subst Holds c.self.view_is c.self.invariant) (turned (goal.at.returns-in-Missed-clause-ready c).After-load_next Missed c.in-Missed.is).1
 
 goes_on : (b s t : State) (c : ℕ) (key : Key) (r : Reply) → Holds b → c < b.settings.cpus → may_act b c ≡ true → Holds s → Walks (all_seated b) s c key
     → next_load s c (search_at s c) ≡ Some (record { state = t; reply = r }) → ((e : Entry) → r ≡ Found e → ⊥) → (r ≡ Missed → ⊥)

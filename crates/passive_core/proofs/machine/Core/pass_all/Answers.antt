@@ -1,4 +1,4 @@
-use Rattle.std.proofs.Common.{refl, ◌≡◌, ℕ, ◌<◌, ◌≤◌, true, sym, ap, subst, ◌∙◌, arith, length, inr, ⊎_elim}
+use Rattle.std.proofs.Common.{refl, ◌≡◌, ℕ, ◌<◌, ◌≤◌, true, sym, ap, subst, ◌∙◌, arith, length, inr}
 use Rattle.std.proofs.lemmas.Bool.{cases_eq}
 use Rattle.protocol.specs.Marking.{AllPassed}
 use Rattle.protocol.specs.Invariant.{Holds}
@@ -10,6 +10,7 @@ use Rattle.passive_core.specs.Making.{IsWaiting}
 use Rattle.passive_core.proofs.Advancing.{passes_none}
 use Rattle.passive_core.proofs.Making.{only_after, only_none}
 use Rattle.passive_core.proofs.machine.Core.pass_all.Goals as goal
+use Rattle.protocol.proofs.Either.{either}
 
 size : (s : State) → Holds s → length s.slots ≡ s.settings.slots
 size s on = on.shape.slots
@@ -24,12 +25,11 @@ loop-t-preserved c =
     record {
       made = only_after IsWaiting s l.self n l.invariant.made c.pass_entry.ensures.made;
       only = only_more s l.self n l.invariant.only c.pass_entry.ensures.only;
-      passed = λ u below gone. ⊎_elim
-          (λ (same : u ≡ l.t).
+      passed = λ u below gone. either (cases_eq u l.t)
+          (λ same.
           let here : is_retired (slot_at s.slots l.t) ≡ true = ap (λ (k : ℕ). is_retired (slot_at s.slots k)) (sym same) ∙ gone in
           subst (AllPassed n) (sym same) (c.pass_entry.ensures.passed l.t (ap is_retired (slots l.t) ∙ here) (c.requires.numbers l.t lt ∙ ap retired_number (sym (slots l.t)))))
-          (λ (off : u ≡ l.t → ⊥). still_passed l.self n u c.pass_entry.ensures.only (l.invariant.passed u (omega (arith, below, off)) gone))
-          (cases_eq u l.t);
+          (λ off. still_passed l.self n u c.pass_entry.ensures.only (l.invariant.passed u (omega (arith, below, off)) gone));
     }
 
 pub returns-clause-passed : goal.returns-clause-passed
