@@ -1,13 +1,14 @@
 -- What the keeper's view says of totals: of each good state of the core that shows it, or where there is one (`IsShown`).
-use Rattle.std.proofs.Common.{◌≡◌, inr, ⊎_elim, ℕ, ◌+◌, ◌^◌, ◌<◌, ◌≤◌, List, [], length, get_or, Option, Some, true, refl, sym, ap, ◌∙◌, subst, arith}
+use Rattle.std.proofs.Common.{◌≡◌, inr, ⊎_elim, ℕ, ◌+◌, ◌*◌, ◌^◌, ◌<◌, ◌≤◌, List, [], length, get_or, Option, Some, true, refl, sym, ap, ◌∙◌, subst, arith}
 use Rattle.std.proofs.lemmas.Bool.{cases_lt}
 use Rattle.registry_values.specs.declared.entry.Entry.{Entry}
 use Rattle.registry_values.specs.declared.settings.Settings.{Settings}
+use Rattle.registry_values.specs.declared.settings.TheConstants.{MOST_CPUS}
 use Rattle.protocol.specs.declared.state.Due.{Due}
 use Rattle.protocol.specs.declared.state.Due.TheVariants.{Rest, Adding, Subtracting}
 use Rattle.registry_values.specs.declared.slot.Slot.{Slot}
 use Rattle.registry_values.specs.declared.slot.Slot.TheVariants.{Retired}
-use Rattle.protocol.specs.Invariant.{IsIn, Balances, held_at, addition_due_at, is_adding_at, subtraction_due_at}
+use Rattle.protocol.specs.Invariant.{IsIn, Balances, held_at, addition_due_at, is_adding_at, subtraction_due_at, greatest_limit}
 use Rattle.registry_values.specs.Slots.{slot_of, slot_at}
 use Rattle.registry_values.specs.Marks.{are_collected}
 use Rattle.protocol.specs.State.{State, total_at, kept_at}
@@ -64,7 +65,7 @@ total_collected g k t e good had none retired all =
 
 -- the total of a live or retired entry's slot is near the bias
 pub total_near : (g : State) (k : KeeperView) (t : ℕ) (e : Entry) → Good g → KeeperShown g k → NothingToAdd k.due t → IsIn e (slot_at k.slots t)
-    → (bias + held_in g e.number t ≤ total_at k.totals t + 2 ^ 43) × (total_at k.totals t ≤ bias + 2 ^ 43)
+    → (bias + held_in g e.number t ≤ total_at k.totals t + MOST_CPUS * greatest_limit) × (total_at k.totals t ≤ bias + MOST_CPUS * greatest_limit)
 total_near g k t e good had none is =
     let seen = seen_by_keeper g k good had in
     let here : IsIn e (slot_at g.slots t) = subst (λ (x : List Slot). IsIn e (slot_at x t)) seen.slots is in
@@ -92,7 +93,7 @@ pub record IsHeldIn (k : KeeperView) (t : ℕ) : Type 0 where
   pub occupied : IsIn e (slot_at k.slots t)
   pub slot : t < k.settings.slots
   pub positive : 0 < total_at k.totals t
-  pub near : total_at k.totals t ≤ bias + 2 ^ 43
+  pub near : total_at k.totals t ≤ bias + MOST_CPUS * greatest_limit
 
 held_from : (g : State) (k : KeeperView) (t : ℕ) (e : Entry) → Good g → KeeperShown g k → NothingToAdd k.due t → IsIn e (slot_at k.slots t) → 0 < held_in g e.number t → IsHeldIn k t
 held_from g k t e good had none is some =

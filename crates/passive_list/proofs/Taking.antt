@@ -1,7 +1,7 @@
 -- The snapshots of all CPUs are taken, one after the other.
-use Rattle.std.proofs.Common.{◌≡◌, ⊎_elim, ℕ, ◌+◌, ◌<◌, true, nat_lt, if◌then◌else◌, List, [], get_or, set, refl, sym, ap, ◌∙◌, arith, get_or-set_same, get_or-set_other, length-set, lt-ltb}
+use Rattle.std.proofs.Common.{◌≡◌, ⊎_elim, ℕ, ◌+◌, ◌<◌, ◌≤◌, true, Bool, nat_lt, if◌then◌else◌, List, [], get_or, replicate, set, refl, sym, ap, ◌∙◌, arith, get_or-set_same, get_or-set_other, length-set, lt-ltb}
 use Rattle.std.proofs.lemmas.Bool.{cases_eq}
-use Rattle.std.proofs.lemmas.List.{set-set}
+use Rattle.std.proofs.lemmas.List.{length-replicate, set-get_or, set-set}
 use Rattle.protocol.specs.declared.state.Due.{Due}
 use Rattle.protocol.specs.declared.state.Due.TheVariants.{Rest, Snapshots}
 use Rattle.registry_values.specs.declared.mark.Mark.{Mark}
@@ -20,6 +20,16 @@ due_before cpus t c = if nat_lt c cpus then Snapshots t c else Rest
 -- the marks so far are in the slot t
 abbrev pub taking : KeeperView → ℕ → ℕ → ℕ → List Mark → KeeperView
 taking k t cpus c marks = record k { marks = set k.marks t marks; due = due_before cpus t c }
+
+-- none is taken
+pub taking_first : (k : KeeperView) (t cpus : ℕ) → AreFresh k t → k.due ≡ Snapshots t 0 → 1 ≤ cpus → k ≡ taking k t cpus 0 (replicate MOST_CPUS no_mark)
+taking_first k t cpus fresh due some =
+    let marks : k.marks ≡ set k.marks t (replicate MOST_CPUS no_mark) = sym (ap (set k.marks t) (sym fresh.marks) ∙ set-get_or k.marks t []) in
+    let next : k.due ≡ due_before cpus t 0 = due ∙ ap (λ (b : Bool). if b then Snapshots t 0 else Rest) (sym (lt-ltb 0 cpus some)) in
+    λ i. record k { marks = marks i; due = next i }
+
+pub none_taken : AreSnapshots 0 (replicate MOST_CPUS no_mark)
+none_taken = record { size = length-replicate MOST_CPUS no_mark; each = λ c lt. absurd (omega (arith, lt)) }
 
 pub due_is : (k l : KeeperView) (t cpus c : ℕ) (marks : List Mark) → l ≡ taking k t cpus c marks → c < cpus → l.due ≡ Snapshots t c
 due_is k l t cpus c marks at lt =

@@ -1,7 +1,11 @@
 use Rattle.std.proofs.Common.{◌∙◌, arith}
 use Rattle.cpu_words.proofs.shown.KeepersShown.{step_is_shown}
-use Rattle.passive_list.proofs.Taking.{taking_next, one_taken}
+use Rattle.passive_list.proofs.Taking.{none_taken, one_taken, taking_first, taking_next}
 use Rattle.passive_list.proofs.retiring.snapshots.Goals as goal
+
+pub loop-c-init : goal.loop-c-init
+loop-c-init c = let r = c.requires in
+    (r.table, taking_first c.args.seat.now.view c.args.slot c.args.cpus r.fresh r.due r.fit.1, none_taken, r.is_shown)
 
 pub loop-c-preserved : goal.loop-c-preserved
 loop-c-preserved c =
