@@ -4,7 +4,7 @@ use Rattle.registry_values.specs.declared.settings.Settings.{Settings}
 use Rattle.registry_values.specs.Limits.{are_fit}
 use Rattle.protocol.specs.State.{State, section_at, row_at, passive_at, count_at, total_at}
 use Rattle.protocol.specs.Events.{word}
-use Rattle.cpu_words.specs.declared.layout.TheConstants.{ROWS, ROW, PASSIVES, COUNTS, HEAD, NEXTS, RECORDS, LINE, TOTALS}
+use Rattle.cpu_words.specs.declared.layout.TheConstants.{ROWS, ROW, PASSIVES, COUNTS, HEAD, NEXTS, RECORDS, STRIDE, TOTALS}
 
 -- a word of the table: a CPU's section, its passive and count words for each slot, the head, and a slot's link, record words and total
 pub data Spot : Type 0 where
@@ -22,8 +22,8 @@ index (section_of c) = ROWS + ROW * c
 index (passive_of c t) = ROWS + ROW * c + PASSIVES + t
 index (count_of c t) = ROWS + ROW * c + COUNTS + t
 index head_word = HEAD
-index (next_of t) = NEXTS + LINE * t
-index (record_of t k) = RECORDS + LINE * t + k
+index (next_of t) = NEXTS + STRIDE * t
+index (record_of t k) = RECORDS + STRIDE * t + k
 index (total_of t) = TOTALS + t
 
 -- the settings have such a word

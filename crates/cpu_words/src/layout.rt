@@ -6,8 +6,8 @@
 //! ROWS + ROW * c + PASSIVES + t      passive references of CPU c to slot t's entry     CPU c
 //! ROWS + ROW * c + COUNTS + t        count of CPU c for slot t                         CPU c, the keeper
 //! HEAD                               slot of the newest live entry plus 1, or 0        the keeper
-//! NEXTS + LINE * t                   slot of the next older entry plus 1, or 0         the keeper
-//! RECORDS + LINE * t + k             word k of the record in slot t                    the keeper
+//! NEXTS + STRIDE * t                 slot of the next older entry plus 1, or 0         the keeper
+//! RECORDS + STRIDE * t + k           word k of the record in slot t                    the keeper
 //! TOTALS + t                         total of slot t                                   the keeper
 //!
 //! CPUs c and slots t count from 0. A table has room for the most CPUs and slots that settings may have: no place depends on them. What lies
@@ -18,9 +18,12 @@ ghost use Rattle.cpu_words.specs.Spots.{section_of, passive_of, count_of, next_o
 
 use registry_values::{MOST_CPUS, MOST_SLOTS};
 
+/// The words of a line of 64 bytes.
+const LINE: usize = 8;
+
 /// The row of CPU 0. Whoever cuts a seat in two or joins two loads word 0, so that its line is in many caches: none of the words lies on
 /// it, nor on the next one, which a processor may fetch with it.
-const ROWS: usize = 16;
+const ROWS: usize = 2 * LINE;
 
 /// In a row, the passive word of slot 0.
 const PASSIVES: usize = 1;
@@ -32,19 +35,19 @@ const COUNTS: usize = PASSIVES + MOST_SLOTS;
 const ROW: usize = COUNTS + MOST_SLOTS + 15;
 
 /// The head of the list: a line behind the rows, and a line before the links.
-pub(crate) const HEAD: usize = ROWS + ROW * MOST_CPUS + 8;
+pub(crate) const HEAD: usize = ROWS + ROW * MOST_CPUS + LINE;
 
 /// The link of slot 0.
-const NEXTS: usize = HEAD + 8;
+const NEXTS: usize = HEAD + LINE;
 
 /// The first record word of slot 0.
 const RECORDS: usize = NEXTS + 1;
 
 /// From a slot's link and record to the next one's: 6 words, and 2 that no one writes.
-const LINE: usize = 8;
+const STRIDE: usize = LINE;
 
 /// The total of slot 0.
-pub(crate) const TOTALS: usize = NEXTS + LINE * MOST_SLOTS;
+pub(crate) const TOTALS: usize = NEXTS + STRIDE * MOST_SLOTS;
 
 /// How many words a table has.
 pub(crate) const WORDS: usize = TOTALS + MOST_SLOTS;
@@ -74,15 +77,15 @@ pub(crate) fn count_place(cpu: u8, slot: u8) -> usize
 pub(crate) fn next_place(slot: u8) -> usize
     ensures place { result ≡ index (next_of slot) }
 {
-    NEXTS + LINE * slot as usize
+    NEXTS + STRIDE * slot as usize
 }
 
 /// The place of the link of the slot that `link` leads to, `link - 1`. By the link, so that no subtraction stands before the load (`load_link`).
-pub(crate) fn place_behind(link: u64) -> usize
+pub(crate) fn linked_place(link: u64) -> usize
     requires slot { (0 < link) × (link ≤ MOST_SLOTS) }
     ensures place { result ≡ index (next_of (link - 1)) }
 {
-    NEXTS - LINE + LINE * link as usize
+    NEXTS - STRIDE + STRIDE * link as usize
 }
 
 /// The place of word `k` of a slot's record. The slot is as wide as an address, as a search has it.
@@ -90,7 +93,7 @@ pub(crate) fn record_place(slot: usize, k: u8) -> usize
     requires slot { slot < MOST_SLOTS }
     ensures place { result ≡ index (record_of slot k) }
 {
-    RECORDS + LINE * slot + k as usize
+    RECORDS + STRIDE * slot + k as usize
 }
 
 /// The place of a slot's total.

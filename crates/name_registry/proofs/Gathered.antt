@@ -17,11 +17,12 @@ use Rattle.passive_list.specs.Cpus.{OnCpu}
 use Rattle.passive_list.specs.Keepers.{OnKeeper}
 use Rattle.passive_list.specs.Logs.{HasOwnLog}
 use Rattle.passive_list.specs.Notes.{HasHeardOn, WasShown, HeardAndTold}
-use Rattle.name_registry.specs.Meeting.{HasLearned}
+use Rattle.name_registry.specs.Meeting.{HasLearned, IsNote}
 use Rattle.name_registry.specs.Auditing.{AreAllCpus, AreAlike, HasListened, HaveHeardAndTold, HaveLearned, IsShownOn, local_met, tallies_met, tally_by, tally_met}
 use Rattle.name_registry.proofs.Audits.{each_same}
 use Rattle.name_registry.proofs.Worked.{prefix_on}
-use Rattle.name_registry.proofs.Noted.{by_passing, no_notes}
+use Rattle.name_registry.proofs.Noted.{by_passing}
+use Rattle.passive_list.proofs.Logs.{no_more}
 
 at_within : (l : List OnCpu) (i : ℕ) (a : OnCpu) → get_elem? l i ≡ some a → i < length l
 at_within [] i a e = absurd (some-ne-none a (sym e))
@@ -148,7 +149,7 @@ learned_none xs = record {
   size = refl;
   each = λ c x y was now.
       let same : x ≡ y = some-injective x y (sym was ∙ now) in
-      subst (λ (z : OnCpu). HasLearned x z × (z.made ≡ x.made)) same (record { pass = ([], append-nil x.view.pass); known_log = ([], append-nil x.known_log); is = refl; log = no_notes x.view.id x.log }, refl);
+      subst (λ (z : OnCpu). HasLearned x z × (z.made ≡ x.made)) same (record { pass = ([], append-nil x.view.pass); known_log = ([], append-nil x.known_log); is = refl; log = no_more (IsNote x.view.id) x.log x.log refl }, refl);
 }
 
 there : (xs : List OnCpu) (c : ℕ) → c < length xs → (x : OnCpu) × (get_elem? xs c ≡ some x)

@@ -1,10 +1,17 @@
 -- A CPU's own log in a hold of the interlock: notes alone.
-use Rattle.std.proofs.Common.{◌≡◌, ◌∙◌, ℕ, List, [], ◌∷◌, ◌++◌, inl, inr, refl, sym, ap, append-nil, append_assoc, None}
+use Rattle.std.proofs.Common.{◌≡◌, ◌∙◌, All, List, ◌++◌, inl, inr, refl, ap, append_assoc, Option, Some, None}
+use Rattle.std.proofs.lemmas.List.Elements.{All-cons}
 use Rattle.registry_values.specs.declared.entry.Change.{Change}
-use Rattle.cpu_words.specs.declared.view.LogItem.{LogItem}
+use Rattle.protocol.specs.declared.event.Event.TheVariants.{Tell}
+use Rattle.protocol.specs.declared.event.Reply.TheVariants.{Done}
+use Rattle.cpu_words.specs.declared.view.Teller.{Teller}
+use Rattle.cpu_words.specs.KeeperLog.{has_heard_from}
+use Rattle.cpu_words.specs.Rule.{log_item}
 use Rattle.passive_list.specs.Cpus.{OnCpu}
 use Rattle.passive_list.specs.Notes.{HasHeardOn, cpu_after_tell, has_heard, has_told, HeardAndTold}
-use Rattle.name_registry.specs.Meeting.{AreNotes, GoesOnByNotes, tells_and_hears, tells_twice_and_hears}
+use Rattle.passive_list.specs.Logs.{GoesOnBy}
+use Rattle.passive_list.proofs.Logs.{one_item}
+use Rattle.name_registry.specs.Meeting.{IsNote, tells_and_hears, tells_twice_and_hears}
 
 -- the CPU x told, then it is n, and then it heard
 pub met : (x n y : OnCpu) → n ≡ cpu_after_tell x → y.log ≡ n.log ++ has_heard n None → y.log ≡ x.log ++ tells_and_hears x
@@ -25,26 +32,19 @@ heard_told_again h x y had = heard_told h x y (heard_told h (cpu_after_tell x) y
 
 -- Notes alone
 
-both_notes : (c : ℕ) (ds es : List LogItem) → AreNotes c ds → AreNotes c es → AreNotes c (ds ++ es)
-both_notes c [] es first then = then
-both_notes c (d ∷ ds) es first then = (first.0, both_notes c ds es first.1 then)
+heard_last : (x : OnCpu) (h : Option Teller) → All (IsNote x.view.id) (has_told x ++ has_heard x h)
+heard_last x h = All-cons (IsNote x.view.id) (log_item (Tell (Some x.view.id)) Done) (has_heard x h) (inl refl) (one_item (IsNote x.view.id) (has_heard_from (Some x.view.id) h) (inr (h, refl)))
 
-pub no_notes : (c : ℕ) (log : List LogItem) → GoesOnByNotes c log log
-no_notes c log = record { since = []; are = sym (append-nil log); only = tt }
+pub by_meeting : (x y : OnCpu) → y.log ≡ x.log ++ tells_and_hears x → GoesOnBy (IsNote x.view.id) x.log y.log
+by_meeting x y is = record { since = tells_and_hears x; are = is; only = heard_last x None }
 
-pub more_notes : (c : ℕ) (log between new : List LogItem) → GoesOnByNotes c log between → GoesOnByNotes c between new → GoesOnByNotes c log new
-more_notes c log between new first then = record {
-  since = first.since ++ then.since;
-  are = then.are ∙ ap (λ (ds : List LogItem). ds ++ then.since) first.are ∙ append_assoc log first.since then.since;
-  only = both_notes c first.since then.since first.only then.only;
-}
-
-pub by_meeting : (x y : OnCpu) → y.log ≡ x.log ++ tells_and_hears x → GoesOnByNotes x.view.id x.log y.log
-by_meeting x y is = record { since = tells_and_hears x; are = is; only = (inl refl, (inr (None, refl), tt)) }
-
-pub by_meeting_again : (x y : OnCpu) → y.log ≡ x.log ++ tells_twice_and_hears x → GoesOnByNotes x.view.id x.log y.log
-by_meeting_again x y is = record { since = tells_twice_and_hears x; are = is; only = (inl refl, (inl refl, (inr (None, refl), tt))) }
+pub by_meeting_again : (x y : OnCpu) → y.log ≡ x.log ++ tells_twice_and_hears x → GoesOnBy (IsNote x.view.id) x.log y.log
+by_meeting_again x y is = record { since = tells_twice_and_hears x; are = is; only = All-cons (IsNote x.view.id) (log_item (Tell (Some x.view.id)) Done) (has_told x ++ has_heard x None) (inl refl) (heard_last x None) }
 
 -- a note was passed on: heard and told
-pub by_passing : (x y : OnCpu) → HeardAndTold x y → GoesOnByNotes x.view.id x.log y.log
-by_passing x y is = record { since = has_heard x is.0 ++ has_told x; are = is.1 ∙ append_assoc x.log (has_heard x is.0) (has_told x); only = (inr (is.0, refl), (inl refl, tt)) }
+pub by_passing : (x y : OnCpu) → HeardAndTold x y → GoesOnBy (IsNote x.view.id) x.log y.log
+by_passing x y is = record {
+  since = has_heard x is.0 ++ has_told x;
+  are = is.1 ∙ append_assoc x.log (has_heard x is.0) (has_told x);
+  only = All-cons (IsNote x.view.id) (has_heard_from (Some x.view.id) is.0) (has_told x) (inr (is.0, refl)) (one_item (IsNote x.view.id) (log_item (Tell (Some x.view.id)) Done) (inl refl));
+}

@@ -20,10 +20,11 @@ use Rattle.passive_list.specs.Notes.{HasHeardOn}
 use Rattle.name_registry.specs.Attaching.{attach_answer, attach_iface_answer, given_entry, first_fit, room_of, HasAttachedFor, HasAttachedIfaceFor}
 use Rattle.name_registry.specs.Detaching.{IsDetachAnswer, IsDetachRefusal, HasDetachedFor}
 use Rattle.name_registry.specs.Locking.{MayAttach, IsAttachRefusal, IsDetachRefusedTo, IsPerformRefusal}
-use Rattle.name_registry.specs.Meeting.{is_inside, GoesOnByNotes, HasLearned, HasSeenAttach, HasSeenDetach}
+use Rattle.passive_list.specs.Logs.{GoesOnBy}
+use Rattle.name_registry.specs.Meeting.{is_inside, HasLearned, IsNote, HasSeenAttach, HasSeenDetach}
 use Rattle.name_registry.proofs.Noted.{by_meeting}
 
-pub learned : (note : List Change) (x y : OnCpu) → HasHeardOn note x y → GoesOnByNotes x.view.id x.log y.log → HasLearned x y
+pub learned : (note : List Change) (x y : OnCpu) → HasHeardOn note x y → GoesOnBy (IsNote x.view.id) x.log y.log → HasLearned x y
 learned note x y has log =
     let note_is = ap (λ (o : OnCpu). o.view.noted_pass) has.is in
     let made_is = ap (λ (o : OnCpu). o.made) has.is in

@@ -23,12 +23,14 @@ use Rattle.passive_list.specs.Cpus.{OnCpu}
 use Rattle.passive_list.specs.Notes.{as_teller, cpu_after_tell}
 use Rattle.passive_list.specs.Keepers.{OnKeeper}
 use Rattle.passive_list.proofs.Walking.{prefix_trans}
-use Rattle.name_registry.specs.Meeting.{GoesOnByNotes, HasLearned, hears_cpu, keeper_after_hear}
+use Rattle.name_registry.specs.Meeting.{HasLearned, IsNote, hears_cpu, keeper_after_hear}
 use Rattle.name_registry.specs.Performing.{Finishes, GlancesBelow, GlancesOnce, HasPerformed, HasSeenAllOut, Hold, Looking, SnapshotsBelow, SomeBegan, SomeGlanced, SomePassed, TurnsWaiting, is_seen, none_seen, word_of}
 use Rattle.name_registry.proofs.Owned.{learned}
 use Rattle.name_registry.proofs.Passed.{IsReady, Passing, onward_below, passed_end, ready}
 use Rattle.name_registry.proofs.Worked.{prefix_on}
-use Rattle.name_registry.proofs.Noted.{by_meeting, by_meeting_again, more_notes, no_notes}
+use Rattle.name_registry.proofs.Noted.{by_meeting, by_meeting_again}
+use Rattle.passive_list.specs.Logs.{GoesOnBy}
+use Rattle.passive_list.proofs.Logs.{goes_on, no_more}
 
 -- What stands in a log
 
@@ -331,7 +333,7 @@ abbrev pub Learns : OnCpu → OnCpu → Type 0
 Learns x y = HasLearned x y × (y.made ≡ x.made)
 
 pub learns_none : (x : OnCpu) → Learns x x
-learns_none x = (record { pass = ([], append-nil x.view.pass); known_log = ([], append-nil x.known_log); is = refl; log = no_notes x.view.id x.log }, refl)
+learns_none x = (record { pass = ([], append-nil x.view.pass); known_log = ([], append-nil x.known_log); is = refl; log = no_more (IsNote x.view.id) x.log x.log refl }, refl)
 
 pub learns_more : (x m y : OnCpu) → Learns x m → Learns m y → Learns x y
 learns_more x m y first second = (
@@ -339,7 +341,7 @@ learns_more x m y first second = (
     pass = prefix_trans x.view.pass m.view.pass y.view.pass first.0.pass second.0.pass;
     known_log = (first.0.known_log.0 ++ second.0.known_log.0, sym (append_assoc x.known_log first.0.known_log.0 second.0.known_log.0) ∙ (ap (λ (l : List LogItem). l ++ second.0.known_log.0) first.0.known_log.1 ∙ second.0.known_log.1));
     is = second.0.is ∙ ap (λ (o : OnCpu). record o { view = record o.view { pass = y.view.pass; noted_pass = y.view.noted_pass }; made = y.made; known_log = y.known_log; log = y.log }) first.0.is;
-    log = more_notes x.view.id x.log m.log y.log first.0.log (subst (λ (c : ℕ). GoesOnByNotes c m.log y.log) (ap (λ (o : OnCpu). o.view.id) first.0.is) second.0.log);
+    log = goes_on (IsNote x.view.id) x.log m.log y.log first.0.log (subst (λ (c : ℕ). GoesOnBy (IsNote c) m.log y.log) (ap (λ (o : OnCpu). o.view.id) first.0.is) second.0.log);
   },
   second.1 ∙ first.1,
 )

@@ -79,16 +79,9 @@ abbrev pub looked_at : ℕ → Option ℕ → ℕ
 looked_at cpus None = cpus
 looked_at cpus (Some c) = suc c
 
--- these are looks for the slot t alone
-abbrev pub AreLooks : ℕ → List LogItem → Type 0
-AreLooks t [] = Unit {0}
-AreLooks t (d ∷ ds) = ((c : ℕ) × (w : ℕ) × (d ≡ has_looked t c w)) × AreLooks t ds
-
--- the log went on by such looks
-pub record GoesOnByLooks (t : ℕ) (old new : List LogItem) : Type 0 where
-  pub since : List LogItem
-  pub are : new ≡ old ++ since
-  pub only : AreLooks t since
+-- a look for the slot t
+abbrev pub IsLook : ℕ → LogItem → Type 0
+IsLook t d = (c : ℕ) × (w : ℕ) × (d ≡ has_looked t c w)
 
 -- what is so of the marks of the first n CPUs for the slot t
 

@@ -12,6 +12,7 @@ use Rattle.cpu_words.specs.Notes.{keeper_with_note}
 use Rattle.cpu_words.specs.Rule.{did, log_item}
 use Rattle.passive_list.specs.Cpus.{OnCpu, OnPlainCpu}
 use Rattle.passive_list.specs.Keepers.{OnKeeper, OnPlainKeeper}
+use Rattle.passive_list.specs.Logs.{GoesOnBy}
 use Rattle.passive_list.specs.Notes.{as_teller, has_heard, has_told}
 
 -- both are of the tables that they were of
@@ -45,22 +46,12 @@ tells_twice_and_hears x = has_told x ++ has_told x ++ has_heard x None
 abbrev pub IsNote : ℕ → LogItem → Type 0
 IsNote c d = (d ≡ log_item (Tell (Some c)) Done) ⊎ ((h : Option Teller) × (d ≡ has_heard_from (Some c) h))
 
-abbrev pub AreNotes : ℕ → List LogItem → Type 0
-AreNotes c [] = Unit {0}
-AreNotes c (d ∷ ds) = IsNote c d × AreNotes c ds
-
--- the log went on by such notes
-pub record GoesOnByNotes (c : ℕ) (old new : List LogItem) : Type 0 where
-  pub since : List LogItem
-  pub are : new ≡ old ++ since
-  pub only : AreNotes c since
-
 -- the CPU's pass has grown, and its known log, by notes alone, and nothing else of it changed but the pass noted beside its view, and what its calls have made
 pub record HasLearned (x y : OnCpu) : Type 0 where
   pub pass : IsPrefix x.view.pass y.view.pass
   pub known_log : IsPrefix x.known_log y.known_log
   pub is : y ≡ record x { view = record x.view { pass = y.view.pass; noted_pass = y.view.noted_pass }; made = y.made; known_log = y.known_log; log = y.log }
-  pub log : GoesOnByNotes x.view.id x.log y.log
+  pub log : GoesOnBy (IsNote x.view.id) x.log y.log
 
 -- the attach of e stands after all that the CPU had seen, and the CPU has seen it, by one note to the keeper and one from it
 pub record HasSeenAttach (x y : OnCpu) (e : Entry) : Type 0 where

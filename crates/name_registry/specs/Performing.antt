@@ -23,7 +23,8 @@ use Rattle.passive_list.specs.Cpus.{OnCpu}
 use Rattle.passive_list.specs.Keepers.{OnKeeper}
 use Rattle.passive_list.specs.Logs.{HasOwnLog}
 use Rattle.passive_list.specs.Notes.{HasHeardOn, as_teller, cpu_after_tell}
-use Rattle.name_registry.specs.Advancing.{GoesOnByLooks, HasLookedFor, MeetsGrace, PassedBelow}
+use Rattle.name_registry.specs.Advancing.{IsLook, HasLookedFor, MeetsGrace, PassedBelow}
+use Rattle.passive_list.specs.Logs.{GoesOnBy}
 use Rattle.name_registry.specs.Meeting.{hears_cpu, keeper_after_hear, keeper_after_tell, tells_and_hears, tells_twice_and_hears}
 
 -- The keeper's looks for no entry
@@ -96,7 +97,7 @@ pub record HasGlanced (z : Settings) (snapshots : List ℕ) (a : OnKeeper) (x : 
 -- the retired entry in the slot t was looked at for each CPU that hadn't passed: all have passed now, or the section of its snapshot is open still on one
 pub record HasPassedFor (z : Settings) (a : OnKeeper) (t : ℕ) (b : OnKeeper) : Type 0 where
   pub leaves : HasLookedFor a t b
-  pub log : GoesOnByLooks t a.log b.log
+  pub log : GoesOnBy (IsLook t) a.log b.log
   pub met : PassedBelow b.view t z.cpus ⊎ ((c : ℕ) × MeetsGrace a t c b)
 
 -- where the entry is still retired there

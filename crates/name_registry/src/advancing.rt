@@ -7,7 +7,8 @@ ghost use Rattle.registry_values.specs.Slots.{retired_slot, slot_at};
 ghost use Rattle.protocol.specs.State.{mark_at};
 ghost use Rattle.cpu_words.specs.Domains.{AreWordsOf};
 ghost use Rattle.passive_list.specs.Vacating.{IsDrainedOn};
-ghost use Rattle.name_registry.specs.Advancing.{HasAdvanced, Meets, MeetsGrace, MeetsPassive, HasLookedFor, HasWorkedFor, GoesOnByLooks, LooksBelow, LooksUnless, MayWork, SeesSection, SeesPassive, Settles, HasEnded, PassedBelow, ClearBelow, CollectedBelow, is_retired_row, looked_at};
+ghost use Rattle.passive_list.specs.Logs.{GoesOnBy};
+ghost use Rattle.name_registry.specs.Advancing.{HasAdvanced, Meets, MeetsGrace, MeetsPassive, HasLookedFor, HasWorkedFor, IsLook, LooksBelow, LooksUnless, MayWork, SeesSection, SeesPassive, Settles, HasEnded, PassedBelow, ClearBelow, CollectedBelow, is_retired_row, looked_at};
 ghost use Rattle.name_registry.specs.Locking.{IsStageOf};
 
 use cpu_words::Words;
@@ -77,7 +78,7 @@ pub(crate) fn look_at_all(words: &Words, keeper: &mut Keeper, slot: u8) -> Optio
     ensures passed { result ≡ None → PassedBelow keeper.new.keeper.view slot words.now.settings.cpus }
     ensures leaves { HasLookedFor keeper.old.keeper slot keeper.new.keeper }
     ensures looks { LooksBelow (looked_at words.now.settings.cpus result) keeper.old.keeper slot keeper.new.keeper }
-    ensures log { GoesOnByLooks slot keeper.old.keeper.log keeper.new.keeper.log }
+    ensures log { GoesOnBy (IsLook slot) keeper.old.keeper.log keeper.new.keeper.log }
     ensures words { keeper.new.words ≡ keeper.old.words }
 {
     for cpu in 0..keeper.settings().cpus {

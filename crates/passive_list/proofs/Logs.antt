@@ -1,7 +1,8 @@
--- What the keeper's log says of the keeper: of its rows too.
-use Rattle.std.proofs.Common.{◌≡◌, ⊎_elim, ℕ, ◌<◌, ◌≤◌, List, Some, true, sym, ap, ◌∙◌, subst, arith}
+-- How a log goes on, and what the keeper's log says of the keeper: of its rows too.
+use Rattle.std.proofs.Common.{◌≡◌, ⊎_elim, ℕ, ◌<◌, ◌≤◌, All, List, [], ◌∷◌, ◌++◌, Some, true, refl, sym, ap, ◌∙◌, subst, append-nil, append_assoc, arith}
 use Rattle.std.proofs.lemmas.Bool.{cases_lt}
 use Rattle.std.proofs.lemmas.List.{get_or_past, length-map}
+use Rattle.std.proofs.lemmas.List.Elements.{All-append, All-cons}
 use Rattle.registry_values.specs.declared.entry.Entry.{Entry}
 use Rattle.registry_values.specs.declared.mark.Mark.{Mark}
 use Rattle.registry_values.specs.declared.settings.Settings.{Settings}
@@ -17,8 +18,27 @@ use Rattle.cpu_words.specs.Notes.{keeper_with_note}
 use Rattle.cpu_words.proofs.by_keeper.KeeperSees.{seen_by_keeper}
 use Rattle.passive_list.specs.declared.keeper.KeptSlot.{KeptSlot}
 use Rattle.passive_list.specs.Keepers.{state_of, states_of, IsOurKeeper}
-use Rattle.passive_list.specs.Logs.{HasOwnLog}
+use Rattle.passive_list.specs.Logs.{GoesOnBy, HasOwnLog}
 use Rattle.passive_list.proofs.Rows.{live_in, retired_in, slots_agree}
+
+no_item : (P : LogItem → Type 0) → All P []
+no_item P = λ k d lt. absurd (omega (arith, lt))
+
+pub one_item : (P : LogItem → Type 0) (d : LogItem) → P d → All P (d ∷ [])
+one_item P d is = All-cons P d [] is (no_item P)
+
+pub no_more : (P : LogItem → Type 0) (log new : List LogItem) → new ≡ log → GoesOnBy P log new
+no_more P log new same = record { since = []; are = same ∙ sym (append-nil log); only = no_item P }
+
+pub one_more : (P : LogItem → Type 0) (d : LogItem) (log new : List LogItem) → P d → new ≡ log ++ d ∷ [] → GoesOnBy P log new
+one_more P d log new is more = record { since = d ∷ []; are = more; only = one_item P d is }
+
+pub goes_on : (P : LogItem → Type 0) (log between new : List LogItem) → GoesOnBy P log between → GoesOnBy P between new → GoesOnBy P log new
+goes_on P log between new first next = record {
+  since = first.since ++ next.since;
+  are = next.are ∙ ap (λ (ds : List LogItem). ds ++ next.since) first.are ∙ append_assoc log first.since next.since;
+  only = All-append P first.since next.since first.only next.only;
+}
 
 -- the entry of a slot that is retired was snapped on each CPU, as the keeper is at rest
 snapped_at : (a : Settings) (k : KeeperView) (rows : List KeptSlot) (n t c : ℕ) (e : Entry) → IsOurKeeper a k rows n → slot_at k.slots t ≡ Retired e → c < a.cpus

@@ -1,7 +1,7 @@
 -- A search's events, load by load.
 use Rattle.std.proofs.Common.{◌≡◌, ◌∙◌, ⊎_elim, ℕ, ◌+◌, ◌*◌, ◌≤◌, List, [], ◌∷◌, ◌++◌, Option, Some, None, inl, inr, refl, sym, ap, subst, append_assoc, arith}
 use Rattle.std.proofs.lemmas.List.{length-append, map-append}
-use Rattle.std.proofs.lemmas.List.Elements.{Contains-push, Contains-append_left, Contains-append_cases}
+use Rattle.std.proofs.lemmas.List.Elements.{All-append, Contains-push, Contains-append_left, Contains-append_cases}
 use Rattle.std.specs.List.{Contains}
 use Rattle.registry_values.specs.declared.entry.Entry.{Entry}
 use Rattle.registry_values.specs.declared.entry.Kind.{Kind}
@@ -15,25 +15,22 @@ use Rattle.protocol.specs.declared.event.Reply.TheVariants.{Done, Found}
 use Rattle.cpu_words.specs.declared.view.LogItem.{LogItem}
 use Rattle.cpu_words.specs.Rule.{did}
 use Rattle.cpu_words.specs.Searching.{key_with, link_answer}
-use Rattle.passive_list.specs.Searches.{AreLoads, GoesOnByLoads, HasSearchedFor, SearchesOnce, Lookup, SearchesEach, found_by_name, LooksUpEach}
-
-both_loads : (c : ℕ) (ds es : List LogItem) → AreLoads c ds → AreLoads c es → AreLoads c (ds ++ es)
-both_loads c [] es first then = then
-both_loads c (d ∷ ds) es first then = (first.0, both_loads c ds es first.1 then)
+use Rattle.passive_list.proofs.Logs.{one_item}
+use Rattle.passive_list.specs.Searches.{IsLoad, GoesOnByLoads, HasSearchedFor, SearchesOnce, Lookup, SearchesEach, found_by_name, LooksUpEach}
 
 pub more_loads : (c m n : ℕ) (old between new : List LogItem) → GoesOnByLoads c m old between → GoesOnByLoads c n between new → GoesOnByLoads c (m + n) old new
 more_loads c m n old between new first then = record {
   since = first.since ++ then.since;
   are = then.are ∙ ap (λ (ds : List LogItem). ds ++ then.since) first.are ∙ append_assoc old first.since then.since;
-  only = both_loads c first.since then.since first.only then.only;
+  only = All-append (IsLoad c) first.since then.since first.only then.only;
   count = let both = length-append first.since then.since in omega (arith, both, first.count, then.count);
 }
 
 pub link_loaded : (c : ℕ) (reply : Reply) (old new : List LogItem) → new ≡ old ++ did (LoadLink c) reply → GoesOnByLoads c 1 old new
-link_loaded c reply old new is = record { since = did (LoadLink c) reply; are = is; only = (inl refl, tt); count = refl }
+link_loaded c reply old new is = record { since = did (LoadLink c) reply; are = is; only = one_item (IsLoad c) _ (inl refl); count = refl }
 
 pub word_loaded : (c : ℕ) (reply : Reply) (old new : List LogItem) → new ≡ old ++ did (LoadRecord (OfSearch c)) reply → GoesOnByLoads c 1 old new
-word_loaded c reply old new is = record { since = did (LoadRecord (OfSearch c)) reply; are = is; only = (inr refl, tt); count = refl }
+word_loaded c reply old new is = record { since = did (LoadRecord (OfSearch c)) reply; are = is; only = one_item (IsLoad c) _ (inr refl); count = refl }
 
 pub so_many : (c m n : ℕ) (old new : List LogItem) → m ≡ n → GoesOnByLoads c m old new → GoesOnByLoads c n old new
 so_many c m n old new same goes = subst (λ (k : ℕ). GoesOnByLoads c k old new) same goes

@@ -1,5 +1,6 @@
--- What the keeper's log says of the keeper, as it is told whenever the keeper hears.
-use Rattle.std.specs.Prelude.{◌≡◌, ℕ, ◌<◌, List, length}
+-- How a seat's log goes on, and what the keeper's log says of the keeper, as it is told whenever the keeper hears.
+use Rattle.std.specs.Prelude.{◌≡◌, ℕ, ◌<◌, List, ◌++◌, length}
+use Rattle.std.specs.List.{All}
 use Rattle.registry_values.specs.declared.entry.Change.{Change}
 use Rattle.registry_values.specs.declared.entry.Entry.{Entry}
 use Rattle.registry_values.specs.declared.settings.Settings.{Settings}
@@ -7,10 +8,17 @@ use Rattle.registry_values.specs.declared.slot.Slot.TheVariants.{Retired}
 use Rattle.registry_values.specs.Slots.{slot_at}
 use Rattle.registry_values.specs.declared.settings.TheConstants.{MOST_SLOTS}
 use Rattle.protocol.specs.declared.state.Due.TheVariants.{Rest}
+use Rattle.cpu_words.specs.declared.view.LogItem.{LogItem}
 use Rattle.cpu_words.specs.declared.view.View.TheVariants.{Keeper}
 use Rattle.cpu_words.specs.KeeperLog.{changes_in, occupant, occupant_of, IsSnapped, AreMarksOf, AreSlotsOf, IsShownAfter, WordsGrow}
 use Rattle.cpu_words.specs.Notes.{keeper_with_note}
 use Rattle.passive_list.specs.Keepers.{OnKeeper}
+
+-- the log went on, and so is each item since
+pub record GoesOnBy (P : LogItem → Type 0) (old new : List LogItem) : Type 0 where
+  pub since : List LogItem
+  pub are : new ≡ old ++ since
+  pub only : All P since
 
 -- The keeper is at rest. The history is as long as the log says, the marks, the slots and their entries, as the keeper has them, are in it, each retired entry was snapped on each CPU, and the words that were found grow
 pub record HasOwnLog (z : Settings) (a : OnKeeper) : Type 0 where

@@ -1,6 +1,6 @@
 -- Which events a search makes, by the log of the CPU's seat: it begins once, then there are loads alone, and the last one replies its answer.
 use Rattle.std.specs.Prelude.{◌≡◌, ◌⊎◌, ℕ, ◌+◌, ◌*◌, ◌≤◌, List, [], ◌∷◌, ◌++◌, length, map, Option, Some, None}
-use Rattle.std.specs.List.{Contains}
+use Rattle.std.specs.List.{All, Contains}
 use Rattle.registry_values.specs.declared.entry.Kind.TheVariants.{Iface}
 use Rattle.registry_values.specs.declared.entry.Entry.{Entry}
 use Rattle.registry_values.specs.declared.slot.Key.{Key}
@@ -19,15 +19,11 @@ nobody = record { kind = Iface; name = record { high = 0; low = 0 } }
 abbrev pub IsLoad : ℕ → LogItem → Type 0
 IsLoad c d = (d.event ≡ LoadLink c) ⊎ (d.event ≡ LoadRecord (OfSearch c))
 
-abbrev pub AreLoads : ℕ → List LogItem → Type 0
-AreLoads c [] = Unit {0}
-AreLoads c (d ∷ ds) = IsLoad c d × AreLoads c ds
-
 -- the log went on by n such loads
 pub record GoesOnByLoads (c n : ℕ) (old new : List LogItem) : Type 0 where
   pub since : List LogItem
   pub are : new ≡ old ++ since
-  pub only : AreLoads c since
+  pub only : All (IsLoad c) since
   pub count : length since ≡ n
 
 -- It went on by one search for the key: the search begins, and there are one load and five for each of so many entries. Which loads these are the words allow alone.

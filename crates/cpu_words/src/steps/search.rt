@@ -11,7 +11,7 @@ ghost use Rattle.cpu_words.specs.Steps.{Makes, SeatGoesOn, SeatMakes};
 ghost use Rattle.cpu_words.specs.Searching.{MaySeek, key_with, search_for, cpu_after_seek, MayLoadLink, link_answer, HasFollowed, HasLoadedLink, MayLoadSearched, loaded_of, loaded_answer, HasLoadedWord};
 
 use crate::law::Words;
-use crate::layout::{HEAD, place_behind, record_place};
+use crate::layout::{HEAD, linked_place, record_place};
 use crate::operations::by_cpu;
 use crate::seat::CpuSeat;
 use protocol::{Event, RecordOf};
@@ -43,7 +43,7 @@ pub fn load_link(words: &Words, seat: &mut CpuSeat, cpu: u8, link: u64) -> u64
     ensures step { SeatMakes Cpu (LoadLink cpu) (link_answer result) seat.old seat.new }
     ensures change { HasLoadedLink seat.old.view result seat.new.view }
 {
-    by_cpu::load::<Brand>(words, seat, place_behind(link), Event::LoadLink(cpu))
+    by_cpu::load::<Brand>(words, seat, linked_place(link), Event::LoadLink(cpu))
 }
 
 /// The search of CPU `cpu` loads record word `k` of `slot`: 0 the number, 1 the kind, 2 and 3 the words of the name, and where these

@@ -2,8 +2,9 @@ use Rattle.std.proofs.Common.{◌≡◌, ◌∙◌, true, sym, subst, ◌<◌}
 use borrow.Author.Count.{below_more}
 use Rattle.registry_values.specs.declared.settings.Settings.{Settings}
 use Rattle.protocol.specs.State.{mark_at}
-use Rattle.name_registry.specs.Advancing.{MayWork}
-use Rattle.name_registry.proofs.Looks.{look_goes_on, looks_go_on, looks_more, more_looks}
+use Rattle.passive_list.proofs.Logs.{goes_on}
+use Rattle.name_registry.specs.Advancing.{IsLook, MayWork}
+use Rattle.name_registry.proofs.Looks.{look_goes_on, looks_go_on, looks_more}
 use Rattle.name_registry.proofs.Seen.{grace_met}
 use Rattle.name_registry.proofs.Worked.{may_work, still_works, looked_more, still_passed}
 use Rattle.name_registry.proofs.advancing.look_at_all.Goals as goal
@@ -39,7 +40,7 @@ returns-then-not-passes-clause-log c =
     let l = c.loop-cpu in
     let a = c.args.keeper.now.keeper in
     let t = c.args.slot in
-    more_looks t a.log l.keeper.keeper.log c.passes.new.keeper.keeper.log (looks_go_on l.cpu a t l.keeper.keeper l.invariant.looks) (look_goes_on _ l.keeper.keeper t l.cpu c.passes.new.keeper.keeper c.passes.ensures.looks)
+    goes_on (IsLook t) a.log l.keeper.keeper.log c.passes.new.keeper.keeper.log (looks_go_on l.cpu a t l.keeper.keeper l.invariant.looks) (look_goes_on _ l.keeper.keeper t l.cpu c.passes.new.keeper.keeper c.passes.ensures.looks)
 
 pub returns-clause-log : goal.returns-clause-log
 returns-clause-log c = looks_go_on c.loop-cpu.cpu c.args.keeper.now.keeper c.args.slot c.loop-cpu.keeper.keeper c.loop-cpu.invariant.looks

@@ -4,7 +4,7 @@ use Rattle.cpu_words.specs.Logs.{the_cpu}
 use Rattle.cpu_words.proofs.steps.search.load_link.Goals as goal
 
 pub load-requires-clause-may : goal.load-requires-clause-may
-load-requires-clause-may c = rw c.place_behind.ensures.place (load_link_may _ _ _ _ c.requires.cpu.1 c.requires.may)
+load-requires-clause-may c = rw c.linked_place.ensures.place (load_link_may _ _ _ _ c.requires.cpu.1 c.requires.may)
 
 pub load-requires-clause-own : goal.load-requires-clause-own
 load-requires-clause-own c n = (ap the_cpu (sym c.requires.cpu.1), tt)
