@@ -7,12 +7,11 @@ use Rattle.registry_values.proofs.Answers.{same_test}
 use Rattle.protocol.specs.declared.event.Event.TheVariants.{Enter}
 use Rattle.protocol.specs.declared.event.Reply.TheVariants.{Done}
 use Rattle.cpu_words.specs.declared.view.CpuView.{CpuView}
-use Rattle.cpu_words.specs.declared.view.LogItem.{LogItem}
 use Rattle.cpu_words.specs.declared.view.View.TheVariants.{Cpu}
 use Rattle.cpu_words.specs.Rule.{did}
 use Rattle.cpu_words.specs.Sections.{HasEntered}
-use Rattle.cpu_words.specs.Steps.{Makes}
-use Rattle.cpu_words.specs.Views.{depth_of}
+use Rattle.cpu_words.specs.Steps.{SeatMakes}
+use Rattle.cpu_words.specs.Views.{Seated, depth_of}
 use Rattle.passive_list.specs.declared.place.Found.{Found}
 use Rattle.passive_list.specs.declared.place.NumberedCount.{NumberedCount}
 use Rattle.passive_list.specs.Cpus.{OnCpu, IsOurCpu}
@@ -35,22 +34,21 @@ may_begin_is z a t x c w d e ps ns limit our is =
 pub unspent : (z : TableId) (a : Settings) (t : TableId) (x : CpuView) (c w d : ℕ) (e : Found) (ps ns : List NumberedCount) → IsOurCpu z a t x c w d e ps ns → IsTrue (may_begin x) → w < a.section_limit
 unspent z a t x c w d e ps ns our may = ltb-true w a.section_limit (may_begin_is z a t x c w d e ps ns a.section_limit our refl ∙ may)
 
--- a CPU that names its own table, to a contract
-abbrev pub cpu_at : CpuView → ℕ → List LogItem → List LogItem → OnCpu
-cpu_at x depth known log = record { view = x; depth = depth; made = 0; known_log = known; log = log }
+-- a CPU that names its own table, to a contract, by its seat
+abbrev pub cpu_at : Seated CpuView → ℕ → OnCpu
+cpu_at s depth = record { view = s.view; depth = depth; made = 0; known_log = s.known_log; log = s.log }
 
 -- a section begins by the step
-pub entered_on : (a : OnCpu) (x y : CpuView) (c d n : ℕ) (l m p q : List LogItem) → cpu_at x d l p ≡ a → x.id ≡ c → d ≡ 0 → n ≡ d + 1
-    → Makes (Enter c) Done (Cpu x) (Cpu y) → HasEntered x y → m ≡ l → q ≡ p ++ did (Enter c) Done → HasEnteredOn a (cpu_at y n m q)
-entered_on a x y c d n l m p q at id shallow one made entered known log =
-    let had : HasEnteredOn (cpu_at x d l p) (cpu_at y n m q) = record {
+pub entered_on : (a : OnCpu) (s t : Seated CpuView) (c d n : ℕ) → cpu_at s d ≡ a → s.view.id ≡ c → d ≡ 0 → n ≡ d + 1 → SeatMakes Cpu (Enter c) Done s t → HasEntered s.view t.view → HasEnteredOn a (cpu_at t n)
+entered_on a s t c d n at id shallow one made entered =
+    let had : HasEnteredOn (cpu_at s d) (cpu_at t n) = record {
       begun = λ _. entered;
-      whole = λ _. entered_whole c x y id made;
+      whole = λ _. entered_whole c s.view t.view id made.event;
       inner = λ off. absurd (off shallow);
       depth = one;
       made = refl;
-      known_log = known;
-      event = λ _. log ∙ ap (λ (i : ℕ). p ++ did (Enter i) Done) (sym id);
+      known_log = made.known_log;
+      event = λ _. made.log ∙ ap (λ (i : ℕ). s.log ++ did (Enter i) Done) (sym id);
       none = λ off. absurd (off shallow);
     } in
-    subst (λ (b : OnCpu). HasEnteredOn b (cpu_at y n m q)) at had
+    subst (λ (b : OnCpu). HasEnteredOn b (cpu_at t n)) at had

@@ -8,10 +8,10 @@ use Rattle.protocol.specs.declared.event.Event.TheVariants.{Enter, Exit}
 use Rattle.protocol.specs.declared.event.Reply.TheVariants.{Done}
 use Rattle.protocol.specs.declared.state.Search.{Search}
 use Rattle.cpu_words.specs.declared.view.CpuView.{CpuView}
-use Rattle.cpu_words.specs.declared.view.LogItem.{LogItem}
 use Rattle.cpu_words.specs.declared.view.View.TheVariants.{Cpu}
 use Rattle.cpu_words.specs.Rule.{IsShownCpu, did}
-use Rattle.cpu_words.specs.Steps.{Makes}
+use Rattle.cpu_words.specs.Steps.{Makes, SeatMakes}
+use Rattle.cpu_words.specs.Views.{Seated}
 use Rattle.cpu_words.specs.Searching.{MaySeek}
 use Rattle.cpu_words.specs.Sections.{IsIdle, HasEntered, MayExit, HasExited}
 use Rattle.passive_list.specs.declared.place.Found.{Found}
@@ -84,26 +84,26 @@ from_outside_agrees z a t u x y v w c n m d e f ps ns key our same shallow unend
 
 -- To a contract
 
-pub found_from_outside : (key : Key) (a : OnCpu) (x y v w : CpuView) (c d : ℕ) (l m n o p q r s : List LogItem) (f : Option Entry)
-    → cpu_at x d l p ≡ a → IsIdle x → x.id ≡ c → d ≡ 0 → Makes (Enter c) Done (Cpu x) (Cpu y) → HasEntered x y → HasLookedUp key y v f → HasExited v w → m ≡ l → n ≡ m → o ≡ n
-    → q ≡ p ++ did (Enter c) Done → SearchesOnce c y.settings.slots key f q r → s ≡ r ++ did (Exit c) Done → HasFoundFromOutside key a (cpu_at w d o s) f
-found_from_outside key a x y v w c d l m n o p q r s f at idle id shallow made entered looked exited known1 known2 known3 log1 log2 log3 =
+pub found_from_outside : (key : Key) (a : OnCpu) (x y v w : Seated CpuView) (c d : ℕ) (f : Option Entry)
+    → cpu_at x d ≡ a → IsIdle x.view → x.view.id ≡ c → d ≡ 0 → SeatMakes Cpu (Enter c) Done x y → HasEntered x.view y.view → HasLookedUp key y.view v.view f → v.known_log ≡ y.known_log → SearchesOnce c y.view.settings.slots key f y.log v.log
+    → SeatMakes Cpu (Exit c) Done v w → HasExited v.view w.view → HasFoundFromOutside key a (cpu_at w d) f
+found_from_outside key a x y v w c d f at idle id shallow enters entered looked known log exits exited =
     let one : d + 1 ≡ 1 = omega (arith, shallow) in
-    let same : y.search ≡ None = ap (λ (i : CpuView). i.search) entered.1 ∙ idle.search in
-    let is : v ≡ record y { pass = v.pass; found = f } = looked.is ∙ ap (λ (s : Option Search). record y { pass = v.pass; search = s; found = f }) (sym same) in
-    let y_id : y.id ≡ c = entered_id x y entered ∙ id in
-    let v_id : v.id ≡ c = looked_up_id key y v f looked ∙ y_id in
-    let had : HasFoundFromOutside key (cpu_at x d l p) (cpu_at w d o s) f = record {
-      first = cpu_at y (d + 1) m q;
-      last = cpu_at v (d + 1) n r;
-      enters = entered_on (cpu_at x d l p) x y c d (d + 1) l m p q refl id shallow refl made entered known1 log1;
+    let same : y.view.search ≡ None = ap (λ (i : CpuView). i.search) entered.1 ∙ idle.search in
+    let is : v.view ≡ record y.view { pass = v.view.pass; found = f } = looked.is ∙ ap (λ (s : Option Search). record y.view { pass = v.view.pass; search = s; found = f }) (sym same) in
+    let y_id : y.view.id ≡ c = entered_id x.view y.view entered ∙ id in
+    let v_id : v.view.id ≡ c = looked_up_id key y.view v.view f looked ∙ y_id in
+    let had : HasFoundFromOutside key (cpu_at x d) (cpu_at w d) f = record {
+      first = cpu_at y (d + 1);
+      last = cpu_at v (d + 1);
+      enters = entered_on (cpu_at x d) x y c d (d + 1) refl id shallow refl enters entered;
       finds = record {
         pass = looked.pass;
-        is = λ i. record { view = is i; depth = d + 1; made = 0; known_log = known2 i; log = r };
+        is = λ i. record { view = is i; depth = d + 1; made = 0; known_log = known i; log = v.log };
         lawful = looked.lawful;
         seen = λ e is_e. (looked.seen e is_e).1;
-        log = subst (λ (i : ℕ). SearchesOnce i y.settings.slots key f q r) (sym y_id) log2;
+        log = subst (λ (i : ℕ). SearchesOnce i y.view.settings.slots key f y.log v.log) (sym y_id) log;
       };
-      exits = record { ended = λ _. exited; inner = λ off. absurd (off one); depth = refl; made = refl; known_log = known3; event = λ _. log3 ∙ ap (λ (i : ℕ). r ++ did (Exit i) Done) (sym v_id); none = λ off. absurd (off one) };
+      exits = record { ended = λ _. exited; inner = λ off. absurd (off one); depth = refl; made = refl; known_log = exits.known_log; event = λ _. exits.log ∙ ap (λ (i : ℕ). v.log ++ did (Exit i) Done) (sym v_id); none = λ off. absurd (off one) };
     } in
-    subst (λ (b : OnCpu). HasFoundFromOutside key b (cpu_at w d o s) f) at had
+    subst (λ (b : OnCpu). HasFoundFromOutside key b (cpu_at w d) f) at had

@@ -20,7 +20,7 @@ invariant_of-cpu c =
 pub returns-in_default-clause-found : goal.returns-in_default-clause-found
 returns-in_default-clause-found c =
     let shallow : c.cpu.inside.depth ≡ 0 = ap (λ (o : OnPlainCpu). o.cpu.depth) c.cpu.view_is ∙ c.requires.outside in
-    found_from_outside (key_with c.args.kind c.args.name) _ _ _ _ _ _ _ _ _ _ _ _ _ _ _ _ (ap (λ (o : OnPlainCpu). o.cpu) c.cpu.view_is) c.cpu.invariant.idle c.cpu.invariant.id shallow c.enter.ensures.step.event c.enter.ensures.change c.in_default.ensures.change c.exit_counted.ensures.change c.enter.ensures.step.known_log c.in_default.ensures.known_log c.exit_counted.ensures.step.known_log c.enter.ensures.step.log c.in_default.ensures.log c.exit_counted.ensures.step.log
+    found_from_outside (key_with c.args.kind c.args.name) _ _ _ _ _ _ _ _ (ap (λ (o : OnPlainCpu). o.cpu) c.cpu.view_is) c.cpu.invariant.idle c.cpu.invariant.id shallow c.enter.ensures.step c.enter.ensures.change c.in_default.ensures.change c.in_default.ensures.known_log c.in_default.ensures.log c.exit_counted.ensures.step c.exit_counted.ensures.change
 
 pub exit_counted-requires-2-clause-may : goal.exit_counted-requires-2-clause-may
 exit_counted-requires-2-clause-may c = may_exit (key_with c.args.kind c.args.name) _ _ _ (may_seek _ _ c.cpu.invariant.idle c.enter.ensures.change) c.in-Some.ensures.change
@@ -34,7 +34,7 @@ invariant_of-cpu-2 c =
 pub returns-clause-found : goal.returns-clause-found
 returns-clause-found c =
     let shallow : c.cpu.inside.depth ≡ 0 = ap (λ (o : OnPlainCpu). o.cpu.depth) c.cpu.view_is ∙ c.requires.outside in
-    found_from_outside (key_with c.args.kind c.args.name) _ _ _ _ _ _ _ _ _ _ _ _ _ _ _ _ (ap (λ (o : OnPlainCpu). o.cpu) c.cpu.view_is) c.cpu.invariant.idle c.cpu.invariant.id shallow c.enter.ensures.step.event c.enter.ensures.change c.in-Some.ensures.change c.exit_counted-2.ensures.change c.enter.ensures.step.known_log c.in-Some.ensures.known_log c.exit_counted-2.ensures.step.known_log c.enter.ensures.step.log c.in-Some.ensures.log c.exit_counted-2.ensures.step.log
+    found_from_outside (key_with c.args.kind c.args.name) _ _ _ _ _ _ _ _ (ap (λ (o : OnPlainCpu). o.cpu) c.cpu.view_is) c.cpu.invariant.idle c.cpu.invariant.id shallow c.enter.ensures.step c.enter.ensures.change c.in-Some.ensures.change c.in-Some.ensures.known_log c.in-Some.ensures.log c.exit_counted-2.ensures.step c.exit_counted-2.ensures.change
 
 pub returns-clause-slot : goal.returns-clause-slot
 returns-clause-slot c = slot_seen (key_with c.args.kind c.args.name) _ _ (Some c.in-Some.seen) c.in-Some.ensures.change

@@ -17,4 +17,4 @@ pub returns-clause-entered : goal.returns-clause-entered
 returns-clause-entered c =
     let shallow : c.cpu.inside.depth ≡ 0 = ap (λ (o : OnPlainCpu). o.cpu.depth) c.cpu.view_is ∙ c.requires.outside in
     let one : 1 ≡ c.cpu.inside.depth + 1 = omega (arith, shallow) in
-    entered_on _ _ _ _ _ _ _ _ _ _ (ap (λ (o : OnPlainCpu). o.cpu) c.cpu.view_is) c.cpu.invariant.id shallow one c.enter.ensures.step.event c.enter.ensures.change c.enter.ensures.step.known_log c.enter.ensures.step.log
+    entered_on _ _ _ _ _ _ (ap (λ (o : OnPlainCpu). o.cpu) c.cpu.view_is) c.cpu.invariant.id shallow one c.enter.ensures.step c.enter.ensures.change
