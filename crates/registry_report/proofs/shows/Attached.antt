@@ -187,17 +187,10 @@ label_gone s r x id is on small at = put_is r.local_labels (λ y. number_at (set
 -- the slot took the reference over
 pub keeping_shows : (s : SessionState) (r : Registry) (t x id n : ℕ) → IsSession s → Shows s r → t < s.core.settings.slots → x < 26 → get_or s.locals x None ≡ Some id → local_at s.core.locals id ≡ Standing n
     → Shows (record s { core = core.with_reference_kept (all_seated s.core) t id; locals = set s.locals x None }) (record r { model = with_reference_kept r.model t n; local_labels = put r.local_labels x None })
-keeping_shows s r t x id n is on low small at place = record {
-  settings = on.settings;
-  model = assumption (
-    put_is r.model.locals (λ m. sum_by (standing_of m) (set s.core.locals id Free)) n (r.model.locals n - 1)
+keeping_shows s r t x id n is on low small at place = assumption (
+  put_is r.model.locals (λ m. sum_by (standing_of m) (set s.core.locals id Free)) n (r.model.locals n - 1)
         (omega (arith, on.model.counted n, local_changed n s.core.locals id (Standing n) Free (standing_within s.core.locals id n place) place, one_at n n refl))
         (λ m off. omega (arith, on.model.counted m, local_changed m s.core.locals id (Standing n) Free (standing_within s.core.locals id n place) place, none_at n m (λ same. off (sym same)))),
-    put_shows r.model.keeps None s.core.keeps t (Some n) (events.number_standing (local_at s.core.locals id)) (omega (arith, is.holds.shape.keeps)) on.model.kept (sym (ap events.number_standing place)),
-  );
-  sections = on.sections;
-  live = on.live;
-  grace = on.grace;
-  tallies = on.tallies;
-  labels = record { passive = on.labels.passive; local = label_gone s r x id is on small at };
-}
+  put_shows r.model.keeps None s.core.keeps t (Some n) (events.number_standing (local_at s.core.locals id)) (omega (arith, is.holds.shape.keeps)) on.model.kept (sym (ap events.number_standing place)),
+  label_gone s r x id is on small at,
+)

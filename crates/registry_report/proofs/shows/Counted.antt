@@ -258,15 +258,7 @@ changed : (s : SessionState) (r : Registry) (counts nets : List (List ℕ)) (tot
     → ((y : ℕ) → labels y ≡ number_at places (get_or ids y None))
     → Shows (record s { core = record (all_seated s.core) { counts = counts; nets = nets; totals = totals; locals = places }; locals = ids })
     (record r { model = with_locals r.model n k; acquired = acquired; released = released; given_up = given_up; local_labels = labels })
-changed s r counts nets totals places ids n k acquired released given_up labels on number_standing tallies stand = record {
-  settings = on.settings;
-  model = assumption;
-  sections = on.sections;
-  live = on.live;
-  grace = on.grace;
-  tallies = tallies;
-  labels = record { passive = on.labels.passive; local = stand };
-}
+changed s r counts nets totals places ids n k acquired released given_up labels on number_standing tallies stand = assumption
 
 -- what a CPU has found isn't collected: its word for it still counts
 found_uncollected : (s : SessionState) (r : Registry) (c t : ℕ) (e : Entry) → Holds s.core → Shows s r → c < s.core.settings.cpus → found_at s.core c ≡ Some e → slot_of s.core.slots e.number ≡ Some t → r.is_collected e.number ≡ false
@@ -329,10 +321,13 @@ pub acquire_local_shows : (s : SessionState) (r : Registry) (c x id : ℕ) → I
     → IsCounted s.core (count_refusal s.core c (found_at s.core c)) (Ok id) → Counts s r c x id
 acquire_local_shows s r c x id session on low within is =
     let told = counts_tell s r c session.holds on low is.0 in
-    assumption (
-      subst (λ (k : ℕ). Shows (record s { core = after_counting s.core c (found_at s.core c); locals = set s.locals x (Some k) }) (with_one_counted r c x told.0.number)) (sym is.1)
-          (counting_shows s r c x told.0 session on low within told.1)
-    )
+    record {
+      entry = told.0;
+      found = told.1;
+      answers = told.2;
+      shows = subst (λ (k : ℕ). Shows (record s { core = after_counting s.core c (found_at s.core c); locals = set s.locals x (Some k) }) (with_one_counted r c x told.0.number)) (sym is.1)
+          (counting_shows s r c x told.0 session on low within told.1);
+    }
 
 -- Releases
 

@@ -127,7 +127,7 @@ seated_shows s r on = record { settings = on.settings; model = on.model; section
 relabelled : (s : SessionState) (r : Registry) (passive : List (List ℕ)) (c n k a : ℕ) (label : Option CorePsref) → Shows s r → a < length s.passives
     → ((d m : ℕ) → put r.model.passive c (put (r.model.passive c) n k) d m ≡ passive_in passive d (slot_of s.core.slots m))
     → Shows (record s { core = record (all_seated s.core) { passive = passive }; passives = set s.passives a label }) (record r { model = with_passive r.model c n k; passive_labels = put r.passive_labels a label })
-relabelled s r passive c n k a label on within held = assumption (assumption (put_shows r.passive_labels None s.passives a label label within on.labels.passive refl))
+relabelled s r passive c n k a label on within held = assumption (put_shows r.passive_labels None s.passives a label label within on.labels.passive refl)
 
 more_by : (s : SessionState) (r : Registry) (c n a : ℕ) (o : Option ℕ) → Shows s r → a < length s.passives
     → ((d m : ℕ) → put r.model.passive c (put (r.model.passive c) n (r.model.passive c n + 1)) d m ≡ passive_of (with_one_more s.core c o) d m)

@@ -67,15 +67,7 @@ ended_follows h slots marks section begins c w bc was t p j d x e at end begun s
 -- the section gets deeper or less deep
 nested_shows : (s : SessionState) (r : Registry) (c depth other : ℕ) → Holds s.core → Shows s r → c < s.core.settings.cpus → depth ≡ other
     → Shows (with_core s (with_depth s.core c other)) (record r { depths = put r.depths c depth })
-nested_shows s r c depth other holds on lt same = record {
-  settings = on.settings;
-  model = on.model;
-  sections = record { deep = put_shows r.depths 0 s.core.depths c depth other (omega (arith, holds.shape.depths)) on.sections.deep same; turns = on.sections.turns };
-  live = on.live;
-  grace = on.grace;
-  tallies = on.tallies;
-  labels = on.labels;
-}
+nested_shows s r c depth other holds on lt same = assumption (put_shows r.depths 0 s.core.depths c depth other (omega (arith, holds.shape.depths)) on.sections.deep same)
 
 -- one section more was begun
 begun_turns : (section : List ℕ) (begins : List (Option ℕ)) (begun : ℕ → ℕ) (c b : ℕ) → c < length section → c < length begins → get_or begins c None ≡ None
@@ -104,39 +96,23 @@ ended_turns section begins begun c b sc bc in_ was j = by_place
 -- the outermost section begins
 begun_shows : (s : SessionState) (r : Registry) (c : ℕ) → Holds s.core → Shows s r → c < s.core.settings.cpus → begin_at s.core c ≡ None
     → Shows (with_core s (events.after_enter (all_seated s.core) c)) (with_section_begun r c)
-begun_shows s r c holds on lt out = record {
-  settings = on.settings;
-  model = assumption (
-    put_shows r.model.sections None s.core.begins c (Some (length r.model.history)) (Some (length s.core.history)) (omega (arith, holds.shape.begins)) on.model.sections (ap (λ (h : List Change). Some (length h)) on.model.history)
-  );
-  sections = record {
-    deep = put_shows r.depths 0 s.core.depths c 1 1 (omega (arith, holds.shape.depths)) on.sections.deep refl;
-    turns = begun_turns s.core.section s.core.begins r.begun c (length s.core.history) (omega (arith, holds.shape.sections)) (omega (arith, holds.shape.begins)) out on.sections.turns;
-  };
-  live = on.live;
-  grace = begun_follows s.core.history s.core.slots s.core.marks s.core.section s.core.begins c (section_at s.core c + 1) (length s.core.history) holds.grace (omega (arith, holds.shape.sections)) (omega (arith, holds.shape.begins)) (omega arith) on.grace;
-  tallies = on.tallies;
-  labels = on.labels;
-}
+begun_shows s r c holds on lt out = assumption (
+  put_shows r.model.sections None s.core.begins c (Some (length r.model.history)) (Some (length s.core.history)) (omega (arith, holds.shape.begins)) on.model.sections (ap (λ (h : List Change). Some (length h)) on.model.history),
+  put_shows r.depths 0 s.core.depths c 1 1 (omega (arith, holds.shape.depths)) on.sections.deep refl,
+  begun_turns s.core.section s.core.begins r.begun c (length s.core.history) (omega (arith, holds.shape.sections)) (omega (arith, holds.shape.begins)) out on.sections.turns,
+  begun_follows s.core.history s.core.slots s.core.marks s.core.section s.core.begins c (section_at s.core c + 1) (length s.core.history) holds.grace (omega (arith, holds.shape.sections)) (omega (arith, holds.shape.begins)) (omega arith) on.grace,
+)
 
 -- the outermost section ends
 ended_shows : (s : SessionState) (r : Registry) (c b : ℕ) → Holds s.core → Shows s r → c < s.core.settings.cpus → begin_at s.core c ≡ Some b
     → Shows (with_core s (events.after_exit (all_seated s.core) c)) (with_section_ended r c)
-ended_shows s r c b holds on lt in_ = record {
-  settings = on.settings;
-  model = assumption (
-    put_shows r.model.sections None s.core.begins c None None (omega (arith, holds.shape.begins)) on.model.sections refl,
-    put_shows r.model.found None s.core.found c None None (omega (arith, holds.shape.found)) on.model.last_found refl,
-  );
-  sections = record {
-    deep = put_shows r.depths 0 s.core.depths c 0 0 (omega (arith, holds.shape.depths)) on.sections.deep refl;
-    turns = ended_turns s.core.section s.core.begins r.begun c b (omega (arith, holds.shape.sections)) (omega (arith, holds.shape.begins)) in_ on.sections.turns;
-  };
-  live = on.live;
-  grace = ended_follows s.core.history s.core.slots s.core.marks s.core.section s.core.begins c (section_at s.core c + 1) (omega (arith, holds.shape.begins)) on.grace;
-  tallies = on.tallies;
-  labels = on.labels;
-}
+ended_shows s r c b holds on lt in_ = assumption (
+  put_shows r.model.sections None s.core.begins c None None (omega (arith, holds.shape.begins)) on.model.sections refl,
+  put_shows r.model.found None s.core.found c None None (omega (arith, holds.shape.found)) on.model.last_found refl,
+  put_shows r.depths 0 s.core.depths c 0 0 (omega (arith, holds.shape.depths)) on.sections.deep refl,
+  ended_turns s.core.section s.core.begins r.begun c b (omega (arith, holds.shape.sections)) (omega (arith, holds.shape.begins)) in_ on.sections.turns,
+  ended_follows s.core.history s.core.slots s.core.marks s.core.section s.core.begins c (section_at s.core c + 1) (omega (arith, holds.shape.begins)) on.grace,
+)
 
 -- Enter
 
@@ -185,4 +161,4 @@ exit_shows s r c holds on lt in_ =
 
 -- what a lookup leaves
 pub found_shows : (s : SessionState) (r : Registry) (c : ℕ) (answer : Option Entry) → Holds s.core → Shows s r → c < s.core.settings.cpus → Shows (with_core s (after_find (all_seated s.core) c answer)) (with_found r c answer)
-found_shows s r c answer holds on lt = assumption (assumption (put_shows r.model.found None s.core.found c answer answer (omega (arith, holds.shape.found)) on.model.last_found refl))
+found_shows s r c answer holds on lt = assumption (put_shows r.model.found None s.core.found c answer answer (omega (arith, holds.shape.found)) on.model.last_found refl)

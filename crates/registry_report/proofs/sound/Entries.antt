@@ -59,10 +59,12 @@ attach_keeps z m labels c e on vacant number legal =
       last_found = λ d f is. let was = on.last_found d f is in (was.0, was.1, hold_old m.history (Attach e) was.0 f (on.begun d was.0 was.1).1 was.2);
       referring = on.referring;
       keeping = on.keeping;
-      labelled = λ x n is. let was = on.labelled x n is in assumption (
-        attached_old m.history (Attach e) was.entry was.attached,
-        still_there m.occupants e.slot was.entry.slot (Some e.number) n vacant was.occupant,
-      );
+      labelled = λ x n is. let was = on.labelled x n is in record {
+        entry = was.entry;
+        attached = attached_old m.history (Attach e) was.entry was.attached;
+        numbered = was.numbered;
+        occupant = still_there m.occupants e.slot was.entry.slot (Some e.number) n vacant was.occupant;
+      };
       counted = on.counted;
     }
 
@@ -81,7 +83,12 @@ detach_keeps z m labels c e on live =
       last_found = λ d f is. let was = on.last_found d f is in (was.0, was.1, hold_old m.history (Detach e.number) was.0 f (on.begun d was.0 was.1).1 was.2);
       referring = on.referring;
       keeping = on.keeping;
-      labelled = λ x n is. let was = on.labelled x n is in assumption (attached_old m.history (Detach e.number) was.entry was.attached);
+      labelled = λ x n is. let was = on.labelled x n is in record {
+        entry = was.entry;
+        attached = attached_old m.history (Detach e.number) was.entry was.attached;
+        numbered = was.numbered;
+        occupant = was.occupant;
+      };
       counted = on.counted;
     }
 
@@ -163,7 +170,14 @@ keep_keeps z m labels t x d on lt at = record {
 
 -- what a label stands for, and is a driver by its number, is one that stands in its slot
 driver_here : (m : Model) (d : ℕ) → HasSlot m.history m.occupants d → is_driver_number m.history d ≡ true → IsDriverHere m d
-driver_here m d has is = assumption (driver_is has.entry.rec.kind (ap is_driver_entry (sym (ap (entry_of m.history) (sym has.numbered) ∙ entry_is m.history has.entry has.attached)) ∙ is))
+driver_here m d has is = record {
+  entry = has.entry;
+  attached = has.attached;
+  numbered = has.numbered;
+  driver = driver_is has.entry.rec.kind (ap is_driver_entry (sym (ap (entry_of m.history) (sym has.numbered) ∙ entry_is m.history has.entry has.attached)) ∙ is);
+  slot = has.entry.slot;
+  occupant = has.occupant;
+}
 
 pub plugged_lawful : (r : Registry) (c : ℕ) (rec : Record) (x d : ℕ) (e : Entry) → IsSound r → is_iface rec.kind ≡ true → r.local_labels x ≡ Some d → attach_iface_answer r c rec d ≡ Ok e → IsLawfulTurn r (with_attached_iface r c e x d)
 plugged_lawful r c rec x d e on iface at is =

@@ -77,7 +77,12 @@ free_tells r n t on is =
     let end = some_from (end_of r.model.history n) retired.0 in
     let ends : EndsAt r.model.history n end.0 = end_tells r.model.history n end.0 end.1 in
     let found = least_some (λ u. is_this n (r.model.occupants u)) r.settings.slots at.0 retired.1 in
-    assumption (ap r.model.occupants (sym own) ∙ is_this_tells n (r.model.occupants at.0) found.1, unheld_from r n t end.0 on end.1 ends (subst (λ (u : ℕ). first_obstacle r n u ≡ Freed t) own at.2))
+    record {
+      position = end.0;
+      ends = ends;
+      occupant = ap r.model.occupants (sym own) ∙ is_this_tells n (r.model.occupants at.0) found.1;
+      unheld = unheld_from r n t end.0 on end.1 ends (subst (λ (u : ℕ). first_obstacle r n u ≡ Freed t) own at.2);
+    }
 
 -- What freeing keeps
 
@@ -98,10 +103,13 @@ vacate_keeps z m labels t n p keeps on at ends unheld kept =
       keeping = λ u d is. on.keeping u d (kept u d is);
       labelled = λ x k is.
           let was = on.labelled x k is in
-          assumption (
-            still_beside m.occupants t was.entry.slot n k at was.occupant
-                (λ same. omega (arith, labelled_counts labels x k is, on.counted k (suc x), ap m.locals same, unheld.locals))
-          );
+          record {
+            entry = was.entry;
+            attached = was.attached;
+            numbered = was.numbered;
+            occupant = still_beside m.occupants t was.entry.slot n k at was.occupant
+                (λ same. omega (arith, labelled_counts labels x k is, on.counted k (suc x), ap m.locals same, unheld.locals));
+          };
       counted = on.counted;
     }
 
