@@ -15,7 +15,7 @@ use Rattle.protocol.specs.State.{State, count_at, mark_at, total_at, at_rest}
 use Rattle.registry_values.specs.Balances.{bias, Tally, less_bias, local_of, sum_of, tally_shown}
 use Rattle.registry_values.specs.Slots.{slot_at}
 use Rattle.passive_core.specs.Audits.{IsHeldRightly, audit_of, locals_at, tallies_at, tallies_below, tally_of}
-use Rattle.protocol.specs.Invariant.{Holds, IsCounting, IsIn, addition_due_at, is_adding_at, itself, one_if_used}
+use Rattle.protocol.specs.Invariant.{Holds, IsCounting, IsIn, addition_due_at, greatest_limit, is_adding_at, itself, one_if_used}
 use Rattle.protocol.proofs.counts.CountBounds.{total_at_rest, word_ceiling, word_floor}
 use Rattle.protocol.proofs.keeps.CountKeeps.{fit_of}
 use Rattle.protocol.proofs.counts.Counts.{counting_cases}
@@ -61,7 +61,7 @@ rightly s t e on rest is =
 
 -- How far it goes.
 
-local_bounds : (w : ℕ) → (w ≡ 0) ⊎ (bias ≤ w + 2 ^ 43) → w ≤ bias + 2 ^ 40 → (neg_ℤ (pos (2 ^ 50)) ≤ℤ local_of w) × (local_of w ≤ℤ pos (2 ^ 50))
+local_bounds : (w : ℕ) → (w ≡ 0) ⊎ (bias ≤ w + MOST_CPUS * greatest_limit) → w ≤ bias + 2 ^ 40 → (neg_ℤ (pos (2 ^ 50)) ≤ℤ local_of w) × (local_of w ≤ℤ pos (2 ^ 50))
 local_bounds zero low high = (omega (arith, ints), omega (arith, ints))
 local_bounds (suc w) (inl never) high = absurd (omega (arith, never))
 local_bounds (suc w) (inr low) high = (omega (arith, ints, low, local_some w), omega (arith, ints, high, local_some w))
@@ -93,7 +93,7 @@ locals_few (suc n) (w ∷ row) = omega (arith, locals_few n row)
 pub word_small : (s : State) (c t : ℕ) (e : Entry) → Holds s → IsIn e (slot_at s.slots t) → count_at s.counts c t < 2 ^ 60
 word_small s c t e on is = omega (arith, word_ceiling on.balance (fit_of s on) c t e is)
 
-pub total_range : (s : State) (t : ℕ) (e : Entry) → Holds s → at_rest s.due ≡ true → IsIn e (slot_at s.slots t) → (bias ≤ total_at s.totals t + 2 ^ 43) × (total_at s.totals t ≤ bias + 2 ^ 43)
+pub total_range : (s : State) (t : ℕ) (e : Entry) → Holds s → at_rest s.due ≡ true → IsIn e (slot_at s.slots t) → (bias ≤ total_at s.totals t + MOST_CPUS * greatest_limit) × (total_at s.totals t ≤ bias + MOST_CPUS * greatest_limit)
 total_range s t e on rest is =
     let range = total_at_rest on.balance (fit_of s on) t e (at_rest_tells s.due rest) is in
     (omega (arith, range.0), range.1)

@@ -12,3 +12,8 @@ invariant_of-self-2 c =
     let entry = ap (λ (x : State). entry_of c.args.t (row_at x.rows c.args.t)) c.self.view_is ∙ sym c.in-Some.ensures in
     let test = ap (λ (x : State). may_publish x c.args.t c.in-Some.entry) c.self.view_is ∙ (sym c.may_publish.ensures.value ∙ c.if-not-may_publish.false) in
     step_holds (state_shown c.self.inside) _ (Publish c.args.t) Done c.self.invariant (rw (entry, test, c.in_ok-grow.ensures.ok) refl)
+
+pub returns : goal.returns
+returns c =
+    let test = sym c.may_publish.ensures.value ∙ c.if-not-may_publish.false in
+    rw (sym c.in-Some.ensures, test, ← c.self.view_is, c.in_ok-grow.ensures.ok) refl

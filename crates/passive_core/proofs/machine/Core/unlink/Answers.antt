@@ -22,3 +22,13 @@ invariant_of-self-2 c =
           let none = sym before ∙ w.in-None.is in
           rw w.self-inside-is (step_holds (state_shown c.self.inside) _ (Unpublish c.args.t) Done c.self.invariant (rw (live, rest, none, c.in_ok-grow.ensures.ok, link) refl))
     ]
+
+pub returns : goal.returns
+returns c =
+    let rest = c.requires.rest in
+    let link = sym c.link_at-link.ensures in
+    let before = sym c.slot_before-before.ensures.value in
+    elim c.match-before.branch [
+      | in-Some w ↦ rw (w.self-inside-is, c.requires.live, rest, before ∙ w.in-Some.is, link, ← c.self.view_is, c.in_ok-grow.ensures.ok) refl
+      | in-None w ↦ rw (w.self-inside-is, c.requires.live, rest, before ∙ w.in-None.is, link, ← c.self.view_is, c.in_ok-grow.ensures.ok) refl
+    ]
