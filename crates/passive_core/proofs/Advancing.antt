@@ -374,24 +374,19 @@ is_freed (Local k) = false
 is_freed (Freed t) = true
 
 pub stage_again : (s m : State) (t n : ℕ) (stage : Stage) → is_freed stage ≡ false → StageLeaves s m t stage → first_obstacle m t n ≡ first_obstacle s t n
-stage_again s m t n (Grace c) held left = stage_kept s m t n (subst (λ (x : State). x ≡ record s { seated = s.settings.cpus; marks = x.marks; counts = x.counts; totals = x.totals }) (sym left.only) refl) left.marks
-stage_again s m t n (Passive c) held left = stage_kept s m t n (subst (λ (x : State). x ≡ record s { seated = s.settings.cpus; marks = x.marks; counts = x.counts; totals = x.totals }) (sym left.only) refl) left.marks
 stage_again s m t n (Local k) held left = stage_kept s m t n left.only left.marks
 stage_again s m t n (Freed u) held left = absurd (let q : ◌≡◌ {A = Bool} true false = held in cc)
+stage_again s m t n _ held left = stage_kept s m t n (subst (λ (x : State). x ≡ record s { seated = s.settings.cpus; marks = x.marks; counts = x.counts; totals = x.totals }) (sym left.only) refl) left.marks
 
 pub slots_again : (s m : State) (t : ℕ) (stage : Stage) → is_freed stage ≡ false → StageLeaves s m t stage → m.slots ≡ s.slots
-slots_again s m t (Grace c) held left = ap (λ (x : State). x.slots) left.only
-slots_again s m t (Passive c) held left = ap (λ (x : State). x.slots) left.only
-slots_again s m t (Local k) held left = ap (λ (x : State). x.slots) left.only
 slots_again s m t (Freed u) held left = absurd (let q : ◌≡◌ {A = Bool} true false = held in cc)
+slots_again s m t _ held left = ap (λ (x : State). x.slots) left.only
 
 marks_leave_again : (s m n : State) (t : ℕ) → LeavesMarks s m t → LeavesMarks m n t → LeavesMarks s n t
 marks_leave_again s m n t x y = assumption (subst (λ (z : State). n ≡ record z { seated = z.settings.cpus; marks = n.marks }) x.only y.only, marks_grow_more s.marks m.marks n.marks t x.marks y.marks)
 
 -- the same stage was met twice
 pub leaves_again : (s m n : State) (t : ℕ) (stage : Stage) → is_freed stage ≡ false → StageLeaves s m t stage → StageLeaves m n t stage → StageLeaves s n t stage
-leaves_again s m n t (Grace c) held x y = marks_leave_again s m n t x y
-leaves_again s m n t (Passive c) held x y = marks_leave_again s m n t x y
 leaves_again s m n t (Local k) held x y = record {
   only = subst (λ (z : State). n ≡ record z { seated = z.settings.cpus; marks = n.marks; counts = n.counts; totals = n.totals }) x.only y.only;
   marks = marks_grow_more s.marks m.marks n.marks t x.marks y.marks;
@@ -401,6 +396,7 @@ leaves_again s m n t (Local k) held x y = record {
   total = y.total;
 }
 leaves_again s m n t (Freed u) held x y = absurd (let q : ◌≡◌ {A = Bool} true false = held in cc)
+leaves_again s m n t _ held x y = marks_leave_again s m n t x y
 
 -- the marks of two turns that met the same obstacle
 pub marks_of_turns : (s m n : State) (t : ℕ) (stage : Stage) → StageMarks s m t stage → StageMarks m n t stage → StageMarks s n t stage
@@ -417,8 +413,7 @@ marks_of_turns s m n t (Passive c) x y = record {
   here = y.here;
   above = λ d lt. y.above d lt ∙ x.above d lt;
 }
-marks_of_turns s m n t (Local k) x y = y
-marks_of_turns s m n t (Freed u) x y = y
+marks_of_turns s m n t _ x y = y
 
 -- the answer is the same the next time, where nothing was freed
 pub answer_again : (s m : State) (number : ℕ) (stage : Stage) → is_freed stage ≡ false → AdvanceLeaves s m number (Ok stage) → advance_answer m number ≡ advance_answer s number
@@ -444,10 +439,8 @@ marks_again s m n number stage next held left x y same =
     (x.0, x.1, subst (StageMarks s n x.0) (sym same) (marks_of_turns s m n x.0 stage x.2 second))
 
 pub not_freed : (stage : Stage) → ((t : ℕ) → stage ≡ Freed t → ⊥) → is_freed stage ≡ false
-not_freed (Grace c) off = refl
-not_freed (Passive c) off = refl
-not_freed (Local k) off = refl
 not_freed (Freed t) off = absurd (off t refl)
+not_freed _ off = refl
 
 pub same_Ok : (a b : Stage) → ◌≡◌ {A = Result Stage Refusal} (Ok a) (Ok b) → a ≡ b
 same_Ok a b is = cc

@@ -17,7 +17,7 @@ use Rattle.protocol.specs.declared.event.Reply.TheVariants.{Done}
 use Rattle.passive_core.specs.declared.machine.commands.attach.Before.{Before}
 use Rattle.registry_values.specs.declared.refusal.Refusal.{Refusal}
 use Rattle.protocol.specs.declared.state.LocalPlace.{LocalPlace}
-use Rattle.protocol.specs.declared.state.LocalPlace.TheVariants.{Free, Standing, Lifted}
+use Rattle.protocol.specs.declared.state.LocalPlace.TheVariants.{Free, Standing}
 use Rattle.protocol.specs.declared.state.RecordWords.{RecordWords}
 use Rattle.registry_values.specs.declared.slot.Slot.{Slot}
 use Rattle.registry_values.specs.declared.slot.Slot.TheVariants.{Vacant}
@@ -228,10 +228,10 @@ may_link : (s : State) (rec : Record) (e : Entry) → Holds s → may_write s e.
 may_link s rec e on writes is free room lawful keeps =
     let same : e.rec ≡ rec = ap (λ (x : Entry). x.rec) is in
     assumption (
-      prepared_links s e on writes (ap (λ (x : Entry). x.number) is)
-          (subst (λ (r : Record). IsTrue (is_lawful r.name)) (sym same) lawful)
-          (ap (λ (r : Record). is_taken (key_of_record r) s.slots) same ∙ free) room
-          (ap (λ (r : Record). keeps_rightly (kept_at s.keeps e.slot) r.kind) same ∙ keeps)
+    prepared_links s e on writes (ap (λ (x : Entry). x.number) is)
+    (subst (λ (r : Record). IsTrue (is_lawful r.name)) (sym same) lawful)
+    (ap (λ (r : Record). is_taken (key_of_record r) s.slots) same ∙ free) room
+    (ap (λ (r : Record). keeps_rightly (kept_at s.keeps e.slot) r.kind) same ∙ keeps)
     )
 
 driver_keeps : (kept : Option ℕ) (kind : Kind) → kept ≡ None → is_iface kind ≡ false → keeps_rightly kept kind ≡ true
@@ -259,9 +259,8 @@ call_acts begun ready made now e c d words links sees may =
 -- Interfaces: the reference that the slot takes over.
 
 number_from : (slots : List Slot) (p : LocalPlace) → is_driver_number slots (number_standing p) ≡ true → (n : ℕ) × (p ≡ Standing n) × (is_driver_in slots (slot_of slots n) ≡ true)
-number_from slots Free is = absurd (let q : ◌≡◌ {A = Bool} false true = is in cc)
 number_from slots (Standing n) is = (n, refl, is)
-number_from slots (Lifted c) is = absurd (let q : ◌≡◌ {A = Bool} false true = is in cc)
+number_from slots _ is = absurd (let q : ◌≡◌ {A = Bool} false true = is in cc)
 
 driver_from : (slots : List Slot) (place : Option ℕ) → is_driver_in slots place ≡ true → (u : ℕ) × (place ≡ Some u) × (is_driver_slot (slot_at slots u) ≡ true)
 driver_from slots None is = absurd (let q : ◌≡◌ {A = Bool} false true = is in cc)

@@ -81,11 +81,7 @@ load_moves b s c q (AtValue t n) on lt walk none seen = over_is b s c (Some (ent
 load_finds : (s : State) (c : ℕ) (q : Search) (p : SearchPlace) → q.place ≡ p → Holds s → Finds s c q → FindSteps c q (weight s p) (load_at s c q p)
 load_finds s c q AtHead is on finds = subst (λ (p : SearchPlace). FindSteps c q (weight s p) (load_link s c q p)) is (find_link s c q on finds)
 load_finds s c q (AtNext t) is on finds = subst (λ (p : SearchPlace). FindSteps c q (weight s p) (load_link s c q p)) is (find_link s c q on finds)
-load_finds s c q (AtNumber t) is on finds = subst (λ (p : SearchPlace). FindSteps c q (weight s p) (load_searched s c q p)) is (find_record s c q on finds)
-load_finds s c q (AtKind t n) is on finds = subst (λ (p : SearchPlace). FindSteps c q (weight s p) (load_searched s c q p)) is (find_record s c q on finds)
-load_finds s c q (AtHigh t n k) is on finds = subst (λ (p : SearchPlace). FindSteps c q (weight s p) (load_searched s c q p)) is (find_record s c q on finds)
-load_finds s c q (AtLow t n k h) is on finds = subst (λ (p : SearchPlace). FindSteps c q (weight s p) (load_searched s c q p)) is (find_record s c q on finds)
-load_finds s c q (AtValue t n) is on finds = subst (λ (p : SearchPlace). FindSteps c q (weight s p) (load_searched s c q p)) is (find_record s c q on finds)
+load_finds s c q _ is on finds = subst (λ (p : SearchPlace). FindSteps c q (weight s p) (load_searched s c q p)) is (find_record s c q on finds)
 
 -- what is left of the search that is under way
 abbrev pub left : State → Option Search → ℕ
@@ -109,7 +105,6 @@ IsTurn b c key n s (Ref id) = ⊥
 IsTurn b c key n s Collected = ⊥
 
 turn_of : (b : State) (c : ℕ) (q : Search) (n : ℕ) (s : State) (r : Reply) → IsMoved b c s r → IsFindStep s c q n r → IsTurn b c q.key n s r
-turn_of b c q n s Done moved step = moved
 turn_of b c q n s (Word w) moved step =
     let there : left s (search_at s c) ≡ weight s step.0 = ap (left s) step.1.searching in
     (record { walking = moved; start = q.start; place = step.0; finds = step.1 }, omega (arith, there, step.2))
@@ -117,8 +112,7 @@ turn_of b c q n s (Found e) moved step =
     (subst (λ (h : List Change). IsLookup h (length h) q.key (Some e)) (ap (λ (t : State). t.history) moved) step, moved)
 turn_of b c q n s Missed moved step =
     (subst (λ (h : List Change). IsLookup h (length h) q.key None) (ap (λ (t : State). t.history) moved) step, moved)
-turn_of b c q n s (Ref id) moved step = moved
-turn_of b c q n s Collected moved step = moved
+turn_of b c q n s _ moved step = moved
 
 -- One load of the walk.
 pub load_turns : (b s t : State) (c : ℕ) (key : Key) (r : Reply) → Holds s → search_at b c ≡ None → Walks b s c key → next_load s c (search_at s c) ≡ Some (record { state = t; reply = r }) → IsTurn b c key (left s (search_at s c)) t r
@@ -149,12 +143,10 @@ walk_starts b c key lt = record {
 
 -- a walk that isn't over goes on, with less left
 pub walk_goes_on : (b : State) (c : ℕ) (key : Key) (n : ℕ) (s : State) (r : Reply) → IsTurn b c key n s r → ((e : Entry) → r ≡ Found e → ⊥) → (r ≡ Missed → ⊥) → Walks b s c key × (left s (search_at s c) < n)
-walk_goes_on b c key n s Done turn not_found not_missed = absurd turn
 walk_goes_on b c key n s (Word w) turn not_found not_missed = turn
 walk_goes_on b c key n s (Found e) turn not_found not_missed = absurd (not_found e refl)
 walk_goes_on b c key n s Missed turn not_found not_missed = absurd (not_missed refl)
-walk_goes_on b c key n s (Ref id) turn not_found not_missed = absurd turn
-walk_goes_on b c key n s Collected turn not_found not_missed = absurd turn
+walk_goes_on b c key n s _ turn not_found not_missed = absurd turn
 
 -- The first load is made after a Seek of an idle CPU inside a section.
 pub seek_starts : (b t : State) (c : ℕ) (key : Key) (r : Reply) → c < length b.searches → may_seek b c ≡ true → guard (may_seek b c) (some_outcome (after_seek b c key) Done) ≡ Some (record { state = t; reply = r }) → Walks b t c key

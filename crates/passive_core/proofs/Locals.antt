@@ -11,7 +11,6 @@ use Rattle.registry_values.specs.declared.entry.Entry.{Entry}
 use Rattle.protocol.specs.declared.event.Event.TheVariants.{CountAdd, SplitRef, JoinRef, CountDown, SplitBack, JoinKeeper, TotalSub}
 use Rattle.protocol.specs.declared.event.Reply.{Reply}
 use Rattle.protocol.specs.declared.event.Reply.TheVariants.{Done, Word, Ref, Collected}
-use Rattle.protocol.specs.declared.state.Due.{Due}
 use Rattle.protocol.specs.declared.state.Hand.{Hand}
 use Rattle.protocol.specs.declared.state.Hand.TheVariants.{Empty, Taking, Giving, Back}
 use Rattle.protocol.specs.declared.state.LocalPlace.{LocalPlace}
@@ -23,12 +22,12 @@ use Rattle.registry_values.specs.Slots.{slot_at, is_retired, slot_of}
 use Rattle.protocol.specs.Events.{Outcome, after_collected, after_count, after_count_add, after_count_down, after_hand, after_join_keeper, after_split, after_total, id_if, is_free, is_idle, least_id, load_local, may_join_keeper, split_ref, number_standing, state_after, step, some_outcome, with_local, word, words_of}
 use Rattle.protocol.specs.Invariant.{Holds, standing_of}
 use Rattle.passive_core.specs.Commands.{all_seated, may_act}
-use Rattle.passive_core.specs.Locals.{count_in, free_added, is_counting, local_slot, slot_if, with_count_less, with_count_more, with_room, with_total_less}
+use Rattle.passive_core.specs.Locals.{count_in, free_added, is_counting, local_slot, slot_if, with_count_less, with_count_more, with_room}
 use Rattle.protocol.proofs.keeps.SectionKeeps.{empty_from}
 use Rattle.protocol.proofs.counts.Counts.{counting_cases, held_stays}
 use Rattle.registry_values.proofs.Fit.{ranges}
 use Rattle.protocol.proofs.slots.Numbers.{entry_attached, occupied_slot, position_fails}
-use Rattle.protocol.proofs.slots.Occupied.{at_rest_tells, slot_has}
+use Rattle.protocol.proofs.slots.Occupied.{slot_has}
 use Rattle.passive_core.proofs.Passives.{ShowsRecord, both, found_slot, is_some, made, may_still}
 use Rattle.protocol.proofs.keeps.References.{references_places, standing_tells}
 use Rattle.protocol.proofs.slots.MarkRows.{any_within}
@@ -258,12 +257,6 @@ totals_sub s id t = let same : nat_eq t t ≡ true = eq-eqb t t refl in rw same 
 
 pub sub_allowed : (s v : State) (id t : ℕ) → v ≡ after_join_keeper s id t → IsSome (step v (TotalSub t))
 sub_allowed s v id t is = subst (λ (x : State). IsSome (step x (TotalSub t))) (sym is) (is_some (step (after_join_keeper s id t) (TotalSub t)) _ (totals_sub s id t) refl)
-
-pub subtracted : (s v w : State) (id t : ℕ) (r : Reply) → at_rest s.due ≡ true → v ≡ after_join_keeper s id t → step v (TotalSub t) ≡ Some (record { state = w; reply = r }) → w ≡ with_total_less s id (Some t)
-subtracted s v w id t r rest is was =
-    made s (step (after_join_keeper s id t) (TotalSub t)) _ w r (totals_sub s id t)
-    (subst (λ (x : State). step x (TotalSub t) ≡ Some (record { state = w; reply = r })) is was)
-    ∙ ap (λ (d : Due). record (with_total_less s id (Some t)) { due = d }) (sym (at_rest_tells s.due rest))
 
 -- The events of an acquire.
 

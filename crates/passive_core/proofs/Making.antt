@@ -113,10 +113,9 @@ passive_more s m n t x y = only_after (IsCollectionFor t) s m n (only_wider (IsP
 
 -- the words are collected, and the rest of the work is done
 pub work_done : (s m n : State) (t : ℕ) (stage : Stage) → Settles m n t stage → MakesOnly (IsCollectionFor t) s m → MakesOnly (IsWork stage t) m n → MakesOnly (IsWork stage t) s n
-work_done s m n t (Grace c) settles x y = absurd settles
-work_done s m n t (Passive c) settles x y = absurd settles
 work_done s m n t (Local k) settles x y = only_after (IsCollectionFor t) s m n x y
 work_done s m n t (Freed u) settles x y = only_after (IsWork (Freed u) t) s m n (only_wider (IsCollectionFor t) (IsWork (Freed u) t) s m (λ e is. inl is) x) y
+work_done s m n t _ settles x y = absurd settles
 
 -- the work begins with the seats
 pub work_seated : (s u n : State) (t : ℕ) (stage : Stage) → MakesOnly IsSeat s u → MakesOnly (IsWork stage t) u n → MakesOnly (IsWork stage t) s n

@@ -6,7 +6,7 @@ use Rattle.std.proofs.lemmas.Option.{same_Some}
 use Rattle.registry_values.specs.declared.entry.Entry.{Entry}
 use Rattle.registry_values.specs.declared.mark.Mark.{Mark}
 use Rattle.registry_values.specs.declared.slot.Slot.{Slot}
-use Rattle.registry_values.specs.declared.slot.Slot.TheVariants.{Vacant, Live, Retired}
+use Rattle.registry_values.specs.declared.slot.Slot.TheVariants.{Vacant, Retired}
 use Rattle.protocol.specs.Marking.{AllPassed}
 use Rattle.passive_core.specs.Advancing.{MarksPass, Passes, is_open_since, is_snapshot}
 use Rattle.registry_values.specs.Slots.{is_retired_as, retired_slot, retired_number, is_retired, slot_at}
@@ -57,9 +57,6 @@ none_open s t outside = none_below (is_open_since s t) s.settings.cpus (λ c lt.
 
 -- Marks that come to say passed
 
-pub only_none : (s : State) → OnlyPasses s s
-only_none s = record { only = refl; marks = λ t c. passes_none (mark_at s.marks t c); elsewhere = λ t is. refl }
-
 pub only_more : (s m n : State) → OnlyPasses s m → OnlyPasses m n → OnlyPasses s n
 only_more s m n x y = record {
   only = only_marks s m n x.only y.only;
@@ -86,9 +83,8 @@ still_passed s n t only passed c lt = (only.marks t c).passed (passed c (subst (
 
 -- the slot of a retired entry's number is its own
 retired_is : (n : ℕ) (x : Slot) → is_retired x ≡ true → Some n ≡ retired_number x → (e : Entry) × (x ≡ Retired e) × (e.number ≡ n)
-retired_is n Vacant gone is = absurd (let q : ◌≡◌ {A = Bool} false true = gone in cc)
-retired_is n (Live e) gone is = absurd (let q : ◌≡◌ {A = Bool} false true = gone in cc)
 retired_is n (Retired e) gone is = (e, refl, sym (same_Some n e.number is))
+retired_is n _ gone is = absurd (let q : ◌≡◌ {A = Bool} false true = gone in cc)
 
 pub retired_found : (s : State) (t n : ℕ) → Holds s → is_retired (slot_at s.slots t) ≡ true → Some n ≡ retired_number (slot_at s.slots t) → retired_slot s.slots n ≡ Some t
 retired_found s t n on gone is =

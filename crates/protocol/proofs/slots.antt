@@ -2,4 +2,3 @@ pub mod Cells
 pub mod MarkRows
 pub mod Numbers
 pub mod Occupied
-pub mod Places

@@ -33,9 +33,6 @@ back_within s c n id on hand = (
   lifted_within s.locals id c (back_holds s.settings.cpus s.slots s.hands s.due s.locals c n id hand on.references).1,
 )
 
-pub slot_within : (s : State) (n t : ℕ) → Holds s → slot_of s.slots n ≡ Some t → t < s.settings.slots
-slot_within s n t on of = omega (arith, (slot_has s.slots n t of).0, on.shape.slots)
-
 -- a word that counts isn't 0
 pub counting_positive : (s : State) (c n id t : ℕ) → Holds s → hand_at s c ≡ Giving n id → slot_of s.slots n ≡ Some t → count_at s.counts c t ≡ count_at s.nets c t → 0 < count_at s.counts c t
 counting_positive s c n id t on hand of same =

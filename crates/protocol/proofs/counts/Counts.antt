@@ -402,8 +402,8 @@ publish {z} {slots} {marks} {counts} {nets} {totals} {hands} {keeps} {due} {loca
           in_;
       balance = λ u f in_. by_place (λ x. IsIn f (slot_at (set slots t (Live e)) x) → Balances (get_or counts x []) (total_at totals x) (held_at locals hands keeps due f.number x) (addition_due_at x due) (is_adding_at x due)) t u
           (λ there. moved (published (get_or counts t []) (fit.count_rows t tc) (λ j. either (cases_lt j z.cpus)
-              (λ below. inr (words j below))
-              (λ ge. inl (on.beyond j t ge))))
+          (λ below. inr (words j below))
+          (λ ge. inl (on.beyond j t ge))))
           refl (on.vacant t lt vacant) (ap (λ (g : Entry). held_at locals hands keeps due g.number t) (one_in e f (slot_at (set slots t (Live e)) t) is there) ∙ none) (ap (addition_due_at t) rest) (ap (is_adding_at t) rest))
           (λ off there. on.balance u f (subst (IsIn f) (slot_old u off) there))
           in_;

@@ -7,7 +7,7 @@ use Rattle.registry_values.specs.declared.slot.Slot.{Slot}
 use Rattle.protocol.specs.declared.state.Hand.{Hand}
 use Rattle.protocol.specs.declared.state.Hand.TheVariants.{Empty, Taking, Giving, Back}
 use Rattle.protocol.specs.declared.state.LocalPlace.{LocalPlace}
-use Rattle.protocol.specs.declared.state.LocalPlace.TheVariants.{Free, Standing, Lifted}
+use Rattle.protocol.specs.declared.state.LocalPlace.TheVariants.{Free, Standing}
 use Rattle.protocol.specs.declared.state.Due.{Due}
 use Rattle.protocol.specs.declared.state.Due.TheVariants.{Rest, Snapshots, Adding, Subtracting}
 use Rattle.protocol.specs.State.{kept_at, local_at}
@@ -51,9 +51,8 @@ pub none_standing : (n : ℕ) (locals : List LocalPlace) → sum_by (standing_of
 none_standing n locals sum id at = let one = standing_counts n locals id at in omega (arith, one, sum)
 
 pub standing_not : (n : ℕ) (p : LocalPlace) → (p ≡ Standing n → ⊥) → standing_of n p ≡ 0
-standing_not n Free off = refl
 standing_not n (Standing m) off = one_other m n (λ same. off (ap (λ (k : ℕ). Standing k) same))
-standing_not n (Lifted c) off = refl
+standing_not n _ off = refl
 
 pub no_standing : (n : ℕ) (locals : List LocalPlace) → ((id : ℕ) → local_at locals id ≡ Standing n → ⊥) → sum_by (standing_of n) locals ≡ 0
 no_standing n locals none = uncounted (standing_of n) Free locals (λ id. standing_not n (local_at locals id) (none id))

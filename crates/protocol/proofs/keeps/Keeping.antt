@@ -33,12 +33,12 @@ use Rattle.protocol.specs.declared.event.Reply.{Reply}
 use Rattle.protocol.specs.declared.event.Reply.TheVariants.{Done}
 use Rattle.registry_values.specs.declared.settings.Settings.{Settings}
 use Rattle.protocol.specs.declared.state.Due.{Due}
-use Rattle.protocol.specs.declared.state.Due.TheVariants.{Adding, Rest, Snapshots, Subtracting}
+use Rattle.protocol.specs.declared.state.Due.TheVariants.{Adding, Snapshots, Subtracting}
 use Rattle.protocol.specs.declared.state.Hand.{Hand}
-use Rattle.protocol.specs.declared.state.Hand.TheVariants.{Back, Empty, Giving, Taking}
+use Rattle.protocol.specs.declared.state.Hand.TheVariants.{Back, Giving, Taking}
 use Rattle.protocol.specs.declared.state.LocalPlace.TheVariants.{Standing}
 use Rattle.registry_values.specs.declared.slot.Slot.{Slot}
-use Rattle.registry_values.specs.declared.slot.Slot.TheVariants.{Live, Retired, Vacant}
+use Rattle.registry_values.specs.declared.slot.Slot.TheVariants.{Live, Retired}
 
 -- The list
 
@@ -124,9 +124,8 @@ store_slot_keeps s t k v on = elim (nat_lt k 5) as (λ (b : Bool). Keeps (if b t
     ]
 
 unpublish_slot_keeps : (s : State) (t : ℕ) (x : Slot) → Holds s → slot_at s.slots t ≡ x → Keeps (unpublish s t x)
-unpublish_slot_keeps s t Vacant on is = tt
 unpublish_slot_keeps s t (Live e) on is = guard_keeps (at_rest s.due) _ (λ rest. unpublish_keeps s t e on is rest)
-unpublish_slot_keeps s t (Retired e) on is = tt
+unpublish_slot_keeps s t _ on is = tt
 
 tell_keeps : (s : State) (to : Option ℕ) → Holds s → Keeps (tell s to)
 tell_keeps s None on = guard_keeps (at_rest s.due) _ (λ rest. on)
@@ -150,34 +149,24 @@ load_record_keeps s (OfPassive c n k) on = some_keeps (slot_of s.slots n) _ (λ 
 load_record_keeps s (OfLocal id k) on = standing_keeps s id _ (λ n at. some_keeps (slot_of s.slots n) _ (λ t of. guard_keeps (nat_lt k 5) _ (λ may. on)))
 
 split_hand_keeps : (s : State) (c : ℕ) (h : Hand) → Holds s → hand_at s c ≡ h → Keeps (split_ref s c h)
-split_hand_keeps s c Empty on is = tt
 split_hand_keeps s c (Taking n) on is = split_keeps s c n on is
-split_hand_keeps s c (Giving n id) on is = tt
-split_hand_keeps s c (Back n id) on is = tt
+split_hand_keeps s c _ on is = tt
 
 count_down_hand_keeps : (s : State) (c : ℕ) (h : Hand) → Holds s → hand_at s c ≡ h → Keeps (count_down s c h)
-count_down_hand_keeps s c Empty on is = tt
-count_down_hand_keeps s c (Taking n) on is = tt
 count_down_hand_keeps s c (Giving n id) on is = some_keeps (slot_of s.slots n) (exchange s c n id) (λ t of. exchange_keeps s c n id t on is of)
-count_down_hand_keeps s c (Back n id) on is = tt
+count_down_hand_keeps s c _ on is = tt
 
 split_back_hand_keeps : (s : State) (c : ℕ) (h : Hand) → Holds s → hand_at s c ≡ h → Keeps (split_back s c h)
-split_back_hand_keeps s c Empty on is = tt
-split_back_hand_keeps s c (Taking n) on is = tt
-split_back_hand_keeps s c (Giving n id) on is = tt
 split_back_hand_keeps s c (Back n id) on is = split_back_keeps s c n id on is
+split_back_hand_keeps s c _ on is = tt
 
 total_add_due_keeps : (s : State) (t : ℕ) (due : Due) → Holds s → s.due ≡ due → Keeps (total_add s t due)
-total_add_due_keeps s t Rest on is = tt
-total_add_due_keeps s t (Snapshots u c) on is = tt
 total_add_due_keeps s t (Adding u old) on is = guard_keeps (u == t) _ (λ same. total_add_keeps s t old on (is ∙ ap (λ (k : ℕ). Adding k old) (eqb-true u t same)))
-total_add_due_keeps s t (Subtracting u) on is = tt
+total_add_due_keeps s t _ on is = tt
 
 total_sub_due_keeps : (s : State) (t : ℕ) (due : Due) → Holds s → s.due ≡ due → Keeps (total_sub s t due)
-total_sub_due_keeps s t Rest on is = tt
-total_sub_due_keeps s t (Snapshots u c) on is = tt
-total_sub_due_keeps s t (Adding u old) on is = tt
 total_sub_due_keeps s t (Subtracting u) on is = guard_keeps (u == t) _ (λ same. total_sub_keeps s t on (is ∙ ap Subtracting (eqb-true u t same)))
+total_sub_due_keeps s t _ on is = tt
 
 kept_sub_one_keeps : (s : State) (t : ℕ) → Holds s → Keeps (kept_sub s t)
 kept_sub_one_keeps s t on = some_keeps (kept_at s.keeps t) _ (λ d is. some_keeps (slot_of s.slots d) _ (λ u of. guard_keeps (is_iface_slot (slot_at s.slots t) && is_drained s t) _ (λ may.

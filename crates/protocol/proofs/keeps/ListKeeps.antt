@@ -148,10 +148,9 @@ link_store_keeps s t v on may =
     assumption (length-set s.next t v ∙ on.shape.links)
 
 kind_from : (w : ℕ) (k : Kind) → kind_of w ≡ Some k → w ≡ kind_word k
-kind_from zero k is = absurd (none-some k is)
 kind_from (suc zero) k is = ap kind_word (same_Some Iface k is)
 kind_from (suc (suc zero)) k is = ap kind_word (same_Some Driver k is)
-kind_from (suc (suc (suc n))) k is = absurd (none-some k is)
+kind_from _ k is = absurd (none-some k is)
 
 some_if : {X : Type 0} (b : Bool) (x y : X) → (if b then Some x else None) ≡ Some y → (b ≡ true) × (x ≡ y)
 some_if true x y is = (refl, same_Some x y is)

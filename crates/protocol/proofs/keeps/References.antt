@@ -71,14 +71,12 @@ pub references_due : (cpus : ℕ) (slots : List Slot) (hands : List Hand) (due n
 references_due cpus slots hands due next_due locals now refer = record { standing = refer.standing; in_hands = refer.in_hands; due_at = now }
 
 pub snapshot_due_tells : (due : Due) (t c : ℕ) → is_snapshot_due due t c ≡ true → due ≡ Snapshots t c
-snapshot_due_tells Rest t c test = absurd (let q : ◌≡◌ {A = Bool} false true = test in cc)
 snapshot_due_tells (Snapshots a b) t c test =
     let parts = and_parts (a == t) (b == c) test in
     let x : a ≡ t = eqb-true a t parts.0 in
     let y : b ≡ c = eqb-true b c parts.1 in
     cc
-snapshot_due_tells (Adding a old) t c test = absurd (let q : ◌≡◌ {A = Bool} false true = test in cc)
-snapshot_due_tells (Subtracting a) t c test = absurd (let q : ◌≡◌ {A = Bool} false true = test in cc)
+snapshot_due_tells _ t c test = absurd (let q : ◌≡◌ {A = Bool} false true = test in cc)
 
 -- the due snapshots of the slot t, from the CPU c on, are for a CPU and a retired entry
 pub due_snapshots : (cpus : ℕ) (slots : List Slot) (hands : List Hand) (due : Due) (locals : List LocalPlace) (t c : ℕ) → due ≡ Snapshots t c → ReferencesHold cpus slots hands due locals → (c < cpus) × ((e : Entry) × (slot_at slots t ≡ Retired e))
@@ -206,8 +204,7 @@ references_count_add cpus slots hands due locals c n is refer =
 
 free_tells : (p : LocalPlace) → is_free p ≡ true → p ≡ Free
 free_tells Free test = refl
-free_tells (Standing n) test = absurd (let q : ◌≡◌ {A = Bool} false true = test in cc)
-free_tells (Lifted c) test = absurd (let q : ◌≡◌ {A = Bool} false true = test in cc)
+free_tells _ test = absurd (let q : ◌≡◌ {A = Bool} false true = test in cc)
 
 id_free : (locals : List LocalPlace) (found : Option ℕ) → position is_free locals ≡ found → (id_if locals found ≤ length locals) × (local_at locals (id_if locals found) ≡ Free)
 id_free locals None is = (omega arith, get_or_past locals (length locals) Free (omega arith))
@@ -319,9 +316,8 @@ references_keep cpus slots hands due locals id n at refer =
     refer.due_at refer
 
 pub standing_tells : (p : LocalPlace) (n : ℕ) → number_standing p ≡ Some n → p ≡ Standing n
-standing_tells Free n is = absurd (let q : ◌≡◌ {A = Option ℕ} None (Some n) = is in cc)
 standing_tells (Standing m) n is = ap (λ (k : ℕ). Standing k) (let q : ◌≡◌ {A = Option ℕ} (Some m) (Some n) = is in cc)
-standing_tells (Lifted c) n is = absurd (let q : ◌≡◌ {A = Option ℕ} None (Some n) = is in cc)
+standing_tells _ n is = absurd (let q : ◌≡◌ {A = Option ℕ} None (Some n) = is in cc)
 
 -- The opening
 
@@ -345,12 +341,4 @@ seats_hand cpus seated begins searches hands c h lt seats = record {
   outside = seats.outside;
   unsearching = seats.unsearching;
   empty = λ d ge. get_or-set_other hands c d h Empty (λ same. omega (arith, lt, ge, same)) ∙ seats.empty d ge;
-}
-
-pub seats_opening : (cpus : ℕ) → SeatsShow cpus 0 (replicate cpus None) (replicate cpus None) (replicate cpus Empty)
-seats_opening cpus = record {
-  within = omega arith;
-  outside = λ c ge. get_or_all cpus None c;
-  unsearching = λ c ge. get_or_all cpus None c;
-  empty = λ c ge. get_or_all cpus Empty c;
 }

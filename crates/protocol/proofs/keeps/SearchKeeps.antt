@@ -99,11 +99,7 @@ load_link_keeps s c q (AtNext t) on is p =
     let walk : Walks s c q.start = search_walks s c q on is in
     link_loaded_keeps s c p.0.number q (get_or s.next t 0) on is
     (link_tells s c q.start p.0.number (get_or s.next t 0) q.key on walk (next_ahead s c q.start (seen_at s c) t q.key p.0 on walk (on.sections.prefix c) p.1 p.2))
-load_link_keeps s c q (AtNumber t) on is p = tt
-load_link_keeps s c q (AtKind t n) on is p = tt
-load_link_keeps s c q (AtHigh t n k) on is p = tt
-load_link_keeps s c q (AtLow t n k x) on is p = tt
-load_link_keeps s c q (AtValue t n) on is p = tt
+load_link_keeps s c q _ on is p = tt
 
 pub link_keeps : (s : State) (c : ℕ) (q : Search) → Holds s → search_at s c ≡ Some q → Keeps (load_link s c q q.place)
 link_keeps s c q on is = load_link_keeps s c q q.place on is (on.searches c q is).stands
@@ -115,8 +111,6 @@ compared_keeps s c q t n l false on is right wrong = going_on_keeps s c q (AtNex
 
 load_searched_keeps : (s : State) (c : ℕ) (q : Search) (place : SearchPlace) → Holds s → search_at s c ≡ Some q
     → PlaceHolds s.history q.start (seen_at s c) q.key place → Keeps (load_searched s c q place)
-load_searched_keeps s c q AtHead on is p = tt
-load_searched_keeps s c q (AtNext t) on is p = tt
 load_searched_keeps s c q (AtNumber t) on is p =
     going_on_keeps s c q (AtKind t (row_at s.rows t).number) on is (goes_on s c q.start (seen_at s c) q.key (AtNumber t) on (search_walks s c q on is) p)
 load_searched_keeps s c q (AtKind t n) on is p =
@@ -132,6 +126,7 @@ load_searched_keeps s c q (AtValue t n) on is p =
     let same : p.0 ≡ e = found_is s c q.start (seen_at s c) t n q p.0 on walk p.1 p.2 p.3 in
     let stands : StandsOn s.history q.start (seen_at s c) t e = subst (StandsOn s.history q.start (seen_at s c) t) same p.1 in
     search_found_keeps s c walk.begin q e on is walk.open_since (record { attached = stands.attached; unended = λ p x. omega (arith, stands.unended p x, walk.since) })
+load_searched_keeps s c q _ on is p = tt
 
 pub record_keeps : (s : State) (c : ℕ) (q : Search) → Holds s → search_at s c ≡ Some q → Keeps (load_searched s c q q.place)
 record_keeps s c q on is = load_searched_keeps s c q q.place on is (on.searches c q is).stands

@@ -13,14 +13,14 @@ use Rattle.protocol.specs.declared.event.Reply.TheVariants.{Done, Word, Found, M
 use Rattle.registry_values.specs.declared.slot.Key.{Key}
 use Rattle.protocol.specs.declared.state.RecordWords.{RecordWords}
 use Rattle.protocol.specs.declared.state.Loaded.{Loaded}
-use Rattle.protocol.specs.declared.state.Loaded.TheVariants.{On, Over}
 use Rattle.protocol.specs.declared.state.SearchPlace.{SearchPlace}
+use Rattle.protocol.specs.declared.state.Loaded.TheVariants.{On, Over}
 use Rattle.protocol.specs.declared.state.SearchPlace.TheVariants.{AtHead, AtNext, AtNumber, AtKind, AtHigh, AtLow, AtValue}
 use Rattle.protocol.specs.declared.state.Search.{Search}
 use Rattle.registry_values.specs.Slots.{are_words_of, key_of, slot_at, kind_word}
 use Rattle.protocol.specs.History.{EndsAt, MayHold, IsLookup, IsLawful}
 use Rattle.protocol.specs.State.{State, row_at, seen_at, search_at, begin_at}
-use Rattle.protocol.specs.Events.{Outcome, after_seeing, after_seek, with_search_at, with_some, link_at, link_loaded, load_link, load_searched, outcome_of, words_of}
+use Rattle.protocol.specs.Events.{Outcome, after_seeing, with_search_at, with_some, link_at, link_loaded, load_link, load_searched, outcome_of, words_of}
 use Rattle.protocol.specs.Loaded.{SlotWithin, entry_with, loaded_at, loaded_of_name, row_of_place}
 use Rattle.protocol.specs.Invariant.{IsIn, SearchHolds, SearchesHold, FoundHold, StandsOn, AllBelow, PlaceHolds, Holds}
 use Rattle.protocol.proofs.history.History.{at_within, one_entry}
@@ -211,11 +211,7 @@ load_link_steps s c from q (AtNext t) on walk is p =
     subst (λ (n : ℕ). Steps c from q (6 * n) (link_loaded s c q (get_or s.next t 0))) (sym number)
     (link_steps s c from q p.0.number (get_or s.next t 0) on walk is
     (link_tells s c from p.0.number (get_or s.next t 0) q.key on walk (next_ahead s c from (seen_at s c) t q.key p.0 on walk (on.sections.prefix c) p.1 p.2)))
-load_link_steps s c from q (AtNumber t) on walk is p = tt
-load_link_steps s c from q (AtKind t n) on walk is p = tt
-load_link_steps s c from q (AtHigh t n k) on walk is p = tt
-load_link_steps s c from q (AtLow t n k x) on walk is p = tt
-load_link_steps s c from q (AtValue t n) on walk is p = tt
+load_link_steps s c from q _ on walk is p = tt
 
 -- Words and keys.
 kind_from_word : (a b : Kind) → kind_word a ≡ kind_word b → a ≡ b
@@ -269,8 +265,6 @@ GoesOn s from to key (AtLow t n k x) = ((are_words_of key k x (row_at s.rows t).
 GoesOn s from to key (AtValue t n) = Unit {0}
 
 pub goes_on : (s : State) (c from to : ℕ) (key : Key) (place : SearchPlace) → Holds s → Walks s c from → PlaceHolds s.history from to key place → GoesOn s from to key place
-goes_on s c from to key AtHead on walk p = tt
-goes_on s c from to key (AtNext t) on walk p = tt
 goes_on s c from to key (AtNumber t) on walk p =
     let row : row_at s.rows t ≡ words_of p.0 = words_stand s c from to t p.0 on walk p.1 in
     (p.0, p.1, p.2, ap (λ (r : RecordWords). r.number) row)
@@ -285,7 +279,7 @@ goes_on s c from to key (AtLow t n k x) on walk p =
     let test : are_words_of key (kind_word p.0.rec.kind) p.0.rec.name.high p.0.rec.name.low ≡ are_words_of key k x (row_at s.rows t).low =
     λ i. are_words_of key (sym p.4 i) (sym p.5 i) (sym row i).low in
     (λ right. (p.0, p.1, p.3, key_from_words key p.0 (test ∙ right)), λ wrong. (p.0, p.1, key_differs s from to t key p.0 p.1 p.2 (test ∙ wrong)))
-goes_on s c from to key (AtValue t n) on walk p = tt
+goes_on s c from to key _ on walk p = tt
 
 -- what a found entry is
 pub found_tells : (s : State) (c from to t n : ℕ) (q : Search) → Holds s → Walks s c from → from ≤ to → PlaceHolds s.history from to q.key (AtValue t n)
@@ -302,8 +296,6 @@ compared_steps s c from q t n l left false is weighs right wrong = (AtNext t, se
 -- LoadRecord: the walk holds at the new place, and what is found is lawful.
 pub load_searched_steps : (s : State) (c from : ℕ) (q : Search) (place : SearchPlace) → Holds s → Walks s c from → from ≤ seen_at s c → search_at s c ≡ Some q
     → PlaceHolds s.history from (seen_at s c) q.key place → Steps c from q (weight s place) (load_searched s c q place)
-load_searched_steps s c from q AtHead on walk le is p = tt
-load_searched_steps s c from q (AtNext t) on walk le is p = tt
 load_searched_steps s c from q (AtNumber t) on walk le is p =
     (AtKind t (row_at s.rows t).number, search_placed s c q (AtKind t (row_at s.rows t).number) is, goes_on s c from (seen_at s c) q.key (AtNumber t) on walk p, omega arith)
 load_searched_steps s c from q (AtKind t n) on walk le is p =
@@ -314,6 +306,7 @@ load_searched_steps s c from q (AtLow t n k x) on walk le is p =
     let next = goes_on s c from (seen_at s c) q.key (AtLow t n k x) on walk p in
     compared_steps s c from q t n (row_at s.rows t).low (weight s (AtLow t n k x)) (are_words_of q.key k x (row_at s.rows t).low) is refl next.0 next.1
 load_searched_steps s c from q (AtValue t n) on walk le is p = found_tells s c from (seen_at s c) t n q on walk le p
+load_searched_steps s c from q _ on walk le is p = tt
 
 -- An undisturbed walk: the search q of c answers for the whole history.
 pub record Finds (s : State) (c : ℕ) (q : Search) : Type 0 where
@@ -377,14 +370,6 @@ outcome_sees s c q (Some (Over e)) all = (refl, all)
 record_sees : (s : State) (c : ℕ) (q : Search) (place : SearchPlace) → (place ≡ AtHead) ⊎ (seen_at s c ≡ length s.history) → Sees s c (load_searched s c q place)
 record_sees s c q place (inl head) = subst (λ (p : SearchPlace). Sees s c (load_searched s c q p)) (sym head) tt
 record_sees s c q place (inr all) = outcome_sees s c q (loaded_at q place (row_of_place s.rows place)) all
-
--- a search that was just begun
-pub find_starts : (s : State) (c : ℕ) (key : Key) → Holds s → c < s.settings.cpus → Finds (after_seek s c key) c (record { key = key; start = seen_at s c; place = AtHead })
-find_starts s c key on lt = record {
-  searching = get_or-set_same s.searches c (Some (record { key = key; start = seen_at s c; place = AtHead })) None (omega (arith, on.shape.searches));
-  stands = tt;
-  seen = inl refl;
-}
 
 pub find_link : (s : State) (c : ℕ) (q : Search) → Holds s → Finds s c q → FindSteps c q (weight s q.place) (load_link s c q q.place)
 find_link s c q on finds = find_steps s c q (weight s q.place) (load_link s c q q.place) (followed_sees s c q (link_at s q.place) on finds.searching)

@@ -2,7 +2,7 @@
 use Rattle.std.proofs.Common.{◌≡◌, ℕ, ◌+◌, ◌*◌, ◌<◌, length, Option, Some, None, Bool, true, false, ◌&&◌, is_none, is_some, nat_eq, nat_lt, refl, sym, subst, ◌∙◌, arith, length-set, ltb-true, eqb-true}
 use Rattle.std.proofs.lemmas.Bool.{and_parts}
 use Rattle.protocol.specs.declared.state.Hand.{Hand}
-use Rattle.protocol.specs.declared.state.Hand.TheVariants.{Empty, Taking, Giving, Back}
+use Rattle.protocol.specs.declared.state.Hand.TheVariants.{Empty}
 use Rattle.protocol.specs.State.{State, section_at, begin_at, depth_at, search_at, hand_at, at_rest, is_empty}
 use Rattle.protocol.specs.Events.{is_idle, is_outside, is_inside, may_seat, after_seat, may_enter, after_enter, may_exit, after_exit, after_seeing}
 use Rattle.protocol.specs.Invariant.{SeatsShow, Holds}
@@ -26,9 +26,7 @@ idle_parts s c ok =
 
 pub empty_from : (h : Hand) → is_empty h ≡ true → h ≡ Empty
 empty_from Empty is = refl
-empty_from (Taking n) is = absurd (let q : ◌≡◌ {A = Bool} false true = is in cc)
-empty_from (Giving n id) is = absurd (let q : ◌≡◌ {A = Bool} false true = is in cc)
-empty_from (Back n id) is = absurd (let q : ◌≡◌ {A = Bool} false true = is in cc)
+empty_from _ is = absurd (let q : ◌≡◌ {A = Bool} false true = is in cc)
 
 -- and in range with nothing in its hand
 pub idle_tells : (s : State) (c : ℕ) → Holds s → is_idle s c ≡ true → (c < s.settings.cpus) × (hand_at s c ≡ Empty)

@@ -107,9 +107,8 @@ find_link h slots head next e show list live (suc fuel) n _ le lt (To_entry g lg
     (λ further. inr further))
 
 pub live_entry : (x : Slot) → is_live x ≡ true → (g : Entry) × (x ≡ Live g)
-live_entry Vacant is = absurd (let q : ◌≡◌ {A = Bool} false true = is in cc)
 live_entry (Live e) is = (e, refl)
-live_entry (Retired e) is = absurd (let q : ◌≡◌ {A = Bool} false true = is in cc)
+live_entry _ is = absurd (let q : ◌≡◌ {A = Bool} false true = is in cc)
 
 pub within_live : (slots : List Slot) (t : ℕ) (e : Entry) → slot_at slots t ≡ Live e → t < length slots
 within_live slots t e is = either (cases_lt t (length slots)) (λ lt. lt) (λ ge. absurd (let q : Vacant ≡ Live e = sym (get_or_past slots t Vacant ge) ∙ is in cc))

@@ -11,12 +11,12 @@ use Rattle.protocol.specs.declared.event.RecordOf.TheVariants.{Search as OfSearc
 use Rattle.protocol.specs.declared.event.Reply.{Reply}
 use Rattle.protocol.specs.declared.event.Reply.TheVariants.{Done, Word, Collected}
 use Rattle.registry_values.specs.declared.slot.Slot.{Slot}
-use Rattle.registry_values.specs.declared.slot.Slot.TheVariants.{Vacant, Live, Retired}
+use Rattle.registry_values.specs.declared.slot.Slot.TheVariants.{Vacant, Live}
 use Rattle.protocol.specs.declared.state.Hand.{Hand}
 use Rattle.protocol.specs.declared.state.Hand.TheVariants.{Empty, Taking, Giving, Back}
 use Rattle.protocol.specs.declared.state.LocalPlace.TheVariants.{Lifted}
 use Rattle.protocol.specs.declared.state.Due.{Due}
-use Rattle.protocol.specs.declared.state.Due.TheVariants.{Rest, Snapshots, Adding, Subtracting}
+use Rattle.protocol.specs.declared.state.Due.TheVariants.{Adding, Subtracting}
 use Rattle.protocol.specs.State.{State, opening, section_at, search_at, found_at, row_at, passive_at, count_at, total_at, hand_at, kept_at, local_at, at_rest}
 use Rattle.registry_values.specs.Balances.{bias}
 use Rattle.registry_values.specs.Slots.{slot_at, slot_of}
@@ -72,9 +72,8 @@ store_slot_makes s t k v =
     (stays_make s (Events.after_count_store s t (k - 5) v) (Events.may_write s t && nat_lt (k - 5) s.settings.cpus) Done (count_store_refines s t (k - 5) v))
 
 unpublish_makes : (s : State) (t : ℕ) (x : Slot) → Holds s → slot_at s.slots t ≡ x → Makes (picture s) (Events.unpublish s t x)
-unpublish_makes s t Vacant on at = tt
 unpublish_makes s t (Live e) on at = makes_guard (picture s) (at_rest s.due) (some_outcome (Events.after_unpublish s t e) Done) (λ ok now. unpublish_refines s t e on now (at_rest_tells s.due ok) at)
-unpublish_makes s t (Retired e) on at = tt
+unpublish_makes s t _ on at = tt
 
 snapshot_makes : (s : State) (to : Option ℕ) (c : ℕ) → Makes (picture s) (Events.snapshot s to c)
 snapshot_makes s None c = stays_make s s (Events.may_glance s c) (Word (section_at s c)) Stays
@@ -90,10 +89,8 @@ count_add_makes s c e on found =
     (λ t of. makes_guard (picture s) (Events.may_count s c t) (some_outcome (Events.after_count_add s c e.number t) (Word (count_at s.counts c t))) (λ ok now. count_add_refines s c t e on found ok))
 
 split_makes : (s : State) (c : ℕ) (h : Hand) → Holds s → hand_at s c ≡ h → Makes (picture s) (Events.split_ref s c h)
-split_makes s c Empty on hand = tt
 split_makes s c (Taking n) on hand = λ now. split_refines s c n on hand
-split_makes s c (Giving n id) on hand = tt
-split_makes s c (Back n id) on hand = tt
+split_makes s c _ on hand = tt
 
 join_makes : (s : State) (c id : ℕ) → Holds s → Makes (picture s) (Events.join_ref s c id)
 join_makes s c id on =
@@ -102,32 +99,24 @@ join_makes s c id on =
     (λ ok now. join_refines s c n id on ok (standing_tells (local_at s.locals id) n at)))
 
 count_down_makes : (s : State) (c : ℕ) (h : Hand) → Holds s → hand_at s c ≡ h → Makes (picture s) (Events.count_down s c h)
-count_down_makes s c Empty on hand = tt
-count_down_makes s c (Taking n) on hand = tt
 count_down_makes s c (Giving n id) on hand = makes_some (picture s) (slot_of s.slots n) (Events.exchange s c n id)
     (λ t of. both_make (picture s) (count_at s.counts c t == count_at s.nets c t) (some_outcome (Events.after_count_down s c t id) (Word (count_at s.counts c t))) (some_outcome (Events.after_collected s c n id) Collected)
     (λ now. count_down_refines s c n id t on hand) (λ now. collected_refines s c n id on hand))
-count_down_makes s c (Back n id) on hand = tt
+count_down_makes s c _ on hand = tt
 
 split_back_makes : (s : State) (c : ℕ) (h : Hand) → Holds s → hand_at s c ≡ h → Makes (picture s) (Events.split_back s c h)
-split_back_makes s c Empty on hand = tt
-split_back_makes s c (Taking n) on hand = tt
-split_back_makes s c (Giving n id) on hand = tt
 split_back_makes s c (Back n id) on hand = λ now. split_back_refines s c n id on hand
+split_back_makes s c _ on hand = tt
 
 total_add_makes : (s : State) (t : ℕ) (due : Due) → s.due ≡ due → Makes (picture s) (Events.total_add s t due)
-total_add_makes s t Rest is = tt
-total_add_makes s t (Snapshots u c) is = tt
 total_add_makes s t (Adding u old) is = makes_guard (picture s) (u == t) (some_outcome (Events.after_total s t (total_at s.totals t + old - bias)) Done)
     (λ ok now. total_add_refines s t old (total_at s.totals t + old - bias) (is ∙ ap (λ (k : ℕ). Adding k old) (eqb-true u t ok)))
-total_add_makes s t (Subtracting u) is = tt
+total_add_makes s t _ is = tt
 
 total_sub_makes : (s : State) (t : ℕ) (due : Due) → Holds s → s.due ≡ due → Makes (picture s) (Events.total_sub s t due)
-total_sub_makes s t Rest on is = tt
-total_sub_makes s t (Snapshots u c) on is = tt
-total_sub_makes s t (Adding u old) on is = tt
 total_sub_makes s t (Subtracting u) on is = makes_guard (picture s) (u == t) (some_outcome (Events.after_total s t (total_at s.totals t - 1)) Done)
     (λ ok now. total_sub_refines s t (total_at s.totals t - 1) on (is ∙ ap (λ (k : ℕ). Subtracting k) (eqb-true u t ok)))
+total_sub_makes s t _ on is = tt
 
 join_keeper_makes : (s : State) (id : ℕ) → Holds s → Makes (picture s) (Events.join_keeper s id)
 join_keeper_makes s id on =

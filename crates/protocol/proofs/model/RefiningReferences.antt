@@ -119,9 +119,9 @@ locals_more : (s : State) (c : ℕ) (e : Entry) (hands : List Hand) (due : Due) 
     → IsModelRun (picture s) (picture (record s { hands = hands; due = due; locals = locals }))
 locals_more s c e hands due locals found more =
     one_step (picture s) _ (picture (record s { hands = hands; due = due; locals = locals })) (Model.Counts c e found) (assumption (
-      put_is (λ i. locals_of s i) (λ i. locals_of (record s { hands = hands; due = due; locals = locals }) i) e.number (locals_of s e.number + 1)
-          (omega (arith, more e.number, one_at e.number e.number refl))
-          (λ i off. omega (arith, more i, none_at e.number i (λ same. off (sym same))))
+    put_is (λ i. locals_of s i) (λ i. locals_of (record s { hands = hands; due = due; locals = locals }) i) e.number (locals_of s e.number + 1)
+    (omega (arith, more e.number, one_at e.number e.number refl))
+    (λ i off. omega (arith, more i, none_at e.number i (λ same. off (sym same))))
     ))
 
 -- one reference less
@@ -130,9 +130,9 @@ locals_less : (s : State) (n : ℕ) (hands : List Hand) (due : Due) (locals : Li
     → IsModelRun (picture s) (picture (record s { hands = hands; due = due; locals = locals }))
 locals_less s n hands due locals less =
     one_step (picture s) _ (picture (record s { hands = hands; due = due; locals = locals })) (Model.Uncounts n (omega (arith, less n, one_at n n refl))) (assumption (
-      put_is (λ i. locals_of s i) (λ i. locals_of (record s { hands = hands; due = due; locals = locals }) i) n (locals_of s n - 1)
-          (omega (arith, less n, one_at n n refl))
-          (λ i off. omega (arith, less i, none_at n i (λ same. off (sym same))))
+    put_is (λ i. locals_of s i) (λ i. locals_of (record s { hands = hands; due = due; locals = locals }) i) n (locals_of s n - 1)
+    (omega (arith, less n, one_at n n refl))
+    (λ i off. omega (arith, less i, none_at n i (λ same. off (sym same))))
     ))
 
 pub count_add_refines : (s : State) (c t : ℕ) (e : Entry) → Holds s → found_at s c ≡ Some e → may_count s c t ≡ true → IsModelRun (picture s) (picture (after_count_add s c e.number t))

@@ -65,7 +65,7 @@ seek_refines s c key on ok =
     let in_ : (b : ℕ) × (begin_at s c ≡ Some b) = some_from (begin_at s c) p.1 in
     let lt : c < s.settings.cpus = (idle_tells s c on p.0).0 in
     one_step (picture s) _ (picture (after_seek s c key)) (Model.Seeks c in_.0 key in_.1 (ap lookup_of idle.1)) (assumption (
-      written lookup_of None s.searches c (Some (record { key = key; start = seen_at s c; place = AtHead })) (omega (arith, lt, on.shape.searches))
+    written lookup_of None s.searches c (Some (record { key = key; start = seen_at s c; place = AtHead })) (omega (arith, lt, on.shape.searches))
     ))
 
 -- a lookup is over, with a lawful answer

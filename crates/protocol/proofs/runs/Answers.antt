@@ -7,7 +7,7 @@ use Rattle.registry_values.specs.declared.entry.Change.TheVariants.{Attach, Deta
 use Rattle.protocol.specs.declared.event.Event.{Event}
 use Rattle.protocol.specs.declared.event.Event.TheVariants.{Seek}
 use Rattle.protocol.specs.declared.event.Reply.{Reply}
-use Rattle.protocol.specs.declared.event.Reply.TheVariants.{Done, Word, Found, Missed, Ref, Collected}
+use Rattle.protocol.specs.declared.event.Reply.TheVariants.{Found, Missed}
 use Rattle.registry_values.specs.declared.slot.Key.{Key}
 use Rattle.protocol.specs.declared.state.Search.{Search}
 use Rattle.protocol.specs.History.{IsLawful}
@@ -17,19 +17,16 @@ use Rattle.protocol.specs.Invariant.{Holds}
 use Rattle.protocol.specs.Laws.{after, after_event, answer_of, IsAnswered, HasBegun, AnswersLawfully, LawfulAnswers}
 use Rattle.protocol.proofs.slots.Occupied.{written_cases}
 use Rattle.protocol.proofs.keeps.SearchKeeps.{IsAnswer}
-use Rattle.protocol.proofs.runs.Steps.{IsOn, Sort, Refused, Left, Entered, Exited, Sought, Heard, Searched, Published, Unpublished, Kept, Gave_up, Vacated, step_sort}
+use Rattle.protocol.proofs.runs.Steps.{IsOn, Sort, Refused, Left, Entered, Sought, Heard, Searched, Published, Unpublished, step_sort}
 use Rattle.protocol.proofs.runs.Reuse.{every_run_keeps}
 use Rattle.protocol.proofs.Either.{either}
 
 -- Answers
 
 lawful_of : (h : List Change) (from to : ℕ) (key : Key) (r : Reply) (answer : Option Entry) → IsAnswer h from to key r → answer_of r ≡ Some answer → IsLawful h from to key answer
-lawful_of h from to key Done answer is same = absurd (none-some answer same)
-lawful_of h from to key (Word w) answer is same = absurd (none-some answer same)
 lawful_of h from to key (Found e) answer is same = subst (IsLawful h from to key) (same_Some (Some e) answer same) is
 lawful_of h from to key Missed answer is same = subst (IsLawful h from to key) (same_Some None answer same) is
-lawful_of h from to key (Ref id) answer is same = absurd (none-some answer same)
-lawful_of h from to key Collected answer is same = absurd (none-some answer same)
+lawful_of h from to key _ answer is same = absurd (none-some answer same)
 
 AllAnswered : State → Event → Option Outcome → Type 0
 AllAnswered s e None = Unit {0}
@@ -39,10 +36,6 @@ all_answered : (s : State) (e : Event) (o : Option Outcome) → Sort s e o → A
 unfolding AllAnswered
 all_answered s _ _ (Refused e) = tt
 all_answered s _ _ (Left e o same) = λ answer is. absurd (none-some answer (sym same.reply ∙ is))
-all_answered s _ _ (Entered c may) = λ answer is. absurd (none-some answer is)
-all_answered s _ _ (Exited c may) = λ answer is. absurd (none-some answer is)
-all_answered s _ _ (Sought c kind name may) = λ answer is. absurd (none-some answer is)
-all_answered s _ _ (Heard c may) = λ answer is. absurd (none-some answer is)
 all_answered s _ _ (Searched e c q o of under loads answers) = λ answer is. record {
   cpu = c;
   search = q;
@@ -50,11 +43,7 @@ all_answered s _ _ (Searched e c q o of under loads answers) = λ answer is. rec
   under_way = under;
   lawful = lawful_of o.state.history q.start (seen_at o.state c) q.key o.reply answer answers is;
 }
-all_answered s _ _ (Published u e row may) = λ answer is. absurd (none-some answer is)
-all_answered s _ _ (Unpublished u e n at gone) = λ answer is. absurd (none-some answer is)
-all_answered s _ _ (Kept u id d v may) = λ answer is. absurd (none-some answer is)
-all_answered s _ _ (Gave_up u d v keeps of ok) = λ answer is. absurd (none-some answer is)
-all_answered s _ _ (Vacated u may) = λ answer is. absurd (none-some answer is)
+all_answered s _ _ _ = λ answer is. absurd (none-some answer is)
 
 pub answers_lawful : (s : State) (e : Event) (o : Outcome) (answer : Option Entry) → Holds s → step s e ≡ Some o → answer_of o.reply ≡ Some answer → IsAnswered s e o answer
 unfolding AllAnswered
@@ -83,20 +72,14 @@ on_begun s n e c j q old under on is = either on
 begun : (s : State) (e : Event) (o : Option Outcome) (c : ℕ) (q : Search) → Sort s e o → search_at (state_after s o) c ≡ Some q → HasBegun s e c q
 begun s _ _ c q (Refused e) is = was_under_way s s e c q refl is
 begun s _ _ c q (Left e o same) is = was_under_way s o.state e c q same.searches is
-begun s _ _ c q (Entered j may) is = inl (q, is, refl, refl)
-begun s _ _ c q (Exited j may) is = inl (q, is, refl, refl)
 begun s _ _ c q (Sought j kind name may) is = either (written_cases None s.searches j (Some (record { key = record { kind = kind; name = name }; start = seen_at s j; place = _ })) c)
     (λ here.
     let same = same_Some _ q (sym here.1 ∙ is) in
     inr (ap (λ (x : Search). Seek j x.key.kind x.key.name) same ∙ ap (λ (k : ℕ). Seek k q.key.kind q.key.name) (sym here.0), ap (λ (x : Search). x.start) (sym same) ∙ ap (seen_at s) (sym here.0)))
     (λ off. inl (q, sym off.1 ∙ is, refl, refl))
-begun s _ _ c q (Heard j may) is = inl (q, is, refl, refl)
 begun s _ _ c q (Searched e j old o of under loads answers) is = on_begun s o.state e c j q old under loads.searches is
-begun s _ _ c q (Published u e row may) is = inl (q, is, refl, refl)
 begun s _ _ c q (Unpublished u e n at gone) is = was_under_way s n _ c q gone.searches is
-begun s _ _ c q (Kept u id d v may) is = inl (q, is, refl, refl)
-begun s _ _ c q (Gave_up u d v keeps of ok) is = inl (q, is, refl, refl)
-begun s _ _ c q (Vacated u may) is = inl (q, is, refl, refl)
+begun s _ _ c q _ is = inl (q, is, refl, refl)
 
 pub search_begun : (s : State) (e : Event) (c : ℕ) (q : Search) → Holds s → search_at (after_event s e) c ≡ Some q → HasBegun s e c q
 search_begun s e c q on is = begun s e (step s e) c q (step_sort s e on) is
@@ -110,20 +93,14 @@ pass_sees : (s : State) (c j : ℕ) → Holds s → seen_at s c ≤ get_or (set 
 pass_sees s c j on = either (written_cases 0 s.seen j (length s.history) c) (λ here. omega (arith, here.1, on.sections.prefix c)) (λ off. omega (arith, off.1))
 
 passes : (s : State) (e : Event) (o : Option Outcome) (c : ℕ) → Holds s → Sort s e o → seen_at s c ≤ seen_at (state_after s o) c
-passes s _ _ c on (Refused e) = pass_same s s c refl
 passes s _ _ c on (Left e o same) = pass_same s o.state c same.seen
 passes s _ _ c on (Entered j may) = pass_sees s c j on
-passes s _ _ c on (Exited j may) = pass_same s s c refl
-passes s _ _ c on (Sought j kind name may) = pass_same s s c refl
 passes s _ _ c on (Heard j may) = pass_sees s c j on
 passes s _ _ c on (Searched e j q o of under loads answers) = either loads.seen
     (λ same. pass_same s o.state c same)
     (λ sees. subst (λ (xs : List ℕ). seen_at s c ≤ get_or xs c 0) (sym sees) (pass_sees s c j on))
-passes s _ _ c on (Published u e row may) = pass_same s s c refl
 passes s _ _ c on (Unpublished u e n at gone) = pass_same s n c gone.seen
-passes s _ _ c on (Kept u id d v may) = pass_same s s c refl
-passes s _ _ c on (Gave_up u d v keeps of ok) = pass_same s s c refl
-passes s _ _ c on (Vacated u may) = pass_same s s c refl
+passes s _ _ c on _ = pass_same s s c refl
 
 append_nil : {X : Type 0} (xs : List X) → xs ++ [] ≡ xs
 append_nil [] = refl
@@ -138,18 +115,11 @@ grown_none h k same = ([], same ∙ sym (append_nil h))
 
 history : (s : State) (e : Event) (o : Option Outcome) → Sort s e o → Grows s.history (state_after s o).history
 unfolding Grows
-history s _ _ (Refused e) = grown_none s.history s.history refl
 history s _ _ (Left e o same) = grown_none s.history o.state.history same.history
-history s _ _ (Entered j may) = grown_none s.history s.history refl
-history s _ _ (Exited j may) = grown_none s.history s.history refl
-history s _ _ (Sought j kind name may) = grown_none s.history s.history refl
-history s _ _ (Heard j may) = grown_none s.history s.history refl
 history s _ _ (Searched e j q o of under loads answers) = grown_none s.history o.state.history loads.history
 history s _ _ (Published u e row may) = (Attach e ∷ [], refl)
 history s _ _ (Unpublished u e n at gone) = (Detach e.number ∷ [], gone.history)
-history s _ _ (Kept u id d v may) = grown_none s.history s.history refl
-history s _ _ (Gave_up u d v keeps of ok) = grown_none s.history s.history refl
-history s _ _ (Vacated u may) = grown_none s.history s.history refl
+history s _ _ _ = grown_none s.history s.history refl
 
 pub history_grows : (s : State) (e : Event) → Holds s → (more : List Change) × ((after_event s e).history ≡ s.history ++ more)
 unfolding Grows

@@ -10,7 +10,7 @@ use Rattle.protocol.specs.Invariant.{Holds}
 use Rattle.protocol.specs.Laws.{after, after_event, HasExit, EndsByExit, GraceLaw}
 use Rattle.protocol.proofs.keeps.Keeping.{step_keeps, after_keeps}
 use Rattle.protocol.proofs.keeps.SectionKeeps.{none_from}
-use Rattle.protocol.proofs.runs.Steps.{Sort, Refused, Left, Entered, Exited, Sought, Heard, Searched, Published, Unpublished, Kept, Gave_up, Vacated, step_sort, after_more}
+use Rattle.protocol.proofs.runs.Steps.{Sort, Left, Entered, Exited, Searched, Unpublished, step_sort, after_more}
 use Rattle.protocol.proofs.runs.Reuse.{every_run_keeps}
 use Rattle.protocol.proofs.Either.{either}
 
@@ -23,7 +23,6 @@ lists_same c s t words begins = (ap (λ (xs : List ℕ). get_or xs c 0) words, a
 
 -- each event leaves an open section of c, but for its exit
 stays_open : (s : State) (c b : ℕ) (e : Event) (o : Option Outcome) → Sort s e o → begin_at s c ≡ Some b → Same c s (state_after s o) ⊎ ((e ≡ Exit c) × IsSome o)
-stays_open s c b _ _ (Refused e) in_ = inl (refl, refl)
 stays_open s c b _ _ (Left e o same) in_ = inl (lists_same c s o.state same.section same.begins)
 stays_open s c b _ _ (Entered j may) in_ = either (cases_eq c j)
     (λ same. absurd (
@@ -34,14 +33,9 @@ stays_open s c b _ _ (Entered j may) in_ = either (cases_eq c j)
 stays_open s c b _ _ (Exited j may) in_ = either (cases_eq c j)
     (λ same. inr (ap Exit (sym same), refl))
     (λ off. inl (get_or-set_other s.section j c _ 0 off, get_or-set_other s.begins j c _ None off))
-stays_open s c b _ _ (Sought j kind name may) in_ = inl (refl, refl)
-stays_open s c b _ _ (Heard j may) in_ = inl (refl, refl)
 stays_open s c b _ _ (Searched e j q o of under loads answers) in_ = inl (lists_same c s o.state loads.section loads.begins)
-stays_open s c b _ _ (Published u e row may) in_ = inl (refl, refl)
 stays_open s c b _ _ (Unpublished u e n at gone) in_ = inl (lists_same c s n gone.section gone.begins)
-stays_open s c b _ _ (Kept u id d v may) in_ = inl (refl, refl)
-stays_open s c b _ _ (Gave_up u d v keeps of ok) in_ = inl (refl, refl)
-stays_open s c b _ _ (Vacated u may) in_ = inl (refl, refl)
+stays_open s c b _ _ _ in_ = inl (refl, refl)
 
 -- over a list of events the section stays as it is, or has an exit
 stays_or_exits : (s : State) (c b : ℕ) (es : List Event) → Holds s → begin_at s c ≡ Some b → Same c s (after s es) ⊎ HasExit s c es

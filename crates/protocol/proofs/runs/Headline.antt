@@ -6,7 +6,7 @@ use Rattle.protocol.specs.declared.event.Event.{Event}
 use Rattle.registry_values.specs.declared.slot.Slot.{Slot}
 use Rattle.registry_values.specs.declared.slot.Slot.TheVariants.{Vacant, Live, Retired}
 use Rattle.protocol.specs.declared.state.Due.{Due}
-use Rattle.protocol.specs.declared.state.Due.TheVariants.{Rest, Snapshots, Adding, Subtracting}
+use Rattle.protocol.specs.declared.state.Due.TheVariants.{Subtracting}
 use Rattle.protocol.specs.History.{IsAttached}
 use Rattle.protocol.specs.State.{State, opening}
 use Rattle.registry_values.specs.Slots.{slot_at, slot_of, has_number}
@@ -30,10 +30,8 @@ one_waits (Live e) n off = one_other e.number n (off e (inl refl))
 one_waits (Retired e) n off = one_other e.number n (off e (inr refl))
 
 none_waits : (slots : List Slot) (n : ℕ) (due : Due) → (Occupies slots n → ⊥) → subtractions_due slots n due ≡ 0
-none_waits slots n Rest off = refl
-none_waits slots n (Snapshots t c) off = refl
-none_waits slots n (Adding t old) off = refl
 none_waits slots n (Subtracting t) off = one_waits (slot_at slots t) n (λ e is same. off (t, e, is, same))
+none_waits slots n _ off = refl
 
 none_passive : (s : State) (c n : ℕ) (o : Option ℕ) → slot_of s.slots n ≡ o → (Occupies s.slots n → ⊥) → passive_in s.passive c o ≡ 0
 none_passive s c n None is off = refl

@@ -22,7 +22,7 @@ use Rattle.protocol.proofs.model.RefiningEntries.{Drained, drained}
 use Rattle.protocol.proofs.slots.Occupied.{written_cases, in_within}
 use Rattle.protocol.proofs.keeps.ListKeeps.{may_write_tells}
 use Rattle.protocol.proofs.keeps.MarkKeeps.{is_drained_tells}
-use Rattle.protocol.proofs.runs.Steps.{Sort, Refused, Left, Entered, Exited, Sought, Heard, Searched, Published, Unpublished, Kept, Gave_up, Vacated}
+use Rattle.protocol.proofs.runs.Steps.{Sort, Left, Searched, Published, Unpublished, Kept, Gave_up, Vacated}
 use Rattle.protocol.proofs.Either.{either}
 
 -- Every run keeps the invariant.
@@ -58,12 +58,7 @@ stays_put : (s n : State) (t i : ℕ) → n.slots ≡ s.slots → occupant_of s 
 stays_put s n t i same is off = off (ap (λ (slots : List Slot). number_in (slot_at slots t)) same ∙ is)
 
 pub goes : (s : State) (e : Event) (o : Option Outcome) (t n : ℕ) → Holds s → Sort s e o → occupant_of s t ≡ Some n → (occupant_of (state_after s o) t ≡ Some n → ⊥) → Goes s e t n
-goes s _ _ t n on (Refused e) is off = absurd (off is)
 goes s _ _ t n on (Left e o same) is off = absurd (stays_put s o.state t n same.slots is off)
-goes s _ _ t n on (Entered c may) is off = absurd (off is)
-goes s _ _ t n on (Exited c may) is off = absurd (off is)
-goes s _ _ t n on (Sought c kind name may) is off = absurd (off is)
-goes s _ _ t n on (Heard c may) is off = absurd (off is)
 goes s _ _ t n on (Searched e c q o of under loads answers) is off = absurd (stays_put s o.state t n loads.slots is off)
 goes s _ _ t n on (Published u e row may) is off = absurd (either (moved s.slots u (Live e) t)
     (λ here.
@@ -74,9 +69,9 @@ goes s _ _ t n on (Unpublished u e after at gone) is off = absurd (either (moved
     (λ here.
     off (ap (λ (slots : List Slot). number_in (slot_at slots t)) gone.slots ∙ (here.1 ∙ (sym (ap number_in (ap (slot_at s.slots) here.0 ∙ at)) ∙ is))))
     (λ same. off (ap (λ (slots : List Slot). number_in (slot_at slots t)) gone.slots ∙ (same ∙ is))))
-goes s _ _ t n on (Kept u id d v may) is off = absurd (off is)
 goes s _ _ t n on (Gave_up u d v keeps of ok) is off = vacated_goes s (KeptSub u) t u n on refl ok is off
 goes s _ _ t n on (Vacated u may) is off = vacated_goes s (Vacate u) t u n on refl (and_parts _ (is_drained s u) may).1 is off
+goes s _ _ t n on _ is off = absurd (off is)
 
 -- an event by which n comes into t
 abbrev Comes : State → Event → ℕ → ℕ → Type 0
@@ -89,12 +84,7 @@ vacated_away : (s : State) (t u n : ℕ) → (occupant_of s t ≡ Some n → ⊥
 vacated_away s t u n off is = either (moved s.slots u Vacant t) (λ here. none-some n (sym here.1 ∙ is)) (λ same. off (sym same ∙ is))
 
 pub comes : (s : State) (e : Event) (o : Option Outcome) (t n : ℕ) → Holds s → Sort s e o → (occupant_of s t ≡ Some n → ⊥) → occupant_of (state_after s o) t ≡ Some n → Comes s e t n
-comes s _ _ t n on (Refused e) off is = absurd (off is)
 comes s _ _ t n on (Left e o same) off is = absurd (stays_away s o.state t n same.slots off is)
-comes s _ _ t n on (Entered c may) off is = absurd (off is)
-comes s _ _ t n on (Exited c may) off is = absurd (off is)
-comes s _ _ t n on (Sought c kind name may) off is = absurd (off is)
-comes s _ _ t n on (Heard c may) off is = absurd (off is)
 comes s _ _ t n on (Searched e c q o of under loads answers) off is = absurd (stays_away s o.state t n loads.slots off is)
 comes s _ _ t n on (Published u e row may) off is = either (moved s.slots u (Live e) t)
     (λ here.
@@ -107,9 +97,9 @@ comes s _ _ t n on (Published u e row may) off is = either (moved s.slots u (Liv
 comes s _ _ t n on (Unpublished u e after at gone) off is = absurd (
     let there : number_in (slot_at (set s.slots u (Retired e)) t) ≡ Some n = sym (ap (λ (slots : List Slot). number_in (slot_at slots t)) gone.slots) ∙ is in
     either (moved s.slots u (Retired e) t) (λ here. off (ap number_in (ap (slot_at s.slots) here.0 ∙ at) ∙ (sym here.1 ∙ there))) (λ same. off (sym same ∙ there)))
-comes s _ _ t n on (Kept u id d v may) off is = absurd (off is)
 comes s _ _ t n on (Gave_up u d v keeps of ok) off is = absurd (vacated_away s t u n off is)
 comes s _ _ t n on (Vacated u may) off is = absurd (vacated_away s t u n off is)
+comes s _ _ t n on _ off is = absurd (off is)
 
 -- What an allowed event asks for
 
@@ -176,20 +166,14 @@ vacated_keeps s t u n on ok is now same = either (moved s.slots u Vacant t)
 
 pub keeps_same : (s : State) (e : Event) (o : Option Outcome) (t n : ℕ) → Holds s → Sort s e o → occupant_of s t ≡ Some n → occupant_of (state_after s o) t ≡ Some n
     → kept_at (state_after s o).keeps t ≡ kept_at s.keeps t
-keeps_same s _ _ t n on (Refused e) is now = refl
 keeps_same s _ _ t n on (Left e o same) is now = ap (λ (k : List (Option ℕ)). kept_at k t) same.keeps
-keeps_same s _ _ t n on (Entered c may) is now = refl
-keeps_same s _ _ t n on (Exited c may) is now = refl
-keeps_same s _ _ t n on (Sought c kind name may) is now = refl
-keeps_same s _ _ t n on (Heard c may) is now = refl
 keeps_same s _ _ t n on (Searched e c q o of under loads answers) is now = ap (λ (k : List (Option ℕ)). kept_at k t) loads.keeps
-keeps_same s _ _ t n on (Published u e row may) is now = refl
 keeps_same s _ _ t n on (Unpublished u e after at gone) is now = ap (λ (k : List (Option ℕ)). kept_at k t) gone.keeps
 keeps_same s _ _ t n on (Kept u id d v may) is now =
     let vacant = (may_write_tells s u on.shape (and_parts (may_write s u) _ may).0).2 in
     get_or-set_other s.keeps u t (Some d) None (λ same. none-some n (sym (ap number_in (ap (slot_at s.slots) same ∙ vacant)) ∙ is))
 keeps_same s _ _ t n on (Gave_up u d v keeps of ok) is now = get_or-set_other s.keeps u t None None (vacated_keeps s t u n on ok is now)
-keeps_same s _ _ t n on (Vacated u may) is now = refl
+keeps_same s _ _ t n on _ is now = refl
 
 -- the occupant of a slot goes or stays
 pub goes_or_stays : (x : Option ℕ) (n : ℕ) → (x ≡ Some n) ⊎ (x ≡ Some n → ⊥)

@@ -12,11 +12,11 @@ use Rattle.protocol.specs.declared.event.RecordOf.TheVariants.{Search as OfSearc
 use Rattle.protocol.specs.declared.event.Reply.{Reply}
 use Rattle.protocol.specs.declared.event.Reply.TheVariants.{Done}
 use Rattle.registry_values.specs.declared.slot.Slot.{Slot}
-use Rattle.registry_values.specs.declared.slot.Slot.TheVariants.{Vacant, Live, Retired}
+use Rattle.registry_values.specs.declared.slot.Slot.TheVariants.{Live, Retired}
 use Rattle.protocol.specs.declared.state.Hand.{Hand}
-use Rattle.protocol.specs.declared.state.Hand.TheVariants.{Empty, Taking, Giving, Back}
+use Rattle.protocol.specs.declared.state.Hand.TheVariants.{Taking, Giving, Back}
 use Rattle.protocol.specs.declared.state.Due.{Due}
-use Rattle.protocol.specs.declared.state.Due.TheVariants.{Rest, Snapshots, Adding, Subtracting}
+use Rattle.protocol.specs.declared.state.Due.TheVariants.{Adding, Subtracting}
 use Rattle.protocol.specs.declared.state.Loaded.{Loaded}
 use Rattle.protocol.specs.declared.state.Loaded.TheVariants.{On, Over}
 use Rattle.protocol.specs.declared.state.SearchPlace.{SearchPlace}
@@ -27,7 +27,7 @@ use Rattle.protocol.specs.State.{State, search_at, found_at, hand_at, row_at, co
 use Rattle.registry_values.specs.Slots.{slot_at, slot_of, slot_before}
 use Rattle.protocol.specs.Events
 use Rattle.protocol.specs.Loaded.{loaded_at, row_of_place}
-use Rattle.protocol.specs.Events.{Outcome, guard, some_outcome, with_some, step, state_after, is_idle, may_enter, after_enter, may_exit, after_exit, may_seek, after_seek, after_seeing, load_link, load_searched, link_loaded, entry_of, may_publish, after_publish, with_link_past, with_retired, after_unpublish, may_keep, after_keep, is_drained, after_kept_sub, may_vacate, after_vacate}
+use Rattle.protocol.specs.Events.{Outcome, guard, some_outcome, with_some, step, state_after, is_idle, may_enter, after_enter, may_exit, after_exit, may_seek, after_seek, after_seeing, link_loaded, entry_of, may_publish, after_publish, with_link_past, with_retired, after_unpublish, may_keep, after_keep, is_drained, after_kept_sub, may_vacate, after_vacate}
 use Rattle.protocol.specs.Invariant.{Holds}
 use Rattle.protocol.specs.Run.{Run, run_of_events, empty_run, run_with_event}
 use Rattle.protocol.specs.Laws.{after, after_event, answer_of, IsLoadOf}
@@ -140,9 +140,8 @@ unlinking_retires s t e None = record { history = refl; slots = refl; keeps = re
 unlinking_retires s t e (Some p) = record { history = refl; slots = refl; keeps = refl; section = refl; begins = refl; seen = refl; searches = refl }
 
 unpublish_sort : (s : State) (t : ℕ) (x : Slot) → slot_at s.slots t ≡ x → Sort s (Unpublish t) (Events.unpublish s t x)
-unpublish_sort s t Vacant is = Refused (Unpublish t)
 unpublish_sort s t (Live e) is = sort_guard s (Unpublish t) _ _ (λ rest. Unpublished t e (after_unpublish s t e) is (unlinking_retires s t e (slot_before s.slots s.next t)))
-unpublish_sort s t (Retired e) is = Refused (Unpublish t)
+unpublish_sort s t _ is = Refused (Unpublish t)
 
 tell_sort : (s : State) (to : Option ℕ) → Sort s (Tell to) (Events.tell s to)
 tell_sort s None = sort_guard s (Tell None) _ _ (λ may. left s s (Tell None) Done (record { history = refl; slots = refl; keeps = refl; section = refl; begins = refl; seen = refl; searches = refl; reply = refl }))
@@ -161,35 +160,25 @@ look_sort s None c = sort_guard s (Look None c) _ _ (λ may. left s s (Look None
 look_sort s (Some t) c = sort_guard s (Look (Some t) c) _ _ (λ may. left s _ (Look (Some t) c) _ (record { history = refl; slots = refl; keeps = refl; section = refl; begins = refl; seen = refl; searches = refl; reply = refl }))
 
 split_sort : (s : State) (c : ℕ) (h : Hand) → Sort s (SplitRef c) (Events.split_ref s c h)
-split_sort s c Empty = Refused (SplitRef c)
 split_sort s c (Taking n) = left s _ (SplitRef c) _ (record { history = refl; slots = refl; keeps = refl; section = refl; begins = refl; seen = refl; searches = refl; reply = refl })
-split_sort s c (Giving n id) = Refused (SplitRef c)
-split_sort s c (Back n id) = Refused (SplitRef c)
+split_sort s c _ = Refused (SplitRef c)
 
 count_down_sort : (s : State) (c : ℕ) (h : Hand) → Sort s (CountDown c) (Events.count_down s c h)
-count_down_sort s c Empty = Refused (CountDown c)
-count_down_sort s c (Taking n) = Refused (CountDown c)
 count_down_sort s c (Giving n id) = sort_some s (CountDown c) (slot_of s.slots n) _ (λ t of. sort_if s (CountDown c) (count_at s.counts c t == count_at s.nets c t) _ _
     (left s _ (CountDown c) _ (record { history = refl; slots = refl; keeps = refl; section = refl; begins = refl; seen = refl; searches = refl; reply = refl })) (left s _ (CountDown c) _ (record { history = refl; slots = refl; keeps = refl; section = refl; begins = refl; seen = refl; searches = refl; reply = refl })))
-count_down_sort s c (Back n id) = Refused (CountDown c)
+count_down_sort s c _ = Refused (CountDown c)
 
 split_back_sort : (s : State) (c : ℕ) (h : Hand) → Sort s (SplitBack c) (Events.split_back s c h)
-split_back_sort s c Empty = Refused (SplitBack c)
-split_back_sort s c (Taking n) = Refused (SplitBack c)
-split_back_sort s c (Giving n id) = Refused (SplitBack c)
 split_back_sort s c (Back n id) = left s _ (SplitBack c) _ (record { history = refl; slots = refl; keeps = refl; section = refl; begins = refl; seen = refl; searches = refl; reply = refl })
+split_back_sort s c _ = Refused (SplitBack c)
 
 total_add_sort : (s : State) (t : ℕ) (due : Due) → Sort s (TotalAdd t) (Events.total_add s t due)
-total_add_sort s t Rest = Refused (TotalAdd t)
-total_add_sort s t (Snapshots u c) = Refused (TotalAdd t)
 total_add_sort s t (Adding u old) = sort_guard s (TotalAdd t) _ _ (λ may. left s _ (TotalAdd t) Done (record { history = refl; slots = refl; keeps = refl; section = refl; begins = refl; seen = refl; searches = refl; reply = refl }))
-total_add_sort s t (Subtracting u) = Refused (TotalAdd t)
+total_add_sort s t _ = Refused (TotalAdd t)
 
 total_sub_sort : (s : State) (t : ℕ) (due : Due) → Sort s (TotalSub t) (Events.total_sub s t due)
-total_sub_sort s t Rest = Refused (TotalSub t)
-total_sub_sort s t (Snapshots u c) = Refused (TotalSub t)
-total_sub_sort s t (Adding u old) = Refused (TotalSub t)
 total_sub_sort s t (Subtracting u) = sort_guard s (TotalSub t) _ _ (λ may. left s _ (TotalSub t) Done (record { history = refl; slots = refl; keeps = refl; section = refl; begins = refl; seen = refl; searches = refl; reply = refl }))
+total_sub_sort s t _ = Refused (TotalSub t)
 
 -- Each event
 

@@ -175,13 +175,11 @@ slot_its h slots t u e show is found =
 
 pub is_vacant_tells : (x : Slot) → is_vacant x ≡ true → x ≡ Vacant
 is_vacant_tells Vacant test = refl
-is_vacant_tells (Live e) test = absurd (let q : ◌≡◌ {A = Bool} false true = test in cc)
-is_vacant_tells (Retired e) test = absurd (let q : ◌≡◌ {A = Bool} false true = test in cc)
+is_vacant_tells _ test = absurd (let q : ◌≡◌ {A = Bool} false true = test in cc)
 
 pub is_retired_tells : (x : Slot) → is_retired x ≡ true → (e : Entry) × (x ≡ Retired e)
-is_retired_tells Vacant test = absurd (let q : ◌≡◌ {A = Bool} false true = test in cc)
-is_retired_tells (Live e) test = absurd (let q : ◌≡◌ {A = Bool} false true = test in cc)
 is_retired_tells (Retired e) test = (e, refl)
+is_retired_tells _ test = absurd (let q : ◌≡◌ {A = Bool} false true = test in cc)
 
 pub at_rest_tells : (due : Due) → at_rest due ≡ true → due ≡ Rest
 at_rest_tells Rest test = refl

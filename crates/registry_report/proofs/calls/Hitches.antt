@@ -6,7 +6,7 @@ use Rattle.registry_values.specs.declared.entry.Entry.{Entry}
 use Rattle.registry_values.specs.declared.entry.Record.{Record}
 use Rattle.registry_values.specs.declared.refusal.Refusal.{Refusal}
 use Rattle.registry_values.specs.declared.stage.Stage.{Stage}
-use Rattle.registry_values.specs.declared.stage.Stage.TheVariants.{Grace, Passive, Local, Freed}
+use Rattle.registry_values.specs.declared.stage.Stage.TheVariants.{Grace}
 use Rattle.passive_core.specs.Advancing.{destroy_answer}
 use Rattle.registry_values.specs.Answers.{entry_in, wait_answer}
 use Rattle.registry_values.specs.Stages.{destroy_result, destroy_result_of, stage_in}
@@ -43,9 +43,7 @@ enter_refused s c = search if_refused
 
 destroyed_refused : (stage : Stage) → IfErr (destroy_result stage) IsOfDestroy
 destroyed_refused (Grace c) = tt
-destroyed_refused (Passive c) = tt
-destroyed_refused (Local k) = tt
-destroyed_refused (Freed t) = tt
+destroyed_refused _ = tt
 
 stage_refused : (stage : ℕ → Stage) (o : Option ℕ) → IfErr (destroy_result_of (stage_in stage o)) IsOfDestroy
 stage_refused stage None = tt

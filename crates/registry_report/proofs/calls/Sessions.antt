@@ -4,7 +4,7 @@ use Rattle.std.specs.Prelude.{is_some, slice_index_or, slice_set}
 use Rattle.std.proofs.lemmas.Bool.{cases_eq}
 use Rattle.registry_values.specs.declared.entry.Entry.{Entry}
 use Rattle.protocol.specs.declared.state.LocalPlace.{LocalPlace}
-use Rattle.protocol.specs.declared.state.LocalPlace.TheVariants.{Free, Standing, Lifted}
+use Rattle.protocol.specs.declared.state.LocalPlace.TheVariants.{Free, Standing}
 use Rattle.protocol.specs.State.{at_rest, State, found_at, local_at}
 use Rattle.registry_values.specs.Slots.{slot_before}
 use Rattle.passive_core.specs.Commands.{IsQuiet, all_seated, may_act}
@@ -52,9 +52,8 @@ counted_locals s c on h = counted_at s c (found_at s c) on refl h
 -- Sessions
 
 pub live_place : (p : LocalPlace) → is_some (number_standing p) ≡ true → (n : ℕ) × (p ≡ Standing n)
-live_place Free h = let no : ⊥ = cc in absurd no
 live_place (Standing n) h = (n, refl)
-live_place (Lifted c) h = let no : ⊥ = cc in absurd no
+live_place _ h = let no : ⊥ = cc in absurd no
 
 same_else : {X : Type 0} (d : X) (n x : ℕ) → slice_index_or (replicate n d) x d ≡ d
 same_else d zero x = refl

@@ -11,7 +11,7 @@ use Rattle.registry_values.specs.declared.slot.Key.{Key}
 use Rattle.protocol.specs.declared.state.LocalPlace.{LocalPlace}
 use Rattle.protocol.specs.declared.state.LocalPlace.TheVariants.{Free, Standing}
 use Rattle.registry_values.specs.declared.slot.Slot.{Slot}
-use Rattle.registry_values.specs.declared.slot.Slot.TheVariants.{Vacant, Live, Retired}
+use Rattle.registry_values.specs.declared.slot.Slot.TheVariants.{Vacant, Live}
 use Rattle.registry_values.specs.declared.settings.Settings.{Settings}
 use Rattle.registry_values.specs.Answers as answers
 use Rattle.registry_values.specs.Marks.{least_below}
@@ -86,8 +86,7 @@ taken_is s r key holds on =
 
 vacant_is : (x : Slot) → is_vacant x ≡ is_none (number_in x)
 vacant_is Vacant = refl
-vacant_is (Live e) = refl
-vacant_is (Retired e) = refl
+vacant_is _ = refl
 
 available_at : (s : SessionState) (r : Registry) (t : ℕ) → Shows s r → values.is_available (slot_at s.core.slots t, kept_at s.core.keeps t) ≡ is_available r t
 available_at s r t on = λ i. (vacant_is (slot_at s.core.slots t) ∙ ap is_none (sym (on.model.occupants t))) i && is_none (sym (on.model.kept t) i)
@@ -189,8 +188,8 @@ pub keeping_shows : (s : SessionState) (r : Registry) (t x id n : ℕ) → IsSes
     → Shows (record s { core = core.with_reference_kept (all_seated s.core) t id; locals = set s.locals x None }) (record r { model = with_reference_kept r.model t n; local_labels = put r.local_labels x None })
 keeping_shows s r t x id n is on low small at place = assumption (
   put_is r.model.locals (λ m. sum_by (standing_of m) (set s.core.locals id Free)) n (r.model.locals n - 1)
-        (omega (arith, on.model.counted n, local_changed n s.core.locals id (Standing n) Free (standing_within s.core.locals id n place) place, one_at n n refl))
-        (λ m off. omega (arith, on.model.counted m, local_changed m s.core.locals id (Standing n) Free (standing_within s.core.locals id n place) place, none_at n m (λ same. off (sym same)))),
+      (omega (arith, on.model.counted n, local_changed n s.core.locals id (Standing n) Free (standing_within s.core.locals id n place) place, one_at n n refl))
+      (λ m off. omega (arith, on.model.counted m, local_changed m s.core.locals id (Standing n) Free (standing_within s.core.locals id n place) place, none_at n m (λ same. off (sym same)))),
   put_shows r.model.keeps None s.core.keeps t (Some n) (events.number_standing (local_at s.core.locals id)) (omega (arith, is.holds.shape.keeps)) on.model.kept (sym (ap events.number_standing place)),
   label_gone s r x id is on small at,
 )

@@ -11,7 +11,7 @@ use Rattle.registry_values.specs.declared.refusal.Refusal.TheVariants.{Inside}
 use Rattle.registry_values.specs.declared.stage.Stage.{Stage}
 use Rattle.registry_values.specs.declared.stage.Stage.TheVariants.{Freed, Grace, Local, Passive}
 use Rattle.protocol.specs.declared.state.Hand.{Hand}
-use Rattle.protocol.specs.declared.state.Hand.TheVariants.{Empty, Taking, Giving, Back}
+use Rattle.protocol.specs.declared.state.Hand.TheVariants.{Empty}
 use Rattle.registry_values.specs.declared.mark.Mark.{Mark}
 use Rattle.registry_values.specs.declared.slot.Slot.{Slot}
 use Rattle.registry_values.specs.declared.slot.Slot.TheVariants.{Vacant, Live, Retired}
@@ -59,9 +59,7 @@ use Rattle.protocol.proofs.Either.{either}
 
 empty_tells : (h : Hand) → is_empty h ≡ true → h ≡ Empty
 empty_tells Empty is = refl
-empty_tells (Taking n) is = absurd (let q : ◌≡◌ {A = Bool} false true = is in cc)
-empty_tells (Giving n id) is = absurd (let q : ◌≡◌ {A = Bool} false true = is in cc)
-empty_tells (Back n id) is = absurd (let q : ◌≡◌ {A = Bool} false true = is in cc)
+empty_tells _ is = absurd (let q : ◌≡◌ {A = Bool} false true = is in cc)
 
 -- nothing is in a hand
 pub hands_empty : (s : State) → Holds s → IsQuiet s → (c : ℕ) → hand_at s c ≡ Empty
@@ -346,8 +344,6 @@ unheld_at s k n t u e holds now stage gone left = record {
 
 staged_shows : (s : SessionState) (r : Registry) (k : State) (n t : ℕ) (stage : Stage) → Holds s.core → Holds k → Shows s r → core.first_obstacle s.core t n ≡ stage → values.retired_slot s.core.slots n ≡ Some t → StageLeaves s.core k t stage
     → Shows (with_core s k) (after_stage r n stage)
-staged_shows s r k n t (Grace c) holds now on is at left = marks_shows s r k t on left
-staged_shows s r k n t (Passive c) holds now on is at left = marks_shows s r k t on left
 staged_shows s r k n t (Local j) holds now on is at left =
     let told = retired_slot_tells s.core.slots n t at in
     subst (λ m. Shows (with_core s k) (record r { is_collected = put r.is_collected m true })) told.1.2 (collected_shows s r k t j told.1.0 holds on told.1.1 left)
@@ -355,6 +351,7 @@ staged_shows s r k n t (Freed u) holds now on is at left =
     let told = retired_slot_tells s.core.slots n t at in
     let here : t ≡ u = sym (free_tells t u _ _ _ is).0 in
     subst (λ v. Shows (with_core s k) (with_freed r v (r.model.keeps v))) here (freed_shows s r k t told.1.0 holds on (unheld_at s k n t u told.1.0 holds now is told.1.1 left))
+staged_shows s r k n t _ holds now on is at left = marks_shows s r k t on left
 
 same_stage : (a b : Stage) → ◌≡◌ {A = Result Stage Refusal} (Ok a) (Ok b) → a ≡ b
 same_stage a b is = cc
@@ -382,9 +379,7 @@ destroy_answers s r c n is on =
 -- what is left of the last turn of a destroy is what an advance leaves
 stage_leaves : (s k : State) (n : ℕ) (stage : Stage) → DestroyLeaves s k n (destroy_result stage) → AdvanceLeaves s k n (Ok stage)
 stage_leaves s k n (Grace c) left = left
-stage_leaves s k n (Passive c) left = left
-stage_leaves s k n (Local j) left = left
-stage_leaves s k n (Freed t) left = left
+stage_leaves s k n _ left = left
 
 turn_leaves : (s k : State) (n : ℕ) (o : Option ℕ) → DestroyLeaves s k n (destroy_result_of (core.stage_in s n o)) → AdvanceLeaves s k n (core.stage_in s n o)
 turn_leaves s k n None left = left

@@ -6,7 +6,7 @@ use Rattle.registry_values.specs.declared.settings.Settings.{Settings}
 use Rattle.registry_values.specs.Names.{is_lawful}
 use Rattle.registry_values.specs.Slots.{is_iface}
 use Rattle.registry_language.specs.declared.command.Command.{Command}
-use Rattle.registry_language.specs.declared.command.Command.TheVariants.{Domain, Limits, Attach, Plug, Detach, Enter, Exit, Find, Reference, Copy, Held, Read, Release, Count, Peek, Uncount, Advance, Destroy, Perform, Audit}
+use Rattle.registry_language.specs.declared.command.Command.TheVariants.{Attach, Plug, Detach, Enter, Exit, Find, Reference, Copy, Release, Count, Uncount, Advance, Destroy}
 use Rattle.registry_report.specs.Laws.{ReportIsModelRun}
 use Rattle.registry_language.specs.Program.{is_label, suits}
 use Rattle.registry_report.specs.Registry.{Registry, opening_registry}
@@ -23,8 +23,6 @@ abbrev Fits : Settings → Command → Type 0
 Fits z command = suits z command ≡ true
 
 command_turn : (r : Registry) (command : Command) → IsSound r → Fits r.settings command → IsLawfulTurn r (after r command)
-command_turn r (Domain cpus slots) on fits = idle_turn r on
-command_turn r (Limits changes sections passive count) on fits = idle_turn r on
 command_turn r (Attach c rec) on fits = attach_turn r c rec on
 command_turn r (Plug c rec x) on fits =
     let p = and_parts (nat_lt c r.settings.cpus && is_lawful rec.name && is_iface rec.kind) (is_label x) fits in
@@ -35,16 +33,12 @@ command_turn r (Exit c) on fits = exit_turn r c on
 command_turn r (Find c kind name) on fits = find_turn r c (record { kind = kind; name = name }) on
 command_turn r (Reference c a) on fits = reference_turn r c a.place on
 command_turn r (Copy c a b) on fits = copy_turn r c a.place b.place on
-command_turn r (Held c a) on fits = idle_turn r on
-command_turn r (Read c a) on fits = idle_turn r on
 command_turn r (Release c a) on fits = release_turn r c a.place on
 command_turn r (Count c x) on fits = count_turn r c x.place on
-command_turn r (Peek x) on fits = idle_turn r on
 command_turn r (Uncount c x) on fits = uncount_turn r c x.place on
 command_turn r (Advance n) on fits = advance_turn r n on
 command_turn r (Destroy c n turns) on fits = destroy_turn r c n on
-command_turn r (Perform c turns) on fits = idle_turn r on
-command_turn r Audit on fits = idle_turn r on
+command_turn r _ on fits = idle_turn r on
 
 pub report_runs : ReportIsModelRun
 report_runs p is = (each_turn after Fits command_turn (opening_registry p.settings) p.commands (opened_sound p.settings) (AllPass-from_list_all (suits p.settings) p.commands is.suited)).1

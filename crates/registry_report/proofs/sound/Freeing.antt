@@ -135,10 +135,9 @@ pub freed_lawful : (r : Registry) (n t : ℕ) → IsSound r → advance_answer r
 freed_lawful r n t on is = freed_by r n t (r.model.keeps t) on (free_tells r n t on is) refl
 
 pub staged_lawful : (r : Registry) (n : ℕ) (stage : Stage) → IsSound r → advance_answer r n ≡ Ok stage → IsLawfulTurn r (after_stage r n stage)
-staged_lawful r n (Grace c) on is = idle_turn r on
-staged_lawful r n (Passive c) on is = idle_turn r on
 staged_lawful r n (Local k) on is = (on, Stays, refl)
 staged_lawful r n (Freed t) on is = freed_lawful r n t on is
+staged_lawful r n _ on is = idle_turn r on
 
 pub advance_turn : (r : Registry) (n : ℕ) → IsSound r → IsLawfulTurn r (after_advance r n)
 advance_turn r n on = ok_turn r (advance_answer r n) (after_stage r n) on (λ stage is. staged_lawful r n stage on is)

@@ -135,7 +135,7 @@ find_run r c b key on in_ =
       answered = lookup_is m.history on.legal key (length m.history);
     } in
     let alike : Alike (record seen { lookups = put seen.lookups c None; found = put m.found c (lookup_now r key) }) (with_found r c (lookup_now r key)).model = assumption (
-      put_is (put m.lookups c (Some q)) m.lookups c None (sym (on.unsearching c)) (λ j off. put_other m.lookups c (Some q) j off)
+    put_is (put m.lookups c (Some q)) m.lookups c None (sym (on.unsearching c)) (λ j off. put_other m.lookups c (Some q) j off)
     ) in
     subst (IsModelRun m) (same_model (record seen { lookups = put seen.lookups c None; found = put m.found c (lookup_now r key) }) (with_found r c (lookup_now r key)).model alike)
     (Goes_on seen _ (Goes_on sought _ (Goes_on m _ Stays (Seeks c b key in_ (on.unsearching c))) (Sees c (length m.history) (on.seen c) (omega arith)))

@@ -1,5 +1,5 @@
 -- One text more of a report.
-use Rattle.std.proofs.Common.{◌≡◌, ℕ, ◌+◌, ◌<◌, ◌≤◌, suc, List, [], ◌∷◌, ◌++◌, length, drop, get_or, Option, Result, Ok, Err, OnOk, OnErr, refl, sym, add-one, drop-cons, append-nil}
+use Rattle.std.proofs.Common.{◌≡◌, ℕ, ◌+◌, ◌<◌, ◌≤◌, suc, List, [], ◌∷◌, ◌++◌, length, drop, get_or, Option, Result, Ok, Err, OnErr, refl, sym, add-one, drop-cons, append-nil}
 use Rattle.std.proofs.Math.ListN.{drop_of_length-le}
 use Rattle.std.specs.Io.KnownBytes.{Appends, Keeps}
 use Rattle.registry_language.specs.declared.command.Command.{Command}
@@ -47,7 +47,3 @@ all_of_it a b text h = ([], record { done = text; split = sym (append-nil text);
 pub on_err : {X Y : Type 0} (P : Type 0) (r : Result X Y) → P → OnErr r P
 on_err P (Ok x) h = tt
 on_err P (Err y) h = h
-
-pub on_ok : {X Y : Type 0} (P : Type 0) (r : Result X Y) → P → OnOk r P
-on_ok P (Ok x) h = h
-on_ok P (Err y) h = tt

@@ -4,7 +4,7 @@ use Rattle.std.proofs.lemmas.List.{take_all, take_more}
 use Rattle.std.specs.Io.KnownBytes.{Appends}
 use Rattle.registry_values.specs.declared.stage.Stage.TheVariants.{Freed}
 use Rattle.registry_language.specs.declared.command.Command.{Command}
-use Rattle.registry_language.specs.declared.command.Command.TheVariants.{Domain, Limits, Attach, Plug, Detach, Enter, Exit, Find, Reference, Copy, Held, Read, Release, Count, Peek, Uncount, Advance, Destroy, Perform, Audit}
+use Rattle.registry_language.specs.declared.command.Command.TheVariants.{Domain, Limits, Attach, Plug, Detach, Enter, Exit, Find, Held, Read, Peek, Advance, Destroy, Perform, Audit}
 use Rattle.registry_report.specs.Printed.{IsLineOf, IsRunOf, WritesFront, WritesRun}
 use Rattle.registry_report.specs.Written.{AppendsPrefix}
 use Rattle.registry_report.proofs.written.Writing.{appends_more, written_none, written_prefix}
@@ -19,18 +19,14 @@ some_line (Detach c kind name) = (_, (Ok (record { number = 1; slot = 0; rec = r
 some_line (Enter c) = (_, (Ok tt, tt, refl))
 some_line (Exit c) = (_, (Ok true, tt, refl))
 some_line (Find c kind name) = (_, (Ok None, tt, refl))
-some_line (Reference c a) = (_, (Ok 1, tt, refl))
-some_line (Copy c a b) = (_, (Ok 1, tt, refl))
 some_line (Held c a) = (_, (Ok true, tt, refl))
 some_line (Read c a) = (_, (Ok (record { number = 1; value = 0 }), tt, refl))
-some_line (Release c a) = (_, (Ok 1, tt, refl))
-some_line (Count c x) = (_, (Ok 1, tt, refl))
 some_line (Peek x) = (_, (Ok (record { number = 1; value = 0 }), tt, refl))
-some_line (Uncount c x) = (_, (Ok 1, tt, refl))
 some_line (Advance n) = (_, (Ok (Freed 0), tt, refl))
 some_line (Destroy c n turns) = (_, (Ok 0, tt, refl))
 some_line (Perform c turns) = (_, (Ok tt, tt, refl))
 some_line Audit = (_, ([], refl))
+some_line _ = (_, (Ok 1, tt, refl))
 
 some_run : (commands : List Command) → (text : List ℕ) × IsRunOf commands text
 some_run [] = ([], refl)

@@ -17,8 +17,7 @@ returns-in_default-clause-holders c = holders_are_open c.args.self.now (subst Ho
 
 pub advance_slot-requires-clause-retired : goal.advance_slot-requires-clause-retired
 advance_slot-requires-clause-retired c =
-    let s = c.args.self.now in
-    let e = retired_slot_tells s.slots c.args.number c.in-Some.t (sym c.in-Some.ensures.value) in
+    let e = retired_slot_tells c.args.self.now.slots c.args.number c.in-Some.t (sym c.in-Some.ensures.value) in
     ap (λ (x : State). is_retired (slot_at x.slots c.in-Some.t)) c.seat_all.ensures ∙ ap is_retired e.1.1
 
 pub returns-clause-answer : goal.returns-clause-answer

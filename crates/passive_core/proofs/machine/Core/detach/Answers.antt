@@ -9,9 +9,7 @@ use Rattle.passive_core.proofs.Making.{detach_makes}
 use Rattle.passive_core.proofs.machine.Core.detach.Goals as goal
 
 pub retire-requires-clause-idle : goal.retire-requires-clause-idle
-retire-requires-clause-idle c =
-    let on : Holds c.args.self.now = subst Holds c.self.view_is c.self.invariant in
-    acting_idle c.args.self.now c.args.c on c.requires.known c.requires.ready
+retire-requires-clause-idle c = acting_idle c.args.self.now c.args.c (subst Holds c.self.view_is c.self.invariant) c.requires.known c.requires.ready
 
 pub take_snapshots-requires-clause-blank : goal.take_snapshots-requires-clause-blank
 take_snapshots-requires-clause-blank c =
@@ -20,15 +18,13 @@ take_snapshots-requires-clause-blank c =
 
 pub make-requires-2-clause-allowed : goal.make-requires-2-clause-allowed
 make-requires-2-clause-allowed c =
-    let on : Holds c.args.self.now = subst Holds c.self.view_is c.self.invariant in
-    let idle = acting_idle c.args.self.now c.args.c on c.requires.known c.requires.ready in
+    let idle = acting_idle c.args.self.now c.args.c (subst Holds c.self.view_is c.self.invariant) c.requires.known c.requires.ready in
     let told = snapped_told c.args.self.now c.retire.new.self c.take_snapshots.new.self c.make.new.self c.in_ok-entry.entry c.make.result c.in_ok-retire.ensures.ok c.take_snapshots.ensures.after c.make.ensures in
     rw (snapped_idle c.args.self.now c.make.new.self c.in_ok-entry.entry c.args.c told idle) refl
 
 pub returns-clause-settings : goal.returns-clause-settings
 returns-clause-settings c =
-    let on : Holds c.args.self.now = subst Holds c.self.view_is c.self.invariant in
-    let idle = acting_idle c.args.self.now c.args.c on c.requires.known c.requires.ready in
+    let idle = acting_idle c.args.self.now c.args.c (subst Holds c.self.view_is c.self.invariant) c.requires.known c.requires.ready in
     let told = snapped_told c.args.self.now c.retire.new.self c.take_snapshots.new.self c.make.new.self c.in_ok-entry.entry c.make.result c.in_ok-retire.ensures.ok c.take_snapshots.ensures.after c.make.ensures in
     let is = detached_is c.args.self.now c.make.new.self c.make-2.new.self c.in_ok-entry.entry c.args.c c.make-2.result told idle c.make-2.ensures in
     detached_settings c.args.self.now c.make-2.new.self c.in_ok-entry.entry c.args.c is

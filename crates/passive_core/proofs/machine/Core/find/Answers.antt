@@ -16,9 +16,7 @@ use Rattle.passive_core.proofs.machine.Core.find.Goals as goal
 
 pub make-requires-clause-allowed : goal.make-requires-clause-allowed
 make-requires-clause-allowed c =
-    let on : Holds c.args.self.now = subst Holds c.self.view_is c.self.invariant in
-    let idle = acting_idle c.args.self.now c.args.c on c.requires.known c.requires.ready in
-    rw (c.seat_all.ensures, idle, c.requires.inside) refl
+    rw (c.seat_all.ensures, acting_idle c.args.self.now c.args.c (subst Holds c.self.view_is c.self.invariant) c.requires.known c.requires.ready, c.requires.inside) refl
 
 starts : (s b t : State) (c : ℕ) (key : Key) (r : Reply) → Holds s → c < s.settings.cpus → may_act s c ≡ true → is_inside s c ≡ true → b ≡ all_seated s
     → guard (may_seek b c) (some_outcome (after_seek b c key) Done) ≡ Some (record { state = t; reply = r }) → Walks (all_seated s) t c key
@@ -84,9 +82,8 @@ walk-smaller c =
 
 pub walk-preserved : goal.walk-preserved
 walk-preserved c =
-    let on : Holds c.args.self.now = subst Holds c.self.view_is c.self.invariant in
     let key : Key = record { kind = c.args.kind; name = c.args.name.now } in (
-      (goes_on c.args.self.now c.walk.self c.load_next.new.self c.args.c key c.load_next.result on
+      (goes_on c.args.self.now c.walk.self c.load_next.new.self c.args.c key c.load_next.result (subst Holds c.self.view_is c.self.invariant)
           c.requires.known c.requires.ready c.load_next.ensures.holds c.walk.invariant.0 c.load_next.ensures.made c.in_default.not-Found c.in_default.not-Missed).0,
       find_goes_on c.args.self.now c.walk.self c.load_next.new.self c.args.c key c.load_next.result c.load_next.ensures.event c.walk.invariant.1,
     )

@@ -1,4 +1,4 @@
-use Rattle.std.proofs.Common.{◌≡◌, ℕ, ap, subst, ◌∙◌}
+use Rattle.std.proofs.Common.{ℕ, ap, subst, ◌∙◌}
 use Rattle.protocol.specs.Invariant.{Holds}
 use Rattle.registry_values.specs.Marks.{is_out}
 use Rattle.protocol.specs.State.{section_at}
@@ -9,6 +9,4 @@ pub returns-clause-seen : goal.returns-clause-seen
 returns-clause-seen c =
     let s = c.args.self.now in
     let on : Holds s = subst Holds c.self.view_is c.self.invariant in
-    let given : c.args.snapshot ≡ section_at s c.args.c = c.requires.word in
-    let word : c.look_at.result ≡ section_at s c.args.c = c.look_at.ensures.word in
-    c.is_out.ensures ∙ (ap (λ (w : ℕ). is_out w c.look_at.result) given ∙ (ap (is_out (section_at s c.args.c)) word ∙ seen_out s c.args.c on))
+    c.is_out.ensures ∙ (ap (λ (w : ℕ). is_out w c.look_at.result) c.requires.word ∙ (ap (is_out (section_at s c.args.c)) c.look_at.ensures.word ∙ seen_out s c.args.c on))

@@ -6,9 +6,8 @@ use Rattle.passive_core.proofs.machine.Core.live_entry.Goals as goal
 
 pub returns-in_err-t-clause-answer : goal.returns-in_err-t-clause-answer
 returns-in_err-t-clause-answer c =
-    let on : Holds c.args.self.now = subst Holds c.self.view_is c.self.invariant in
     subst (IsLookupNow c.args.self.now c.args.key) (sym c.from_residual.ensures)
-    (no_place_lookup c.args.self.now c.args.key on (sym c.live_place.ensures.value ∙ c.in_err-t.was))
+    (no_place_lookup c.args.self.now c.args.key (subst Holds c.self.view_is c.self.invariant) (sym c.live_place.ensures.value ∙ c.in_err-t.was))
 
 pub returns-in-Live-clause-answer : goal.returns-in-Live-clause-answer
 returns-in-Live-clause-answer c =

@@ -17,8 +17,7 @@ use Rattle.passive_core.proofs.machine.Core.perform.Goals as goal
 pub returns-in_err-waiting_for-clause-ready : goal.returns-in_err-waiting_for-clause-ready
 returns-in_err-waiting_for-clause-ready c = λ d acts.
     let s = c.args.self.now in
-    let seated : c.wait_for_sections.new.self ≡ all_seated s = c.wait_for_sections.ensures.same ∙ c.seat_all.ensures in
-    ap (λ (x : State). may_act x d) seated ∙ acting_on s d (subst Holds c.self.view_is c.self.invariant) acts
+    ap (λ (x : State). may_act x d) (c.wait_for_sections.ensures.same ∙ c.seat_all.ensures) ∙ acting_on s d (subst Holds c.self.view_is c.self.invariant) acts
 
 pub returns-in_err-waiting_for-clause-answer : goal.returns-in_err-waiting_for-clause-answer
 returns-in_err-waiting_for-clause-answer c =
@@ -29,9 +28,8 @@ returns-in_err-waiting_for-clause-answer c =
 pub pass_all-requires-clause-outside : goal.pass_all-requires-clause-outside
 pass_all-requires-clause-outside c =
     let s = c.args.self.now in
-    let seated : c.wait_for_sections.new.self ≡ all_seated s = c.wait_for_sections.ensures.same ∙ c.seat_all.ensures in
     let none : least_below (is_inside s) s.settings.cpus ≡ None = ap (λ (x : State). least_below (is_inside x) x.settings.cpus) (sym c.seat_all.ensures) ∙ (sym c.wait_for_sections.ensures.answer ∙ c.in_ok-waiting_for.ensures.none) in
-    subst AllOutside (sym seated) (least_none (is_inside s) s.settings.cpus none)
+    subst AllOutside (sym (c.wait_for_sections.ensures.same ∙ c.seat_all.ensures)) (least_none (is_inside s) s.settings.cpus none)
 
 pub pass_all-requires-clause-numbers : goal.pass_all-requires-clause-numbers
 pass_all-requires-clause-numbers c = λ t lt.
@@ -44,8 +42,7 @@ returns-clause-answer c =
     let s = c.args.self.now in
     let seated : c.wait_for_sections.new.self ≡ all_seated s = c.wait_for_sections.ensures.same ∙ c.seat_all.ensures in
     let none : least_below (is_inside s) s.settings.cpus ≡ None = ap (λ (x : State). least_below (is_inside x) x.settings.cpus) (sym c.seat_all.ensures) ∙ (sym c.wait_for_sections.ensures.answer ∙ c.in_ok-waiting_for.ensures.none) in
-    let outside : is_inside s c.args.c ≡ false = sym c.inside.ensures ∙ c.if-inside.false in
-    rw (outside, none) refl
+    rw (sym c.inside.ensures ∙ c.if-inside.false, none) refl
 
 pub returns-clause-after : goal.returns-clause-after
 returns-clause-after c =

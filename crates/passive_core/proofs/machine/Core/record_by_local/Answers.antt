@@ -3,42 +3,35 @@ use Rattle.protocol.specs.State.{State}
 use Rattle.protocol.specs.Events.{load_local}
 use Rattle.protocol.specs.Invariant.{Holds}
 use Rattle.passive_core.proofs.Locals.{local_shows}
-use Rattle.passive_core.proofs.Passives.{load_ok, lawful_words, word_is}
+use Rattle.passive_core.proofs.Passives.{ShowsRecord, load_ok, lawful_words, word_is}
 use Rattle.std.proofs.Common.{[], ◌∷◌}
 use Rattle.protocol.specs.declared.event.Event.TheVariants.{LoadRecord}
 use Rattle.protocol.specs.declared.event.RecordOf.TheVariants.{Local as OfLocal}
 use Rattle.passive_core.proofs.Making.{makes_load}
+use Rattle.passive_core.proofs.machine.Core.record_by_local.Goals.{After-number-number}
 use Rattle.passive_core.proofs.machine.Core.record_by_local.Goals as goal
 
+-- the words of the entry to which the reference is
+shown : (c : After-number-number) → ShowsRecord c.args.self.now c.number-number.result (load_local c.args.self.now c.args.id)
+shown c = local_shows c.args.self.now c.args.id c.number-number.result (subst Holds c.self.view_is c.self.invariant) c.number-number.ensures
+
 pub load_word-kind-requires : goal.load_word-kind-requires
-load_word-kind-requires c =
-    let s = c.args.self.now in
-    let shows = local_shows s c.args.id c.number-number.result (subst Holds c.self.view_is c.self.invariant) c.number-number.ensures in
-    load_ok s s c.number-number.result 1 (λ (x : State) (k : ℕ). load_local x c.args.id k) shows refl refl
+load_word-kind-requires c = load_ok c.args.self.now c.args.self.now c.number-number.result 1 (λ (x : State) (k : ℕ). load_local x c.args.id k) (shown (goal.at.load_word-kind-requires c).After-number-number) refl refl
 
 pub load_word-high-requires : goal.load_word-high-requires
-load_word-high-requires c =
-    let s = c.args.self.now in
-    let shows = local_shows s c.args.id c.number-number.result (subst Holds c.self.view_is c.self.invariant) c.number-number.ensures in
-    load_ok s c.load_word-kind.new.self c.number-number.result 2 (λ (x : State) (k : ℕ). load_local x c.args.id k) shows c.load_word-kind.ensures.same refl
+load_word-high-requires c = load_ok c.args.self.now c.load_word-kind.new.self c.number-number.result 2 (λ (x : State) (k : ℕ). load_local x c.args.id k) (shown (goal.at.load_word-high-requires c).After-number-number) c.load_word-kind.ensures.same refl
 
 pub load_word-low-requires : goal.load_word-low-requires
-load_word-low-requires c =
-    let s = c.args.self.now in
-    let shows = local_shows s c.args.id c.number-number.result (subst Holds c.self.view_is c.self.invariant) c.number-number.ensures in
-    load_ok s c.load_word-high.new.self c.number-number.result 3 (λ (x : State) (k : ℕ). load_local x c.args.id k) shows (c.load_word-high.ensures.same ∙ c.load_word-kind.ensures.same) refl
+load_word-low-requires c = load_ok c.args.self.now c.load_word-high.new.self c.number-number.result 3 (λ (x : State) (k : ℕ). load_local x c.args.id k) (shown (goal.at.load_word-low-requires c).After-number-number) (c.load_word-high.ensures.same ∙ c.load_word-kind.ensures.same) refl
 
 pub load_word-value-requires : goal.load_word-value-requires
-load_word-value-requires c =
-    let s = c.args.self.now in
-    let shows = local_shows s c.args.id c.number-number.result (subst Holds c.self.view_is c.self.invariant) c.number-number.ensures in
-    load_ok s c.load_word-low.new.self c.number-number.result 4 (λ (x : State) (k : ℕ). load_local x c.args.id k) shows (c.load_word-low.ensures.same ∙ (c.load_word-high.ensures.same ∙ c.load_word-kind.ensures.same)) refl
+load_word-value-requires c = load_ok c.args.self.now c.load_word-low.new.self c.number-number.result 4 (λ (x : State) (k : ℕ). load_local x c.args.id k) (shown (goal.at.load_word-value-requires c).After-number-number) (c.load_word-low.ensures.same ∙ (c.load_word-high.ensures.same ∙ c.load_word-kind.ensures.same)) refl
 
 pub record_from-requires : goal.record_from-requires
 record_from-requires c =
     let s = c.args.self.now in
     let load = λ (x : State) (k : ℕ). load_local x c.args.id k in
-    let shows = local_shows s c.args.id c.number-number.result (subst Holds c.self.view_is c.self.invariant) c.number-number.ensures in
+    let shows = shown (goal.at.record_from-requires c).After-number-number in
     lawful_words s c.number-number.result c.load_word-high.result c.load_word-low.result (load s) shows
     (word_is s c.load_word-kind.new.self c.number-number.result 2 c.load_word-high.result load shows c.load_word-kind.ensures.same refl c.load_word-high.ensures.word)
     (word_is s c.load_word-high.new.self c.number-number.result 3 c.load_word-low.result load shows (c.load_word-high.ensures.same ∙ c.load_word-kind.ensures.same) refl c.load_word-low.ensures.word)
@@ -48,7 +41,7 @@ returns-clause-record c = λ n live.
     let same : c.number-number.result ≡ n = let q : ◌≡◌ {A = Option ℕ} (Some c.number-number.result) (Some n) = sym c.number-number.ensures ∙ live in cc in
     let s = c.args.self.now in
     let load = λ (x : State) (k : ℕ). load_local x c.args.id k in
-    let shows = local_shows s c.args.id c.number-number.result (subst Holds c.self.view_is c.self.invariant) c.number-number.ensures in
+    let shows = shown (goal.at.returns-clause-record c).After-number-number in
     let first = c.load_word-kind.ensures.same in
     let second = c.load_word-high.ensures.same ∙ first in
     let third = c.load_word-low.ensures.same ∙ second in (

@@ -2,42 +2,35 @@ use Rattle.std.proofs.Common.{◌∙◌, ℕ, refl, subst}
 use Rattle.protocol.specs.State.{State}
 use Rattle.protocol.specs.Events.{load_passive}
 use Rattle.protocol.specs.Invariant.{Holds}
-use Rattle.passive_core.proofs.Passives.{load_ok, lawful_words, passive_shows, word_is}
+use Rattle.passive_core.proofs.Passives.{ShowsRecord, load_ok, lawful_words, passive_shows, word_is}
 use Rattle.std.proofs.Common.{[], ◌∷◌}
 use Rattle.protocol.specs.declared.event.Event.TheVariants.{LoadRecord}
 use Rattle.protocol.specs.declared.event.RecordOf.TheVariants.{Passive as OfPassive}
 use Rattle.passive_core.proofs.Making.{makes_load}
+use Rattle.passive_core.proofs.machine.Core.record_by_passive.Goals.{After-self}
 use Rattle.passive_core.proofs.machine.Core.record_by_passive.Goals as goal
 
+-- the words of the entry to which the reference is
+shown : (c : After-self) → ShowsRecord c.args.self.now c.args.number (load_passive c.args.self.now c.args.c c.args.number)
+shown c = passive_shows c.args.self.now c.args.c c.args.number (subst Holds c.self.view_is c.self.invariant) c.requires.idle c.requires.held
+
 pub load_word-kind-requires : goal.load_word-kind-requires
-load_word-kind-requires c =
-    let s = c.args.self.now in
-    let shows = passive_shows s c.args.c c.args.number (subst Holds c.self.view_is c.self.invariant) c.requires.idle c.requires.held in
-    load_ok s s c.args.number 1 (λ (x : State) (k : ℕ). load_passive x c.args.c c.args.number k) shows refl refl
+load_word-kind-requires c = load_ok c.args.self.now c.args.self.now c.args.number 1 (λ (x : State) (k : ℕ). load_passive x c.args.c c.args.number k) (shown (goal.at.load_word-kind-requires c).After-self) refl refl
 
 pub load_word-high-requires : goal.load_word-high-requires
-load_word-high-requires c =
-    let s = c.args.self.now in
-    let shows = passive_shows s c.args.c c.args.number (subst Holds c.self.view_is c.self.invariant) c.requires.idle c.requires.held in
-    load_ok s c.load_word-kind.new.self c.args.number 2 (λ (x : State) (k : ℕ). load_passive x c.args.c c.args.number k) shows c.load_word-kind.ensures.same refl
+load_word-high-requires c = load_ok c.args.self.now c.load_word-kind.new.self c.args.number 2 (λ (x : State) (k : ℕ). load_passive x c.args.c c.args.number k) (shown (goal.at.load_word-high-requires c).After-self) c.load_word-kind.ensures.same refl
 
 pub load_word-low-requires : goal.load_word-low-requires
-load_word-low-requires c =
-    let s = c.args.self.now in
-    let shows = passive_shows s c.args.c c.args.number (subst Holds c.self.view_is c.self.invariant) c.requires.idle c.requires.held in
-    load_ok s c.load_word-high.new.self c.args.number 3 (λ (x : State) (k : ℕ). load_passive x c.args.c c.args.number k) shows (c.load_word-high.ensures.same ∙ c.load_word-kind.ensures.same) refl
+load_word-low-requires c = load_ok c.args.self.now c.load_word-high.new.self c.args.number 3 (λ (x : State) (k : ℕ). load_passive x c.args.c c.args.number k) (shown (goal.at.load_word-low-requires c).After-self) (c.load_word-high.ensures.same ∙ c.load_word-kind.ensures.same) refl
 
 pub load_word-value-requires : goal.load_word-value-requires
-load_word-value-requires c =
-    let s = c.args.self.now in
-    let shows = passive_shows s c.args.c c.args.number (subst Holds c.self.view_is c.self.invariant) c.requires.idle c.requires.held in
-    load_ok s c.load_word-low.new.self c.args.number 4 (λ (x : State) (k : ℕ). load_passive x c.args.c c.args.number k) shows (c.load_word-low.ensures.same ∙ (c.load_word-high.ensures.same ∙ c.load_word-kind.ensures.same)) refl
+load_word-value-requires c = load_ok c.args.self.now c.load_word-low.new.self c.args.number 4 (λ (x : State) (k : ℕ). load_passive x c.args.c c.args.number k) (shown (goal.at.load_word-value-requires c).After-self) (c.load_word-low.ensures.same ∙ (c.load_word-high.ensures.same ∙ c.load_word-kind.ensures.same)) refl
 
 pub record_from-requires : goal.record_from-requires
 record_from-requires c =
     let s = c.args.self.now in
     let load = λ (x : State) (k : ℕ). load_passive x c.args.c c.args.number k in
-    let shows = passive_shows s c.args.c c.args.number (subst Holds c.self.view_is c.self.invariant) c.requires.idle c.requires.held in
+    let shows = shown (goal.at.record_from-requires c).After-self in
     lawful_words s c.args.number c.load_word-high.result c.load_word-low.result (load s) shows
     (word_is s c.load_word-kind.new.self c.args.number 2 c.load_word-high.result load shows c.load_word-kind.ensures.same refl c.load_word-high.ensures.word)
     (word_is s c.load_word-high.new.self c.args.number 3 c.load_word-low.result load shows (c.load_word-high.ensures.same ∙ c.load_word-kind.ensures.same) refl c.load_word-low.ensures.word)
@@ -46,7 +39,7 @@ pub returns-clause-record : goal.returns-clause-record
 returns-clause-record c =
     let s = c.args.self.now in
     let load = λ (x : State) (k : ℕ). load_passive x c.args.c c.args.number k in
-    let shows = passive_shows s c.args.c c.args.number (subst Holds c.self.view_is c.self.invariant) c.requires.idle c.requires.held in
+    let shows = shown (goal.at.returns-clause-record c).After-self in
     let first = c.load_word-kind.ensures.same in
     let second = c.load_word-high.ensures.same ∙ first in
     let third = c.load_word-low.ensures.same ∙ second in (

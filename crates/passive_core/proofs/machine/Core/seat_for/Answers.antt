@@ -4,11 +4,7 @@ use Rattle.passive_core.proofs.Acting.{acting_idle, acting_on}
 use Rattle.passive_core.proofs.machine.Core.seat_for.Goals as goal
 
 pub returns-clause-idle : goal.returns-clause-idle
-returns-clause-idle c =
-    let on = subst Holds c.self.view_is c.self.invariant in
-    rw c.seat_all.ensures (acting_idle c.args.self.now c.args.c on c.requires.known c.requires.ready)
+returns-clause-idle c = rw c.seat_all.ensures (acting_idle c.args.self.now c.args.c (subst Holds c.self.view_is c.self.invariant) c.requires.known c.requires.ready)
 
 pub returns-clause-ready : goal.returns-clause-ready
-returns-clause-ready c d may =
-    let on = subst Holds c.self.view_is c.self.invariant in
-    rw c.seat_all.ensures (acting_on c.args.self.now d on may)
+returns-clause-ready c d may = rw c.seat_all.ensures (acting_on c.args.self.now d (subst Holds c.self.view_is c.self.invariant) may)

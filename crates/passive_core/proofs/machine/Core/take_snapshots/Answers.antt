@@ -7,9 +7,7 @@ use Rattle.passive_core.proofs.Making.{snapshots_make}
 use Rattle.passive_core.proofs.machine.Core.take_snapshots.Goals as goal
 
 pub loop-d-init : goal.loop-d-init
-loop-d-init c =
-    let on : Holds c.args.self.now = subst Holds c.self.view_is c.self.invariant in
-    snapping_starts c.args.self.now c.args.t on c.requires.due c.requires.blank
+loop-d-init c = snapping_starts c.args.self.now c.args.t (subst Holds c.self.view_is c.self.invariant) c.requires.due c.requires.blank
 
 pub make-requires-clause-allowed : goal.make-requires-clause-allowed
 make-requires-clause-allowed c =
