@@ -35,9 +35,9 @@ pub enum Operation {
 /// So many threads make so many operations each, on a list of so many entries.
 #[derive(Clone, Copy, Debug, PartialEq, Eq)]
 pub struct RunPlan {
-    /// 1 to 8.
+    /// 1 to `MOST_THREADS`.
     pub threads: u8,
-    /// 1 to 32.
+    /// 1 to `MOST_ENTRIES`.
     pub entries: u8,
     /// From 1.
     pub operations: u32,
@@ -61,11 +61,11 @@ impl RunPlan {
 /// So many CPUs, of which so many readers enter and leave all the time, while one more replaces an entry of the list so many times.
 #[derive(Clone, Copy, Debug, PartialEq, Eq)]
 pub struct WaitPlan {
-    /// 1 to 8.
+    /// 1 to `MOST_THREADS`.
     pub cpus: u8,
     /// From 0, and fewer than the CPUs.
     pub readers: u8,
-    /// The entries of the list, 1 to 32, and as many slots.
+    /// The entries of the list, 1 to `MOST_ENTRIES`, and as many slots.
     pub slots: u8,
     /// How many local references to the entry are held as it is detached.
     pub held: u32,

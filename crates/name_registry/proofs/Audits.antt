@@ -1,5 +1,5 @@
 -- What the code of an audit makes, whatever state the views are of.
-use Rattle.std.proofs.Common.{◌≡◌, ◌≢◌, inl, inr, ⊎_elim, ℕ, zero, suc, ◌+◌, ◌^◌, ◌<◌, ◌≤◌, ℤ, pos, ◌+ℤ◌, List, [], ◌∷◌, ◌++◌, length, get_or, map, take, cond, false, refl, sym, ap, ◌∙◌, subst, arith, add-one}
+use Rattle.std.proofs.Common.{◌≡◌, ◌≢◌, inl, inr, ⊎_elim, ℕ, zero, suc, ◌+◌, ◌*◌, ◌<◌, ◌≤◌, ℤ, pos, ◌+ℤ◌, List, [], ◌∷◌, ◌++◌, length, get_or, map, take, cond, false, refl, sym, ap, ◌∙◌, subst, arith, add-one}
 use Rattle.std.specs.List.{All}
 use Rattle.std.proofs.lemmas.Bool.{eq-eqb, ne_eqb}
 use Rattle.std.proofs.lemmas.Int.{ints}
@@ -17,11 +17,11 @@ use Rattle.registry_values.specs.declared.settings.Settings.{Settings}
 use Rattle.registry_values.specs.declared.slot.Slot.{Slot}
 use Rattle.registry_values.specs.declared.slot.Slot.TheVariants.{Vacant, Live, Retired}
 use Rattle.registry_values.specs.Balances.{Tally, less_bias, sum_of, tally_shown, bias}
-use Rattle.protocol.specs.Invariant.{IsIn}
+use Rattle.protocol.specs.Invariant.{IsIn, greatest_limit}
 use Rattle.registry_values.specs.Slots.{slot_at}
 use Rattle.protocol.specs.State.{total_at}
 use Rattle.registry_values.proofs.Fit.{ranges}
-use Rattle.registry_values.specs.declared.settings.TheConstants.{MOST_SLOTS}
+use Rattle.registry_values.specs.declared.settings.TheConstants.{MOST_CPUS, MOST_SLOTS}
 use Rattle.protocol.proofs.history.History.{at_within}
 use Rattle.protocol.proofs.slots.Occupied.{attached_in}
 use Rattle.cpu_words.specs.declared.view.CpuView.{CpuView}
@@ -58,8 +58,8 @@ pub record Has (a : Settings) (x : OnKeeper) (rows : List KeptSlot) (t n : ℕ) 
   pub few : t < MOST_SLOTS
   pub begun : 0 < n
   pub total : (row_at rows t).total ≡ total_at x.view.totals t
-  pub low : bias ≤ total_at x.view.totals t + 2 ^ 43
-  pub high : total_at x.view.totals t ≤ bias + 2 ^ 43
+  pub low : bias ≤ total_at x.view.totals t + MOST_CPUS * greatest_limit
+  pub high : total_at x.view.totals t ≤ bias + MOST_CPUS * greatest_limit
 
 -- an entry that the keeper has in a slot is there in its view
 pub in_view : (a : Settings) (k : KeeperView) (rows : List KeptSlot) (n t : ℕ) (e : Entry) → IsOurKeeper a k rows n → IsIn e (slot_at (states_of rows) t)

@@ -1,5 +1,5 @@
-//! Measures lookups, passive references and local references on 1 to 8 threads, each with a CPU of its own, and what a change costs while
-//! others read.
+//! Measures lookups, passive references and local references on 1 to `MOST_THREADS` threads, each with a CPU of its own, and what a change
+//! costs while others read.
 #![tactic(auto)]
 
 mod changes;

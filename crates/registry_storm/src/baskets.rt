@@ -1,6 +1,7 @@
 //! Baskets in which workers leave local references to one another.
 
-ghost use Rattle.std.specs.Prelude.{◌<◌};
+ghost use Rattle.std.specs.Prelude.{◌≡◌, ◌<◌, vec_len};
+ghost use Rattle.registry_values.specs.declared.settings.TheConstants.{MOST_CPUS};
 ghost use Rattle.registry_storm.specs.Judging.{GoesOn};
 ghost use Rattle.registry_storm.specs.Storms.{Unacquired};
 
@@ -10,6 +11,7 @@ use local_count::LocalRef;
 use name_registry::Registry;
 use passive_list::Cpu;
 use registry_values::MOST_CPUS;
+use std::alloc::{AllocError, Global};
 use std::sync::{Mutex, Wait};
 
 /// A local reference in a basket.
@@ -26,24 +28,18 @@ type Basket<D> = Mutex<Option<Laid<D>>>;
 /// A place for each CPU that there may be, each under a lock of its own, which is held only to exchange what lies there. They can't be
 /// dropped: what lies in them is spent by `empty`.
 pub struct Baskets<D: Domain> {
-    places: [Basket<D>; MOST_CPUS],
+    places: Vec<Basket<D>>,
+    ghost all: { vec_len places ≡ MOST_CPUS },
 }
 
 impl<D: Domain> Baskets<D> {
-    /// Nothing lies in them.
-    pub fn new() -> Baskets<D> {
-        Baskets {
-            places: [
-                Mutex::new(None),
-                Mutex::new(None),
-                Mutex::new(None),
-                Mutex::new(None),
-                Mutex::new(None),
-                Mutex::new(None),
-                Mutex::new(None),
-                Mutex::new(None),
-            ],
+    /// Nothing lies in them. Refused where there is no memory for them.
+    pub fn new(alloc: Global) -> Result<Baskets<D>, AllocError> {
+        let mut places = Vec::with_capacity(alloc, MOST_CPUS)?;
+        for _ in 0..MOST_CPUS {
+            places.push_reserved(Mutex::new(None));
         }
+        Ok(Baskets { places })
     }
 
     /// Lays the reference into a place, from 0, and takes out what lay there.
@@ -71,17 +67,11 @@ impl<D: Domain> Baskets<D> {
         ensures section { Unacquired cpu.old cpu.new }
         ensures counted { GoesOn counts.old counts.new }
     {
-        let Baskets {
-            places: [first, second, third, fourth, fifth, sixth, seventh, eighth],
-        } = self;
-        empty_place(rt, registry, cpu, counts, first);
-        empty_place(rt, registry, cpu, counts, second);
-        empty_place(rt, registry, cpu, counts, third);
-        empty_place(rt, registry, cpu, counts, fourth);
-        empty_place(rt, registry, cpu, counts, fifth);
-        empty_place(rt, registry, cpu, counts, sixth);
-        empty_place(rt, registry, cpu, counts, seventh);
-        empty_place(rt, registry, cpu, counts, eighth);
+        let Baskets { mut places } = self;
+        while let Some(place) = places.pop() {
+            empty_place(rt, registry, cpu, counts, place);
+        }
+        places.destroy_empty();
     }
 }
 

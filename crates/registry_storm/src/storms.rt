@@ -36,7 +36,7 @@ pub struct StormRun {
 /// reads the driver's record by both, releases the passive one, and exchanges the local one with what lies in the next CPU's basket; what
 /// it gets, and what the CPU before has laid into its own basket, it releases on its own CPU. CPU 0 also attaches or detaches the interface in
 /// each turn, and works on what it has detached. At the end everything is released, audited and destroyed on CPU 0.
-/// Condition: 1 to 8 CPUs, and 1 to 100,000 turns.
+/// Condition: 1 to `MOST_CPUS` CPUs, and 1 to 100,000 turns.
 /// Refused: `Memory`; `NoThread` where a worker couldn't be started. The workers that were started have ended then.
 pub fn storm<R: Threads + Wait + Sync, G: Gate + Sync>(
     rt: &R,
@@ -133,7 +133,7 @@ fn blow<D: Domain + Send + Sync, R: Threads + Wait + Sync, G: Gate + Sync>(
     ensures ok { IfOk result (λ done. done.counts.lookups ≡ 2 * plan.turns * plan.cpus) }
     ensures err { IfErr result IsOfStorm }
 {
-    let baskets = Baskets::new();
+    let baskets = Baskets::new(alloc)?;
     let shared = Shared {
         registry,
         baskets: &baskets,

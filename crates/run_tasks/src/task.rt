@@ -23,7 +23,7 @@ pub enum Task {
 /// How large a storm is.
 #[derive(Clone, Copy, Debug, PartialEq, Eq)]
 pub struct StormSize {
-    /// 1 to 8.
+    /// 1 to `MOST_CPUS`.
     pub cpus: u8,
     /// 1 to 100,000.
     pub turns: u32,

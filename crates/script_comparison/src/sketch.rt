@@ -160,7 +160,7 @@ impl Sketch {
         }
     }
 
-    /// How many CPUs the script has, 1 to 8.
+    /// How many CPUs the script has, 1 to `MOST_CPUS`.
     pub fn cpus(&self) -> usize {
         self.cpus
     }
