@@ -87,27 +87,6 @@ rightly_some (Some d) right = (d, refl)
 pub driver_keeps_none : (slots : List Slot) (keeps : List (Option ℕ)) (t : ℕ) (e : Entry) → DriversKept slots keeps → IsIn e (slot_at slots t) → e.rec.kind ≡ Driver → kept_at keeps t ≡ None
 driver_keeps_none slots keeps t e kept is kind = rightly_none (kept_at keeps t) (subst (λ (k : Kind). keeps_rightly (kept_at keeps t) k ≡ true) kind (kept.rightly t e is))
 
--- an interface keeps a driver, which has another slot
-pub kept_number : (slots : List Slot) (keeps : List (Option ℕ)) (t : ℕ) (e : Entry) → DriversKept slots keeps → IsIn e (slot_at slots t) → e.rec.kind ≡ Iface
-    → (d : ℕ) × (kept_at keeps t ≡ Some d) × ((u : ℕ) × (f : Entry) × IsIn f (slot_at slots u) × (f.number ≡ d) × (f.rec.kind ≡ Driver) × (u ≡ t → ⊥))
-kept_number slots keeps t e kept is kind =
-    let some = rightly_some (kept_at keeps t) (subst (λ (k : Kind). keeps_rightly (kept_at keeps t) k ≡ true) kind (kept.rightly t e is)) in
-    let has : HasDriver slots some.0 = kept.drivers t some.0 some.1 in (
-      some.0,
-      some.1,
-      (
-        has.0,
-        has.1,
-        has.2,
-        has.3,
-        has.4,
-        λ same.
-            let one : has.1 ≡ e = one_in has.1 e (slot_at slots t) is (subst (λ (k : ℕ). IsIn has.1 (slot_at slots k)) same has.2) in
-            let q : Driver ≡ Iface = sym has.4 ∙ (ap (λ (g : Entry). g.rec.kind) one ∙ kind) in
-            cc,
-      ),
-    )
-
 -- what an occupied slot keeps has another slot
 pub kept_elsewhere : (slots : List Slot) (keeps : List (Option ℕ)) (t d : ℕ) (e : Entry) → DriversKept slots keeps → IsIn e (slot_at slots t) → kept_at keeps t ≡ Some d
     → (u : ℕ) × (f : Entry) × IsIn f (slot_at slots u) × (f.number ≡ d) × (f.rec.kind ≡ Driver) × (u ≡ t → ⊥)
@@ -123,6 +102,13 @@ kept_elsewhere slots keeps t d e kept is at =
           let q : ◌≡◌ {A = Option ℕ} (Some d) None = sym at ∙ driver_keeps_none slots keeps t has.1 kept there has.4 in
           cc,
     )
+
+-- an interface keeps a driver, which has another slot
+pub kept_number : (slots : List Slot) (keeps : List (Option ℕ)) (t : ℕ) (e : Entry) → DriversKept slots keeps → IsIn e (slot_at slots t) → e.rec.kind ≡ Iface
+    → (d : ℕ) × (kept_at keeps t ≡ Some d) × ((u : ℕ) × (f : Entry) × IsIn f (slot_at slots u) × (f.number ≡ d) × (f.rec.kind ≡ Driver) × (u ≡ t → ⊥))
+kept_number slots keeps t e kept is kind =
+    let some = rightly_some (kept_at keeps t) (subst (λ (k : Kind). keeps_rightly (kept_at keeps t) k ≡ true) kind (kept.rightly t e is)) in
+    (some.0, some.1, kept_elsewhere slots keeps t some.0 e kept is some.1)
 
 -- the slot that `slot_of` finds for what an occupied slot keeps holds a driver, and is another
 pub kept_found : (h : List Change) (slots : List Slot) (keeps : List (Option ℕ)) (t d u : ℕ) (e : Entry) → SlotsShow h slots → DriversKept slots keeps → IsIn e (slot_at slots t) → kept_at keeps t ≡ Some d → slot_of slots d ≡ Some u
