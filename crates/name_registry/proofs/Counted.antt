@@ -74,25 +74,6 @@ few_changes a k rows n our =
     let most = (ranges a our.view.fit).changes in
     let room = our.view.room in (most, omega (arith, most, room))
 
--- The book
-
-weighed : (h : List Change) (c : Change) → weigh (after_change h c) ≡ weigh h + weight c
-weighed h c = sum_by_push weight h c
-
--- a book that grew by the change is the history's again
-booked : (old new : ℕ) (h l : List Change) (c : Change) → old ≡ weigh h → new ≡ old + weight c → l ≡ after_change h c → new ≡ weigh l
-booked old new h l c was grown after = grown ∙ ap (λ n. n + weight c) was ∙ sym (weighed h c) ∙ sym (ap weigh after)
-
-pub attach_booked : (old new : ℕ) (a : OnKeeper) (x : OnCpu) (e : Entry) (b : OnKeeper) (y : OnCpu) → old ≡ weigh a.view.history → new ≡ old + weight (Attach e) → HasAttachedFor a x e b y → new ≡ weigh b.view.history
-attach_booked old new a x e b y was grown has = booked old new a.view.history b.view.history (Attach e) was grown (ap (λ (k : KeeperView). k.history) has.keeper.entry.view)
-
-pub iface_booked : (old new : ℕ) (a : OnKeeper) (x : OnCpu) (v : ReferenceView) (e : Entry) (b : OnKeeper) (y : OnCpu) → old ≡ weigh a.view.history → new ≡ old + weight (Attach e) → HasAttachedIfaceFor a x v e b y → new ≡ weigh b.view.history
-iface_booked old new a x v e b y was grown has =
-    booked old new a.view.history b.view.history (Attach e) was grown (ap (λ (k : KeeperView). k.history) has.keeper.attached.entry.view)
-
-pub detach_booked : (old new : ℕ) (a : OnKeeper) (x : OnCpu) (e : Entry) (b : OnKeeper) (y : OnCpu) → old ≡ weigh a.view.history → new ≡ old + weight (Detach e.number) → HasDetachedFor a x e b y → new ≡ weigh b.view.history
-detach_booked old new a x e b y was grown has = booked old new a.view.history b.view.history (Detach e.number) was grown (ap (λ (k : KeeperView). k.history) has.keeper.view)
-
 -- Calls that make no change
 
 abbrev Unchanged : OnKeeper → OnKeeper → Type 0
@@ -123,9 +104,6 @@ advanced_same a n (Err f) b has = ap (λ (k : OnKeeper). k.view.history) has.2
 
 pub advanced_for_same : (z : Settings) (a : OnKeeper) (x : OnCpu) (n : ℕ) (r : Result Stage Refusal) (b : OnKeeper) (y : OnCpu) → HasAdvancedFor z a x n r b y → Unchanged a b
 advanced_for_same z a x n r b y has = ap (λ (k : OnKeeper). k.view.history) has.is ∙ advanced_same (keeper_after_hear a x) n r has.end has.made
-
-pub given_up_same : (a : OnKeeper) (v : ReferenceView) (b : OnKeeper) → HasGivenUp a v b → Unchanged a b
-given_up_same a v b has = ap (λ (k : KeeperView). k.history) has.view
 
 -- a hold whose looks leave the history
 hold_same : (looks : Looking → Looking → Type 0) (a : OnKeeper) (x : OnCpu) (b : OnKeeper) (y : OnCpu) → ((k l : Looking) → looks k l → OnlyLooked k.view l.view) → Hold looks a x b y → Unchanged a b

@@ -51,17 +51,6 @@ pub record Gathered (xs ys : List OnCpu) (n : ℕ) (log note : List LogItem) : T
   pub knows : (c : ℕ) (y : OnCpu) → c < n → get_elem? ys c ≡ some y → IsPrefix log y.known_log × IsPrefix y.known_log note
   pub rest : (c : ℕ) → n ≤ c → get_elem? ys c ≡ get_elem? xs c
 
-pub gathered_none : (xs : List OnCpu) (log note : List LogItem) → note ≡ log → Gathered xs xs 0 log note
-gathered_none xs log note is = record {
-  size = refl;
-  told = ([], append-nil log ∙ sym is);
-  learned = λ c x y lt was now. absurd (omega (arith, lt));
-  notes = λ c x y lt was now. absurd (omega (arith, lt));
-  shown = λ c x lt at. absurd (omega (arith, lt));
-  knows = λ c y lt at. absurd (omega (arith, lt));
-  rest = λ c le. refl;
-}
-
 pub learned_of : (note : List Change) (x y : OnCpu) → HasHeardOn note x y → HeardAndTold x y → HasLearned x y × (y.made ≡ x.made)
 learned_of note x y heard log = (
   record {

@@ -85,10 +85,6 @@ pub attach_owned : (z : Settings) (k b : OnKeeper) (x y : OnCpu) (rec : Record) 
 attach_owned z k b x y rec (Ok e) is has = (entry_rec z k rec (is_inside x) (is_iface rec.kind) e (sym is), learned b.view.history x y has.cpu (by_meeting x y has.own.log), has.own)
 attach_owned z k b x y rec (Err f) is has = tt
 
-pub attach_refused : (z : Settings) (k b : OnKeeper) (x y : OnCpu) (rec : Record) (r : Result Entry Refusal) → r ≡ attach_answer z k x rec → IfErr r (λ _. (b ≡ k) × (y ≡ x)) → IfErr r (λ f. IsAttachRefusal (is_inside x) (is_iface rec.kind) f × (y ≡ x))
-attach_refused z k b x y rec (Ok e) is same = tt
-attach_refused z k b x y rec (Err f) is same = (entry_refusal (is_inside x) (is_iface rec.kind) (given_entry z k rec) f (given_refused z k rec) (sym is), same.1)
-
 pub iface_may : (z : Settings) (k : OnKeeper) (x : OnCpu) (rec : Record) (v : ReferenceView) (r : Result Entry (Refusal × ReferenceView)) → IfOk r (λ e. attach_iface_answer z k x rec v ≡ Ok e) → IfOk r (λ _. MayAttach (is_inside x) (is_iface v.entry.rec.kind))
 iface_may z k x rec v (Ok e) is = entry_may (is_inside x) (is_iface v.entry.rec.kind) (given_entry z k rec) e is
 iface_may z k x rec v (Err back) is = tt
@@ -103,27 +99,6 @@ iface_refused z k b x y rec v (Err back) is = (entry_refusal (is_inside x) (is_i
 
 -- Detaching
 
-detach_refusal : (k : OnKeeper) (x : OnCpu) (key : Key) (f : Refusal) → IsDetachRefusal k x key f → IsDetachRefusedTo (is_inside x) f
-detach_refusal k x key Inside is = is
-detach_refusal k x key NotFound is = is.0
-detach_refusal k x key NoMemory is = absurd is
-detach_refusal k x key BadSettings is = absurd is
-detach_refusal k x key NameTaken is = absurd is
-detach_refusal k x key NoSlot is = absurd is
-detach_refusal k x key HistoryFull is = absurd is
-detach_refusal k x key SectionsSpent is = absurd is
-detach_refusal k x key NothingFound is = absurd is
-detach_refusal k x key PassiveFull is = absurd is
-detach_refusal k x key WrongCpu is = absurd is
-detach_refusal k x key NotHeld is = absurd is
-detach_refusal k x key LocalFull is = absurd is
-detach_refusal k x key NotRetired is = absurd is
-detach_refusal k x key MissingCpu is = absurd is
-detach_refusal k x key (StillHeld stage) is = absurd is
-detach_refusal k x key (Waiting c) is = absurd is
-detach_refusal k x key TooDeep is = absurd is
-detach_refusal k x key NeedsDriver is = absurd is
-
 pub detach_may : (k : OnKeeper) (x : OnCpu) (key : Key) (r : Result Entry Refusal) → IsDetachAnswer k x key r → IfOk r (λ _. is_inside x ≡ false)
 detach_may k x key (Ok e) is = is.0
 detach_may k x key (Err f) is = tt
@@ -131,10 +106,6 @@ detach_may k x key (Err f) is = tt
 pub detach_owned : (k b : OnKeeper) (x y : OnCpu) (key : Key) (r : Result Entry Refusal) → IsDetachAnswer k x key r → IfOk r (λ e. HasDetachedFor k x e b y) → IfOk r (λ e. (e.rec.kind ≡ key.kind) × (e.rec.name ≡ key.name) × HasLearned x y × HasSeenDetach x y e)
 detach_owned k b x y key (Ok e) is has = (ap (λ (q : Key). q.kind) is.1.1, ap (λ (q : Key). q.name) is.1.1, learned b.view.history x y has.cpu (by_meeting x y has.own.log), has.own)
 detach_owned k b x y key (Err f) is has = tt
-
-pub detach_refused : (k b : OnKeeper) (x y : OnCpu) (key : Key) (r : Result Entry Refusal) → IsDetachAnswer k x key r → IfErr r (λ _. (b ≡ k) × (y ≡ x)) → IfErr r (λ f. IsDetachRefusedTo (is_inside x) f × (y ≡ x))
-detach_refused k b x y key (Ok e) is same = tt
-detach_refused k b x y key (Err f) is same = (detach_refusal k x key f is, same.1)
 
 -- Performing
 

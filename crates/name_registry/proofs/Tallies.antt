@@ -162,13 +162,6 @@ held_by a k xs g h t e known all shown nets is = ⊎_elim
     (λ (gone : slot_at k.slots t ≡ Retired e). held_retired a k xs g h t e known all shown nets gone (known.slots t ∙ gone))
     is
 
--- in one state that shows all
-pub held_right : (a : Settings) (k : OnKeeper) (xs : List OnCpu) (g : State) (t : ℕ) (e : Entry) → IsKeeperOf a k → AreAllCpus a.cpus xs → AreShown g k xs → IsIn e (slot_at k.slots t) → (tally_of k xs e.number t).held ≡ tally k xs e.number
-held_right a k xs g t e known all shown is =
-    let seen = seen_by_keeper g k.view shown.good shown.keeper in
-    let here : IsIn e (slot_at g.slots t) = subst (λ (y : List Slot). IsIn e (slot_at y t)) seen.slots (there_too a k t e known is) in
-    held_by a k xs g k.view.noted_pass t e known all (record { good = shown.good; keeper = shown.keeper }) (λ c x at on. ap (λ i. count_at g.nets i t + released_of e.number x) (sym (all.each c x at)) ∙ (shown.cpus c x at).nets t e here) is
-
 -- A CPU's place says its own net count
 
 own_net : (g : State) (x : OnCpu) (t : ℕ) (e : Entry) → CpuShown g x.view → IsIn e (slot_at g.slots t) → net_met t e.number x ≡ net_of e.number x

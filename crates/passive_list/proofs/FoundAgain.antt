@@ -34,9 +34,6 @@ use Rattle.passive_list.specs.Cpus.{OnCpu}
 
 -- One entry
 
-pub searched : (x y : CpuView) (key : Key) (answer : Option Entry) → HasLookedUp key x y answer → HaveSearched x y
-searched x y key answer had = record { pass = had.pass; is = had.is ∙ ap (λ (e : Option Entry). record x { pass = y.pass; search = None; found = e }) (sym (ap (λ (v : CpuView). v.found) had.is)) }
-
 -- what the entry is looked up by, from its words
 pub key_noted : (e : Entry) (n : Noted) (kind : Kind) (name : Name) → n ≡ noted_of e → ((k : Kind) → n.kind ≡ kind_word k → kind ≡ k) → name ≡ record { high = n.high; low = n.low } → key_with kind name ≡ key_of e
 key_noted e n kind name is kinds named =
@@ -246,9 +243,6 @@ pub searched_slots : (x y : CpuView) → HaveSearched x y → y.settings.slots �
 searched_slots x y had = ap (λ (v : CpuView). v.settings.slots) had.is
 
 -- The whole walk
-
-pub noted_searched : (x y : CpuView) (es : List Entry) → IsNoting x es 0 y → HaveSearched x y
-noted_searched x y es at = record { pass = at.pass; is = at.is ∙ ap (λ (e : Option Entry). record x { pass = y.pass; search = None; found = e }) (sym (ap (λ (v : CpuView). v.found) at.is)) }
 
 pub all_noted : (x y : CpuView) (noted : List Noted) (es : List Entry) → noted ≡ map noted_of es → IsNoting x es 0 y → AreNoted y.pass noted es
 all_noted x y noted es are at = record { are = are; attached = λ e there. (at.noted.stands e there).attached; newest_first = at.noted.newest_first }

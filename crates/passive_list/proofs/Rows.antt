@@ -153,6 +153,3 @@ keeper_is is i = (is i).keeper
 
 pub settings_are : {x y : OnPlainKeeper} → x ≡ y → x.words.settings ≡ y.words.settings
 settings_are is i = (is i).words.settings
-
-pub cpu_is : {x y : OnPlainCpu} → x ≡ y → x.cpu ≡ y.cpu
-cpu_is is i = (is i).cpu

@@ -31,11 +31,6 @@ taking_first k t cpus fresh due some =
 pub none_taken : AreSnapshots 0 (replicate MOST_CPUS no_mark)
 none_taken = record { size = length-replicate MOST_CPUS no_mark; each = λ c lt. absurd (omega (arith, lt)) }
 
-pub due_is : (k l : KeeperView) (t cpus c : ℕ) (marks : List Mark) → l ≡ taking k t cpus c marks → c < cpus → l.due ≡ Snapshots t c
-due_is k l t cpus c marks at lt =
-    let test : nat_lt c cpus ≡ true = lt-ltb c cpus lt in
-    ap (λ (x : KeeperView). x.due) at ∙ rw (test) refl
-
 pub taking_next : (k l m : KeeperView) (t cpus c w : ℕ) (marks : List Mark) → AreFresh k t → cpus ≡ k.settings.cpus → l ≡ taking k t cpus c marks → HasSnapshot l t c w m → m ≡ taking k t cpus (c + 1) (set marks c (snapshot_mark w))
 taking_next k l m t cpus c w marks fresh same at is =
     let x = snapshot_mark w in

@@ -73,11 +73,6 @@ took x y key t n value had from at =
 
 -- From one slot to the next
 
--- the head was loaded
-pub begins : (x y : CpuView) (key : Key) (n last : ℕ) → length y.pass < last → HasFollowed (cpu_after_seek key x) (search_for key x) n y → IsAtLink key x n last y
-begins x y key zero last few had = record { pass = had.pass; is = had.is; lawful = had.holds; tells = had.tells }
-begins x y key (suc t) last few had = record { pass = had.pass; is = had.is; slot = had.holds; below = λ e stands. omega (arith, stands.begun); tells = had.tells }
-
 -- the slot of a link
 pub on_slot : (key : Key) (x y : CpuView) (n last : ℕ) → n ≢ 0 → IsAtLink key x n last y → IsOn key x (n - 1) last y
 on_slot key x y zero last some at = absurd (some refl)
@@ -147,9 +142,6 @@ follow_id key x w zero n at = ap (λ (u : CpuView). u.id) at.is
 follow_id key x w (suc t) n at = ap (λ (u : CpuView). u.id) at.is
 
 -- The whole search
-
-pub missed : (key : Key) (x y : CpuView) → HasMissed key x y → HasLookedUp key x y None
-missed key x y had = record { pass = had.pass; is = had.is; lawful = had.lawful; seen = λ e (q : None ≡ Some e). cc; tells = had.tells }
 
 pub found : (key : Key) (x y z w : CpuView) (t n value last : ℕ) → IsOn key x t last y → HasVisited y key t n true z → HasLoadedWord z value w → HasLookedUp key x w (Some (entry_with key t n value))
 found key x y z w t n value last on had last_word =

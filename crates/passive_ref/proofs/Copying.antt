@@ -18,15 +18,6 @@ new_of n t e a b p attached number added =
     let one : added.0 ≡ e = one_entry a.view.pass added.0 e added.2 attached (added.1.number ∙ sym number) in
     subst (λ (f : Entry). IsNew f a b p) one added.3
 
--- of a copy
-pub copied : (n t : ℕ) (a b : OnCpu) (why : Option Refusal) (r : Result OnPsref Refusal) → why ≡ None → IsHeldAt a.view t n → Answers (why_full a.view n) (IsAdded t n a b) r
-    → Answers (why_not_copied a.view n why) (IsCopied n a b) r
-copied n t a b why r none held answer = subst (λ (w : Option Refusal). Answers (why_not_copied a.view n w) (IsCopied n a b) r) (sym none) (with_answer r answer)
-  where
-    with_answer : (s : Result OnPsref Refusal) → Answers (why_full a.view n) (IsAdded t n a b) s → Answers (why_full a.view n) (IsCopied n a b) s
-    with_answer (Ok p) had = (had.0, (held.entry, held.held, held.at.number, new_of n t held.entry a b p held.attached held.at.number had.1))
-    with_answer (Err f) had = had
-
 -- of the last found entry, by what is kept of it
 pub acquired : (k : Found) (a b : OnCpu) (r : Result OnPsref Refusal) → IsFoundAs a.view k → Answers (why_full a.view k.number) (IsAdded k.slot k.number a b) r → Answers (why_not_acquired a.view a.view.found) (IsAcquired a b) r
 acquired k a b r kept answer = subst (λ (o : Option Entry). Answers (why_not_acquired a.view o) (IsAcquired a b) r) (sym kept.found) (subst (λ n. Answers (why_full a.view n) (IsAcquired a b) r) kept.number (with_answer r answer))

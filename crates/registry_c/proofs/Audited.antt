@@ -80,35 +80,12 @@ locals_more k t n cs c locals b z few within at is range so_far =
           (λ (off : i ≢ c). subst (λ (y : ℤ). (neg_ℤ (pos (2 ^ 50)) ≤ℤ y) × (y ≤ℤ pos (2 ^ 50))) (sym (get_or-set_other locals c i z (pos 0) off)) (so_far.range i));
     }
 
-pub locals_whole : (k : OnKeeper) (t n : ℕ) (cs : List (Option OnPlainCpu)) (c : ℕ) (locals : List ℤ) → length cs ≤ c → AreLocals k t n cs c locals → take c locals ≡ map (local_met k t n) (cpus_in cs)
-locals_whole k t n cs c locals past are = are.value ∙ ap (map (local_met k t n)) (take_all c (cpus_in cs) (omega (arith, past, length-map cs cpu_in)))
-
--- what is summed of them
-take_few : (c : ℕ) (locals : List ℤ) → length (take c locals) ≤ c
-take_few zero locals = omega arith
-take_few (suc c) [] = omega arith
-take_few (suc c) (z ∷ locals) = let few = take_few c locals in omega (arith, few)
-
-pub summed : (c : ℕ) (locals : List ℤ) → ((i : ℕ) → (neg_ℤ (pos (2 ^ 50)) ≤ℤ get_or locals i (pos 0)) × (get_or locals i (pos 0) ≤ℤ pos (2 ^ 50))) → (i : ℕ) → i < length (take c locals)
-    → (neg_ℤ (pos (2 ^ 50)) ≤ℤ get_or (take c locals) i (pos 0)) × (get_or (take c locals) i (pos 0) ≤ℤ pos (2 ^ 50))
-summed c locals range i lt = subst (λ (y : ℤ). (neg_ℤ (pos (2 ^ 50)) ≤ℤ y) × (y ≤ℤ pos (2 ^ 50))) (sym (get_or-take c locals i (pos 0) (omega (arith, lt, take_few c locals)))) (range i)
-
 -- what is told of the entry, as its numbers say it
 pub tally_told : (k : OnKeeper) (xs : List OnCpu) (cpus n t s : ℕ) (held total : ℤ) (locals : List ℤ) → s ≡ t → take cpus locals ≡ locals_met k xs t n → total ≡ less_bias (total_at k.view.totals t) → held ≡ sum_of (take cpus locals) +ℤ total
     → tally_in cpus (record { number = n; slot = s; held = held; locals = locals; total = total }) ≡ tally_met k xs n t
 tally_told k xs cpus n t s held total locals place l d h = (λ i. record { number = n; slot = place i; held = held; locals = take cpus locals; total = total }) ∙ tally_is k xs n t held total (take cpus locals) l d h
 
 -- How many entries there are
-
-pub count_each : {X Y : Type 0} (f : ℕ → ℕ → X) (h : ℕ → ℕ → Y) (slots : List Slot) (n : ℕ) → length (each_below f slots n) ≡ length (each_below h slots n)
-count_each f h slots zero = refl
-count_each f h slots (suc t) =
-    length-append (each_below f slots t) (each_at f t (slot_at slots t)) ∙ ((λ i. count_each f h slots t i + here (slot_at slots t) i) ∙ sym (length-append (each_below h slots t) (each_at h t (slot_at slots t))))
-  where
-    here : (x : Slot) → length (each_at f t x) ≡ length (each_at h t x)
-    here Vacant = refl
-    here (Live e) = refl
-    here (Retired e) = refl
 
 -- one slot more
 pub occupied_next : (k : OnKeeper) (t : ℕ) → occupied k (t + 1) ≡ occupied k t + entries_in (slot_at k.slots t)

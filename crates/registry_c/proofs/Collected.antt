@@ -43,9 +43,6 @@ none_below k t m n le none = by (some_collected k t m) refl
     by true is = absurd (false≢true (sym none ∙ some_stays k t m n le is))
     by false is = is
 
-pub none_more : (k : OnKeeper) (t c : ℕ) → some_collected k t c ≡ false → (mark_at k.view.marks t c).collected ≡ false → some_collected k t (c + 1) ≡ false
-none_more k t c none unset = ap (some_collected k t) (add-one c) ∙ (λ i. none i || unset i)
-
 some_of : (k : OnKeeper) (t n : ℕ) → some_collected k t n ≡ true → (c : ℕ) × ((mark_at k.view.marks t c).collected ≡ true)
 some_of k t zero is = absurd (false≢true is)
 some_of k t (suc n) is = by (λ before. some_of k t n before) (some_collected k t n) refl (mark_at k.view.marks t n).collected refl

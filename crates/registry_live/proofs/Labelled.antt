@@ -239,9 +239,6 @@ single : (p : OnPsref) (c n : ℕ) → labels_to (Some p ∷ []) c n ≡ one_lab
 unfolding one_label
 single p c n = let all : labels_to (Some p ∷ []) c n ≡ cond (p.cpu == c && p.number == n) 1 0 + 0 = sum_by-cons (λ (o : Option OnPsref). cond (is_label_to c n o) 1 0) (Some p) [] in omega (arith, all)
 
-pub free_released : (xs : List OnCpu) → HaveReleased xs (None ∷ []) xs
-free_released xs = record { each = λ c n. let none : labels_to (None ∷ []) c n ≡ 0 = refl in omega (arith, none); inside = refl }
-
 -- a reference that its CPU doesn't hold: nothing is left to release
 unheld_released : (xs ys : List OnCpu) (p : OnPsref) → ((c n : ℕ) → references_at ys c n ≡ references_at xs c n) → references_at xs p.cpu p.number ≡ 0 → StayInside xs ys → HaveReleased xs (Some p ∷ []) ys
 unfolding one_label
@@ -301,9 +298,6 @@ place_released m xs n x y p place answer all few is here own given refused =
 
 pub place_missing : (xs : List OnCpu) (n : ℕ) (p : OnPsref) (place : Option OnPsref) → place ≡ Some p → n ≡ p.cpu → length xs ≤ n → HaveReleased xs (place ∷ []) xs
 place_missing xs n p place here own le = subst (λ (o : Option OnPsref). HaveReleased xs (o ∷ []) xs) (sym here) (missing_released xs p (omega (arith, own, le)))
-
-pub place_free : (xs : List OnCpu) (place : Option OnPsref) → place ≡ None → HaveReleased xs (place ∷ []) xs
-place_free xs place free = subst (λ (o : Option OnPsref). HaveReleased xs (o ∷ []) xs) (sym free) (free_released xs)
 
 pub none_left : (xs : List OnCpu) (ps : List (Option OnPsref)) → HaveReleased xs (take 0 ps) xs
 none_left xs ps = record { each = λ c n. let none : labels_to (take 0 ps) c n ≡ 0 = refl in omega (arith, none); inside = refl }

@@ -15,9 +15,6 @@ use Rattle.registry_live.proofs.LiveCpus.{on_one, uncounted_stays}
 pub lets_go : (n : ℕ) (xs : List OnCpu) (x y : OnCpu) (v : ReferenceView) (place : Option ReferenceView) → place ≡ Some v → AreAllCpus n xs → 0 < n → x ≡ get_or xs 0 x → IsLetGo (get_or xs 0 x) v y → LetsGo xs place (set xs 0 y)
 lets_go n xs x y v place here all some is let_go = subst (λ (o : Option ReferenceView). LetsGo xs o (set xs 0 y)) (sym here) (on_one n xs 0 x y (λ (a b : OnCpu). IsLetGo a v b) all some is let_go)
 
-pub none_goes : (xs : List OnCpu) (place : Option ReferenceView) → place ≡ None → LetsGo xs place xs
-none_goes xs place free = subst (λ (o : Option ReferenceView). LetsGo xs o xs) (sym free) refl
-
 pub none_gone : (xs : List OnCpu) (ps : List (Option ReferenceView)) → LetGo xs (take 0 ps) xs
 none_gone xs ps = refl
 

@@ -509,12 +509,3 @@ load_searched_may z x c t k id may = subst (λ d. CpuMay z x (index (record_of t
         ),
       ),
     ))
-
--- For the callers of these steps
-
-pub followed_on : (x : CpuView) (q : Search) (n : ℕ) (p : List Change) → n ≢ 0 → cpu_after_link x q n p ≡ record x { pass = p; search = Some (search_with_place q (AtNumber (n - 1))) }
-followed_on x q zero p ne = absurd (ne refl)
-followed_on x q (suc t) p ne = let same : suc t - 1 ≡ t = omega arith in ap (λ u. record x { pass = p; search = Some (search_with_place q (AtNumber u)) }) (sym same)
-
-pub link_below : (x y : CpuView) (q : Search) (s t n : ℕ) → q.place ≡ AtNext s → HasFollowed x q (suc t) y → ((e : Entry) × MayStandOn x.pass q s e × (e.number ≡ n)) → (f : Entry) → MayStandOn y.pass q t f → f.number < n
-link_below x y q s t n place had there f stands = omega (arith, had.descends s place there.0 f there.1 stands, there.2)

@@ -237,11 +237,6 @@ hear_keeper_may z k may s r i at fits =
     let done = keeper_makes z s r i k (index head_word) (slice_index s.words (index head_word)) l (Hear None) Done own at made (leaves_all g l refl refl refl refl (λ t d is. is)) (λ n. refl) refl shown (loads s.words g (with_keeper g l) (index head_word) r.words refl (λ q _. refl)) in
     (Keeper (keeper_view (with_keeper g l) own), done.0, (refl, (done.1, (had.noted_pass, sym had.is))))
 
--- the same of a seat with the note beside its view
-
-pub hear_keeper_with_note_may : (z : Settings) (k l : KeeperView) (h : List Change) → l ≡ keeper_with_note k h → k.due ≡ Rest → KeeperMay z l (index head_word) (λ n. n) (λ n. did (Hear None) Done) (λ v n w. Makes (Hear None) Done (Keeper v) (Keeper w) × KeeperHasHeard v w)
-hear_keeper_with_note_may z k l h logged_with_note may = hear_keeper_may z l (ap (λ (v : KeeperView). v.due) logged_with_note ∙ may)
-
 -- as a note is laid beside it a view stays idle, and the load after it is the CPU's own
 
 pub laid_idle : (x y : CpuView) (h : List Change) → y ≡ with_note x h → IsIdle x → IsIdle y
