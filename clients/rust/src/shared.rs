@@ -102,7 +102,7 @@ impl<T> Shared<T> {
         let mut keeper = ffi::Keeper::EMPTY;
         let mut cpus = NO_CPUS;
         let count = usize::from(settings.cpus).min(ffi::MOST_CPUS);
-        // SAFETY: all handles are empty, and the array has room for so many CPUs. More than 8 are bad settings, which is tested first.
+        // SAFETY: all handles are empty, and the array has room for so many CPUs. More than `MOST_CPUS` are bad settings, which is tested first.
         let answer = unsafe { ffi::registry_open(&settings.to_c(), &mut keeper, cpus.as_mut_ptr(), count) };
         checked(answer)?;
         Ok(Shared {

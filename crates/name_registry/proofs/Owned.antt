@@ -121,3 +121,7 @@ least_small p (suc n) = next_small (least_below p n) (p n) n (least_small p n)
 pub waiting_refused : (z : Settings) (inside : Bool) (o : Option ℕ) → inside ≡ false → IfSome o (λ c. c < z.cpus) → IfErr (wait_answer o) (λ f. IsPerformRefusal z inside f)
 waiting_refused z inside None out small = tt
 waiting_refused z inside (Some c) out small = (out, small)
+
+pub waited_outside : (inside : Bool) (r : Result (Unit {0}) Refusal) → inside ≡ false → IfOk r (λ _. inside ≡ false)
+waited_outside inside (Ok x) out = out
+waited_outside inside (Err f) out = tt

@@ -69,7 +69,7 @@ impl Scripts for Seeds {
     // Which script comes of a seed is tested.
     ghost made = { λ _ _ _. Unit {0} };
 
-    /// A script of one to eight CPUs, most of whose lines the registry carries out. One script in nine has a fault.
+    /// A script of 1 to `MOST_CPUS` CPUs, most of whose lines the registry carries out. One script in nine has a fault.
     fn script(&self, seed: u64) -> Result<Vec<u8>, AllocError> {
         Maker::new(self.alloc, seed).script()
     }

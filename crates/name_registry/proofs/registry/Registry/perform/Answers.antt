@@ -3,7 +3,7 @@ use Rattle.registry_values.specs.declared.refusal.Refusal.{Refusal}
 use Rattle.name_registry.specs.Locking.{IsPerformRefusal}
 use Rattle.name_registry.specs.Meeting.{is_inside}
 use Rattle.name_registry.proofs.Attached.{inside_is}
-use Rattle.name_registry.proofs.Owned.{waiting_refused}
+use Rattle.name_registry.proofs.Owned.{waited_outside, waiting_refused}
 use Rattle.name_registry.proofs.Glanced.{performs_inside, performs_outside, told_small}
 use Rattle.name_registry.proofs.Waited.{learns_none, learns_performed, waited_ok}
 use Rattle.name_registry.proofs.registry.Registry.perform.Goals as goal
@@ -14,6 +14,9 @@ returns-then-inside-clause-made g c =
 
 pub returns-then-inside-clause-learned : goal.returns-then-inside-clause-learned
 returns-then-inside-clause-learned g c = learns_none c.args.cpu.now
+
+pub returns-clause-done : goal.returns-clause-done
+returns-clause-done g c = waited_outside (is_inside c.args.cpu.now) c.waiting_for.result (sym (inside_is c.inside.result c.args.cpu.now.view.begin c.inside.ensures) ∙ c.if-inside.false)
 
 pub returns-clause-refused : goal.returns-clause-refused
 returns-clause-refused g c =
