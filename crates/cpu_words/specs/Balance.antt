@@ -3,12 +3,9 @@ use Rattle.std.specs.Prelude.{◌≡◌, ℕ, ◌+◌, ◌*◌, ◌<◌, List, s
 use mathlib.Core.Option.{some}
 use lib.ListN.{get_elem?}
 use Rattle.atomic_table.specs.Table.{State as Table}
-use Rattle.registry_values.specs.declared.entry.Entry.{Entry}
-use Rattle.registry_values.specs.declared.settings.Settings.{Settings}
-use Rattle.registry_values.specs.Balances.{bias}
-use Rattle.registry_values.specs.Slots.{slot_at}
-use Rattle.protocol.specs.declared.state.Due.TheVariants.{Rest}
-use Rattle.protocol.specs.Invariant.{IsIn, one_if, one_if_used, kept_of, addition_due_at, is_adding_at, subtraction_due_at}
+use Rattle.cpu_words.specs.Types.{Entry, Settings, Rest}
+use Rattle.registry_values.specs.Common.{bias, slot_at}
+use Rattle.protocol.specs.Common.{IsIn, one_if, one_if_used, kept_of, addition_due_at, is_adding_at, subtraction_due_at}
 use Rattle.cpu_words.specs.declared.view.InHand.{InHand}
 use Rattle.cpu_words.specs.declared.view.InHand.TheVariants.{Empty, Taking, Giving, Back}
 use Rattle.cpu_words.specs.declared.view.CpuView.{CpuView}

@@ -1,19 +1,8 @@
 -- Draining by the keeper's seat (psref(9), localcount(9)): where it may make the step, and what changes in its view.
 use Rattle.std.specs.Prelude.{◌≡◌, ℕ, ◌+◌, ◌-◌, ◌⊎◌, List, [], replicate, slice_index_or, slice_set, true, false, Some, None}
-use Rattle.registry_values.specs.declared.settings.TheConstants.{MOST_CPUS}
-use Rattle.registry_values.specs.declared.entry.Entry.{Entry}
-use Rattle.registry_values.specs.declared.entry.Kind.TheVariants.{Iface}
-use Rattle.protocol.specs.declared.event.Event.{Event}
-use Rattle.protocol.specs.declared.event.Event.TheVariants.{PassiveLook, Collect, TotalAdd, TotalSub, KeptSub}
-use Rattle.protocol.specs.declared.event.Reply.TheVariants.{Word}
-use Rattle.registry_values.specs.declared.mark.Mark.{Mark}
-use Rattle.registry_values.specs.declared.slot.Slot.{Slot}
-use Rattle.registry_values.specs.declared.slot.Slot.TheVariants.{Vacant, Retired}
-use Rattle.protocol.specs.declared.state.Due.TheVariants.{Rest, Adding, Subtracting}
-use Rattle.registry_values.specs.Balances.{bias}
-use Rattle.protocol.specs.State.{with_cell, mark_at, total_at, kept_at}
-use Rattle.registry_values.specs.Slots.{slot_at, slot_of}
-use Rattle.registry_values.specs.Marks.{have_passed, are_clear, mark_after_passive_look, mark_after_collect}
+use Rattle.cpu_words.specs.Types.{MOST_CPUS, Entry, Iface, Event, PassiveLook, Collect, TotalAdd, TotalSub, KeptSub, Word, Mark, Slot, Vacant, Retired, Rest, Adding, Subtracting}
+use Rattle.registry_values.specs.Common.{bias, slot_at, slot_of, have_passed, are_clear, mark_after_passive_look, mark_after_collect}
+use Rattle.protocol.specs.Common.{with_cell, mark_at, total_at, kept_at}
 use Rattle.cpu_words.specs.declared.view.KeeperView.{KeeperView}
 use Rattle.cpu_words.specs.declared.view.ReferenceView.{ReferenceView}
 use Rattle.cpu_words.specs.declared.view.View.{View}

@@ -3,13 +3,8 @@ use Rattle.std.specs.Prelude.{◌≡◌, ℕ, Some}
 use mathlib.Core.Option.{some}
 use lib.ListN.{get_elem?}
 use Rattle.atomic_table.specs.Table.{State as Table}
-use Rattle.registry_values.specs.declared.entry.Entry.{Entry}
-use Rattle.registry_values.specs.declared.settings.Settings.{Settings}
-use Rattle.protocol.specs.History.{IsAttached, EndsAt}
-use Rattle.protocol.specs.State.{State, opening}
-use Rattle.protocol.specs.Model.{IsUnheld}
-use Rattle.protocol.specs.Picture.{picture}
-use Rattle.protocol.specs.Laws.{after, occupant_of}
+use Rattle.cpu_words.specs.Types.{Entry, Settings}
+use Rattle.protocol.specs.Common.{IsAttached, EndsAt, State, opening, IsUnheld, picture, after, occupant_of}
 use Rattle.cpu_words.specs.declared.view.Logged.{Logged}
 use Rattle.cpu_words.specs.declared.view.View.{View}
 use Rattle.cpu_words.specs.KeeperLog.{IsFreedFrom}

@@ -1,18 +1,8 @@
 -- Grace by the keeper's seat: snapshots, looks, and what they leave in its view.
 use Rattle.std.specs.Prelude.{◌≡◌, ℕ, suc, ◌+◌, ◌<◌, nat_lt, if◌then◌else◌, Some, None}
-use Rattle.registry_values.specs.declared.entry.Entry.{Entry}
-use Rattle.protocol.specs.declared.event.Event.{Event}
-use Rattle.protocol.specs.declared.event.Event.TheVariants.{Look, Snapshot}
-use Rattle.protocol.specs.declared.event.Reply.TheVariants.{Word}
-use Rattle.protocol.specs.declared.event.Reply.{Reply}
-use Rattle.registry_values.specs.declared.slot.Slot.TheVariants.{Retired}
-use Rattle.protocol.specs.declared.state.Due.{Due}
-use Rattle.protocol.specs.declared.state.Due.TheVariants.{Rest, Snapshots}
-use Rattle.registry_values.specs.declared.settings.Settings.{Settings}
-use Rattle.registry_values.specs.Slots.{slot_at}
-use Rattle.protocol.specs.State.{mark_at, with_cell}
-use Rattle.registry_values.specs.Marks.{mark_after_look}
-use Rattle.protocol.specs.Events.{snapshot_mark}
+use Rattle.cpu_words.specs.Types.{Entry, Event, Look, Snapshot, Word, Reply, Retired, Due, Rest, Snapshots, Settings}
+use Rattle.registry_values.specs.Common.{slot_at, mark_after_look}
+use Rattle.protocol.specs.Common.{mark_at, with_cell, snapshot_mark}
 use Rattle.cpu_words.specs.declared.view.KeeperView.{KeeperView}
 
 -- the keeper is at rest, and the CPU is one of the table's

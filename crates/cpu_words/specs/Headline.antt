@@ -1,21 +1,11 @@
 -- The laws of the protocol on the words: whatever threads did, a list of events leads to a state that the words and all views show, and that state obeys all laws. So what a seat holds has its slot, and marks are honest.
-use Rattle.std.specs.Prelude.{◌≡◌, ◌⊎◌, ℕ, ◌<◌, List, map, length, Some, true, slice_index}
+use Rattle.std.specs.Prelude.{◌≡◌, ◌⊎◌, ℕ, ◌<◌, List, length, Some, true, slice_index}
 use mathlib.Core.Option.{some}
 use lib.ListN.{get_elem?}
 use Rattle.atomic_table.specs.Table.{State as Table}
-use Rattle.registry_values.specs.declared.entry.Entry.{Entry}
-use Rattle.registry_values.specs.declared.entry.Change.{Change}
-use Rattle.registry_values.specs.declared.mark.Mark.{Mark}
-use Rattle.registry_values.specs.declared.settings.Settings.{Settings}
-use Rattle.registry_values.specs.declared.slot.Slot.TheVariants.{Retired}
-use Rattle.registry_values.specs.Slots.{slot_at}
-use Rattle.protocol.specs.declared.event.Event.{Event}
-use Rattle.protocol.specs.History.{IsAttached, MayHold}
-use Rattle.protocol.specs.State.{opening, mark_at, kept_at}
-use Rattle.protocol.specs.Invariant.{IsIn}
-use Rattle.protocol.specs.Model.{empty_model, IsUnheld, IsModelRun}
-use Rattle.protocol.specs.Picture.{picture}
-use Rattle.protocol.specs.Laws.{after, ObeysLaws}
+use Rattle.cpu_words.specs.Types.{Entry, Change, Mark, Settings, Retired, Event}
+use Rattle.registry_values.specs.Common.{slot_at}
+use Rattle.protocol.specs.Common.{IsAttached, MayHold, opening, mark_at, kept_at, IsIn, empty_model, IsUnheld, IsModelRun, picture, after, ObeysLaws}
 use Rattle.cpu_words.specs.declared.view.InHand.{InHand}
 use Rattle.cpu_words.specs.declared.view.InHand.TheVariants.{Empty, Taking, Giving, Back}
 use Rattle.cpu_words.specs.declared.view.CpuView.{CpuView}

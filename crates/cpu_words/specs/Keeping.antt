@@ -1,7 +1,7 @@
 -- A slot keeps a reference to a driver: the reference's seat is joined into the keeper's.
 use Rattle.std.specs.Prelude.{◌≡◌, ℕ, slice_set, Some, None}
-use Rattle.registry_values.specs.declared.entry.Kind.TheVariants.{Driver}
-use Rattle.protocol.specs.State.{kept_at}
+use Rattle.cpu_words.specs.Types.{Driver}
+use Rattle.protocol.specs.Common.{kept_at}
 use Rattle.cpu_words.specs.declared.view.KeeperView.{KeeperView}
 use Rattle.cpu_words.specs.declared.view.ReferenceView.{ReferenceView}
 use Rattle.cpu_words.specs.declared.view.View.{View}

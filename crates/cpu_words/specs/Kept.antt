@@ -3,9 +3,8 @@ use Rattle.std.specs.Prelude.{◌≡◌, ℕ, Some}
 use mathlib.Core.Option.{some}
 use lib.ListN.{get_elem?}
 use Rattle.atomic_table.specs.Table.{State as Table}
-use Rattle.registry_values.specs.declared.settings.Settings.{Settings}
-use Rattle.protocol.specs.State.{State, opening, kept_at}
-use Rattle.protocol.specs.Laws.{after, occupant_of}
+use Rattle.cpu_words.specs.Types.{Settings}
+use Rattle.protocol.specs.Common.{State, opening, kept_at, after, occupant_of}
 use Rattle.cpu_words.specs.declared.view.Logged.{Logged}
 use Rattle.cpu_words.specs.KeeperLog.{IsAttachedKeeping}
 use Rattle.cpu_words.specs.Logs.{LoggedRuled}

@@ -1,4 +1,6 @@
+pub mod Common
 pub mod Spots
+pub mod Types
 pub mod Views
 pub mod Rule
 pub mod KeeperLog

@@ -1,10 +1,7 @@
 -- Local references by a CPU's seat (localcount(9)): where it may make the step, and what changes in its view.
 use Rattle.std.specs.Prelude.{◌≡◌, ℕ, ◌+◌, ◌<◌, ◌==◌, if◌then◌else◌, Some, None}
-use Rattle.registry_values.specs.declared.entry.Entry.{Entry}
-use Rattle.protocol.specs.declared.event.Event.{Event}
-use Rattle.protocol.specs.declared.event.Reply.{Reply}
-use Rattle.protocol.specs.declared.event.Reply.TheVariants.{Word, Collected}
-use Rattle.registry_values.specs.Balances.{bias}
+use Rattle.cpu_words.specs.Types.{Entry, Event, Reply, Word, Collected}
+use Rattle.registry_values.specs.Common.{bias}
 use Rattle.cpu_words.specs.declared.view.InHand.{InHand}
 use Rattle.cpu_words.specs.declared.view.InHand.TheVariants.{Empty as NoEntry, Taking as TakingEntry, Giving as GivingEntry, Back as BackEntry}
 use Rattle.cpu_words.specs.declared.view.CpuView.{CpuView}

@@ -1,9 +1,7 @@
 -- Notes: what one seat has seen reaches another.
 use Rattle.std.specs.Prelude.{◌≡◌, List, Some, None}
 use mathlib.Core.List.{IsPrefix}
-use Rattle.registry_values.specs.declared.entry.Change.{Change}
-use Rattle.protocol.specs.declared.event.Event.TheVariants.{Hear}
-use Rattle.protocol.specs.declared.event.Reply.TheVariants.{Done}
+use Rattle.cpu_words.specs.Types.{Change, Hear, Done}
 use Rattle.cpu_words.specs.declared.view.CpuView.{CpuView}
 use Rattle.cpu_words.specs.declared.view.KeeperView.{KeeperView}
 use Rattle.cpu_words.specs.declared.view.View.{View}

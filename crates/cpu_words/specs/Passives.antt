@@ -1,15 +1,9 @@
 -- Passive references by a CPU's seat: where it may make the step, and what changes in its view.
 use Rattle.std.specs.Prelude.{◌≡◌, ◌⊎◌, ℕ, ◌<◌, ◌∷◌, Some, true}
 use Rattle.std.specs.List.{Contains}
-use Rattle.registry_values.specs.declared.settings.TheConstants.{MOST_SLOTS}
-use Rattle.registry_values.specs.declared.entry.Entry.{Entry}
-use Rattle.protocol.specs.declared.event.Event.{Event}
-use Rattle.protocol.specs.declared.event.Event.TheVariants.{PassiveAdd, PassiveSub, LoadRecord}
-use Rattle.protocol.specs.declared.event.RecordOf.TheVariants.{Passive}
-use Rattle.protocol.specs.declared.event.Reply.TheVariants.{Word}
+use Rattle.cpu_words.specs.Types.{MOST_SLOTS, Entry, Event, PassiveAdd, PassiveSub, LoadRecord, Passive, Word}
 use Rattle.registry_values.specs.Names.{are_name_words}
-use Rattle.protocol.specs.History.{IsAttached}
-use Rattle.protocol.specs.Events.{word, words_of}
+use Rattle.protocol.specs.Common.{IsAttached, word, words_of}
 use Rattle.cpu_words.specs.declared.view.CpuView.{CpuView}
 use Rattle.cpu_words.specs.declared.view.View.TheVariants.{Cpu}
 use Rattle.cpu_words.specs.Views.{references_to, without}

@@ -1,19 +1,8 @@
 -- Publish and Unpublish by the keeper's seat: one store of a link each, which the keeper knows from the live numbers of its own view.
 use Rattle.std.specs.Prelude.{◌≡◌, ℕ, suc, ◌+◌, ◌<◌, ◌≤◌, true, false, List, length, replicate, slice_index_or, slice_set, Option, Some, None}
-use Rattle.registry_values.specs.declared.settings.TheConstants.{MOST_CPUS, MOST_SLOTS}
-use Rattle.registry_values.specs.declared.entry.Entry.{Entry}
-use Rattle.registry_values.specs.declared.entry.Change.TheVariants.{Attach, Detach}
-use Rattle.protocol.specs.declared.event.Event.{Event}
-use Rattle.protocol.specs.declared.event.Event.TheVariants.{Publish, Unpublish}
-use Rattle.registry_values.specs.declared.slot.Slot.{Slot}
-use Rattle.registry_values.specs.declared.slot.Slot.TheVariants.{Vacant, Live, Retired}
-use Rattle.protocol.specs.declared.state.Due.TheVariants.{Rest, Snapshots}
-use Rattle.protocol.specs.History.{after_change}
-use Rattle.registry_values.specs.Slots.{key_of, slot_at, is_taken, live_count}
-use Rattle.registry_values.specs.Balances.{bias}
-use Rattle.registry_values.specs.Marks.{no_mark}
-use Rattle.protocol.specs.State.{row_at, count_at, total_at, kept_at}
-use Rattle.protocol.specs.Events.{entry_of, keeps_rightly}
+use Rattle.cpu_words.specs.Types.{MOST_CPUS, MOST_SLOTS, Entry, Attach, Detach, Event, Publish, Unpublish, Slot, Vacant, Live, Retired, Rest, Snapshots}
+use Rattle.protocol.specs.Common.{after_change, row_at, count_at, total_at, kept_at, entry_of, keeps_rightly}
+use Rattle.registry_values.specs.Common.{key_of, slot_at, is_taken, live_count, bias, no_mark}
 use Rattle.cpu_words.specs.declared.view.KeeperView.{KeeperView}
 use Rattle.cpu_words.specs.Spots.{head_word, next_of, index}
 

@@ -1,11 +1,8 @@
 -- Loads of a record's words by the seat of a local reference.
 use Rattle.std.specs.Prelude.{◌≡◌, ℕ, IsTrue}
-use Rattle.protocol.specs.declared.event.Event.{Event}
-use Rattle.protocol.specs.declared.event.Event.TheVariants.{LoadRecord}
-use Rattle.protocol.specs.declared.event.RecordOf.TheVariants.{Local}
-use Rattle.protocol.specs.declared.event.Reply.TheVariants.{Word}
-use Rattle.registry_values.specs.Names.{is_lawful}
-use Rattle.protocol.specs.Events.{word, words_of}
+use Rattle.cpu_words.specs.Types.{Event, LoadRecord, Local, Word}
+use Rattle.registry_values.specs.Common.{is_lawful}
+use Rattle.protocol.specs.Common.{word, words_of}
 use Rattle.cpu_words.specs.declared.view.ReferenceView.{ReferenceView}
 use Rattle.cpu_words.specs.declared.view.View.TheVariants.{Reference}
 use Rattle.cpu_words.specs.Steps.{Makes}

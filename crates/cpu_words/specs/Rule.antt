@@ -3,21 +3,9 @@ use Rattle.std.specs.Prelude.{◌≡◌, ℕ, ◌<◌, ◌≤◌, List, [], ◌�
 use mathlib.Core.Option.{some}
 use lib.ListN.{get_elem?}
 use Rattle.atomic_table.specs.Table.{State as Table}
-use Rattle.registry_values.specs.declared.entry.Entry.{Entry}
-use Rattle.registry_values.specs.declared.settings.Settings.{Settings}
-use Rattle.protocol.specs.declared.event.Event.{Event}
-use Rattle.protocol.specs.declared.event.Event.TheVariants.{LoadRecord, JoinRef, JoinKeeper, Keep}
-use Rattle.protocol.specs.declared.event.RecordOf.{RecordOf}
-use Rattle.protocol.specs.declared.event.RecordOf.TheVariants.{Local}
-use Rattle.protocol.specs.declared.event.Reply.{Reply}
-use Rattle.protocol.specs.declared.event.Reply.TheVariants.{Ref}
-use Rattle.protocol.specs.Events.{Outcome, number_standing, step}
-use Rattle.protocol.specs.Run.{Run, empty_run, run_with_event}
-use Rattle.protocol.specs.State.{State, opening, section_at, depth_at, seen_at, passive_at, count_at, local_at}
-use Rattle.registry_values.specs.Balances.{bias}
-use Rattle.registry_values.specs.Slots.{slot_at}
-use Rattle.protocol.specs.Invariant.{IsIn, one_if, standing_of, Holds}
-use Rattle.protocol.specs.Laws.{after}
+use Rattle.cpu_words.specs.Types.{Entry, Settings, Event, LoadRecord, JoinRef, JoinKeeper, Keep, RecordOf, Local, Reply, Ref}
+use Rattle.protocol.specs.Common.{Outcome, number_standing, step, Run, empty_run, run_with_event, State, opening, section_at, depth_at, seen_at, passive_at, count_at, local_at, IsIn, one_if, standing_of, Holds, after}
+use Rattle.registry_values.specs.Common.{bias, slot_at}
 use Rattle.cpu_words.specs.Spots.{Spot, index, IsSpot, word_at}
 use Rattle.cpu_words.specs.Views.{Shown, is_to}
 use Rattle.cpu_words.specs.declared.view.CpuView.{CpuView}

@@ -1,28 +1,9 @@
 -- Searches by a CPU's seat: from the head along the links, and in each slot over its record words.
 use Rattle.std.specs.Prelude.{◌≡◌, ℕ, zero, suc, ◌<◌, ◌≤◌, List, [], ◌++◌, length, Option, Some, None, true}
 use mathlib.Core.List.{IsPrefix}
-use Rattle.registry_values.specs.declared.name.Name.{Name}
-use Rattle.registry_values.specs.declared.entry.Kind.{Kind}
-use Rattle.registry_values.specs.declared.entry.Entry.{Entry}
-use Rattle.registry_values.specs.declared.entry.Change.{Change}
-use Rattle.registry_values.specs.declared.settings.Settings.{Settings}
-use Rattle.registry_values.specs.declared.settings.TheConstants.{MOST_SLOTS}
+use Rattle.cpu_words.specs.Types.{Name, Kind, Entry, Change, Settings, MOST_SLOTS, Event, Seek, LoadLink, Reply, Done, Word, Found, Missed, Key, SearchPlace, AtHead, AtNext, AtNumber, AtKind, AtHigh, AtLow, AtValue, RecordWords, Search, Loaded, On, Over}
 use Rattle.registry_values.specs.Names.{are_name_words}
-use Rattle.protocol.specs.declared.event.Event.{Event}
-use Rattle.protocol.specs.declared.event.Event.TheVariants.{Seek, LoadLink}
-use Rattle.protocol.specs.declared.event.Reply.{Reply}
-use Rattle.protocol.specs.declared.event.Reply.TheVariants.{Done, Word, Found, Missed}
-use Rattle.registry_values.specs.declared.slot.Key.{Key}
-use Rattle.protocol.specs.declared.state.SearchPlace.{SearchPlace}
-use Rattle.protocol.specs.declared.state.SearchPlace.TheVariants.{AtHead, AtNext, AtNumber, AtKind, AtHigh, AtLow, AtValue}
-use Rattle.protocol.specs.declared.state.RecordWords.{RecordWords}
-use Rattle.protocol.specs.declared.state.Search.{Search}
-use Rattle.protocol.specs.declared.state.Loaded.{Loaded}
-use Rattle.protocol.specs.declared.state.Loaded.TheVariants.{On, Over}
-use Rattle.protocol.specs.Events.{word, words_of}
-use Rattle.protocol.specs.History.{IsAttached, IsLiveAt, IsLegal, IsLawful}
-use Rattle.protocol.specs.Invariant.{StandsOn}
-use Rattle.protocol.specs.Loaded.{loaded_at}
+use Rattle.protocol.specs.Common.{word, words_of, IsAttached, IsLiveAt, IsLegal, IsLawful, StandsOn, loaded_at}
 use Rattle.cpu_words.specs.declared.view.CpuView.{CpuView}
 use Rattle.cpu_words.specs.declared.view.View.TheVariants.{Cpu}
 use Rattle.cpu_words.specs.declared.view.LogItem.{LogItem}

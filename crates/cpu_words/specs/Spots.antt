@@ -1,9 +1,8 @@
 -- Where the words lie: which words there are, and the place of each, by the constants of src/layout.rt.
 use Rattle.std.specs.Prelude.{◌≡◌, ℕ, ◌+◌, ◌*◌, ◌<◌, ◌≤◌, ◌⊎◌, IsTrue, slice_index_or, Option, Some, None}
-use Rattle.registry_values.specs.declared.settings.Settings.{Settings}
-use Rattle.registry_values.specs.Limits.{are_fit}
-use Rattle.protocol.specs.State.{State, section_at, row_at, passive_at, count_at, total_at}
-use Rattle.protocol.specs.Events.{word}
+use Rattle.cpu_words.specs.Types.{Settings}
+use Rattle.registry_values.specs.Common.{are_fit}
+use Rattle.protocol.specs.Common.{State, section_at, row_at, passive_at, count_at, total_at, word}
 use Rattle.cpu_words.specs.declared.layout.TheConstants.{ROWS, ROW, PASSIVES, COUNTS, HEAD, NEXTS, RECORDS, STRIDE, TOTALS}
 
 -- a word of the table: a CPU's section, its passive and count words for each slot, the head, and a slot's link, record words and total

@@ -1,9 +1,7 @@
 -- The words of a slot that the keeper stores before it publishes an entry there.
 use Rattle.std.specs.Prelude.{◌≡◌, ℕ, ◌-◌, slice_set}
-use Rattle.protocol.specs.declared.event.Event.{Event}
-use Rattle.protocol.specs.declared.event.Event.TheVariants.{StoreSlot, StoreNext}
-use Rattle.protocol.specs.State.{row_at, with_cell}
-use Rattle.protocol.specs.Events.{with_word}
+use Rattle.cpu_words.specs.Types.{Event, StoreSlot, StoreNext}
+use Rattle.protocol.specs.Common.{row_at, with_cell, with_word}
 use Rattle.cpu_words.specs.declared.view.KeeperView.{KeeperView}
 
 -- the slot's record word j is v

@@ -1,15 +1,8 @@
 -- A retired slot with all its marks is vacated, and a vacant slot may be written. Vacate changes no word: the load that tells of it is one of the head.
 use Rattle.std.specs.Prelude.{◌≡◌, ℕ, ◌<◌, [], replicate, slice_index_or, slice_set, None, true}
-use Rattle.registry_values.specs.declared.settings.TheConstants.{MOST_CPUS}
-use Rattle.registry_values.specs.declared.entry.Entry.{Entry}
-use Rattle.protocol.specs.declared.event.Event.{Event}
-use Rattle.protocol.specs.declared.event.Event.TheVariants.{Vacate}
-use Rattle.registry_values.specs.declared.slot.Slot.TheVariants.{Vacant, Retired}
-use Rattle.protocol.specs.declared.state.Due.TheVariants.{Rest}
-use Rattle.registry_values.specs.Balances.{bias}
-use Rattle.registry_values.specs.Slots.{slot_at}
-use Rattle.protocol.specs.State.{total_at, kept_at}
-use Rattle.registry_values.specs.Marks.{have_passed, are_clear, are_collected}
+use Rattle.cpu_words.specs.Types.{MOST_CPUS, Entry, Event, Vacate, Vacant, Retired, Rest}
+use Rattle.registry_values.specs.Common.{bias, slot_at, have_passed, are_clear, are_collected}
+use Rattle.protocol.specs.Common.{total_at, kept_at}
 use Rattle.cpu_words.specs.declared.view.KeeperView.{KeeperView}
 
 -- all marks are set, nothing is held, and no keeper's operation is half done

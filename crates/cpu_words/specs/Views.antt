@@ -3,23 +3,9 @@ use Rattle.std.specs.Prelude.{◌≡◌, ◌≢◌, ℕ, suc, ◌+◌, ◌*◌, 
 use Rattle.std.specs.List.{Contains, zip}
 use mathlib.Core.List.{IsPrefix}
 use Rattle.atomic_table.specs.Seated.{TableId}
-use Rattle.registry_values.specs.declared.entry.Entry.{Entry}
-use Rattle.registry_values.specs.declared.entry.Kind.TheVariants.{Driver}
-use Rattle.registry_values.specs.declared.entry.Change.{Change}
-use Rattle.registry_values.specs.declared.settings.Settings.{Settings}
-use Rattle.registry_values.specs.declared.settings.TheConstants.{MOST_CPUS}
-use Rattle.registry_values.specs.declared.slot.Slot.{Slot}
-use Rattle.registry_values.specs.declared.slot.Slot.TheVariants.{Vacant, Live, Retired}
-use Rattle.registry_values.specs.declared.mark.Mark.{Mark}
-use Rattle.protocol.specs.declared.state.Hand.{Hand}
-use Rattle.protocol.specs.declared.state.Hand.TheVariants.{Empty, Taking, Giving, Back}
-use Rattle.protocol.specs.declared.state.Due.TheVariants.{Rest}
-use Rattle.protocol.specs.History.{IsAttached}
-use Rattle.protocol.specs.State.{State, no_words, section_at, begin_at, depth_at, seen_at, search_at, found_at, hand_at, mark_at, passive_at, count_at, total_at}
-use Rattle.registry_values.specs.Balances.{bias}
-use Rattle.registry_values.specs.Marks.{no_mark}
-use Rattle.registry_values.specs.Slots.{slot_at}
-use Rattle.protocol.specs.Invariant.{AreRows, IsIn, Occupies, subtraction_due_at, addition_due_at, is_adding_at}
+use Rattle.cpu_words.specs.Types.{Entry, Driver, Change, Settings, MOST_CPUS, Slot, Vacant, Live, Retired, Mark, Hand, Empty, Taking, Giving, Back, Rest}
+use Rattle.protocol.specs.Common.{IsAttached, State, no_words, section_at, begin_at, depth_at, seen_at, search_at, found_at, hand_at, mark_at, passive_at, count_at, total_at, AreRows, IsIn, Occupies, subtraction_due_at, addition_due_at, is_adding_at}
+use Rattle.registry_values.specs.Common.{bias, no_mark, slot_at}
 use Rattle.cpu_words.specs.declared.view.InHand.{InHand}
 use Rattle.cpu_words.specs.declared.view.InHand.TheVariants.{Empty as NoEntry, Taking as TakingEntry, Giving as GivingEntry, Back as BackEntry}
 use Rattle.cpu_words.specs.declared.view.Looked.{Looked}

@@ -53,7 +53,7 @@ impl Words {
 /// that of the changes that calls behind the interlock make, of which each CPU has a share.
 pub trait Domain: Ledger {
     ghost use Rattle.atomic_table.specs.Seated.{TableId};
-    ghost use Rattle.registry_values.specs.declared.settings.Settings.{Settings};
+    ghost use Rattle.cpu_words.specs.Types.{Settings};
 
     ghost table: { TableId };
 

@@ -1,8 +1,7 @@
 //! A new table: its words, the keeper's seat, and a seat for each CPU.
 
 ghost use Rattle.std.specs.Prelude.{◌≡◌, ◌↔◌, ◌≤◌, [], IfOk, IfErr, IsErrOf, IsTrue, false, vec_len, vec_capacity};
-ghost use Rattle.registry_values.specs.Limits.{are_fit};
-ghost use Rattle.registry_values.specs.Refusals.{IsRefusalOfNew};
+ghost use Rattle.registry_values.specs.Common.{are_fit, IsRefusalOfNew};
 ghost use Rattle.cpu_words.specs.Views.{new_keeper};
 ghost use Rattle.cpu_words.specs.Opening.{AreOpening, AreSeats, keeper_with};
 

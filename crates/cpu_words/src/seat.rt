@@ -7,7 +7,7 @@ ghost use Rattle.cpu_words.specs.declared.view.CpuView.{CpuView};
 ghost use Rattle.cpu_words.specs.declared.view.KeeperView.{KeeperView};
 ghost use Rattle.cpu_words.specs.declared.view.ReferenceView.{ReferenceView};
 ghost use Rattle.cpu_words.specs.declared.view.View.TheVariants.{Keeper, Cpu, Reference, Note};
-ghost use Rattle.registry_values.specs.declared.entry.Change.{Change};
+ghost use Rattle.cpu_words.specs.Types.{Change};
 
 use crate::view::Logged;
 use atomic_table::Seat;

@@ -1,33 +1,23 @@
 -- A CPU acquires a local reference: why it may, and what it leaves.
-use Rattle.std.proofs.Common.{◌≡◌, ℕ, ◌+◌, ◌<◌, ◌≤◌, nat_lt, Bool, true, false, List, set, Option, Some, None, Result, Ok, Err, IfOk, refl, sym, ap, ◌∙◌, subst, arith}
+use Rattle.std.proofs.Common.{◌≡◌, ℕ, ◌+◌, ◌<◌, ◌≤◌, nat_lt, Bool, true, false, List, set, Option, Some, None, refl, sym, ap, ◌∙◌, subst, arith}
 use Rattle.std.specs.Prelude.{if◌then◌else◌}
 use Rattle.std.proofs.lemmas.Bool.{ltb-true}
 use Rattle.atomic_table.specs.Seated.{TableId}
-use Rattle.registry_values.specs.declared.entry.Entry.{Entry}
-use Rattle.registry_values.specs.declared.entry.Change.TheVariants.{Attach}
-use Rattle.registry_values.specs.declared.settings.Settings.{Settings}
-use Rattle.registry_values.specs.declared.refusal.Refusal.{Refusal}
-use Rattle.registry_values.specs.declared.refusal.Refusal.TheVariants.{LocalFull, NothingFound}
-use Rattle.registry_values.specs.Answers.{why_uncounted}
-use Rattle.registry_values.specs.Refusals.{Answers}
+use Rattle.passive_list.specs.Types.{Entry, Attach, Settings, Refusal, LocalFull, NothingFound, CpuView, ReferenceView}
+use Rattle.registry_values.specs.Common.{why_uncounted, bias}
 use Rattle.registry_values.proofs.Answers.{uncounted_alike}
-use Rattle.protocol.specs.Invariant.{greatest_limit}
-use Rattle.registry_values.specs.Balances.{bias}
+use Rattle.protocol.specs.Common.{greatest_limit}
 use Rattle.registry_values.proofs.Fit.{ranges}
 use Rattle.protocol.proofs.history.History.{at_within}
-use Rattle.cpu_words.specs.declared.view.CpuView.{CpuView}
-use Rattle.cpu_words.specs.declared.view.ReferenceView.{ReferenceView}
 use Rattle.cpu_words.specs.declared.view.InHand.TheVariants.{Empty as NoEntry, Taking as TakingEntry}
-use Rattle.cpu_words.specs.Views.{number_at, with_number, one_more}
-use Rattle.cpu_words.specs.Rule.{IsShownCpu}
-use Rattle.cpu_words.specs.Locals.{IsNetCount, IsPlaceCount, IsMetAlone, MayCount, HasCounted, HasSplit}
+use Rattle.cpu_words.specs.Common.{number_at, with_number, one_more, IsShownCpu, IsNetCount, IsPlaceCount, IsMetAlone, MayCount, HasCounted, HasSplit}
 use Rattle.cpu_words.proofs.by_cpu.Counting.{one_more_same, one_more_other, place_is}
 use Rattle.cpu_words.proofs.shown.CpusShown.{found_is_in}
 use Rattle.passive_list.specs.declared.place.Found.{Found}
 use Rattle.passive_list.specs.declared.place.NumberedCount.{NumberedCount}
-use Rattle.passive_list.specs.Cpus.{OnCpu, place_at, IsKept, IsOurCpu}
+use Rattle.passive_list.specs.Common.{place_at, IsKept, IsOurCpu}
 use Rattle.passive_list.proofs.Agreeing.{IsFoundAs, found_as, found_none}
-use Rattle.local_count.specs.References.{HasAcquired, IsOurReference, net_by, why_not_acquired_local}
+use Rattle.local_count.specs.References.{IsOurReference, net_by, why_not_acquired_local}
 use Rattle.local_count.proofs.Agreeing.{place_count, counted_agrees}
 
 -- Where an acquire is refused

@@ -4,19 +4,15 @@ use mathlib.Core.Logic.{dite}
 use native.Mathlib.Decide.{ℕ_discrete}
 use Rattle.std.proofs.lemmas.Bool.{eq-eqb, ne_eqb}
 use Rattle.atomic_table.specs.Seated.{TableId}
-use Rattle.registry_values.specs.declared.settings.Settings.{Settings}
-use Rattle.protocol.specs.Invariant.{greatest_limit}
-use Rattle.registry_values.specs.Balances.{bias}
-use Rattle.registry_values.specs.declared.settings.TheConstants.{MOST_SLOTS}
-use Rattle.cpu_words.specs.declared.view.CpuView.{CpuView}
-use Rattle.cpu_words.specs.Views.{number_at, with_number}
-use Rattle.cpu_words.specs.Rule.{IsShownCpu}
-use Rattle.cpu_words.specs.Locals.{IsPlaceCount, IsMetAlone}
+use Rattle.passive_list.specs.Types.{Settings, MOST_SLOTS, CpuView}
+use Rattle.protocol.specs.Common.{greatest_limit}
+use Rattle.registry_values.specs.Common.{bias}
+use Rattle.cpu_words.specs.Common.{number_at, with_number, IsShownCpu, IsPlaceCount, IsMetAlone}
 use Rattle.cpu_words.proofs.by_cpu.Counting.{with_number_same, with_number_other}
 use Rattle.passive_list.specs.declared.place.Found.{Found}
 use Rattle.passive_list.specs.declared.place.NumberedCount.{NumberedCount}
 use Rattle.local_count.specs.References.{net_by}
-use Rattle.passive_list.specs.Cpus.{no_place, place_at, NetAgree, IsOurCpu}
+use Rattle.passive_list.specs.Common.{no_place, place_at, NetAgree, IsOurCpu}
 
 -- the place of a slot says a number's net count, where it is for that number
 pub place_here : (x : CpuView) (l : List NumberedCount) (t n : ℕ) → NetAgree x l → 0 < n → (place_at l t).number ≡ n → IsPlaceCount x t n (place_at l t).count

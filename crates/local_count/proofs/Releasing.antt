@@ -1,20 +1,14 @@
 -- A CPU releases a local reference: why it may, and what it leaves.
 use Rattle.std.proofs.Common.{◌≡◌, ℕ, ◌+◌, ◌-◌, ◌<◌, List, set, Some, refl, sym, ap, ◌∙◌, subst, arith}
 use Rattle.atomic_table.specs.Seated.{TableId}
-use Rattle.registry_values.specs.declared.entry.Entry.{Entry}
-use Rattle.registry_values.specs.declared.entry.Kind.{Kind}
-use Rattle.registry_values.specs.declared.settings.Settings.{Settings}
-use Rattle.registry_values.specs.Balances.{bias}
-use Rattle.cpu_words.specs.declared.view.CpuView.{CpuView}
-use Rattle.cpu_words.specs.declared.view.ReferenceView.{ReferenceView}
+use Rattle.passive_list.specs.Types.{Entry, Kind, Settings, CpuView, ReferenceView}
+use Rattle.registry_values.specs.Common.{bias}
 use Rattle.cpu_words.specs.declared.view.InHand.TheVariants.{Empty as NoEntry, Giving as GivingEntry, Back as BackEntry}
-use Rattle.cpu_words.specs.Views.{number_at, with_number, one_more}
-use Rattle.cpu_words.specs.Rule.{IsShownCpu}
-use Rattle.cpu_words.specs.Locals.{IsNetCount, IsMetAlone, HasCountedDown, HasFoundCollected, HasSplitBack, with_hand}
+use Rattle.cpu_words.specs.Common.{number_at, with_number, one_more, IsShownCpu, IsNetCount, IsMetAlone, HasCountedDown, HasFoundCollected, HasSplitBack, with_hand}
 use Rattle.cpu_words.proofs.by_cpu.Counting.{one_more_same, one_more_other}
 use Rattle.passive_list.specs.declared.place.Found.{Found}
 use Rattle.passive_list.specs.declared.place.NumberedCount.{NumberedCount}
-use Rattle.passive_list.specs.Cpus.{place_at, IsOurCpu}
+use Rattle.passive_list.specs.Common.{place_at, IsOurCpu}
 use Rattle.local_count.specs.References.{IsOurReference, net_by}
 use Rattle.local_count.proofs.Agreeing.{net_most, counted_agrees}
 

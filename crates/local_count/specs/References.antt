@@ -1,26 +1,12 @@
 -- Local references: how their plain data agree with what the seat knows, and what a CPU's calls leave.
 use Rattle.std.specs.Prelude.{◌≡◌, ℕ, ◌+◌, ◌-◌, ◌++◌, ◌<◌, ◌==◌, if◌then◌else◌, Option, Some, None, Result, IfErr}
 use Rattle.atomic_table.specs.Seated.{TableId}
-use Rattle.registry_values.specs.declared.entry.Entry.{Entry}
-use Rattle.registry_values.specs.declared.entry.Kind.{Kind}
-use Rattle.registry_values.specs.declared.refusal.Refusal.{Refusal}
-use Rattle.registry_values.specs.declared.refusal.Refusal.TheVariants.{NothingFound}
-use Rattle.registry_values.specs.Answers.{why_uncounted}
-use Rattle.registry_values.specs.Refusals.{Answers}
-use Rattle.protocol.specs.declared.event.Event.TheVariants.{CountAdd, CountDown, JoinRef, SplitBack, SplitRef}
-use Rattle.protocol.specs.declared.event.Reply.TheVariants.{Collected, Done, Ref, Word}
-use Rattle.registry_values.specs.Balances.{bias}
-use Rattle.registry_values.specs.declared.settings.TheConstants.{MOST_SLOTS}
+use Rattle.passive_list.specs.Types.{Entry, Kind, Refusal, NothingFound, CountAdd, CountDown, JoinRef, SplitBack, SplitRef, Collected, Done, Ref, Word, MOST_SLOTS, CpuView, ReferenceView, Cpu}
+use Rattle.registry_values.specs.Common.{why_uncounted, Answers, bias}
 use Rattle.cpu_words.specs.declared.view.InHand.TheVariants.{Giving as GivingEntry, Back as BackEntry}
-use Rattle.cpu_words.specs.declared.view.CpuView.{CpuView}
-use Rattle.cpu_words.specs.declared.view.ReferenceView.{ReferenceView}
-use Rattle.cpu_words.specs.declared.view.View.TheVariants.{Cpu}
-use Rattle.cpu_words.specs.Views.{number_at, with_number, one_more}
-use Rattle.cpu_words.specs.Rule.{did}
-use Rattle.cpu_words.specs.Steps.{Makes}
-use Rattle.cpu_words.specs.Locals.{with_hand}
+use Rattle.cpu_words.specs.Common.{number_at, with_number, one_more, did, Makes, with_hand}
 use Rattle.passive_list.specs.declared.place.NumberedCount.{NumberedCount}
-use Rattle.passive_list.specs.Cpus.{OnCpu}
+use Rattle.passive_list.specs.Common.{OnCpu}
 
 -- a reference that names its own table: that table, and what its seat knows
 pub record OnPlainRef : Type 0 where

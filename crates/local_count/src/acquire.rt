@@ -1,8 +1,8 @@
 //! Acquiring a local reference (localcount(9)).
 
 ghost use Rattle.std.specs.Prelude.{◌≡◌, IfOk, IsTrue};
-ghost use Rattle.registry_values.specs.Limits.{are_fit};
-ghost use Rattle.cpu_words.specs.Domains.{AreWordsOf};
+ghost use Rattle.registry_values.specs.Common.{are_fit};
+ghost use Rattle.cpu_words.specs.Common.{AreWordsOf};
 ghost use Rattle.local_count.specs.References.{AnswersAcquireLocal, why_not_acquired_local};
 
 use crate::local_ref::LocalRef;

@@ -1,9 +1,8 @@
 //! Giving a local reference up under the interlock (localcount(9)), where its CPU's count word was collected.
 
 ghost use Rattle.std.specs.Prelude.{◌≡◌};
-ghost use Rattle.cpu_words.specs.Domains.{AreWordsOf};
-ghost use Rattle.cpu_words.specs.Draining.{IsFoundCollected};
-ghost use Rattle.passive_list.specs.Draining.{HasGivenUp};
+ghost use Rattle.cpu_words.specs.Common.{AreWordsOf, IsFoundCollected};
+ghost use Rattle.passive_list.specs.Common.{HasGivenUp};
 
 use crate::local_ref::LocalRef;
 use crate::plain_ref::PlainRef;

@@ -17,8 +17,8 @@ pub struct LocalRef<D: Domain> {
 
 impl<D: Domain> Model for LocalRef<D> {
     ghost use Rattle.std.specs.Prelude.{◌≡◌, IsTrue};
-    ghost use Rattle.registry_values.specs.Limits.{are_fit};
-    ghost use Rattle.cpu_words.specs.declared.view.ReferenceView.{ReferenceView};
+    ghost use Rattle.registry_values.specs.Common.{are_fit};
+    ghost use Rattle.passive_list.specs.Types.{ReferenceView};
 
     ghost Value = { ReferenceView };
 

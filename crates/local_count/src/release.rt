@@ -1,7 +1,7 @@
 //! Releasing a local reference by a CPU's own count (localcount(9)).
 
 ghost use Rattle.std.specs.Prelude.{◌≡◌, IfOk, IfErr};
-ghost use Rattle.cpu_words.specs.Domains.{AreWordsOf};
+ghost use Rattle.cpu_words.specs.Common.{AreWordsOf};
 ghost use Rattle.local_count.specs.References.{HasReleased, HasComeBack};
 
 use crate::local_ref::LocalRef;

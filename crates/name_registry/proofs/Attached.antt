@@ -6,33 +6,13 @@ use Rattle.std.proofs.lemmas.Option.{none-some}
 use Rattle.std.proofs.lemmas.List.Quantifiers.{position-Some}
 use Rattle.std.proofs.lemmas.Slice.Zip.{get_or-zip, length-zip}
 use mathlib.Core.List.{IsPrefix}
-use Rattle.registry_values.specs.declared.entry.Change.{Change}
-use Rattle.registry_values.specs.declared.entry.Change.TheVariants.{Attach}
-use Rattle.registry_values.specs.declared.entry.Entry.{Entry}
-use Rattle.registry_values.specs.declared.entry.Kind.{Kind}
-use Rattle.registry_values.specs.declared.entry.Kind.TheVariants.{Iface, Driver}
-use Rattle.registry_values.specs.declared.entry.Record.{Record}
-use Rattle.registry_values.specs.declared.settings.Settings.{Settings}
-use Rattle.registry_values.specs.declared.slot.Slot.{Slot}
-use Rattle.registry_values.specs.declared.slot.Slot.TheVariants.{Vacant, Live, Retired}
-use Rattle.registry_values.specs.Slots.{is_available, key_of_record, is_iface, is_taken, live_count, slot_at}
+use Rattle.name_registry.specs.Types.{Change, Attach, Entry, Kind, Iface, Driver, Record, Settings, Slot, Vacant, Live, Retired, Publish, Tell, Done, LogItem, ReferenceView}
+use Rattle.registry_values.specs.Common.{is_available, key_of_record, is_iface, is_taken, live_count, slot_at}
 use Rattle.registry_values.proofs.Answers.{given_tells}
-use Rattle.protocol.specs.declared.event.Event.TheVariants.{Publish, Tell}
-use Rattle.protocol.specs.declared.event.Reply.TheVariants.{Done}
-use Rattle.protocol.specs.Events.{keeps_rightly}
-use Rattle.protocol.specs.History.{after_change}
-use Rattle.protocol.specs.State.{kept_at}
-use Rattle.cpu_words.specs.declared.view.LogItem.{LogItem}
-use Rattle.cpu_words.specs.KeeperLog.{IsAttachedKeeping}
-use Rattle.cpu_words.specs.Rule.{did, log_item}
-use Rattle.cpu_words.specs.declared.view.ReferenceView.{ReferenceView}
-use Rattle.passive_list.specs.Cpus.{OnCpu}
-use Rattle.passive_list.specs.Keepers.{OnKeeper}
-use Rattle.passive_list.specs.Notes.{HasHeardOn, cpu_after_tell, has_heard}
-use Rattle.passive_list.specs.Publishing.{HasAttached}
-use Rattle.passive_list.specs.Draining.{HasAttachedKeeping}
-use Rattle.name_registry.specs.Attaching.{given_entry, first_fit, room_of}
-use Rattle.name_registry.specs.Meeting.{keeper_after_hear, keeper_after_tell, HasSeenAttach}
+use Rattle.protocol.specs.Common.{keeps_rightly, after_change, kept_at}
+use Rattle.cpu_words.specs.Common.{IsAttachedKeeping, did, log_item}
+use Rattle.passive_list.specs.Common.{OnCpu, OnKeeper, HasHeardOn, cpu_after_tell, has_heard, HasAttached, HasAttachedKeeping}
+use Rattle.name_registry.specs.Common.{given_entry, first_fit, room_of, keeper_after_hear, keeper_after_tell, HasSeenAttach}
 use Rattle.name_registry.proofs.Heard.{seen_attach}
 use Rattle.name_registry.proofs.Noted.{heard_told, met}
 

@@ -10,34 +10,20 @@ use mathlib.Core.Logic.{dite}
 use mathlib.Core.Option.{some, some-injective, some-ne-none}
 use native.Mathlib.Decide.{ℕ_discrete}
 use lib.ListN.{get_elem?}
-use Rattle.registry_values.specs.declared.balance.Balance.{Balance}
-use Rattle.registry_values.specs.declared.entry.Entry.{Entry}
-use Rattle.registry_values.specs.declared.entry.Change.TheVariants.{Attach}
-use Rattle.registry_values.specs.declared.settings.Settings.{Settings}
-use Rattle.registry_values.specs.declared.slot.Slot.{Slot}
-use Rattle.registry_values.specs.declared.slot.Slot.TheVariants.{Vacant, Live, Retired}
-use Rattle.registry_values.specs.Balances.{Tally, less_bias, sum_of, tally_shown, bias}
-use Rattle.protocol.specs.Invariant.{IsIn, greatest_limit}
-use Rattle.registry_values.specs.Slots.{slot_at}
-use Rattle.protocol.specs.State.{total_at}
+use Rattle.name_registry.specs.Types.{Balance, Entry, Attach, Settings, Slot, Vacant, Live, Retired, MOST_CPUS, MOST_SLOTS, CpuView, LogItem, KeeperView, KeptSlot, NumberedCount}
+use Rattle.registry_values.specs.Common.{Tally, less_bias, sum_of, tally_shown, bias, slot_at}
+use Rattle.protocol.specs.Common.{IsIn, greatest_limit, total_at}
 use Rattle.registry_values.proofs.Fit.{ranges}
-use Rattle.registry_values.specs.declared.settings.TheConstants.{MOST_CPUS, MOST_SLOTS}
 use Rattle.protocol.proofs.history.History.{at_within}
 use Rattle.protocol.proofs.slots.Occupied.{attached_in}
-use Rattle.cpu_words.specs.declared.view.CpuView.{CpuView}
-use Rattle.cpu_words.specs.declared.view.LogItem.{LogItem}
-use Rattle.cpu_words.specs.declared.view.KeeperView.{KeeperView}
-use Rattle.cpu_words.specs.Views.{number_at}
+use Rattle.cpu_words.specs.Common.{number_at}
 use Rattle.cpu_words.proofs.by_keeper.KeeperSees.{seen_by_keeper}
-use Rattle.passive_list.specs.declared.keeper.KeptSlot.{KeptSlot}
-use Rattle.passive_list.specs.declared.place.NumberedCount.{NumberedCount}
-use Rattle.passive_list.specs.Cpus.{NetAgree, OnCpu, place_at}
-use Rattle.passive_list.specs.Keepers.{IsOurKeeper, OnKeeper, row_at, states_of}
+use Rattle.passive_list.specs.Common.{NetAgree, OnCpu, place_at, IsOurKeeper, OnKeeper, row_at, states_of}
 use Rattle.passive_list.proofs.Rows.{live_in, retired_in}
 use Rattle.local_count.specs.References.{net_by}
 use Rattle.local_count.proofs.Agreeing.{place_count}
 use Rattle.passive_list.proofs.Balanced.{none_at_rest, total_near}
-use Rattle.name_registry.specs.Auditing.{AreAllCpus, Listed, Occupies, each_at, each_below, is_collected, local_met, locals_met, net_met, net_of, place_of, places_below, tallies_met, tally_met}
+use Rattle.name_registry.specs.Common.{AreAllCpus, Listed, Occupies, each_at, each_below, is_collected, local_met, locals_met, net_met, net_of, place_of, places_below, tallies_met, tally_met}
 
 -- The CPUs
 

@@ -1,20 +1,13 @@
 -- The free interlock: a keeper at rest is adding nothing, so the balance of each slot is the references held.
 use Rattle.std.proofs.Common.{◌≡◌, ◌∙◌, ◌+◌, ◌*◌, sum_by, sym, ap, subst, arith}
-use Rattle.registry_values.specs.declared.settings.Settings.{Settings}
-use Rattle.protocol.specs.declared.state.Due.{Due}
-use Rattle.protocol.specs.declared.state.Due.TheVariants.{Rest}
-use Rattle.protocol.specs.Invariant.{held_at, addition_due_at, is_adding_at, itself, one_if_used}
-use Rattle.protocol.specs.State.{State, opening, total_at, at_rest}
-use Rattle.protocol.specs.Laws.{after}
-use Rattle.registry_values.specs.Balances.{bias}
-use Rattle.cpu_words.specs.declared.view.View.TheVariants.{Keeper}
-use Rattle.cpu_words.specs.Rule.{Good}
-use Rattle.cpu_words.specs.Views.{KeeperShown}
-use Rattle.cpu_words.specs.Headline.{RunsLawfully}
+use Rattle.name_registry.specs.Types.{Settings, Due, Rest, Keeper}
+use Rattle.protocol.specs.Common.{held_at, addition_due_at, is_adding_at, itself, one_if_used, State, opening, total_at, at_rest, after}
+use Rattle.registry_values.specs.Common.{bias}
+use Rattle.cpu_words.specs.Common.{Good, KeeperShown, RunsLawfully}
 use Rattle.cpu_words.proofs.laws.Safety.{runs_lawfully}
 use Rattle.cpu_words.proofs.by_keeper.KeeperSees.{seen_by_keeper}
-use Rattle.passive_list.specs.Keepers.{OnKeeper}
-use Rattle.name_registry.specs.Law.{counts_of, Balanced, FreeInterlock}
+use Rattle.passive_list.specs.Common.{OnKeeper}
+use Rattle.name_registry.specs.Common.{counts_of, Balanced, FreeInterlock}
 
 at_rest_balanced : (g : State) → Good g → g.due ≡ Rest → Balanced g
 at_rest_balanced g good rest t e is =

@@ -1,28 +1,15 @@
 -- What an audit answers is said by the keeper's log and the CPUs alone.
-use Rattle.std.proofs.Common.{◌≡◌, ◌∙◌, ⊎_elim, inl, inr, ℕ, zero, suc, ◌+◌, ◌*◌, ℤ, pos, ◌+ℤ◌, ◌-ℤ◌, Bool, true, false, ◌&&◌, if◌then◌else◌, List, [], ◌∷◌, ◌++◌, map, sum_by, Option, Some, None, refl, sym, ap, subst, arith}
+use Rattle.std.proofs.Common.{◌≡◌, ◌∙◌, ⊎_elim, inl, inr, ℕ, zero, suc, ◌+◌, ◌*◌, ℤ, pos, ◌+ℤ◌, ◌-ℤ◌, Bool, true, false, ◌&&◌, if◌then◌else◌, List, [], ◌∷◌, ◌++◌, sum_by, Option, Some, refl, sym, ap, arith}
 use Rattle.std.proofs.lemmas.Int.{ints}
-use mathlib.Core.Option.{some}
 use lib.ListN.{get_elem?}
-use Rattle.registry_values.specs.declared.balance.Balance.{Balance}
-use Rattle.registry_values.specs.declared.entry.Entry.{Entry}
-use Rattle.registry_values.specs.declared.mark.Mark.{Mark}
-use Rattle.registry_values.specs.declared.settings.Settings.{Settings}
-use Rattle.registry_values.specs.declared.slot.Slot.{Slot}
-use Rattle.registry_values.specs.declared.slot.Slot.TheVariants.{Vacant, Live, Retired}
-use Rattle.registry_values.specs.Balances.{Tally, bias, less_bias, tally_shown}
-use Rattle.registry_values.specs.Slots.{is_retired, slot_at}
-use Rattle.protocol.specs.declared.state.Due.TheVariants.{Rest}
-use Rattle.protocol.specs.Invariant.{IsIn, addition_due_at, is_adding_at, subtraction_due_at}
-use Rattle.protocol.specs.State.{State, count_at, mark_at, total_at}
-use Rattle.cpu_words.specs.declared.view.LogItem.{LogItem}
-use Rattle.cpu_words.specs.KeeperLog.{given_up, is_drawn, occupant, occupant_of, sum_collected, word_collected, word_if, words_collected}
-use Rattle.cpu_words.specs.Notes.{keeper_with_note}
-use Rattle.cpu_words.specs.Views.{number_at}
+use Rattle.name_registry.specs.Types.{Balance, Entry, Settings, Slot, Vacant, Live, Retired, Rest, LogItem}
+use Rattle.registry_values.specs.Common.{Tally, less_bias, is_retired, slot_at}
+use Rattle.protocol.specs.Common.{IsIn, addition_due_at, is_adding_at, subtraction_due_at, State, count_at, mark_at, total_at}
+use Rattle.cpu_words.specs.Common.{given_up, is_drawn, occupant, occupant_of, word_if, keeper_with_note, number_at}
 use Rattle.cpu_words.proofs.by_keeper.KeeperSees.{SeenByKeeper, seen_by_keeper}
 use Rattle.cpu_words.proofs.logs.Totalled.{given_by_log}
-use Rattle.passive_list.specs.Cpus.{OnCpu}
-use Rattle.passive_list.specs.Keepers.{OnKeeper}
-use Rattle.name_registry.specs.Auditing.{AreAllCpus, AreAlike, IsAuditBy, IsAuditOf, IsKeeperOf, acquired_of, audited, audited_at, audited_below, each_at, each_below, is_collected, local_in, local_of, net_of, net_unless, released_of, tallies_below, tallies_met, tally, tally_in, tally_of, total_in}
+use Rattle.passive_list.specs.Common.{OnCpu, OnKeeper}
+use Rattle.name_registry.specs.Common.{AreAllCpus, AreAlike, IsAuditBy, IsAuditOf, IsKeeperOf, acquired_of, audited, audited_at, audited_below, each_at, is_collected, local_in, local_of, net_of, net_unless, released_of, tallies_below, tally_in, tally_of, total_in}
 use Rattle.name_registry.proofs.Tallies.{alike_held, in_occupant, locals_same}
 
 -- a count word adds its CPU's net count, unless it was collected

@@ -1,35 +1,12 @@
 -- What is counted in the ledger: the history and a CPU's share grow by the same change, and nothing else changes the history.
 use Rattle.std.proofs.Common.{◌≡◌, ◌∙◌, ⊎_elim, ℕ, zero, suc, ◌+◌, ◌≤◌, Bool, true, false, List, length, Option, Some, None, Result, Ok, Err, sym, ap, subst, arith}
-use Rattle.std.proofs.lemmas.List.Sums.{sum_by_push}
-use Rattle.registry_values.specs.declared.entry.Change.{Change}
-use Rattle.registry_values.specs.declared.entry.Change.TheVariants.{Attach, Detach}
-use Rattle.registry_values.specs.declared.entry.Entry.{Entry}
-use Rattle.registry_values.specs.declared.entry.Record.{Record}
-use Rattle.registry_values.specs.declared.refusal.Refusal.{Refusal}
-use Rattle.registry_values.specs.declared.settings.Settings.{Settings}
-use Rattle.registry_values.specs.declared.stage.Stage.{Stage}
-use Rattle.registry_values.specs.declared.stage.Stage.TheVariants.{Grace, Passive, Local, Freed}
-use Rattle.registry_values.specs.declared.slot.Key.{Key}
+use Rattle.name_registry.specs.Types.{Change, Entry, Record, Refusal, Settings, Stage, Grace, Passive, Local, Freed, Key, MOST_SLOTS, KeeperView, ReferenceView, KeptSlot}
 use Rattle.registry_values.specs.Answers as answers
-use Rattle.registry_values.specs.Slots.{is_iface, is_retired_as, slot_at}
+use Rattle.registry_values.specs.Common.{is_iface, is_retired_as, slot_at}
 use Rattle.registry_values.proofs.Answers.{attach_tells}
 use Rattle.registry_values.proofs.Fit.{ranges}
-use Rattle.registry_values.specs.declared.settings.TheConstants.{MOST_SLOTS}
-use Rattle.protocol.specs.History.{after_change}
-use Rattle.cpu_words.specs.declared.view.KeeperView.{KeeperView}
-use Rattle.cpu_words.specs.declared.view.ReferenceView.{ReferenceView}
-use Rattle.passive_list.specs.Cpus.{OnCpu}
-use Rattle.passive_list.specs.declared.keeper.KeptSlot.{KeptSlot}
-use Rattle.passive_list.specs.Keepers.{IsOurKeeper, OnKeeper}
-use Rattle.passive_list.specs.Notes.{HasHeardOn}
-use Rattle.passive_list.specs.Draining.{HasFreed, HasGivenUp}
-use Rattle.name_registry.specs.Advancing.{HasAdvanced, HasEnded, HasWorkedFor, Meets}
-use Rattle.name_registry.specs.Attaching.{HasAttachedFor, HasAttachedIfaceFor, attach_answer, attach_iface_answer, given_entry}
-use Rattle.name_registry.specs.Changes.{HasMade, number_of, weigh, weight}
-use Rattle.name_registry.specs.Destroying.{HasAdvancedFor}
-use Rattle.name_registry.specs.Detaching.{HasDetachedFor, IsDetachAnswer}
-use Rattle.name_registry.specs.Meeting.{HasLearned, HasSeenAttach, HasSeenDetach, keeper_after_hear, is_inside}
-use Rattle.name_registry.specs.Performing.{GlancesBelow, HasBegun, HasGlanced, HasPassedAll, Hold, Looking, PassesBelow, PassesIf, PassesNumber, SnapshotsBelow}
+use Rattle.passive_list.specs.Common.{OnCpu, IsOurKeeper, OnKeeper, HasHeardOn, HasFreed}
+use Rattle.name_registry.specs.Common.{HasAdvanced, HasEnded, HasWorkedFor, Meets, attach_answer, attach_iface_answer, given_entry, HasMade, number_of, weigh, weight, HasAdvancedFor, IsDetachAnswer, HasLearned, HasSeenAttach, HasSeenDetach, keeper_after_hear, is_inside, GlancesBelow, HasBegun, HasGlanced, HasPassedAll, Hold, Looking, PassesBelow, PassesIf, PassesNumber, SnapshotsBelow}
 use Rattle.name_registry.proofs.Glanced.{OnlyLooked, snapshots_look, glances_look}
 use Rattle.name_registry.proofs.Attached.{given_takes}
 

@@ -1,28 +1,12 @@
 -- What a caller keeps of the turns of a destroy, whatever is known of the keeper between them.
-use Rattle.std.proofs.Common.{◌≡◌, ℕ, zero, suc, ◌<◌, Bool, true, false, inl, ⊎_elim, List, ◌∷◌, ◌++◌, None, Result, Ok, Err, IfOk, IfErr, refl, sym, ap, ◌∙◌, subst, append_assoc, arith}
+use Rattle.std.proofs.Common.{◌≡◌, ℕ, zero, suc, ◌<◌, Bool, true, false, inl, ⊎_elim, List, ◌∷◌, ◌++◌, Result, Ok, Err, IfOk, IfErr, refl, sym, ap, ◌∙◌, subst, append_assoc, arith}
 use mathlib.Core.List.{IsPrefix}
-use Rattle.registry_values.specs.declared.entry.Entry.{Entry}
-use Rattle.registry_values.specs.declared.refusal.Refusal.{Refusal}
-use Rattle.registry_values.specs.declared.refusal.Refusal.TheVariants.{Inside, NotRetired}
-use Rattle.registry_values.specs.declared.settings.Settings.{Settings}
-use Rattle.registry_values.specs.declared.slot.Slot.{Slot}
-use Rattle.registry_values.specs.declared.slot.Slot.TheVariants.{Retired}
-use Rattle.registry_values.specs.declared.stage.Stage.{Stage}
-use Rattle.registry_values.specs.declared.stage.Stage.TheVariants.{Grace, Passive, Local, Freed}
-use Rattle.registry_values.specs.Slots.{slot_at}
-use Rattle.registry_values.specs.Stages.{IsObstacle, destroy_result, destroy_result_of}
+use Rattle.name_registry.specs.Types.{Refusal, Inside, NotRetired, Settings, Slot, Retired, Stage, Grace, Passive, Local, Freed, LogItem}
+use Rattle.registry_values.specs.Common.{slot_at, IsObstacle, destroy_result, destroy_result_of}
 use Rattle.registry_values.proofs.Slots.{retired_slot_tells}
-use Rattle.protocol.specs.declared.event.Event.TheVariants.{Tell}
-use Rattle.protocol.specs.declared.event.Reply.TheVariants.{Done}
-use Rattle.cpu_words.specs.declared.view.LogItem.{LogItem}
-use Rattle.cpu_words.specs.KeeperLog.{IsFreedFrom}
-use Rattle.cpu_words.specs.Rule.{did}
-use Rattle.passive_list.specs.Cpus.{OnCpu}
-use Rattle.passive_list.specs.Keepers.{OnKeeper}
-use Rattle.name_registry.specs.Advancing.{HasAdvanced}
-use Rattle.name_registry.specs.Destroying.{Destroys, DestroysOutside, HasDestroyed, LastMeeting, SomeAdvancedFor, TurnsMeeting}
-use Rattle.name_registry.specs.Locking.{IsDestroyRefusal, IsStageOf}
-use Rattle.name_registry.specs.Obstacles.{IsDestroyAnswer, IsTurn}
+use Rattle.cpu_words.specs.Common.{IsFreedFrom}
+use Rattle.passive_list.specs.Common.{OnCpu, OnKeeper}
+use Rattle.name_registry.specs.Common.{HasAdvanced, Destroys, DestroysOutside, HasDestroyed, LastMeeting, SomeAdvancedFor, TurnsMeeting, IsDestroyRefusal, IsStageOf, IsDestroyAnswer, IsTurn}
 use Rattle.name_registry.proofs.Heard.{prefix_short}
 use Rattle.name_registry.proofs.Owned.{learned}
 use Rattle.name_registry.proofs.Turned.{ended_freed}

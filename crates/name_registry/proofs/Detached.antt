@@ -2,31 +2,16 @@
 use Rattle.std.proofs.Common.{◌++◌, ◌≡◌, ◌∙◌, inl, ℕ, Bool, true, false, Option, Some, None, Result, Ok, Err, position, List, length, sym, ap, subst}
 use Rattle.std.proofs.lemmas.List.Quantifiers.{position-Some}
 use mathlib.Core.List.{IsPrefix}
-use Rattle.registry_values.specs.declared.entry.Change.{Change}
-use Rattle.registry_values.specs.declared.entry.Entry.{Entry}
-use Rattle.registry_values.specs.declared.refusal.Refusal.{Refusal}
-use Rattle.registry_values.specs.declared.refusal.Refusal.TheVariants.{Inside, NotFound}
-use Rattle.registry_values.specs.declared.settings.Settings.{Settings}
-use Rattle.registry_values.specs.declared.slot.Key.{Key}
-use Rattle.registry_values.specs.declared.slot.Slot.{Slot}
-use Rattle.registry_values.specs.declared.slot.Slot.TheVariants.{Live}
-use Rattle.protocol.specs.History.{IsAttached, IsLiveAt}
-use Rattle.registry_values.specs.Answers.{detach_answer}
-use Rattle.registry_values.specs.Slots.{is_live_as, same_key, slot_at}
+use Rattle.name_registry.specs.Types.{Change, Entry, Refusal, Inside, NotFound, Settings, Key, Slot, Live, KeeperView, LogItem, KeptSlot}
+use Rattle.protocol.specs.Common.{IsAttached, IsLiveAt}
+use Rattle.registry_values.specs.Common.{detach_answer, is_live_as, same_key, slot_at}
 use Rattle.registry_values.proofs.Slots.{key_same, live_tells}
 use Rattle.protocol.proofs.slots.Numbers.{position_fails}
 use Rattle.protocol.proofs.slots.Occupied.{in_within, live_one}
-use Rattle.cpu_words.specs.declared.view.KeeperView.{KeeperView}
-use Rattle.cpu_words.specs.declared.view.LogItem.{LogItem}
 use Rattle.cpu_words.proofs.by_keeper.KeeperSees.{seen_by_keeper}
-use Rattle.passive_list.specs.declared.keeper.KeptSlot.{KeptSlot}
-use Rattle.passive_list.specs.Cpus.{OnCpu}
-use Rattle.passive_list.specs.Keepers.{OnKeeper, states_of, IsOurKeeper}
-use Rattle.passive_list.specs.Notes.{HasHeardOn, cpu_after_tell, has_heard}
-use Rattle.passive_list.specs.Retiring.{HasDetached}
+use Rattle.passive_list.specs.Common.{OnCpu, OnKeeper, states_of, IsOurKeeper, HasHeardOn, cpu_after_tell, has_heard, HasDetached}
 use Rattle.passive_list.proofs.Attached.{rows_live, live_rows}
-use Rattle.name_registry.specs.Detaching.{IsDetachRefusal, IsLookupNow, IsLivePlace, HasDetachedFor}
-use Rattle.name_registry.specs.Meeting.{keeper_after_hear, keeper_after_tell, is_inside}
+use Rattle.name_registry.specs.Common.{IsDetachRefusal, IsLookupNow, IsLivePlace, HasDetachedFor, keeper_after_hear, keeper_after_tell, is_inside}
 use Rattle.name_registry.proofs.Heard.{seen_detach}
 use Rattle.name_registry.proofs.Noted.{heard_told, met}
 

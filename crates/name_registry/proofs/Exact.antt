@@ -1,17 +1,13 @@
 -- The exact audit: one state shows the views of all seats, those of the keeper and the CPUs among them.
 use Rattle.std.proofs.Common.{◌≡◌, ◌∙◌, pos, List, sym, ap}
-use Rattle.registry_values.specs.declared.settings.Settings.{Settings}
-use Rattle.registry_values.specs.Balances.{Tally}
-use Rattle.protocol.specs.State.{State, at_rest, opening}
-use Rattle.protocol.specs.Laws.{after, held_of}
-use Rattle.cpu_words.specs.declared.view.View.TheVariants.{Cpu, Keeper}
-use Rattle.cpu_words.specs.Headline.{RunsLawfully}
+use Rattle.name_registry.specs.Types.{Settings, Cpu, Keeper}
+use Rattle.registry_values.specs.Common.{Tally}
+use Rattle.protocol.specs.Common.{State, at_rest, opening, after, held_of}
+use Rattle.cpu_words.specs.Common.{RunsLawfully}
 use Rattle.cpu_words.proofs.by_keeper.KeeperSees.{seen_by_keeper}
 use Rattle.cpu_words.proofs.laws.Safety.{runs_lawfully}
-use Rattle.passive_list.specs.Cpus.{OnCpu}
-use Rattle.passive_list.specs.Keepers.{OnKeeper}
-use Rattle.name_registry.specs.Auditing.{AreShown}
-use Rattle.name_registry.specs.Law.{ExactAudit}
+use Rattle.passive_list.specs.Common.{OnCpu, OnKeeper}
+use Rattle.name_registry.specs.Common.{AreShown, ExactAudit}
 use Rattle.name_registry.proofs.Audits.{all_met}
 use Rattle.name_registry.proofs.Held.{references_held}
 use Rattle.name_registry.proofs.Tallies.{own_tally}

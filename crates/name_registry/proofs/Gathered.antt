@@ -6,19 +6,10 @@ use mathlib.Core.List.{IsPrefix}
 use mathlib.Core.Option.{some, some-injective, some-ne-none}
 use lib.ListN.{get_elem?}
 use Rattle.atomic_table.proofs.Lists.{at_set}
-use Rattle.registry_values.specs.declared.entry.Change.{Change}
-use Rattle.registry_values.specs.declared.settings.Settings.{Settings}
-use Rattle.cpu_words.specs.declared.view.LogItem.{LogItem}
-use Rattle.cpu_words.specs.declared.view.KeeperView.{KeeperView}
-use Rattle.cpu_words.specs.declared.view.View.TheVariants.{Cpu, Keeper}
-use Rattle.cpu_words.specs.KeeperLog.{IsShownAfter}
-use Rattle.cpu_words.specs.Notes.{with_note, keeper_with_note}
-use Rattle.passive_list.specs.Cpus.{OnCpu}
-use Rattle.passive_list.specs.Keepers.{OnKeeper}
-use Rattle.passive_list.specs.Logs.{HasOwnLog}
-use Rattle.passive_list.specs.Notes.{HasHeardOn, WasShown, HeardAndTold}
-use Rattle.name_registry.specs.Meeting.{HasLearned, IsNote}
-use Rattle.name_registry.specs.Auditing.{AreAllCpus, AreAlike, HasListened, HaveHeardAndTold, HaveLearned, IsShownOn, local_met, tallies_met, tally_by, tally_met}
+use Rattle.name_registry.specs.Types.{Change, Settings, LogItem, KeeperView, Cpu, Keeper}
+use Rattle.cpu_words.specs.Common.{IsShownAfter, with_note, keeper_with_note}
+use Rattle.passive_list.specs.Common.{OnCpu, OnKeeper, HasOwnLog, HasHeardOn, WasShown, HeardAndTold}
+use Rattle.name_registry.specs.Common.{HasLearned, IsNote, AreAllCpus, AreAlike, HasListened, HaveHeardAndTold, HaveLearned, IsShownOn, local_met, tallies_met, tally_by, tally_met}
 use Rattle.name_registry.proofs.Audits.{each_same}
 use Rattle.name_registry.proofs.Worked.{prefix_on}
 use Rattle.name_registry.proofs.Noted.{by_passing}

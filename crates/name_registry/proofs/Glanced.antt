@@ -2,20 +2,10 @@
 use Rattle.std.proofs.Common.{◌≡◌, ℕ, zero, suc, ◌+◌, ◌<◌, List, ◌++◌, length, Bool, true, false, Option, Some, None, IfSome, Result, Err, get_or, set, refl, sym, ap, ◌∙◌, subst, arith}
 use Rattle.std.proofs.lemmas.List.{get_or-set_same, get_or-set_other}
 use mathlib.Core.List.{IsPrefix}
-use Rattle.protocol.specs.declared.event.Event.{Event}
-use Rattle.protocol.specs.declared.event.Event.TheVariants.{Look, Snapshot}
-use Rattle.protocol.specs.declared.event.Reply.TheVariants.{Word}
-use Rattle.registry_values.specs.declared.refusal.Refusal.{Refusal}
-use Rattle.registry_values.specs.declared.settings.Settings.{Settings}
-use Rattle.registry_values.specs.declared.refusal.Refusal.TheVariants.{Inside}
-use Rattle.registry_values.specs.Answers.{wait_answer}
-use Rattle.cpu_words.specs.declared.view.KeeperView.{KeeperView}
-use Rattle.passive_list.specs.Cpus.{OnCpu}
-use Rattle.passive_list.specs.Keepers.{OnKeeper}
-use Rattle.passive_list.specs.Logs.{HasOwnLog}
-use Rattle.passive_list.specs.Notes.{HasHeardOn, cpu_after_tell, has_heard}
-use Rattle.name_registry.specs.Meeting.{keeper_after_hear, keeper_after_tell}
-use Rattle.name_registry.specs.Performing.{GlancesBelow, GlancesOnce, HasPerformed, Hold, Looking, LooksOnce, PerformsOutside, SnapshotsBelow, is_seen, looking, word_of}
+use Rattle.name_registry.specs.Types.{Event, Look, Snapshot, Word, Refusal, Settings, Inside, KeeperView}
+use Rattle.registry_values.specs.Common.{wait_answer}
+use Rattle.passive_list.specs.Common.{OnCpu, OnKeeper, HasOwnLog, HasHeardOn, cpu_after_tell, has_heard}
+use Rattle.name_registry.specs.Common.{keeper_after_hear, keeper_after_tell, GlancesBelow, GlancesOnce, HasPerformed, Hold, Looking, LooksOnce, PerformsOutside, SnapshotsBelow, is_seen, looking, word_of}
 use Rattle.name_registry.proofs.Heard.{prefix_short}
 use Rattle.name_registry.proofs.Noted.{heard_told, met}
 use Rattle.name_registry.proofs.Owned.{least_small}

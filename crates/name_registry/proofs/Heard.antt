@@ -2,14 +2,13 @@
 use Rattle.std.proofs.Common.{◌≡◌, ◌∙◌, ℕ, suc, ◌≤◌, List, ◌++◌, length, Some, sym, ap, arith}
 use Rattle.std.proofs.lemmas.List.{length-append}
 use mathlib.Core.List.{IsPrefix}
-use Rattle.registry_values.specs.declared.entry.Change.{Change}
-use Rattle.registry_values.specs.declared.entry.Change.TheVariants.{Attach, Detach}
-use Rattle.registry_values.specs.declared.entry.Entry.{Entry}
-use Rattle.protocol.specs.History.{after_change, change_at, IsAttached}
+use Rattle.name_registry.specs.Types.{Change, Attach, Detach, Entry}
+use Rattle.protocol.specs.Common.{after_change, IsAttached}
+use Rattle.protocol.specs.History.{change_at}
 use Rattle.protocol.proofs.history.History.{at_new, attached_old, at_within}
 use Rattle.cpu_words.proofs.shown.Passes.{at_prefix, attached_prefix}
-use Rattle.passive_list.specs.Cpus.{OnCpu}
-use Rattle.name_registry.specs.Meeting.{HasSeenAttach, HasSeenDetach, tells_and_hears}
+use Rattle.passive_list.specs.Common.{OnCpu}
+use Rattle.name_registry.specs.Common.{HasSeenAttach, HasSeenDetach, tells_and_hears}
 
 pub prefix_short : (p h : List Change) → IsPrefix p h → length p ≤ length h
 prefix_short p h pre = let long = ap (λ (l : List Change). length l) (sym pre.1) ∙ length-append p pre.0 in omega (arith, long)

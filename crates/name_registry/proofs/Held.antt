@@ -4,21 +4,12 @@ use Rattle.std.proofs.lemmas.Int.{ints}
 use Rattle.std.proofs.lemmas.List.Sums.{sum_by-cons}
 use mathlib.Core.Option.{some}
 use lib.ListN.{get_elem?}
-use Rattle.registry_values.specs.declared.entry.Entry.{Entry}
-use Rattle.registry_values.specs.declared.mark.Mark.{Mark}
-use Rattle.registry_values.specs.declared.settings.Settings.{Settings}
-use Rattle.registry_values.specs.declared.slot.Slot.{Slot}
-use Rattle.registry_values.specs.declared.slot.Slot.TheVariants.{Live, Retired}
-use Rattle.registry_values.specs.Balances.{bias}
-use Rattle.registry_values.specs.Slots.{is_retired, slot_at}
-use Rattle.protocol.specs.Invariant.{IsCounting, IsIn, itself, one_if_used}
-use Rattle.protocol.specs.State.{State, count_at, mark_at, total_at}
-use Rattle.protocol.specs.Picture.{number_in}
-use Rattle.protocol.specs.Laws.{BalancesAtRest, held_of, occupant_of}
+use Rattle.name_registry.specs.Types.{Entry, Mark, Settings, Slot, Live, Retired}
+use Rattle.registry_values.specs.Common.{bias, is_retired, slot_at}
+use Rattle.protocol.specs.Common.{IsCounting, IsIn, itself, one_if_used, State, count_at, mark_at, total_at, number_in, BalancesAtRest, held_of, occupant_of}
 use Rattle.cpu_words.proofs.by_keeper.KeeperSees.{seen_by_keeper}
-use Rattle.passive_list.specs.Cpus.{OnCpu}
-use Rattle.passive_list.specs.Keepers.{OnKeeper}
-use Rattle.name_registry.specs.Auditing.{AreAllCpus, AreShown, IsKeeperOf, acquired_of, is_collected, local_of, locals_of, net_of, released_of, tally_of}
+use Rattle.passive_list.specs.Common.{OnCpu, OnKeeper}
+use Rattle.name_registry.specs.Common.{AreAllCpus, AreShown, IsKeeperOf, acquired_of, is_collected, local_of, locals_of, net_of, released_of, tally_of}
 
 -- what a CPU's count word w says: its local count, over the bias where the word is in use
 abbrev Says : OnKeeper → ℕ → ℕ → ℕ → OnCpu → Type 0

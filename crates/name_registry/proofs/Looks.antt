@@ -1,11 +1,10 @@
 -- Looks for a retired entry, CPU by CPU, stand in the keeper's log.
 use Rattle.std.proofs.Common.{◌≡◌, ◌∙◌, ℕ, zero, suc, ◌+◌, Bool, true, false, refl, ap, subst, arith}
-use Rattle.protocol.specs.State.{mark_at}
-use Rattle.cpu_words.specs.KeeperLog.{has_looked}
-use Rattle.passive_list.specs.Keepers.{OnKeeper}
-use Rattle.passive_list.specs.Logs.{GoesOnBy}
+use Rattle.protocol.specs.Common.{mark_at}
+use Rattle.cpu_words.specs.Common.{has_looked}
+use Rattle.passive_list.specs.Common.{OnKeeper, GoesOnBy}
 use Rattle.passive_list.proofs.Logs.{goes_on, no_more, one_more}
-use Rattle.name_registry.specs.Advancing.{IsLook, LooksBelow, LooksUnless}
+use Rattle.name_registry.specs.Common.{IsLook, LooksBelow, LooksUnless}
 
 pub look_goes_on : (passed : Bool) (a : OnKeeper) (t c : ℕ) (b : OnKeeper) → LooksUnless passed a t c b → GoesOnBy (IsLook t) a.log b.log
 look_goes_on true a t c b is = no_more (IsLook t) a.log b.log (ap (λ (x : OnKeeper). x.log) is)

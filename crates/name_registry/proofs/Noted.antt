@@ -1,17 +1,11 @@
 -- A CPU's own log in a hold of the interlock: notes alone.
 use Rattle.std.proofs.Common.{◌≡◌, ◌∙◌, All, List, ◌++◌, inl, inr, refl, ap, append_assoc, Option, Some, None}
 use Rattle.std.proofs.lemmas.List.Elements.{All-cons}
-use Rattle.registry_values.specs.declared.entry.Change.{Change}
-use Rattle.protocol.specs.declared.event.Event.TheVariants.{Tell}
-use Rattle.protocol.specs.declared.event.Reply.TheVariants.{Done}
-use Rattle.cpu_words.specs.declared.view.Teller.{Teller}
-use Rattle.cpu_words.specs.KeeperLog.{has_heard_from}
-use Rattle.cpu_words.specs.Rule.{log_item}
-use Rattle.passive_list.specs.Cpus.{OnCpu}
-use Rattle.passive_list.specs.Notes.{HasHeardOn, cpu_after_tell, has_heard, has_told, HeardAndTold}
-use Rattle.passive_list.specs.Logs.{GoesOnBy}
+use Rattle.name_registry.specs.Types.{Change, Tell, Done, Teller}
+use Rattle.cpu_words.specs.Common.{has_heard_from, log_item}
+use Rattle.passive_list.specs.Common.{OnCpu, HasHeardOn, cpu_after_tell, has_heard, has_told, HeardAndTold, GoesOnBy}
 use Rattle.passive_list.proofs.Logs.{one_item}
-use Rattle.name_registry.specs.Meeting.{IsNote, tells_and_hears, tells_twice_and_hears}
+use Rattle.name_registry.specs.Common.{IsNote, tells_and_hears, tells_twice_and_hears}
 
 -- the CPU x told, then it is n, and then it heard
 pub met : (x n y : OnCpu) → n ≡ cpu_after_tell x → y.log ≡ n.log ++ has_heard n None → y.log ≡ x.log ++ tells_and_hears x

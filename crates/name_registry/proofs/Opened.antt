@@ -4,12 +4,10 @@ use mathlib.Core.Option.{some, some-injective}
 use lib.ListN.{get_elem?}
 use Rattle.atomic_table.specs.Seated.{TableId}
 use Rattle.atomic_table.proofs.Lists.{at_longer, at_last}
-use Rattle.registry_values.specs.declared.settings.Settings.{Settings}
-use Rattle.cpu_words.specs.declared.view.CpuView.{CpuView}
-use Rattle.cpu_words.specs.Opening.{AreSeats}
-use Rattle.cpu_words.specs.Views.{Seated, new_cpu}
-use Rattle.passive_list.specs.Cpus.{OnCpu}
-use Rattle.name_registry.specs.Opening.{AreNewCpus}
+use Rattle.name_registry.specs.Types.{Settings, CpuView}
+use Rattle.cpu_words.specs.Common.{AreSeats, Seated, new_cpu}
+use Rattle.passive_list.specs.Common.{OnCpu}
+use Rattle.name_registry.specs.Common.{AreNewCpus}
 
 at_seam : {A : Type 0} (xs : List A) (a : A) (ys : List A) → get_elem? (xs ++ a ∷ ys) (length xs) ≡ some a
 at_seam [] a ys = refl

@@ -1,27 +1,11 @@
 -- What a caller keeps of a call through the lock, whatever is known of the keeper.
 use Rattle.std.proofs.Common.{◌≡◌, ◌⊎◌, ⊎_elim, inl, inr, ℕ, zero, suc, ◌<◌, Bool, true, false, if◌then◌else◌, List, Option, Some, None, Result, Ok, Err, IfOk, IfErr, IfSome, refl, sym, ap, subst, arith}
-use Rattle.registry_values.specs.declared.answer.Room.{Room}
-use Rattle.registry_values.specs.declared.entry.Change.{Change}
-use Rattle.registry_values.specs.declared.entry.Entry.{Entry}
-use Rattle.registry_values.specs.declared.entry.Record.{Record}
-use Rattle.registry_values.specs.declared.refusal.Refusal.{Refusal}
-use Rattle.registry_values.specs.declared.refusal.Refusal.TheVariants.{NoMemory, BadSettings, NameTaken, NoSlot, HistoryFull, NotFound, Inside, SectionsSpent, NothingFound, PassiveFull, WrongCpu, NotHeld, LocalFull, NotRetired, MissingCpu, StillHeld, Waiting, TooDeep, NeedsDriver}
-use Rattle.registry_values.specs.declared.settings.Settings.{Settings}
-use Rattle.registry_values.specs.declared.slot.Key.{Key}
+use Rattle.name_registry.specs.Types.{Room, Change, Entry, Record, Refusal, NameTaken, NoSlot, HistoryFull, Inside, NeedsDriver, Settings, Key, ReferenceView}
 use Rattle.registry_values.specs.Answers as answers
-use Rattle.registry_values.specs.Answers.{entry_in, has_room, next_entry, wait_answer}
-use Rattle.registry_values.specs.Marks.{least_below, or_next}
-use Rattle.registry_values.specs.Slots.{key_of_record, is_iface, is_taken}
+use Rattle.registry_values.specs.Common.{entry_in, has_room, next_entry, wait_answer, least_below, or_next, key_of_record, is_iface, is_taken}
 use Rattle.registry_values.proofs.Answers.{attach_tells, given_tells}
-use Rattle.cpu_words.specs.declared.view.ReferenceView.{ReferenceView}
-use Rattle.passive_list.specs.Cpus.{OnCpu}
-use Rattle.passive_list.specs.Keepers.{OnKeeper}
-use Rattle.passive_list.specs.Notes.{HasHeardOn}
-use Rattle.name_registry.specs.Attaching.{attach_answer, attach_iface_answer, given_entry, first_fit, room_of, HasAttachedFor, HasAttachedIfaceFor}
-use Rattle.name_registry.specs.Detaching.{IsDetachAnswer, IsDetachRefusal, HasDetachedFor}
-use Rattle.name_registry.specs.Locking.{MayAttach, IsAttachRefusal, IsDetachRefusedTo, IsPerformRefusal}
-use Rattle.passive_list.specs.Logs.{GoesOnBy}
-use Rattle.name_registry.specs.Meeting.{is_inside, HasLearned, IsNote, HasSeenAttach, HasSeenDetach}
+use Rattle.passive_list.specs.Common.{OnCpu, OnKeeper, HasHeardOn, GoesOnBy}
+use Rattle.name_registry.specs.Common.{attach_answer, attach_iface_answer, given_entry, first_fit, room_of, HasAttachedFor, HasAttachedIfaceFor, IsDetachAnswer, HasDetachedFor, MayAttach, IsAttachRefusal, IsPerformRefusal, is_inside, HasLearned, IsNote, HasSeenAttach, HasSeenDetach}
 use Rattle.name_registry.proofs.Noted.{by_meeting}
 
 pub learned : (note : List Change) (x y : OnCpu) → HasHeardOn note x y → GoesOnBy (IsNote x.view.id) x.log y.log → HasLearned x y

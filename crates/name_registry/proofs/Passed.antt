@@ -4,30 +4,16 @@ use Rattle.std.proofs.lemmas.Bool.{cases_eq, cases_lt}
 use Rattle.std.proofs.lemmas.List.{append-nil}
 use Rattle.std.proofs.lemmas.Option.{same_Some}
 use mathlib.Core.List.{IsPrefix}
-use Rattle.registry_values.specs.declared.entry.Change.{Change}
-use Rattle.registry_values.specs.declared.entry.Entry.{Entry}
-use Rattle.registry_values.specs.declared.mark.Mark.{Mark}
-use Rattle.registry_values.specs.declared.settings.Settings.{Settings}
-use Rattle.registry_values.specs.declared.slot.Slot.{Slot}
-use Rattle.registry_values.specs.declared.slot.Slot.TheVariants.{Vacant, Live, Retired}
-use Rattle.registry_values.specs.Marks.{Grows, no_mark}
-use Rattle.registry_values.specs.Slots.{is_retired_as, retired_number, slot_at}
-use Rattle.registry_values.specs.declared.settings.TheConstants.{MOST_SLOTS}
-use Rattle.protocol.specs.State.{mark_at}
+use Rattle.name_registry.specs.Types.{Change, Entry, Mark, Settings, Slot, Vacant, Live, Retired, MOST_SLOTS, LogItem, KeeperView}
+use Rattle.registry_values.specs.Common.{Grows, no_mark, is_retired_as, retired_number, slot_at}
+use Rattle.protocol.specs.Common.{mark_at}
 use Rattle.protocol.proofs.slots.MarkRows.{grows_none, grows_more}
 use Rattle.protocol.proofs.slots.Occupied.{in_within}
-use Rattle.cpu_words.specs.declared.view.LogItem.{LogItem}
-use Rattle.cpu_words.specs.declared.view.KeeperView.{KeeperView}
-use Rattle.cpu_words.specs.KeeperLog.{has_looked, standing, HasPassedOn, HasWaited, IsDetachedFrom, IsSnapped, KeepsSlot}
+use Rattle.cpu_words.specs.Common.{has_looked, standing, HasPassedOn, HasWaited, IsDetachedFrom, IsSnapped, KeepsSlot}
 use Rattle.cpu_words.proofs.logs.Growing.{StandsIn, no_open, snapped_on, stands_more, stands_past}
 use Rattle.cpu_words.proofs.logs.Standings.{kept_entry, kept_standing, not_attached, one_detached}
-use Rattle.passive_list.specs.Cpus.{OnCpu}
-use Rattle.passive_list.specs.Keepers.{OnKeeper}
-use Rattle.passive_list.specs.Logs.{HasOwnLog}
-use Rattle.passive_list.specs.Notes.{HasHeardOn, cpu_after_tell, has_heard}
-use Rattle.name_registry.specs.Advancing.{MeetsGrace, PassedBelow}
-use Rattle.name_registry.specs.Meeting.{keeper_after_hear, keeper_after_tell}
-use Rattle.name_registry.specs.Performing.{HasPassedAll, HasPassedFor, PassesBelow, PassesIf, PassesNumber}
+use Rattle.passive_list.specs.Common.{OnCpu, OnKeeper, HasOwnLog, HasHeardOn, cpu_after_tell, has_heard}
+use Rattle.name_registry.specs.Common.{MeetsGrace, PassedBelow, keeper_after_hear, keeper_after_tell, HasPassedAll, HasPassedFor, PassesBelow, PassesIf, PassesNumber}
 use Rattle.name_registry.proofs.Noted.{heard_told_again, met_again}
 
 -- What passes leave

@@ -1,15 +1,12 @@
 -- The place of a retired entry, by the keeper's rows.
 use Rattle.std.proofs.Common.{◌≡◌, ◌∙◌, ℕ, List, Some, position, sym, ap}
 use Rattle.atomic_table.specs.Seated.{TableId}
-use Rattle.registry_values.specs.declared.settings.Settings.{Settings}
-use Rattle.registry_values.specs.Slots.{is_retired_as, retired_slot}
+use Rattle.name_registry.specs.Types.{Settings, KeeperView, LogItem, KeptSlot}
+use Rattle.registry_values.specs.Common.{is_retired_as, retired_slot}
 use Rattle.registry_values.proofs.Slots.{retired_slot_tells}
-use Rattle.cpu_words.specs.declared.view.KeeperView.{KeeperView}
-use Rattle.cpu_words.specs.declared.view.LogItem.{LogItem}
-use Rattle.passive_list.specs.declared.keeper.KeptSlot.{KeptSlot}
-use Rattle.passive_list.specs.Keepers.{OnKeeper, OnPlainKeeper, on_keeper, state_of, states_of, IsOurKeeper}
+use Rattle.passive_list.specs.Common.{OnKeeper, OnPlainKeeper, on_keeper, state_of, states_of, IsOurKeeper}
 use Rattle.passive_list.proofs.Rows.{keeper_is}
-use Rattle.name_registry.specs.Advancing.{MayWork, is_retired_row}
+use Rattle.name_registry.specs.Common.{MayWork, is_retired_row}
 use Rattle.name_registry.proofs.Rows.{position_map}
 use Rattle.name_registry.proofs.Worked.{may_work}
 

@@ -2,18 +2,12 @@
 use Rattle.std.proofs.Common.{◌≡◌, ℕ, suc, ◌+◌, ◌<◌, ◌≤◌, Bool, not, cond, List, [], ◌∷◌, length, map, take, Option, position, refl, sym, ap, ◌∙◌, arith}
 use Rattle.std.specs.List.{prefix_len, zip}
 use Rattle.std.proofs.lemmas.List.{length-map}
-use Rattle.registry_values.specs.declared.settings.Settings.{Settings}
-use Rattle.registry_values.specs.declared.slot.Key.{Key}
-use Rattle.registry_values.specs.declared.slot.Slot.{Slot}
-use Rattle.registry_values.specs.Slots.{is_available, is_live_as}
-use Rattle.protocol.specs.State.{kept_at}
+use Rattle.name_registry.specs.Types.{Settings, Key, Slot, KeeperView, LogItem, KeptSlot}
+use Rattle.registry_values.specs.Common.{is_available, is_live_as}
+use Rattle.protocol.specs.Common.{kept_at}
 use Rattle.registry_values.proofs.Fit.{ranges}
-use Rattle.cpu_words.specs.declared.view.KeeperView.{KeeperView}
-use Rattle.cpu_words.specs.declared.view.LogItem.{LogItem}
-use Rattle.passive_list.specs.declared.keeper.KeptSlot.{KeptSlot}
-use Rattle.passive_list.specs.Keepers.{OnKeeper, row_at, state_of, states_of, IsOurKeeper}
-use Rattle.name_registry.specs.Attaching.{first_fit}
-use Rattle.name_registry.specs.Rows.{is_live_row, is_available_row}
+use Rattle.passive_list.specs.Common.{OnKeeper, row_at, state_of, states_of, IsOurKeeper}
+use Rattle.name_registry.specs.Common.{first_fit, is_live_row, is_available_row}
 
 prefix_map : {X Y : Type 0} (p : Y → Bool) (f : X → Y) (xs : List X) → prefix_len p (map f xs) ≡ prefix_len (λ x. p (f x)) xs
 prefix_map p f [] = refl

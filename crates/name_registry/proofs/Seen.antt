@@ -2,29 +2,14 @@
 use Rattle.std.proofs.Common.{◌≡◌, ◌∙◌, ℕ, ◌<◌, ◌%◌, Bool, true, false, not, ◌||◌, ◌==◌, List, [], ◌∷◌, ◌++◌, Option, Some, None, refl, sym, ap, subst, append-nil, append_assoc, arith}
 use Rattle.std.proofs.lemmas.Bool.{or_parts, eqb-true, eqb-false}
 use mathlib.Core.List.{IsPrefix}
-use Rattle.protocol.specs.declared.event.Event.{Event}
-use Rattle.protocol.specs.declared.event.Event.TheVariants.{Look, PassiveLook}
-use Rattle.protocol.specs.declared.event.Reply.TheVariants.{Word}
-use Rattle.registry_values.specs.declared.settings.Settings.{Settings}
-use Rattle.registry_values.specs.declared.mark.Mark.{Mark}
-use Rattle.registry_values.specs.declared.slot.Slot.{Slot}
-use Rattle.registry_values.specs.declared.stage.Stage.{Stage}
-use Rattle.registry_values.specs.declared.stage.Stage.TheVariants.{Grace, Passive, Local, Freed}
-use Rattle.registry_values.specs.Marks.{mark_after_look, mark_after_passive_look, is_even, has_changed}
-use Rattle.registry_values.specs.Slots.{is_retired, slot_at}
-use Rattle.protocol.specs.State.{at_rest, mark_at}
+use Rattle.name_registry.specs.Types.{Event, Look, PassiveLook, Word, Settings, Mark, Slot, Stage, Grace, Passive, Local, Freed, LogItem, KeeperView, Keeper}
+use Rattle.registry_values.specs.Common.{mark_after_look, mark_after_passive_look, is_even, has_changed, is_retired, slot_at}
+use Rattle.protocol.specs.Common.{at_rest, mark_at}
 use Rattle.protocol.proofs.slots.MarkRows.{snapshot_stands}
-use Rattle.cpu_words.specs.declared.view.LogItem.{LogItem}
-use Rattle.cpu_words.specs.declared.view.KeeperView.{KeeperView}
-use Rattle.cpu_words.specs.declared.view.View.TheVariants.{Keeper}
-use Rattle.cpu_words.specs.KeeperLog.{has_looked, has_looked_passive}
-use Rattle.cpu_words.specs.Draining.{HasLookedPassive}
-use Rattle.cpu_words.specs.Grace.{HasLooked}
-use Rattle.cpu_words.specs.Rule.{did}
-use Rattle.cpu_words.specs.Steps.{Makes}
+use Rattle.cpu_words.specs.Common.{has_looked, has_looked_passive, HasLookedPassive, HasLooked, did, Makes}
 use Rattle.cpu_words.proofs.by_keeper.KeeperSees.{seen_by_keeper}
-use Rattle.passive_list.specs.Keepers.{OnKeeper}
-use Rattle.name_registry.specs.Advancing.{MayWork, HasWorkedFor, HasLookedFor, HasLookedLast, EndsIn, SeesSection, SeesPassive, Meets, MeetsGrace, MeetsLocal, MeetsPassive, PassedBelow, ClearBelow, CollectedBelow, Settles}
+use Rattle.passive_list.specs.Common.{OnKeeper}
+use Rattle.name_registry.specs.Common.{MayWork, HasWorkedFor, HasLookedFor, HasLookedLast, EndsIn, SeesSection, SeesPassive, Meets, MeetsGrace, MeetsLocal, MeetsPassive, PassedBelow, ClearBelow, CollectedBelow, Settles}
 use Rattle.name_registry.proofs.Worked.{mark_put, looked_more, still_passed, still_clear}
 
 odd_if : (w : ℕ) → is_even w ≡ false → w % 2 ≡ 1

@@ -1,18 +1,8 @@
 -- A CPU that has a share of a ledger, and the CPU without it: what is told of the one is told of the other.
 use Rattle.std.proofs.Common.{◌≡◌, ℕ, List, Option, Bool, Result, ap}
-use Rattle.registry_values.specs.declared.entry.Change.{Change}
-use Rattle.registry_values.specs.declared.entry.Entry.{Entry}
-use Rattle.registry_values.specs.declared.refusal.Refusal.{Refusal}
-use Rattle.registry_values.specs.declared.settings.Settings.{Settings}
-use Rattle.registry_values.specs.declared.stage.Stage.{Stage}
-use Rattle.cpu_words.specs.declared.view.ReferenceView.{ReferenceView}
-use Rattle.passive_list.specs.Cpus.{OnCpu}
-use Rattle.passive_list.specs.Keepers.{OnKeeper}
-use Rattle.passive_list.specs.Notes.{HasHeardOn}
-use Rattle.name_registry.specs.Attaching.{HasAttachedFor, HasAttachedIfaceFor}
-use Rattle.name_registry.specs.Destroying.{HasAdvancedFor}
-use Rattle.name_registry.specs.Detaching.{HasDetachedFor}
-use Rattle.name_registry.specs.Performing.{Looking, HasBegun, HasGlanced, HasPassedAll, Hold}
+use Rattle.name_registry.specs.Types.{Change, Entry, Refusal, Settings, Stage, ReferenceView}
+use Rattle.passive_list.specs.Common.{OnCpu, OnKeeper, HasHeardOn}
+use Rattle.name_registry.specs.Common.{HasAttachedFor, HasAttachedIfaceFor, HasAdvancedFor, HasDetachedFor, Looking, HasBegun, HasGlanced, HasPassedAll, Hold}
 
 abbrev pub sharing : ℕ → OnCpu → OnCpu
 sharing m x = record x { made = m }

@@ -3,39 +3,17 @@ use Rattle.std.proofs.Common.{◌≡◌, ◌∙◌, ⊎_elim, ℕ, ◌<◌, ◌&
 use Rattle.std.proofs.lemmas.List.{length-append}
 use Rattle.std.proofs.lemmas.Option.{none-some, same_Some}
 use mathlib.Core.List.{IsPrefix}
-use Rattle.registry_values.specs.declared.entry.Change.{Change}
-use Rattle.registry_values.specs.declared.entry.Entry.{Entry}
-use Rattle.registry_values.specs.declared.refusal.Refusal.{Refusal}
-use Rattle.registry_values.specs.declared.settings.Settings.{Settings}
-use Rattle.registry_values.specs.declared.slot.Slot.{Slot}
-use Rattle.registry_values.specs.declared.slot.Slot.TheVariants.{Vacant, Live, Retired}
-use Rattle.registry_values.specs.declared.stage.Stage.{Stage}
-use Rattle.registry_values.specs.declared.stage.Stage.TheVariants.{Grace, Passive, Local, Freed}
-use Rattle.registry_values.specs.declared.mark.Mark.{Mark}
-use Rattle.registry_values.specs.Slots.{is_retired, is_retired_as, retired_slot, slot_at}
+use Rattle.name_registry.specs.Types.{Change, Entry, Refusal, Settings, Slot, Vacant, Live, Retired, Stage, Grace, Passive, Local, Freed, Mark, Hear, KeptSub, Tell, Vacate, Done, Rest, LogItem}
+use Rattle.registry_values.specs.Common.{is_retired, is_retired_as, retired_slot, slot_at}
 use Rattle.registry_values.proofs.Slots.{retired_slot_tells}
-use Rattle.protocol.specs.declared.event.Event.TheVariants.{Hear, KeptSub, Tell, Vacate}
-use Rattle.protocol.specs.declared.event.Reply.TheVariants.{Done}
-use Rattle.protocol.specs.declared.state.Due.TheVariants.{Rest}
-use Rattle.protocol.specs.Invariant.{addition_due_at, is_adding_at, subtraction_due_at}
-use Rattle.protocol.specs.State.{State, count_at, mark_at, total_at}
+use Rattle.protocol.specs.Common.{addition_due_at, is_adding_at, subtraction_due_at, State, count_at, mark_at, total_at}
 use Rattle.protocol.proofs.keeps.Unlinking.{within_retired}
 use Rattle.protocol.proofs.slots.Numbers.{position_fails}
-use Rattle.cpu_words.specs.declared.view.LogItem.{LogItem}
-use Rattle.cpu_words.specs.KeeperLog.{has_looked, has_looked_passive, is_drawn, occupant, occupant_of, word_if, IsFreedFrom}
-use Rattle.cpu_words.specs.Notes.{keeper_with_note}
-use Rattle.cpu_words.specs.Rule.{did}
+use Rattle.cpu_words.specs.Common.{has_looked, has_looked_passive, is_drawn, occupant, occupant_of, word_if, IsFreedFrom, keeper_with_note, did}
 use Rattle.cpu_words.proofs.by_keeper.KeeperSees.{seen_by_keeper}
 use Rattle.cpu_words.proofs.logs.Standings.{not_attached}
-use Rattle.passive_list.specs.Cpus.{OnCpu}
-use Rattle.passive_list.specs.Keepers.{OnKeeper}
-use Rattle.passive_list.specs.Logs.{HasOwnLog}
-use Rattle.passive_list.specs.Notes.{HasHeardOn, cpu_after_tell, has_heard}
-use Rattle.passive_list.specs.Draining.{HasFreed}
-use Rattle.name_registry.specs.Advancing.{EndsIn, HasAdvanced, HasEnded, Meets, MeetsGrace, MeetsLocal, MeetsPassive}
-use Rattle.name_registry.specs.Destroying.{HasAdvancedFor}
-use Rattle.name_registry.specs.Meeting.{hears_cpu, keeper_after_hear, keeper_after_tell}
-use Rattle.name_registry.specs.Obstacles.{AnswersBy, HasMet, IsNotRetired, IsRetiredIn, IsTurn, MetLocals, MetReference, MetSection}
+use Rattle.passive_list.specs.Common.{OnCpu, OnKeeper, HasOwnLog, HasHeardOn, cpu_after_tell, has_heard, HasFreed}
+use Rattle.name_registry.specs.Common.{EndsIn, HasAdvanced, HasEnded, Meets, MeetsGrace, MeetsLocal, MeetsPassive, HasAdvancedFor, hears_cpu, keeper_after_hear, keeper_after_tell, AnswersBy, HasMet, IsNotRetired, IsRetiredIn, IsTurn, MetLocals, MetReference, MetSection}
 use Rattle.name_registry.proofs.Noted.{heard_told_again, met_again}
 use Rattle.name_registry.proofs.Worked.{prefix_on}
 

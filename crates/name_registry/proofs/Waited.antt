@@ -3,33 +3,21 @@ use Rattle.std.proofs.Common.{◌≡◌, ◌⊎◌, inl, inr, ⊎_elim, ℕ, zer
 use Rattle.std.proofs.lemmas.Bool.{or_cases, not-true, false≢true, eqb-true, eqb-false, cases_lt, not-false}
 use Rattle.std.proofs.lemmas.List.{append-nil}
 use mathlib.Core.List.{IsPrefix}
-use Rattle.protocol.specs.declared.event.Event.TheVariants.{Tell}
-use Rattle.protocol.specs.declared.event.Reply.TheVariants.{Done}
-use Rattle.protocol.specs.Laws.{HasMoved}
+use Rattle.name_registry.specs.Types.{Tell, Done, Refusal, Settings, MOST_CPUS, MOST_SLOTS, LogItem, Teller}
+use Rattle.protocol.specs.Common.{HasMoved}
 use Rattle.protocol.proofs.slots.Cells.{get_or_all}
-use Rattle.registry_values.specs.declared.refusal.Refusal.{Refusal}
-use Rattle.registry_values.specs.declared.settings.Settings.{Settings}
-use Rattle.registry_values.specs.Answers.{wait_answer}
-use Rattle.registry_values.specs.Marks.{is_even, is_out}
+use Rattle.registry_values.specs.Common.{wait_answer, is_even, is_out}
 use Rattle.registry_values.proofs.Least.{least_none}
-use Rattle.registry_values.specs.declared.settings.TheConstants.{MOST_CPUS, MOST_SLOTS}
-use Rattle.cpu_words.specs.declared.view.LogItem.{LogItem}
-use Rattle.cpu_words.specs.declared.view.Teller.{Teller}
-use Rattle.cpu_words.specs.KeeperLog.{changes_in, has_taken, has_found, has_heard_from, heard_from, HasHeardFrom, HasPassedOn, HasWaited, IsDetachedFrom, IsSeenOut, IsSnapped, KeepsSlot}
-use Rattle.cpu_words.specs.Rule.{did}
+use Rattle.cpu_words.specs.Common.{changes_in, has_taken, has_found, has_heard_from, heard_from, HasHeardFrom, HasPassedOn, HasWaited, IsDetachedFrom, IsSeenOut, IsSnapped, KeepsSlot, did}
 use Rattle.cpu_words.proofs.logs.Growing.{passed_on, snapped_on}
 use Rattle.cpu_words.proofs.logs.Standings.{changes_last, kept_entry, kept_parts, standing_last}
-use Rattle.passive_list.specs.Cpus.{OnCpu}
-use Rattle.passive_list.specs.Notes.{as_teller, cpu_after_tell}
-use Rattle.passive_list.specs.Keepers.{OnKeeper}
+use Rattle.passive_list.specs.Common.{OnCpu, as_teller, cpu_after_tell, OnKeeper, GoesOnBy}
 use Rattle.passive_list.proofs.Walking.{prefix_trans}
-use Rattle.name_registry.specs.Meeting.{HasLearned, IsNote, hears_cpu, keeper_after_hear}
-use Rattle.name_registry.specs.Performing.{Finishes, GlancesBelow, GlancesOnce, HasPerformed, HasSeenAllOut, Hold, Looking, SnapshotsBelow, SomeBegan, SomeGlanced, SomePassed, TurnsWaiting, is_seen, none_seen, word_of}
+use Rattle.name_registry.specs.Common.{HasLearned, IsNote, hears_cpu, keeper_after_hear, Finishes, GlancesBelow, GlancesOnce, HasPerformed, HasSeenAllOut, Hold, Looking, SnapshotsBelow, SomeBegan, SomeGlanced, SomePassed, TurnsWaiting, is_seen, none_seen, word_of}
 use Rattle.name_registry.proofs.Owned.{learned}
 use Rattle.name_registry.proofs.Passed.{IsReady, Passing, onward_below, passed_end, ready}
 use Rattle.name_registry.proofs.Worked.{prefix_on}
 use Rattle.name_registry.proofs.Noted.{by_meeting, by_meeting_again}
-use Rattle.passive_list.specs.Logs.{GoesOnBy}
 use Rattle.passive_list.proofs.Logs.{goes_on, no_more}
 
 -- What stands in a log

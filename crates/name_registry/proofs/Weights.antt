@@ -1,9 +1,9 @@
 -- The law of the weights: changes that weigh as much as one are one, and like it.
 use Rattle.std.proofs.Common.{◌≡◌, ◌*◌, ◌<◌, ◌≤◌, List, [], ◌∷◌, refl, arith}
 use Rattle.std.proofs.lemmas.List.Sums.{sum_by-cons}
-use Rattle.registry_values.specs.declared.entry.Change.{Change}
-use Rattle.registry_values.specs.declared.entry.Change.TheVariants.{Attach, Detach}
-use Rattle.name_registry.specs.Changes.{AreAlike, WeightsTell, number_of, unit, weigh, weight}
+use Rattle.name_registry.specs.Types.{Change, Attach, Detach}
+use Rattle.name_registry.specs.Common.{WeightsTell, number_of, unit, weigh, weight}
+use Rattle.name_registry.specs.Changes.{AreAlike}
 
 -- what one change weighs
 weighs : (c : Change) → unit ≤ weight c

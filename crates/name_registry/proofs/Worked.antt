@@ -3,39 +3,17 @@ use Rattle.std.proofs.Common.{◌≡◌, ◌∙◌, inr, ℕ, zero, suc, ◌+◌
 use Rattle.std.proofs.lemmas.Bool.{or_left}
 use mathlib.Core.List.{IsPrefix}
 use Rattle.atomic_table.specs.Seated.{TableId}
-use Rattle.registry_values.specs.declared.entry.Entry.{Entry}
-use Rattle.registry_values.specs.declared.entry.Kind.{Kind}
-use Rattle.registry_values.specs.declared.entry.Kind.TheVariants.{Iface, Driver}
-use Rattle.protocol.specs.declared.event.Event.{Event}
-use Rattle.protocol.specs.declared.event.Event.TheVariants.{Collect, TotalAdd}
-use Rattle.protocol.specs.declared.event.Reply.{Reply}
-use Rattle.protocol.specs.declared.event.Reply.TheVariants.{Done, Word}
-use Rattle.registry_values.specs.declared.settings.Settings.{Settings}
-use Rattle.registry_values.specs.declared.mark.Mark.{Mark}
-use Rattle.registry_values.specs.declared.slot.Slot.{Slot}
-use Rattle.registry_values.specs.declared.slot.Slot.TheVariants.{Retired}
-use Rattle.registry_values.specs.Stages.{stage_of}
-use Rattle.registry_values.specs.Marks.{Grows, mark_after_look, mark_after_passive_look, mark_after_collect, have_passed, are_clear, are_collected}
-use Rattle.protocol.specs.Events.{keeps_rightly}
-use Rattle.protocol.specs.Invariant.{DriversKept}
-use Rattle.protocol.specs.State.{State, opening, mark_at, total_at, kept_at, with_cell}
-use Rattle.registry_values.specs.Balances.{bias}
-use Rattle.registry_values.specs.Slots.{slot_at}
+use Rattle.name_registry.specs.Types.{Entry, Kind, Iface, Driver, Event, Collect, TotalAdd, Reply, Done, Word, Settings, Mark, Slot, Retired, KeeperView, LogItem, Keeper, KeptSlot}
+use Rattle.registry_values.specs.Common.{stage_of, Grows, mark_after_look, mark_after_passive_look, mark_after_collect, have_passed, are_clear, are_collected, bias, slot_at}
+use Rattle.protocol.specs.Common.{keeps_rightly, DriversKept, State, opening, mark_at, total_at, kept_at, with_cell}
 use Rattle.protocol.proofs.slots.MarkRows.{mark_grows, mark_there, marks_grow_none, marks_grow_more, passed_from, clear_from, collected_from}
 use Rattle.protocol.proofs.slots.Cells.{total_other}
-use Rattle.cpu_words.specs.declared.view.KeeperView.{KeeperView}
-use Rattle.cpu_words.specs.declared.view.LogItem.{LogItem}
-use Rattle.cpu_words.specs.declared.view.View.TheVariants.{Keeper}
-use Rattle.cpu_words.specs.Rule.{IsShown, did}
-use Rattle.cpu_words.specs.Steps.{Makes}
+use Rattle.cpu_words.specs.Common.{IsShown, did, Makes}
 use Rattle.cpu_words.proofs.by_keeper.KeeperSees.{seen_by_keeper}
-use Rattle.passive_list.specs.declared.keeper.KeptSlot.{KeptSlot}
-use Rattle.passive_list.specs.Keepers.{OnKeeper, OnPlainKeeper, on_keeper, states_of, IsOurKeeper}
-use Rattle.passive_list.specs.Vacating.{IsDrainedOn}
+use Rattle.passive_list.specs.Common.{OnKeeper, OnPlainKeeper, on_keeper, states_of, IsOurKeeper, IsDrainedOn, AreHeld, HasCollectedInto}
 use Rattle.passive_list.proofs.Marks.{marked}
 use Rattle.passive_list.proofs.Rows.{retired_in}
-use Rattle.passive_list.specs.Draining.{AreHeld, HasCollectedInto}
-use Rattle.name_registry.specs.Advancing.{MayWork, HasEnded, HasWorkedFor, HasLookedFor, PassedBelow, ClearBelow, CollectedBelow, Settles}
+use Rattle.name_registry.specs.Common.{MayWork, HasEnded, HasWorkedFor, HasLookedFor, PassedBelow, ClearBelow, CollectedBelow, Settles}
 
 -- Where there is work
 

@@ -1,33 +1,11 @@
 -- A turn of the work on a retired entry: what it answers is what the keeper saw, and what it leaves.
 use Rattle.std.specs.Prelude.{◌≡◌, ◌≢◌, ◌⊎◌, ℕ, zero, suc, ◌+◌, ◌<◌, ◌≤◌, ◌%◌, List, [], ◌∷◌, ◌++◌, Option, true, false, Some, None, Bool, Result, Ok, Err}
-use Rattle.registry_values.specs.declared.entry.Entry.{Entry}
-use Rattle.registry_values.specs.declared.entry.Kind.TheVariants.{Iface}
+use Rattle.name_registry.specs.Types.{Entry, Iface, Event, Look, PassiveLook, Word, Refusal, NotRetired, Settings, Stage, Grace, Passive, Local, Freed, Rest, Retired, LogItem, KeeperView, Keeper, KeptSlot}
 use mathlib.Core.List.{IsPrefix}
-use Rattle.protocol.specs.declared.event.Event.{Event}
-use Rattle.protocol.specs.declared.event.Event.TheVariants.{Look, PassiveLook}
-use Rattle.protocol.specs.declared.event.Reply.TheVariants.{Word}
-use Rattle.registry_values.specs.declared.refusal.Refusal.{Refusal}
-use Rattle.registry_values.specs.declared.refusal.Refusal.TheVariants.{NotRetired}
-use Rattle.registry_values.specs.declared.settings.Settings.{Settings}
-use Rattle.registry_values.specs.declared.stage.Stage.{Stage}
-use Rattle.registry_values.specs.declared.stage.Stage.TheVariants.{Grace, Passive, Local, Freed}
-use Rattle.protocol.specs.declared.state.Due.TheVariants.{Rest}
-use Rattle.registry_values.specs.declared.slot.Slot.TheVariants.{Retired}
-use Rattle.registry_values.specs.Balances.{bias}
-use Rattle.registry_values.specs.Slots.{is_retired_as, retired_slot, slot_at}
-use Rattle.protocol.specs.Marking.{MarksGrow}
-use Rattle.protocol.specs.State.{mark_at, total_at, kept_at}
-use Rattle.cpu_words.specs.declared.view.LogItem.{LogItem}
-use Rattle.cpu_words.specs.declared.view.KeeperView.{KeeperView}
-use Rattle.cpu_words.specs.declared.view.View.TheVariants.{Keeper}
-use Rattle.cpu_words.specs.KeeperLog.{has_looked, has_looked_passive}
-use Rattle.cpu_words.specs.Grace.{HasLooked}
-use Rattle.cpu_words.specs.Rule.{did}
-use Rattle.cpu_words.specs.Steps.{Makes}
-use Rattle.passive_list.specs.declared.keeper.KeptSlot.{KeptSlot}
-use Rattle.passive_list.specs.Keepers.{OnKeeper}
-use Rattle.passive_list.specs.Vacating.{HasVacated, IsDrainedOn}
-use Rattle.passive_list.specs.Draining.{AreHeld, HasFreed}
+use Rattle.registry_values.specs.Common.{bias, is_retired_as, retired_slot, slot_at}
+use Rattle.protocol.specs.Common.{MarksGrow, mark_at, total_at, kept_at}
+use Rattle.cpu_words.specs.Common.{has_looked, has_looked_passive, HasLooked, did, Makes}
+use Rattle.passive_list.specs.Common.{OnKeeper, HasVacated, IsDrainedOn, AreHeld, HasFreed}
 
 -- What the work asks, and what it leaves
 

@@ -1,20 +1,11 @@
 -- Attaching behind the interlock: which entry is given, why a call is refused, and what is left.
 use Rattle.std.specs.Prelude.{ℕ, length, Option, Result}
 use mathlib.Core.List.{IsPrefix}
-use Rattle.registry_values.specs.declared.answer.Room.{Room}
-use Rattle.registry_values.specs.declared.entry.Entry.{Entry}
-use Rattle.registry_values.specs.declared.entry.Record.{Record}
-use Rattle.registry_values.specs.declared.refusal.Refusal.{Refusal}
-use Rattle.registry_values.specs.declared.settings.Settings.{Settings}
+use Rattle.name_registry.specs.Types.{Room, Entry, Record, Refusal, Settings, ReferenceView}
 use Rattle.registry_values.specs.Answers as answers
-use Rattle.registry_values.specs.Slots.{key_of_record, is_iface, is_taken, live_count}
-use Rattle.cpu_words.specs.declared.view.ReferenceView.{ReferenceView}
-use Rattle.passive_list.specs.Cpus.{OnCpu}
-use Rattle.cpu_words.specs.KeeperLog.{IsAttachedKeeping}
-use Rattle.passive_list.specs.Keepers.{OnKeeper}
-use Rattle.passive_list.specs.Notes.{HasHeardOn}
-use Rattle.passive_list.specs.Publishing.{HasAttached}
-use Rattle.passive_list.specs.Draining.{HasAttachedKeeping}
+use Rattle.registry_values.specs.Common.{key_of_record, is_iface, is_taken, live_count}
+use Rattle.passive_list.specs.Common.{OnCpu, OnKeeper, HasHeardOn, HasAttached, HasAttachedKeeping}
+use Rattle.cpu_words.specs.Common.{IsAttachedKeeping}
 use Rattle.name_registry.specs.Meeting.{is_inside, keeper_after_hear, HasSeenAttach}
 
 abbrev pub first_fit : OnKeeper → Option ℕ

@@ -3,26 +3,12 @@ use Rattle.std.specs.Prelude.{◌≡◌, ℕ, zero, suc, ◌+◌, ◌*◌, ℤ, 
 use mathlib.Core.Option.{some}
 use mathlib.Core.List.{IsPrefix}
 use lib.ListN.{get_elem?}
-use Rattle.registry_values.specs.declared.entry.Change.{Change}
-use Rattle.cpu_words.specs.declared.view.LogItem.{LogItem}
-use Rattle.cpu_words.specs.declared.view.View.TheVariants.{Cpu, Keeper}
-use Rattle.cpu_words.specs.KeeperLog.{given_up, occupant, sum_collected, word_collected, words_collected, IsShownAfter}
-use Rattle.cpu_words.specs.Notes.{with_note, keeper_with_note}
+use Rattle.name_registry.specs.Types.{Change, LogItem, Cpu, Keeper, Balance, Entry, Settings, Slot, Vacant, Live, Retired}
+use Rattle.cpu_words.specs.Common.{given_up, occupant, sum_collected, word_collected, words_collected, IsShownAfter, with_note, keeper_with_note, Good, IsShown, number_at, CpuShown, KeeperShown}
 use Rattle.name_registry.specs.Meeting.{HasLearned}
-use Rattle.registry_values.specs.declared.balance.Balance.{Balance}
-use Rattle.registry_values.specs.declared.entry.Entry.{Entry}
-use Rattle.registry_values.specs.declared.settings.Settings.{Settings}
-use Rattle.registry_values.specs.declared.slot.Slot.{Slot}
-use Rattle.registry_values.specs.declared.slot.Slot.TheVariants.{Vacant, Live, Retired}
-use Rattle.registry_values.specs.Balances.{Tally, bias, less_bias, sum_of, tally_shown}
-use Rattle.protocol.specs.Invariant.{IsIn}
-use Rattle.registry_values.specs.Slots.{is_retired, slot_at}
-use Rattle.protocol.specs.State.{State, mark_at, total_at}
-use Rattle.cpu_words.specs.Rule.{Good, IsShown}
-use Rattle.cpu_words.specs.Views.{number_at, CpuShown, KeeperShown}
-use Rattle.passive_list.specs.Cpus.{OnCpu}
-use Rattle.passive_list.specs.Keepers.{IsAtRest, OnKeeper}
-use Rattle.passive_list.specs.Notes.{HeardAndTold}
+use Rattle.registry_values.specs.Common.{Tally, bias, less_bias, sum_of, tally_shown, is_retired, slot_at}
+use Rattle.protocol.specs.Common.{IsIn, State, mark_at, total_at}
+use Rattle.passive_list.specs.Common.{OnCpu, IsAtRest, OnKeeper, HeardAndTold}
 
 -- the slice is CPU 0, 1, .., in this order
 pub record AreAllCpus (cpus : ℕ) (xs : List OnCpu) : Type 0 where

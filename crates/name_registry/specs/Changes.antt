@@ -1,8 +1,7 @@
 -- What changes weigh in the ledger: a sum that a CPU carries out of the lock, and that is one change's only where it is of that change alone.
 use Rattle.std.specs.Prelude.{◌≡◌, ℕ, ◌+◌, ◌≤◌, List, [], ◌∷◌, sum_by}
-use Rattle.registry_values.specs.declared.entry.Change.{Change}
-use Rattle.registry_values.specs.declared.entry.Change.TheVariants.{Attach, Detach}
-use Rattle.passive_list.specs.Cpus.{OnCpu}
+use Rattle.name_registry.specs.Types.{Change, Attach, Detach}
+use Rattle.passive_list.specs.Common.{OnCpu}
 
 -- more than twice the greatest number of an entry, so that two changes weigh more than any one
 abbrev pub unit : ℕ

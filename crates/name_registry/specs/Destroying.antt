@@ -1,16 +1,10 @@
 -- Destroying a retired entry: how many turns of the work on it were made, and what the last one's answer makes of it.
-use Rattle.std.specs.Prelude.{◌≡◌, ◌⊎◌, ℕ, zero, suc, ◌<◌, ◌≤◌, Bool, true, false, List, ◌++◌, length, Result, Ok, Err, IfOk}
-use Rattle.registry_values.specs.declared.refusal.Refusal.{Refusal}
-use Rattle.registry_values.specs.declared.refusal.Refusal.TheVariants.{Inside}
-use Rattle.registry_values.specs.declared.settings.Settings.{Settings}
-use Rattle.registry_values.specs.declared.stage.Stage.{Stage}
-use Rattle.registry_values.specs.Stages.{IsObstacle, destroy_result_of}
+use Rattle.std.specs.Prelude.{◌≡◌, ◌⊎◌, ℕ, zero, suc, ◌<◌, ◌≤◌, Bool, true, false, ◌++◌, length, Result, Ok, Err, IfOk}
+use Rattle.name_registry.specs.Types.{Refusal, Inside, Settings, Stage}
+use Rattle.registry_values.specs.Common.{IsObstacle, destroy_result_of}
 use mathlib.Core.List.{IsPrefix}
-use Rattle.passive_list.specs.Cpus.{OnCpu}
-use Rattle.passive_list.specs.Keepers.{OnKeeper}
-use Rattle.cpu_words.specs.KeeperLog.{changes_in}
-use Rattle.passive_list.specs.Logs.{HasOwnLog}
-use Rattle.passive_list.specs.Notes.{HasHeardOn, cpu_after_tell}
+use Rattle.passive_list.specs.Common.{OnCpu, OnKeeper, HasOwnLog, HasHeardOn, cpu_after_tell}
+use Rattle.cpu_words.specs.Common.{changes_in}
 use Rattle.name_registry.specs.Advancing.{HasAdvanced}
 use Rattle.name_registry.specs.Locking.{IsStageOf}
 use Rattle.name_registry.specs.Obstacles.{IsTurn}

@@ -1,17 +1,10 @@
 -- Detaching behind the interlock: the entry that a lookup of the history gives now is retired.
 use Rattle.std.specs.Prelude.{◌≡◌, ℕ, length, Option, Some, None, Result, Ok, Err, true, false}
 use mathlib.Core.List.{IsPrefix}
-use Rattle.registry_values.specs.declared.entry.Entry.{Entry}
-use Rattle.registry_values.specs.declared.refusal.Refusal.{Refusal}
-use Rattle.registry_values.specs.declared.refusal.Refusal.TheVariants.{Inside, NotFound}
-use Rattle.registry_values.specs.declared.slot.Key.{Key}
-use Rattle.registry_values.specs.declared.slot.Slot.TheVariants.{Live}
-use Rattle.protocol.specs.History.{IsLookup}
-use Rattle.registry_values.specs.Slots.{slot_at}
-use Rattle.passive_list.specs.Cpus.{OnCpu}
-use Rattle.passive_list.specs.Keepers.{OnKeeper}
-use Rattle.passive_list.specs.Notes.{HasHeardOn}
-use Rattle.passive_list.specs.Retiring.{HasDetached}
+use Rattle.name_registry.specs.Types.{Entry, Refusal, Inside, NotFound, Key, Live}
+use Rattle.protocol.specs.Common.{IsLookup}
+use Rattle.registry_values.specs.Common.{slot_at}
+use Rattle.passive_list.specs.Common.{OnCpu, OnKeeper, HasHeardOn, HasDetached}
 use Rattle.name_registry.specs.Meeting.{is_inside, keeper_after_hear, HasSeenDetach}
 
 -- the answer of a lookup now

@@ -4,22 +4,11 @@ use Rattle.std.specs.Prelude.{◌≡◌, ℕ, ◌+◌, ◌*◌, pos, All, List, 
 use mathlib.Core.Option.{some}
 use lib.ListN.{get_elem?}
 use Rattle.atomic_table.specs.Table.{State as Table}
-use Rattle.registry_values.specs.declared.balance.Balance.{Balance}
-use Rattle.registry_values.specs.declared.entry.Entry.{Entry}
-use Rattle.registry_values.specs.declared.settings.Settings.{Settings}
-use Rattle.protocol.specs.Invariant.{IsIn, held_at, itself, one_if_used}
-use Rattle.protocol.specs.State.{State, opening, total_at}
-use Rattle.protocol.specs.Laws.{after, held_of, BalancesAtRest}
-use Rattle.registry_values.specs.Balances.{bias, tally_shown}
-use Rattle.registry_values.specs.Slots.{slot_at}
-use Rattle.cpu_words.specs.declared.view.View.{View}
-use Rattle.cpu_words.specs.declared.view.View.TheVariants.{Keeper, Cpu}
-use Rattle.cpu_words.specs.declared.view.KeeperView.{KeeperView}
-use Rattle.cpu_words.specs.Rule.{Ruled}
-use Rattle.cpu_words.specs.Views.{Shown}
-use Rattle.cpu_words.specs.Headline.{RunsLawfully}
-use Rattle.passive_list.specs.Cpus.{OnCpu}
-use Rattle.passive_list.specs.Keepers.{OnKeeper}
+use Rattle.name_registry.specs.Types.{Balance, Entry, Settings, View, Keeper, Cpu, KeeperView}
+use Rattle.protocol.specs.Common.{IsIn, held_at, itself, one_if_used, State, opening, total_at, after, held_of, BalancesAtRest}
+use Rattle.registry_values.specs.Common.{bias, tally_shown, slot_at}
+use Rattle.cpu_words.specs.Common.{Ruled, Shown, RunsLawfully}
+use Rattle.passive_list.specs.Common.{OnCpu, OnKeeper}
 use Rattle.name_registry.specs.Auditing.{AreAllCpus, AreShown, IsAuditOf, tallies_below, tally}
 
 -- the count words of the slot t, of all CPUs

@@ -1,3 +1,4 @@
+pub mod Common
 pub mod Meeting
 pub mod Obstacles
 pub mod Rows
@@ -12,3 +13,4 @@ pub mod Locking
 pub mod Performing
 pub mod Releasing
 pub mod Changes
+pub mod Types

@@ -1,11 +1,7 @@
 -- What a caller keeps of a call through the lock, whose value no contract can name: its CPU, and which refusals there may be.
 use Rattle.std.specs.Prelude.{◌≡◌, ◌≢◌, ◌<◌, Bool, true, false}
-use Rattle.registry_values.specs.declared.refusal.Refusal.{Refusal}
-use Rattle.registry_values.specs.declared.refusal.Refusal.TheVariants.{NameTaken, NoSlot, HistoryFull, Inside, NeedsDriver, NotFound, NotRetired, StillHeld, Waiting}
-use Rattle.registry_values.specs.declared.settings.Settings.{Settings}
-use Rattle.registry_values.specs.Stages.{IsObstacle}
-use Rattle.registry_values.specs.declared.stage.Stage.{Stage}
-use Rattle.registry_values.specs.declared.stage.Stage.TheVariants.{Grace, Passive, Local, Freed}
+use Rattle.name_registry.specs.Types.{Refusal, NameTaken, NoSlot, HistoryFull, Inside, NeedsDriver, NotFound, NotRetired, StillHeld, Waiting, Settings, Stage, Grace, Passive, Local, Freed}
+use Rattle.registry_values.specs.Common.{IsObstacle}
 
 -- An attach is refused by the CPU and the kind exactly, in this order; else by what is attached.
 

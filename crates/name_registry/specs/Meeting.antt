@@ -1,19 +1,10 @@
 -- A call that changes the registry: the keeper hears what the caller's CPU has seen, and then the CPU hears the whole history.
 use Rattle.std.specs.Prelude.{◌≡◌, ◌⊎◌, ℕ, ◌<◌, Bool, List, [], ◌∷◌, ◌++◌, length, Some, None, is_some, Option}
 use mathlib.Core.List.{IsPrefix}
-use Rattle.registry_values.specs.declared.entry.Entry.{Entry}
-use Rattle.protocol.specs.History.{IsAttached, EndsAt}
-use Rattle.protocol.specs.declared.event.Event.TheVariants.{Tell}
-use Rattle.protocol.specs.declared.event.Reply.TheVariants.{Done}
-use Rattle.cpu_words.specs.declared.view.LogItem.{LogItem}
-use Rattle.cpu_words.specs.declared.view.Teller.{Teller}
-use Rattle.cpu_words.specs.KeeperLog.{has_heard_from, heard_from}
-use Rattle.cpu_words.specs.Notes.{keeper_with_note}
-use Rattle.cpu_words.specs.Rule.{did, log_item}
-use Rattle.passive_list.specs.Cpus.{OnCpu, OnPlainCpu}
-use Rattle.passive_list.specs.Keepers.{OnKeeper, OnPlainKeeper}
-use Rattle.passive_list.specs.Logs.{GoesOnBy}
-use Rattle.passive_list.specs.Notes.{as_teller, has_heard, has_told}
+use Rattle.name_registry.specs.Types.{Entry, Tell, Done, LogItem, Teller}
+use Rattle.protocol.specs.Common.{IsAttached, EndsAt}
+use Rattle.cpu_words.specs.Common.{has_heard_from, heard_from, keeper_with_note, did, log_item}
+use Rattle.passive_list.specs.Common.{OnCpu, OnPlainCpu, OnKeeper, OnPlainKeeper, GoesOnBy, as_teller, has_heard, has_told}
 
 -- both are of the tables that they were of
 abbrev pub KeepsWords : OnPlainKeeper → OnPlainCpu → OnPlainKeeper → OnPlainCpu → Type 0

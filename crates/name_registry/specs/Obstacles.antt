@@ -1,15 +1,10 @@
 -- What a turn of the work on a retired entry met, by the keeper's log: so a CPU that has heard the log knows it, whatever the keeper does later.
-use Rattle.std.specs.Prelude.{◌≡◌, ◌≢◌, ℕ, ◌+◌, ◌*◌, ◌<◌, ◌≤◌, ◌%◌, Bool, true, false, List, [], ◌∷◌, ◌++◌, length, Some, Result, Ok, Err}
+use Rattle.std.specs.Prelude.{◌≡◌, ◌≢◌, ℕ, ◌+◌, ◌*◌, ◌<◌, ◌≤◌, ◌%◌, List, [], ◌∷◌, ◌++◌, length, Some, Result, Ok, Err}
 use mathlib.Core.List.{IsPrefix}
-use Rattle.registry_values.specs.declared.refusal.Refusal.{Refusal}
-use Rattle.registry_values.specs.declared.refusal.Refusal.TheVariants.{Inside, NotRetired, StillHeld}
-use Rattle.registry_values.specs.declared.settings.Settings.{Settings}
-use Rattle.registry_values.specs.declared.stage.Stage.{Stage}
-use Rattle.registry_values.specs.declared.stage.Stage.TheVariants.{Grace, Passive, Local, Freed}
-use Rattle.registry_values.specs.Balances.{bias}
-use Rattle.cpu_words.specs.declared.view.LogItem.{LogItem}
-use Rattle.cpu_words.specs.KeeperLog.{changes_in, given_up, has_looked, has_looked_passive, occupant, sum_collected, word_collected, words_collected, HasPassedOn, IsDetachedFrom, IsFreedFrom, IsSnapped}
-use Rattle.passive_list.specs.Cpus.{OnCpu}
+use Rattle.name_registry.specs.Types.{Refusal, Inside, NotRetired, StillHeld, Settings, Stage, Grace, Passive, Local, Freed, LogItem}
+use Rattle.registry_values.specs.Common.{bias}
+use Rattle.cpu_words.specs.Common.{changes_in, given_up, has_looked, has_looked_passive, occupant, sum_collected, word_collected, words_collected, HasPassedOn, IsDetachedFrom, IsFreedFrom, IsSnapped}
+use Rattle.passive_list.specs.Common.{OnCpu}
 
 -- by the log the slot t has the entry n, which was detached
 abbrev pub IsRetiredIn : ℕ → ℕ → List LogItem → Type 0

@@ -3,14 +3,10 @@ use Rattle.std.specs.Prelude.{◌≡◌, ℕ, ◌<◌, List, [], length, IsTrue}
 use mathlib.Core.Option.{some}
 use lib.ListN.{get_elem?}
 use Rattle.atomic_table.specs.Seated.{TableId}
-use Rattle.registry_values.specs.declared.settings.Settings.{Settings}
-use Rattle.registry_values.specs.Limits.{are_fit}
-use Rattle.registry_values.specs.declared.settings.TheConstants.{MOST_CPUS}
-use Rattle.cpu_words.specs.declared.view.CpuView.{CpuView}
-use Rattle.cpu_words.specs.declared.view.KeeperView.{KeeperView}
-use Rattle.cpu_words.specs.Views.{Named, Seated, new_cpu}
-use Rattle.cpu_words.specs.Opening.{AreSeats, keeper_with}
-use Rattle.passive_list.specs.Cpus.{OnCpu}
+use Rattle.name_registry.specs.Types.{Settings, MOST_CPUS, CpuView, KeeperView}
+use Rattle.registry_values.specs.Common.{are_fit}
+use Rattle.cpu_words.specs.Common.{Named, Seated, new_cpu, AreSeats, keeper_with}
+use Rattle.passive_list.specs.Common.{OnCpu}
 
 -- the seats are those of a new table
 pub record IsBlank (w : Named) (k : Seated KeeperView) (xs : List (Seated CpuView)) : Type 0 where

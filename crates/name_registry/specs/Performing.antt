@@ -1,30 +1,11 @@
 -- Waiting for open sections (pserialize(9)): which looks a perform makes under the interlock, what it makes of their answers, and in how many turns.
 use Rattle.std.specs.Prelude.{◌≡◌, ◌⊎◌, ℕ, zero, suc, ◌<◌, ◌≤◌, List, ◌++◌, length, Option, Some, None, Bool, true, false, not, Result, Err, replicate, slice_index_or}
 use mathlib.Core.List.{IsPrefix}
-use Rattle.protocol.specs.declared.event.Event.{Event}
-use Rattle.protocol.specs.declared.event.Event.TheVariants.{Look, Snapshot, Tell}
-use Rattle.protocol.specs.declared.event.Reply.TheVariants.{Done, Word}
-use Rattle.registry_values.specs.declared.refusal.Refusal.{Refusal}
-use Rattle.registry_values.specs.declared.refusal.Refusal.TheVariants.{Inside}
-use Rattle.registry_values.specs.declared.settings.Settings.{Settings}
-use Rattle.registry_values.specs.Answers.{wait_answer}
-use Rattle.registry_values.specs.Marks.{is_out, least_below}
-use Rattle.registry_values.specs.Slots.{is_retired_as, retired_number, slot_at}
-use Rattle.registry_values.specs.declared.settings.TheConstants.{MOST_CPUS, MOST_SLOTS}
-use Rattle.cpu_words.specs.declared.view.LogItem.{LogItem}
-use Rattle.cpu_words.specs.declared.view.KeeperView.{KeeperView}
-use Rattle.cpu_words.specs.declared.view.View.TheVariants.{Keeper}
-use Rattle.cpu_words.specs.KeeperLog.{changes_in, HasHeardFrom, HasPassedOn, HasWaited, IsDetachedFrom, KeepsSlot}
-use Rattle.cpu_words.specs.Grace.{keeper_after_look}
-use Rattle.cpu_words.specs.Notes.{keeper_with_note}
-use Rattle.cpu_words.specs.Rule.{did}
-use Rattle.cpu_words.specs.Steps.{Makes}
-use Rattle.passive_list.specs.Cpus.{OnCpu}
-use Rattle.passive_list.specs.Keepers.{OnKeeper}
-use Rattle.passive_list.specs.Logs.{HasOwnLog}
-use Rattle.passive_list.specs.Notes.{HasHeardOn, as_teller, cpu_after_tell}
+use Rattle.name_registry.specs.Types.{Event, Look, Snapshot, Tell, Done, Word, Refusal, Inside, Settings, MOST_CPUS, MOST_SLOTS, LogItem, KeeperView, Keeper}
+use Rattle.registry_values.specs.Common.{wait_answer, is_out, least_below, is_retired_as, retired_number, slot_at}
+use Rattle.cpu_words.specs.Common.{changes_in, HasHeardFrom, HasPassedOn, HasWaited, IsDetachedFrom, KeepsSlot, keeper_after_look, keeper_with_note, did, Makes}
+use Rattle.passive_list.specs.Common.{OnCpu, OnKeeper, HasOwnLog, HasHeardOn, as_teller, cpu_after_tell, GoesOnBy}
 use Rattle.name_registry.specs.Advancing.{IsLook, HasLookedFor, MeetsGrace, PassedBelow}
-use Rattle.passive_list.specs.Logs.{GoesOnBy}
 use Rattle.name_registry.specs.Meeting.{hears_cpu, keeper_after_hear, keeper_after_tell, tells_and_hears, tells_twice_and_hears}
 
 -- The keeper's looks for no entry

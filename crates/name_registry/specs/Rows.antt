@@ -1,8 +1,7 @@
 -- What one row of the keeper says.
 use Rattle.std.specs.Prelude.{Bool}
-use Rattle.registry_values.specs.declared.slot.Key.{Key}
-use Rattle.registry_values.specs.Slots.{is_available, is_live_as}
-use Rattle.passive_list.specs.declared.keeper.KeptSlot.{KeptSlot}
+use Rattle.name_registry.specs.Types.{Key, KeptSlot}
+use Rattle.registry_values.specs.Common.{is_available, is_live_as}
 
 -- the slot shows a live entry with this kind and name
 abbrev pub is_live_row : Key → KeptSlot → Bool

@@ -1,13 +1,11 @@
 //! The work on a retired entry, for a caller that holds the keeper: one turn, up to the first obstacle.
 
 ghost use Rattle.std.specs.Prelude.{◌≡◌, ◌≢◌, ◌<◌, IfOk, IfSome, None, position, true, false};
-ghost use Rattle.registry_values.specs.declared.entry.Entry.{Entry};
-ghost use Rattle.registry_values.specs.declared.slot.Slot.TheVariants.{Retired};
-ghost use Rattle.registry_values.specs.Slots.{retired_slot, slot_at};
-ghost use Rattle.protocol.specs.State.{mark_at};
-ghost use Rattle.cpu_words.specs.Domains.{AreWordsOf};
-ghost use Rattle.passive_list.specs.Vacating.{IsDrainedOn};
-ghost use Rattle.passive_list.specs.Logs.{GoesOnBy};
+ghost use Rattle.name_registry.specs.Types.{Entry, Retired};
+ghost use Rattle.registry_values.specs.Common.{retired_slot, slot_at};
+ghost use Rattle.protocol.specs.Common.{mark_at};
+ghost use Rattle.cpu_words.specs.Common.{AreWordsOf};
+ghost use Rattle.passive_list.specs.Common.{IsDrainedOn, GoesOnBy};
 ghost use Rattle.name_registry.specs.Advancing.{HasAdvanced, Meets, MeetsGrace, MeetsPassive, HasLookedFor, HasWorkedFor, IsLook, LooksBelow, LooksUnless, MayWork, SeesSection, SeesPassive, Settles, HasEnded, PassedBelow, ClearBelow, CollectedBelow, is_retired_row, looked_at};
 ghost use Rattle.name_registry.specs.Locking.{IsStageOf};
 

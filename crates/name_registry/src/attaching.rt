@@ -1,9 +1,9 @@
 //! Attaching, for a caller that holds the keeper.
 
 ghost use Rattle.std.specs.Prelude.{◌≡◌, IfOk, IfErr, IsTrue, Ok, Err};
-ghost use Rattle.registry_values.specs.declared.entry.Kind.TheVariants.{Iface};
-ghost use Rattle.registry_values.specs.Names.{is_lawful};
-ghost use Rattle.cpu_words.specs.Domains.{AreWordsOf};
+ghost use Rattle.name_registry.specs.Types.{Iface};
+ghost use Rattle.registry_values.specs.Common.{is_lawful};
+ghost use Rattle.cpu_words.specs.Common.{AreWordsOf};
 ghost use Rattle.name_registry.specs.Attaching.{attach_answer, attach_iface_answer, HasAttachedFor, HasAttachedIfaceFor};
 ghost use Rattle.name_registry.specs.Meeting.{KeepsWords};
 

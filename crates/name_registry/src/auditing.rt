@@ -1,10 +1,10 @@
 //! The audit of local references (localcount(9)), for a caller that holds the keeper and all CPUs.
 
 ghost use Rattle.std.specs.Prelude.{◌≡◌, ◌↔◌, ◌⊎◌, ◌++◌, ◌+ℤ◌, ◌≤ℤ◌, ◌<◌, ◌≤◌, ◌^◌, All, IfOk, IfErr, IsErrOf, IsTrue, OnErr, length, map, neg_ℤ, pos};
-ghost use Rattle.registry_values.specs.Balances.{sum_of, tally_shown};
+ghost use Rattle.registry_values.specs.Common.{sum_of, tally_shown};
 ghost use mathlib.Core.List.{IsPrefix};
-ghost use Rattle.cpu_words.specs.Domains.{AreWordsOf};
-ghost use Rattle.passive_list.specs.Notes.{HasHeardOn, WasShown, has_heard, has_told};
+ghost use Rattle.cpu_words.specs.Common.{AreWordsOf};
+ghost use Rattle.passive_list.specs.Common.{HasHeardOn, WasShown, has_heard, has_told};
 ghost use Rattle.name_registry.specs.Auditing.{AreAllCpus, AreAlike, HasListened, HaveHeardAndTold, HaveLearned, IsAuditBy, IsAuditOf, IsOccupied, Occupies, is_collected, local_met, locals_met, place_of, places_below, tallies_met, tally_met};
 
 use cpu_words::{Domain, NoteSeat, Words};

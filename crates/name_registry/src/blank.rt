@@ -1,10 +1,9 @@
 //! The words and seats of a registry that isn't named yet.
 
 ghost use Rattle.std.specs.Prelude.{◌≡◌, ◌↔◌, ◌≤◌, [], IfOk, IfErr, IsErrOf, IsTrue, false, vec_len, vec_capacity};
-ghost use Rattle.registry_values.specs.Limits.{are_fit};
-ghost use Rattle.registry_values.specs.Refusals.{IsRefusalOfNew};
-ghost use Rattle.registry_values.specs.declared.refusal.Refusal.TheVariants.{NoMemory};
-ghost use Rattle.cpu_words.specs.Opening.{AreSeats};
+ghost use Rattle.registry_values.specs.Common.{are_fit, IsRefusalOfNew};
+ghost use Rattle.name_registry.specs.Types.{NoMemory};
+ghost use Rattle.cpu_words.specs.Common.{AreSeats};
 ghost use Rattle.name_registry.specs.Opening.{IsBlankOf, AreNewCpus};
 
 use crate::interlock::Interlock;
@@ -29,7 +28,7 @@ pub struct Blank {
 
 impl Model for Blank {
     ghost use Rattle.std.specs.Prelude.{◌≡◌};
-    ghost use Rattle.registry_values.specs.declared.settings.TheConstants.{MOST_CPUS};
+    ghost use Rattle.name_registry.specs.Types.{MOST_CPUS};
     ghost use Rattle.name_registry.specs.Opening.{IsBlank, OnBlank};
 
     ghost Value = { OnBlank };

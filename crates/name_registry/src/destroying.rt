@@ -1,8 +1,7 @@
 //! Destroying a retired entry, in several turns.
 
 ghost use Rattle.std.specs.Prelude.{◌≡◌, ◌<◌, ◌≤◌, IfOk, IfErr, false};
-ghost use Rattle.cpu_words.specs.KeeperLog.{IsFreedFrom};
-ghost use Rattle.cpu_words.specs.Domains.{AreWordsOf};
+ghost use Rattle.cpu_words.specs.Common.{IsFreedFrom, AreWordsOf};
 ghost use Rattle.name_registry.specs.Destroying.{Destroys, DestroysOutside, HasAdvancedFor};
 ghost use Rattle.name_registry.specs.Locking.{IsDestroyRefusal, IsStageOf};
 ghost use Rattle.name_registry.specs.Obstacles.{IsDestroyAnswer, IsTurn};
@@ -59,9 +58,8 @@ impl<D: Domain> Registry<D> {
 /// What a `destroy` does under the interlock, which it takes anew for each turn. What stands between two turns is the caller's CPU.
 trait AdvancesUnderInterlock<D: Domain> {
     ghost use Rattle.std.specs.Prelude.{ℕ, Result};
-    ghost use Rattle.registry_values.specs.declared.refusal.Refusal.{Refusal};
-    ghost use Rattle.registry_values.specs.declared.stage.Stage.{Stage};
-    ghost use Rattle.passive_list.specs.Cpus.{OnCpu};
+    ghost use Rattle.name_registry.specs.Types.{Refusal, Stage};
+    ghost use Rattle.passive_list.specs.Common.{OnCpu};
 
     // of the number and the CPU before: the answer, and the CPU after
     ghost advances: { ℕ → OnCpu → Result Stage Refusal → OnCpu → Type 0 };

@@ -1,8 +1,8 @@
 //! Detaching, for a caller that holds the keeper.
 
 ghost use Rattle.std.specs.Prelude.{◌≡◌, ◌<◌, IfOk, IfErr, IfSome, position, length};
-ghost use Rattle.registry_values.specs.Slots.{is_live_as};
-ghost use Rattle.cpu_words.specs.Domains.{AreWordsOf};
+ghost use Rattle.registry_values.specs.Common.{is_live_as};
+ghost use Rattle.cpu_words.specs.Common.{AreWordsOf};
 ghost use Rattle.name_registry.specs.Detaching.{IsDetachAnswer, IsLivePlace, HasDetachedFor};
 ghost use Rattle.name_registry.specs.Rows.{is_live_row};
 ghost use Rattle.name_registry.specs.Meeting.{KeepsWords};

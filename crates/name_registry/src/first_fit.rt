@@ -2,8 +2,8 @@
 
 ghost use Rattle.std.specs.Prelude.{◌≡◌, ◌<◌, ◌≤◌, IfOk, IfSome, length, take, position};
 ghost use Rattle.std.specs.List.{list_any};
-ghost use Rattle.registry_values.specs.Slots.{key_of_record, is_taken, live_count};
-ghost use Rattle.passive_list.specs.Keepers.{states_of};
+ghost use Rattle.registry_values.specs.Common.{key_of_record, is_taken, live_count};
+ghost use Rattle.passive_list.specs.Common.{states_of};
 ghost use Rattle.name_registry.specs.Attaching.{given_entry, first_fit, room_of};
 ghost use Rattle.name_registry.specs.Rows.{is_live_row, is_available_row};
 

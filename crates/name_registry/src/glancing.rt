@@ -2,8 +2,8 @@
 //! of the interlock the keeper hears first what the caller's CPU knows, and at the end the CPU hears what the keeper did.
 
 ghost use Rattle.std.specs.Prelude.{◌≡◌, ◌<◌, ◌≤◌, ℕ, None, slice_index_or};
-ghost use Rattle.registry_values.specs.Slots.{retired_number, slot_at};
-ghost use Rattle.cpu_words.specs.Domains.{AreWordsOf};
+ghost use Rattle.registry_values.specs.Common.{retired_number, slot_at};
+ghost use Rattle.cpu_words.specs.Common.{AreWordsOf};
 ghost use Rattle.name_registry.specs.Performing.{GlancesBelow, GlancesOnce, HasBegun, HasGlanced, HasPassedAll, PassesBelow, PassesEntry, SnapshotsBelow, looking};
 ghost use Rattle.name_registry.specs.Meeting.{KeepsWords};
 

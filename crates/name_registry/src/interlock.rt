@@ -1,12 +1,9 @@
 //! What the lock guards: the keeper, and the book of the changes that calls have made.
 
 ghost use Rattle.std.specs.Prelude.{◌≡◌, ◌+◌, ◌<◌, IfOk, IfErr, IsTrue, false};
-ghost use Rattle.registry_values.specs.Names.{is_lawful};
-ghost use Rattle.registry_values.specs.Slots.{is_iface};
-ghost use Rattle.registry_values.specs.declared.entry.Change.TheVariants.{Attach, Detach};
-ghost use Rattle.registry_values.specs.declared.entry.Kind.TheVariants.{Iface};
-ghost use Rattle.cpu_words.specs.KeeperLog.{IsAttachedKeeping};
-ghost use Rattle.cpu_words.specs.Domains.{AreWordsOf};
+ghost use Rattle.registry_values.specs.Common.{is_lawful, is_iface};
+ghost use Rattle.name_registry.specs.Types.{Attach, Detach, Iface};
+ghost use Rattle.cpu_words.specs.Common.{IsAttachedKeeping, AreWordsOf};
 ghost use Rattle.name_registry.specs.Changes.{HasMade, weigh, weight};
 ghost use Rattle.name_registry.specs.Locking.{MayAttach, IsAttachRefusal, IsDetachRefusedTo};
 ghost use Rattle.name_registry.specs.Meeting.{is_inside, HasLearned, HasSeenAttach, HasSeenDetach};

@@ -2,9 +2,8 @@
 
 ghost use Rattle.std.specs.Prelude.{◌≡◌, ◌++◌, None};
 ghost use mathlib.Core.List.{IsPrefix};
-ghost use Rattle.cpu_words.specs.Domains.{AreWordsOf};
-ghost use Rattle.passive_list.specs.Logs.{HasOwnLog};
-ghost use Rattle.passive_list.specs.Notes.{HasHeardOn, cpu_after_tell, has_heard};
+ghost use Rattle.cpu_words.specs.Common.{AreWordsOf};
+ghost use Rattle.passive_list.specs.Common.{HasOwnLog, HasHeardOn, cpu_after_tell, has_heard};
 ghost use Rattle.name_registry.specs.Meeting.{KeepsWords, keeper_after_hear, keeper_after_tell};
 
 use cpu_words::Words;

@@ -52,7 +52,7 @@ impl<D: Domain> Registry<D> {
 /// CPU.
 trait UnderInterlock<D: Domain> {
     ghost use Rattle.std.specs.Prelude.{ℕ, List, Option, Bool};
-    ghost use Rattle.passive_list.specs.Cpus.{OnCpu};
+    ghost use Rattle.passive_list.specs.Common.{OnCpu};
 
     // of the CPU before: the snapshots, the numbers, and the CPU after
     ghost begins: { OnCpu → List ℕ → List (Option ℕ) → OnCpu → Type 0 };

@@ -1,14 +1,9 @@
 //! The registry: the shared words, and a lock round the keeper.
 
 ghost use Rattle.std.specs.Prelude.{◌≡◌, ◌↔◌, ◌⊎◌, ◌+ℤ◌, ◌≤◌, All, IfOk, IfErr, IsErrOf, IsTrue, false, length};
-ghost use Rattle.registry_values.specs.Balances.{sum_of};
-ghost use Rattle.registry_values.specs.declared.entry.Change.TheVariants.{Attach, Detach};
-ghost use Rattle.registry_values.specs.declared.entry.Kind.TheVariants.{Iface};
-ghost use Rattle.registry_values.specs.declared.settings.TheConstants.{MOST_CPUS};
-ghost use Rattle.registry_values.specs.Names.{is_lawful};
-ghost use Rattle.registry_values.specs.Slots.{is_iface};
-ghost use Rattle.cpu_words.specs.KeeperLog.{IsAttachedKeeping};
-ghost use Rattle.cpu_words.specs.Domains.{AreWordsOf};
+ghost use Rattle.registry_values.specs.Common.{sum_of, is_lawful, is_iface};
+ghost use Rattle.name_registry.specs.Types.{Attach, Detach, Iface, MOST_CPUS};
+ghost use Rattle.cpu_words.specs.Common.{IsAttachedKeeping, AreWordsOf};
 ghost use Rattle.name_registry.specs.Auditing.{AreAllCpus, HaveHeardAndTold, HaveLearned, IsAuditBy};
 ghost use Rattle.name_registry.specs.Changes.{HasMade};
 ghost use Rattle.name_registry.specs.Destroying.{SomeAdvanced};

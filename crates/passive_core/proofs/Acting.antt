@@ -2,11 +2,9 @@
 use Rattle.std.proofs.Common.{◌≡◌, ℕ, ◌<◌, ◌≤◌, Option, Some, None, Bool, true, false, not, ◌&&◌, ◌||◌, nat_lt, refl, sym, ap, ◌∙◌}
 use Rattle.std.specs.Prelude.{is_none}
 use Rattle.std.proofs.lemmas.Bool.{and_parts, cases_lt, lt-ltb, le-ltb}
-use Rattle.passive_core.specs.Commands.{all_seated, may_act}
-use Rattle.protocol.specs.Events.{Outcome, guard, is_idle, some_outcome}
-use Rattle.protocol.specs.declared.event.Reply.{Reply}
-use Rattle.protocol.specs.Invariant.{Holds}
-use Rattle.protocol.specs.State.{is_empty, State, search_at, hand_at}
+use Rattle.passive_core.specs.Common.{all_seated, may_act}
+use Rattle.protocol.specs.Common.{Outcome, guard, is_idle, some_outcome, Holds, is_empty, State, search_at, hand_at}
+use Rattle.passive_core.specs.Types.{Reply}
 use Rattle.protocol.proofs.keeps.SectionKeeps.{none_from}
 use Rattle.protocol.proofs.Either.{either}
 

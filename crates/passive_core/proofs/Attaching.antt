@@ -7,30 +7,12 @@ use Rattle.std.proofs.lemmas.Bool.{and_from, and_parts, cases_lt, le-ltb}
 use Rattle.std.proofs.lemmas.List.{length-replicate, replicate_more, set-get_or, set-set, set_at, set_past, take-replicate, take-append-le, append_assoc}
 use Rattle.std.proofs.lemmas.List.Quantifiers.{position-Some}
 use Rattle.std.proofs.lemmas.Slice.Zip.{get_or-zip, length-zip}
-use Rattle.registry_values.specs.declared.entry.Entry.{Entry}
-use Rattle.registry_values.specs.declared.entry.Kind.{Kind}
-use Rattle.registry_values.specs.declared.entry.Kind.TheVariants.{Iface, Driver}
-use Rattle.registry_values.specs.declared.entry.Record.{Record}
-use Rattle.protocol.specs.declared.event.Event.TheVariants.{StoreSlot, Publish}
-use Rattle.protocol.specs.declared.event.Reply.{Reply}
-use Rattle.protocol.specs.declared.event.Reply.TheVariants.{Done}
-use Rattle.passive_core.specs.declared.machine.commands.attach.Before.{Before}
-use Rattle.registry_values.specs.declared.refusal.Refusal.{Refusal}
-use Rattle.protocol.specs.declared.state.LocalPlace.{LocalPlace}
-use Rattle.protocol.specs.declared.state.LocalPlace.TheVariants.{Free, Standing}
-use Rattle.protocol.specs.declared.state.RecordWords.{RecordWords}
-use Rattle.registry_values.specs.declared.slot.Slot.{Slot}
-use Rattle.registry_values.specs.declared.slot.Slot.TheVariants.{Vacant}
-use Rattle.passive_core.specs.Attaching.{IsAnswer, with_reference_given_back, given_entry, is_driver_in, is_driver_number, is_to_driver, with_reference_kept, first_fit, with_prepared, with_attach_undone, words_before}
-use Rattle.registry_values.specs.Answers.{attach_answer, next_entry}
+use Rattle.passive_core.specs.Types.{Entry, Kind, Iface, Driver, Record, StoreSlot, Publish, Reply, Done, Refusal, LocalPlace, Free, Standing, RecordWords, Slot, Vacant}
+use Rattle.passive_core.specs.Common.{Before, IsAnswer, with_reference_given_back, given_entry, is_driver_in, is_driver_number, is_to_driver, with_reference_kept, first_fit, with_prepared, with_attach_undone, words_before, all_seated, may_act}
+use Rattle.registry_values.specs.Common.{attach_answer, next_entry, is_available, key_of_record, key_of, is_iface, is_taken, is_vacant, slot_of, slot_at, is_lawful, bias}
 use Rattle.registry_values.proofs.Answers as answers
-use Rattle.registry_values.specs.Slots.{is_available, key_of_record, key_of, is_iface, is_taken, is_vacant, slot_of, slot_at}
-use Rattle.protocol.specs.State.{with_biases, at_rest, State, kept_at, local_at, no_words, row_at, total_at}
-use Rattle.passive_core.specs.Commands.{all_seated, may_act}
-use Rattle.protocol.specs.Events.{Outcome, after_count_store, after_keep, after_publish, after_row_store, after_seeing, are_unused, entry_of, has_room, room_of, is_bias, is_driver_slot, is_prepared, keeps_rightly, may_keep, may_publish, may_write, number_standing, step, with_word, words_of}
-use Rattle.protocol.specs.Invariant.{Holds, SeatsShow}
-use Rattle.registry_values.specs.Names.{are_name_words, is_lawful}
-use Rattle.registry_values.specs.Balances.{bias}
+use Rattle.protocol.specs.Common.{with_biases, at_rest, State, kept_at, local_at, no_words, row_at, total_at, Outcome, after_count_store, after_keep, after_publish, after_row_store, after_seeing, are_unused, entry_of, has_room, room_of, is_bias, is_driver_slot, is_prepared, keeps_rightly, may_keep, may_publish, may_write, number_standing, step, with_word, words_of, Holds, SeatsShow}
+use Rattle.registry_values.specs.Names.{are_name_words}
 use Rattle.protocol.proofs.keeps.CountKeeps.{keep_keeps}
 use Rattle.registry_values.proofs.Fit.{ranges}
 use Rattle.protocol.proofs.keeps.ListKeeps.{may_write_tells}

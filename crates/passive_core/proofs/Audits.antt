@@ -6,16 +6,10 @@ use Rattle.std.proofs.lemmas.Int.{ints}
 use Rattle.std.proofs.lemmas.List.{append-nil, map-append, take_more}
 use Rattle.std.proofs.lemmas.List.Elements.{All-cons, All-head, All-nil, All-tail}
 use Rattle.std.proofs.lemmas.List.Sums.{sum_by-cons}
-use Rattle.registry_values.specs.declared.settings.TheConstants.{MOST_CPUS}
-use Rattle.registry_values.specs.declared.balance.Balance.{Balance}
-use Rattle.registry_values.specs.declared.entry.Entry.{Entry}
-use Rattle.registry_values.specs.declared.slot.Slot.{Slot}
-use Rattle.registry_values.specs.declared.slot.Slot.TheVariants.{Vacant, Live, Retired}
-use Rattle.protocol.specs.State.{State, count_at, mark_at, total_at, at_rest}
-use Rattle.registry_values.specs.Balances.{bias, Tally, less_bias, local_of, sum_of, tally_shown}
-use Rattle.registry_values.specs.Slots.{slot_at}
-use Rattle.passive_core.specs.Audits.{IsHeldRightly, audit_of, locals_at, tallies_at, tallies_below, tally_of}
-use Rattle.protocol.specs.Invariant.{Holds, IsCounting, IsIn, addition_due_at, greatest_limit, is_adding_at, itself, one_if_used}
+use Rattle.passive_core.specs.Types.{MOST_CPUS, Balance, Entry, Slot, Vacant, Live, Retired}
+use Rattle.protocol.specs.Common.{State, count_at, mark_at, total_at, at_rest, Holds, IsCounting, IsIn, addition_due_at, greatest_limit, is_adding_at, itself, one_if_used}
+use Rattle.registry_values.specs.Common.{bias, Tally, less_bias, local_of, sum_of, tally_shown, slot_at}
+use Rattle.passive_core.specs.Common.{IsHeldRightly, audit_of, locals_at, tallies_at, tallies_below, tally_of}
 use Rattle.protocol.proofs.counts.CountBounds.{total_at_rest, word_ceiling, word_floor}
 use Rattle.protocol.proofs.keeps.CountKeeps.{fit_of}
 use Rattle.protocol.proofs.counts.Counts.{counting_cases}

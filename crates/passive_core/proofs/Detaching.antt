@@ -4,27 +4,11 @@ use Rattle.std.specs.Prelude.{if◌then◌else◌, position}
 use Rattle.std.proofs.lemmas.Bool.{eq-eqb, lt-ltb, le-ltb}
 use Rattle.std.proofs.lemmas.List.{append_assoc, length-map, length-take-le, map_more, set-set, set-get_or, set_at, take_all}
 use Rattle.std.proofs.lemmas.List.Quantifiers.{position-Some}
-use Rattle.registry_values.specs.declared.settings.TheConstants.{MOST_CPUS}
-use Rattle.registry_values.specs.declared.entry.Entry.{Entry}
-use Rattle.protocol.specs.declared.event.Reply.{Reply}
-use Rattle.protocol.specs.declared.event.Reply.TheVariants.{Done, Word}
-use Rattle.protocol.specs.declared.state.Due.{Due}
-use Rattle.protocol.specs.declared.state.Due.TheVariants.{Rest, Snapshots}
-use Rattle.registry_values.specs.declared.slot.Key.{Key}
-use Rattle.registry_values.specs.declared.mark.Mark.{Mark}
-use Rattle.registry_values.specs.declared.slot.Slot.{Slot}
-use Rattle.registry_values.specs.declared.slot.Slot.TheVariants.{Vacant, Live}
-use Rattle.passive_core.specs.Commands.{all_seated, may_act}
-use Rattle.registry_values.specs.declared.refusal.Refusal.{Refusal}
-use Rattle.registry_values.specs.declared.refusal.Refusal.TheVariants.{Inside, NotFound}
-use Rattle.registry_values.specs.Answers.{detach_answer}
-use Rattle.passive_core.specs.Detaching.{IsDetachRefusal, IsLookupNow, with_detached, with_all_snapshots}
+use Rattle.passive_core.specs.Types.{MOST_CPUS, Entry, Reply, Done, Word, Due, Rest, Snapshots, Key, Mark, Slot, Vacant, Live, Refusal, Inside, NotFound}
+use Rattle.passive_core.specs.Common.{all_seated, may_act, IsDetachRefusal, IsLookupNow, with_detached, with_all_snapshots}
+use Rattle.registry_values.specs.Common.{detach_answer, is_live_as, slot_before, same_key, slot_at, no_mark}
 use Rattle.std.specs.Prelude.{Result, Ok, Err, IfSome}
-use Rattle.protocol.specs.Events.{is_inside, after_seeing, after_snapshot, after_unpublish, guard, is_idle, is_snapshot_due, with_retired, snapshot_mark, some_outcome, with_link_past}
-use Rattle.protocol.specs.Invariant.{DueHolds, Holds}
-use Rattle.protocol.specs.State.{at_rest, State, section_at}
-use Rattle.registry_values.specs.Slots.{is_live_as, slot_before, same_key, slot_at}
-use Rattle.registry_values.specs.Marks.{no_mark}
+use Rattle.protocol.specs.Common.{is_inside, after_seeing, after_snapshot, after_unpublish, guard, is_idle, is_snapshot_due, with_retired, snapshot_mark, some_outcome, with_link_past, DueHolds, Holds, at_rest, State, section_at}
 use Rattle.passive_core.proofs.Acting.{acting_on, made_is}
 use Rattle.registry_values.proofs.Fit.{ranges}
 use Rattle.protocol.proofs.slots.Numbers.{position_fails}

@@ -4,11 +4,8 @@ use Rattle.std.proofs.lemmas.Bool.{and_from, cases_lt}
 use Rattle.std.proofs.lemmas.Option.{none-some}
 use Rattle.protocol.proofs.slots.Cells.{place_put}
 use Rattle.protocol.proofs.keeps.SectionKeeps.{some_from}
-use Rattle.passive_core.specs.Commands.{may_act}
-use Rattle.passive_core.specs.Entering.{with_depth}
-use Rattle.protocol.specs.Events.{is_inside}
-use Rattle.protocol.specs.Invariant.{Holds, SectionsShow}
-use Rattle.protocol.specs.State.{is_empty, State, depth_at, hand_at, search_at, begin_at}
+use Rattle.passive_core.specs.Common.{may_act, with_depth}
+use Rattle.protocol.specs.Common.{is_inside, Holds, SectionsShow, is_empty, State, depth_at, hand_at, search_at, begin_at}
 use Rattle.protocol.proofs.Either.{either}
 
 -- no search is under way, and the hand is empty

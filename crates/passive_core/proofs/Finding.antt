@@ -1,21 +1,10 @@
 -- The walk of a lookup that nothing disturbs: what each load leaves, and what the last one answers.
 use Rattle.std.proofs.Common.{◌≡◌, ℕ, zero, suc, ◌<◌, ◌⊎◌, inl, inr, List, length, get_or, set, Option, Some, None, Bool, true, false, refl, sym, ap, subst, ◌∙◌, arith, get_or-set_same}
 use Rattle.std.proofs.lemmas.List.{set-set, set-get_or}
-use Rattle.registry_values.specs.Slots.{are_words_of}
-use Rattle.registry_values.specs.declared.entry.Change.{Change}
-use Rattle.registry_values.specs.declared.entry.Entry.{Entry}
-use Rattle.protocol.specs.declared.event.Reply.{Reply}
-use Rattle.protocol.specs.declared.event.Reply.TheVariants.{Done, Word, Found, Missed, Ref, Collected}
-use Rattle.registry_values.specs.declared.slot.Key.{Key}
-use Rattle.protocol.specs.declared.state.SearchPlace.{SearchPlace}
-use Rattle.protocol.specs.declared.state.SearchPlace.TheVariants.{AtHead, AtNext, AtNumber, AtKind, AtHigh, AtLow, AtValue}
-use Rattle.protocol.specs.declared.state.Search.{Search}
-use Rattle.protocol.specs.History.{IsLookup}
-use Rattle.protocol.specs.Invariant.{Holds}
-use Rattle.protocol.specs.State.{State, seen_at, search_at, row_at}
-use Rattle.protocol.specs.Loaded.{entry_with, loaded_of_name}
-use Rattle.protocol.specs.Events.{Outcome, guard, some_outcome, may_seek, after_seeing, after_seek, with_search_at, search_over, link_loaded, load_link, load_searched, outcome_of}
-use Rattle.passive_core.specs.Finding.{after_find, load_at, next_load}
+use Rattle.registry_values.specs.Common.{are_words_of}
+use Rattle.passive_core.specs.Types.{Change, Entry, Reply, Done, Word, Found, Missed, Ref, Collected, Key, SearchPlace, AtHead, AtNext, AtNumber, AtKind, AtHigh, AtLow, AtValue, Search}
+use Rattle.protocol.specs.Common.{IsLookup, Holds, State, seen_at, search_at, row_at, entry_with, loaded_of_name, Outcome, guard, some_outcome, may_seek, after_seeing, after_seek, with_search_at, search_over, link_loaded, load_link, load_searched, outcome_of}
+use Rattle.passive_core.specs.Common.{after_find, load_at, next_load}
 use Rattle.passive_core.proofs.Acting.{made_is}
 use Rattle.protocol.proofs.keeps.Searching.{Finds, FindSteps, IsFindStep, find_link, find_record, placed, searching_within, seen_now, weight}
 use Rattle.protocol.proofs.Either.{either}

@@ -7,22 +7,10 @@ use Rattle.std.proofs.lemmas.List.Sums.{position_or_len_is, sum_by_push}
 use Rattle.std.proofs.lemmas.List.Quantifiers.{position-Some}
 use Rattle.std.proofs.lemmas.List.Folds.{position_or_len_push}
 use Rattle.std.proofs.lemmas.Bool.{and_parts, cases_eq, cases_lt, eq-eqb, lt-ltb, le-ltb}
-use Rattle.registry_values.specs.declared.entry.Entry.{Entry}
-use Rattle.protocol.specs.declared.event.Event.TheVariants.{CountAdd, SplitRef, JoinRef, CountDown, SplitBack, JoinKeeper, TotalSub}
-use Rattle.protocol.specs.declared.event.Reply.{Reply}
-use Rattle.protocol.specs.declared.event.Reply.TheVariants.{Done, Word, Ref, Collected}
-use Rattle.protocol.specs.declared.state.Hand.{Hand}
-use Rattle.protocol.specs.declared.state.Hand.TheVariants.{Empty, Taking, Giving, Back}
-use Rattle.protocol.specs.declared.state.LocalPlace.{LocalPlace}
-use Rattle.protocol.specs.declared.state.LocalPlace.TheVariants.{Free, Standing, Lifted}
-use Rattle.protocol.specs.State.{State, count_at, found_at, hand_at, local_at, mark_at, row_at, search_at, total_at, at_rest, is_empty}
-use Rattle.registry_values.specs.Balances.{bias}
-use Rattle.registry_values.specs.Marks.{no_mark, is_collected, is_some_collected}
-use Rattle.registry_values.specs.Slots.{slot_at, is_retired, slot_of}
-use Rattle.protocol.specs.Events.{Outcome, after_collected, after_count, after_count_add, after_count_down, after_hand, after_join_keeper, after_split, after_total, id_if, is_free, is_idle, least_id, load_local, may_join_keeper, split_ref, number_standing, state_after, step, some_outcome, with_local, word, words_of}
-use Rattle.protocol.specs.Invariant.{Holds, standing_of}
-use Rattle.passive_core.specs.Commands.{all_seated, may_act}
-use Rattle.passive_core.specs.Locals.{count_in, free_added, is_counting, local_slot, slot_if, with_count_less, with_count_more, with_room}
+use Rattle.passive_core.specs.Types.{Entry, CountAdd, SplitRef, JoinRef, CountDown, SplitBack, JoinKeeper, TotalSub, Reply, Done, Word, Ref, Collected, Hand, Empty, Taking, Giving, Back, LocalPlace, Free, Standing, Lifted}
+use Rattle.protocol.specs.Common.{State, count_at, found_at, hand_at, local_at, mark_at, row_at, search_at, total_at, at_rest, is_empty, Outcome, after_collected, after_count, after_count_add, after_count_down, after_hand, after_join_keeper, after_split, after_total, id_if, is_free, is_idle, least_id, load_local, may_join_keeper, split_ref, number_standing, state_after, step, some_outcome, with_local, word, words_of, Holds, standing_of}
+use Rattle.registry_values.specs.Common.{bias, no_mark, is_collected, is_some_collected, slot_at, is_retired, slot_of}
+use Rattle.passive_core.specs.Common.{all_seated, may_act, count_in, free_added, is_counting, local_slot, slot_if, with_count_less, with_count_more, with_room}
 use Rattle.protocol.proofs.keeps.SectionKeeps.{empty_from}
 use Rattle.protocol.proofs.counts.Counts.{counting_cases, held_stays}
 use Rattle.registry_values.proofs.Fit.{ranges}

@@ -4,41 +4,16 @@ use Rattle.std.specs.Prelude.{All, is_none, if◌then◌else◌}
 use Rattle.std.proofs.lemmas.Option.{same_Some}
 use Rattle.std.proofs.lemmas.Bool.{and_parts, eq-eqb}
 use Rattle.std.proofs.lemmas.List.Elements.{All-append, All-cons, All-nil, All-push, All-weaker}
-use Rattle.registry_values.specs.declared.slot.Slot.{Slot}
-use Rattle.registry_values.specs.declared.stage.Stage.{Stage}
-use Rattle.registry_values.specs.declared.stage.Stage.TheVariants.{Grace, Passive, Local, Freed}
-use Rattle.registry_values.specs.Slots.{retired_slot}
-use Rattle.protocol.specs.declared.event.Event.{Event}
-use Rattle.protocol.specs.declared.event.Event.TheVariants.{Seat, Seek, LoadRecord, Publish, Unpublish, Tell, Hear, CountAdd, SplitRef, JoinRef, CountDown, SplitBack}
-use Rattle.protocol.specs.declared.event.RecordOf.{RecordOf}
-use Rattle.protocol.specs.declared.event.Reply.{Reply}
-use Rattle.protocol.specs.declared.event.Reply.TheVariants.{Done, Ref, Word}
-use Rattle.protocol.specs.Events.{after_count_add, after_count_store, after_publish, after_snapshot, after_split, after_unpublish, is_idle, least_id, load_record, may_write, some_outcome, step}
-use Rattle.protocol.specs.Invariant.{Holds}
+use Rattle.passive_core.specs.Types.{Slot, Stage, Grace, Passive, Local, Freed, Event, Seat, Seek, LoadRecord, Publish, Unpublish, Tell, Hear, CountAdd, SplitRef, JoinRef, CountDown, SplitBack, RecordOf, Reply, Done, Ref, Word, Entry, Settings, MOST_CPUS, Live, Snapshots, Hand, Empty, Taking, Key}
+use Rattle.registry_values.specs.Common.{retired_slot, bias, no_mark, slot_at, slot_before, slot_of}
+use Rattle.protocol.specs.Common.{after_count_add, after_count_store, after_publish, after_snapshot, after_split, after_unpublish, is_idle, least_id, load_record, may_write, some_outcome, step, Holds, IsLoadOf, State, at_rest, count_at, found_at, hand_at, is_empty, search_at, section_at}
 use Rattle.protocol.proofs.keeps.SectionKeeps.{empty_from}
 use Rattle.registry_values.proofs.Fit.{ranges}
-use Rattle.registry_values.specs.Balances.{bias}
-use Rattle.registry_values.specs.Marks.{no_mark}
-use Rattle.registry_values.specs.declared.entry.Entry.{Entry}
-use Rattle.registry_values.specs.declared.settings.Settings.{Settings}
-use Rattle.registry_values.specs.declared.settings.TheConstants.{MOST_CPUS}
-use Rattle.registry_values.specs.Slots.{slot_at, slot_before, slot_of}
-use Rattle.registry_values.specs.declared.slot.Slot.TheVariants.{Live}
-use Rattle.protocol.specs.declared.state.Due.TheVariants.{Snapshots}
-use Rattle.protocol.specs.declared.state.Hand.{Hand}
-use Rattle.protocol.specs.declared.state.Hand.TheVariants.{Empty, Taking}
 use Rattle.passive_core.proofs.Attaching.{count_places, count_store_allowed, counts_first, counts_next, with_counts}
-use Rattle.passive_core.specs.Detaching.{with_all_snapshots}
+use Rattle.passive_core.specs.Common.{with_all_snapshots, all_seated, AdvanceLeaves, Settles, is_counting, local_slot, count_in, release_events, under_events, with_count_more, AdvanceMakes, IsWork, count_stores_from, detach_events, linking_events, prepare_events, snapshots_from, FindMakes, IsCollectionFor, IsLookFor, IsPassiveLookFor, IsSeat, IsWaiting, Makes, MakesOnly, seats_and, seats_from}
 use Rattle.passive_core.proofs.Detaching.{due_is, due_within, settings_by, snap_more, snapping, snapping_ends, snapping_starts}
 use Rattle.passive_core.proofs.Locals.{set_back}
-use Rattle.registry_values.specs.declared.slot.Key.{Key}
-use Rattle.protocol.specs.Laws.{IsLoadOf}
-use Rattle.protocol.specs.State.{State, at_rest, count_at, found_at, hand_at, is_empty, search_at, section_at}
-use Rattle.passive_core.specs.Commands.{all_seated}
-use Rattle.passive_core.specs.Advancing.{AdvanceLeaves, Settles}
 use Rattle.passive_core.proofs.Advancing.{is_freed, slots_again}
-use Rattle.passive_core.specs.Locals.{is_counting, local_slot, count_in, release_events, under_events, with_count_more}
-use Rattle.passive_core.specs.Making.{AdvanceMakes, IsWork, count_stores_from, detach_events, linking_events, prepare_events, snapshots_from, FindMakes, IsCollectionFor, IsLookFor, IsPassiveLookFor, IsSeat, IsWaiting, Makes, MakesOnly, seats_and, seats_from}
 use Rattle.protocol.proofs.Either.{either}
 
 pub makes_one : (s n : State) (event : Event) (r : Reply) → step s event ≡ Some (record { state = n; reply = r }) → Makes s (event ∷ []) n

@@ -1,19 +1,11 @@
 -- What the commands on passive references rest on.
 use Rattle.std.proofs.Common.{◌≡◌, ℕ, ◌+◌, ◌-◌, ◌<◌, Option, Some, None, IsSome, Bool, true, false, not, ◌&&◌, ◌||◌, nat_lt, refl, sym, ap, subst, ◌∙◌}
 use Rattle.std.proofs.lemmas.Bool.{or_cases, or_right, cases_lt, le-ltb}
-use Rattle.registry_values.specs.declared.entry.Entry.{Entry}
-use Rattle.protocol.specs.declared.event.Event.TheVariants.{PassiveAdd, PassiveSub}
-use Rattle.protocol.specs.declared.event.Reply.{Reply}
-use Rattle.protocol.specs.declared.event.Reply.TheVariants.{Word}
-use Rattle.protocol.specs.State.{State, found_at, passive_at, row_at, with_cell}
-use Rattle.protocol.specs.History.{IsAttached}
+use Rattle.passive_core.specs.Types.{Entry, PassiveAdd, PassiveSub, Reply, Word}
+use Rattle.protocol.specs.Common.{State, found_at, passive_at, row_at, with_cell, IsAttached, Outcome, is_idle, is_number, after_add, after_sub, load_passive, state_after, step, some_outcome, word, words_of, Holds, passive_in}
 use Rattle.registry_values.specs.Names.{are_name_words}
-use Rattle.registry_values.specs.Slots.{slot_of}
-use Rattle.protocol.specs.Events.{Outcome, is_idle, is_number, after_add, after_sub, load_passive, state_after, step, some_outcome, word, words_of}
-use Rattle.protocol.specs.Invariant.{Holds}
-use Rattle.passive_core.specs.Commands.{all_seated, may_act}
-use Rattle.protocol.specs.Picture.{passive_in}
-use Rattle.passive_core.specs.Passives.{IsOneLess, IsOneMore, passive_of, with_one_more, with_one_less}
+use Rattle.registry_values.specs.Common.{slot_of}
+use Rattle.passive_core.specs.Common.{all_seated, may_act, IsOneLess, IsOneMore, passive_of, with_one_more, with_one_less}
 use Rattle.protocol.proofs.slots.Numbers.{entry_attached, occupied_slot}
 use Rattle.protocol.proofs.keeps.Passive.{found_number}
 use Rattle.protocol.proofs.model.RefiningReferences.{passive_put}

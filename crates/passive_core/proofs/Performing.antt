@@ -3,18 +3,10 @@ use Rattle.std.proofs.Common.{◌≡◌, ℕ, ◌+◌, ◌%◌, ◌<◌, inr, Li
 use Rattle.std.specs.Prelude.{is_some}
 use Rattle.std.proofs.lemmas.Bool.{cases_eq, eq-eqb}
 use Rattle.std.proofs.lemmas.Option.{same_Some}
-use Rattle.registry_values.specs.declared.entry.Entry.{Entry}
-use Rattle.registry_values.specs.declared.mark.Mark.{Mark}
-use Rattle.registry_values.specs.declared.slot.Slot.{Slot}
-use Rattle.registry_values.specs.declared.slot.Slot.TheVariants.{Vacant, Retired}
-use Rattle.protocol.specs.Marking.{AllPassed}
-use Rattle.passive_core.specs.Advancing.{MarksPass, Passes, is_open_since, is_snapshot}
-use Rattle.registry_values.specs.Slots.{is_retired_as, retired_slot, retired_number, is_retired, slot_at}
-use Rattle.registry_values.specs.Marks.{least_below, is_out, no_mark}
-use Rattle.protocol.specs.Events.{is_inside}
-use Rattle.protocol.specs.Invariant.{Holds}
-use Rattle.passive_core.specs.Performing.{AllOutside, OnlyPasses}
-use Rattle.protocol.specs.State.{State, begin_at, mark_at, section_at}
+use Rattle.passive_core.specs.Types.{Entry, Mark, Slot, Vacant, Retired}
+use Rattle.protocol.specs.Common.{AllPassed, is_inside, Holds, State, begin_at, mark_at, section_at}
+use Rattle.passive_core.specs.Common.{MarksPass, Passes, is_open_since, is_snapshot, AllOutside, OnlyPasses}
+use Rattle.registry_values.specs.Common.{is_retired_as, retired_slot, retired_number, is_retired, slot_at, least_below, is_out, no_mark}
 use Rattle.registry_values.proofs.Least.{none_below}
 use Rattle.passive_core.proofs.Advancing.{only_marks, passes_none}
 use Rattle.registry_values.proofs.Slots.{retired_slot_tells}

@@ -1,23 +1,9 @@
 -- How far the destruction of a retired entry has come, in plain terms, and what the keeper's work on it leaves.
 use Rattle.std.specs.Prelude.{◌≡◌, ◌<◌, ℕ, ◌+◌, ◌==◌, nat_lt, List, Option, Some, None, Bool, true, false, ◌&&◌, Result, Ok, Err, slice_set}
-use Rattle.registry_values.specs.declared.entry.Entry.{Entry}
-use Rattle.registry_values.specs.declared.refusal.Refusal.{Refusal}
-use Rattle.registry_values.specs.declared.refusal.Refusal.TheVariants.{StillHeld}
-use Rattle.registry_values.specs.declared.stage.Stage.{Stage}
-use Rattle.registry_values.specs.declared.stage.Stage.TheVariants.{Grace, Passive, Local, Freed}
-use Rattle.registry_values.specs.declared.mark.Mark.{Mark}
-use Rattle.registry_values.specs.declared.slot.Slot.{Slot}
-use Rattle.registry_values.specs.declared.slot.Slot.TheVariants.{Vacant, Retired}
-use Rattle.protocol.specs.History.{MayHold}
-use Rattle.protocol.specs.State.{State, section_at, begin_at, mark_at, passive_at, count_at, total_at, kept_at}
-use Rattle.registry_values.specs.Balances.{bias}
-use Rattle.registry_values.specs.Slots.{slot_at, has_number, retired_slot}
-use Rattle.protocol.specs.Events.{is_inside}
-use Rattle.protocol.specs.Invariant.{held_at, one_if}
-use Rattle.protocol.specs.Marking.{AllClear, AllCollected, AllPassed, MarksGrow, SameElsewhere}
-use Rattle.registry_values.specs.Marks.{least_below}
+use Rattle.passive_core.specs.Types.{Entry, Refusal, StillHeld, Stage, Grace, Passive, Local, Freed, Mark, Slot, Vacant, Retired}
+use Rattle.protocol.specs.Common.{MayHold, State, section_at, begin_at, mark_at, passive_at, count_at, total_at, kept_at, is_inside, held_at, one_if, AllClear, AllCollected, AllPassed, MarksGrow, SameElsewhere}
+use Rattle.registry_values.specs.Common.{bias, slot_at, has_number, retired_slot, least_below, stage_of}
 use Rattle.registry_values.specs.Stages as stages
-use Rattle.registry_values.specs.Stages.{stage_of}
 
 -- the word is that of the snapshot
 abbrev pub is_snapshot : Option ℕ → ℕ → Bool

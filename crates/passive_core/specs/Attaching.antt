@@ -1,18 +1,11 @@
 -- What an attach answers, and what it leaves.
 use Rattle.std.specs.Prelude.{◌≡◌, ℕ, List, [], Option, Some, None, Bool, false, not, ◌⊎◌, Result, Ok, Err, slice_index_or, slice_set}
-use Rattle.registry_values.specs.declared.entry.Entry.{Entry}
-use Rattle.registry_values.specs.declared.entry.Record.{Record}
-use Rattle.registry_values.specs.declared.refusal.Refusal.{Refusal}
-use Rattle.registry_values.specs.declared.refusal.Refusal.TheVariants.{NoMemory}
-use Rattle.protocol.specs.declared.state.LocalPlace.{LocalPlace}
-use Rattle.protocol.specs.declared.state.LocalPlace.TheVariants.{Free}
+use Rattle.passive_core.specs.Types.{Entry, Record, Refusal, NoMemory, LocalPlace, Free, Slot}
 use Rattle.passive_core.specs.declared.machine.commands.attach.Before.{Before}
-use Rattle.registry_values.specs.declared.slot.Slot.{Slot}
 use Rattle.passive_core.specs.Commands.{all_seated}
-use Rattle.protocol.specs.Events.{is_inside, is_driver_slot, number_standing, words_of, room_of, after_seeing, after_publish}
+use Rattle.protocol.specs.Common.{is_inside, is_driver_slot, number_standing, words_of, room_of, after_seeing, after_publish, State, row_at, local_at, with_biases}
 use Rattle.registry_values.specs.Answers as answers
-use Rattle.registry_values.specs.Slots.{is_iface, is_taken, slot_of, slot_at, key_of_record}
-use Rattle.protocol.specs.State.{State, row_at, local_at, with_biases}
+use Rattle.registry_values.specs.Common.{is_iface, is_taken, slot_of, slot_at, key_of_record}
 
 abbrev pub first_fit : State → Option ℕ
 first_fit s = answers.first_fit s.slots s.keeps

@@ -1,12 +1,8 @@
 -- What an audit of the counts answers (localcount(9)).
 use Rattle.std.specs.Prelude.{◌≡◌, ℕ, zero, suc, ℤ, pos, ◌+ℤ◌, map, take, List, [], ◌∷◌, ◌++◌, slice_index_or}
-use Rattle.registry_values.specs.declared.entry.Entry.{Entry}
-use Rattle.registry_values.specs.declared.slot.Slot.{Slot}
-use Rattle.registry_values.specs.declared.slot.Slot.TheVariants.{Vacant, Live, Retired}
-use Rattle.protocol.specs.State.{State, total_at}
-use Rattle.registry_values.specs.Slots.{slot_at}
-use Rattle.protocol.specs.Invariant.{IsIn, held_at}
-use Rattle.registry_values.specs.Balances.{Tally, less_bias, local_of, sum_of}
+use Rattle.passive_core.specs.Types.{Entry, Slot, Vacant, Live, Retired}
+use Rattle.protocol.specs.Common.{State, total_at, IsIn, held_at}
+use Rattle.registry_values.specs.Common.{slot_at, Tally, less_bias, local_of, sum_of}
 
 abbrev pub locals_at : State → ℕ → List ℤ
 locals_at s t = map local_of (take s.settings.cpus (slice_index_or s.counts t []))

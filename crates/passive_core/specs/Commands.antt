@@ -1,7 +1,6 @@
 -- What commands begin with.
 use Rattle.std.specs.Prelude.{◌≡◌, ℕ, Bool, true, not, ◌||◌, nat_lt}
-use Rattle.protocol.specs.State.{State, at_rest}
-use Rattle.protocol.specs.Events.{is_idle}
+use Rattle.protocol.specs.Common.{State, at_rest, is_idle}
 
 -- a command may be given to a CPU that is idle or not yet seated
 abbrev pub may_act : State → ℕ → Bool

@@ -1,17 +1,9 @@
 -- What a detach answers, and what it leaves.
 use Rattle.std.specs.Prelude.{◌≡◌, ℕ, ◌-◌, List, ◌++◌, map, length, replicate, Option, Some, None, Result, Ok, Err, true, false, slice_set}
-use Rattle.registry_values.specs.declared.settings.TheConstants.{MOST_CPUS}
-use Rattle.registry_values.specs.declared.entry.Entry.{Entry}
-use Rattle.registry_values.specs.declared.refusal.Refusal.{Refusal}
-use Rattle.registry_values.specs.declared.refusal.Refusal.TheVariants.{NoMemory, Inside, NotFound}
-use Rattle.protocol.specs.declared.state.Due.TheVariants.{Rest}
-use Rattle.registry_values.specs.declared.slot.Key.{Key}
-use Rattle.registry_values.specs.declared.mark.Mark.{Mark}
+use Rattle.passive_core.specs.Types.{MOST_CPUS, Entry, Refusal, NoMemory, Inside, NotFound, Rest, Key, Mark}
 use Rattle.passive_core.specs.Commands.{all_seated}
-use Rattle.protocol.specs.Events.{is_inside, after_seeing, after_unpublish, snapshot_mark}
-use Rattle.protocol.specs.History.{IsLookup}
-use Rattle.protocol.specs.State.{State}
-use Rattle.registry_values.specs.Marks.{no_mark}
+use Rattle.protocol.specs.Common.{is_inside, after_seeing, after_unpublish, snapshot_mark, IsLookup, State}
+use Rattle.registry_values.specs.Common.{no_mark}
 
 -- of each CPU its section word as the snapshot, and no marks
 abbrev pub snapshot_row : State → List Mark

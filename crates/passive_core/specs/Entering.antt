@@ -1,10 +1,9 @@
 -- What the commands that begin and end sections answer, and what they leave.
 use Rattle.std.specs.Prelude.{ℕ, ◌+◌, ◌-◌, ◌*◌, ◌==◌, nat_lt, Bool, if◌then◌else◌, Result, is_ok, slice_set}
-use Rattle.registry_values.specs.declared.refusal.Refusal.{Refusal}
+use Rattle.passive_core.specs.Types.{Refusal}
 use Rattle.registry_values.specs.Answers as answers
 use Rattle.passive_core.specs.Commands.{all_seated}
-use Rattle.protocol.specs.Events.{is_inside, is_outside, after_enter, after_exit}
-use Rattle.protocol.specs.State.{State, section_at, depth_at}
+use Rattle.protocol.specs.Common.{is_inside, is_outside, after_enter, after_exit, State, section_at, depth_at}
 
 -- the CPU has begun fewer outermost sections than it may
 abbrev pub may_begin : State → ℕ → Bool

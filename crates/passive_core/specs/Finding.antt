@@ -1,11 +1,7 @@
 -- What a lookup leaves.
 use Rattle.std.specs.Prelude.{ℕ, Option, length, slice_set}
-use Rattle.registry_values.specs.declared.entry.Entry.{Entry}
-use Rattle.protocol.specs.declared.state.SearchPlace.{SearchPlace}
-use Rattle.protocol.specs.declared.state.SearchPlace.TheVariants.{AtHead, AtNext, AtNumber, AtKind, AtHigh, AtLow, AtValue}
-use Rattle.protocol.specs.declared.state.Search.{Search}
-use Rattle.protocol.specs.State.{State}
-use Rattle.protocol.specs.Events.{Outcome, with_some, load_link, load_searched}
+use Rattle.passive_core.specs.Types.{Entry, SearchPlace, AtHead, AtNext, AtNumber, AtKind, AtHigh, AtLow, AtValue, Search}
+use Rattle.protocol.specs.Common.{State, Outcome, with_some, load_link, load_searched}
 
 -- the whole history is seen, and the answer is the last found entry
 abbrev pub after_find : State → ℕ → Option Entry → State

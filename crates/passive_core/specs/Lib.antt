@@ -2,6 +2,7 @@ pub mod Advancing
 pub mod Attaching
 pub mod Audits
 pub mod Commands
+pub mod Common
 pub mod Detaching
 pub mod Entering
 pub mod Finding
@@ -11,3 +12,4 @@ pub mod Passives
 pub mod Performing
 pub mod Sameness
 pub mod Shown
+pub mod Types

@@ -1,18 +1,9 @@
 -- What the commands on local references answer and leave (localcount(9)).
 use Rattle.std.specs.Prelude.{◌≡◌, ℕ, ◌+◌, ◌-◌, nat_lt, List, [], ◌∷◌, ◌++◌, Option, Some, None, is_some, Bool, position, Result, Ok, Err, if◌then◌else◌, slice_set}
-use Rattle.registry_values.specs.declared.entry.Entry.{Entry}
-use Rattle.registry_values.specs.declared.refusal.Refusal.{Refusal}
-use Rattle.registry_values.specs.declared.refusal.Refusal.TheVariants.{NoMemory, NothingFound}
-use Rattle.protocol.specs.declared.event.Event.{Event}
-use Rattle.protocol.specs.declared.event.Event.TheVariants.{JoinRef, CountDown, SplitBack, JoinKeeper, TotalSub}
-use Rattle.protocol.specs.declared.state.LocalPlace.{LocalPlace}
-use Rattle.protocol.specs.declared.state.LocalPlace.TheVariants.{Free, Standing}
-use Rattle.registry_values.specs.declared.slot.Slot.{Slot}
-use Rattle.protocol.specs.State.{State, with_cell, count_at, total_at, found_at, local_at}
+use Rattle.passive_core.specs.Types.{Entry, Refusal, NoMemory, NothingFound, Event, JoinRef, CountDown, SplitBack, JoinKeeper, TotalSub, LocalPlace, Free, Standing, Slot}
+use Rattle.protocol.specs.Common.{State, with_cell, count_at, total_at, found_at, local_at, is_free, least_id, number_standing, with_local}
 use Rattle.registry_values.specs.Answers as answers
-use Rattle.registry_values.specs.Balances.{bias}
-use Rattle.registry_values.specs.Slots.{slot_of}
-use Rattle.protocol.specs.Events.{is_free, least_id, number_standing, with_local}
+use Rattle.registry_values.specs.Common.{bias, slot_of}
 use Rattle.passive_core.specs.Commands.{all_seated}
 
 -- the count word of c, or its net count word, for what stands in that slot

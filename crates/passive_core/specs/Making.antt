@@ -1,19 +1,8 @@
 -- The events that a command makes, one after the other.
 use Rattle.std.specs.Prelude.{◌≡◌, ℕ, zero, suc, ◌+◌, ◌-◌, ◌⊎◌, List, [], ◌∷◌, ◌++◌, All, Option, Some, None, Result, Ok, Err}
-use Rattle.registry_values.specs.declared.entry.Entry.{Entry}
-use Rattle.registry_values.specs.declared.refusal.Refusal.{Refusal}
-use Rattle.registry_values.specs.declared.refusal.Refusal.TheVariants.{StillHeld}
-use Rattle.registry_values.specs.declared.stage.Stage.{Stage}
-use Rattle.registry_values.specs.declared.stage.Stage.TheVariants.{Grace, Passive, Local, Freed}
-use Rattle.registry_values.specs.Balances.{bias}
-use Rattle.registry_values.specs.Slots.{kind_word, retired_slot}
-use Rattle.protocol.specs.declared.event.Event.{Event}
-use Rattle.protocol.specs.declared.event.Event.TheVariants.{Seat, Seek, LoadRecord, StoreSlot, StoreNext, Publish, Unpublish, Tell, Hear, Snapshot, Look, PassiveLook, Collect, TotalAdd, Keep, KeptSub, Vacate}
-use Rattle.protocol.specs.declared.event.RecordOf.{RecordOf}
-use Rattle.registry_values.specs.declared.slot.Key.{Key}
-use Rattle.protocol.specs.Laws.{IsLoadOf}
-use Rattle.protocol.specs.State.{State}
-use Rattle.protocol.specs.Events.{Outcome, step}
+use Rattle.passive_core.specs.Types.{Entry, Refusal, StillHeld, Stage, Grace, Passive, Local, Freed, Event, Seat, Seek, LoadRecord, StoreSlot, StoreNext, Publish, Unpublish, Tell, Hear, Snapshot, Look, PassiveLook, Collect, TotalAdd, Keep, KeptSub, Vacate, RecordOf, Key}
+use Rattle.registry_values.specs.Common.{bias, kind_word, retired_slot}
+use Rattle.protocol.specs.Common.{IsLoadOf, State, Outcome, step}
 
 -- Each event is allowed once those before it were made, and new is what they leave of old.
 abbrev pub Makes : State → List Event → State → Type 0

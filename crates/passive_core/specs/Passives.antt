@@ -1,20 +1,9 @@
 -- What the commands on passive references answer and leave (psref(9)).
 use Rattle.std.specs.Prelude.{◌≡◌, ℕ, ◌+◌, ◌-◌, ◌==◌, nat_lt, List, Option, Some, None, Result, Ok, Err}
-use Rattle.registry_values.specs.declared.entry.Entry.{Entry}
-use Rattle.registry_values.specs.declared.entry.Change.{Change}
-use Rattle.registry_values.specs.declared.entry.Record.{Record}
-use Rattle.protocol.specs.declared.event.RecordOf.{RecordOf}
-use Rattle.protocol.specs.declared.event.Reply.TheVariants.{Word}
+use Rattle.passive_core.specs.Types.{Entry, Change, Record, RecordOf, Word, Refusal, NothingFound}
 use Rattle.passive_core.specs.declared.psref.CorePsref.{CorePsref}
-use Rattle.registry_values.specs.declared.refusal.Refusal.{Refusal}
-use Rattle.registry_values.specs.declared.refusal.Refusal.TheVariants.{NothingFound}
-use Rattle.protocol.specs.History.{IsAttached}
-use Rattle.protocol.specs.State.{State}
-use Rattle.registry_values.specs.Answers.{unless, why_full, why_unusable}
-use Rattle.registry_values.specs.Slots.{slot_of}
-use Rattle.protocol.specs.Events.{after_add, after_sub, load_record, some_outcome}
-use Rattle.protocol.specs.Model.{put}
-use Rattle.protocol.specs.Picture.{passive_in}
+use Rattle.protocol.specs.Common.{IsAttached, State, after_add, after_sub, load_record, some_outcome, put, passive_in}
+use Rattle.registry_values.specs.Common.{unless, why_full, why_unusable, slot_of}
 use Rattle.passive_core.specs.Commands.{all_seated}
 
 -- how many passive references the CPU c has to the entry n

@@ -1,15 +1,11 @@
 -- Waiting until each section that was open has ended (pserialize(9)): the answer, and what it leaves.
 use Rattle.std.specs.Prelude.{◌≡◌, ℕ, ◌<◌, List, [], Bool, true, false, not, Result, Ok, Err, slice_index_or}
-use Rattle.registry_values.specs.declared.refusal.Refusal.{Refusal}
-use Rattle.registry_values.specs.declared.refusal.Refusal.TheVariants.{Waiting}
-use Rattle.protocol.specs.State.{State, section_at, mark_at}
-use Rattle.registry_values.specs.Slots.{slot_at, is_retired}
-use Rattle.protocol.specs.Events.{is_inside}
+use Rattle.passive_core.specs.Types.{Refusal, Waiting}
+use Rattle.protocol.specs.Common.{State, section_at, mark_at, is_inside, AllPassed}
+use Rattle.registry_values.specs.Common.{slot_at, is_retired, least_below}
 use Rattle.passive_core.specs.Commands.{all_seated}
-use Rattle.protocol.specs.Marking.{AllPassed}
 use Rattle.passive_core.specs.Advancing.{Passes}
 use Rattle.registry_values.specs.Answers as answers
-use Rattle.registry_values.specs.Marks.{least_below}
 
 -- The answer of perform: whether the caller is inside a section, else the least CPU that is.
 abbrev pub perform_answer : State → ℕ → Result (Unit {0}) Refusal

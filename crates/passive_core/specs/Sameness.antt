@@ -1,6 +1,6 @@
 -- Which parts two states have in common.
 use Rattle.std.specs.Prelude.{◌≡◌}
-use Rattle.protocol.specs.State.{State}
+use Rattle.protocol.specs.Common.{State}
 
 -- the list, what stands in its slots, their marks, and the history
 pub record HaveSameSlots (s t : State) : Type 0 where

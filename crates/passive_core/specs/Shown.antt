@@ -1,6 +1,6 @@
 -- The state that a core shows.
 use Rattle.passive_core.specs.declared.machine.Core.TheInside.{Inside}
-use Rattle.protocol.specs.State.{State}
+use Rattle.protocol.specs.Common.{State}
 
 abbrev pub state_shown : Inside → State
 state_shown a = record {

@@ -13,9 +13,8 @@ mod search;
 mod sections;
 
 ghost use Rattle.std.specs.Prelude.{◌≡◌, ◌↔◌, ◌++◌, ◌∷◌, ◌<◌, ◌≤◌, [], IfOk, IfErr, IsErrOf, IsTrue, OnErr, OnOk, false, replicate, vec_capacity, vec_len};
-ghost use Rattle.registry_values.specs.Limits.{are_fit};
-ghost use Rattle.registry_values.specs.Refusals.{IsRefusalOfNew};
-ghost use Rattle.protocol.specs.State.{opening};
+ghost use Rattle.registry_values.specs.Common.{are_fit, IsRefusalOfNew};
+ghost use Rattle.protocol.specs.Common.{opening};
 ghost use Rattle.passive_core.specs.Commands.{IsQuiet};
 
 use protocol::{Due, Hand, LocalPlace, RecordWords, Search, StepFault};
@@ -61,12 +60,12 @@ pub struct Core {
 }
 
 impl Model for Core {
-    ghost use Rattle.protocol.specs.State.{State};
+    ghost use Rattle.protocol.specs.Common.{State};
 
     ghost Value = { State };
 
     ghost use Rattle.passive_core.specs.Shown.{state_shown};
-    ghost use Rattle.protocol.specs.Invariant.{Holds};
+    ghost use Rattle.protocol.specs.Common.{Holds};
 
     ghost view = { state_shown };
 

@@ -5,30 +5,17 @@ use Rattle.std.proofs.lemmas.Option.{none-some}
 use Rattle.std.specs.List.{Contains}
 use mathlib.Core.List.{IsPrefix}
 use Rattle.atomic_table.specs.Seated.{TableId}
-use Rattle.registry_values.specs.declared.entry.Entry.{Entry}
-use Rattle.registry_values.specs.declared.entry.Change.{Change}
-use Rattle.registry_values.specs.declared.entry.Change.TheVariants.{Attach}
-use Rattle.registry_values.specs.declared.settings.Settings.{Settings}
-use Rattle.registry_values.specs.Limits.{are_fit}
-use Rattle.protocol.specs.History.{IsAttached}
-use Rattle.registry_values.specs.Balances.{bias}
+use Rattle.passive_list.specs.Types.{Entry, Change, Attach, Settings, CpuView, Key, MOST_SLOTS, Search}
+use Rattle.registry_values.specs.Common.{are_fit, bias}
+use Rattle.protocol.specs.Common.{IsAttached}
 use Rattle.registry_values.proofs.Fit.{ranges}
 use Rattle.protocol.proofs.slots.Cells.{get_or_all}
 use Rattle.protocol.proofs.slots.Occupied.{in_within}
 use Rattle.protocol.proofs.history.History.{at_within}
-use Rattle.cpu_words.specs.declared.view.CpuView.{CpuView}
-use Rattle.cpu_words.specs.Rule.{IsShownCpu}
-use Rattle.cpu_words.specs.Views.{number_at, references_to, depth_of, new_cpu}
-use Rattle.cpu_words.specs.Sections.{HasEntered, HasExited}
+use Rattle.cpu_words.specs.Common.{IsShownCpu, number_at, references_to, depth_of, new_cpu, HasEntered, HasExited}
 use Rattle.cpu_words.proofs.shown.CpusShown.{found_is_in, new_cpu_is_shown}
 use Rattle.cpu_words.proofs.shown.Passes.{attached_prefix}
-use Rattle.passive_list.specs.declared.place.Found.{Found}
-use Rattle.passive_list.specs.declared.place.NumberedCount.{NumberedCount}
-use Rattle.registry_values.specs.declared.slot.Key.{Key}
-use Rattle.registry_values.specs.declared.settings.TheConstants.{MOST_SLOTS}
-use Rattle.protocol.specs.declared.state.Search.{Search}
-use Rattle.passive_list.specs.Walking.{HasLookedUp}
-use Rattle.passive_list.specs.Cpus.{no_place, no_found, place_at, PassiveAgree, NetAgree, DepthAgrees, SectionAgrees, IsKept, HoldsFound, IsOurCpu}
+use Rattle.passive_list.specs.Common.{Found, NumberedCount, HasLookedUp, no_place, no_found, place_at, PassiveAgree, NetAgree, DepthAgrees, SectionAgrees, IsKept, HoldsFound, IsOurCpu}
 
 -- each place of a new CPU is of no entry
 blank_number : (t : ℕ) → (place_at (replicate MOST_SLOTS no_place) t).number ≡ 0

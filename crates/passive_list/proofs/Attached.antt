@@ -3,37 +3,17 @@ use Rattle.std.proofs.Common.{◌≡◌, inl, ℕ, zero, suc, ◌+◌, ◌<◌, 
 use Rattle.std.proofs.lemmas.List.Folds.{list_any_at}
 use Rattle.std.proofs.lemmas.List.Sums.{sum_by-cons}
 use Rattle.atomic_table.specs.Seated.{TableId}
-use Rattle.registry_values.specs.declared.entry.Change.{Change}
-use Rattle.registry_values.specs.declared.entry.Change.TheVariants.{Attach}
-use Rattle.registry_values.specs.declared.entry.Entry.{Entry}
-use Rattle.registry_values.specs.declared.entry.Kind.{Kind}
-use Rattle.registry_values.specs.declared.entry.Kind.TheVariants.{Iface, Driver}
-use Rattle.registry_values.specs.declared.entry.Record.{Record}
-use Rattle.registry_values.specs.declared.settings.Settings.{Settings}
-use Rattle.registry_values.specs.declared.slot.Key.{Key}
-use Rattle.registry_values.specs.declared.slot.Slot.{Slot}
-use Rattle.registry_values.specs.declared.slot.Slot.TheVariants.{Vacant, Live, Retired}
-use Rattle.protocol.specs.State.{with_biases, no_words, row_at as words_at, kept_at}
-use Rattle.registry_values.specs.Slots.{key_of_record, key_of, is_live, is_live_as, is_taken, kind_word, live_count, same_key, slot_at}
-use Rattle.protocol.specs.Events.{entry_if, entry_of, keeps_rightly, kind_of, words_of}
-use Rattle.protocol.specs.History.{after_change}
-use Rattle.protocol.specs.Invariant.{one_if}
-use Rattle.registry_values.specs.Names.{is_lawful}
+use Rattle.passive_list.specs.Types.{Change, Attach, Entry, Kind, Iface, Driver, Record, Settings, Key, Slot, Vacant, Live, Retired, KeeperView, LogItem}
+use Rattle.protocol.specs.Common.{with_biases, no_words, kept_at, entry_if, entry_of, keeps_rightly, kind_of, words_of, after_change, one_if}
+use Rattle.protocol.specs.State.{row_at as words_at}
+use Rattle.registry_values.specs.Common.{key_of_record, key_of, is_live, is_live_as, is_taken, kind_word, live_count, same_key, slot_at, is_lawful}
 use Rattle.protocol.proofs.slots.Cells.{slot_here, slot_other}
 use Rattle.registry_values.proofs.Fit.{ranges}
 use Rattle.protocol.proofs.history.History.{length-after_change}
 use Rattle.protocol.proofs.keeps.ListKeeps.{live_count_set, rows_put}
 use Rattle.protocol.proofs.slots.Occupied.{in_within}
-use Rattle.cpu_words.specs.declared.view.KeeperView.{KeeperView}
-use Rattle.cpu_words.specs.declared.view.LogItem.{LogItem}
-use Rattle.cpu_words.specs.KeeperLog.{IsAttachedKeeping}
-use Rattle.cpu_words.specs.Publishing.{LeadsBelow, MayPublish, HasPublished}
-use Rattle.cpu_words.specs.Publishing.LeadsBelow.{To_end, To_slot}
-use Rattle.cpu_words.specs.Rule.{IsShown}
-use Rattle.cpu_words.specs.Vacating.{MayWrite}
-use Rattle.passive_list.specs.declared.keeper.KeptSlot.{KeptSlot}
-use Rattle.passive_list.specs.Keepers.{OnPlainKeeper, on_keeper, row_at, states_of, IsAtRest, RowsAgree, IsOurKeeper}
-use Rattle.passive_list.specs.Publishing.{keeper_after_stores, keeper_after_publish, MayAttach}
+use Rattle.cpu_words.specs.Common.{IsAttachedKeeping, LeadsBelow, MayPublish, HasPublished, To_end, To_slot, IsShown, MayWrite}
+use Rattle.passive_list.specs.Common.{KeptSlot, OnPlainKeeper, on_keeper, row_at, states_of, IsAtRest, RowsAgree, IsOurKeeper, keeper_after_stores, keeper_after_publish, MayAttach}
 use Rattle.passive_list.proofs.Rows.{state_at, live_in, row_stays, rows_set}
 use Rattle.passive_list.proofs.Preparing.{biases_size, bias_stored}
 

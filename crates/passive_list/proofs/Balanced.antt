@@ -1,18 +1,9 @@
 -- What the keeper's view says of totals: of each good state of the core that shows it, or where there is one (`IsShown`).
 use Rattle.std.proofs.Common.{◌≡◌, inr, ⊎_elim, ℕ, ◌+◌, ◌*◌, ◌^◌, ◌<◌, ◌≤◌, List, [], length, get_or, Option, Some, true, refl, sym, ap, ◌∙◌, subst, arith}
 use Rattle.std.proofs.lemmas.Bool.{cases_lt}
-use Rattle.registry_values.specs.declared.entry.Entry.{Entry}
-use Rattle.registry_values.specs.declared.settings.Settings.{Settings}
-use Rattle.registry_values.specs.declared.settings.TheConstants.{MOST_CPUS}
-use Rattle.protocol.specs.declared.state.Due.{Due}
-use Rattle.protocol.specs.declared.state.Due.TheVariants.{Rest, Adding, Subtracting}
-use Rattle.registry_values.specs.declared.slot.Slot.{Slot}
-use Rattle.registry_values.specs.declared.slot.Slot.TheVariants.{Retired}
-use Rattle.protocol.specs.Invariant.{IsIn, Balances, held_at, addition_due_at, is_adding_at, subtraction_due_at, greatest_limit}
-use Rattle.registry_values.specs.Slots.{slot_of, slot_at}
-use Rattle.registry_values.specs.Marks.{are_collected}
-use Rattle.protocol.specs.State.{State, total_at, kept_at}
-use Rattle.registry_values.specs.Balances.{bias}
+use Rattle.passive_list.specs.Types.{Entry, Settings, MOST_CPUS, Due, Rest, Adding, Subtracting, Slot, Retired, KeeperView}
+use Rattle.protocol.specs.Common.{IsIn, Balances, held_at, addition_due_at, is_adding_at, subtraction_due_at, greatest_limit, State, total_at, kept_at}
+use Rattle.registry_values.specs.Common.{slot_of, slot_at, are_collected, bias}
 use Rattle.protocol.proofs.counts.Balancing.{all_collected}
 use Rattle.protocol.proofs.counts.Bounds.{adding_range}
 use Rattle.protocol.proofs.counts.CountBounds.{collected_at, total_range}
@@ -21,10 +12,7 @@ use Rattle.protocol.proofs.counts.Held.{held_kept}
 use Rattle.protocol.proofs.counts.HeldSums.{one_self}
 use Rattle.protocol.proofs.slots.Occupied.{in_within, slot_has}
 use Rattle.protocol.proofs.keeps.References.{due_subtracting}
-use Rattle.cpu_words.specs.declared.view.KeeperView.{KeeperView}
-use Rattle.cpu_words.specs.Draining.{row_of}
-use Rattle.cpu_words.specs.Rule.{Good, IsShown}
-use Rattle.cpu_words.specs.Views.{KeeperShown}
+use Rattle.cpu_words.specs.Common.{row_of, Good, IsShown, KeeperShown}
 use Rattle.cpu_words.proofs.by_keeper.KeeperSees.{seen_by_keeper}
 
 -- Of one state

@@ -2,32 +2,16 @@
 use Rattle.std.proofs.Common.{◌≡◌, ℕ, ◌+◌, ◌-◌, ◌^◌, ◌<◌, ◌≤◌, List, [], ◌++◌, length, get_or, set, true, refl, sym, ap, ◌∙◌, subst, arith, length-set, get_or-set_same, get_or-set_other}
 use Rattle.std.proofs.Math.Seq.{map-set_same}
 use Rattle.atomic_table.specs.Seated.{TableId}
-use Rattle.registry_values.specs.declared.entry.Entry.{Entry}
-use Rattle.protocol.specs.declared.event.Event.TheVariants.{Collect, TotalAdd}
-use Rattle.protocol.specs.declared.event.Reply.TheVariants.{Done, Word}
-use Rattle.registry_values.specs.declared.settings.Settings.{Settings}
-use Rattle.protocol.specs.declared.state.Due.TheVariants.{Rest}
-use Rattle.registry_values.specs.declared.mark.Mark.{Mark}
-use Rattle.registry_values.specs.declared.slot.Slot.TheVariants.{Vacant, Retired}
-use Rattle.registry_values.specs.Marks.{mark_after_collect, are_collected, no_mark}
-use Rattle.registry_values.specs.Balances.{bias}
-use Rattle.registry_values.specs.Slots.{slot_at}
-use Rattle.protocol.specs.State.{total_at}
+use Rattle.passive_list.specs.Types.{Entry, Collect, TotalAdd, Done, Word, Settings, Rest, Mark, Vacant, Retired, MOST_CPUS, MOST_SLOTS, KeeperView, LogItem, Keeper}
+use Rattle.registry_values.specs.Common.{mark_after_collect, are_collected, no_mark, bias, slot_at}
+use Rattle.protocol.specs.Common.{total_at}
 use Rattle.protocol.proofs.slots.Cells.{total_here, total_other}
 use Rattle.registry_values.proofs.Fit.{ranges}
-use Rattle.registry_values.specs.declared.settings.TheConstants.{MOST_CPUS, MOST_SLOTS}
 use Rattle.protocol.proofs.keeps.ListKeeps.{rows_put}
-use Rattle.cpu_words.specs.declared.view.KeeperView.{KeeperView}
-use Rattle.cpu_words.specs.declared.view.LogItem.{LogItem}
-use Rattle.cpu_words.specs.declared.view.View.TheVariants.{Keeper}
-use Rattle.cpu_words.specs.Draining.{row_of, HasCollected, MayTotalAdd, HasAdded}
-use Rattle.cpu_words.specs.Rule.{IsShown, did}
-use Rattle.cpu_words.specs.Steps.{Makes}
+use Rattle.cpu_words.specs.Common.{row_of, HasCollected, MayTotalAdd, HasAdded, IsShown, did, Makes}
 use Rattle.cpu_words.proofs.shown.KeepersShown.{step_is_shown}
-use Rattle.passive_list.specs.declared.keeper.KeptSlot.{KeptSlot}
-use Rattle.passive_list.specs.Keepers.{OnKeeper, OnPlainKeeper, on_keeper, no_row, row_at, state_of, states_of, IsAtRest, RowsAgree, IsOurKeeper}
+use Rattle.passive_list.specs.Common.{KeptSlot, OnKeeper, OnPlainKeeper, on_keeper, no_row, row_at, state_of, states_of, IsAtRest, RowsAgree, IsOurKeeper, keeper_after_collect, HasCollectedInto, AreHeld}
 use Rattle.passive_list.proofs.Rows.{state_at, not_vacant_within, retired_in, row_stays, rows_set}
-use Rattle.passive_list.specs.Draining.{keeper_after_collect, HasCollectedInto, AreHeld}
 use Rattle.passive_list.proofs.Balanced.{none_at_rest, total_collected, bias_within, adding_fits}
 
 -- The marks and the total of one slot change

@@ -1,24 +1,13 @@
 -- An entry is retired: the keeper may unlink it, and what it has agrees with what its seat knows then.
 use Rattle.std.proofs.Common.{◌≡◌, ℕ, ◌+◌, ◌<◌, List, [], length, set, replicate, Option, Some, None, refl, sym, ap, ◌∙◌, subst, arith, get_or-set_same, get_or-set_other, length-set}
-use Rattle.registry_values.specs.declared.entry.Change.TheVariants.{Detach}
-use Rattle.registry_values.specs.declared.entry.Entry.{Entry}
-use Rattle.registry_values.specs.declared.settings.Settings.{Settings}
-use Rattle.registry_values.specs.declared.mark.Mark.{Mark}
-use Rattle.registry_values.specs.declared.slot.Slot.{Slot}
-use Rattle.registry_values.specs.declared.slot.Slot.TheVariants.{Vacant, Live, Retired}
-use Rattle.registry_values.specs.Slots.{live_count, slot_at}
-use Rattle.registry_values.specs.Marks.{no_mark}
+use Rattle.passive_list.specs.Types.{Detach, Entry, Settings, Mark, Slot, Vacant, Live, Retired, MOST_CPUS, KeeperView}
+use Rattle.registry_values.specs.Common.{live_count, slot_at, no_mark}
 use Rattle.protocol.proofs.slots.Cells.{slot_here, slot_other}
 use Rattle.registry_values.proofs.Fit.{ranges}
-use Rattle.registry_values.specs.declared.settings.TheConstants.{MOST_CPUS}
 use Rattle.protocol.proofs.history.History.{length-after_change}
 use Rattle.protocol.proofs.keeps.ListKeeps.{live_count_put, rows_put}
-use Rattle.cpu_words.specs.declared.view.KeeperView.{KeeperView}
-use Rattle.cpu_words.specs.Publishing.{LeadsBelow, IsBefore, MayUnpublish, HasUnpublished, keeper_after_unpublish, links_with}
-use Rattle.cpu_words.specs.Rule.{IsShown}
-use Rattle.passive_list.specs.declared.keeper.KeptSlot.{KeptSlot}
-use Rattle.passive_list.specs.Keepers.{row_at, states_of, IsAtRest, RowsAgree, IsOurKeeper}
-use Rattle.passive_list.specs.Retiring.{with_snapshots}
+use Rattle.cpu_words.specs.Common.{LeadsBelow, IsBefore, MayUnpublish, HasUnpublished, keeper_after_unpublish, links_with, IsShown}
+use Rattle.passive_list.specs.Common.{KeptSlot, row_at, states_of, IsAtRest, RowsAgree, IsOurKeeper, with_snapshots}
 use Rattle.passive_list.proofs.Rows.{state_at, live_in, row_stays, rows_set}
 use Rattle.passive_list.proofs.Attached.{LiveIn, rows_live, live_rows, leads_on}
 

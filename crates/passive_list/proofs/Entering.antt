@@ -2,20 +2,10 @@
 use Rattle.std.proofs.Common.{◌≡◌, ℕ, ◌+◌, ◌*◌, ◌<◌, ◌≤◌, List, ◌++◌, nat_lt, IsTrue, Option, Some, None, refl, sym, ap, ◌∙◌, subst, arith}
 use Rattle.std.proofs.lemmas.Bool.{ltb-true}
 use Rattle.atomic_table.specs.Seated.{TableId}
-use Rattle.registry_values.specs.declared.settings.Settings.{Settings}
+use Rattle.passive_list.specs.Types.{Settings, Enter, Done, CpuView, Cpu}
 use Rattle.registry_values.proofs.Answers.{same_test}
-use Rattle.protocol.specs.declared.event.Event.TheVariants.{Enter}
-use Rattle.protocol.specs.declared.event.Reply.TheVariants.{Done}
-use Rattle.cpu_words.specs.declared.view.CpuView.{CpuView}
-use Rattle.cpu_words.specs.declared.view.View.TheVariants.{Cpu}
-use Rattle.cpu_words.specs.Rule.{did}
-use Rattle.cpu_words.specs.Sections.{HasEntered}
-use Rattle.cpu_words.specs.Steps.{SeatMakes}
-use Rattle.cpu_words.specs.Views.{Seated, depth_of}
-use Rattle.passive_list.specs.declared.place.Found.{Found}
-use Rattle.passive_list.specs.declared.place.NumberedCount.{NumberedCount}
-use Rattle.passive_list.specs.Cpus.{OnCpu, IsOurCpu}
-use Rattle.passive_list.specs.Sections.{HasEnteredOn, may_begin}
+use Rattle.cpu_words.specs.Common.{did, HasEntered, SeatMakes, Seated, depth_of}
+use Rattle.passive_list.specs.Common.{Found, NumberedCount, OnCpu, IsOurCpu, HasEnteredOn, may_begin}
 use Rattle.cpu_words.proofs.shown.CpusShown.{entered_whole}
 
 few : (b : Option ℕ) → depth_of b ≤ 1

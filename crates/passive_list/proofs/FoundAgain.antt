@@ -5,32 +5,18 @@ use Rattle.std.proofs.lemmas.List.Elements.{Contains-get_or, Contains-push, Cont
 use Rattle.std.proofs.lemmas.List.Quantifiers.{all_pairs_push}
 use Rattle.std.specs.List.{Contains}
 use mathlib.Core.List.{IsPrefix}
-use Rattle.registry_values.specs.declared.entry.Entry.{Entry}
-use Rattle.registry_values.specs.declared.entry.Kind.{Kind}
-use Rattle.registry_values.specs.declared.entry.Kind.TheVariants.{Iface}
-use Rattle.registry_values.specs.declared.name.Name.{Name}
-use Rattle.registry_values.specs.declared.entry.Change.{Change}
-use Rattle.registry_values.specs.declared.entry.Change.TheVariants.{Attach}
+use Rattle.passive_list.specs.Types.{Entry, Kind, Iface, Name, Change, Attach, Key, Search, CpuView, LogItem}
 use Rattle.registry_values.specs.Names.{are_name_words}
-use Rattle.registry_values.specs.Slots.{kind_word, key_of}
-use Rattle.registry_values.specs.declared.slot.Key.{Key}
-use Rattle.protocol.specs.declared.state.Search.{Search}
-use Rattle.protocol.specs.History.{IsAttached, IsLiveAt}
+use Rattle.registry_values.specs.Common.{kind_word, key_of}
+use Rattle.protocol.specs.Common.{IsAttached, IsLiveAt}
 use Rattle.protocol.proofs.history.History.{at_within, one_entry, one_live, live_down}
-use Rattle.cpu_words.specs.declared.view.CpuView.{CpuView}
-use Rattle.cpu_words.specs.declared.view.LogItem.{LogItem}
-use Rattle.cpu_words.specs.Searching.{key_with, MaySeek}
+use Rattle.cpu_words.specs.Common.{key_with, MaySeek}
 use Rattle.cpu_words.proofs.shown.Passes.{attached_prefix}
-use Rattle.passive_list.specs.declared.walks.Noted.{Noted}
-use Rattle.passive_list.specs.Walking.{HasLookedUp}
-use Rattle.passive_list.specs.Walks.{WasLive, AreGoneBy, HasWalked}
-use Rattle.passive_list.specs.Searches.{nobody, SearchesOnce, Lookup, LooksUpEach, HasGoneOverBy}
-use Rattle.passive_list.specs.Noting.{noted_of, IsNoting, AreNoted, HaveSearched, HasFoundAgain, LooksUpAgain, HaveBeenFound, WritesNext, HasGoneOver}
+use Rattle.passive_list.specs.Common.{Noted, HasLookedUp, WasLive, AreGoneBy, HasWalked, nobody, SearchesOnce, Lookup, LooksUpEach, HasGoneOverBy, noted_of, IsNoting, AreNoted, HaveSearched, HasFoundAgain, LooksUpAgain, HaveBeenFound, WritesNext, HasGoneOver, OnCpu}
 use Rattle.passive_list.proofs.Walking.{prefix_trans}
 use Rattle.passive_list.proofs.Standing.{prefix_length, live_before, was_live_later, live_stands, stood_was_live}
 use Rattle.passive_list.proofs.Noting.{no_zeros}
 use Rattle.passive_list.proofs.Searches.{one_more_looked_up}
-use Rattle.passive_list.specs.Cpus.{OnCpu}
 
 -- One entry
 

@@ -3,38 +3,19 @@ use Rattle.std.proofs.Common.{◌≡◌, ◌≢◌, inr, ℕ, ◌+◌, ◌-◌, 
 use Rattle.std.proofs.lemmas.List.{map-set}
 use Rattle.std.proofs.lemmas.List.Quantifiers.{position-Some}
 use Rattle.std.proofs.Math.Seq.{map-set_same}
-use Rattle.registry_values.specs.declared.entry.Entry.{Entry}
-use Rattle.registry_values.specs.declared.entry.Kind.TheVariants.{Iface}
-use Rattle.protocol.specs.declared.event.Event.TheVariants.{KeptSub}
-use Rattle.protocol.specs.declared.event.Reply.TheVariants.{Done}
-use Rattle.registry_values.specs.declared.settings.Settings.{Settings}
-use Rattle.protocol.specs.declared.state.Due.TheVariants.{Rest}
-use Rattle.registry_values.specs.declared.slot.Slot.{Slot}
-use Rattle.registry_values.specs.declared.slot.Slot.TheVariants.{Vacant, Retired}
-use Rattle.protocol.specs.Invariant.{IsIn, DriversKept}
-use Rattle.registry_values.specs.Slots.{has_number, live_count, slot_of, slot_at}
-use Rattle.registry_values.specs.Balances.{bias}
-use Rattle.protocol.specs.State.{total_at, kept_at}
+use Rattle.passive_list.specs.Types.{Entry, Iface, KeptSub, Done, Settings, Rest, Slot, Vacant, Retired, MOST_CPUS, KeeperView, LogItem, Keeper}
+use Rattle.protocol.specs.Common.{IsIn, DriversKept, total_at, kept_at}
+use Rattle.registry_values.specs.Common.{has_number, live_count, slot_of, slot_at, bias}
 use Rattle.protocol.proofs.slots.Cells.{slot_here, slot_other, total_other}
 use Rattle.protocol.proofs.keeps.Drivers.{kept_number}
 use Rattle.registry_values.proofs.Fit.{ranges}
-use Rattle.registry_values.specs.declared.settings.TheConstants.{MOST_CPUS}
 use Rattle.protocol.proofs.keeps.ListKeeps.{live_count_put, rows_put}
 use Rattle.protocol.proofs.slots.Occupied.{has_it, not_vacant, number_in, one_number, position_found, slot_found, slot_has}
-use Rattle.cpu_words.specs.declared.view.KeeperView.{KeeperView}
-use Rattle.cpu_words.specs.declared.view.LogItem.{LogItem}
-use Rattle.cpu_words.specs.declared.view.View.TheVariants.{Keeper}
-use Rattle.cpu_words.specs.KeeperLog.{IsFreedFrom}
-use Rattle.cpu_words.specs.Draining.{MayKeptSub, HasKeptSub}
-use Rattle.cpu_words.specs.Rule.{IsShown, did}
-use Rattle.cpu_words.specs.Steps.{Makes}
-use Rattle.cpu_words.specs.Views.{one_more}
+use Rattle.cpu_words.specs.Common.{IsFreedFrom, MayKeptSub, HasKeptSub, IsShown, did, Makes, one_more}
 use Rattle.cpu_words.proofs.by_keeper.KeeperSees.{seen_by_keeper}
-use Rattle.passive_list.specs.declared.keeper.KeptSlot.{KeptSlot}
-use Rattle.passive_list.specs.Keepers.{OnKeeper, no_row, row_at, state_of, states_of, IsAtRest, RowsAgree, IsOurKeeper}
-use Rattle.passive_list.specs.Vacating.{IsDrainedOn}
+use Rattle.passive_list.specs.Common.{KeptSlot, OnKeeper, no_row, row_at, state_of, states_of, IsAtRest, RowsAgree, IsOurKeeper, IsDrainedOn, HasFreed, kept_slot}
 use Rattle.passive_list.proofs.Rows.{state_at, taken_in, retired_in, row_stays, rows_set}
-use Rattle.passive_list.specs.Draining.{HasFreed, kept_slot, place_of}
+use Rattle.passive_list.specs.Draining.{place_of}
 use Rattle.passive_list.proofs.Balanced.{IsHeldIn, held_by_slot}
 use Rattle.passive_list.proofs.Subtracting.{HeldRow, held_row, row_less, less, less_rows}
 

@@ -1,26 +1,9 @@
 -- A lookup from outside: the steps that its section allows, how the data agree with the view as it is over, and what it is to a contract.
 use Rattle.std.proofs.Common.{◌≡◌, IsTrue, ℕ, ◌+◌, ◌<◌, List, ◌++◌, length, Option, Some, None, refl, sym, ap, ◌∙◌, subst, arith}
 use Rattle.atomic_table.specs.Seated.{TableId}
-use Rattle.registry_values.specs.declared.entry.Entry.{Entry}
-use Rattle.registry_values.specs.declared.settings.Settings.{Settings}
-use Rattle.registry_values.specs.declared.slot.Key.{Key}
-use Rattle.protocol.specs.declared.event.Event.TheVariants.{Enter, Exit}
-use Rattle.protocol.specs.declared.event.Reply.TheVariants.{Done}
-use Rattle.protocol.specs.declared.state.Search.{Search}
-use Rattle.cpu_words.specs.declared.view.CpuView.{CpuView}
-use Rattle.cpu_words.specs.declared.view.View.TheVariants.{Cpu}
-use Rattle.cpu_words.specs.Rule.{IsShownCpu, did}
-use Rattle.cpu_words.specs.Steps.{Makes, SeatMakes}
-use Rattle.cpu_words.specs.Views.{Seated}
-use Rattle.cpu_words.specs.Searching.{MaySeek}
-use Rattle.cpu_words.specs.Sections.{IsIdle, HasEntered, MayExit, HasExited}
-use Rattle.passive_list.specs.declared.place.Found.{Found}
-use Rattle.passive_list.specs.declared.place.NumberedCount.{NumberedCount}
-use Rattle.passive_list.specs.Cpus.{OnCpu, DepthAgrees, IsKept, IsOurCpu, no_found}
-use Rattle.passive_list.specs.Lookups.{HasFoundFromOutside}
-use Rattle.passive_list.specs.Searches.{SearchesOnce}
-use Rattle.passive_list.specs.Sections.{may_begin}
-use Rattle.passive_list.specs.Walking.{HasLookedUp}
+use Rattle.passive_list.specs.Types.{Entry, Settings, Key, Enter, Exit, Done, Search, CpuView, Cpu}
+use Rattle.cpu_words.specs.Common.{IsShownCpu, did, Makes, SeatMakes, Seated, MaySeek, IsIdle, HasEntered, MayExit, HasExited}
+use Rattle.passive_list.specs.Common.{Found, NumberedCount, OnCpu, DepthAgrees, IsKept, IsOurCpu, no_found, HasFoundFromOutside, SearchesOnce, may_begin, HasLookedUp}
 use Rattle.cpu_words.proofs.shown.KeepersShown.{step_is_shown}
 use Rattle.passive_list.proofs.Agreeing.{entered_agrees, looked_up_agrees, exited_agrees, own_agrees, none_outside}
 use Rattle.passive_list.proofs.Entering.{unspent, cpu_at, entered_on}

@@ -1,28 +1,14 @@
 -- A reference is given up under the interlock: its entry's row has one to subtract, and what the keeper has agrees with what its seat knows then.
 use Rattle.std.proofs.Common.{◌≡◌, inl, inr, ⊎_elim, ℕ, ◌-◌, List, ◌++◌, set, Some, true, refl, sym, ap, ◌∙◌, subst}
 use Rattle.std.proofs.Math.Seq.{map-set_same}
-use Rattle.registry_values.specs.declared.entry.Entry.{Entry}
-use Rattle.protocol.specs.declared.event.Event.TheVariants.{JoinKeeper, TotalSub}
-use Rattle.protocol.specs.declared.event.Reply.TheVariants.{Done}
-use Rattle.registry_values.specs.declared.settings.Settings.{Settings}
-use Rattle.protocol.specs.declared.state.Due.{Due}
-use Rattle.protocol.specs.declared.state.Due.TheVariants.{Rest}
-use Rattle.registry_values.specs.declared.slot.Slot.TheVariants.{Retired}
-use Rattle.registry_values.specs.Slots.{slot_at}
-use Rattle.protocol.specs.State.{mark_at, total_at}
-use Rattle.cpu_words.specs.declared.view.KeeperView.{KeeperView}
-use Rattle.cpu_words.specs.declared.view.LogItem.{LogItem}
-use Rattle.cpu_words.specs.declared.view.ReferenceView.{ReferenceView}
-use Rattle.cpu_words.specs.declared.view.View.TheVariants.{Keeper, Reference}
-use Rattle.cpu_words.specs.Draining.{IsFoundCollected, MayJoinKeeper, keeper_after_join, HasSubtracted}
-use Rattle.cpu_words.specs.Rule.{did}
-use Rattle.cpu_words.specs.Steps.{Makes, JoinsBy}
-use Rattle.cpu_words.specs.Views.{one_more}
+use Rattle.passive_list.specs.Types.{Entry, JoinKeeper, TotalSub, Done, Settings, Due, Rest, Retired, KeeperView, LogItem, ReferenceView, Keeper, Reference}
+use Rattle.registry_values.specs.Common.{slot_at}
+use Rattle.protocol.specs.Common.{mark_at, total_at}
+use Rattle.cpu_words.specs.Common.{IsFoundCollected, MayJoinKeeper, keeper_after_join, did, Makes, JoinsBy, one_more}
+use Rattle.cpu_words.specs.Draining.{HasSubtracted}
 use Rattle.cpu_words.proofs.shown.KeepersShown.{step_is_shown}
-use Rattle.passive_list.specs.declared.keeper.KeptSlot.{KeptSlot}
-use Rattle.passive_list.specs.Keepers.{OnKeeper, no_row, row_at, state_of, states_of, IsOurKeeper}
+use Rattle.passive_list.specs.Common.{KeptSlot, OnKeeper, no_row, row_at, state_of, states_of, IsOurKeeper, HasGivenUp}
 use Rattle.passive_list.proofs.Rows.{retired_in}
-use Rattle.passive_list.specs.Draining.{HasGivenUp}
 use Rattle.passive_list.proofs.Balanced.{IsHeldIn, held_given_up}
 use Rattle.passive_list.proofs.Collections.{with_total_keeper}
 use Rattle.passive_list.proofs.Subtracting.{HeldRow, held_row, less, row_less, less_is}

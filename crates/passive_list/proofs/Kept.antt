@@ -2,23 +2,12 @@
 use Rattle.std.proofs.Common.{◌≡◌, ℕ, ◌+◌, ◌<◌, ◌≤◌, false, List, length, set, Some, None, IsTrue, refl, sym, ap, ◌∙◌, subst, arith, get_or-set_same, get_or-set_other, length-set}
 use Rattle.std.proofs.Math.Seq.{map-set_same}
 use Rattle.atomic_table.specs.Seated.{TableId}
-use Rattle.registry_values.specs.declared.entry.Change.{Change}
-use Rattle.registry_values.specs.declared.entry.Kind.TheVariants.{Iface}
-use Rattle.registry_values.specs.declared.entry.Record.{Record}
-use Rattle.registry_values.specs.declared.settings.Settings.{Settings}
-use Rattle.registry_values.specs.declared.slot.Slot.{Slot}
-use Rattle.registry_values.specs.declared.slot.Slot.TheVariants.{Vacant}
-use Rattle.registry_values.specs.Slots.{key_of_record, is_taken, live_count, slot_at}
-use Rattle.registry_values.specs.Names.{is_lawful}
-use Rattle.protocol.specs.State.{kept_at}
+use Rattle.passive_list.specs.Types.{Change, Iface, Record, Settings, Slot, Vacant, KeeperView, LogItem, ReferenceView}
+use Rattle.registry_values.specs.Common.{key_of_record, is_taken, live_count, slot_at, is_lawful}
+use Rattle.protocol.specs.Common.{kept_at}
 use Rattle.registry_values.proofs.Fit.{ranges}
-use Rattle.cpu_words.specs.declared.view.KeeperView.{KeeperView}
-use Rattle.cpu_words.specs.declared.view.LogItem.{LogItem}
-use Rattle.cpu_words.specs.declared.view.ReferenceView.{ReferenceView}
-use Rattle.cpu_words.specs.Keeping.{keeper_after_keep}
-use Rattle.passive_list.specs.declared.keeper.KeptSlot.{KeptSlot}
-use Rattle.passive_list.specs.Keepers.{OnPlainKeeper, on_keeper, no_row, row_at, state_of, states_of, IsAtRest, RowsAgree, IsOurKeeper}
-use Rattle.passive_list.specs.Publishing.{MayAttach}
+use Rattle.cpu_words.specs.Common.{keeper_after_keep}
+use Rattle.passive_list.specs.Common.{KeptSlot, OnPlainKeeper, on_keeper, no_row, row_at, state_of, states_of, IsAtRest, RowsAgree, IsOurKeeper, MayAttach}
 use Rattle.passive_list.proofs.Rows.{row_stays, rows_set, settings_are}
 
 keeping_at_rest : (a : Settings) (k : KeeperView) (t : ℕ) (v : ReferenceView) → IsAtRest a k → IsAtRest a (keeper_after_keep k t v)

@@ -3,18 +3,11 @@ use Rattle.std.proofs.Common.{◌≡◌, inl, ⊎_elim, ℕ, zero, suc, ◌<◌,
 use Rattle.std.proofs.lemmas.Bool.{cases_eq, cases_lt}
 use Rattle.std.proofs.lemmas.List.{length-map}
 use Rattle.std.proofs.Math.Numerals.{add-one}
-use Rattle.registry_values.specs.declared.entry.Entry.{Entry}
-use Rattle.registry_values.specs.declared.slot.Slot.{Slot}
-use Rattle.registry_values.specs.declared.slot.Slot.TheVariants.{Vacant, Live, Retired}
-use Rattle.registry_values.specs.Slots.{slot_at}
-use Rattle.registry_values.specs.declared.settings.TheConstants.{MOST_SLOTS}
+use Rattle.passive_list.specs.Types.{Entry, Slot, Vacant, Live, Retired, MOST_SLOTS}
+use Rattle.registry_values.specs.Common.{slot_at}
 use Rattle.protocol.proofs.slots.Occupied.{in_within}
-use Rattle.cpu_words.specs.Publishing.{LeadsBelow, IsBefore, IsLinkPlace}
-use Rattle.cpu_words.specs.Publishing.LeadsBelow.{To_end, To_slot}
-use Rattle.passive_list.specs.declared.keeper.KeptSlot.{KeptSlot}
-use Rattle.passive_list.specs.declared.links.At.{At}
-use Rattle.passive_list.specs.Keepers.{row_at, state_of, states_of}
-use Rattle.passive_list.specs.Links.{newer_of, older_of, link_to, place_of}
+use Rattle.cpu_words.specs.Common.{LeadsBelow, IsBefore, IsLinkPlace, To_end, To_slot}
+use Rattle.passive_list.specs.Common.{KeptSlot, At, row_at, state_of, states_of, newer_of, older_of, link_to, place_of}
 use Rattle.passive_list.proofs.Rows.{state_at}
 
 -- of the first d slots

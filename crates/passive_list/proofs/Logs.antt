@@ -1,24 +1,14 @@
 -- How a log goes on, and what the keeper's log says of the keeper: of its rows too.
-use Rattle.std.proofs.Common.{◌≡◌, ⊎_elim, ℕ, ◌<◌, ◌≤◌, All, List, [], ◌∷◌, ◌++◌, Some, true, refl, sym, ap, ◌∙◌, subst, append-nil, append_assoc, arith}
-use Rattle.std.proofs.lemmas.Bool.{cases_lt}
-use Rattle.std.proofs.lemmas.List.{get_or_past, length-map}
+use Rattle.std.proofs.Common.{◌≡◌, ⊎_elim, ℕ, ◌<◌, ◌≤◌, All, List, [], ◌∷◌, ◌++◌, Some, true, sym, ap, ◌∙◌, subst, append-nil, append_assoc, arith}
+use Rattle.std.proofs.lemmas.List.{length-map}
 use Rattle.std.proofs.lemmas.List.Elements.{All-append, All-cons}
-use Rattle.registry_values.specs.declared.entry.Entry.{Entry}
-use Rattle.registry_values.specs.declared.mark.Mark.{Mark}
-use Rattle.registry_values.specs.declared.settings.Settings.{Settings}
-use Rattle.registry_values.specs.declared.slot.Slot.{Slot}
-use Rattle.registry_values.specs.declared.slot.Slot.TheVariants.{Vacant, Retired}
-use Rattle.registry_values.specs.Slots.{is_retired, slot_at}
-use Rattle.protocol.specs.State.{at_rest, mark_at}
+use Rattle.passive_list.specs.Types.{Entry, Mark, Settings, Slot, Retired, LogItem, KeeperView}
+use Rattle.registry_values.specs.Common.{is_retired, slot_at}
+use Rattle.protocol.specs.Common.{at_rest, mark_at}
 use Rattle.protocol.proofs.slots.MarkRows.{snapshot_stands}
-use Rattle.cpu_words.specs.declared.view.LogItem.{LogItem}
-use Rattle.cpu_words.specs.declared.view.KeeperView.{KeeperView}
-use Rattle.cpu_words.specs.KeeperLog.{occupant_of, IsOwnLog}
-use Rattle.cpu_words.specs.Notes.{keeper_with_note}
+use Rattle.cpu_words.specs.Common.{occupant_of, IsOwnLog, keeper_with_note}
 use Rattle.cpu_words.proofs.by_keeper.KeeperSees.{seen_by_keeper}
-use Rattle.passive_list.specs.declared.keeper.KeptSlot.{KeptSlot}
-use Rattle.passive_list.specs.Keepers.{state_of, states_of, IsOurKeeper}
-use Rattle.passive_list.specs.Logs.{GoesOnBy, HasOwnLog}
+use Rattle.passive_list.specs.Common.{KeptSlot, state_of, states_of, IsOurKeeper, GoesOnBy, HasOwnLog}
 use Rattle.passive_list.proofs.Rows.{live_in, retired_in, slots_agree}
 
 no_item : (P : LogItem → Type 0) → All P []

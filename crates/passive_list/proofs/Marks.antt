@@ -3,35 +3,16 @@ use Rattle.std.proofs.Common.{◌≡◌, ℕ, ◌+◌, ◌<◌, true, ◌&&◌, 
 use Rattle.std.proofs.lemmas.Bool.{and_parts}
 use Rattle.std.proofs.lemmas.List.{map-set}
 use Rattle.std.proofs.Math.Seq.{map-set_same}
-use Rattle.registry_values.specs.declared.entry.Entry.{Entry}
-use Rattle.protocol.specs.declared.event.Event.{Event}
-use Rattle.protocol.specs.declared.event.Event.TheVariants.{Hear, Vacate}
-use Rattle.protocol.specs.declared.event.Reply.{Reply}
-use Rattle.protocol.specs.declared.event.Reply.TheVariants.{Done}
-use Rattle.registry_values.specs.declared.settings.Settings.{Settings}
-use Rattle.registry_values.specs.declared.mark.Mark.{Mark}
-use Rattle.registry_values.specs.declared.slot.Slot.TheVariants.{Vacant, Retired}
-use Rattle.registry_values.specs.Slots.{is_retired, live_count, slot_at}
-use Rattle.registry_values.specs.Marks.{have_passed, are_clear, are_collected, no_mark}
-use Rattle.registry_values.specs.Balances.{bias}
-use Rattle.protocol.specs.State.{with_cell, mark_at}
+use Rattle.passive_list.specs.Types.{Entry, Event, Hear, Vacate, Reply, Done, Settings, Mark, Vacant, Retired, MOST_CPUS, KeeperView, LogItem, Keeper}
+use Rattle.registry_values.specs.Common.{is_retired, live_count, slot_at, have_passed, are_clear, are_collected, no_mark, bias}
+use Rattle.protocol.specs.Common.{with_cell, mark_at}
 use Rattle.protocol.proofs.slots.Cells.{row_here, row_other, cell_here, slot_here, slot_other}
 use Rattle.registry_values.proofs.Fit.{ranges}
-use Rattle.registry_values.specs.declared.settings.TheConstants.{MOST_CPUS}
 use Rattle.protocol.proofs.keeps.ListKeeps.{live_count_put, rows_cell, rows_put}
 use Rattle.protocol.proofs.slots.Occupied.{is_retired_tells}
-use Rattle.cpu_words.specs.declared.view.KeeperView.{KeeperView}
-use Rattle.cpu_words.specs.declared.view.LogItem.{LogItem}
-use Rattle.cpu_words.specs.declared.view.View.TheVariants.{Keeper}
-use Rattle.cpu_words.specs.Grace.{MayLook, keeper_after_look}
-use Rattle.cpu_words.specs.KeeperLog.{IsFreedFrom}
-use Rattle.cpu_words.specs.Rule.{IsShown, did}
-use Rattle.cpu_words.specs.Steps.{Makes}
-use Rattle.cpu_words.specs.Vacating.{keeper_after_vacate}
+use Rattle.cpu_words.specs.Common.{MayLook, keeper_after_look, IsFreedFrom, IsShown, did, Makes, keeper_after_vacate}
 use Rattle.cpu_words.proofs.shown.KeepersShown.{step_is_shown}
-use Rattle.passive_list.specs.declared.keeper.KeptSlot.{KeptSlot}
-use Rattle.passive_list.specs.Keepers.{OnKeeper, no_row, row_at, state_of, states_of, IsAtRest, RowsAgree, IsOurKeeper}
-use Rattle.passive_list.specs.Vacating.{HasVacated, IsDrainedOn, is_drained_row}
+use Rattle.passive_list.specs.Common.{KeptSlot, OnKeeper, no_row, row_at, state_of, states_of, IsAtRest, RowsAgree, IsOurKeeper, HasVacated, IsDrainedOn, is_drained_row}
 use Rattle.passive_list.proofs.Rows.{state_at, retired_in, row_stays, rows_set}
 
 -- Looks

@@ -10,23 +10,13 @@ use Rattle.std.proofs.lemmas.Bool.{cases_lt, and_parts}
 use Rattle.std.proofs.lemmas.Bool.Decides.{Decides-eqb}
 use Rattle.std.specs.List.{AllPairs, Contains, list_any}
 use mathlib.Core.List.{IsPrefix}
-use Rattle.registry_values.specs.declared.entry.Entry.{Entry}
-use Rattle.registry_values.specs.declared.entry.Change.{Change}
-use Rattle.registry_values.specs.declared.entry.Kind.TheVariants.{Iface}
+use Rattle.passive_list.specs.Types.{Entry, Change, Iface, MOST_SLOTS, AtNext, AtNumber, AtKind, AtHigh, AtLow, On, CpuView}
 use Rattle.registry_values.specs.Names.{are_name_words}
-use Rattle.registry_values.specs.Slots.{are_words_of, kind_word}
-use Rattle.registry_values.specs.declared.settings.TheConstants.{MOST_SLOTS}
-use Rattle.protocol.specs.declared.state.SearchPlace.TheVariants.{AtNext, AtNumber, AtKind, AtHigh, AtLow}
-use Rattle.protocol.specs.declared.state.Loaded.TheVariants.{On}
-use Rattle.protocol.specs.Invariant.{StandsOn}
-use Rattle.protocol.specs.Loaded.{loaded_at}
+use Rattle.registry_values.specs.Common.{are_words_of, kind_word}
+use Rattle.protocol.specs.Common.{StandsOn, loaded_at}
 use Rattle.protocol.proofs.history.History.{one_entry}
-use Rattle.cpu_words.specs.declared.view.CpuView.{CpuView}
-use Rattle.cpu_words.specs.Searching.{MayLoadLink, PassTells, SkipsNone, Descends, LinkHolds, every_word, HasLoadedLink, HasLoadedWord, HasFollowed, cpu_after_seek, cpu_after_link, search_for}
-use Rattle.passive_list.specs.declared.walks.Noted.{Noted}
-use Rattle.passive_list.specs.Walking.{search_at, IsUnderWay, MayVisit, cpu_with_search_at, after_visit}
-use Rattle.passive_list.specs.Searches.{nobody}
-use Rattle.passive_list.specs.Noting.{noted_of, AreStoodOn, HasNotedFrom, HasNoted, view_at_link, IsLiveSince, GoesOnAt, IsNoting, HasNotedSoFar}
+use Rattle.cpu_words.specs.Common.{MayLoadLink, PassTells, SkipsNone, Descends, LinkHolds, every_word, HasLoadedLink, HasLoadedWord, HasFollowed, cpu_after_seek, cpu_after_link, search_for}
+use Rattle.passive_list.specs.Common.{Noted, search_at, IsUnderWay, MayVisit, cpu_with_search_at, after_visit, nobody, noted_of, AreStoodOn, HasNotedFrom, HasNoted, view_at_link, IsLiveSince, GoesOnAt, IsNoting, HasNotedSoFar}
 use Rattle.passive_list.proofs.Walking.{prefix_trans, on_word, judged_at, may_follow}
 use Rattle.passive_list.proofs.Standing.{prefix_length, stands_later, live_before}
 

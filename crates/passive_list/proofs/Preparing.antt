@@ -4,19 +4,12 @@ use Rattle.std.proofs.lemmas.Bool.{cases_lt}
 use Rattle.std.proofs.lemmas.List.{length-replicate, replicate_more, set-set, set_at, set_past, append_assoc, length-append, length-drop, get_or_append_left, get_or-replicate}
 use Rattle.std.proofs.Math.Seq.{drop-cons}
 use Rattle.std.proofs.Math.Numerals.{add-one}
-use Rattle.registry_values.specs.declared.entry.Entry.{Entry}
-use Rattle.registry_values.specs.declared.settings.Settings.{Settings}
-use Rattle.protocol.specs.declared.state.RecordWords.{RecordWords}
-use Rattle.protocol.specs.State.{with_biases, no_words, row_at, count_at, with_cell}
-use Rattle.protocol.specs.Events.{with_word, words_of}
-use Rattle.registry_values.specs.Balances.{bias}
-use Rattle.registry_values.specs.declared.settings.TheConstants.{MOST_CPUS}
+use Rattle.passive_list.specs.Types.{Entry, Settings, RecordWords, MOST_CPUS, KeeperView}
+use Rattle.protocol.specs.Common.{with_biases, no_words, row_at, count_at, with_cell, with_word, words_of}
+use Rattle.registry_values.specs.Common.{bias}
 use Rattle.protocol.proofs.slots.Cells.{cell_in_new}
-use Rattle.cpu_words.specs.declared.view.KeeperView.{KeeperView}
-use Rattle.cpu_words.specs.Storing.{HasRecordWord, HasCountWord, HasLink}
-use Rattle.cpu_words.specs.Vacating.{MayWrite}
-use Rattle.passive_list.specs.Keepers.{AreSized}
-use Rattle.passive_list.specs.Publishing.{with_row, with_counts, keeper_after_stores}
+use Rattle.cpu_words.specs.Common.{HasRecordWord, HasCountWord, HasLink, MayWrite}
+use Rattle.passive_list.specs.Common.{AreSized, with_row, with_counts, keeper_after_stores}
 
 -- The record
 

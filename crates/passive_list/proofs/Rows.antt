@@ -4,27 +4,15 @@ use Rattle.std.specs.List.{list_any}
 use Rattle.std.proofs.lemmas.Bool.{cases_lt}
 use Rattle.std.proofs.lemmas.List.{length-replicate, get_or-replicate, get_or_past}
 use Rattle.atomic_table.specs.Seated.{TableId}
-use Rattle.registry_values.specs.declared.entry.Entry.{Entry}
-use Rattle.registry_values.specs.declared.settings.Settings.{Settings}
-use Rattle.registry_values.specs.declared.slot.Key.{Key}
-use Rattle.registry_values.specs.declared.slot.Slot.{Slot}
-use Rattle.registry_values.specs.declared.slot.Slot.TheVariants.{Vacant, Live, Retired}
-use Rattle.registry_values.specs.Limits.{are_fit}
-use Rattle.registry_values.specs.Balances.{bias}
-use Rattle.registry_values.specs.Marks.{no_mark}
-use Rattle.protocol.specs.State.{no_words, total_at, kept_at}
-use Rattle.registry_values.specs.Slots.{is_live_as, is_taken, slot_at}
+use Rattle.passive_list.specs.Types.{Entry, Settings, Key, Slot, Vacant, Live, Retired, MOST_CPUS, MOST_SLOTS, KeeperView, LogItem}
+use Rattle.registry_values.specs.Common.{are_fit, bias, no_mark, is_live_as, is_taken, slot_at}
+use Rattle.protocol.specs.Common.{no_words, total_at, kept_at}
 use Rattle.protocol.proofs.slots.Cells.{get_or_all}
 use Rattle.protocol.proofs.keeps.MarkKeeps.{none_live, rows_all}
 use Rattle.protocol.proofs.slots.Occupied.{place_cases}
 use Rattle.registry_values.proofs.Fit.{ranges}
-use Rattle.registry_values.specs.declared.settings.TheConstants.{MOST_CPUS, MOST_SLOTS}
-use Rattle.cpu_words.specs.declared.view.KeeperView.{KeeperView}
-use Rattle.cpu_words.specs.declared.view.LogItem.{LogItem}
-use Rattle.cpu_words.specs.Opening.{keeper_with}
-use Rattle.passive_list.specs.declared.keeper.KeptSlot.{KeptSlot}
-use Rattle.passive_list.specs.Cpus.{OnPlainCpu}
-use Rattle.passive_list.specs.Keepers.{OnPlainKeeper, HasRows, on_keeper, no_row, row_at, state_of, states_of, RowAgrees, IsAtRest, IsOurKeeper, RowsAgree}
+use Rattle.cpu_words.specs.Common.{keeper_with}
+use Rattle.passive_list.specs.Common.{KeptSlot, OnPlainKeeper, HasRows, on_keeper, no_row, row_at, state_of, states_of, RowAgrees, IsAtRest, IsOurKeeper, RowsAgree}
 
 -- At the start
 

@@ -3,20 +3,12 @@ use Rattle.std.proofs.Common.{◌≡◌, ◌∙◌, ⊎_elim, ℕ, ◌+◌, ◌*
 use Rattle.std.proofs.lemmas.List.{length-append, map-append}
 use Rattle.std.proofs.lemmas.List.Elements.{All-append, Contains-push, Contains-append_left, Contains-append_cases}
 use Rattle.std.specs.List.{Contains}
-use Rattle.registry_values.specs.declared.entry.Entry.{Entry}
-use Rattle.registry_values.specs.declared.entry.Kind.{Kind}
-use Rattle.registry_values.specs.declared.name.Name.{Name}
-use Rattle.registry_values.specs.declared.slot.Key.{Key}
-use Rattle.registry_values.specs.Slots.{key_of}
-use Rattle.protocol.specs.declared.event.Event.TheVariants.{Seek, LoadLink, LoadRecord}
+use Rattle.passive_list.specs.Types.{Entry, Kind, Name, Key, Seek, LoadLink, LoadRecord, Reply, Done, Found, LogItem}
+use Rattle.registry_values.specs.Common.{key_of}
 use Rattle.protocol.specs.declared.event.RecordOf.TheVariants.{Search as OfSearch}
-use Rattle.protocol.specs.declared.event.Reply.{Reply}
-use Rattle.protocol.specs.declared.event.Reply.TheVariants.{Done, Found}
-use Rattle.cpu_words.specs.declared.view.LogItem.{LogItem}
-use Rattle.cpu_words.specs.Rule.{did}
-use Rattle.cpu_words.specs.Searching.{key_with, link_answer}
+use Rattle.cpu_words.specs.Common.{did, key_with, link_answer}
 use Rattle.passive_list.proofs.Logs.{one_item}
-use Rattle.passive_list.specs.Searches.{IsLoad, GoesOnByLoads, HasSearchedFor, SearchesOnce, Lookup, SearchesEach, found_by_name, LooksUpEach}
+use Rattle.passive_list.specs.Common.{IsLoad, GoesOnByLoads, HasSearchedFor, SearchesOnce, Lookup, SearchesEach, found_by_name, LooksUpEach}
 
 pub more_loads : (c m n : ℕ) (old between new : List LogItem) → GoesOnByLoads c m old between → GoesOnByLoads c n between new → GoesOnByLoads c (m + n) old new
 more_loads c m n old between new first then = record {

@@ -2,14 +2,12 @@
 use Rattle.std.proofs.Common.{◌≡◌, ℕ, ◌+◌, ◌≤◌, ◌<◌, ⊎_elim, List, length, refl, sym, ap, ◌∙◌, arith, length-append}
 use Rattle.std.proofs.lemmas.Bool.{cases_lt}
 use mathlib.Core.List.{IsPrefix}
-use Rattle.registry_values.specs.declared.entry.Entry.{Entry}
-use Rattle.registry_values.specs.declared.entry.Change.{Change}
-use Rattle.registry_values.specs.declared.entry.Change.TheVariants.{Detach}
-use Rattle.protocol.specs.History.{change_at, IsAttached, EndsAt, IsLegal, IsLiveAt}
-use Rattle.protocol.specs.Invariant.{StandsOn}
+use Rattle.passive_list.specs.Types.{Entry, Change, Detach}
+use Rattle.protocol.specs.Common.{IsAttached, EndsAt, IsLegal, IsLiveAt, StandsOn}
+use Rattle.protocol.specs.History.{change_at}
 use Rattle.protocol.proofs.history.History.{at_within, ends_after}
 use Rattle.cpu_words.proofs.shown.Passes.{at_prefix, attached_prefix}
-use Rattle.passive_list.specs.Walks.{WasLive}
+use Rattle.passive_list.specs.Common.{WasLive}
 
 pub prefix_length : (p h : List Change) → IsPrefix p h → length p ≤ length h
 prefix_length p h pre =

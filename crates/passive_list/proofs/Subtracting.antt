@@ -1,18 +1,12 @@
 -- A reference is given up: the total in one row is one less.
 use Rattle.std.proofs.Common.{◌≡◌, ℕ, ◌-◌, ◌<◌, ◌≤◌, List, [], length, set, sym, ap, ◌∙◌, subst, arith}
 use Rattle.std.proofs.lemmas.List.{set-get_or}
-use Rattle.registry_values.specs.declared.settings.Settings.{Settings}
-use Rattle.protocol.specs.declared.state.Due.TheVariants.{Rest}
-use Rattle.registry_values.specs.declared.mark.Mark.{Mark}
-use Rattle.registry_values.specs.declared.slot.Slot.TheVariants.{Vacant}
-use Rattle.registry_values.specs.Slots.{slot_at}
-use Rattle.protocol.specs.State.{total_at}
+use Rattle.passive_list.specs.Types.{Settings, Rest, Mark, Vacant, MOST_CPUS, MOST_SLOTS, KeeperView}
+use Rattle.registry_values.specs.Common.{slot_at}
+use Rattle.protocol.specs.Common.{total_at}
 use Rattle.registry_values.proofs.Fit.{ranges}
-use Rattle.registry_values.specs.declared.settings.TheConstants.{MOST_CPUS, MOST_SLOTS}
 use Rattle.protocol.proofs.slots.Occupied.{not_vacant}
-use Rattle.cpu_words.specs.declared.view.KeeperView.{KeeperView}
-use Rattle.passive_list.specs.declared.keeper.KeptSlot.{KeptSlot}
-use Rattle.passive_list.specs.Keepers.{row_at, states_of, RowAgrees, IsAtRest, RowsAgree}
+use Rattle.passive_list.specs.Common.{KeptSlot, row_at, states_of, RowAgrees, IsAtRest, RowsAgree}
 use Rattle.passive_list.proofs.Rows.{state_at}
 use Rattle.passive_list.proofs.Balanced.{IsHeldIn}
 use Rattle.passive_list.proofs.Collections.{with_total, row_with_total, with_total_rows}

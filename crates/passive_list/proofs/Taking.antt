@@ -1,17 +1,12 @@
 -- The snapshots of all CPUs are taken, one after the other.
-use Rattle.std.proofs.Common.{◌≡◌, ⊎_elim, ℕ, ◌+◌, ◌<◌, ◌≤◌, true, Bool, nat_lt, if◌then◌else◌, List, [], get_or, replicate, set, refl, sym, ap, ◌∙◌, arith, get_or-set_same, get_or-set_other, length-set, lt-ltb}
+use Rattle.std.proofs.Common.{◌≡◌, ⊎_elim, ℕ, ◌+◌, ◌<◌, ◌≤◌, Bool, nat_lt, if◌then◌else◌, List, [], get_or, replicate, set, sym, ap, ◌∙◌, arith, get_or-set_same, get_or-set_other, length-set, lt-ltb}
 use Rattle.std.proofs.lemmas.Bool.{cases_eq}
 use Rattle.std.proofs.lemmas.List.{length-replicate, set-get_or, set-set}
-use Rattle.protocol.specs.declared.state.Due.{Due}
-use Rattle.protocol.specs.declared.state.Due.TheVariants.{Rest, Snapshots}
-use Rattle.registry_values.specs.declared.mark.Mark.{Mark}
-use Rattle.protocol.specs.Events.{snapshot_mark}
-use Rattle.registry_values.specs.Marks.{no_mark}
-use Rattle.registry_values.specs.declared.settings.TheConstants.{MOST_CPUS}
-use Rattle.protocol.specs.State.{with_cell}
-use Rattle.cpu_words.specs.declared.view.KeeperView.{KeeperView}
-use Rattle.cpu_words.specs.Grace.{HasSnapshot}
-use Rattle.passive_list.specs.Retiring.{AreFresh, AreSnapshots}
+use Rattle.passive_list.specs.Types.{Due, Rest, Snapshots, Mark, MOST_CPUS, KeeperView}
+use Rattle.protocol.specs.Common.{snapshot_mark, with_cell}
+use Rattle.registry_values.specs.Common.{no_mark}
+use Rattle.cpu_words.specs.Common.{HasSnapshot}
+use Rattle.passive_list.specs.Common.{AreFresh, AreSnapshots}
 
 -- what is due before the snapshot of c
 abbrev pub due_before : ℕ → ℕ → ℕ → Due

@@ -5,19 +5,10 @@ use Rattle.std.proofs.lemmas.List.Elements.{Contains-get_or, Contains-push_cases
 use Rattle.std.proofs.lemmas.List.Quantifiers.{all_pairs_push}
 use Rattle.std.specs.List.{Contains}
 use mathlib.Core.List.{IsPrefix}
-use Rattle.registry_values.specs.declared.entry.Entry.{Entry}
-use Rattle.registry_values.specs.declared.entry.Change.{Change}
-use Rattle.registry_values.specs.declared.slot.Key.{Key}
-use Rattle.registry_values.specs.declared.settings.TheConstants.{MOST_SLOTS}
-use Rattle.protocol.specs.declared.event.Reply.TheVariants.{Found}
-use Rattle.protocol.specs.declared.state.Search.{Search}
-use Rattle.protocol.specs.declared.state.SearchPlace.TheVariants.{AtNext}
-use Rattle.protocol.specs.Invariant.{StandsOn}
-use Rattle.protocol.specs.Loaded.{entry_with}
-use Rattle.cpu_words.specs.declared.view.CpuView.{CpuView}
-use Rattle.cpu_words.specs.Searching.{HasLoadedLink, PassTells, loaded_of, loaded_answer}
-use Rattle.passive_list.specs.Walking.{search_at, HasVisitedFrom, HasVisited, HasMissed, IsOn}
-use Rattle.passive_list.specs.Noting.{AreStoodOn}
+use Rattle.passive_list.specs.Types.{Entry, Change, Key, MOST_SLOTS, Found, Search, AtNext, CpuView}
+use Rattle.protocol.specs.Common.{StandsOn, entry_with}
+use Rattle.cpu_words.specs.Common.{HasLoadedLink, PassTells, loaded_of, loaded_answer}
+use Rattle.passive_list.specs.Common.{search_at, HasVisitedFrom, HasVisited, HasMissed, IsOn, AreStoodOn}
 use Rattle.passive_list.proofs.Walking.{on_way}
 use Rattle.passive_list.proofs.Standing.{prefix_length, stands_later}
 use Rattle.passive_list.proofs.Noting.{few_stood_on}

@@ -1,21 +1,11 @@
 -- A search: its loads in one slot, and from one slot to the next.
 use Rattle.std.proofs.Common.{◌≡◌, ◌≢◌, ℕ, zero, suc, ◌-◌, ◌<◌, Bool, true, false, List, ◌++◌, length, Option, Some, None, IfSome, refl, sym, ap, ◌∙◌, subst, arith, append_assoc}
-use Rattle.registry_values.specs.Slots.{are_words_of}
+use Rattle.registry_values.specs.Common.{are_words_of}
 use mathlib.Core.List.{IsPrefix}
-use Rattle.registry_values.specs.declared.entry.Entry.{Entry}
-use Rattle.registry_values.specs.declared.entry.Change.{Change}
-use Rattle.registry_values.specs.declared.slot.Key.{Key}
-use Rattle.registry_values.specs.declared.settings.TheConstants.{MOST_SLOTS}
-use Rattle.protocol.specs.declared.state.SearchPlace.{SearchPlace}
-use Rattle.protocol.specs.declared.state.SearchPlace.TheVariants.{AtNext, AtNumber, AtKind, AtHigh, AtLow, AtValue}
-use Rattle.protocol.specs.declared.state.Loaded.TheVariants.{On}
-use Rattle.protocol.specs.History.{IsAttached, IsLawful}
-use Rattle.protocol.specs.Invariant.{StandsOn}
-use Rattle.protocol.specs.Loaded.{loaded_at, loaded_of_name, entry_with}
-use Rattle.cpu_words.specs.declared.view.CpuView.{CpuView}
-use Rattle.cpu_words.specs.Searching.{MayLoadLink, MayLoadSearched, IsAtWord, every_word, cpu_after_record_word, HasLoadedLink, HasLoadedWord, HasFollowed, PassTells, cpu_after_seek, search_for}
-use Rattle.passive_list.specs.declared.lookup.Seen.{Seen}
-use Rattle.passive_list.specs.Walking.{entry_seen, search_at, IsUnderWay, cpu_with_search_at, after_visit, HasVisitedFrom, HasVisited, HasTaken, HasMissed, IsOn, IsAtLink, HasLookedUp}
+use Rattle.passive_list.specs.Types.{Entry, Change, Key, MOST_SLOTS, SearchPlace, AtNext, AtNumber, AtKind, AtHigh, AtLow, AtValue, On, CpuView}
+use Rattle.protocol.specs.Common.{IsAttached, IsLawful, StandsOn, loaded_at, loaded_of_name, entry_with}
+use Rattle.cpu_words.specs.Common.{MayLoadLink, MayLoadSearched, IsAtWord, every_word, cpu_after_record_word, HasLoadedLink, HasLoadedWord, HasFollowed, PassTells}
+use Rattle.passive_list.specs.Common.{Seen, entry_seen, search_at, IsUnderWay, cpu_with_search_at, after_visit, HasVisitedFrom, HasVisited, HasTaken, HasMissed, IsOn, IsAtLink, HasLookedUp}
 
 pub prefix_trans : (p q r : List Change) → IsPrefix p q → IsPrefix q r → IsPrefix p r
 prefix_trans p q r a b = (a.0 ++ b.0, sym (append_assoc p a.0 b.0) ∙ ap (λ l. l ++ b.0) a.1 ∙ b.1)

@@ -2,22 +2,10 @@
 use Rattle.std.specs.Prelude.{◌≡◌, ◌≢◌, ◌↔◌, ℕ, ◌+◌, ◌*◌, ◌<◌, ◌≤◌, List, length, slice_index_or, Option, Some, None, IsTrue}
 use Rattle.std.specs.List.{Contains}
 use Rattle.atomic_table.specs.Seated.{TableId}
-use Rattle.registry_values.specs.declared.entry.Entry.{Entry}
-use Rattle.registry_values.specs.declared.entry.Change.{Change}
-use Rattle.registry_values.specs.declared.entry.Kind.TheVariants.{Driver}
-use Rattle.registry_values.specs.declared.settings.Settings.{Settings}
-use Rattle.registry_values.specs.Limits.{are_fit}
-use Rattle.protocol.specs.History.{IsAttached}
-use Rattle.protocol.specs.Invariant.{IsIn, greatest_limit}
-use Rattle.registry_values.specs.Balances.{bias}
-use Rattle.registry_values.specs.Slots.{slot_at}
-use Rattle.registry_values.specs.declared.settings.TheConstants.{MOST_CPUS, MOST_SLOTS}
-use Rattle.cpu_words.specs.declared.view.CpuView.{CpuView}
-use Rattle.cpu_words.specs.declared.view.LogItem.{LogItem}
-use Rattle.cpu_words.specs.Views.{Named, number_at, references_to, depth_of}
-use Rattle.cpu_words.specs.Headline.{SectionMayHold}
-use Rattle.cpu_words.specs.Rule.{IsShownCpu}
-use Rattle.cpu_words.specs.Sections.{IsIdle}
+use Rattle.passive_list.specs.Types.{Entry, Change, Driver, Settings, MOST_CPUS, MOST_SLOTS, CpuView, LogItem}
+use Rattle.registry_values.specs.Common.{are_fit, bias, slot_at}
+use Rattle.protocol.specs.Common.{IsAttached, IsIn, greatest_limit}
+use Rattle.cpu_words.specs.Common.{Named, number_at, references_to, depth_of, SectionMayHold, IsShownCpu, IsIdle}
 use Rattle.passive_list.specs.declared.place.Found.{Found}
 use Rattle.passive_list.specs.declared.place.NumberedCount.{NumberedCount}
 

@@ -1,24 +1,10 @@
 -- The keeper's side of local references (localcount(9)): what its calls ask, and what they leave of the keeper.
 use Rattle.std.specs.Prelude.{◌≡◌, ℕ, ◌+◌, ◌-◌, List, ◌++◌, slice_set, position, Option, Some, None}
-use Rattle.registry_values.specs.declared.entry.Entry.{Entry}
-use Rattle.protocol.specs.declared.event.Event.TheVariants.{Collect, TotalAdd, TotalSub, JoinKeeper, Keep, KeptSub}
-use Rattle.protocol.specs.declared.event.Reply.TheVariants.{Done, Word}
-use Rattle.registry_values.specs.declared.slot.Slot.TheVariants.{Vacant, Retired}
-use Rattle.protocol.specs.declared.state.Due.TheVariants.{Adding}
+use Rattle.passive_list.specs.Types.{Entry, Collect, TotalAdd, TotalSub, JoinKeeper, Keep, KeptSub, Done, Word, Vacant, Retired, Adding, KeeperView, ReferenceView, Keeper, Reference}
 use Rattle.registry_values.specs.Marks.{mark_after_collect as collected_mark}
-use Rattle.protocol.specs.Invariant.{held_at}
-use Rattle.registry_values.specs.Slots.{has_number, slot_at}
-use Rattle.protocol.specs.State.{State, with_cell, mark_at, total_at}
-use Rattle.registry_values.specs.Balances.{bias}
-use Rattle.cpu_words.specs.declared.view.KeeperView.{KeeperView}
-use Rattle.cpu_words.specs.declared.view.ReferenceView.{ReferenceView}
-use Rattle.cpu_words.specs.declared.view.View.TheVariants.{Keeper, Reference}
-use Rattle.cpu_words.specs.KeeperLog.{IsAttachedKeeping, IsFreedFrom}
-use Rattle.cpu_words.specs.Draining.{keeper_after_join, HasKeptSub}
-use Rattle.cpu_words.specs.Keeping.{keeper_after_keep}
-use Rattle.cpu_words.specs.Rule.{Good, did}
-use Rattle.cpu_words.specs.Steps.{Makes, JoinsBy}
-use Rattle.cpu_words.specs.Views.{KeeperShown, one_more}
+use Rattle.protocol.specs.Common.{held_at, State, with_cell, mark_at, total_at}
+use Rattle.registry_values.specs.Common.{has_number, slot_at, bias}
+use Rattle.cpu_words.specs.Common.{IsAttachedKeeping, IsFreedFrom, keeper_after_join, HasKeptSub, keeper_after_keep, Good, did, Makes, JoinsBy, KeeperShown, one_more}
 use Rattle.passive_list.specs.declared.keeper.KeptSlot.{KeptSlot}
 use Rattle.passive_list.specs.Keepers.{OnKeeper, state_of}
 use Rattle.passive_list.specs.Publishing.{HasAttached}

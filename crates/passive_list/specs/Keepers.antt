@@ -1,20 +1,10 @@
 -- The keeper: how its plain data agree with what its seat knows.
 use Rattle.std.specs.Prelude.{◌≡◌, ℕ, ◌+◌, ◌<◌, ◌≤◌, List, [], length, map, slice_index_or, None, IsTrue}
 use Rattle.atomic_table.specs.Seated.{TableId}
-use Rattle.registry_values.specs.declared.settings.Settings.{Settings}
-use Rattle.registry_values.specs.declared.slot.Slot.{Slot}
-use Rattle.registry_values.specs.declared.slot.Slot.TheVariants.{Vacant}
-use Rattle.protocol.specs.declared.state.Due.TheVariants.{Rest}
-use Rattle.protocol.specs.Invariant.{AreRows}
-use Rattle.registry_values.specs.Limits.{are_fit}
-use Rattle.registry_values.specs.Slots.{live_count, slot_at}
-use Rattle.registry_values.specs.Balances.{bias}
-use Rattle.registry_values.specs.declared.settings.TheConstants.{MOST_SLOTS}
-use Rattle.protocol.specs.State.{total_at, kept_at}
-use Rattle.cpu_words.specs.Views.{Named}
-use Rattle.cpu_words.specs.declared.view.KeeperView.{KeeperView}
-use Rattle.cpu_words.specs.declared.view.LogItem.{LogItem}
-use Rattle.cpu_words.specs.Rule.{IsShown}
+use Rattle.passive_list.specs.Types.{Settings, Slot, Vacant, Rest, MOST_SLOTS, KeeperView, LogItem}
+use Rattle.protocol.specs.Common.{AreRows, total_at, kept_at}
+use Rattle.registry_values.specs.Common.{are_fit, live_count, slot_at, bias}
+use Rattle.cpu_words.specs.Common.{Named, IsShown}
 use Rattle.passive_list.specs.declared.keeper.KeptSlot.{KeptSlot}
 
 -- the keeper, to a contract: what its seat knows, the slots as it has them, and what it did

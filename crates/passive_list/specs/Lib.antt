@@ -1,7 +1,9 @@
+pub mod Common
 pub mod Cpus
 pub mod Sections
 pub mod Lookups
 pub mod Notes
+pub mod Types
 pub mod Walking
 pub mod Keepers
 pub mod Vacating

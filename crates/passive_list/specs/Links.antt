@@ -1,7 +1,6 @@
 -- The live entries by number, slot by slot: the newest below a number, and the oldest above it.
 use Rattle.std.specs.Prelude.{ℕ, ◌+◌, Bool, true, ◌&&◌, nat_lt, if◌then◌else◌, Option, Some, None}
-use Rattle.registry_values.specs.declared.slot.Slot.{Slot}
-use Rattle.registry_values.specs.declared.slot.Slot.TheVariants.{Vacant, Live, Retired}
+use Rattle.passive_list.specs.Types.{Slot, Vacant, Live, Retired}
 use Rattle.passive_list.specs.declared.links.At.{At}
 
 abbrev pub is_newer : ℕ → Option At → Bool

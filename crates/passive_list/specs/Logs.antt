@@ -1,17 +1,9 @@
 -- How a seat's log goes on, and what the keeper's log says of the keeper, as it is told whenever the keeper hears.
 use Rattle.std.specs.Prelude.{◌≡◌, ℕ, ◌<◌, List, ◌++◌, length}
 use Rattle.std.specs.List.{All}
-use Rattle.registry_values.specs.declared.entry.Change.{Change}
-use Rattle.registry_values.specs.declared.entry.Entry.{Entry}
-use Rattle.registry_values.specs.declared.settings.Settings.{Settings}
-use Rattle.registry_values.specs.declared.slot.Slot.TheVariants.{Retired}
-use Rattle.registry_values.specs.Slots.{slot_at}
-use Rattle.registry_values.specs.declared.settings.TheConstants.{MOST_SLOTS}
-use Rattle.protocol.specs.declared.state.Due.TheVariants.{Rest}
-use Rattle.cpu_words.specs.declared.view.LogItem.{LogItem}
-use Rattle.cpu_words.specs.declared.view.View.TheVariants.{Keeper}
-use Rattle.cpu_words.specs.KeeperLog.{changes_in, occupant, occupant_of, IsSnapped, AreMarksOf, AreSlotsOf, IsShownAfter, WordsGrow}
-use Rattle.cpu_words.specs.Notes.{keeper_with_note}
+use Rattle.passive_list.specs.Types.{Change, Entry, Settings, Retired, MOST_SLOTS, Rest, LogItem, Keeper}
+use Rattle.registry_values.specs.Common.{slot_at}
+use Rattle.cpu_words.specs.Common.{changes_in, occupant, occupant_of, IsSnapped, AreMarksOf, AreSlotsOf, IsShownAfter, WordsGrow, keeper_with_note}
 use Rattle.passive_list.specs.Keepers.{OnKeeper}
 
 -- the log went on, and so is each item since

@@ -1,9 +1,8 @@
 -- A lookup: what it answers, and what it leaves of the CPU.
 use Rattle.std.specs.Prelude.{◌≡◌, length, Option, Some}
 use mathlib.Core.List.{IsPrefix}
-use Rattle.registry_values.specs.declared.entry.Entry.{Entry}
-use Rattle.registry_values.specs.declared.slot.Key.{Key}
-use Rattle.protocol.specs.History.{IsAttached, IsLawful}
+use Rattle.passive_list.specs.Types.{Entry, Key}
+use Rattle.protocol.specs.Common.{IsAttached, IsLawful}
 use Rattle.passive_list.specs.Cpus.{OnCpu}
 use Rattle.passive_list.specs.Searches.{SearchesOnce}
 use Rattle.passive_list.specs.Sections.{HasEnteredOn, HasExitedOn}

@@ -1,16 +1,8 @@
 -- Notes: what one CPU has seen reaches another, or the keeper.
 use Rattle.std.specs.Prelude.{◌≡◌, List, ◌++◌, Option, Some}
 use mathlib.Core.List.{IsPrefix}
-use Rattle.registry_values.specs.declared.entry.Change.{Change}
-use Rattle.protocol.specs.declared.event.Event.TheVariants.{Tell}
-use Rattle.protocol.specs.declared.event.Reply.TheVariants.{Done}
-use Rattle.cpu_words.specs.declared.view.LogItem.{LogItem}
-use Rattle.cpu_words.specs.declared.view.View.TheVariants.{Cpu}
-use Rattle.cpu_words.specs.declared.view.Teller.{Teller}
-use Rattle.cpu_words.specs.KeeperLog.{heard_from, IsShownAfter}
-use Rattle.cpu_words.specs.Logs.{teller_of}
-use Rattle.cpu_words.specs.Notes.{with_note}
-use Rattle.cpu_words.specs.Rule.{did}
+use Rattle.passive_list.specs.Types.{Change, Tell, Done, LogItem, Cpu, Teller}
+use Rattle.cpu_words.specs.Common.{heard_from, IsShownAfter, teller_of, with_note, did}
 use Rattle.passive_list.specs.Cpus.{OnCpu}
 
 -- a note, to a contract: a prefix of the history, what its teller had heard that the keeper did, and which CPU told it, if it isn't the keeper's

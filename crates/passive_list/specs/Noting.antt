@@ -2,16 +2,10 @@
 use Rattle.std.specs.Prelude.{◌≡◌, ◌⊎◌, ℕ, zero, suc, ◌+◌, ◌<◌, ◌≤◌, List, take, length, map, slice_set, Option, Some, None}
 use Rattle.std.specs.List.{Contains}
 use mathlib.Core.List.{IsPrefix}
-use Rattle.registry_values.specs.declared.entry.Entry.{Entry}
-use Rattle.registry_values.specs.declared.entry.Change.{Change}
-use Rattle.registry_values.specs.Slots.{key_of, kind_word}
-use Rattle.registry_values.specs.declared.settings.TheConstants.{MOST_SLOTS}
-use Rattle.protocol.specs.declared.state.SearchPlace.TheVariants.{AtNext, AtNumber}
-use Rattle.protocol.specs.History.{IsAttached, IsLiveAt}
-use Rattle.protocol.specs.Invariant.{StandsOn}
-use Rattle.cpu_words.specs.declared.view.CpuView.{CpuView}
-use Rattle.cpu_words.specs.declared.view.LogItem.{LogItem}
-use Rattle.cpu_words.specs.Searching.{PassTells}
+use Rattle.passive_list.specs.Types.{Entry, Change, MOST_SLOTS, AtNext, AtNumber, CpuView, LogItem}
+use Rattle.registry_values.specs.Common.{key_of, kind_word}
+use Rattle.protocol.specs.Common.{IsAttached, IsLiveAt, StandsOn}
+use Rattle.cpu_words.specs.Common.{PassTells}
 use Rattle.passive_list.specs.declared.walks.Noted.{Noted}
 use Rattle.passive_list.specs.Walking.{search_at, IsUnderWay, cpu_with_search_at}
 use Rattle.passive_list.specs.Searches.{nobody, SearchesOnce}

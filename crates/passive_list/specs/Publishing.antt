@@ -1,21 +1,9 @@
 -- An entry is published: what changes of the keeper.
 use Rattle.std.specs.Prelude.{◌≡◌, ℕ, suc, ◌+◌, ◌<◌, ◌≤◌, List, [], length, slice_index_or, slice_set, IsTrue, false}
-use Rattle.registry_values.specs.declared.entry.Entry.{Entry}
-use Rattle.registry_values.specs.declared.entry.Change.TheVariants.{Attach}
-use Rattle.protocol.specs.declared.event.Event.TheVariants.{Publish}
-use Rattle.protocol.specs.declared.event.Reply.TheVariants.{Done}
-use Rattle.registry_values.specs.declared.settings.Settings.{Settings}
-use Rattle.protocol.specs.declared.state.RecordWords.{RecordWords}
-use Rattle.registry_values.specs.declared.slot.Slot.TheVariants.{Vacant, Live}
-use Rattle.protocol.specs.State.{with_biases, kept_at}
-use Rattle.protocol.specs.Events.{keeps_rightly, words_of}
-use Rattle.protocol.specs.History.{after_change}
-use Rattle.registry_values.specs.Slots.{key_of, is_taken, live_count, slot_at}
-use Rattle.registry_values.specs.Names.{is_lawful}
-use Rattle.cpu_words.specs.declared.view.KeeperView.{KeeperView}
-use Rattle.cpu_words.specs.declared.view.View.TheVariants.{Keeper}
-use Rattle.cpu_words.specs.Publishing.{LeadsBelow}
-use Rattle.cpu_words.specs.Steps.{Makes}
+use Rattle.passive_list.specs.Types.{Entry, Attach, Publish, Done, Settings, RecordWords, Vacant, Live, KeeperView, Keeper}
+use Rattle.protocol.specs.Common.{with_biases, kept_at, keeps_rightly, words_of, after_change}
+use Rattle.registry_values.specs.Common.{key_of, is_taken, live_count, slot_at, is_lawful}
+use Rattle.cpu_words.specs.Common.{LeadsBelow, Makes}
 use Rattle.passive_list.specs.declared.keeper.KeptSlot.{KeptSlot}
 use Rattle.passive_list.specs.Keepers.{OnKeeper, IsAtRest, RowsAgree, states_of}
 

@@ -1,18 +1,9 @@
 -- An entry is retired: what changes of the keeper.
 use Rattle.std.specs.Prelude.{◌≡◌, ℕ, ◌<◌, List, [], length, replicate, slice_index_or, slice_set, Option}
-use Rattle.registry_values.specs.declared.entry.Entry.{Entry}
-use Rattle.protocol.specs.declared.event.Event.TheVariants.{Unpublish}
-use Rattle.protocol.specs.declared.event.Reply.TheVariants.{Done}
-use Rattle.registry_values.specs.declared.mark.Mark.{Mark}
-use Rattle.registry_values.specs.declared.slot.Slot.TheVariants.{Retired}
-use Rattle.protocol.specs.declared.state.Due.TheVariants.{Rest}
-use Rattle.protocol.specs.Events.{snapshot_mark}
-use Rattle.registry_values.specs.Marks.{no_mark}
-use Rattle.registry_values.specs.declared.settings.TheConstants.{MOST_CPUS}
-use Rattle.cpu_words.specs.declared.view.KeeperView.{KeeperView}
-use Rattle.cpu_words.specs.declared.view.View.TheVariants.{Keeper}
-use Rattle.cpu_words.specs.Publishing.{LeadsBelow, IsBefore, keeper_after_unpublish}
-use Rattle.cpu_words.specs.Steps.{Makes}
+use Rattle.passive_list.specs.Types.{Entry, Unpublish, Done, Mark, Retired, Rest, MOST_CPUS, KeeperView, Keeper}
+use Rattle.protocol.specs.Common.{snapshot_mark}
+use Rattle.registry_values.specs.Common.{no_mark}
+use Rattle.cpu_words.specs.Common.{LeadsBelow, IsBefore, keeper_after_unpublish, Makes}
 use Rattle.passive_list.specs.Keepers.{OnKeeper}
 
 -- the slot's marks are none, and it has a place for them

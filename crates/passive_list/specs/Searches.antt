@@ -1,15 +1,10 @@
 -- Which events a search makes, by the log of the CPU's seat: it begins once, then there are loads alone, and the last one replies its answer.
 use Rattle.std.specs.Prelude.{◌≡◌, ◌⊎◌, ℕ, ◌+◌, ◌*◌, ◌≤◌, List, [], ◌∷◌, ◌++◌, length, map, Option, Some, None}
 use Rattle.std.specs.List.{All, Contains}
-use Rattle.registry_values.specs.declared.entry.Kind.TheVariants.{Iface}
-use Rattle.registry_values.specs.declared.entry.Entry.{Entry}
-use Rattle.registry_values.specs.declared.slot.Key.{Key}
-use Rattle.registry_values.specs.Slots.{key_of}
-use Rattle.protocol.specs.declared.event.Event.TheVariants.{Seek, LoadLink, LoadRecord}
+use Rattle.passive_list.specs.Types.{Iface, Entry, Key, Seek, LoadLink, LoadRecord, Done, Found, Missed, LogItem}
+use Rattle.registry_values.specs.Common.{key_of}
 use Rattle.protocol.specs.declared.event.RecordOf.TheVariants.{Search as OfSearch}
-use Rattle.protocol.specs.declared.event.Reply.TheVariants.{Done, Found, Missed}
-use Rattle.cpu_words.specs.declared.view.LogItem.{LogItem}
-use Rattle.cpu_words.specs.Rule.{did}
+use Rattle.cpu_words.specs.Common.{did}
 
 -- what no entry is looked up by: no name has two words of 0
 abbrev pub nobody : Key

@@ -1,14 +1,9 @@
 -- Read sections of a CPU, nested: what enter and exit answer and leave.
 use Rattle.std.specs.Prelude.{◌≡◌, ◌≢◌, ◌+◌, ◌*◌, ◌==◌, ◌++◌, nat_lt, Bool, Option, Result, IfErr}
 use Rattle.std.specs.Result.{result_err}
-use Rattle.registry_values.specs.declared.refusal.Refusal.{Refusal}
-use Rattle.registry_values.specs.Answers.{enter_answer}
-use Rattle.registry_values.specs.Refusals.{Answers}
-use Rattle.protocol.specs.declared.event.Event.TheVariants.{Enter, Exit}
-use Rattle.protocol.specs.declared.event.Reply.TheVariants.{Done}
-use Rattle.cpu_words.specs.declared.view.CpuView.{CpuView}
-use Rattle.cpu_words.specs.Rule.{did}
-use Rattle.cpu_words.specs.Sections.{HasEntered, HasExited, HasWholePass}
+use Rattle.passive_list.specs.Types.{Refusal, Enter, Exit, Done, CpuView}
+use Rattle.registry_values.specs.Common.{enter_answer, Answers}
+use Rattle.cpu_words.specs.Common.{did, HasEntered, HasExited, HasWholePass}
 use Rattle.passive_list.specs.Cpus.{OnCpu}
 
 -- the outermost enter begins a section by one event; an inner one is counted, and nothing else

@@ -1,17 +1,8 @@
 -- A retired slot that is drained, as the keeper has it.
 use Rattle.std.specs.Prelude.{◌≡◌, ℕ, Bool, None, ◌++◌, ◌&&◌, ◌==◌, slice_set}
-use Rattle.registry_values.specs.declared.entry.Entry.{Entry}
-use Rattle.registry_values.specs.declared.slot.Slot.TheVariants.{Vacant, Retired}
-use Rattle.protocol.specs.declared.event.Event.TheVariants.{Hear, Vacate}
-use Rattle.protocol.specs.declared.event.Reply.TheVariants.{Done}
-use Rattle.registry_values.specs.Balances.{bias}
-use Rattle.registry_values.specs.Slots.{slot_at, is_retired}
-use Rattle.registry_values.specs.Marks.{have_passed, are_clear, are_collected}
-use Rattle.cpu_words.specs.declared.view.View.TheVariants.{Keeper}
-use Rattle.cpu_words.specs.KeeperLog.{IsFreedFrom}
-use Rattle.cpu_words.specs.Rule.{did}
-use Rattle.cpu_words.specs.Steps.{Makes}
-use Rattle.cpu_words.specs.Vacating.{IsDrained, keeper_after_vacate}
+use Rattle.passive_list.specs.Types.{Entry, Vacant, Retired, Hear, Vacate, Done, Keeper}
+use Rattle.registry_values.specs.Common.{bias, slot_at, is_retired, have_passed, are_clear, are_collected}
+use Rattle.cpu_words.specs.Common.{IsFreedFrom, did, Makes, IsDrained, keeper_after_vacate}
 use Rattle.passive_list.specs.declared.keeper.KeptSlot.{KeptSlot}
 use Rattle.passive_list.specs.Keepers.{OnKeeper}
 

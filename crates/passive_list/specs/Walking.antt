@@ -1,17 +1,9 @@
 -- A search by a CPU's seat, from the head along the links: what one visit of a slot does, and where the search stands between two.
 use Rattle.std.specs.Prelude.{◌≡◌, ℕ, zero, suc, ◌<◌, Bool, true, false, length, Option, Some, None}
 use mathlib.Core.List.{IsPrefix}
-use Rattle.registry_values.specs.declared.entry.Entry.{Entry}
-use Rattle.registry_values.specs.declared.slot.Key.{Key}
-use Rattle.registry_values.specs.declared.settings.TheConstants.{MOST_SLOTS}
-use Rattle.protocol.specs.declared.state.SearchPlace.{SearchPlace}
-use Rattle.protocol.specs.declared.state.SearchPlace.TheVariants.{AtNext, AtNumber, AtValue}
-use Rattle.protocol.specs.declared.state.Search.{Search}
-use Rattle.protocol.specs.History.{IsAttached, IsLawful}
-use Rattle.protocol.specs.Invariant.{StandsOn}
-use Rattle.protocol.specs.Loaded.{entry_with}
-use Rattle.cpu_words.specs.Searching.{PassTells}
-use Rattle.cpu_words.specs.declared.view.CpuView.{CpuView}
+use Rattle.passive_list.specs.Types.{Entry, Key, MOST_SLOTS, SearchPlace, AtNext, AtNumber, AtValue, Search, CpuView}
+use Rattle.protocol.specs.Common.{IsAttached, IsLawful, StandsOn, entry_with}
+use Rattle.cpu_words.specs.Common.{PassTells}
 use Rattle.passive_list.specs.declared.lookup.Seen.{Seen}
 
 -- the search for the key, begun where the pass had `from` changes, at the place p

@@ -2,9 +2,8 @@
 use Rattle.std.specs.Prelude.{◌≡◌, ℕ, ◌<◌, ◌≤◌, List, length, Some, None}
 use Rattle.std.specs.List.{AllPairs, Contains}
 use mathlib.Core.List.{IsPrefix}
-use Rattle.registry_values.specs.declared.entry.Entry.{Entry}
-use Rattle.registry_values.specs.declared.entry.Change.{Change}
-use Rattle.protocol.specs.History.{IsLiveAt, MayHold}
+use Rattle.passive_list.specs.Types.{Entry, Change}
+use Rattle.protocol.specs.Common.{IsLiveAt, MayHold}
 use Rattle.passive_list.specs.Cpus.{OnCpu}
 use Rattle.passive_list.specs.Searches.{HasGoneOverBy}
 

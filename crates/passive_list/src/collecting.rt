@@ -1,13 +1,10 @@
 //! Collecting (localcount(9)): the count words of a retired entry are added to its slot's total, CPU by CPU.
 
 ghost use Rattle.std.specs.Prelude.{◌≡◌, ◌<◌, ◌+◌, slice_index_or, [], true, false};
-ghost use Rattle.registry_values.specs.declared.entry.Entry.{Entry};
-ghost use Rattle.registry_values.specs.declared.slot.Slot.TheVariants.{Retired};
-ghost use Rattle.registry_values.specs.Marks.{have_passed, are_clear, are_collected};
-ghost use Rattle.registry_values.specs.Balances.{bias};
-ghost use Rattle.registry_values.specs.Slots.{slot_at};
-ghost use Rattle.protocol.specs.State.{mark_at, total_at};
-ghost use Rattle.cpu_words.specs.Domains.{AreWordsOf};
+ghost use Rattle.passive_list.specs.Types.{Entry, Retired};
+ghost use Rattle.registry_values.specs.Common.{have_passed, are_clear, are_collected, bias, slot_at};
+ghost use Rattle.protocol.specs.Common.{mark_at, total_at};
+ghost use Rattle.cpu_words.specs.Common.{AreWordsOf};
 ghost use Rattle.passive_list.specs.Draining.{HasCollectedInto, AreHeld};
 
 use crate::keeper::Keeper;

@@ -1,9 +1,9 @@
 //! A virtual CPU of a table that a type names.
 
 ghost use Rattle.std.specs.Prelude.{◌≡◌, ◌≢◌, ◌↔◌, ◌<◌, IsTrue, None};
-ghost use Rattle.cpu_words.specs.Views.{new_cpu};
+ghost use Rattle.cpu_words.specs.Common.{new_cpu};
 ghost use Rattle.passive_list.specs.Cpus.{HoldsFound};
-ghost use Rattle.registry_values.specs.Limits.{are_fit};
+ghost use Rattle.registry_values.specs.Common.{are_fit};
 
 use crate::plain_cpu::PlainCpu;
 use cpu_words::{CpuSeat, Domain};
@@ -23,7 +23,7 @@ pub struct Cpu<D: Domain> {
 
 impl<D: Domain> Model for Cpu<D> {
     ghost use Rattle.std.specs.Prelude.{◌≡◌};
-    ghost use Rattle.cpu_words.specs.Domains.{AreWordsOf};
+    ghost use Rattle.cpu_words.specs.Common.{AreWordsOf};
     ghost use Rattle.passive_list.specs.Cpus.{OnCpu};
 
     ghost Value = { OnCpu };

@@ -1,11 +1,9 @@
 //! The end of a retired interface: its slot is vacant again, and the reference to its driver is given up.
 
 ghost use Rattle.std.specs.Prelude.{◌≡◌};
-ghost use Rattle.registry_values.specs.declared.entry.Entry.{Entry};
-ghost use Rattle.registry_values.specs.declared.entry.Kind.TheVariants.{Iface};
-ghost use Rattle.registry_values.specs.declared.slot.Slot.TheVariants.{Retired};
-ghost use Rattle.registry_values.specs.Slots.{slot_at};
-ghost use Rattle.cpu_words.specs.Domains.{AreWordsOf};
+ghost use Rattle.passive_list.specs.Types.{Entry, Iface, Retired};
+ghost use Rattle.registry_values.specs.Common.{slot_at};
+ghost use Rattle.cpu_words.specs.Common.{AreWordsOf};
 ghost use Rattle.passive_list.specs.Vacating.{IsDrainedOn};
 ghost use Rattle.passive_list.specs.Draining.{HasFreed, kept_slot, place_of};
 

@@ -1,13 +1,8 @@
 //! Lookups from outside, each in a section of its own.
 
 ghost use Rattle.std.specs.Prelude.{◌≡◌, ◌<◌, ◌+◌, ◌^◌, IfSome, IsTrue};
-ghost use Rattle.protocol.specs.declared.event.Event.TheVariants.{Exit};
-ghost use Rattle.protocol.specs.declared.event.Reply.TheVariants.{Done};
-ghost use Rattle.cpu_words.specs.declared.view.View.TheVariants.{Cpu};
-ghost use Rattle.cpu_words.specs.Domains.{AreWordsOf};
-ghost use Rattle.cpu_words.specs.Searching.{key_with};
-ghost use Rattle.cpu_words.specs.Steps.{SeatMakes};
-ghost use Rattle.cpu_words.specs.Sections.{MayExit, HasExited};
+ghost use Rattle.passive_list.specs.Types.{Exit, Done, Cpu};
+ghost use Rattle.cpu_words.specs.Common.{AreWordsOf, key_with, SeatMakes, MayExit, HasExited};
 ghost use Rattle.passive_list.specs.Lookups.{HasFoundFromOutside};
 ghost use Rattle.passive_list.specs.Sections.{may_begin};
 ghost use Rattle.passive_list.specs.Walking.{entry_seen};

@@ -1,8 +1,7 @@
 //! A local reference is given up under the interlock: its seat is taken in, and the total of its entry's slot is one less.
 
 ghost use Rattle.std.specs.Prelude.{◌≡◌, ◌<◌};
-ghost use Rattle.cpu_words.specs.Domains.{AreWordsOf};
-ghost use Rattle.cpu_words.specs.Draining.{IsFoundCollected};
+ghost use Rattle.cpu_words.specs.Common.{AreWordsOf, IsFoundCollected};
 ghost use Rattle.passive_list.specs.Draining.{HasGivenUp};
 
 use crate::keeper::Keeper;

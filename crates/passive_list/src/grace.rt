@@ -1,17 +1,11 @@
 //! Grace (pserialize(9)): the keeper looks at the section words of the CPUs, a load each.
 
 ghost use Rattle.std.specs.Prelude.{◌≡◌, ◌<◌, ◌++◌, ℕ, Some, None};
-ghost use Rattle.registry_values.specs.declared.entry.Entry.{Entry};
-ghost use Rattle.protocol.specs.declared.event.Event.TheVariants.{Look, Snapshot};
-ghost use Rattle.protocol.specs.declared.event.Reply.TheVariants.{Word};
-ghost use Rattle.registry_values.specs.declared.slot.Slot.TheVariants.{Retired};
-ghost use Rattle.registry_values.specs.Slots.{slot_at};
-ghost use Rattle.protocol.specs.State.{mark_at};
-ghost use Rattle.cpu_words.specs.Domains.{AreWordsOf};
+ghost use Rattle.passive_list.specs.Types.{Entry, Look, Snapshot, Word, Retired};
+ghost use Rattle.registry_values.specs.Common.{slot_at};
+ghost use Rattle.protocol.specs.Common.{mark_at};
+ghost use Rattle.cpu_words.specs.Common.{AreWordsOf, HasLooked, keeper_after_look, did, Makes};
 ghost use Rattle.cpu_words.specs.declared.view.View.TheVariants.{Keeper as OfKeeper};
-ghost use Rattle.cpu_words.specs.Grace.{HasLooked, keeper_after_look};
-ghost use Rattle.cpu_words.specs.Rule.{did};
-ghost use Rattle.cpu_words.specs.Steps.{Makes};
 
 use crate::keeper::Keeper;
 use cpu_words::{Words, steps};

@@ -1,11 +1,10 @@
 //! The keeper, the writer behind the interlock: its seat, and plain data that agree with what the seat knows.
 
 ghost use Rattle.std.specs.Prelude.{◌≡◌, ◌<◌, IsTrue, length, replicate};
-ghost use Rattle.registry_values.specs.declared.slot.Slot.TheVariants.{Vacant};
-ghost use Rattle.registry_values.specs.Limits.{are_fit};
-ghost use Rattle.registry_values.specs.Slots.{slot_at};
-ghost use Rattle.protocol.specs.State.{kept_at};
-ghost use Rattle.cpu_words.specs.Opening.{keeper_with};
+ghost use Rattle.passive_list.specs.Types.{Vacant};
+ghost use Rattle.registry_values.specs.Common.{are_fit, slot_at};
+ghost use Rattle.protocol.specs.Common.{kept_at};
+ghost use Rattle.cpu_words.specs.Common.{keeper_with};
 
 use cpu_words::KeeperSeat;
 use registry_values::{BIAS, MOST_CPUS, MOST_SLOTS, Mark, NO_MARK, Settings};

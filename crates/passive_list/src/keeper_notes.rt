@@ -2,12 +2,8 @@
 
 ghost use Rattle.std.specs.Prelude.{◌≡◌, ◌++◌, None};
 ghost use mathlib.Core.List.{IsPrefix};
-ghost use Rattle.protocol.specs.declared.event.Event.TheVariants.{Tell};
-ghost use Rattle.protocol.specs.declared.event.Reply.TheVariants.{Done};
-ghost use Rattle.cpu_words.specs.Domains.{AreWordsOf};
-ghost use Rattle.cpu_words.specs.KeeperLog.{heard_from};
-ghost use Rattle.cpu_words.specs.Notes.{keeper_with_note};
-ghost use Rattle.cpu_words.specs.Rule.{did};
+ghost use Rattle.passive_list.specs.Types.{Tell, Done};
+ghost use Rattle.cpu_words.specs.Common.{AreWordsOf, heard_from, keeper_with_note, did};
 ghost use Rattle.passive_list.specs.Logs.{HasOwnLog};
 
 use crate::keeper::Keeper;

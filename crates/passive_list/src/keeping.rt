@@ -1,12 +1,10 @@
 //! An interface is published with the local reference that its slot keeps to its driver.
 
 ghost use Rattle.std.specs.Prelude.{◌≡◌, ◌<◌, ◌≤◌, ◌+◌, suc, IsTrue, false, length, None};
-ghost use Rattle.registry_values.specs.declared.entry.Kind.TheVariants.{Iface, Driver};
-ghost use Rattle.registry_values.specs.declared.slot.Slot.TheVariants.{Vacant};
-ghost use Rattle.registry_values.specs.Slots.{key_of_record, is_taken, live_count, slot_at};
-ghost use Rattle.registry_values.specs.Names.{is_lawful};
-ghost use Rattle.protocol.specs.State.{kept_at};
-ghost use Rattle.cpu_words.specs.Domains.{AreWordsOf};
+ghost use Rattle.passive_list.specs.Types.{Iface, Driver, Vacant};
+ghost use Rattle.registry_values.specs.Common.{key_of_record, is_taken, live_count, slot_at, is_lawful};
+ghost use Rattle.protocol.specs.Common.{kept_at};
+ghost use Rattle.cpu_words.specs.Common.{AreWordsOf};
 ghost use Rattle.passive_list.specs.Draining.{HasAttachedKeeping};
 
 use crate::keeper::{Keeper, SlotState};

@@ -1,7 +1,7 @@
 //! The live entries by number: the list is newest first, so they say where each link leads.
 
 ghost use Rattle.std.specs.Prelude.{◌≡◌};
-ghost use Rattle.cpu_words.specs.Publishing.{LeadsBelow, IsBefore, IsLinkPlace};
+ghost use Rattle.cpu_words.specs.Common.{LeadsBelow, IsBefore, IsLinkPlace};
 ghost use Rattle.passive_list.specs.Keepers.{states_of};
 ghost use Rattle.passive_list.specs.Links.{is_newer, newer_of, is_older, older_of, link_to, place_of};
 

@@ -1,18 +1,11 @@
 //! Looks at passive words (psref(9)): the keeper sees, by a load each, that a CPU has no reference to a retired entry any more.
 
 ghost use Rattle.std.specs.Prelude.{◌≡◌, ◌<◌, ◌++◌, ℕ, slice_index_or, [], true};
-ghost use Rattle.registry_values.specs.declared.entry.Entry.{Entry};
-ghost use Rattle.protocol.specs.declared.event.Event.TheVariants.{PassiveLook};
-ghost use Rattle.protocol.specs.declared.event.Reply.TheVariants.{Word};
-ghost use Rattle.registry_values.specs.declared.slot.Slot.TheVariants.{Retired};
-ghost use Rattle.registry_values.specs.Marks.{have_passed};
-ghost use Rattle.registry_values.specs.Slots.{slot_at};
-ghost use Rattle.protocol.specs.State.{mark_at};
-ghost use Rattle.cpu_words.specs.Domains.{AreWordsOf};
+ghost use Rattle.passive_list.specs.Types.{Entry, PassiveLook, Word, Retired};
+ghost use Rattle.registry_values.specs.Common.{have_passed, slot_at};
+ghost use Rattle.protocol.specs.Common.{mark_at};
+ghost use Rattle.cpu_words.specs.Common.{AreWordsOf, HasLookedPassive, did, Makes};
 ghost use Rattle.cpu_words.specs.declared.view.View.TheVariants.{Keeper as OfKeeper};
-ghost use Rattle.cpu_words.specs.Draining.{HasLookedPassive};
-ghost use Rattle.cpu_words.specs.Rule.{did};
-ghost use Rattle.cpu_words.specs.Steps.{Makes};
 
 use crate::keeper::Keeper;
 use cpu_words::{Words, steps};

@@ -1,9 +1,7 @@
 //! Lookups in a section: a search along the list, loads alone. No shared word is written, and nobody waits.
 
 ghost use Rattle.std.specs.Prelude.{◌≡◌, ◌≢◌, ◌<◌, None, IfSome};
-ghost use Rattle.cpu_words.specs.Domains.{AreWordsOf};
-ghost use Rattle.cpu_words.specs.Rule.{IsShownCpu};
-ghost use Rattle.cpu_words.specs.Searching.{MaySeek, key_with};
+ghost use Rattle.cpu_words.specs.Common.{AreWordsOf, IsShownCpu, MaySeek, key_with};
 ghost use Rattle.passive_list.specs.Cpus.{IsKept};
 ghost use Rattle.passive_list.specs.Lookups.{HasFound};
 ghost use Rattle.passive_list.specs.Searches.{SearchesOnce, GoesOnByLoads};

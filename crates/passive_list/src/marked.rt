@@ -1,8 +1,8 @@
 //! What the keeper has of the CPUs for a retired entry: tests for the conditions of looks, of a drain and of its end.
 
 ghost use Rattle.std.specs.Prelude.{◌≡◌, ◌<◌, slice_index_or, []};
-ghost use Rattle.registry_values.specs.Marks.{have_passed, are_clear, are_collected};
-ghost use Rattle.protocol.specs.State.{mark_at};
+ghost use Rattle.registry_values.specs.Common.{have_passed, are_clear, are_collected};
+ghost use Rattle.protocol.specs.Common.{mark_at};
 
 use crate::keeper::Keeper;
 use registry_values::{Mark, are_clear, are_collected, have_passed};

@@ -2,7 +2,7 @@
 
 ghost use Rattle.std.specs.Prelude.{◌≡◌, ◌++◌, Some};
 ghost use mathlib.Core.List.{IsPrefix};
-ghost use Rattle.cpu_words.specs.Domains.{AreWordsOf};
+ghost use Rattle.cpu_words.specs.Common.{AreWordsOf};
 ghost use Rattle.passive_list.specs.Notes.{HasHeardOn, WasShown, as_teller, has_heard, cpu_after_tell};
 
 use crate::cpu::Cpu;

@@ -1,8 +1,8 @@
 //! A virtual CPU that names its table by its own seat: what a call on a CPU does is done with one, whoever makes it.
 
 ghost use Rattle.std.specs.Prelude.{◌≡◌, ◌≢◌, ◌↔◌, ◌<◌, IsTrue, None};
-ghost use Rattle.registry_values.specs.Limits.{are_fit};
-ghost use Rattle.cpu_words.specs.Views.{new_cpu};
+ghost use Rattle.registry_values.specs.Common.{are_fit};
+ghost use Rattle.cpu_words.specs.Common.{new_cpu};
 ghost use Rattle.passive_list.specs.Cpus.{HoldsFound};
 
 use crate::place::{Found, NumberedCount};

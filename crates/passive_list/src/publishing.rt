@@ -1,14 +1,10 @@
 //! An entry is published: all words of its slot are stored, and then the head, so that searches find it.
 
 ghost use Rattle.std.specs.Prelude.{◌≡◌, ℕ, ◌<◌, ◌≤◌, ◌+◌, suc, Some, IsTrue, false, length};
-ghost use Rattle.registry_values.specs.declared.slot.Slot.TheVariants.{Vacant};
-ghost use Rattle.registry_values.specs.Slots.{key_of_record, is_taken, live_count, slot_at};
-ghost use Rattle.protocol.specs.Events.{keeps_rightly, words_of};
-ghost use Rattle.registry_values.specs.Names.{is_lawful};
-ghost use Rattle.protocol.specs.State.{kept_at};
-ghost use Rattle.cpu_words.specs.KeeperLog.{IsAttachedKeeping};
-ghost use Rattle.cpu_words.specs.Domains.{AreWordsOf};
-ghost use Rattle.cpu_words.specs.Vacating.{MayWrite};
+ghost use Rattle.passive_list.specs.Types.{Vacant};
+ghost use Rattle.registry_values.specs.Common.{key_of_record, is_taken, live_count, slot_at, is_lawful};
+ghost use Rattle.protocol.specs.Common.{keeps_rightly, words_of, kept_at};
+ghost use Rattle.cpu_words.specs.Common.{IsAttachedKeeping, AreWordsOf, MayWrite};
 ghost use Rattle.passive_list.specs.Keepers.{AreSized};
 ghost use Rattle.passive_list.specs.Publishing.{MayAttach, HasEntry, HasAttached, with_row, with_counts, keeper_after_stores};
 

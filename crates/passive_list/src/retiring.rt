@@ -1,12 +1,9 @@
 //! An entry is retired: it is unlinked, and the section word of each CPU is taken as its snapshot.
 
 ghost use Rattle.std.specs.Prelude.{◌≡◌, ◌<◌, ◌≤◌, None};
-ghost use Rattle.registry_values.specs.declared.entry.Entry.{Entry};
-ghost use Rattle.registry_values.specs.declared.slot.Slot.TheVariants.{Live};
-ghost use Rattle.protocol.specs.declared.state.Due.TheVariants.{Snapshots};
-ghost use Rattle.registry_values.specs.Slots.{slot_at};
-ghost use Rattle.cpu_words.specs.Domains.{AreWordsOf};
-ghost use Rattle.cpu_words.specs.Rule.{IsShown};
+ghost use Rattle.passive_list.specs.Types.{Entry, Live, Snapshots};
+ghost use Rattle.registry_values.specs.Common.{slot_at};
+ghost use Rattle.cpu_words.specs.Common.{AreWordsOf, IsShown};
 ghost use Rattle.passive_list.specs.Retiring.{HasDetached, with_snapshots, AreSnapshots, AreFresh};
 
 use crate::keeper::{Keeper, KeptSlot, SlotState};

@@ -1,8 +1,8 @@
 //! The end of a drain: the slot of a retired entry is vacant again.
 
 ghost use Rattle.std.specs.Prelude.{◌≡◌, ◌↔◌, ◌<◌, IsTrue, None};
-ghost use Rattle.protocol.specs.State.{kept_at};
-ghost use Rattle.cpu_words.specs.Domains.{AreWordsOf};
+ghost use Rattle.protocol.specs.Common.{kept_at};
+ghost use Rattle.cpu_words.specs.Common.{AreWordsOf};
 ghost use Rattle.passive_list.specs.Vacating.{HasVacated, IsDrainedOn, is_drained_row};
 
 use crate::keeper::{Keeper, KeptSlot, SlotState};

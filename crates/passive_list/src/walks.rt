@@ -5,13 +5,10 @@
 //! these, which finds its value. Where that finds another entry or none, the noted one was detached since, and is left out.
 
 ghost use Rattle.std.specs.Prelude.{◌≡◌, ◌≢◌, ◌<◌, ◌≤◌, None, List, take, drop, length};
-ghost use Rattle.registry_values.specs.declared.entry.Entry.{Entry};
-ghost use Rattle.registry_values.specs.declared.entry.Kind.{Kind};
-ghost use Rattle.registry_values.specs.Slots.{kind_word};
-ghost use Rattle.protocol.specs.History.{IsAttached};
-ghost use Rattle.cpu_words.specs.Domains.{AreWordsOf};
-ghost use Rattle.cpu_words.specs.Rule.{IsShownCpu};
-ghost use Rattle.cpu_words.specs.Searching.{MaySeek};
+ghost use Rattle.passive_list.specs.Types.{Entry, Kind};
+ghost use Rattle.registry_values.specs.Common.{kind_word};
+ghost use Rattle.protocol.specs.Common.{IsAttached};
+ghost use Rattle.cpu_words.specs.Common.{AreWordsOf, IsShownCpu, MaySeek};
 ghost use Rattle.passive_list.specs.Walking.{MayVisit};
 ghost use Rattle.passive_list.specs.Searches.{nobody, GoesOnByLoads, SearchesOnce, LooksUpEach, HasGoneOverBy};
 ghost use Rattle.passive_list.specs.Noting.{HasNoted, HasNotedSoFar, AreNoted, HasFoundAgain, LooksUpAgain, HaveSearched, HaveBeenFound, HasGoneOver, WritesNext, noted_of};

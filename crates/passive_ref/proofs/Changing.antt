@@ -4,19 +4,15 @@ use Rattle.std.proofs.lemmas.Bool.{cases_eq}
 use Rattle.std.proofs.lemmas.List.{length-set}
 use Rattle.std.specs.List.{Contains}
 use Rattle.atomic_table.specs.Seated.{TableId}
-use Rattle.registry_values.specs.declared.entry.Entry.{Entry}
-use Rattle.registry_values.specs.declared.settings.Settings.{Settings}
-use Rattle.registry_values.specs.declared.settings.TheConstants.{MOST_SLOTS}
-use Rattle.protocol.specs.History.{IsAttached}
+use Rattle.passive_list.specs.Types.{Entry, Settings, MOST_SLOTS, CpuView}
+use Rattle.protocol.specs.Common.{IsAttached}
 use Rattle.protocol.proofs.history.History.{at_within}
-use Rattle.cpu_words.specs.declared.view.CpuView.{CpuView}
-use Rattle.cpu_words.specs.Views.{references_to, without}
-use Rattle.cpu_words.specs.Rule.{IsShownCpu}
-use Rattle.cpu_words.specs.Passives.{IsAt, IsAloneAt, HasAdded, HasSubtracted}
+use Rattle.cpu_words.specs.Common.{references_to, without, IsShownCpu, IsAt, IsAloneAt, HasSubtracted}
+use Rattle.cpu_words.specs.Passives.{HasAdded}
 use Rattle.cpu_words.proofs.shown.ReferenceLists.{to_same, to_other, in_cons, counts, one_less, others_stay, was_in}
 use Rattle.passive_list.specs.declared.place.Found.{Found}
 use Rattle.passive_list.specs.declared.place.NumberedCount.{NumberedCount}
-use Rattle.passive_list.specs.Cpus.{no_place, place_at, IsPlaceOf, PassiveAgree, IsOurCpu}
+use Rattle.passive_list.specs.Common.{no_place, place_at, IsPlaceOf, PassiveAgree, IsOurCpu}
 use Rattle.passive_list.proofs.Agreeing.{net_same}
 use Rattle.passive_ref.proofs.Places.{place_of}
 

@@ -1,16 +1,14 @@
 -- A reference that was added is to the entry that was known.
 use Rattle.std.proofs.Common.{◌≡◌, ℕ, Option, None, refl, sym, ◌∙◌, subst}
 use Rattle.std.specs.Prelude.{Result, Ok, Err}
-use Rattle.registry_values.specs.declared.entry.Entry.{Entry}
-use Rattle.registry_values.specs.declared.refusal.Refusal.{Refusal}
-use Rattle.registry_values.specs.declared.refusal.Refusal.TheVariants.{NothingFound}
-use Rattle.registry_values.specs.Refusals.{Answers}
-use Rattle.protocol.specs.History.{IsAttached}
+use Rattle.passive_list.specs.Types.{Entry, Refusal, NothingFound}
+use Rattle.registry_values.specs.Common.{Answers}
+use Rattle.protocol.specs.Common.{IsAttached}
 use Rattle.protocol.proofs.history.History.{one_entry}
 use Rattle.passive_list.specs.declared.place.Found.{Found}
-use Rattle.passive_list.specs.Cpus.{OnCpu}
+use Rattle.passive_list.specs.Common.{OnCpu}
 use Rattle.passive_list.proofs.Agreeing.{IsFoundAs}
-use Rattle.passive_ref.specs.Psrefs.{OnPsref, IsAdded, IsNew, IsAcquired, IsCopied, IsHeldAt, why_full, why_not_acquired, why_not_copied}
+use Rattle.passive_ref.specs.Psrefs.{OnPsref, IsAdded, IsNew, IsAcquired, why_full, why_not_acquired}
 
 -- it is a new reference to that entry
 new_of : (n t : ℕ) (e : Entry) (a b : OnCpu) (p : OnPsref) → IsAttached a.view.pass e → e.number ≡ n → IsAdded t n a b p → IsNew e a b p

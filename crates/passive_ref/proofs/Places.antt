@@ -5,17 +5,14 @@ use Rattle.std.proofs.lemmas.Option.{none-some}
 use Rattle.std.proofs.lemmas.List.Quantifiers.{position-Some}
 use Rattle.std.specs.Prelude.{position}
 use Rattle.std.specs.List.{Contains}
-use Rattle.registry_values.specs.declared.entry.Entry.{Entry}
-use Rattle.registry_values.specs.declared.settings.TheConstants.{MOST_SLOTS}
-use Rattle.protocol.specs.History.{IsAttached}
+use Rattle.passive_list.specs.Types.{Entry, MOST_SLOTS, CpuView}
+use Rattle.protocol.specs.Common.{IsAttached}
 use Rattle.protocol.proofs.history.History.{one_entry, at_within}
 use Rattle.protocol.proofs.slots.Numbers.{position_passes}
-use Rattle.cpu_words.specs.declared.view.CpuView.{CpuView}
-use Rattle.cpu_words.specs.Views.{is_to, references_to}
-use Rattle.cpu_words.specs.Passives.{IsAt}
+use Rattle.cpu_words.specs.Common.{is_to, references_to, IsAt}
 use Rattle.cpu_words.proofs.shown.ReferenceLists.{to_other, in_rest}
 use Rattle.passive_list.specs.declared.place.NumberedCount.{NumberedCount}
-use Rattle.passive_list.specs.Cpus.{no_place, place_at, PassiveAgree}
+use Rattle.passive_list.specs.Common.{no_place, place_at, PassiveAgree}
 use Rattle.passive_ref.specs.Psrefs.{IsHeldAt, counts_for}
 
 -- an entry of the list

@@ -1,15 +1,10 @@
 -- The words of a record, loaded while the CPU's view stays as it was.
 use Rattle.std.proofs.Common.{◌≡◌, ◌++◌, ℕ, true, sym, ap, ◌∙◌, subst}
 use Rattle.registry_values.specs.Names.{are_name_words}
-use Rattle.registry_values.specs.declared.entry.Entry.{Entry}
-use Rattle.protocol.specs.declared.event.Event.TheVariants.{LoadRecord}
-use Rattle.protocol.specs.declared.event.RecordOf.TheVariants.{Passive}
-use Rattle.protocol.specs.declared.event.Reply.TheVariants.{Word}
-use Rattle.protocol.specs.Events.{word, words_of}
-use Rattle.cpu_words.specs.declared.view.CpuView.{CpuView}
-use Rattle.cpu_words.specs.Passives.{IsWordOf, IsNamed}
-use Rattle.cpu_words.specs.Rule.{did}
-use Rattle.passive_list.specs.Cpus.{OnCpu}
+use Rattle.passive_list.specs.Types.{Entry, LoadRecord, Passive, Word, CpuView}
+use Rattle.protocol.specs.Common.{word, words_of}
+use Rattle.cpu_words.specs.Common.{IsWordOf, IsNamed, did}
+use Rattle.passive_list.specs.Common.{OnCpu}
 use Rattle.passive_ref.specs.Psrefs.{HasLoaded, IsHeldAt, has_loaded}
 
 -- a word that was loaded is the entry's

@@ -1,24 +1,12 @@
 -- Passive references of a CPU (psref(9)): why a call is refused, and what it answers and leaves.
 use Rattle.std.specs.Prelude.{◌≡◌, ◌⊎◌, ℕ, ◌<◌, ◌==◌, ◌&&◌, nat_lt, Bool, List, ◌∷◌, ◌++◌, Option, Some, None, Result, Ok, Err}
 use Rattle.std.specs.List.{Contains}
-use Rattle.registry_values.specs.declared.entry.Entry.{Entry}
-use Rattle.registry_values.specs.declared.entry.Record.{Record}
-use Rattle.registry_values.specs.declared.refusal.Refusal.{Refusal}
-use Rattle.registry_values.specs.declared.refusal.Refusal.TheVariants.{NothingFound}
+use Rattle.passive_list.specs.Types.{Entry, Record, Refusal, NothingFound, MOST_SLOTS, LoadRecord, PassiveAdd, PassiveSub, Passive, Word, CpuView, LogItem}
 use Rattle.registry_values.specs.Answers as answers
-use Rattle.registry_values.specs.declared.settings.TheConstants.{MOST_SLOTS}
-use Rattle.protocol.specs.declared.event.Event.TheVariants.{LoadRecord, PassiveAdd, PassiveSub}
-use Rattle.protocol.specs.declared.event.RecordOf.TheVariants.{Passive}
-use Rattle.protocol.specs.declared.event.Reply.TheVariants.{Word}
-use Rattle.protocol.specs.Events.{word, words_of}
-use Rattle.protocol.specs.History.{IsAttached}
-use Rattle.cpu_words.specs.declared.view.CpuView.{CpuView}
-use Rattle.cpu_words.specs.declared.view.LogItem.{LogItem}
-use Rattle.cpu_words.specs.Rule.{did}
-use Rattle.cpu_words.specs.Views.{references_to, without}
-use Rattle.cpu_words.specs.Passives.{IsAt}
+use Rattle.protocol.specs.Common.{word, words_of, IsAttached}
+use Rattle.cpu_words.specs.Common.{did, references_to, without, IsAt}
 use Rattle.passive_list.specs.declared.place.NumberedCount.{NumberedCount}
-use Rattle.passive_list.specs.Cpus.{OnCpu}
+use Rattle.passive_list.specs.Common.{OnCpu}
 
 -- a passive reference, to a contract: the CPU that it was acquired on, and the number of its entry
 pub record OnPsref : Type 0 where

@@ -1,8 +1,8 @@
 //! Passive references (psref(9)): acquired, copied and released on one CPU, by one step each on a word of its own.
 
 ghost use Rattle.std.specs.Prelude.{◌≡◌, ◌<◌, IfErr};
-ghost use Rattle.registry_values.specs.Refusals.{Answers};
-ghost use Rattle.cpu_words.specs.Domains.{AreWordsOf};
+ghost use Rattle.registry_values.specs.Common.{Answers};
+ghost use Rattle.cpu_words.specs.Common.{AreWordsOf};
 ghost use Rattle.passive_ref.specs.Psrefs.{MayRefer, IsHeldAt, IsAcquired, IsCopied, IsAdded, HasOneLess, GivesBack, why_full, why_unusable, why_not_acquired, why_not_copied};
 
 use crate::holding::{count_of, usable_slot};

@@ -1,8 +1,8 @@
 //! What a CPU holds: found in its own plain data, with no step.
 
 ghost use Rattle.std.specs.Prelude.{◌≡◌, ◌↔◌, ◌<◌, IsTrue, IfSome, position, length, None};
-ghost use Rattle.cpu_words.specs.Views.{references_to};
-ghost use Rattle.registry_values.specs.Refusals.{Answers};
+ghost use Rattle.cpu_words.specs.Common.{references_to};
+ghost use Rattle.registry_values.specs.Common.{Answers};
 ghost use Rattle.passive_ref.specs.Psrefs.{IsHeldAt, MayRefer, counts_for, why_unusable};
 
 use crate::psref::Psref;

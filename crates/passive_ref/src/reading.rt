@@ -1,13 +1,9 @@
 //! Reading (psref(9)): the record of an entry that this CPU refers to, by four loads.
 
 ghost use Rattle.std.specs.Prelude.{◌≡◌, ◌<◌, ◌++◌, IfErr};
-ghost use Rattle.registry_values.specs.Refusals.{Answers};
-ghost use Rattle.protocol.specs.declared.event.Event.TheVariants.{LoadRecord};
-ghost use Rattle.protocol.specs.declared.event.RecordOf.TheVariants.{Passive};
-ghost use Rattle.protocol.specs.declared.event.Reply.TheVariants.{Word};
-ghost use Rattle.cpu_words.specs.Domains.{AreWordsOf};
-ghost use Rattle.cpu_words.specs.Rule.{did};
-ghost use Rattle.cpu_words.specs.Passives.{IsWordOf, IsNamed};
+ghost use Rattle.registry_values.specs.Common.{Answers};
+ghost use Rattle.passive_list.specs.Types.{LoadRecord, Passive, Word};
+ghost use Rattle.cpu_words.specs.Common.{AreWordsOf, did, IsWordOf, IsNamed};
 ghost use Rattle.passive_ref.specs.Psrefs.{IsHeldAt, IsRead, IsReadAs, why_unusable};
 
 use crate::holding::usable_slot;

@@ -1,10 +1,7 @@
 -- The history of changes: which entry is live when, what a lookup may answer, what a section may hold.
 use Rattle.std.specs.Prelude.{◌≡◌, ℕ, zero, suc, ◌<◌, ◌≤◌, List, ◌∷◌, [], ◌++◌, Option, Some, None, slice_get}
-use Rattle.registry_values.specs.declared.entry.Entry.{Entry}
-use Rattle.registry_values.specs.declared.entry.Change.{Change}
-use Rattle.registry_values.specs.declared.entry.Change.TheVariants.{Attach, Detach}
-use Rattle.registry_values.specs.declared.slot.Key.{Key}
-use Rattle.registry_values.specs.Slots.{key_of}
+use Rattle.protocol.specs.Types.{Entry, Change, Attach, Detach, Key}
+use Rattle.registry_values.specs.Common.{key_of}
 
 -- the change at a position; positions count from 1
 unfoldable pub change_at : List Change → ℕ → Option Change

@@ -1,15 +1,7 @@
 -- The core invariant: what holds in every state that events reach. Each clause takes just the lists that it speaks of, so an event passes on what it leaves alone.
 use Rattle.std.specs.Prelude.{◌≡◌, ℕ, zero, suc, ◌+◌, ◌*◌, ◌<◌, ◌≤◌, ◌%◌, ◌⊎◌, List, [], length, sum_by, Option, Some, None, Bool, true, false, IsTrue, ◌==◌, if◌then◌else◌, slice_index_or}
-use Rattle.registry_values.specs.declared.entry.Kind.TheVariants.{Driver}
-use Rattle.registry_values.specs.declared.entry.Entry.{Entry}
-use Rattle.registry_values.specs.declared.entry.Change.{Change}
-use Rattle.registry_values.specs.declared.settings.Settings.{Settings}
-use Rattle.registry_values.specs.declared.settings.TheConstants.{MOST_CPUS}
-use Rattle.registry_values.specs.declared.slot.Key.{Key}
+use Rattle.protocol.specs.Types.{Driver, Entry, Change, Settings, MOST_CPUS, Key, Slot, Vacant, Live, Retired, Mark}
 use Rattle.protocol.specs.declared.state.RecordWords.{RecordWords}
-use Rattle.registry_values.specs.declared.slot.Slot.{Slot}
-use Rattle.registry_values.specs.declared.slot.Slot.TheVariants.{Vacant, Live, Retired}
-use Rattle.registry_values.specs.declared.mark.Mark.{Mark}
 use Rattle.protocol.specs.declared.state.SearchPlace.{SearchPlace}
 use Rattle.protocol.specs.declared.state.SearchPlace.TheVariants.{AtHead, AtNext, AtNumber, AtKind, AtHigh, AtLow, AtValue}
 use Rattle.protocol.specs.declared.state.Search.{Search}
@@ -19,12 +11,10 @@ use Rattle.protocol.specs.declared.state.LocalPlace.{LocalPlace}
 use Rattle.protocol.specs.declared.state.LocalPlace.TheVariants.{Free, Standing, Lifted}
 use Rattle.protocol.specs.declared.state.Due.{Due}
 use Rattle.protocol.specs.declared.state.Due.TheVariants.{Rest, Snapshots, Adding, Subtracting}
-use Rattle.registry_values.specs.Limits.{are_fit}
+use Rattle.registry_values.specs.Common.{are_fit, key_of, slot_at, kind_word, live_count, bias}
 use Rattle.registry_values.specs.Names.{are_name_words}
-use Rattle.registry_values.specs.Slots.{key_of, slot_at, kind_word, live_count}
 use Rattle.protocol.specs.History.{IsAttached, EndsAt, IsLiveAt, IsLegal, MayHold}
 use Rattle.protocol.specs.State.{State, row_at, mark_at, passive_at, count_at, total_at, kept_at, local_at}
-use Rattle.registry_values.specs.Balances.{bias}
 use Rattle.protocol.specs.Events.{words_of, keeps_rightly}
 
 -- e is live or retired here

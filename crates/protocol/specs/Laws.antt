@@ -1,20 +1,15 @@
 -- The laws of the core, over every list of events.
 use Rattle.std.specs.Prelude.{◌≡◌, ℕ, suc, ◌+◌, ◌*◌, ◌%◌, ◌<◌, ◌≤◌, ◌⊎◌, IsTrue, IsSome, List, [], ◌∷◌, ◌++◌, length, sum_by, Option, Some, None, true, slice_index_or}
-use Rattle.registry_values.specs.declared.entry.Kind.TheVariants.{Iface, Driver}
-use Rattle.registry_values.specs.declared.entry.Entry.{Entry}
-use Rattle.registry_values.specs.declared.entry.Change.{Change}
-use Rattle.registry_values.specs.declared.settings.Settings.{Settings}
+use Rattle.protocol.specs.Types.{Iface, Driver, Entry, Change, Settings}
 use Rattle.protocol.specs.declared.event.Event.{Event}
 use Rattle.protocol.specs.declared.event.Event.TheVariants.{Exit, Seek, LoadLink, LoadRecord, StoreSlot, StoreNext, Publish, Keep, KeptSub, Vacate}
 use Rattle.protocol.specs.declared.event.RecordOf.TheVariants.{Search as OfSearch}
 use Rattle.protocol.specs.declared.event.Reply.{Reply}
 use Rattle.protocol.specs.declared.event.Reply.TheVariants.{Done, Word, Found, Missed, Ref, Collected}
 use Rattle.protocol.specs.declared.state.Search.{Search}
-use Rattle.registry_values.specs.Limits.{are_fit}
+use Rattle.registry_values.specs.Common.{are_fit, bias, slot_at}
 use Rattle.protocol.specs.History.{IsAttached, EndsAt, IsLawful}
 use Rattle.protocol.specs.State.{State, opening, section_at, begin_at, seen_at, search_at, count_at, total_at, kept_at, at_rest}
-use Rattle.registry_values.specs.Balances.{bias}
-use Rattle.registry_values.specs.Slots.{slot_at}
 use Rattle.protocol.specs.Events.{Outcome, step, state_after}
 use Rattle.protocol.specs.Invariant.{Holds, IsIn, IsCounting, kept_of, held_at, one_if_used, itself}
 use Rattle.protocol.specs.Run.{run_of_events, empty_run}

@@ -1,3 +1,4 @@
+pub mod Common
 pub mod Events
 pub mod History
 pub mod Invariant
@@ -10,3 +11,4 @@ pub mod Rows
 pub mod Run
 pub mod State
 pub mod Taken
+pub mod Types

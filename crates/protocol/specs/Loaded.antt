@@ -1,8 +1,7 @@
 -- What a search does with the record words of its slot, apart from the core's state.
 use Rattle.std.specs.Prelude.{ℕ, ◌<◌, List, Option, Some, None, Bool, true, false}
-use Rattle.registry_values.specs.Slots.{are_words_of}
-use Rattle.registry_values.specs.declared.entry.Entry.{Entry}
-use Rattle.registry_values.specs.declared.slot.Key.{Key}
+use Rattle.registry_values.specs.Common.{are_words_of}
+use Rattle.protocol.specs.Types.{Entry, Key}
 use Rattle.protocol.specs.declared.state.RecordWords.{RecordWords}
 use Rattle.protocol.specs.declared.state.SearchPlace.{SearchPlace}
 use Rattle.protocol.specs.declared.state.SearchPlace.TheVariants.{AtHead, AtNext, AtNumber, AtKind, AtHigh, AtLow, AtValue}

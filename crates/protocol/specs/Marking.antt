@@ -1,7 +1,7 @@
 -- What a row of marks has come to say, and what it says of all CPUs.
 use Rattle.std.specs.Prelude.{◌≡◌, ℕ, ◌<◌, List, [], true, slice_index_or}
-use Rattle.registry_values.specs.declared.mark.Mark.{Mark}
-use Rattle.registry_values.specs.Marks.{Grows}
+use Rattle.protocol.specs.Types.{Mark}
+use Rattle.registry_values.specs.Common.{Grows}
 use Rattle.protocol.specs.State.{State, mark_at}
 
 -- what is so of the marks of all CPUs for the slot t

@@ -1,10 +1,6 @@
 -- The registry without words: a history, sections, holders, lookups and occupants, the steps that are lawful, and their runs.
 use Rattle.std.specs.Prelude.{◌≡◌, ℕ, suc, ◌+◌, ◌-◌, ◌<◌, ◌≤◌, ◌==◌, List, [], length, Option, Some, None, true, if◌then◌else◌}
-use Rattle.registry_values.specs.declared.entry.Kind.TheVariants.{Driver}
-use Rattle.registry_values.specs.declared.entry.Entry.{Entry}
-use Rattle.registry_values.specs.declared.entry.Change.{Change}
-use Rattle.registry_values.specs.declared.entry.Change.TheVariants.{Attach, Detach}
-use Rattle.registry_values.specs.declared.slot.Key.{Key}
+use Rattle.protocol.specs.Types.{Driver, Entry, Change, Attach, Detach, Key}
 use Rattle.protocol.specs.History.{after_change, IsAttached, EndsAt, IsLegal, MayHold, IsLawful}
 use Rattle.protocol.specs.Events.{keeps_rightly}
 

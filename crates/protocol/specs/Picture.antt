@@ -1,15 +1,12 @@
 -- The picture of a core state: the model state that it shows.
 use Rattle.std.specs.Prelude.{ℕ, ◌+◌, List, Option, Some, None, IsTrue, sum_by, if◌then◌else◌}
 use Rattle.protocol.specs.declared.event.Event.{Event}
-use Rattle.registry_values.specs.declared.settings.Settings.{Settings}
-use Rattle.registry_values.specs.declared.slot.Slot.{Slot}
-use Rattle.registry_values.specs.declared.slot.Slot.TheVariants.{Vacant, Live, Retired}
+use Rattle.protocol.specs.Types.{Settings, Slot, Vacant, Live, Retired}
 use Rattle.protocol.specs.declared.state.Search.{Search}
 use Rattle.protocol.specs.declared.state.Due.{Due}
 use Rattle.protocol.specs.declared.state.Due.TheVariants.{Rest, Snapshots, Adding, Subtracting}
-use Rattle.registry_values.specs.Limits.{are_fit}
+use Rattle.registry_values.specs.Common.{are_fit, slot_at, has_number, slot_of}
 use Rattle.protocol.specs.State.{State, begin_at, seen_at, search_at, found_at, kept_at, passive_at, opening}
-use Rattle.registry_values.specs.Slots.{slot_at, has_number, slot_of}
 use Rattle.protocol.specs.Invariant.{standing_of, in_hand}
 use Rattle.protocol.specs.Run.{run_of_events, empty_run}
 use Rattle.protocol.specs.Model.{Model, Lookup, empty_model, IsModelRun}

@@ -1,23 +1,14 @@
 -- Two worked rows, event by event: a search along the frozen link of an unlinked entry, and a reference given back while its count is collected.
 use Rattle.std.specs.Prelude.{◌≡◌, ℕ, ◌-◌, List, ◌∷◌, [], ◌++◌, replicate, Option, Some, None}
-use Rattle.registry_values.specs.declared.entry.Kind.TheVariants.{Driver}
-use Rattle.registry_values.specs.declared.entry.Entry.{Entry}
-use Rattle.registry_values.specs.declared.name.Name.{Name}
-use Rattle.registry_values.specs.declared.settings.Settings.{Settings}
-use Rattle.registry_values.specs.declared.settings.TheConstants.{MOST_CPUS}
+use Rattle.protocol.specs.Types.{Driver, Entry, Name, Settings, MOST_CPUS, Attach, Detach, Vacant, Live, Retired, Mark}
 use Rattle.protocol.specs.declared.event.Event.{Event}
 use Rattle.protocol.specs.declared.event.Event.TheVariants.{Seat, Enter, Exit, Seek, LoadLink, LoadRecord, StoreSlot, StoreNext, Publish, Unpublish, Tell, Hear, Snapshot, Look, PassiveLook, CountAdd, SplitRef, JoinRef, CountDown, SplitBack, Collect, TotalAdd, JoinKeeper, TotalSub, Vacate}
 use Rattle.protocol.specs.declared.event.RecordOf.TheVariants.{Search as OfSearch}
 use Rattle.protocol.specs.declared.event.Reply.{Reply}
 use Rattle.protocol.specs.declared.event.Reply.TheVariants.{Done, Word, Found, Ref, Collected}
-use Rattle.registry_values.specs.declared.entry.Change.TheVariants.{Attach, Detach}
-use Rattle.registry_values.specs.declared.slot.Slot.TheVariants.{Vacant, Live, Retired}
 use Rattle.protocol.specs.declared.state.SearchPlace.TheVariants.{AtHigh}
-use Rattle.registry_values.specs.declared.mark.Mark.{Mark}
-use Rattle.registry_values.specs.Slots.{key_of, kind_word}
+use Rattle.registry_values.specs.Common.{key_of, kind_word, bias, no_mark}
 use Rattle.protocol.specs.State.{State, opening}
-use Rattle.registry_values.specs.Balances.{bias}
-use Rattle.registry_values.specs.Marks.{no_mark}
 use Rattle.protocol.specs.Events.{Outcome, step, state_after, words_of, snapshot_mark}
 use Rattle.protocol.specs.Run.{run_of_events, empty_run}
 use Rattle.protocol.specs.Laws.{after}

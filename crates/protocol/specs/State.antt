@@ -1,13 +1,7 @@
 -- The state of the core: its words, and what stands beside them.
 use Rattle.std.specs.Prelude.{ℕ, List, [], false, Option, None, replicate, slice_index_or, slice_set, Bool, true, ◌++◌, drop}
-use Rattle.registry_values.specs.declared.entry.Entry.{Entry}
-use Rattle.registry_values.specs.declared.entry.Change.{Change}
-use Rattle.registry_values.specs.declared.settings.Settings.{Settings}
-use Rattle.registry_values.specs.declared.settings.TheConstants.{MOST_CPUS}
+use Rattle.protocol.specs.Types.{Entry, Change, Settings, MOST_CPUS, Slot, Vacant, Mark}
 use Rattle.protocol.specs.declared.state.RecordWords.{RecordWords}
-use Rattle.registry_values.specs.declared.slot.Slot.{Slot}
-use Rattle.registry_values.specs.declared.slot.Slot.TheVariants.{Vacant}
-use Rattle.registry_values.specs.declared.mark.Mark.{Mark}
 use Rattle.protocol.specs.declared.state.Search.{Search}
 use Rattle.protocol.specs.declared.state.Hand.{Hand}
 use Rattle.protocol.specs.declared.state.Hand.TheVariants.{Empty, Taking, Giving, Back}
@@ -15,8 +9,7 @@ use Rattle.protocol.specs.declared.state.LocalPlace.{LocalPlace}
 use Rattle.protocol.specs.declared.state.LocalPlace.TheVariants.{Free}
 use Rattle.protocol.specs.declared.state.Due.{Due}
 use Rattle.protocol.specs.declared.state.Due.TheVariants.{Rest, Snapshots, Adding, Subtracting}
-use Rattle.registry_values.specs.Balances.{bias}
-use Rattle.registry_values.specs.Marks.{no_mark}
+use Rattle.registry_values.specs.Common.{bias, no_mark}
 
 pub record State : Type 0 where
   pub settings : Settings

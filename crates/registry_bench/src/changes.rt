@@ -2,8 +2,8 @@
 //! where that is what a turn is to meet.
 
 ghost use Rattle.std.specs.Prelude.{◌≡◌, IsTrue};
-ghost use Rattle.registry_values.specs.Names.{is_lawful};
-ghost use Rattle.name_registry.specs.Opening.{IsBlankOf};
+ghost use Rattle.registry_values.specs.Common.{is_lawful};
+ghost use Rattle.name_registry.specs.Common.{IsBlankOf};
 
 use crate::loops::leave;
 use crate::opening::{attach_all, driver, settings_for};

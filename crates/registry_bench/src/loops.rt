@@ -1,7 +1,7 @@
 //! The loops that are measured. Each answers how many operations it made before the first that went wrong.
 
 ghost use Rattle.std.specs.Prelude.{◌≢◌, None};
-ghost use Rattle.cpu_words.specs.Domains.{AreWordsOf};
+ghost use Rattle.cpu_words.specs.Common.{AreWordsOf};
 
 use bench_plans::Operation;
 use cpu_words::{Domain, Words};

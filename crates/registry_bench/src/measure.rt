@@ -1,7 +1,7 @@
 //! Runs of many threads, and their times.
 
 ghost use Rattle.std.specs.Prelude.{◌≡◌};
-ghost use Rattle.name_registry.specs.Opening.{IsBlankOf};
+ghost use Rattle.name_registry.specs.Common.{IsBlankOf};
 
 use crate::gate::Gate;
 use crate::loops::{leave, make, prepare};

@@ -1,7 +1,7 @@
 //! A registry to measure: its settings, and its entries, the drivers `d00`, `d01` and so on.
 
 ghost use Rattle.std.specs.Prelude.{IfOk, IsTrue};
-ghost use Rattle.registry_values.specs.Names.{is_lawful};
+ghost use Rattle.registry_values.specs.Common.{is_lawful};
 
 use bench_plans::Failure;
 use cpu_words::Domain;

@@ -1,8 +1,8 @@
 //! What a change costs: an entry is detached, destroyed and attached again, while other CPUs enter and leave sections.
 
 ghost use Rattle.std.specs.Prelude.{◌≡◌, IsTrue};
-ghost use Rattle.registry_values.specs.Names.{is_lawful};
-ghost use Rattle.name_registry.specs.Opening.{IsBlankOf};
+ghost use Rattle.registry_values.specs.Common.{is_lawful};
+ghost use Rattle.name_registry.specs.Common.{IsBlankOf};
 
 use crate::gate::Gate;
 use crate::loops::leave;

@@ -3,22 +3,15 @@ use Rattle.std.proofs.Common.{◌≡◌, ◌≢◌, inl, inr, ⊎_elim, ℕ, zer
 use Rattle.std.specs.List.{All}
 use Rattle.std.proofs.lemmas.Bool.{cases_lt}
 use Rattle.std.proofs.lemmas.Int.{ints}
-use Rattle.std.proofs.lemmas.List.{drop-drop, drop-set-lt, get_or-set_other, get_or-set_same, get_or-take, length-map, map-append, map_more, take_all, take_more_set}
+use Rattle.std.proofs.lemmas.List.{drop-drop, drop-set-lt, get_or-set_other, get_or-set_same, length-map, map-append, map_more, take_more_set}
 use Rattle.std.proofs.lemmas.List.Elements.{All-cons, All-head, All-nil, All-push, All-same, All-tail}
 use mathlib.Core.Logic.{dite}
 use native.Mathlib.Decide.{ℕ_discrete}
-use Rattle.registry_values.specs.declared.entry.Entry.{Entry}
-use Rattle.registry_values.specs.declared.settings.Settings.{Settings}
-use Rattle.registry_values.specs.declared.slot.Slot.{Slot}
-use Rattle.registry_values.specs.declared.slot.Slot.TheVariants.{Vacant, Live, Retired}
-use Rattle.registry_values.specs.Balances.{Tally, less_bias, sum_of}
-use Rattle.registry_values.specs.Slots.{slot_at}
-use Rattle.registry_values.specs.declared.settings.TheConstants.{MOST_CPUS}
-use Rattle.protocol.specs.Invariant.{IsIn}
-use Rattle.protocol.specs.State.{total_at}
-use Rattle.passive_list.specs.Cpus.{OnCpu, OnPlainCpu}
-use Rattle.passive_list.specs.Keepers.{OnKeeper}
-use Rattle.name_registry.specs.Auditing.{AreAllCpus, AreAlike, HasListened, IsKeeperOf, IsTallied, each_at, each_below, listed_at, local_met, locals_met, places_below, tallies_met, tally_met, tally_of}
+use Rattle.registry_c.specs.Types.{Entry, Settings, Slot, Vacant, Live, Retired, MOST_CPUS}
+use Rattle.registry_values.specs.Common.{Tally, less_bias, sum_of, slot_at}
+use Rattle.protocol.specs.Common.{IsIn, total_at}
+use Rattle.passive_list.specs.Common.{OnCpu, OnPlainCpu, OnKeeper}
+use Rattle.name_registry.specs.Common.{AreAllCpus, AreAlike, HasListened, IsKeeperOf, IsTallied, each_at, listed_at, local_met, locals_met, places_below, tallies_met, tally_met, tally_of}
 use Rattle.name_registry.proofs.Audits.{cpu_at, each_all, each_more, each_none, each_same, tally_is}
 use Rattle.name_registry.proofs.Gathered.{tallies_learned}
 use Rattle.name_registry.proofs.Tallies.{alike_held, alike_tally}

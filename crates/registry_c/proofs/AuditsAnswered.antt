@@ -1,11 +1,9 @@
 -- What an audit answers, by the test that it came to.
 use Rattle.std.proofs.Common.{◌≡◌, ℕ, ◌<◌, ◌≤◌, true, List, [], ◌∷◌, length, Option, Some, None, refl, arith}
 use Rattle.std.proofs.lemmas.Bool.{false≢true}
-use Rattle.registry_values.specs.declared.refusal.Refusal.TheVariants.{MissingCpu}
-use Rattle.registry_values.specs.declared.settings.Settings.{Settings}
-use Rattle.registry_values.specs.Refusals.{number_of_refusal}
-use Rattle.passive_list.specs.Cpus.{OnPlainCpu}
-use Rattle.passive_list.specs.Keepers.{OnKeeper, OnPlainKeeper}
+use Rattle.registry_c.specs.Types.{MissingCpu, Settings}
+use Rattle.registry_values.specs.Common.{number_of_refusal}
+use Rattle.passive_list.specs.Common.{OnPlainCpu, OnKeeper, OnPlainKeeper}
 use Rattle.held.specs.Rows.{is_nothing}
 use Rattle.registry_c.specs.declared.audit.CBalance.{CBalance}
 use Rattle.registry_c.specs.declared.values.TheConstants.{DONE, NO_ROOM}

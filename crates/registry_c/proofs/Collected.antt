@@ -1,15 +1,12 @@
 -- Whether a count of a retired entry was collected.
 use Rattle.std.proofs.Common.{◌≡◌, ℕ, zero, suc, ◌+◌, ◌<◌, ◌≤◌, ◌||◌, Bool, true, false, Option, Some, None, inl, inr, refl, sym, ap, ◌∙◌, arith, add-one, ⊎_elim}
 use Rattle.std.proofs.lemmas.Bool.{and_parts, cases_lt, eqb-true, false≢true}
-use Rattle.registry_values.specs.declared.entry.Entry.{Entry}
-use Rattle.registry_values.specs.declared.slot.Slot.{Slot}
-use Rattle.registry_values.specs.declared.slot.Slot.TheVariants.{Vacant, Live, Retired}
+use Rattle.registry_c.specs.Types.{Entry, Slot, Vacant, Live, Retired, ReferenceView}
 use Rattle.std.specs.Prelude.{is_some}
-use Rattle.registry_values.specs.Slots.{is_retired_as, slot_at}
-use Rattle.protocol.specs.State.{mark_at}
-use Rattle.cpu_words.specs.declared.view.ReferenceView.{ReferenceView}
-use Rattle.cpu_words.specs.Draining.{IsFoundCollected}
-use Rattle.passive_list.specs.Keepers.{OnKeeper}
+use Rattle.registry_values.specs.Common.{is_retired_as, slot_at}
+use Rattle.protocol.specs.Common.{mark_at}
+use Rattle.cpu_words.specs.Common.{IsFoundCollected}
+use Rattle.passive_list.specs.Common.{OnKeeper}
 use Rattle.registry_c.specs.Collected.{are_collected_for, some_collected}
 
 -- an entry that is retired as n has that number

@@ -6,10 +6,9 @@ use Rattle.std.proofs.lemmas.Option.{none-some}
 use mathlib.Core.Option.{some}
 use lib.ListN.{get_elem?}
 use Rattle.atomic_table.specs.Seated.{TableId}
-use Rattle.registry_values.specs.declared.entry.Change.{Change}
-use Rattle.cpu_words.specs.Views.{Named}
-use Rattle.cpu_words.specs.declared.view.LogItem.{LogItem}
-use Rattle.passive_list.specs.Cpus.{OnCpu, OnPlainCpu}
+use Rattle.registry_c.specs.Types.{Change, LogItem}
+use Rattle.cpu_words.specs.Common.{Named}
+use Rattle.passive_list.specs.Common.{OnCpu, OnPlainCpu}
 use Rattle.name_registry.proofs.Gathered.{Gathered, gathered_learned, gathered_more, learned_none}
 use Rattle.registry_c.specs.declared.handle.CpuHandle.{CpuHandle}
 use Rattle.registry_c.specs.Audits.{AreAllHere, HaveHeard, PassesOn, cpu_in, cpus_in}

@@ -1,20 +1,11 @@
 -- Where a turn freed the slot of an entry, the entry is gone from there, by what the keeper did and what the CPU has heard of it.
 use Rattle.std.proofs.Common.{◌≡◌, ◌∙◌, sym, ℕ, Bool, false, List, Option, Ok, Err, Result, IfOk}
 use Rattle.std.proofs.lemmas.Bool.{false≢true}
-use Rattle.registry_values.specs.declared.refusal.Refusal.{Refusal}
-use Rattle.registry_values.specs.declared.stage.Stage.{Stage}
-use Rattle.registry_values.specs.declared.stage.Stage.TheVariants.{Grace, Passive, Local, Freed}
-use Rattle.registry_values.specs.declared.refusal.Refusal.TheVariants.{NoMemory, BadSettings, NameTaken, NoSlot, HistoryFull, NotFound, Inside, SectionsSpent, NothingFound, PassiveFull, WrongCpu, NotHeld, LocalFull, NotRetired, MissingCpu, StillHeld, Waiting, TooDeep, NeedsDriver}
-use Rattle.registry_values.specs.declared.settings.Settings.{Settings}
-use Rattle.registry_values.specs.Refusals.{number_of_refusal}
-use Rattle.cpu_words.specs.declared.view.LogItem.{LogItem}
-use Rattle.cpu_words.specs.KeeperLog.{IsFreedFrom}
-use Rattle.passive_list.specs.Cpus.{OnCpu, OnPlainCpu}
-use Rattle.passive_list.specs.Keepers.{OnKeeper, OnPlainKeeper}
-use Rattle.name_registry.specs.Destroying.{HasAdvancedFor}
-use Rattle.name_registry.specs.Locking.{IsStageOf}
-use Rattle.name_registry.specs.Obstacles.{IsTurn}
-use Rattle.name_registry.specs.Advancing.{HasAdvanced}
+use Rattle.registry_c.specs.Types.{Refusal, Stage, Grace, Passive, Local, Freed, NoMemory, BadSettings, NameTaken, NoSlot, HistoryFull, NotFound, Inside, SectionsSpent, NothingFound, PassiveFull, WrongCpu, NotHeld, LocalFull, NotRetired, MissingCpu, StillHeld, Waiting, TooDeep, NeedsDriver, Settings, LogItem}
+use Rattle.registry_values.specs.Common.{number_of_refusal}
+use Rattle.cpu_words.specs.Common.{IsFreedFrom}
+use Rattle.passive_list.specs.Common.{OnCpu, OnPlainCpu, OnKeeper, OnPlainKeeper}
+use Rattle.name_registry.specs.Common.{HasAdvancedFor, IsStageOf, IsTurn, HasAdvanced}
 use Rattle.name_registry.proofs.Destroyed.{advanced_freed, met_gone}
 use Rattle.registry_c.specs.declared.values.TheConstants.{DONE}
 use Rattle.registry_c.specs.declared.values.CStage.{CStage}

@@ -8,7 +8,7 @@ use lib.ListN.{get_elem?}
 use Rattle.atomic_table.proofs.Lists.{at_last}
 use Rattle.std_alloc.specs.declared.boxed.Box.{Box}
 use Rattle.std_heap.specs.declared.Global.{Global}
-use Rattle.passive_list.specs.Cpus.{OnPlainCpu}
+use Rattle.passive_list.specs.Common.{OnPlainCpu}
 use Rattle.registry_c.specs.declared.handle.CpuHandle.{CpuHandle}
 use Rattle.registry_c.specs.Opening.{AreGiven, bodies_of, body_at, boxed}
 

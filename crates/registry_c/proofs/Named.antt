@@ -1,6 +1,6 @@
 -- A name that two words have is the only one.
 use Rattle.std.proofs.Common.{◌≡◌, Option, Some, None, sym, ◌∙◌}
-use Rattle.registry_values.specs.declared.name.Name.{Name}
+use Rattle.registry_c.specs.Types.{Name}
 
 same_some : (m n : Name) → ◌≡◌ {A = Option Name} (Some m) (Some n) → m ≡ n
 same_some m n q = cc

@@ -1,19 +1,12 @@
 -- No entry that the keeper has as retired has the number 0, which stands for none in a wait.
 use Rattle.std.proofs.Common.{◌≡◌, ne_eqb, Bool, if◌then◌else◌, ℕ, ◌<◌, List, [], ◌∷◌, get_or, map, Option, Some, None, refl, sym, ap, ◌∙◌, subst, arith, zero, suc}
 use Rattle.std.proofs.lemmas.Option.{same_Some}
-use Rattle.registry_values.specs.declared.entry.Change.TheVariants.{Attach}
-use Rattle.registry_values.specs.declared.entry.Entry.{Entry}
-use Rattle.registry_values.specs.declared.settings.Settings.{Settings}
-use Rattle.registry_values.specs.declared.slot.Slot.{Slot}
-use Rattle.registry_values.specs.declared.slot.Slot.TheVariants.{Vacant, Live, Retired}
-use Rattle.registry_values.specs.Slots.{retired_number, slot_at}
+use Rattle.registry_c.specs.Types.{Attach, Entry, Settings, Slot, Vacant, Live, Retired, LogItem, KeeperView, KeptSlot}
+use Rattle.registry_values.specs.Common.{retired_number, slot_at}
 use Rattle.protocol.proofs.history.History.{at_within}
-use Rattle.cpu_words.specs.declared.view.LogItem.{LogItem}
-use Rattle.cpu_words.specs.declared.view.KeeperView.{KeeperView}
-use Rattle.cpu_words.specs.Rule.{IsShown}
+use Rattle.cpu_words.specs.Common.{IsShown}
 use Rattle.cpu_words.proofs.by_keeper.KeeperSees.{seen_by_keeper}
-use Rattle.passive_list.specs.declared.keeper.KeptSlot.{KeptSlot}
-use Rattle.passive_list.specs.Keepers.{OnKeeper, states_of, IsOurKeeper}
+use Rattle.passive_list.specs.Common.{OnKeeper, states_of, IsOurKeeper}
 use Rattle.passive_list.proofs.Rows.{retired_in}
 use Rattle.registry_c.specs.Flags.{none_or_number, number_or_none}
 

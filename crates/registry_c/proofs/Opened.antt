@@ -4,8 +4,8 @@ use Rattle.std.proofs.lemmas.Bool.{cases_lt}
 use mathlib.Core.Option.{some, some-injective}
 use lib.ListN.{get_elem?}
 use Rattle.atomic_table.proofs.Lists.{at_last}
-use Rattle.cpu_words.specs.Views.{Named}
-use Rattle.passive_list.specs.Cpus.{OnPlainCpu}
+use Rattle.cpu_words.specs.Common.{Named}
+use Rattle.passive_list.specs.Common.{OnPlainCpu}
 use Rattle.registry_c.specs.Opening.{AreGiven, body_at, opened_cpu, opened_down}
 
 -- one CPU more

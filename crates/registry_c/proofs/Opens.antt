@@ -1,13 +1,11 @@
 -- What opening a registry answers, by the test that it came to.
 use Rattle.std.proofs.Common.{◌≡◌, ◌≢◌, ⊎_elim, ℕ, List, length, true, false, Option, Some, None, refl, sym, ◌∙◌}
 use Rattle.std.proofs.lemmas.Bool.{false≢true}
-use Rattle.registry_values.specs.declared.refusal.Refusal.TheVariants.{BadSettings, MissingCpu}
-use Rattle.registry_values.specs.Limits.{are_fit}
-use Rattle.registry_values.specs.Refusals.{number_of_refusal}
-use Rattle.passive_list.specs.Cpus.{OnPlainCpu}
+use Rattle.registry_c.specs.Types.{BadSettings, MissingCpu}
+use Rattle.registry_values.specs.Common.{are_fit, number_of_refusal}
+use Rattle.passive_list.specs.Common.{OnPlainCpu, OnPlainKeeper}
 use Rattle.registry_c.specs.declared.values.TheConstants.{FULL_HANDLE}
 use Rattle.registry_c.specs.declared.values.CSettings.{CSettings}
-use Rattle.passive_list.specs.Keepers.{OnPlainKeeper}
 use Rattle.registry_c.specs.Opening.{AreEmpty, HasOpened, IsFull, IsSomeFull, Opens, StaysClosed}
 use Rattle.registry_c.specs.Values.{settings_in}
 use Rattle.registry_c.proofs.Acquired.{no_body}

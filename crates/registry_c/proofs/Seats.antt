@@ -5,10 +5,8 @@ use mathlib.Core.Option.{some-injective}
 use lib.ListN.{get_elem?}
 use Rattle.atomic_table.specs.Seated.{TableId}
 use Rattle.atomic_table.proofs.Lists.{at_last}
-use Rattle.registry_values.specs.declared.settings.Settings.{Settings}
-use Rattle.cpu_words.specs.declared.view.CpuView.{CpuView}
-use Rattle.cpu_words.specs.Views.{Seated, new_cpu}
-use Rattle.cpu_words.specs.Opening.{AreSeats}
+use Rattle.registry_c.specs.Types.{Settings, CpuView}
+use Rattle.cpu_words.specs.Common.{Seated, new_cpu, AreSeats}
 
 -- the seats of the first CPUs, of all or of fewer
 pub record AreLeft (table : TableId) (z : Settings) (seats : List (Seated CpuView)) : Type 0 where

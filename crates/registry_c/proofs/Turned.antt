@@ -2,24 +2,12 @@
 use Rattle.std.proofs.Common.{◌≡◌, ⊎_elim, ℕ, ◌<◌, ◌≤◌, List, length, get_or, map, replicate, Option, Some, None, Result, IfOk, refl, sym, ◌∙◌, arith}
 use Rattle.std.proofs.lemmas.Bool.{cases_lt}
 use Rattle.std.proofs.lemmas.List.{get_or_past}
-use Rattle.registry_values.specs.declared.refusal.Refusal.{Refusal}
-use Rattle.registry_values.specs.declared.settings.Settings.{Settings}
-use Rattle.registry_values.specs.declared.stage.Stage.{Stage}
-use Rattle.registry_values.specs.declared.settings.TheConstants.{MOST_CPUS, MOST_SLOTS}
-use Rattle.cpu_words.specs.declared.view.LogItem.{LogItem}
-use Rattle.cpu_words.specs.declared.view.KeeperView.{KeeperView}
-use Rattle.passive_list.specs.declared.keeper.KeptSlot.{KeptSlot}
-use Rattle.passive_list.specs.Cpus.{OnCpu, OnPlainCpu}
-use Rattle.passive_list.specs.Keepers.{OnKeeper, states_of, IsOurKeeper, OnPlainKeeper}
-use Rattle.name_registry.specs.Advancing.{HasAdvanced}
-use Rattle.name_registry.specs.Destroying.{HasAdvancedFor}
-use Rattle.name_registry.specs.Locking.{IsStageOf}
-use Rattle.name_registry.specs.Meeting.{KeepsWords}
-use Rattle.name_registry.specs.Performing.{HasBegun}
+use Rattle.registry_c.specs.Types.{Refusal, Settings, Stage, MOST_CPUS, MOST_SLOTS, LogItem, KeeperView, KeptSlot}
+use Rattle.passive_list.specs.Common.{OnCpu, OnPlainCpu, OnKeeper, states_of, IsOurKeeper, OnPlainKeeper}
+use Rattle.name_registry.specs.Common.{HasAdvanced, HasAdvancedFor, IsStageOf, KeepsWords, HasBegun, IsTurn}
 use Rattle.registry_c.specs.declared.wait.TheConstants.{BEGUN}
 use Rattle.registry_c.specs.Flags.{number_or_none}
 use Rattle.registry_c.specs.KeeperCalls.{Advances, AdvancesFor, Begins}
-use Rattle.name_registry.specs.Obstacles.{IsTurn}
 use Rattle.registry_c.proofs.Gone.{advanced_gone, advanced_for_gone}
 use Rattle.registry_c.proofs.Numbered.{numbered}
 

@@ -4,19 +4,10 @@ use Rattle.std.specs.Prelude.{◌↔◌, ◌==◌}
 use Rattle.std.specs.Result.{result_err}
 use mathlib.Core.Logic.{dite}
 use native.Mathlib.Decide.{ℕ_discrete}
-use Rattle.registry_values.specs.declared.entry.Entry.{Entry}
-use Rattle.registry_values.specs.declared.entry.Kind.{Kind}
-use Rattle.registry_values.specs.declared.name.Name.{Name}
-use Rattle.registry_values.specs.declared.refusal.Refusal.{Refusal}
-use Rattle.registry_values.specs.Answers.{enter_answer}
-use Rattle.registry_values.specs.Refusals.{Answers}
-use Rattle.cpu_words.specs.Searching.{key_with}
-use Rattle.cpu_words.specs.declared.view.CpuView.{CpuView}
-use Rattle.passive_list.specs.Cpus.{OnCpu, OnPlainCpu}
-use Rattle.passive_list.specs.declared.lookup.Seen.{Seen}
-use Rattle.passive_list.specs.Lookups.{HasFound, HasFoundFromOutside}
-use Rattle.passive_list.specs.Sections.{AnswersEnter, may_begin}
-use Rattle.passive_list.specs.Walking.{entry_seen}
+use Rattle.registry_c.specs.Types.{Entry, Kind, Name, Refusal, CpuView, Seen}
+use Rattle.registry_values.specs.Common.{enter_answer, Answers}
+use Rattle.cpu_words.specs.Common.{key_with}
+use Rattle.passive_list.specs.Common.{OnCpu, OnPlainCpu, HasFound, HasFoundFromOutside, AnswersEnter, may_begin, entry_seen}
 use Rattle.passive_ref.specs.Psrefs.{IsAcquired, OnPsref, why_not_acquired}
 use Rattle.registry_c.specs.declared.values.TheConstants.{DONE}
 use Rattle.registry_c.specs.declared.values.CEntry.{CEntry}

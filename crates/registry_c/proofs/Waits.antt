@@ -2,12 +2,10 @@
 use Rattle.std.proofs.Common.{◌≡◌, ℕ, zero, suc, Bool, true, false, List, [], ◌∷◌, map, Option, Some, None, refl, sym, ap, subst, ◌∙◌}
 use Rattle.std.proofs.lemmas.Option.{same_Some}
 use mathlib.Core.List.{IsPrefix}
-use Rattle.registry_values.specs.declared.settings.Settings.{Settings}
-use Rattle.cpu_words.specs.Views.{Named}
-use Rattle.passive_list.specs.Cpus.{OnCpu, OnPlainCpu}
-use Rattle.passive_list.specs.Keepers.{OnKeeper, OnPlainKeeper}
-use Rattle.name_registry.specs.Meeting.{is_inside}
-use Rattle.name_registry.specs.Performing.{Finishes, HasSeenAllOut, none_seen}
+use Rattle.registry_c.specs.Types.{Settings}
+use Rattle.cpu_words.specs.Common.{Named}
+use Rattle.passive_list.specs.Common.{OnCpu, OnPlainCpu, OnKeeper, OnPlainKeeper}
+use Rattle.name_registry.specs.Common.{is_inside, Finishes, HasSeenAllOut, none_seen}
 use Rattle.name_registry.proofs.Waited.{SoFar, all_seen, passed_out, so_far_begun, so_far_by, so_far_on, so_far_turn}
 use Rattle.registry_c.specs.declared.values.TheConstants.{DONE}
 use Rattle.registry_c.specs.declared.wait.CWait.{CWait}

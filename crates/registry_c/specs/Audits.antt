@@ -1,25 +1,15 @@
 -- What an audit through the handles answers and writes.
 use Rattle.std.specs.Prelude.{◌≡◌, ◌≢◌, ℕ, ◌+◌, ◌<◌, ◌≤◌, pos, All, List, [], ◌++◌, length, map, take, drop, get_or, slice_set, Option, Some, None}
-use Rattle.registry_values.specs.declared.refusal.Refusal.TheVariants.{MissingCpu}
-use Rattle.registry_values.specs.declared.settings.Settings.{Settings}
-use Rattle.registry_values.specs.declared.entry.Entry.{Entry}
-use Rattle.registry_values.specs.declared.slot.Slot.{Slot}
-use Rattle.registry_values.specs.declared.slot.Slot.TheVariants.{Vacant, Live, Retired}
-use Rattle.registry_values.specs.Balances.{Tally}
-use Rattle.registry_values.specs.Slots.{slot_at}
-use Rattle.protocol.specs.Invariant.{IsIn}
-use Rattle.registry_values.specs.Refusals.{number_of_refusal}
-use Rattle.cpu_words.specs.Views.{new_cpu, no_settings}
-use Rattle.passive_list.specs.Cpus.{OnCpu, OnPlainCpu}
-use Rattle.passive_list.specs.Keepers.{OnKeeper, OnPlainKeeper}
-use Rattle.name_registry.specs.Auditing.{HasListened, HaveHeardAndTold, HaveLearned, IsKeeperOf, IsTallied, places_below, tallies_below, tallies_met, tally_met}
+use Rattle.registry_c.specs.Types.{MissingCpu, Settings, Entry, Slot, Vacant, Live, Retired, Change, LogItem}
+use Rattle.registry_values.specs.Common.{Tally, slot_at, number_of_refusal}
+use Rattle.protocol.specs.Common.{IsIn}
+use Rattle.cpu_words.specs.Common.{new_cpu, no_settings}
+use Rattle.passive_list.specs.Common.{OnCpu, OnPlainCpu, OnKeeper, OnPlainKeeper, HasHeardOn, WasShown, HeardAndTold}
+use Rattle.name_registry.specs.Common.{HasListened, HaveHeardAndTold, HaveLearned, IsKeeperOf, IsTallied, places_below, tallies_below, tallies_met, tally_met}
 use Rattle.registry_c.specs.declared.values.TheConstants.{DONE, NO_ROOM, NULL}
 use Rattle.registry_c.specs.declared.audit.CBalance.{CBalance}
 use Rattle.atomic_table.specs.Seated.{TableId}
 use mathlib.Core.List.{IsPrefix}
-use Rattle.registry_values.specs.declared.entry.Change.{Change}
-use Rattle.cpu_words.specs.declared.view.LogItem.{LogItem}
-use Rattle.passive_list.specs.Notes.{HasHeardOn, WasShown, HeardAndTold}
 use Rattle.registry_c.specs.declared.handle.CpuHandle.{CpuHandle}
 use Rattle.registry_c.specs.Opening.{bodies_of, body_at}
 use Rattle.registry_c.specs.Places.{DoesBy, put}

@@ -1,10 +1,9 @@
 -- What stands behind the handles, to a contract. Behind a CPU's handle stands an `OnPlainCpu`, behind the keeper's an `OnPlainKeeper`.
 use Rattle.std.specs.Prelude.{◌≡◌, ◌<◌, ℕ, Option, None, Some}
 use Rattle.atomic_table.specs.Seated.{TableId}
-use Rattle.cpu_words.specs.declared.view.ReferenceView.{ReferenceView}
+use Rattle.registry_c.specs.Types.{ReferenceView, MOST_SLOTS}
 use Rattle.registry_c.specs.declared.values.CEntry.{CEntry}
 use Rattle.registry_c.specs.Values.{entry_out}
-use Rattle.registry_values.specs.declared.settings.TheConstants.{MOST_SLOTS}
 
 -- a local reference, and its table
 pub record OnLocalBody : Type 0 where

@@ -1,20 +1,13 @@
 -- What a call answers and leaves. Each restates the contract of the call beneath it, with the answer as its number, and says what is written.
 use Rattle.std.specs.Prelude.{◌≡◌, ◌≢◌, ◌↔◌, ◌⊎◌, ◌<◌, ℕ, Bool, IsTrue, Option, Some, None, Result, Ok, Err, IfErr}
-use Rattle.registry_values.specs.declared.entry.Entry.{Entry}
-use Rattle.registry_values.specs.declared.entry.Kind.{Kind}
-use Rattle.registry_values.specs.declared.refusal.Refusal.{Refusal}
-use Rattle.registry_values.specs.declared.refusal.Refusal.TheVariants.{Inside, NotFound}
-use Rattle.registry_values.specs.Refusals.{Answers, number_of_refusal}
-use Rattle.cpu_words.specs.Searching.{key_with}
-use Rattle.cpu_words.specs.Views.{references_to}
-use Rattle.passive_list.specs.Cpus.{OnPlainCpu}
-use Rattle.passive_list.specs.Lookups.{HasFound}
-use Rattle.passive_list.specs.Sections.{AnswersEnter, HasExitedOn}
+use Rattle.registry_c.specs.Types.{Entry, Kind, Refusal, Inside, NotFound}
+use Rattle.registry_values.specs.Common.{Answers, number_of_refusal}
+use Rattle.cpu_words.specs.Common.{key_with, references_to}
+use Rattle.passive_list.specs.Common.{OnPlainCpu, HasFound, AnswersEnter, HasExitedOn, OnPlainKeeper}
 use Rattle.passive_ref.specs.Psrefs.{HasOneLess, IsAcquired, IsCopied, IsReadAs, OnPsref, why_not_acquired, why_not_copied, why_unusable}
 use Rattle.registry_c.specs.declared.values.TheConstants.{DONE, OUTSIDE, EMPTY_HANDLE, BAD_KIND, NULL}
 use Rattle.registry_c.specs.declared.values.CEntry.{CEntry}
 use Rattle.registry_c.specs.declared.values.CName.{CName}
-use Rattle.passive_list.specs.Keepers.{OnPlainKeeper}
 use Rattle.registry_c.specs.Bodies.{OnLocalBody}
 use Rattle.registry_c.specs.Places.{put}
 use Rattle.registry_c.specs.Values.{entry_out, kind_in, name_in, number_of}

@@ -1,8 +1,8 @@
 -- Whether the keeper has collected a count of a retired entry.
 use Rattle.std.specs.Prelude.{ℕ, zero, suc, Bool, false, ◌&&◌, ◌||◌}
-use Rattle.registry_values.specs.Slots.{is_retired_as, slot_at}
-use Rattle.protocol.specs.State.{mark_at}
-use Rattle.passive_list.specs.Keepers.{OnKeeper}
+use Rattle.registry_values.specs.Common.{is_retired_as, slot_at}
+use Rattle.protocol.specs.Common.{mark_at}
+use Rattle.passive_list.specs.Common.{OnKeeper}
 
 -- of one of the first so many CPUs, in the slot t
 abbrev pub some_collected : OnKeeper → ℕ → ℕ → Bool

@@ -3,8 +3,7 @@ use Rattle.std.specs.Prelude.{Option}
 use base.Fml.{Fml}
 use denote.RawPtr.{Ptr}
 use Rattle.held.specs.Handles.{holds}
-use Rattle.passive_list.specs.Cpus.{OnPlainCpu}
-use Rattle.passive_list.specs.Keepers.{OnPlainKeeper}
+use Rattle.passive_list.specs.Common.{OnPlainCpu, OnPlainKeeper}
 use Rattle.registry_c.specs.Bodies.{OnLocalBody}
 use Rattle.registry_c.specs.contracts.cpu_body.CpuBody.{the_row as cpu_row}
 use Rattle.registry_c.specs.contracts.keeper_body.KeeperBody.{the_row as keeper_row}

@@ -1,31 +1,10 @@
 -- What the keeper's calls answer and leave.
 use Rattle.std.specs.Prelude.{◌≡◌, ℕ, ◌<◌, slice_index_or, Bool, true, false, List, map, replicate, Option, Some, None, Result, Ok, Err, IfOk, IfErr}
-use Rattle.registry_values.specs.declared.entry.Entry.{Entry}
-use Rattle.registry_values.specs.declared.entry.Kind.{Kind}
-use Rattle.registry_values.specs.declared.entry.Kind.TheVariants.{Driver}
-use Rattle.registry_values.specs.declared.entry.Record.{Record}
-use Rattle.registry_values.specs.declared.name.Name.{Name}
-use Rattle.registry_values.specs.declared.refusal.Refusal.{Refusal}
-use Rattle.registry_values.specs.declared.refusal.Refusal.TheVariants.{Inside, Waiting}
-use Rattle.registry_values.specs.declared.settings.Settings.{Settings}
-use Rattle.registry_values.specs.declared.stage.Stage.{Stage}
-use Rattle.registry_values.specs.Names.{name_of_words}
-use Rattle.registry_values.specs.Refusals.{number_of_refusal}
-use Rattle.registry_values.specs.declared.stage.Stage.TheVariants.{Freed}
-use Rattle.registry_values.specs.Stages.{destroy_result, destroy_result_of}
-use Rattle.registry_values.specs.declared.settings.TheConstants.{MOST_CPUS}
-use Rattle.cpu_words.specs.declared.view.LogItem.{LogItem}
-use Rattle.cpu_words.specs.KeeperLog.{IsFreedFrom}
-use Rattle.passive_list.specs.Cpus.{OnCpu, OnPlainCpu}
-use Rattle.passive_list.specs.Keepers.{OnKeeper, OnPlainKeeper}
-use Rattle.name_registry.specs.Advancing.{HasAdvanced}
-use Rattle.name_registry.specs.Attaching.{HasAttachedFor, HasAttachedIfaceFor, attach_answer, attach_iface_answer}
-use Rattle.name_registry.specs.Destroying.{HasAdvancedFor}
-use Rattle.name_registry.specs.Detaching.{HasDetachedFor, IsDetachAnswer}
-use Rattle.name_registry.specs.Locking.{IsStageOf}
-use Rattle.name_registry.specs.Meeting.{KeepsWords, is_inside}
-use Rattle.name_registry.specs.Obstacles.{IsTurn}
-use Rattle.name_registry.specs.Performing.{Finishes, HasBegun, HasGlanced, HasPassedAll}
+use Rattle.registry_c.specs.Types.{Entry, Kind, Driver, Record, Name, Refusal, Inside, Waiting, Settings, Stage, Freed, MOST_CPUS, LogItem}
+use Rattle.registry_values.specs.Common.{name_of_words, number_of_refusal, destroy_result, destroy_result_of}
+use Rattle.cpu_words.specs.Common.{IsFreedFrom}
+use Rattle.passive_list.specs.Common.{OnCpu, OnPlainCpu, OnKeeper, OnPlainKeeper}
+use Rattle.name_registry.specs.Common.{HasAdvanced, HasAttachedFor, HasAttachedIfaceFor, attach_answer, attach_iface_answer, HasAdvancedFor, HasDetachedFor, IsDetachAnswer, IsStageOf, KeepsWords, is_inside, IsTurn, Finishes, HasBegun, HasGlanced, HasPassedAll}
 use Rattle.registry_c.specs.declared.values.TheConstants.{DONE, EMPTY_HANDLE, BAD_KIND, BAD_NAME, NOT_BEGUN, NULL}
 use Rattle.registry_c.specs.declared.values.CEntry.{CEntry}
 use Rattle.registry_c.specs.declared.values.CName.{CName}

@@ -1,19 +1,12 @@
 -- What the calls of local references answer and leave.
 use Rattle.std.specs.Prelude.{◌≡◌, ◌⊎◌, ℕ, false, Option, Some, None, Result, Ok, Err, IfErr}
-use Rattle.registry_values.specs.declared.entry.Entry.{Entry}
-use Rattle.registry_values.specs.declared.entry.Kind.TheVariants.{Iface}
-use Rattle.registry_values.specs.declared.name.Name.{Name}
-use Rattle.registry_values.specs.declared.refusal.Refusal.{Refusal}
-use Rattle.registry_values.specs.declared.refusal.Refusal.TheVariants.{NoMemory}
-use Rattle.registry_values.specs.Refusals.{number_of_refusal}
-use Rattle.cpu_words.specs.declared.view.ReferenceView.{ReferenceView}
-use Rattle.passive_list.specs.Cpus.{OnPlainCpu}
-use Rattle.passive_list.specs.Draining.{HasGivenUp}
+use Rattle.registry_c.specs.Types.{Entry, Iface, Name, Refusal, NoMemory, ReferenceView}
+use Rattle.registry_values.specs.Common.{number_of_refusal}
+use Rattle.passive_list.specs.Common.{OnPlainCpu, HasGivenUp, OnPlainKeeper}
 use Rattle.local_count.specs.References.{HasAcquired, HasComeBack, HasReleased, why_not_acquired_local}
 use Rattle.registry_c.specs.declared.values.TheConstants.{DONE, EMPTY_HANDLE, FULL_HANDLE, BAD_NAME, COLLECTED, NOT_COLLECTED, NULL}
 use Rattle.registry_c.specs.declared.values.CEntry.{CEntry}
 use Rattle.registry_c.specs.declared.values.CName.{CName}
-use Rattle.passive_list.specs.Keepers.{OnPlainKeeper}
 use Rattle.registry_c.specs.Bodies.{OnLocalBody}
 use Rattle.registry_c.specs.Collected.{are_collected_for}
 use Rattle.registry_c.specs.KeeperCalls.{AttachesIface, record_of, words_name}
@@ -32,8 +25,8 @@ abbrev pub AnswersOrNoMemory : {X : Type 0} → Option Refusal → (X → Type 0
 AnswersOrNoMemory refusal P (Ok x) = (refusal ≡ None) × P x
 AnswersOrNoMemory refusal P (Err f) = (refusal ≡ Some f) ⊎ ((refusal ≡ None) × (f ≡ NoMemory))
 
--- what an acquire answers, whose reference is `of` what it gives; a refused one changes nothing
-pub record AnswersLocalAcquire {X : Type 0} (a b : OnPlainCpu) (r : Result X Refusal) (of : X → OnLocalBody) : Type 0 where
+-- what an acquire that takes memory answers, whose reference is `of` what it gives; a refused one changes nothing
+pub record AnswersAcquireInMemory {X : Type 0} (a b : OnPlainCpu) (r : Result X Refusal) (of : X → OnLocalBody) : Type 0 where
   pub answer : AnswersOrNoMemory (why_not_acquired_local a.cpu.view a.cpu.view.found) (λ x. HasAcquired a.cpu b.cpu (of x).reference × ((of x).table ≡ a.words.table)) r
   pub refused : IfErr r (λ _. b ≡ a)
   pub words : b.words ≡ a.words
@@ -42,7 +35,7 @@ pub record AnswersLocalAcquire {X : Type 0} (a b : OnPlainCpu) (r : Result X Ref
 pub record LocalAcquires (a b : OnPlainCpu) (n : ℕ) (l : Option OnLocalBody) : Type 0 where
   pub r : Result OnLocalBody Refusal
   pub is : n ≡ number_of r
-  pub acquired : AnswersLocalAcquire a b r (λ v. v)
+  pub acquired : AnswersAcquireInMemory a b r (λ v. v)
   pub handle : l ≡ some_of r
 
 -- The CPU's handle isn't empty, and the other is.

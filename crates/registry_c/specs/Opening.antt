@@ -4,20 +4,13 @@ use mathlib.Core.Option.{some}
 use lib.ListN.{get_elem?}
 use Rattle.std_alloc.specs.declared.boxed.Box.{Box}
 use Rattle.std_heap.specs.declared.Global.{Global}
-use Rattle.registry_values.specs.declared.refusal.Refusal.TheVariants.{BadSettings, MissingCpu, NoMemory}
-use Rattle.registry_values.specs.declared.settings.Settings.{Settings}
-use Rattle.registry_values.specs.declared.slot.Slot.TheVariants.{Vacant}
-use Rattle.registry_values.specs.Limits.{are_fit}
-use Rattle.registry_values.specs.Refusals.{number_of_refusal}
-use Rattle.registry_values.specs.declared.settings.TheConstants.{MOST_SLOTS}
-use Rattle.cpu_words.specs.Opening.{keeper_with}
-use Rattle.cpu_words.specs.Views.{Named, new_cpu}
-use Rattle.cpu_words.specs.declared.view.LogItem.{LogItem}
-use Rattle.passive_list.specs.Cpus.{OnPlainCpu}
+use Rattle.registry_c.specs.Types.{BadSettings, MissingCpu, NoMemory, Settings, Vacant, MOST_SLOTS, LogItem}
+use Rattle.registry_values.specs.Common.{are_fit, number_of_refusal}
+use Rattle.cpu_words.specs.Common.{keeper_with, Named, new_cpu}
+use Rattle.passive_list.specs.Common.{OnPlainCpu, OnPlainKeeper}
 use Rattle.registry_c.specs.declared.handle.CpuHandle.{CpuHandle}
 use Rattle.registry_c.specs.declared.values.TheConstants.{DONE, FULL_HANDLE, NULL}
 use Rattle.registry_c.specs.declared.values.CSettings.{CSettings}
-use Rattle.passive_list.specs.Keepers.{OnPlainKeeper}
 use Rattle.registry_c.specs.Places.{DoesBy}
 use Rattle.registry_c.specs.Values.{settings_in}
 

@@ -1,9 +1,7 @@
 -- Names from bytes, and what an answer says.
 use Rattle.std.specs.Prelude.{◌≡◌, ◌≢◌, ◌⊎◌, ℕ, suc, ◌-◌, ◌<◌, ◌≤◌, List, [], length, get_or, Option, Some, None, Result, Ok, Err}
-use Rattle.registry_values.specs.declared.name.Name.{Name}
-use Rattle.registry_values.specs.declared.name.NameFault.{NameFault}
-use Rattle.registry_values.specs.declared.name.NameFault.TheVariants.{Empty, TooLong, BadByte}
-use Rattle.registry_values.specs.Names.{name_of_bytes}
+use Rattle.registry_c.specs.Types.{Name, NameFault, Empty, TooLong, BadByte}
+use Rattle.registry_values.specs.Common.{name_of_bytes}
 use Rattle.registry_c.specs.declared.values.TheConstants.{DONE, NAME_EMPTY, NAME_TOO_LONG, NAME_BAD_BYTE, NULL}
 use Rattle.registry_c.specs.declared.values.CName.{CName}
 use Rattle.registry_c.specs.Places.{put}

@@ -1,6 +1,6 @@
 -- What the calls of the usual path answer and leave. Each is the calls that it takes the place of, one after the other.
 use Rattle.std.specs.Prelude.{◌≡◌, ◌≢◌, ℕ, Option, None}
-use Rattle.passive_list.specs.Cpus.{OnPlainCpu}
+use Rattle.passive_list.specs.Common.{OnPlainCpu}
 use Rattle.registry_c.specs.declared.values.TheConstants.{DONE}
 use Rattle.registry_c.specs.declared.values.CEntry.{CEntry}
 use Rattle.registry_c.specs.declared.values.CName.{CName}

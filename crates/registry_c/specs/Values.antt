@@ -1,17 +1,7 @@
 -- What crosses to C, by the registry's own values.
 use Rattle.std.specs.Prelude.{ℕ, ◌==◌, if◌then◌else◌, Option, Some, None, Result, Ok, Err}
-use Rattle.registry_values.specs.declared.entry.Entry.{Entry}
-use Rattle.registry_values.specs.declared.entry.Kind.{Kind}
-use Rattle.registry_values.specs.declared.entry.Kind.TheVariants.{Iface, Driver}
-use Rattle.registry_values.specs.declared.name.Name.{Name}
-use Rattle.registry_values.specs.declared.name.NameFault.{NameFault}
-use Rattle.registry_values.specs.declared.name.NameFault.TheVariants.{Empty, TooLong, BadByte}
-use Rattle.registry_values.specs.declared.refusal.Refusal.{Refusal}
-use Rattle.registry_values.specs.declared.settings.Settings.{Settings}
-use Rattle.registry_values.specs.declared.stage.Stage.{Stage}
-use Rattle.registry_values.specs.declared.stage.Stage.TheVariants.{Grace, Passive, Local, Freed}
-use Rattle.registry_values.specs.Refusals.{number_of_refusal}
-use Rattle.registry_values.specs.Slots.{kind_word}
+use Rattle.registry_c.specs.Types.{Entry, Kind, Iface, Driver, Name, NameFault, Empty, TooLong, BadByte, Refusal, Settings, Stage, Grace, Passive, Local, Freed}
+use Rattle.registry_values.specs.Common.{number_of_refusal, kind_word}
 use Rattle.registry_c.specs.declared.values.TheConstants.{DONE, NAME_EMPTY, NAME_TOO_LONG, NAME_BAD_BYTE}
 use Rattle.registry_c.specs.declared.values.CEntry.{CEntry}
 use Rattle.registry_c.specs.declared.values.CName.{CName}

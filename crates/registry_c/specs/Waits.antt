@@ -1,12 +1,11 @@
 -- A wait for open sections from C: what its caller sees to between the calls, and what the answer done says then.
 use Rattle.std.specs.Prelude.{◌≡◌, ℕ, zero, suc, true, Option, Some}
 use mathlib.Core.List.{IsPrefix}
-use Rattle.cpu_words.specs.Views.{Named}
-use Rattle.passive_list.specs.Cpus.{OnPlainCpu}
-use Rattle.name_registry.specs.Performing.{HasSeenAllOut}
+use Rattle.cpu_words.specs.Common.{Named}
+use Rattle.passive_list.specs.Common.{OnPlainCpu, OnPlainKeeper}
+use Rattle.name_registry.specs.Common.{HasSeenAllOut}
 use Rattle.registry_c.specs.declared.values.TheConstants.{DONE}
 use Rattle.registry_c.specs.declared.wait.CWait.{CWait}
-use Rattle.passive_list.specs.Keepers.{OnPlainKeeper}
 use Rattle.registry_c.specs.Flags.{is_begun}
 use Rattle.registry_c.specs.KeeperCalls.{PerformCalls, TurnCalls}
 

@@ -1,8 +1,7 @@
 -- What a walk through the handle answers and writes.
 use Rattle.std.specs.Prelude.{◌≡◌, ◌≢◌, ℕ, ◌<◌, ◌≤◌, List, length, map, take, drop, Option, None}
-use Rattle.registry_values.specs.declared.entry.Entry.{Entry}
-use Rattle.passive_list.specs.Cpus.{OnPlainCpu}
-use Rattle.passive_list.specs.Walks.{HasWalked}
+use Rattle.registry_c.specs.Types.{Entry}
+use Rattle.passive_list.specs.Common.{OnPlainCpu, HasWalked}
 use Rattle.registry_c.specs.declared.values.TheConstants.{DONE, NULL, OUTSIDE, NO_ROOM}
 use Rattle.registry_c.specs.declared.values.CEntry.{CEntry}
 use Rattle.registry_c.specs.Places.{DoesBy, put}

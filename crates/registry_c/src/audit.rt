@@ -1,12 +1,12 @@
 //! The audit of local references, through the handles: it is lent one CPU at a time, and takes no memory.
 
 ghost use Rattle.std.specs.Prelude.{◌≡◌, ◌≢◌, ◌<◌, ◌≤◌, ◌≤ℤ◌, ◌^◌, ℕ, length, take, get_or, neg_ℤ, pos, true, false, Some};
-ghost use Rattle.registry_values.specs.declared.entry.Entry.{Entry};
-ghost use Rattle.registry_values.specs.Slots.{slot_at};
-ghost use Rattle.protocol.specs.Invariant.{IsIn};
-ghost use Rattle.passive_list.specs.Cpus.{OnPlainCpu};
-ghost use Rattle.cpu_words.specs.Domains.{AreWordsOf};
-ghost use Rattle.name_registry.specs.Auditing.{AreAlike, HasListened, HaveHeardAndTold, Occupies, local_met, locals_met, tally_met};
+ghost use Rattle.registry_c.specs.Types.{Entry};
+ghost use Rattle.registry_values.specs.Common.{slot_at};
+ghost use Rattle.protocol.specs.Common.{IsIn};
+ghost use Rattle.passive_list.specs.Common.{OnPlainCpu};
+ghost use Rattle.cpu_words.specs.Common.{AreWordsOf};
+ghost use Rattle.name_registry.specs.Common.{AreAlike, HasListened, HaveHeardAndTold, Occupies, local_met, locals_met, tally_met};
 ghost use Rattle.held.specs.Rows.{IsLong};
 ghost use Rattle.registry_c.specs.Calls.{Through};
 ghost use Rattle.registry_c.specs.declared.values.TheConstants.{DONE};

@@ -1,17 +1,11 @@
 //! What stands behind a CPU's handle.
 
 ghost use Rattle.std.specs.Prelude.{◌≡◌, ◌≢◌, ◌↔◌, ◌<◌, ◌≤◌, ◌++◌, IsTrue, None, IfOk, IfErr, IfSome, take};
-ghost use Rattle.registry_values.specs.Refusals.{Answers};
-ghost use Rattle.cpu_words.specs.Domains.{AreWordsOf};
-ghost use Rattle.cpu_words.specs.Searching.{key_with};
-ghost use Rattle.cpu_words.specs.Views.{references_to};
+ghost use Rattle.registry_values.specs.Common.{Answers};
+ghost use Rattle.cpu_words.specs.Common.{AreWordsOf, key_with, references_to};
 ghost use mathlib.Core.List.{IsPrefix};
-ghost use Rattle.passive_list.specs.Lookups.{HasFound, HasFoundFromOutside};
-ghost use Rattle.passive_list.specs.Notes.{HasHeardOn, WasShown, has_heard, has_told};
-ghost use Rattle.passive_list.specs.Walking.{entry_seen};
-ghost use Rattle.passive_list.specs.Walks.{HasWalked};
-ghost use Rattle.passive_list.specs.Sections.{AnswersEnter, HasExitedOn, may_begin};
-ghost use Rattle.name_registry.specs.Meeting.{is_inside};
+ghost use Rattle.passive_list.specs.Common.{HasFound, HasFoundFromOutside, HasHeardOn, WasShown, has_heard, has_told, entry_seen, HasWalked, AnswersEnter, HasExitedOn, may_begin};
+ghost use Rattle.name_registry.specs.Common.{is_inside};
 ghost use Rattle.passive_ref.specs.Psrefs.{GivesBack, HasOneLess, IsAcquired, IsCopied, IsReadAs, why_not_acquired, why_not_copied, why_unusable};
 
 use crate::local_body::LocalBody;
@@ -41,8 +35,8 @@ pub struct CpuBody {
 
 impl Model for CpuBody {
     ghost use Rattle.std.specs.Prelude.{◌≡◌};
-    ghost use Rattle.cpu_words.specs.Domains.{AreWordsOf};
-    ghost use Rattle.passive_list.specs.Cpus.{OnPlainCpu};
+    ghost use Rattle.cpu_words.specs.Common.{AreWordsOf};
+    ghost use Rattle.passive_list.specs.Common.{OnPlainCpu};
 
     ghost Value = { OnPlainCpu };
 

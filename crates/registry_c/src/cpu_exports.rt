@@ -1,7 +1,7 @@
 //! The calls of one CPU, through its handle.
 
 ghost use Rattle.std.specs.Prelude.{◌≡◌, None};
-ghost use Rattle.name_registry.specs.Meeting.{is_inside};
+ghost use Rattle.name_registry.specs.Common.{is_inside};
 ghost use Rattle.registry_c.specs.Places.{put};
 ghost use Rattle.registry_c.specs.Calls.{Acquires, Copies, CpuCloses, Enters, Exits, FindsNamed, HoldsSay, Reads, Releases, Through};
 

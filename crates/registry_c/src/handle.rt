@@ -1,8 +1,7 @@
 //! What C holds of each kind of body: a pointer to it, or null.
 
 ghost use Rattle.std.specs.Prelude.{◌≡◌, Option};
-ghost use Rattle.passive_list.specs.Cpus.{OnPlainCpu};
-ghost use Rattle.passive_list.specs.Keepers.{OnPlainKeeper};
+ghost use Rattle.passive_list.specs.Common.{OnPlainCpu, OnPlainKeeper};
 ghost use Rattle.registry_c.specs.Bodies.{OnLocalBody};
 
 use crate::cpu_body::CpuBody;

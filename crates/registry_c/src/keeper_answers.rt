@@ -1,8 +1,8 @@
 //! The calls of whoever holds the keeper, by what stands behind the handles: each answers its number, and writes what it finds.
 
 ghost use Rattle.std.specs.Prelude.{◌≡◌};
-ghost use Rattle.registry_values.specs.Stages.{destroy_result};
-ghost use Rattle.name_registry.specs.Meeting.{is_inside};
+ghost use Rattle.registry_values.specs.Common.{destroy_result};
+ghost use Rattle.name_registry.specs.Common.{is_inside};
 ghost use Rattle.registry_c.specs.Values.{number_of};
 ghost use Rattle.registry_c.specs.KeeperCalls.{AdvanceAnswers, AttachAnswers, AttachesNamed, DestroyAnswers, DetachAnswers, DetachesNamed, PerformAnswers, PerformsAt, TurnAnswers, TurnsAt};
 

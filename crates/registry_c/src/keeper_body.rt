@@ -18,8 +18,8 @@ pub struct KeeperBody {
 
 impl Model for KeeperBody {
     ghost use Rattle.std.specs.Prelude.{◌≡◌};
-    ghost use Rattle.cpu_words.specs.Domains.{AreWordsOf};
-    ghost use Rattle.passive_list.specs.Keepers.{OnPlainKeeper};
+    ghost use Rattle.cpu_words.specs.Common.{AreWordsOf};
+    ghost use Rattle.passive_list.specs.Common.{OnPlainKeeper};
 
     ghost Value = { OnPlainKeeper };
 

@@ -1,11 +1,9 @@
 //! The keeper's calls, each on the bodies where they lie.
 
 ghost use Rattle.std.specs.Prelude.{◌≡◌, IfOk, IfErr, IsTrue, Ok, Err};
-ghost use Rattle.registry_values.specs.declared.entry.Kind.TheVariants.{Iface};
-ghost use Rattle.registry_values.specs.Names.{is_lawful};
-ghost use Rattle.name_registry.specs.Attaching.{HasAttachedFor, HasAttachedIfaceFor, attach_answer, attach_iface_answer};
-ghost use Rattle.name_registry.specs.Detaching.{HasDetachedFor, IsDetachAnswer};
-ghost use Rattle.name_registry.specs.Meeting.{KeepsWords};
+ghost use Rattle.registry_c.specs.Types.{Iface};
+ghost use Rattle.registry_values.specs.Common.{is_lawful};
+ghost use Rattle.name_registry.specs.Common.{HasAttachedFor, HasAttachedIfaceFor, attach_answer, attach_iface_answer, HasDetachedFor, IsDetachAnswer, KeepsWords};
 ghost use Rattle.registry_c.specs.KeeperCalls.{Advances, AdvancesFor};
 
 use crate::cpu_body::CpuBody;

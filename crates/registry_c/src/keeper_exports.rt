@@ -1,7 +1,7 @@
 //! The calls of whoever holds the keeper, through the handles.
 
 ghost use Rattle.std.specs.Prelude.{◌≡◌};
-ghost use Rattle.name_registry.specs.Meeting.{is_inside};
+ghost use Rattle.name_registry.specs.Common.{is_inside};
 ghost use Rattle.registry_c.specs.Calls.{AreOfOne, Through, ThroughBoth};
 ghost use Rattle.registry_c.specs.KeeperCalls.{AdvanceAnswers, AttachesNamed, DestroyAnswers, DetachesNamed, KeeperCloses, PerformCalls, TurnCalls};
 ghost use Rattle.registry_c.specs.Places.{put};

@@ -2,7 +2,7 @@
 
 ghost use Rattle.std.specs.Prelude.{◌≡◌, ◌<◌, is_some};
 ghost use Rattle.registry_c.specs.Bodies.{back_word};
-ghost use Rattle.registry_c.specs.LocalCalls.{AnswersLocalAcquire, LocalReleases};
+ghost use Rattle.registry_c.specs.LocalCalls.{AnswersAcquireInMemory, LocalReleases};
 ghost use Rattle.registry_c.specs.Values.{entry_out};
 
 use crate::cpu_body::CpuBody;
@@ -128,7 +128,7 @@ pub fn acquire_local(
     alloc: Global,
     cpu: &mut CpuBody,
 ) -> Result<(LocalBody, Vacant<LocalBody, Global>), Refusal>
-    ensures { AnswersLocalAcquire cpu.old cpu.new result (λ made. made.0) }
+    ensures { AnswersAcquireInMemory cpu.old cpu.new result (λ made. made.0) }
 {
     let Ok(room) = cpu.take_room(alloc) else {
         return Err(match why_not_acquired_local(&cpu.words, &cpu.cpu) {

@@ -1,8 +1,8 @@
 //! The calls of whoever holds the keeper that take a local reference.
 
 ghost use Rattle.std.specs.Prelude.{◌≡◌, ◌<◌, None};
-ghost use Rattle.cpu_words.specs.Draining.{IsFoundCollected};
-ghost use Rattle.passive_list.specs.Draining.{HasGivenUp};
+ghost use Rattle.cpu_words.specs.Common.{IsFoundCollected};
+ghost use Rattle.passive_list.specs.Common.{HasGivenUp};
 ghost use Rattle.registry_c.specs.Collected.{are_collected_for};
 ghost use Rattle.registry_c.specs.LocalCalls.{AttachIfaceAnswers, AttachesIfaceNamed, LocalGivesUp};
 

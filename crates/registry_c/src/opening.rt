@@ -1,12 +1,11 @@
 //! A registry is opened: the keeper, and its CPUs.
 
 ghost use Rattle.std.specs.Prelude.{◌≡◌, length, true, false, IfOk, IfErr, IsTrue, Some, None};
-ghost use Rattle.registry_values.specs.Limits.{are_fit};
-ghost use Rattle.cpu_words.specs.Opening.{AreSeats, keeper_with};
-ghost use Rattle.passive_list.specs.Cpus.{OnPlainCpu};
+ghost use Rattle.registry_values.specs.Common.{are_fit};
+ghost use Rattle.cpu_words.specs.Common.{AreSeats, keeper_with};
+ghost use Rattle.passive_list.specs.Common.{OnPlainCpu, OnPlainKeeper};
 ghost use Rattle.held.specs.Rows.{IsLong};
 ghost use Rattle.registry_c.specs.Opening.{AreEmpty, AreGiven, HasOpened, IsFull, IsSomeFull, Opens, OpensBy, OpensInto, StaysClosed, bodies_of, boxed, opened_down, opened_keeper};
-ghost use Rattle.passive_list.specs.Keepers.{OnPlainKeeper};
 ghost use Rattle.registry_c.specs.Values.{settings_in};
 
 use crate::answer::OpenedAnswer;

@@ -3,7 +3,7 @@
 //! It writes to C's place last: stores before the addition that ends the section would have to be done before it is.
 
 ghost use Rattle.std.specs.Prelude.{◌≡◌, ◌≢◌, ℕ, IsTrue, Option, Some, None};
-ghost use Rattle.passive_list.specs.Sections.{may_begin};
+ghost use Rattle.passive_list.specs.Common.{may_begin};
 ghost use Rattle.registry_c.specs.declared.values.CEntry.{CEntry};
 ghost use Rattle.registry_c.specs.declared.values.TheConstants.{DONE};
 ghost use Rattle.registry_c.specs.Calls.{Enters, TellsFound};

@@ -1,8 +1,7 @@
 //! The plain structs that cross to C, and the numbers that a call answers.
 
 ghost use Rattle.std.specs.Prelude.{◌≡◌, IfOk, IfErr, false};
-ghost use Rattle.registry_values.specs.Limits.{are_fit};
-ghost use Rattle.registry_values.specs.Refusals.{number_of_refusal};
+ghost use Rattle.registry_values.specs.Common.{are_fit, number_of_refusal};
 ghost use Rattle.registry_c.specs.Values.{entry_out, fault_of, kind_in, name_in, name_out, number_of, settings_in, settings_out, stage_out};
 
 use registry_values::{

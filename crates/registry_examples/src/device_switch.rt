@@ -2,8 +2,8 @@
 
 ghost use Rattle.std.specs.Prelude.{◌<◌, ◌≤◌, IsTrue};
 ghost use Rattle.std.specs.Thread.{IsSync};
-ghost use Rattle.registry_values.specs.Names.{is_lawful};
-ghost use Rattle.name_registry.specs.Opening.{IsBlankOf};
+ghost use Rattle.registry_values.specs.Common.{is_lawful};
+ghost use Rattle.name_registry.specs.Common.{IsBlankOf};
 
 use crate::failure::Failure;
 use crate::section::enter;

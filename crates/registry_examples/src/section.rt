@@ -1,7 +1,7 @@
 //! A section, with what `find` and `exit` ask for said in a contract.
 
 ghost use Rattle.std.specs.Prelude.{◌≢◌, IfOk, None};
-ghost use Rattle.cpu_words.specs.Domains.{AreWordsOf};
+ghost use Rattle.cpu_words.specs.Common.{AreWordsOf};
 
 use cpu_words::{Domain, Words};
 use passive_list::Cpu;

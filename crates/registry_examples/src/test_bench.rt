@@ -1,9 +1,9 @@
 //! A test bench: the pure machine is driven through every order of two short lists of commands, and looked at after each command.
 
 ghost use Rattle.std.specs.Prelude.{◌≡◌, IsTrue, true};
-ghost use Rattle.registry_values.specs.Names.{is_lawful};
-ghost use Rattle.protocol.specs.Events.{is_inside};
-ghost use Rattle.passive_core.specs.Commands.{IsQuiet};
+ghost use Rattle.registry_values.specs.Common.{is_lawful};
+ghost use Rattle.protocol.specs.Common.{is_inside};
+ghost use Rattle.passive_core.specs.Common.{IsQuiet};
 
 use crate::failure::Failure;
 use passive_core::{Core, Kind, Name, Record, Refusal, Settings, Stage};

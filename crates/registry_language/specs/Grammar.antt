@@ -4,12 +4,11 @@ use Rattle.std.specs.List.{list_any}
 use Rattle.std.specs.Char.{is_ascii_lowercase}
 use Rattle.std.specs.Str.{bytes_eq}
 use Rattle.registry_values.specs.declared.settings.Settings.{Settings}
-use Rattle.registry_values.specs.Limits.{are_fit}
+use Rattle.registry_values.specs.Common.{are_fit, name_of_bytes}
 use Rattle.registry_values.specs.declared.entry.Kind.{Kind}
 use Rattle.registry_values.specs.declared.entry.Kind.TheVariants.{Iface, Driver}
 use Rattle.registry_values.specs.declared.name.Name.{Name}
 use Rattle.registry_values.specs.declared.name.NameFault.{NameFault}
-use Rattle.registry_values.specs.Names.{name_of_bytes}
 use Rattle.registry_language.specs.declared.label.Label.{Label}
 use Rattle.registry_language.specs.declared.position.Position.{Position}
 use Rattle.registry_language.specs.declared.position.Position.TheVariants.{First, Second, Later}

@@ -2,9 +2,7 @@
 use Rattle.std.specs.Prelude.{◌≡◌, ℕ, nat_lt, Bool, true, false, ◌&&◌, ◌||◌, List, [], ◌∷◌, ◌++◌, Option, Some, None, IsTrue}
 use Rattle.std.specs.List.{list_all}
 use Rattle.registry_values.specs.declared.settings.Settings.{Settings}
-use Rattle.registry_values.specs.Limits.{are_fit, is_within}
-use Rattle.registry_values.specs.Names.{is_lawful}
-use Rattle.registry_values.specs.Slots.{is_iface}
+use Rattle.registry_values.specs.Common.{are_fit, is_within, is_lawful, is_iface}
 use Rattle.registry_language.specs.declared.label.Label.{Label}
 use Rattle.registry_language.specs.declared.position.Position.{Position}
 use Rattle.registry_language.specs.declared.position.Position.TheVariants.{First, Second, Later}

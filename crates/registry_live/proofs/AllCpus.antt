@@ -1,11 +1,10 @@
 -- The CPUs of a registry that was just opened are all of them.
 use Rattle.std.proofs.Common.{◌<◌, List, [], sym, ap, ◌∙◌, arith}
 use mathlib.Core.Option.{some-injective}
-use Rattle.registry_values.specs.declared.settings.Settings.{Settings}
-use Rattle.cpu_words.specs.Views.{new_cpu}
-use Rattle.passive_list.specs.Cpus.{OnCpu}
-use Rattle.name_registry.specs.Auditing.{AreAllCpus}
-use Rattle.name_registry.specs.Opening.{AreNewCpus}
+use Rattle.name_registry.specs.Types.{Settings}
+use Rattle.cpu_words.specs.Common.{new_cpu}
+use Rattle.passive_list.specs.Common.{OnCpu}
+use Rattle.name_registry.specs.Common.{AreAllCpus, AreNewCpus}
 use Rattle.name_registry.proofs.Audits.{cpu_at}
 
 pub new_are_all : (z : Settings) (xs : List OnCpu) → AreNewCpus z z.cpus xs → AreAllCpus z.cpus xs

@@ -9,18 +9,15 @@ use Rattle.std.proofs.lemmas.List.{set-get_or}
 use Rattle.std.proofs.lemmas.List.Sums.{count_by_more_no, count_by_more_yes, sum_by-cons, sum_by-set}
 use Rattle.std.specs.Prelude.{IfErr, IfOk, Result, Ok, Err, is_some}
 use Rattle.atomic_table.proofs.Lists.{at_index}
-use Rattle.registry_values.specs.declared.entry.Entry.{Entry}
-use Rattle.registry_values.specs.declared.refusal.Refusal.{Refusal}
+use Rattle.name_registry.specs.Types.{Entry, Refusal, CpuView}
 use Rattle.registry_values.specs.Answers as answers
-use Rattle.protocol.specs.Invariant.{one_if}
-use Rattle.cpu_words.specs.declared.view.CpuView.{CpuView}
-use Rattle.cpu_words.specs.Views.{references_to, without}
+use Rattle.protocol.specs.Common.{one_if}
+use Rattle.cpu_words.specs.Common.{references_to, without}
 use Rattle.cpu_words.proofs.shown.ReferenceLists.{one_less, others_stay, to_cons}
-use Rattle.passive_list.specs.Cpus.{OnCpu}
-use Rattle.name_registry.specs.Auditing.{AreAllCpus, HaveLearned}
+use Rattle.passive_list.specs.Common.{OnCpu}
+use Rattle.name_registry.specs.Common.{AreAllCpus, HaveLearned}
 use Rattle.passive_ref.specs.Psrefs.{GivesBack, HasOneLess, IsAcquired, IsNew, OnPsref, why_unusable}
 use Rattle.registry_report.specs.declared.hitch.Hitch.{Hitch}
-use Rattle.registry_report.specs.declared.hitch.Hitch.TheVariants.{LabelTaken, NoLabel, Refused}
 use Rattle.registry_live.specs.Calls.{Decides, Has, hitch_of, unless_free, unless_taken}
 use Rattle.registry_live.specs.Labels.{HaveReleased, HoldTheSame, Lent, StayInside, inside_of, is_label_to, labels_to, references_at, unlabelled}
 

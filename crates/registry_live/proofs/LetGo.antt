@@ -1,10 +1,9 @@
 -- The local references that are given back, one after the other, by CPU 0.
 use Rattle.std.proofs.Common.{◌≡◌, ℕ, zero, suc, ◌<◌, List, [], ◌∷◌, length, get_or, set, take, Option, Some, None, refl, sym, ap, ◌∙◌, subst, arith, inl, inr}
 use Rattle.std.proofs.Math.Seq.{take-length}
-use Rattle.cpu_words.specs.declared.view.ReferenceView.{ReferenceView}
-use Rattle.passive_list.specs.Cpus.{OnCpu}
-use Rattle.name_registry.specs.Auditing.{AreAllCpus}
-use Rattle.name_registry.specs.Releasing.{IsLetGo}
+use Rattle.name_registry.specs.Types.{ReferenceView}
+use Rattle.passive_list.specs.Common.{OnCpu}
+use Rattle.name_registry.specs.Common.{AreAllCpus, IsLetGo}
 use Rattle.name_registry.proofs.Audits.{cpu_at}
 use Rattle.registry_live.specs.Calls.{LetGo, LetsGo}
 use Rattle.registry_live.specs.Labels.{HoldTheSame, StayInside, inside_of}

@@ -6,20 +6,10 @@ use Rattle.std.specs.Prelude.{IfErr, IfOk, IfSome, Result, Ok, Err, is_some}
 use mathlib.Core.Option.{some}
 use lib.ListN.{get_elem?}
 use Rattle.atomic_table.proofs.Lists.{at_index, at_set}
-use Rattle.registry_values.specs.declared.entry.Entry.{Entry}
-use Rattle.registry_values.specs.declared.entry.Kind.{Kind}
-use Rattle.registry_values.specs.declared.entry.Record.{Record}
-use Rattle.registry_values.specs.declared.name.Name.{Name}
-use Rattle.registry_values.specs.declared.refusal.Refusal.{Refusal}
-use Rattle.cpu_words.specs.declared.view.CpuView.{CpuView}
-use Rattle.cpu_words.specs.declared.view.ReferenceView.{ReferenceView}
-use Rattle.passive_list.specs.Cpus.{OnCpu}
-use Rattle.passive_list.specs.Sections.{AnswersEnter, HasEnteredOn}
+use Rattle.name_registry.specs.Types.{Entry, Kind, Record, Name, Refusal, CpuView, ReferenceView}
+use Rattle.passive_list.specs.Common.{OnCpu, AnswersEnter, HasEnteredOn}
 use Rattle.passive_ref.specs.Psrefs.{GivesBack, HasOneLess, OnPsref, why_unusable}
-use Rattle.name_registry.specs.Auditing.{AreAllCpus}
-use Rattle.name_registry.specs.Locking.{IsAttachRefusal, IsDetachRefusedTo}
-use Rattle.name_registry.specs.Meeting.{HasLearned, HasSeenAttach, HasSeenDetach}
-use Rattle.name_registry.specs.Releasing.{IsLetGo}
+use Rattle.name_registry.specs.Common.{AreAllCpus, IsAttachRefusal, IsDetachRefusedTo, HasLearned, HasSeenAttach, HasSeenDetach, IsLetGo}
 use Rattle.name_registry.proofs.Audits.{cpu_at}
 use Rattle.registry_live.specs.Calls.{IsGivenBack, OnOne}
 

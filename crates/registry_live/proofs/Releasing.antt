@@ -6,14 +6,9 @@ use Rattle.std.specs.Prelude.{IfErr, Result, Ok, Err}
 use mathlib.Core.Option.{some, some-injective}
 use lib.ListN.{get_elem?}
 use Rattle.atomic_table.proofs.Lists.{at_set}
-use Rattle.registry_values.specs.declared.entry.Entry.{Entry}
-use Rattle.registry_values.specs.declared.refusal.Refusal.{Refusal}
-use Rattle.protocol.specs.declared.event.Event.TheVariants.{PassiveSub}
-use Rattle.protocol.specs.declared.event.Reply.TheVariants.{Word}
-use Rattle.cpu_words.specs.Rule.{did}
-use Rattle.cpu_words.specs.Views.{references_to}
-use Rattle.cpu_words.specs.declared.view.LogItem.{LogItem}
-use Rattle.passive_list.specs.Cpus.{OnCpu}
+use Rattle.name_registry.specs.Types.{Entry, Refusal, PassiveSub, Word, LogItem}
+use Rattle.cpu_words.specs.Common.{did, references_to}
+use Rattle.passive_list.specs.Common.{OnCpu}
 use Rattle.passive_ref.specs.Psrefs.{GivesBack, HasOneLess, OnPsref}
 use Rattle.name_registry.proofs.Audits.{cpu_at}
 use Rattle.registry_live.specs.Releases.{AllOnlyRelease, IsRelease, OnlyReleases}

@@ -2,18 +2,12 @@
 use Rattle.std.specs.Prelude.{◌≡◌, ℕ, Bool, List, [], ◌∷◌, slice_set, true, false, Option, Some, None, Result, Ok, Err, if◌then◌else◌}
 use mathlib.Core.Option.{some}
 use lib.ListN.{get_elem?}
-use Rattle.registry_values.specs.declared.refusal.Refusal.{Refusal}
-use Rattle.registry_values.specs.Slots.{is_iface}
-use Rattle.cpu_words.specs.declared.view.ReferenceView.{ReferenceView}
-use Rattle.passive_list.specs.Cpus.{OnCpu}
+use Rattle.name_registry.specs.Types.{Refusal, ReferenceView, Settings}
+use Rattle.registry_values.specs.Common.{is_iface}
+use Rattle.passive_list.specs.Common.{OnCpu}
 use Rattle.passive_ref.specs.Psrefs.{HasOneLess, OnPsref, why_unusable}
-use Rattle.registry_values.specs.declared.settings.Settings.{Settings}
-use Rattle.name_registry.specs.Destroying.{DestroysOutside}
-use Rattle.name_registry.specs.Locking.{IsAttachRefusal}
-use Rattle.name_registry.specs.Meeting.{is_inside}
-use Rattle.name_registry.specs.Performing.{PerformsOutside}
-use Rattle.name_registry.specs.Releasing.{IsLetGo}
-use Rattle.registry_report.specs.Answers.{command_answer}
+use Rattle.name_registry.specs.Common.{DestroysOutside, IsAttachRefusal, is_inside, PerformsOutside, IsLetGo}
+use Rattle.registry_report.specs.Common.{command_answer}
 use Rattle.registry_report.specs.declared.hitch.Hitch.{Hitch}
 use Rattle.registry_report.specs.declared.hitch.Hitch.TheVariants.{NoLabel, LabelTaken, NotInside, Refused}
 

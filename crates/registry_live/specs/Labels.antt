@@ -1,8 +1,8 @@
 -- The passive references that labels stand for, beside those that the CPUs hold.
 use Rattle.std.specs.Prelude.{◌≡◌, ℕ, zero, suc, ◌-◌, ℤ, pos, ◌-ℤ◌, ◌==◌, ◌&&◌, Bool, false, List, [], ◌∷◌, map, Option, Some, None}
 use Rattle.std.specs.List.{count_by}
-use Rattle.cpu_words.specs.Views.{references_to}
-use Rattle.passive_list.specs.Cpus.{OnCpu}
+use Rattle.cpu_words.specs.Common.{references_to}
+use Rattle.passive_list.specs.Common.{OnCpu}
 use Rattle.passive_ref.specs.Psrefs.{OnPsref}
 
 -- how many passive references to the entry n the CPU c holds: none where there is no such CPU

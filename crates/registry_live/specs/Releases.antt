@@ -2,9 +2,8 @@
 use Rattle.std.specs.Prelude.{◌≡◌, ℕ, All, List, ◌++◌, length}
 use mathlib.Core.Option.{some}
 use lib.ListN.{get_elem?}
-use Rattle.protocol.specs.declared.event.Event.TheVariants.{PassiveSub}
-use Rattle.cpu_words.specs.declared.view.LogItem.{LogItem}
-use Rattle.passive_list.specs.Cpus.{OnCpu}
+use Rattle.name_registry.specs.Types.{PassiveSub, LogItem}
+use Rattle.passive_list.specs.Common.{OnCpu}
 
 -- a release of a passive reference of the CPU c
 abbrev pub IsRelease : ℕ → LogItem → Type 0

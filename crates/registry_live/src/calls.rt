@@ -1,17 +1,12 @@
 //! The calls of a session over a running registry, each on one CPU and at the place of one label.
 
 ghost use Rattle.std.specs.Prelude.{◌≡◌, ◌≢◌, ◌↔◌, ◌<◌, IfErr, IfOk, IsTrue, None, Some, false, is_some, true};
-ghost use Rattle.cpu_words.specs.Domains.{AreWordsOf};
-ghost use Rattle.cpu_words.specs.Searching.{key_with};
-ghost use Rattle.cpu_words.specs.Views.{references_to};
+ghost use Rattle.cpu_words.specs.Common.{AreWordsOf, key_with, references_to};
 ghost use Rattle.local_count.specs.References.{HasAcquired, why_not_acquired_local};
-ghost use Rattle.name_registry.specs.Meeting.{HasLearned, HasSeenAttach};
-ghost use Rattle.name_registry.specs.Releasing.{IsLetGo};
-ghost use Rattle.registry_values.specs.Names.{is_lawful};
-ghost use Rattle.registry_values.specs.Slots.{is_iface};
-ghost use Rattle.registry_values.specs.declared.entry.Record.{Record};
-ghost use Rattle.passive_list.specs.Lookups.{HasFound};
-ghost use Rattle.passive_list.specs.Sections.{HasExitedOn};
+ghost use Rattle.name_registry.specs.Common.{HasLearned, HasSeenAttach, IsLetGo};
+ghost use Rattle.registry_values.specs.Common.{is_lawful, is_iface};
+ghost use Rattle.name_registry.specs.Types.{Record};
+ghost use Rattle.passive_list.specs.Common.{HasFound, HasExitedOn};
 ghost use Rattle.passive_ref.specs.Psrefs.{HasOneLess, IsAcquired, IsCopied, IsRead, why_not_acquired, why_not_copied, why_unusable};
 ghost use Rattle.registry_live.specs.Calls.{Decides, Has, IsPlugHitch, hitch_of, unless_free, unless_taken, why_outside};
 

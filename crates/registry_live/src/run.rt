@@ -1,10 +1,8 @@
 //! The run of a script over a registry that is running: one made for it, or one that is there already.
 
 ghost use Rattle.std.specs.Prelude.{◌≡◌, IfErr, OnErr, OnOk};
-ghost use Rattle.name_registry.specs.Auditing.{AreAllCpus};
-ghost use Rattle.name_registry.specs.Opening.{IsBlankOf};
-ghost use Rattle.registry_report.specs.Printed.{WritesFront, WritesRun};
-ghost use Rattle.registry_report.specs.Written.{IsWhileRunning};
+ghost use Rattle.name_registry.specs.Common.{AreAllCpus, IsBlankOf};
+ghost use Rattle.registry_report.specs.Common.{WritesFront, WritesRun, IsWhileRunning};
 ghost use Rattle.registry_live.specs.Labels.{HoldTheSame};
 
 use crate::session::LiveSession;

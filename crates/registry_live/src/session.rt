@@ -1,8 +1,8 @@
 //! A script's run over a registry that is running: its CPUs, and the references that labels stand for.
 
 ghost use Rattle.std.specs.Prelude.{◌≡◌, ◌<◌, ◌∷◌, [], IfSome, List, None, replicate};
-ghost use Rattle.passive_list.specs.Cpus.{OnCpu};
-ghost use Rattle.name_registry.specs.Auditing.{AreAllCpus};
+ghost use Rattle.passive_list.specs.Common.{OnCpu};
+ghost use Rattle.name_registry.specs.Common.{AreAllCpus};
 ghost use Rattle.registry_live.specs.Calls.{IsGivenBack, LetGo, LetsGo};
 ghost use Rattle.registry_live.specs.Labels.{HaveReleased};
 ghost use Rattle.registry_live.specs.Releases.{AllOnlyRelease};

@@ -4,12 +4,11 @@ use Rattle.std.proofs.lemmas.Option.{none-some, same_Some}
 use Rattle.std.proofs.Common.{◌∙◌, ◌≡◌, ℕ, zero, suc, ◌+◌, ◌<◌, List, [], ◌∷◌, length, get_or, Option, Some, None, Bool, true, false, refl, sym, arith, position, sum_by}
 use Rattle.std.proofs.lemmas.List.Quantifiers.{position-Some}
 use Rattle.std.proofs.lemmas.List.Sums.{sum_by-cons}
-use Rattle.registry_values.specs.Marks.{least_below, or_next}
-use Rattle.protocol.specs.Invariant.{kept_of, one_if}
-use Rattle.protocol.specs.State.{kept_at}
+use Rattle.registry_values.specs.Common.{least_below, or_next}
+use Rattle.protocol.specs.Common.{kept_of, one_if, kept_at}
 use Rattle.registry_values.proofs.Least.{least_is, none_below, least_none}
 use Rattle.protocol.proofs.slots.Numbers.{position_fails}
-use Rattle.registry_report.specs.Answers.{count_below, is_this}
+use Rattle.registry_report.specs.Common.{count_below, is_this}
 use Rattle.registry_report.proofs.sound.Turns.{least_some}
 
 -- equal tests have one count

@@ -4,17 +4,14 @@ use Rattle.std.specs.Prelude.{slice_get, position, if◌then◌else◌, ◌==◌
 use Rattle.std.proofs.lemmas.Bool.{cases_eq, eq-eqb}
 use Rattle.std.proofs.lemmas.Option.{same_Some, none-some, get_or_from_slice_get, slice_get-get_or}
 use Rattle.std.proofs.lemmas.List.Quantifiers.{position-Some}
-use Rattle.registry_values.specs.declared.entry.Entry.{Entry}
-use Rattle.registry_values.specs.declared.entry.Change.{Change}
-use Rattle.registry_values.specs.declared.entry.Change.TheVariants.{Attach, Detach}
-use Rattle.registry_values.specs.declared.slot.Key.{Key}
-use Rattle.registry_values.specs.Slots.{key_of, same_key}
-use Rattle.protocol.specs.History.{change_at, IsAttached, EndsAt, IsLiveAt, IsLegal, IsLookup}
-use Rattle.protocol.specs.Events.{is_number}
+use Rattle.registry_report.specs.Types.{Entry, Change, Attach, Detach, Key}
+use Rattle.registry_values.specs.Common.{key_of, same_key}
+use Rattle.protocol.specs.Common.{IsAttached, EndsAt, IsLiveAt, IsLegal, IsLookup, is_number}
+use Rattle.protocol.specs.History.{change_at}
 use Rattle.protocol.proofs.history.History.{ends_after, one_end, one_live, at_within}
 use Rattle.registry_values.proofs.Slots.{key_from, key_same}
 use Rattle.protocol.proofs.slots.Numbers.{position_fails}
-use Rattle.registry_report.specs.Changes.{answer_after, lookup, is_end_of, end_of, place_after, entry_of, entry_of_attach}
+use Rattle.registry_report.specs.Common.{answer_after, lookup, is_end_of, end_of, place_after, entry_of, entry_of_attach}
 use Rattle.protocol.proofs.Either.{either}
 
 -- One change more

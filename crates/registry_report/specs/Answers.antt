@@ -1,20 +1,11 @@
 -- What each command answers: by lookups in the history, the first-fit slot, the first obstacle, and who holds what.
 use Rattle.std.specs.Prelude.{ℕ, zero, suc, ◌+◌, ◌==◌, nat_lt, List, [], ◌∷◌, ◌++◌, length, Option, Some, None, is_none, is_some, Bool, false, not, ◌&&◌, Result, Ok, Err, if◌then◌else◌, ℤ, pos, neg_ℤ, ◌-ℤ◌}
-use Rattle.registry_values.specs.declared.answer.Room.{Room}
-use Rattle.registry_values.specs.declared.entry.Entry.{Entry}
-use Rattle.registry_values.specs.declared.entry.Record.{Record}
-use Rattle.passive_core.specs.declared.psref.CorePsref.{CorePsref}
-use Rattle.registry_values.specs.declared.refusal.Refusal.{Refusal}
+use Rattle.registry_report.specs.Types.{Room, Entry, Record, CorePsref, Refusal, Stage, Key}
 use Rattle.registry_values.specs.declared.refusal.Refusal.TheVariants as refusal
-use Rattle.registry_values.specs.declared.stage.Stage.{Stage}
-use Rattle.registry_values.specs.declared.slot.Key.{Key}
-use Rattle.registry_values.specs.Marks.{least_below}
+use Rattle.registry_values.specs.Common.{least_below, stage_of, key_of_record, is_iface, Tally}
 use Rattle.registry_values.specs.Answers as answers
 use Rattle.registry_values.specs.Stages as stages
-use Rattle.registry_values.specs.Stages.{stage_of}
-use Rattle.registry_values.specs.Slots.{key_of_record, is_iface}
-use Rattle.registry_values.specs.Balances.{Tally}
-use Rattle.protocol.specs.Invariant.{one_if}
+use Rattle.protocol.specs.Common.{one_if}
 use Rattle.registry_report.specs.declared.session.Reading.{Reading}
 use Rattle.registry_report.specs.declared.hitch.Hitch.{Hitch}
 use Rattle.registry_report.specs.declared.hitch.Hitch.TheVariants.{NoLabel, LabelTaken, NotInside, Refused}

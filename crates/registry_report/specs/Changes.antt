@@ -1,12 +1,9 @@
 -- What a history says: the answer of a lookup, the entry with a number, its end, how many entries are live.
 use Rattle.std.specs.Prelude.{ℕ, zero, suc, ◌-◌, ◌==◌, nat_lt, List, position, count_by, Option, Some, None, is_some, Bool, true, false, not, if◌then◌else◌}
-use Rattle.registry_values.specs.declared.entry.Entry.{Entry}
-use Rattle.registry_values.specs.declared.entry.Change.{Change}
-use Rattle.registry_values.specs.declared.entry.Change.TheVariants.{Attach, Detach}
-use Rattle.registry_values.specs.declared.slot.Key.{Key}
+use Rattle.registry_report.specs.Types.{Entry, Change, Attach, Detach, Key}
 use Rattle.protocol.specs.History.{change_at}
-use Rattle.registry_values.specs.Slots.{key_of, same_key, is_driver}
-use Rattle.protocol.specs.Events.{is_number}
+use Rattle.registry_values.specs.Common.{key_of, same_key, is_driver}
+use Rattle.protocol.specs.Common.{is_number}
 
 -- an attach of the key is the answer from then on, and its detach takes it away
 abbrev pub answer_after : Key → Option Entry → Option Change → Option Entry

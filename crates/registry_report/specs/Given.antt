@@ -1,7 +1,6 @@
 -- What a call gave and left, against the answer and the registry that are due.
 use Rattle.std.specs.Prelude.{◌≡◌, Result, Err}
-use Rattle.registry_values.specs.declared.refusal.Refusal.TheVariants.{NoMemory}
-use Rattle.registry_language.specs.declared.command.Command.{Command}
+use Rattle.registry_report.specs.Types.{NoMemory, Command}
 use Rattle.registry_report.specs.declared.hitch.Hitch.{Hitch}
 use Rattle.registry_report.specs.declared.hitch.Hitch.TheVariants.{Refused}
 use Rattle.registry_report.specs.Registry.{Registry}

@@ -1,10 +1,8 @@
 -- The laws of the report's definition, in the words of histories and model runs.
 use Rattle.std.specs.Prelude.{◌≡◌, ℕ, ◌<◌, ◌↔◌, List, Some, Bool, true, false}
-use Rattle.registry_values.specs.declared.entry.Change.{Change}
-use Rattle.registry_values.specs.declared.slot.Key.{Key}
-use Rattle.registry_values.specs.Marks.{least_below}
-use Rattle.protocol.specs.History.{EndsAt, IsLegal, IsLookup}
-use Rattle.protocol.specs.Model.{empty_model, IsModelRun}
+use Rattle.registry_report.specs.Types.{Change, Key}
+use Rattle.registry_values.specs.Common.{least_below}
+use Rattle.protocol.specs.Common.{EndsAt, IsLegal, IsLookup, empty_model, IsModelRun}
 use Rattle.registry_report.specs.Changes.{end_of, lookup}
 use Rattle.registry_language.specs.Program.{Program, IsProgram}
 use Rattle.registry_report.specs.Registry.{opening_registry}

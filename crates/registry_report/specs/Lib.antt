@@ -1,5 +1,6 @@
 pub mod Answers
 pub mod Changes
+pub mod Common
 pub mod Given
 pub mod Laws
 pub mod Lines
@@ -10,4 +11,5 @@ pub mod Session
 pub mod Shows
 pub mod Sound
 pub mod Turns
+pub mod Types
 pub mod Written

@@ -1,8 +1,7 @@
 -- The registry as a script sees it: a model state, and beside it depths, counts, tallies and labels.
 use Rattle.std.specs.Prelude.{ℕ, Bool, false, Option, None}
-use Rattle.passive_core.specs.declared.psref.CorePsref.{CorePsref}
-use Rattle.registry_values.specs.declared.settings.Settings.{Settings}
-use Rattle.protocol.specs.Model.{Model, empty_model}
+use Rattle.registry_report.specs.Types.{CorePsref, Settings}
+use Rattle.protocol.specs.Common.{Model, empty_model}
 
 pub record Registry : Type 0 where
   pub settings : Settings

@@ -1,8 +1,8 @@
 -- The report of a script: the lines of its commands, over the registry that they go through.
 use Rattle.std.specs.Prelude.{ℕ, List, [], ◌∷◌, ◌++◌, true, Result, Ok, Err}
 use Rattle.registry_report.specs.declared.hitch.Hitch.{Hitch}
-use Rattle.registry_language.specs.declared.command.Command.{Command}
-use Rattle.registry_language.specs.declared.command.Command.TheVariants.{Domain, Limits, Attach, Plug, Detach, Enter, Exit, Find, Reference, Copy, Held, Read, Release, Count, Peek, Uncount, Advance, Destroy, Perform, Audit}
+use Rattle.registry_report.specs.Types.{Command, Domain, Limits, Plug, Enter, Exit, Find, Reference, Copy, Held, Read, Release, Count, Peek, Uncount, Advance, Destroy, Perform, Audit}
+use Rattle.registry_language.specs.declared.command.Command.TheVariants.{Attach, Detach}
 use Rattle.registry_report.specs.Lines.{domain_line, limits_line, attached_line, retired_line, section_line, found_line, reference_line, held_line, read_line, released_line, counted_line, peek_line, uncounted_line, stage_line, destroyed_line, performed_line, audit_text, hitch_line}
 use Rattle.registry_language.specs.Program.{Program}
 use Rattle.registry_report.specs.Registry.{Registry, opening_registry}

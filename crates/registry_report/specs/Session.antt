@@ -1,10 +1,8 @@
 -- The core, and what the labels stand for.
 use Rattle.std.specs.Prelude.{◌≡◌, ℕ, true, List, length, Option, Some, None, Result, Ok, Err, replicate, slice_index_or}
-use Rattle.passive_core.specs.declared.psref.CorePsref.{CorePsref}
-use Rattle.passive_core.specs.Commands.{IsQuiet}
-use Rattle.protocol.specs.Invariant.{Holds}
-use Rattle.passive_core.specs.Locals.{is_live_local}
-use Rattle.protocol.specs.State.{State}
+use Rattle.registry_report.specs.Types.{CorePsref}
+use Rattle.passive_core.specs.Common.{IsQuiet, is_live_local}
+use Rattle.protocol.specs.Common.{Holds, State}
 use Rattle.registry_report.specs.declared.hitch.Hitch.{Hitch}
 use Rattle.registry_report.specs.declared.hitch.Hitch.TheVariants.{NoLabel}
 

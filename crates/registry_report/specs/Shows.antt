@@ -1,20 +1,8 @@
 -- What a session shows of a registry: each number and list of the core that an answer depends on, as the registry has it.
 use Rattle.std.specs.Prelude.{◌≡◌, ℕ, ◌+◌, ◌*◌, ◌<◌, List, length, sum_by, count_by, not, Option, Some, None, is_some, Bool, true, false, slice_index_or}
-use Rattle.registry_values.specs.declared.entry.Entry.{Entry}
-use Rattle.registry_values.specs.declared.entry.Change.{Change}
-use Rattle.registry_values.specs.declared.slot.Slot.{Slot}
-use Rattle.registry_values.specs.declared.slot.Slot.TheVariants.{Retired}
-use Rattle.registry_values.specs.declared.mark.Mark.{Mark}
-use Rattle.protocol.specs.declared.state.LocalPlace.{LocalPlace}
-use Rattle.passive_core.specs.declared.psref.CorePsref.{CorePsref}
-use Rattle.registry_values.specs.Balances.{bias}
-use Rattle.registry_values.specs.Slots.{slot_at, live_count, slot_of}
-use Rattle.protocol.specs.State.{mark_at, count_at, total_at, kept_at, local_at}
-use Rattle.protocol.specs.History.{EndsAt}
-use Rattle.protocol.specs.Events.{number_standing}
-use Rattle.protocol.specs.Invariant.{IsIn, standing_of, one_if}
-use Rattle.protocol.specs.Model.{Model}
-use Rattle.protocol.specs.Picture.{number_in, passive_in}
+use Rattle.registry_report.specs.Types.{Entry, Change, Slot, Retired, Mark, LocalPlace, CorePsref}
+use Rattle.registry_values.specs.Common.{bias, slot_at, live_count, slot_of}
+use Rattle.protocol.specs.Common.{mark_at, count_at, total_at, kept_at, local_at, EndsAt, number_standing, IsIn, standing_of, one_if, Model, number_in, passive_in}
 use Rattle.registry_report.specs.Changes.{is_attach}
 use Rattle.registry_report.specs.Registry.{Registry}
 use Rattle.registry_report.specs.Session.{SessionState}

@@ -1,10 +1,7 @@
 -- What of a registry lets each turn be a run of lawful steps of its model: by the history, who holds what, and what the labels stand for.
 use Rattle.std.specs.Prelude.{◌≡◌, ℕ, ◌<◌, ◌≤◌, List, [], ◌∷◌, length, Option, Some, None}
-use Rattle.registry_values.specs.declared.entry.Entry.{Entry}
-use Rattle.registry_values.specs.declared.entry.Change.{Change}
-use Rattle.registry_values.specs.declared.settings.Settings.{Settings}
-use Rattle.protocol.specs.History.{IsAttached, IsLegal, IsLiveAt, MayHold}
-use Rattle.protocol.specs.Model.{Model, IsModelRun}
+use Rattle.registry_report.specs.Types.{Entry, Change, Settings}
+use Rattle.protocol.specs.Common.{IsAttached, IsLegal, IsLiveAt, MayHold, Model, IsModelRun}
 use Rattle.registry_report.specs.Answers.{count_below, is_this}
 use Rattle.registry_report.specs.Registry.{Registry}
 

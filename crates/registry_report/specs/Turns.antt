@@ -1,11 +1,7 @@
 -- What each command leaves: the model's steps, and the labels, depths and tallies beside them.
 use Rattle.std.specs.Prelude.{ℕ, ◌+◌, ◌-◌, length, Option, Some, None, Bool, true, false, Result, Ok, Err, if◌then◌else◌}
-use Rattle.registry_values.specs.declared.entry.Entry.{Entry}
-use Rattle.registry_values.specs.declared.entry.Change.TheVariants.{Attach, Detach}
-use Rattle.registry_values.specs.declared.stage.Stage.{Stage}
-use Rattle.registry_values.specs.declared.stage.Stage.TheVariants.{Grace, Passive, Local, Freed}
-use Rattle.protocol.specs.History.{after_change}
-use Rattle.protocol.specs.Model.{Model, put, with_passive, with_locals}
+use Rattle.registry_report.specs.Types.{Entry, Attach, Detach, Stage, Grace, Passive, Local, Freed}
+use Rattle.protocol.specs.Common.{after_change, Model, put, with_passive, with_locals}
 use Rattle.registry_report.specs.declared.hitch.Hitch.{Hitch}
 use Rattle.registry_report.specs.Registry.{Registry}
 use Rattle.registry_report.specs.Answers.{is_inside, advance_answer}

@@ -1,7 +1,7 @@
 -- What was written, and the faults of a run whose script has none.
 use Rattle.std.specs.Prelude.{◌≡◌, ℕ, List, ◌++◌, Option}
 use Rattle.std.specs.Io.KnownBytes.{Appends}
-use Rattle.registry_language.specs.declared.fault.RunFault.{RunFault}
+use Rattle.registry_report.specs.Types.{RunFault}
 use Rattle.registry_language.specs.declared.fault.RunFault.TheVariants as run
 
 -- a front of the whole was written, and the rest is left

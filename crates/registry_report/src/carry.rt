@@ -1,7 +1,7 @@
 //! Commands, carried out by a session.
 
 ghost use Rattle.std.specs.Prelude.{◌≡◌, IfErr, IfOk, IsTrue, OnOk, map, string_bytes, true};
-ghost use Rattle.registry_values.specs.Balances.{tally_shown};
+ghost use Rattle.registry_values.specs.Common.{tally_shown};
 ghost use Rattle.registry_report.specs.Lines.{audit_text, performed_line, section_line};
 ghost use Rattle.registry_report.specs.Printed.{IsLineOf};
 ghost use Rattle.registry_language.specs.Program.{suits};

@@ -1,7 +1,7 @@
 //! A script's run over a core: the core, and what the labels stand for.
 
 ghost use Rattle.std.specs.Prelude.{◌≡◌, ◌<◌};
-ghost use Rattle.passive_core.specs.Commands.{IsQuiet};
+ghost use Rattle.passive_core.specs.Common.{IsQuiet};
 ghost use Rattle.registry_report.specs.Session.{label_answer, label_at, without_labels};
 
 use super::hitch::{Hitch, as_answer};
@@ -63,7 +63,7 @@ impl CoreSession {
 }
 
 impl Session for CoreSession {
-    ghost use Rattle.registry_values.specs.declared.settings.Settings.{Settings};
+    ghost use Rattle.registry_report.specs.Types.{Settings};
     ghost use Rattle.registry_report.specs.Shows.{Shows};
 
     ghost Kept = { Settings };

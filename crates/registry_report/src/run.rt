@@ -3,7 +3,7 @@
 ghost use Rattle.std.specs.Prelude.{◌≡◌, IfErr, IfOk, IsTrue, OnErr, OnOk};
 ghost use Rattle.std.specs.Io.KnownBytes.{Appends};
 ghost use Rattle.std.specs.List.{list_all};
-ghost use Rattle.protocol.specs.State.{opening};
+ghost use Rattle.protocol.specs.Common.{opening};
 ghost use Rattle.registry_report.specs.Printed.{WritesFront, WritesRun};
 ghost use Rattle.registry_language.specs.Program.{suits};
 ghost use Rattle.registry_report.specs.Registry.{Registry};

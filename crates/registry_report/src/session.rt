@@ -2,9 +2,7 @@
 
 ghost use Rattle.std.specs.Prelude.{◌≡◌, ◌<◌, ◌≤◌, IfErr, IfOk, IsTrue, map, true};
 ghost use Rattle.registry_values.specs.declared.refusal.Refusal.TheVariants as refusal;
-ghost use Rattle.registry_values.specs.Balances.{tally_shown};
-ghost use Rattle.registry_values.specs.Names.{is_lawful};
-ghost use Rattle.registry_values.specs.Slots.{is_iface};
+ghost use Rattle.registry_values.specs.Common.{tally_shown, is_lawful, is_iface};
 ghost use Rattle.registry_report.specs.declared.hitch.Hitch.TheVariants as hitch;
 ghost use Rattle.registry_language.specs.declared.command.Command.TheVariants as command;
 ghost use Rattle.registry_report.specs.Answers.{advance_answer, attach_answer, audit_answer, copy_answer, count_answer, destroy_answer, detach_answer, enter_answer, exit_answer, find_answer, held_answer, command_answer, peek_answer, perform_answer, plug_answer, read_answer, reference_answer, release_answer, uncount_answer};
@@ -33,7 +31,7 @@ pub struct Reading {
 /// a registry that others use too shows none.
 pub trait Session {
     ghost use Rattle.std.specs.Prelude.{ℕ, Result};
-    ghost use Rattle.registry_values.specs.declared.settings.Settings.{Settings};
+    ghost use Rattle.registry_report.specs.Types.{Settings};
     ghost use Rattle.registry_report.specs.declared.hitch.Hitch.{Hitch};
     ghost use Rattle.registry_report.specs.Registry.{Registry};
 

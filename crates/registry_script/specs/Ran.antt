@@ -6,10 +6,8 @@ use Rattle.registry_script.specs.declared.engine.Engine.TheVariants.{Core, Live}
 use Rattle.registry_language.specs.declared.fault.RunFault.{RunFault}
 use Rattle.registry_language.specs.declared.fault.RunFault.TheVariants as run
 use Rattle.registry_language.specs.Grammar.{program_of_bytes}
-use Rattle.registry_report.specs.Printed.{WritesFront, WritesRun}
+use Rattle.registry_report.specs.Common.{WritesFront, WritesRun, report, AppendsPrefix}
 use Rattle.registry_language.specs.Program.{Program}
-use Rattle.registry_report.specs.Report.{report}
-use Rattle.registry_report.specs.Written.{AppendsPrefix}
 use Rattle.registry_script.specs.Reads.{WasRead}
 
 -- what the engine writes of a script, and nothing else: over the core its report, over a registry that is running a line for each command

@@ -4,18 +4,12 @@ use mathlib.Core.Logic.{dite}
 use native.Mathlib.Decide.{ℕ_discrete}
 use mathlib.Core.Option.{some, some-injective}
 use lib.ListN.{get_elem?}
-use Rattle.registry_values.specs.declared.entry.Entry.{Entry}
-use Rattle.registry_values.specs.declared.settings.Settings.{Settings}
-use Rattle.registry_values.specs.declared.slot.Key.{Key}
-use Rattle.cpu_words.specs.declared.view.CpuView.{CpuView}
-use Rattle.cpu_words.specs.declared.view.ReferenceView.{ReferenceView}
-use Rattle.cpu_words.specs.Views.{number_at, one_more}
+use Rattle.name_registry.specs.Types.{Entry, Settings, Key, CpuView, ReferenceView}
+use Rattle.cpu_words.specs.Common.{number_at, one_more}
 use Rattle.cpu_words.proofs.by_cpu.Counting.{one_more_same, one_more_other}
-use Rattle.passive_list.specs.Cpus.{OnCpu}
-use Rattle.passive_list.specs.Lookups.{HasFound}
-use Rattle.passive_list.specs.Sections.{HasEnteredOn, HasExitedOn}
+use Rattle.passive_list.specs.Common.{OnCpu, HasFound, HasEnteredOn, HasExitedOn}
 use Rattle.local_count.specs.References.{HasAcquired}
-use Rattle.name_registry.specs.Opening.{AreNewCpus}
+use Rattle.name_registry.specs.Common.{AreNewCpus}
 use Rattle.registry_storm.specs.Storms.{IsOutside, KeepsAcquired, settings_of}
 
 at_some : (xs : List OnCpu) (k : ℕ) (d x : OnCpu) → k < length xs → get_elem? xs k ≡ some x → slice_index_or xs k d ≡ x

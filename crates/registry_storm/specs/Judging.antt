@@ -1,13 +1,6 @@
 -- What a storm expects of each answer, and how an answer is judged.
-use Rattle.std.specs.Prelude.{◌≡◌, ℕ, ◌≤◌, ◌<◌, ℤ, List, [], ◌∷◌, Option, Some, None, Result, Ok, Err, IfSome, IfErr}
-use Rattle.registry_values.specs.declared.balance.Balance.{Balance}
-use Rattle.registry_values.specs.declared.entry.Entry.{Entry}
-use Rattle.registry_values.specs.declared.entry.Kind.TheVariants.{Driver, Iface}
-use Rattle.registry_values.specs.declared.entry.Record.{Record}
-use Rattle.registry_values.specs.declared.name.Name.{Name}
-use Rattle.registry_values.specs.declared.refusal.Refusal.{Refusal}
-use Rattle.registry_values.specs.declared.refusal.Refusal.TheVariants.{NoSlot}
-use Rattle.registry_values.specs.declared.stage.Stage.{Stage}
+use Rattle.std.specs.Prelude.{◌≡◌, ℕ, ◌≤◌, ◌<◌, ℤ, List, [], ◌∷◌, Option, Result, Ok, Err, IfSome, IfErr}
+use Rattle.name_registry.specs.Types.{Balance, Entry, Driver, Iface, Record, Name, Refusal, NoSlot, Stage}
 use Rattle.registry_values.specs.declared.stage.Stage.TheVariants as stage
 use Rattle.registry_storm.specs.Sums.{IsAdded, held_first}
 use Rattle.registry_storm.specs.declared.sum.Counts.{Counts}

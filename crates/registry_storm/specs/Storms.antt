@@ -1,13 +1,8 @@
 -- A storm: how far a CPU has come in its turns.
 use Rattle.std.specs.Prelude.{◌≡◌, ◌≢◌, ℕ, ◌+◌, ◌*◌, ◌≤◌, Option, Some, None}
-use Rattle.registry_values.specs.declared.entry.Entry.{Entry}
-use Rattle.registry_values.specs.declared.entry.Kind.TheVariants.{Driver, Iface}
-use Rattle.registry_values.specs.declared.name.Name.{Name}
-use Rattle.registry_values.specs.declared.settings.Settings.{Settings}
-use Rattle.cpu_words.specs.Searching.{key_with}
-use Rattle.cpu_words.specs.Views.{number_at}
-use Rattle.passive_list.specs.Cpus.{OnCpu}
-use Rattle.passive_list.specs.Lookups.{HasFound}
+use Rattle.name_registry.specs.Types.{Entry, Driver, Iface, Name, Settings}
+use Rattle.cpu_words.specs.Common.{key_with, number_at}
+use Rattle.passive_list.specs.Common.{OnCpu, HasFound}
 use Rattle.registry_language.specs.declared.fault.RunFault.{RunFault}
 use Rattle.registry_language.specs.declared.fault.RunFault.TheVariants as run
 use Rattle.registry_storm.specs.Judging.{driver_entry, IsIfaceOf}

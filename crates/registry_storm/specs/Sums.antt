@@ -1,6 +1,6 @@
 -- What a storm counts.
 use Rattle.std.specs.Prelude.{◌≡◌, ℕ, ◌+◌, ◌<◌, ◌≤◌, ◌^◌, ℤ, pos, List, [], ◌∷◌}
-use Rattle.registry_values.specs.declared.balance.Balance.{Balance}
+use Rattle.name_registry.specs.Types.{Balance}
 use Rattle.registry_storm.specs.declared.sum.Counts.{Counts}
 use Rattle.registry_storm.specs.declared.sum.StormDeeds.{StormDeeds}
 

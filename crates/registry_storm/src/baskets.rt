@@ -1,7 +1,7 @@
 //! Baskets in which workers leave local references to one another.
 
 ghost use Rattle.std.specs.Prelude.{◌≡◌, ◌<◌, vec_len};
-ghost use Rattle.registry_values.specs.declared.settings.TheConstants.{MOST_CPUS};
+ghost use Rattle.name_registry.specs.Types.{MOST_CPUS};
 ghost use Rattle.registry_storm.specs.Judging.{GoesOn};
 ghost use Rattle.registry_storm.specs.Storms.{Unacquired};
 

@@ -2,16 +2,13 @@
 //! answer was judged: so an answer can't be passed over, nor another one judged in its place.
 
 ghost use Rattle.std.specs.Prelude.{◌≡◌, ◌≢◌, IsSome, IsNone, IfSome, IfOk, IfErr, Some, None, Ok};
-ghost use Rattle.cpu_words.specs.KeeperLog.{IsFreedFrom};
-ghost use Rattle.cpu_words.specs.Searching.{key_with};
+ghost use Rattle.cpu_words.specs.Common.{IsFreedFrom, key_with};
 ghost use Rattle.local_count.specs.References.{HasAcquired};
-ghost use Rattle.name_registry.specs.Changes.{HasMade};
-ghost use Rattle.name_registry.specs.Destroying.{SomeAdvanced};
-ghost use Rattle.passive_list.specs.Lookups.{HasFound};
+ghost use Rattle.name_registry.specs.Common.{HasMade, SomeAdvanced};
+ghost use Rattle.passive_list.specs.Common.{HasFound};
 ghost use Rattle.passive_ref.specs.Psrefs.{HasOneLess, IsAcquired, IsRead, why_unusable};
-ghost use Rattle.registry_values.specs.Refusals.{Answers};
-ghost use Rattle.registry_values.specs.declared.entry.Change.TheVariants.{Attach, Detach};
-ghost use Rattle.registry_values.specs.declared.entry.Kind.TheVariants.{Driver, Iface};
+ghost use Rattle.registry_values.specs.Common.{Answers};
+ghost use Rattle.name_registry.specs.Types.{Attach, Detach, Driver, Iface};
 ghost use Rattle.registry_storm.specs.Judging.{driver_entry, driver_record, iface_record, IsAttachOf, IsIfaceOf, IsJudged, IsTurnOf};
 ghost use Rattle.registry_storm.specs.Storms.{Unacquired};
 

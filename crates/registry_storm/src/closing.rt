@@ -1,7 +1,7 @@
 //! The end of a storm: what is left of it is taken away on CPU 0, and each answer is judged.
 
 ghost use Rattle.std.specs.Prelude.{◌≡◌, IfErr, IfOk};
-ghost use Rattle.name_registry.specs.Auditing.{AreAllCpus, IsAuditBy};
+ghost use Rattle.name_registry.specs.Common.{AreAllCpus, IsAuditBy};
 ghost use Rattle.registry_storm.specs.Judging.{GoesOn, IsDriverAlone, IsHeld, IsJudged};
 ghost use Rattle.registry_storm.specs.Sums.{held_first};
 

@@ -1,8 +1,8 @@
 //! What all workers of a storm have in common.
 
 ghost use Rattle.std.specs.Prelude.{◌≡◌, ◌↔◌, ◌≤◌, IsTrue, [], ◌∷◌, Some, Ok};
-ghost use Rattle.registry_values.specs.declared.settings.TheConstants.{MOST_CPUS};
-ghost use Rattle.registry_values.specs.Names.{is_lawful, name_of_bytes};
+ghost use Rattle.name_registry.specs.Types.{MOST_CPUS};
+ghost use Rattle.registry_values.specs.Common.{is_lawful, name_of_bytes};
 ghost use Rattle.registry_storm.specs.Judging.{driver_entry, driver_record, iface_record, IsIfaceOf};
 ghost use Rattle.registry_storm.specs.Storms.{settings_of};
 

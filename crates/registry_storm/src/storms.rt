@@ -1,7 +1,7 @@
 //! A storm: workers on all CPUs look up, refer and release at once, while one of them attaches and detaches an interface.
 
 ghost use Rattle.std.specs.Prelude.{◌≡◌, ◌+◌, ◌*◌, ◌≤◌, IfOk, IfErr, All, length, vec_len};
-ghost use Rattle.name_registry.specs.Opening.{AreNewCpus, IsBlankOf};
+ghost use Rattle.name_registry.specs.Common.{AreNewCpus, IsBlankOf};
 ghost use Rattle.registry_storm.specs.Storms.{IsOfStorm, IsOutside, IsSumOf, settings_of};
 
 use crate::baskets::Baskets;

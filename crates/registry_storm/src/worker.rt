@@ -1,8 +1,8 @@
 //! A worker: its turns on its own CPU.
 
 ghost use Rattle.std.specs.Prelude.{◌≡◌, ◌≢◌, ◌+◌, ◌*◌, ◌<◌, ◌≤◌, ◌^◌, IfSome, IsSome, None};
-ghost use Rattle.cpu_words.specs.Views.{number_at};
-ghost use Rattle.passive_list.specs.Cpus.{OnCpu};
+ghost use Rattle.cpu_words.specs.Common.{number_at};
+ghost use Rattle.passive_list.specs.Common.{OnCpu};
 ghost use Rattle.registry_storm.specs.Judging.{driver_record, GoesOn};
 ghost use Rattle.registry_storm.specs.Storms.{HasLookedUp, HasReferred, IsOutside, KeepsAcquired, SameSection, Unacquired};
 

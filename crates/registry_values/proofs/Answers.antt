@@ -2,12 +2,7 @@
 use Rattle.std.proofs.Common.{◌≡◌, ⊎_elim, ℕ, ◌<◌, ◌≤◌, nat_lt, Bool, true, false, Option, Some, None, Result, Ok, Err, if◌then◌else◌, refl, sym, ap, ◌∙◌}
 use Rattle.std.specs.Prelude.{IsErr, IsErrAnd}
 use Rattle.std.proofs.lemmas.Bool.{cases_lt, le-ltb, lt-ltb}
-use Rattle.registry_values.specs.declared.answer.Room.{Room}
-use Rattle.registry_values.specs.declared.entry.Entry.{Entry}
-use Rattle.registry_values.specs.declared.entry.Record.{Record}
-use Rattle.registry_values.specs.declared.refusal.Refusal.{Refusal}
-use Rattle.registry_values.specs.declared.refusal.Refusal.TheVariants.{NameTaken, NoSlot, HistoryFull, Inside, LocalFull, NeedsDriver}
-use Rattle.registry_values.specs.Answers.{has_room, next_entry, entry_in, given_entry, attach_answer, why_uncounted}
+use Rattle.registry_values.specs.Common.{Room, Entry, Record, Refusal, NameTaken, NoSlot, HistoryFull, Inside, LocalFull, NeedsDriver, has_room, next_entry, entry_in, given_entry, attach_answer, why_uncounted}
 
 -- what is so where an entry is given
 pub record IsGiven (taken : Bool) (fit : Option ℕ) (room : Room) (rec : Record) (e : Entry) : Type 0 where

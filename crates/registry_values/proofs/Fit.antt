@@ -1,9 +1,7 @@
 -- The ranges of settings that are fit.
 use Rattle.std.proofs.Common.{◌≡◌, ℕ, ◌^◌, ◌≤◌, true, ◌&&◌, nat_le, IsTrue, leb-true}
 use Rattle.std.proofs.lemmas.Bool.{and_parts}
-use Rattle.registry_values.specs.declared.settings.Settings.{Settings}
-use Rattle.registry_values.specs.declared.settings.TheConstants.{MOST_CPUS, MOST_SLOTS}
-use Rattle.registry_values.specs.Limits.{is_within, are_sizes_fit, are_limits_fit, are_fit}
+use Rattle.registry_values.specs.Common.{Settings, MOST_CPUS, MOST_SLOTS, is_within, are_sizes_fit, are_limits_fit, are_fit}
 
 pub record Ranges (z : Settings) : Type 0 where
   pub some_cpu : 1 ≤ z.cpus

@@ -2,7 +2,7 @@
 use Rattle.std.proofs.Common.{◌≡◌, ℕ, zero, suc, ◌<◌, ◌≤◌, ⊎_elim, Option, Some, None, Bool, true, false, refl, sym, ap, ◌∙◌, arith}
 use Rattle.std.specs.Prelude.{is_some}
 use Rattle.std.proofs.lemmas.Bool.{cases_lt}
-use Rattle.registry_values.specs.Marks.{least_below, or_next}
+use Rattle.registry_values.specs.Common.{least_below, or_next}
 use Rattle.std.proofs.lemmas.Option.{none-some}
 
 pub none_below : (p : ℕ → Bool) (n : ℕ) → ((d : ℕ) → d < n → p d ≡ false) → least_below p n ≡ None

@@ -5,8 +5,8 @@ use Rattle.std.proofs.lemmas.Bool.Decides.{nat_tests}
 use Rattle.std.proofs.lemmas.List.{length-replicate}
 use Rattle.std.proofs.lemmas.Nat.{be_bytes_8, from_be_bytes-to_be_bytes_8}
 use Rattle.std.specs.Int.{w64, from_be_bytes, to_be_bytes}
-use Rattle.registry_values.specs.declared.name.Name.{Name}
-use Rattle.registry_values.specs.Names.{is_allowed, bad_place, is_name, padded_bytes, high_word, low_word, bytes_of, are_zeros, is_rest, is_padded, are_name_words, RoundTrip, IsWritten}
+use Rattle.registry_values.specs.Common.{Name, is_allowed, bad_place, is_name, padded_bytes, high_word, low_word, bytes_of, are_zeros, is_rest, is_padded, RoundTrip, IsWritten}
+use Rattle.registry_values.specs.Names.{are_name_words}
 
 -- ---- one byte
 

@@ -1,14 +1,8 @@
 -- What a test of a slot or of a key tells.
 use Rattle.std.proofs.Common.{◌≡◌, ℕ, ◌<◌, List, length, Some, Bool, true, false, refl, nat_eq, eqb-true}
 use Rattle.std.proofs.lemmas.Bool.{eqb-true, eq-eqb, and_parts}
-use Rattle.registry_values.specs.declared.entry.Entry.{Entry}
-use Rattle.registry_values.specs.declared.slot.Slot.{Slot}
-use Rattle.registry_values.specs.declared.slot.Slot.TheVariants.{Vacant, Live, Retired}
-use Rattle.registry_values.specs.Slots.{is_retired_as, retired_slot, slot_at, key_of, is_live_as, same_key, same_kind, same_name}
+use Rattle.registry_values.specs.Common.{Entry, Slot, Vacant, Live, Retired, is_retired_as, retired_slot, slot_at, key_of, is_live_as, same_key, same_kind, same_name, Kind, Iface, Driver, Key}
 use Rattle.std.proofs.lemmas.List.Quantifiers.{position-Some}
-use Rattle.registry_values.specs.declared.entry.Kind.{Kind}
-use Rattle.registry_values.specs.declared.entry.Kind.TheVariants.{Iface, Driver}
-use Rattle.registry_values.specs.declared.slot.Key.{Key}
 
 retired_as : (n : ℕ) (x : Slot) → is_retired_as n x ≡ true → (e : Entry) × (x ≡ Retired e) × (e.number ≡ n)
 retired_as n Vacant is = absurd (let q : ◌≡◌ {A = Bool} false true = is in cc)

@@ -1,5 +1,6 @@
 pub mod Answers
 pub mod Balances
+pub mod Common
 pub mod Limits
 pub mod Marks
 pub mod Names

@@ -3,7 +3,7 @@ use Rattle.std.proofs.Common.{◌≡◌, ℕ, List, Option, Result, Ok, Err, OnO
 use Rattle.std.specs.Io.KnownBytes.{Appends}
 use Rattle.registry_language.specs.declared.fault.RunFault.{RunFault}
 use Rattle.registry_language.specs.declared.fault.RunFault.TheVariants as run
-use Rattle.registry_report.specs.Written.{AppendsPrefix}
+use Rattle.registry_report.specs.Common.{AppendsPrefix}
 use Rattle.registry_storm.specs.Storms.{IsSumOf}
 use Rattle.registry_storm.specs.declared.sum.StormSum.{StormSum}
 use Rattle.run_tasks.specs.declared.task.StormSize.{StormSize}

@@ -4,7 +4,7 @@ use Rattle.std.specs.Fmt.{decimal, signed_decimal}
 use Rattle.std.specs.Io.KnownBytes.{Appends, Keeps}
 use Rattle.registry_language.specs.declared.fault.RunFault.{RunFault}
 use Rattle.registry_language.specs.declared.fault.RunFault.TheVariants as run
-use Rattle.registry_report.specs.Written.{AppendsPrefix}
+use Rattle.registry_report.specs.Common.{AppendsPrefix}
 use Rattle.registry_script.specs.Ran.{Ran}
 use Rattle.registry_storm.specs.Storms.{IsSumOf}
 use Rattle.registry_storm.specs.declared.sum.StormSum.{StormSum}

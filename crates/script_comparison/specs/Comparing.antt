@@ -1,5 +1,5 @@
 -- Scripts of successive seeds, one after the other, on which two engines were run. Which script comes of a seed is left open: `made seed script`.
-use Rattle.std.specs.Prelude.{◌≡◌, ◌<◌, ◌+◌, ◌%◌, ◌^◌, ℕ, zero, suc, Bool, true, false, List, Option, None, Some, Result}
+use Rattle.std.specs.Prelude.{◌≡◌, ◌<◌, ◌+◌, ◌%◌, ◌^◌, ℕ, zero, suc, Bool, true, false, List, Result}
 use Rattle.registry_script.specs.declared.engine.Engine.{Engine}
 use Rattle.registry_language.specs.declared.fault.RunFault.{RunFault}
 use Rattle.script_comparison.specs.Outcomes.{Agree, Differ}

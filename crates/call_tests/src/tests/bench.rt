@@ -1,8 +1,8 @@
 //! What rows on a registry begin with, a registry of three CPUs and their references, and what a row does with it.
 
 ghost use Rattle.std.specs.Prelude.{IsTrue};
-ghost use Rattle.registry_values.specs.Names.{is_lawful};
-ghost use Rattle.name_registry.specs.Opening.{IsBlankOf};
+ghost use Rattle.registry_values.specs.Common.{is_lawful};
+ghost use Rattle.name_registry.specs.Common.{IsBlankOf};
 
 use super::answers::{Answer, audited, come, done, entry};
 use super::readers::{Held, Reader, by_reader};

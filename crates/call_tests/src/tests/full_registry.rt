@@ -1,8 +1,8 @@
 //! A registry that is full: eight CPUs, thirty-two slots in use, a history to its limit. The calls behind the lock meet each slot and each CPU.
 
 ghost use Rattle.std.specs.Prelude.{◌≡◌, IsTrue};
-ghost use Rattle.registry_values.specs.Names.{is_lawful};
-ghost use Rattle.name_registry.specs.Opening.{IsBlankOf};
+ghost use Rattle.registry_values.specs.Common.{is_lawful};
+ghost use Rattle.name_registry.specs.Common.{IsBlankOf};
 
 use super::answers::Answer::{self, At, Come, Done, Nothing, Number, Refused};
 use super::answers::{at, come, done, entry};

@@ -4,11 +4,10 @@ ghost use Rattle.std.specs.Prelude.{◌≡◌, ◌<◌, ◌≤◌, ◌+◌, IsTr
 ghost use Rattle.std.specs.List.{list_any};
 ghost use Rattle.registry_values.specs.declared.entry.Kind.TheVariants.{Driver};
 ghost use Rattle.registry_values.specs.declared.slot.Slot.TheVariants.{Vacant};
-ghost use Rattle.registry_values.specs.Names.{is_lawful};
-ghost use Rattle.registry_values.specs.Slots.{key_of_record, is_taken, live_count, slot_at};
-ghost use Rattle.protocol.specs.State.{kept_at};
-ghost use Rattle.cpu_words.specs.Domains.{AreWordsOf};
-ghost use Rattle.name_registry.specs.Rows.{is_live_row};
+ghost use Rattle.registry_values.specs.Common.{is_lawful, key_of_record, is_taken, live_count, slot_at};
+ghost use Rattle.protocol.specs.Common.{kept_at};
+ghost use Rattle.cpu_words.specs.Common.{AreWordsOf};
+ghost use Rattle.name_registry.specs.Common.{is_live_row};
 
 use super::answers::{Answer, at, standing};
 use super::readers::Held;

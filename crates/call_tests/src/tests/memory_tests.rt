@@ -3,7 +3,7 @@
 //! Where memory is ample these tests compare answers alone. `tools/refuse-memory.sh` refuses each of their allocations in
 //! turn; each refusal that is met is noted on standard error.
 
-ghost use Rattle.name_registry.specs.Opening.{IsBlankOf};
+ghost use Rattle.name_registry.specs.Common.{IsBlankOf};
 
 use super::answers::Answer::{self, At, Done};
 use super::answers::{Line, line_of};

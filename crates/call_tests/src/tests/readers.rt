@@ -1,6 +1,6 @@
 //! What a CPU does with the words alone: sections, lookups, and references that a row holds.
 
-ghost use Rattle.cpu_words.specs.Domains.{AreWordsOf};
+ghost use Rattle.cpu_words.specs.Common.{AreWordsOf};
 
 use super::answers::{Answer, at, done};
 use super::records::{Wanted, record};

@@ -1,7 +1,7 @@
 //! The drivers and interfaces that rows attach and look up.
 
 ghost use Rattle.std.specs.Prelude.{◌≡◌, IsTrue};
-ghost use Rattle.registry_values.specs.Names.{is_lawful};
+ghost use Rattle.registry_values.specs.Common.{is_lawful};
 
 use registry_values::{Kind, Name, Record};
 use std::process::Abort;

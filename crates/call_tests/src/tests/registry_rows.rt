@@ -1,6 +1,6 @@
 //! Rows of calls on a registry, each on one of its own: sections, slots and turns, and local references.
 
-ghost use Rattle.name_registry.specs.Opening.{IsBlankOf};
+ghost use Rattle.name_registry.specs.Common.{IsBlankOf};
 
 use super::answers::Answer::{self, At, Audited, Come, Done, Is, Names, Nothing, Number, Refused};
 use super::answers::Line;

@@ -1,7 +1,7 @@
 //! A section that is nested as deep as it may be.
 
 ghost use Rattle.std.specs.Prelude.{◌≡◌};
-ghost use Rattle.cpu_words.specs.Domains.{AreWordsOf};
+ghost use Rattle.cpu_words.specs.Common.{AreWordsOf};
 
 use super::table::{Seats, Table, opened};
 use cpu_words::Domain;

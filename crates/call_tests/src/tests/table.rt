@@ -1,10 +1,8 @@
 //! What rows on the bare words begin with, a new table of two CPUs and two slots, before it is named and after.
 
 ghost use Rattle.std.specs.Prelude.{◌≡◌, IsTrue};
-ghost use Rattle.registry_values.specs.Limits.{are_fit};
-ghost use Rattle.cpu_words.specs.Domains.{AreWordsOf};
-ghost use Rattle.cpu_words.specs.Opening.{keeper_with};
-ghost use Rattle.cpu_words.specs.Views.{new_cpu};
+ghost use Rattle.registry_values.specs.Common.{are_fit};
+ghost use Rattle.cpu_words.specs.Common.{AreWordsOf, keeper_with, new_cpu};
 
 use super::answers::Answer;
 use super::keepers::{Writer, by_keeper};

@@ -1,8 +1,8 @@
 //! Tests on two threads: what one publishes, the other finds; and a local reference goes from one to the other.
 
 ghost use Rattle.std.specs.Prelude.{◌≡◌, IsTrue};
-ghost use Rattle.registry_values.specs.Names.{is_lawful};
-ghost use Rattle.cpu_words.specs.Domains.{AreWordsOf};
+ghost use Rattle.registry_values.specs.Common.{is_lawful};
+ghost use Rattle.cpu_words.specs.Common.{AreWordsOf};
 
 use super::keepers::{looked, passive_look, published, retired};
 use super::records::{WM, record};

@@ -1,6 +1,6 @@
 //! Calls in several turns, or made again and again, while another thread leaves its section and begins another one in the middle of them.
 
-ghost use Rattle.name_registry.specs.Opening.{IsBlankOf};
+ghost use Rattle.name_registry.specs.Common.{IsBlankOf};
 ghost use Rattle.std.specs.Thread.{IsSync};
 
 use super::answers::Answer::{self, At, Come, Done, Number, Refused};

@@ -2,9 +2,9 @@
 //! detaches.
 
 ghost use Rattle.std.specs.Prelude.{◌≡◌, IsTrue};
-ghost use Rattle.registry_values.specs.Names.{is_lawful};
-ghost use Rattle.cpu_words.specs.Domains.{AreWordsOf};
-ghost use Rattle.name_registry.specs.Opening.{IsBlankOf};
+ghost use Rattle.registry_values.specs.Common.{is_lawful};
+ghost use Rattle.cpu_words.specs.Common.{AreWordsOf};
+ghost use Rattle.name_registry.specs.Common.{IsBlankOf};
 
 use cpu_words::{Domain, Words};
 use name_registry::{Blank, Registry};

@@ -1,7 +1,7 @@
 //! Rows of calls on the bare words, each on a table of its own: sections, lookups, looks, and passive and local references.
 
 ghost use Rattle.std.specs.Prelude.{◌≡◌};
-ghost use Rattle.cpu_words.specs.Domains.{AreWordsOf};
+ghost use Rattle.cpu_words.specs.Common.{AreWordsOf};
 
 use super::answers::Answer::{
     self, At, Done, Is, Looks, Names, Nothing, Number, Refused, RetiredAt,

@@ -3,7 +3,7 @@
 //! A row is plain data: a name stands in it as text, a passive reference as its CPU and number, a local one as its id.
 
 ghost use Rattle.std.specs.Prelude.{IsTrue};
-ghost use Rattle.registry_values.specs.Names.{is_lawful};
+ghost use Rattle.registry_values.specs.Common.{is_lawful};
 
 use super::give::give;
 use super::made::Made;

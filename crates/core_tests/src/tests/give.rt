@@ -1,8 +1,8 @@
 //! What a core answers to one line of a row.
 
 ghost use Rattle.std.specs.Prelude.{◌≡◌, ◌<◌, true};
-ghost use Rattle.passive_core.specs.Commands.{may_act};
-ghost use Rattle.protocol.specs.State.{at_rest};
+ghost use Rattle.passive_core.specs.Common.{may_act};
+ghost use Rattle.protocol.specs.Common.{at_rest};
 
 use super::bench::{Answer, Ask, Sight, Tally, Told, rec_of, record};
 use super::made::{make, reply_of};

@@ -5,31 +5,14 @@ use Rattle.std.proofs.lemmas.List.{length-replicate}
 use Rattle.std.proofs.lemmas.List.Sums.{sum_by-cons}
 use mathlib.Core.Logic.{dite}
 use native.Mathlib.Decide.{ℕ_discrete}
-use Rattle.registry_values.specs.declared.settings.TheConstants.{MOST_CPUS}
-use Rattle.registry_values.specs.declared.entry.Entry.{Entry}
-use Rattle.registry_values.specs.declared.entry.Change.{Change}
-use Rattle.registry_values.specs.declared.entry.Change.TheVariants.{Attach}
-use Rattle.registry_values.specs.declared.slot.Slot.TheVariants.{Live, Retired}
-use Rattle.registry_values.specs.declared.mark.Mark.{Mark}
-use Rattle.protocol.specs.declared.state.Hand.{Hand}
-use Rattle.protocol.specs.declared.state.Hand.TheVariants.{Empty}
-use Rattle.protocol.specs.declared.state.LocalPlace.{LocalPlace}
-use Rattle.protocol.specs.History.{IsAttached}
-use Rattle.protocol.specs.State.{State, with_cell, mark_at, count_at, total_at}
-use Rattle.registry_values.specs.Balances.{bias}
-use Rattle.registry_values.specs.Marks.{no_mark}
-use Rattle.registry_values.specs.Slots.{slot_at}
-use Rattle.protocol.specs.Invariant.{IsIn, IsCounting, subtraction_due_at, addition_due_at, is_adding_at}
+use Rattle.cpu_words.specs.Types.{MOST_CPUS, Entry, Change, Attach, Live, Retired, Mark, Hand, Empty, LocalPlace}
+use Rattle.protocol.specs.Common.{IsAttached, State, with_cell, mark_at, count_at, total_at, IsIn, IsCounting, subtraction_due_at, addition_due_at, is_adding_at}
+use Rattle.registry_values.specs.Common.{bias, no_mark, slot_at}
 use Rattle.registry_values.proofs.Fit.{ranges}
 use Rattle.protocol.proofs.slots.Cells.{get_or_all, row_here, row_other, cell_here, cell_other}
 use Rattle.protocol.proofs.history.History.{at_within, one_entry}
 use Rattle.protocol.proofs.slots.Occupied.{not_vacant, one_in, one_number, attached_in}
-use Rattle.cpu_words.specs.declared.view.InHand.{InHand}
-use Rattle.cpu_words.specs.declared.view.CpuView.{CpuView}
-use Rattle.cpu_words.specs.Spots.{Spot, section_of, passive_of, count_of, head_word, next_of, record_of, total_of, word_at, index}
-use Rattle.cpu_words.specs.Views.{number_at, with_number, one_more, own_of, cpu_view, SameHand, HandFits, depth_of, collected_net, collected_one, GivesUp, CpuShown}
-use Rattle.cpu_words.specs.Rule.{Agrees, Good}
-use Rattle.cpu_words.specs.Locals.{IsNetCount, IsPlaceCount, IsMetAlone}
+use Rattle.cpu_words.specs.Common.{InHand, CpuView, Spot, section_of, passive_of, count_of, head_word, next_of, record_of, total_of, word_at, index, number_at, with_number, one_more, own_of, cpu_view, SameHand, HandFits, depth_of, collected_net, collected_one, GivesUp, CpuShown, Agrees, Good, IsNetCount, IsPlaceCount, IsMetAlone}
 use Rattle.cpu_words.proofs.shown.Placing.{agrees_set}
 use Rattle.cpu_words.proofs.by_cpu.CpuSteps.{CpuLists, lists_of, with_lists, LeavesOthers}
 use Rattle.cpu_words.proofs.shown.Seeing.{seen_of}

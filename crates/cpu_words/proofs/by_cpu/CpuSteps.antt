@@ -3,28 +3,11 @@ use Rattle.std.proofs.Common.{◌≡◌, ◌≢◌, ℕ, ◌≤◌, ◌<◌, Lis
 use mathlib.Core.Option.{some}
 use lib.ListN.{get_elem?}
 use Rattle.atomic_table.specs.Table.{State as Table, keeps, stepped}
-use Rattle.registry_values.specs.declared.entry.Entry.{Entry}
-use Rattle.registry_values.specs.declared.entry.Change.{Change}
-use Rattle.registry_values.specs.declared.settings.Settings.{Settings}
-use Rattle.protocol.specs.declared.event.Event.{Event}
-use Rattle.protocol.specs.declared.event.Reply.{Reply}
-use Rattle.registry_values.specs.declared.slot.Slot.TheVariants.{Vacant, Retired}
-use Rattle.protocol.specs.declared.state.Search.{Search}
-use Rattle.protocol.specs.declared.state.Hand.{Hand}
-use Rattle.protocol.specs.declared.state.Hand.TheVariants.{Empty}
-use Rattle.protocol.specs.declared.state.LocalPlace.{LocalPlace}
-use Rattle.protocol.specs.History.{IsAttached}
-use Rattle.protocol.specs.State.{State, section_at, begin_at, depth_at, seen_at, search_at, found_at, hand_at, passive_at, count_at}
-use Rattle.registry_values.specs.Slots.{slot_at}
-use Rattle.protocol.specs.Events.{step}
-use Rattle.protocol.specs.Invariant.{standing_of}
+use Rattle.cpu_words.specs.Types.{Entry, Change, Settings, Event, Reply, Vacant, Retired, Search, Hand, Empty, LocalPlace}
+use Rattle.protocol.specs.Common.{IsAttached, State, section_at, begin_at, depth_at, seen_at, search_at, found_at, hand_at, passive_at, count_at, step, standing_of}
+use Rattle.registry_values.specs.Common.{slot_at}
 use Rattle.protocol.proofs.keeps.Keeping.{step_holds}
-use Rattle.cpu_words.specs.declared.view.CpuView.{CpuView}
-use Rattle.cpu_words.specs.declared.view.View.{View}
-use Rattle.cpu_words.specs.declared.view.View.TheVariants.{Keeper, Cpu, Reference, Note, Spent}
-use Rattle.cpu_words.specs.Views.{CpuOwn, own_of, cpu_view, SameHand, depth_of, GivesUp, CpuShown}
-use Rattle.cpu_words.specs.Rule.{Agrees, IsFresh, Good, Ruled, GoesOn, by_number, did}
-use Rattle.cpu_words.specs.Steps.{Makes}
+use Rattle.cpu_words.specs.Common.{CpuView, View, Keeper, Cpu, Reference, Note, Spent, CpuOwn, own_of, cpu_view, SameHand, depth_of, GivesUp, CpuShown, Agrees, IsFresh, Good, Ruled, GoesOn, by_number, did, Makes}
 use Rattle.cpu_words.proofs.shown.Showing.{standing_in, Stay, shows_set}
 use Rattle.cpu_words.proofs.laws.Reaching.{more}
 use Rattle.cpu_words.proofs.shown.Passes.{attached_longer}

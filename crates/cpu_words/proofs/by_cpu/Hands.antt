@@ -4,41 +4,16 @@ use mathlib.Core.Option.{some}
 use lib.ListN.{get_elem?}
 use Rattle.atomic_table.specs.Table.{Splits, Joins}
 use Rattle.atomic_table.proofs.Lists.{at_set}
-use Rattle.registry_values.specs.declared.entry.Entry.{Entry}
-use Rattle.registry_values.specs.declared.settings.Settings.{Settings}
-use Rattle.protocol.specs.declared.event.Event.{Event}
-use Rattle.protocol.specs.declared.event.Event.TheVariants.{SplitRef, JoinRef, SplitBack}
-use Rattle.protocol.specs.declared.event.Reply.{Reply}
-use Rattle.protocol.specs.declared.event.Reply.TheVariants.{Done, Ref}
-use Rattle.protocol.specs.declared.state.Hand.{Hand}
-use Rattle.protocol.specs.declared.state.Hand.TheVariants.{Empty, Taking, Giving, Back}
-use Rattle.protocol.specs.declared.state.LocalPlace.{LocalPlace}
-use Rattle.protocol.specs.declared.state.LocalPlace.TheVariants.{Standing, Lifted}
-use Rattle.protocol.specs.History.{IsAttached}
-use Rattle.protocol.specs.State.{State, hand_at, local_at}
-use Rattle.protocol.specs.Events.{step, number_standing, least_id, with_local, split_ref, split_back}
-use Rattle.protocol.specs.Invariant.{one_if, standing_of}
+use Rattle.cpu_words.specs.Types.{Entry, Settings, Event, SplitRef, JoinRef, SplitBack, Reply, Done, Ref, Hand, Empty, Taking, Giving, Back, LocalPlace, Standing, Lifted}
+use Rattle.protocol.specs.Common.{IsAttached, State, hand_at, local_at, step, number_standing, least_id, with_local, split_ref, split_back, one_if, standing_of}
 use Rattle.protocol.proofs.counts.Bounds.{back_within}
 use Rattle.protocol.proofs.keeps.References.{back_holds}
 use Rattle.protocol.proofs.counts.Sums.{one_at, local_changed, local_added, standing_within}
 use Rattle.cpu_words.proofs.laws.Reaching.{more}
 use Rattle.cpu_words.proofs.logs.Seats.{tells_nothing, names_nobody, seat_cut, seat_join}
 use Rattle.cpu_words.proofs.shown.Standing.{standing_place}
-use Rattle.cpu_words.specs.declared.view.InHand.{InHand}
+use Rattle.cpu_words.specs.Common.{InHand, CpuView, ReferenceView, LogItem, Logged, View, Cpu, Reference, Spent, Spot, section_of, passive_of, count_of, head_word, next_of, record_of, total_of, word_at, is_to, SameHand, HandFits, IsCollectedFor, CpuShown, ReferenceShown, cpu_of, reference_of, reference_to, Good, number_or_none, number_of_id, by_number, did, log_of_events, the_cpu, maker, LoggedRuled, logged_after_split, no_log, no_teller, fresh, joined_seat, spent_seat, leaves_hand, cuts_off, takes_in, SplitsBy, JoinsBy, SplitsOn, JoinsOn, IsIdle, with_hand, reference_in, with_empty_hand, reference_of_hand, with_reference_in_hand, IsTaking, IsBack}
 use Rattle.cpu_words.specs.declared.view.InHand.TheVariants.{Empty as NoEntry, Taking as TakingEntry, Giving as GivingEntry, Back as BackEntry}
-use Rattle.cpu_words.specs.declared.view.CpuView.{CpuView}
-use Rattle.cpu_words.specs.declared.view.ReferenceView.{ReferenceView}
-use Rattle.cpu_words.specs.declared.view.LogItem.{LogItem}
-use Rattle.cpu_words.specs.declared.view.Logged.{Logged}
-use Rattle.cpu_words.specs.declared.view.View.{View}
-use Rattle.cpu_words.specs.declared.view.View.TheVariants.{Cpu, Reference, Spent}
-use Rattle.cpu_words.specs.Spots.{Spot, section_of, passive_of, count_of, head_word, next_of, record_of, total_of, word_at}
-use Rattle.cpu_words.specs.Views.{is_to, SameHand, HandFits, IsCollectedFor, CpuShown, ReferenceShown, cpu_of, reference_of}
-use Rattle.cpu_words.specs.Rule.{reference_to, Good, number_or_none, number_of_id, by_number, did, log_of_events}
-use Rattle.cpu_words.specs.Logs.{the_cpu, maker, LoggedRuled, logged_after_split, no_log, no_teller, fresh, joined_seat, spent_seat, leaves_hand, cuts_off, takes_in}
-use Rattle.cpu_words.specs.Steps.{SplitsBy, JoinsBy, SplitsOn, JoinsOn}
-use Rattle.cpu_words.specs.Sections.{IsIdle}
-use Rattle.cpu_words.specs.Locals.{with_hand, reference_in, with_empty_hand, reference_of_hand, with_reference_in_hand, IsTaking, IsBack}
 use Rattle.cpu_words.proofs.shown.Showing.{standing_in, backed, shows_split, shows_join}
 use Rattle.cpu_words.proofs.shown.Placing.{agrees_same}
 use Rattle.cpu_words.proofs.by_cpu.CpuSteps.{CpuLists, lists_of, with_lists, LeavesOthers, cpu_stays, good_after}

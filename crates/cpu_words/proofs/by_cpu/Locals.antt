@@ -6,20 +6,9 @@ use mathlib.Core.Option.{some}
 use lib.ListN.{get_elem?}
 use prog.Atomic.{either}
 use Rattle.atomic_table.specs.Table.{State as Table, keeps, stepped}
-use Rattle.registry_values.specs.declared.entry.Entry.{Entry}
-use Rattle.registry_values.specs.declared.settings.Settings.{Settings}
-use Rattle.protocol.specs.declared.event.Event.TheVariants.{CountAdd, CountDown}
-use Rattle.protocol.specs.declared.event.Reply.{Reply}
-use Rattle.protocol.specs.declared.event.Reply.TheVariants.{Word, Collected}
-use Rattle.registry_values.specs.declared.slot.Slot.TheVariants.{Retired}
-use Rattle.protocol.specs.declared.state.Hand.TheVariants.{Empty, Taking, Giving, Back}
-use Rattle.protocol.specs.declared.state.LocalPlace.TheVariants.{Free, Lifted}
-use Rattle.protocol.specs.History.{IsAttached}
-use Rattle.protocol.specs.State.{State, found_at, hand_at, mark_at, count_at}
-use Rattle.registry_values.specs.Balances.{bias}
-use Rattle.registry_values.specs.Slots.{slot_at, slot_of}
-use Rattle.protocol.specs.Events.{step}
-use Rattle.protocol.specs.Invariant.{IsIn, IsCounting}
+use Rattle.cpu_words.specs.Types.{Entry, Settings, CountAdd, CountDown, Reply, Word, Collected, Retired, Empty, Taking, Giving, Back, Free, Lifted}
+use Rattle.protocol.specs.Common.{IsAttached, State, found_at, hand_at, mark_at, count_at, step, IsIn, IsCounting}
+use Rattle.registry_values.specs.Common.{bias, slot_at, slot_of}
 use Rattle.protocol.proofs.counts.Bounds.{giving_within}
 use Rattle.protocol.proofs.counts.Counts.{counting_cases, is_counting}
 use Rattle.protocol.proofs.keeps.CountKeeps.{held_counting}
@@ -29,14 +18,7 @@ use Rattle.protocol.proofs.slots.Occupied.{attached_in, in_within}
 use Rattle.protocol.proofs.keeps.References.{giving_holds}
 use Rattle.protocol.proofs.counts.Sums.{local_changed}
 use Rattle.cpu_words.specs.declared.view.InHand.TheVariants.{Empty as NoEntry, Taking as TakingEntry, Giving as GivingEntry, Back as BackEntry}
-use Rattle.cpu_words.specs.declared.view.CpuView.{CpuView}
-use Rattle.cpu_words.specs.declared.view.View.{View}
-use Rattle.cpu_words.specs.declared.view.View.TheVariants.{Cpu}
-use Rattle.cpu_words.specs.Spots.{count_of, index}
-use Rattle.cpu_words.specs.Views.{number_at, with_number, one_more, own_of, cpu_view, HandFits, IsCollectedFor, CpuShown, cpu_of}
-use Rattle.cpu_words.specs.Rule.{Agrees, Good, Ruled, GoesOn, did}
-use Rattle.cpu_words.specs.Steps.{Makes, CpuMay}
-use Rattle.cpu_words.specs.Locals.{down_reply, IsNetCount, IsPlaceCount, IsMetAlone, MayCount, HasCounted, CountTold, MayCountDown, HasCountedDown, HasFoundCollected, DownTold, with_hand}
+use Rattle.cpu_words.specs.Common.{CpuView, View, Cpu, count_of, index, number_at, with_number, one_more, own_of, cpu_view, HandFits, IsCollectedFor, CpuShown, cpu_of, Agrees, Good, Ruled, GoesOn, did, Makes, CpuMay, down_reply, IsNetCount, IsPlaceCount, IsMetAlone, MayCount, HasCounted, CountTold, MayCountDown, HasCountedDown, HasFoundCollected, DownTold, with_hand}
 use Rattle.cpu_words.proofs.shown.Placing.{agrees_set}
 use Rattle.cpu_words.proofs.by_cpu.CpuSteps.{with_lists, cpu_makes}
 use Rattle.cpu_words.proofs.shown.Seeing.{Seen, seen_of, idle_of}

@@ -8,33 +8,14 @@ use mathlib.Core.Option.{some}
 use mathlib.Core.List.{IsPrefix}
 use lib.ListN.{get_elem?}
 use Rattle.atomic_table.specs.Table.{State as Table, keeps, stepped}
-use Rattle.registry_values.specs.declared.entry.Entry.{Entry}
-use Rattle.registry_values.specs.declared.entry.Change.{Change}
-use Rattle.registry_values.specs.declared.settings.Settings.{Settings}
-use Rattle.registry_values.specs.declared.settings.TheConstants.{MOST_SLOTS}
-use Rattle.protocol.specs.declared.event.Event.{Event}
-use Rattle.protocol.specs.declared.event.Event.TheVariants.{PassiveAdd, PassiveSub, LoadRecord}
-use Rattle.protocol.specs.declared.event.RecordOf.TheVariants.{Passive}
-use Rattle.protocol.specs.declared.event.Reply.TheVariants.{Word}
-use Rattle.protocol.specs.History.{IsAttached}
-use Rattle.protocol.specs.State.{State, with_cell, begin_at, depth_at, seen_at, found_at, row_at, passive_at}
-use Rattle.registry_values.specs.Slots.{slot_at, slot_of}
-use Rattle.protocol.specs.Events.{step, is_number, after_add, after_sub, word}
-use Rattle.protocol.specs.Invariant.{IsIn, Occupies}
+use Rattle.cpu_words.specs.Types.{Entry, Change, Settings, MOST_SLOTS, Event, PassiveAdd, PassiveSub, LoadRecord, Passive, Word}
+use Rattle.protocol.specs.Common.{IsAttached, State, with_cell, begin_at, depth_at, seen_at, found_at, row_at, passive_at, step, is_number, after_add, after_sub, word, IsIn, Occupies}
+use Rattle.registry_values.specs.Common.{slot_at, slot_of}
 use Rattle.protocol.proofs.history.History.{one_entry}
 use Rattle.protocol.proofs.slots.Cells.{cell_here, cell_other}
 use Rattle.protocol.proofs.slots.Occupied.{attached_in, one_in, in_within, one_number, slot_occupied, slot_found}
 use Rattle.protocol.proofs.slots.Numbers.{slot_number}
-use Rattle.cpu_words.specs.declared.view.CpuView.{CpuView}
-use Rattle.cpu_words.specs.declared.view.LogItem.{LogItem}
-use Rattle.cpu_words.specs.declared.view.View.{View}
-use Rattle.cpu_words.specs.declared.view.View.TheVariants.{Cpu}
-use Rattle.cpu_words.specs.Spots.{Spot, section_of, passive_of, count_of, head_word, next_of, record_of, total_of, word_at, index}
-use Rattle.cpu_words.specs.Views.{CpuOwn, own_of, cpu_view, depth_of, references_to, without, CpuShown, cpu_of}
-use Rattle.cpu_words.specs.Rule.{Agrees, Good, Ruled, GoesOn, by_number, did}
-use Rattle.cpu_words.specs.Steps.{Makes, CpuMay}
-use Rattle.cpu_words.specs.Sections.{IsIdle}
-use Rattle.cpu_words.specs.Passives.{MayAdd, MayUse, HasSubtracted, IsAloneAt, tells_added, tells_subtracted, tells_passive}
+use Rattle.cpu_words.specs.Common.{CpuView, LogItem, View, Cpu, Spot, section_of, passive_of, count_of, head_word, next_of, record_of, total_of, word_at, index, CpuOwn, own_of, cpu_view, depth_of, references_to, without, CpuShown, cpu_of, Agrees, Good, Ruled, GoesOn, by_number, did, Makes, CpuMay, IsIdle, MayAdd, MayUse, HasSubtracted, IsAloneAt, tells_added, tells_subtracted, tells_passive}
 use Rattle.cpu_words.proofs.shown.Placing.{agrees_set}
 use Rattle.cpu_words.proofs.shown.Passes.{attached_prefix, taken_is_prefix}
 use Rattle.cpu_words.proofs.by_cpu.CpuSteps.{CpuLists, lists_of, with_lists, LeavesOthers, cpu_makes}

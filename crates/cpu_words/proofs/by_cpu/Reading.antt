@@ -5,34 +5,15 @@ use Rattle.std.specs.Prelude.{slice_index}
 use mathlib.Core.Option.{some}
 use lib.ListN.{get_elem?}
 use Rattle.atomic_table.specs.Table.{State as Table, keeps, stepped}
-use Rattle.registry_values.specs.declared.entry.Entry.{Entry}
-use Rattle.registry_values.specs.declared.settings.Settings.{Settings}
-use Rattle.protocol.specs.declared.event.Event.{Event}
-use Rattle.protocol.specs.declared.event.Event.TheVariants.{LoadRecord}
-use Rattle.protocol.specs.declared.event.RecordOf.TheVariants.{Local}
-use Rattle.protocol.specs.declared.event.Reply.{Reply}
-use Rattle.protocol.specs.declared.event.Reply.TheVariants.{Word}
-use Rattle.protocol.specs.declared.state.RecordWords.{RecordWords}
-use Rattle.protocol.specs.declared.state.LocalPlace.{LocalPlace}
-use Rattle.protocol.specs.declared.state.LocalPlace.TheVariants.{Standing}
-use Rattle.protocol.specs.State.{State, row_at, local_at}
-use Rattle.registry_values.specs.Slots.{slot_at, slot_of}
-use Rattle.registry_values.specs.Names.{is_lawful}
-use Rattle.protocol.specs.Events.{number_standing, step, word, words_of}
-use Rattle.protocol.specs.Invariant.{IsIn, Occupies}
+use Rattle.cpu_words.specs.Types.{Entry, Settings, Event, LoadRecord, Local, Reply, Word, RecordWords, LocalPlace, Standing}
+use Rattle.protocol.specs.Common.{State, row_at, local_at, number_standing, step, word, words_of, IsIn, Occupies}
+use Rattle.registry_values.specs.Common.{slot_at, slot_of, is_lawful}
 use Rattle.protocol.proofs.history.History.{one_entry}
 use Rattle.protocol.proofs.counts.HeldSums.{one_self}
 use Rattle.protocol.proofs.slots.Occupied.{attached_in, in_within}
 use Rattle.protocol.proofs.slots.Numbers.{slot_number}
 use Rattle.cpu_words.proofs.shown.Standing.{standing_place}
-use Rattle.cpu_words.specs.declared.view.ReferenceView.{ReferenceView}
-use Rattle.cpu_words.specs.declared.view.View.{View}
-use Rattle.cpu_words.specs.declared.view.View.TheVariants.{Reference}
-use Rattle.cpu_words.specs.Spots.{Spot, record_of, index, IsSpot}
-use Rattle.cpu_words.specs.Views.{ReferenceShown}
-use Rattle.cpu_words.specs.Rule.{Good, Ruled, GoesOn, number_or_none, by_number, did}
-use Rattle.cpu_words.specs.Steps.{OneSeat, Makes, ReferenceMay}
-use Rattle.cpu_words.specs.Reading.{tells_local}
+use Rattle.cpu_words.specs.Common.{ReferenceView, View, Reference, Spot, record_of, index, IsSpot, ReferenceShown, Good, Ruled, GoesOn, number_or_none, by_number, did, OneSeat, Makes, ReferenceMay, tells_local}
 use Rattle.cpu_words.proofs.laws.Reaching.{more}
 use Rattle.cpu_words.proofs.shown.Placing.{agrees_set}
 use Rattle.cpu_words.proofs.shown.Showing.{shows_set, backed}

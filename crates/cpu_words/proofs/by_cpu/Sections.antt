@@ -4,19 +4,9 @@ use Rattle.std.proofs.lemmas.Bool.{lt-ltb}
 use Rattle.std.proofs.lemmas.Option.{none-some}
 use Rattle.std.specs.Prelude.{slice_index}
 use mathlib.Core.List.{IsPrefix}
-use Rattle.registry_values.specs.declared.entry.Change.{Change}
-use Rattle.registry_values.specs.declared.settings.Settings.{Settings}
-use Rattle.protocol.specs.declared.event.Event.TheVariants.{Enter, Exit}
-use Rattle.protocol.specs.declared.event.Reply.TheVariants.{Done}
-use Rattle.protocol.specs.State.{State, section_at, begin_at, depth_at, seen_at}
-use Rattle.protocol.specs.Events.{step}
-use Rattle.cpu_words.specs.declared.view.CpuView.{CpuView}
-use Rattle.cpu_words.specs.declared.view.View.TheVariants.{Cpu}
-use Rattle.cpu_words.specs.Spots.{Spot, section_of, passive_of, count_of, head_word, next_of, record_of, total_of, word_at, index}
-use Rattle.cpu_words.specs.Views.{own_of, cpu_view, depth_of, CpuShown}
-use Rattle.cpu_words.specs.Rule.{Agrees, Good, did}
-use Rattle.cpu_words.specs.Steps.{Makes, CpuMay}
-use Rattle.cpu_words.specs.Sections.{MayEnter, HasEntered, MayExit, HasExited}
+use Rattle.cpu_words.specs.Types.{Change, Settings, Enter, Exit, Done}
+use Rattle.protocol.specs.Common.{State, section_at, begin_at, depth_at, seen_at, step}
+use Rattle.cpu_words.specs.Common.{CpuView, Cpu, Spot, section_of, passive_of, count_of, head_word, next_of, record_of, total_of, word_at, index, own_of, cpu_view, depth_of, CpuShown, Agrees, Good, did, Makes, CpuMay, MayEnter, HasEntered, MayExit, HasExited}
 use Rattle.cpu_words.proofs.shown.Placing.{agrees_set}
 use Rattle.cpu_words.proofs.shown.Passes.{prefix_longer, take_whole}
 use Rattle.cpu_words.proofs.by_cpu.CpuSteps.{CpuLists, lists_of, with_lists, same_counts, shown_on, found_on, cpu_makes}

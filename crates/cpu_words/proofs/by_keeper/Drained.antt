@@ -2,25 +2,13 @@
 use Rattle.std.proofs.Common.{◌≡◌, ◌≢◌, ◌⊎◌, inl, inr, ⊎_elim, ℕ, ◌≤◌, ◌<◌, List, [], length, replicate, get_or, set, Option, true, eq-eqb, refl, sym, ap, ◌∙◌, subst, arith}
 use Rattle.std.proofs.lemmas.Bool.{cases_eq, cases_lt}
 use Rattle.std.proofs.lemmas.List.{append-nil, get_or_past}
-use Rattle.registry_values.specs.declared.settings.TheConstants.{MOST_CPUS}
-use Rattle.registry_values.specs.declared.entry.Entry.{Entry}
-use Rattle.registry_values.specs.declared.slot.Slot.{Slot}
-use Rattle.registry_values.specs.declared.slot.Slot.TheVariants.{Vacant, Retired}
-use Rattle.registry_values.specs.declared.mark.Mark.{Mark}
-use Rattle.protocol.specs.declared.state.Due.TheVariants.{Rest}
-use Rattle.protocol.specs.State.{State, passive_at, count_at, total_at}
-use Rattle.registry_values.specs.Balances.{bias}
-use Rattle.registry_values.specs.Slots.{slot_at}
-use Rattle.registry_values.specs.Marks.{have_passed, are_clear, are_collected}
-use Rattle.protocol.specs.Events.{is_drained}
-use Rattle.protocol.specs.Invariant.{IsIn, Occupies}
+use Rattle.cpu_words.specs.Types.{MOST_CPUS, Entry, Slot, Vacant, Retired, Mark, Rest}
+use Rattle.protocol.specs.Common.{State, passive_at, count_at, total_at, is_drained, IsIn, Occupies}
+use Rattle.registry_values.specs.Common.{bias, slot_at, have_passed, are_clear, are_collected}
 use Rattle.protocol.proofs.keeps.MarkKeeps.{is_drained_tells}
 use Rattle.protocol.proofs.slots.Occupied.{written_cases, in_other, in_vacated, one_number, retired_other}
 use Rattle.protocol.proofs.slots.Cells.{get_or_all, cell_in_old, slot_other}
-use Rattle.cpu_words.specs.declared.view.KeeperView.{KeeperView}
-use Rattle.cpu_words.specs.Views.{KeeperShown}
-use Rattle.cpu_words.specs.Rule.{Good}
-use Rattle.cpu_words.specs.Vacating.{IsDrained}
+use Rattle.cpu_words.specs.Common.{KeeperView, KeeperShown, Good, IsDrained}
 use Rattle.cpu_words.proofs.by_keeper.KeeperSteps.{KeeperLists, keeper_lists, LeavesCpus}
 use Rattle.cpu_words.proofs.by_keeper.KeeperSees.{seen_by_keeper}
 

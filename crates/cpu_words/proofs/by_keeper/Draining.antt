@@ -2,30 +2,13 @@
 use Rattle.std.proofs.Common.{◌≡◌, ◌≢◌, inr, ⊎_elim, ℕ, ◌<◌, List, [], length, get_or, set, Some, Bool, true, false, cond, eq-eqb, ne_eqb, refl, sym, ap, ◌∙◌, subst, arith}
 use Rattle.std.proofs.lemmas.Bool.{lt-ltb, cases_eq}
 use Rattle.std.specs.Prelude.{slice_index}
-use Rattle.registry_values.specs.declared.entry.Entry.{Entry}
-use Rattle.registry_values.specs.declared.settings.Settings.{Settings}
-use Rattle.registry_values.specs.declared.slot.Slot.{Slot}
-use Rattle.registry_values.specs.declared.slot.Slot.TheVariants.{Vacant, Retired}
-use Rattle.registry_values.specs.declared.mark.Mark.{Mark}
-use Rattle.protocol.specs.declared.state.Due.TheVariants.{Rest, Adding}
-use Rattle.protocol.specs.declared.event.Event.TheVariants.{PassiveLook, Collect}
-use Rattle.protocol.specs.declared.event.Reply.TheVariants.{Word}
-use Rattle.protocol.specs.State.{State, cell, with_cell, mark_at, passive_at, count_at}
-use Rattle.registry_values.specs.Marks.{no_mark, have_passed, are_clear, mark_after_passive_look, mark_after_collect}
-use Rattle.registry_values.specs.Slots.{slot_at}
-use Rattle.protocol.specs.Events.{step}
-use Rattle.protocol.specs.Invariant.{addition_due_at, is_adding_at}
+use Rattle.cpu_words.specs.Types.{Entry, Settings, Slot, Vacant, Retired, Mark, Rest, Adding, PassiveLook, Collect, Word}
+use Rattle.protocol.specs.Common.{State, cell, with_cell, mark_at, passive_at, count_at, step, addition_due_at, is_adding_at}
+use Rattle.registry_values.specs.Common.{no_mark, have_passed, are_clear, mark_after_passive_look, mark_after_collect, slot_at}
 use Rattle.registry_values.proofs.Fit.{ranges}
 use Rattle.protocol.proofs.slots.Cells.{cell_cases, cell_here, cell_other}
 use Rattle.protocol.proofs.counts.HeldSums.{one_self, one_other}
-use Rattle.cpu_words.specs.declared.view.KeeperView.{KeeperView}
-use Rattle.cpu_words.specs.declared.view.View.TheVariants.{Keeper}
-use Rattle.cpu_words.specs.Spots.{Spot, section_of, passive_of, count_of, head_word, next_of, record_of, total_of, word_at, index}
-use Rattle.cpu_words.specs.Views.{KeeperOwn, keeper_own, keeper_view, KeeperShown, GivesUp, collected_net, collected_one}
-use Rattle.cpu_words.specs.Rule.{Agrees, Good, did}
-use Rattle.cpu_words.specs.Steps.{Makes, KeeperMay}
-use Rattle.cpu_words.specs.Grace.{MayLook, keeper_after_look}
-use Rattle.cpu_words.specs.Draining.{MayPassiveLook, LookedPassiveTold, MayCollect, CollectTold}
+use Rattle.cpu_words.specs.Common.{KeeperView, Keeper, Spot, section_of, passive_of, count_of, head_word, next_of, record_of, total_of, word_at, index, KeeperOwn, keeper_own, keeper_view, KeeperShown, GivesUp, collected_net, collected_one, Agrees, Good, did, Makes, KeeperMay, MayLook, keeper_after_look, MayPassiveLook, LookedPassiveTold, MayCollect, CollectTold}
 use Rattle.cpu_words.proofs.shown.Placing.{agrees_set}
 use Rattle.cpu_words.proofs.by_keeper.KeeperSteps.{KeeperLists, keeper_lists, with_keeper, leaves_all, keeper_makes}
 use Rattle.cpu_words.proofs.by_keeper.KeeperSees.{SeenByKeeper, seen_by_keeper, loads}

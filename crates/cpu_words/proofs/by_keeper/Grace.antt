@@ -3,27 +3,10 @@ use Rattle.std.proofs.Common.{◌≡◌, ℕ, ◌+◌, ◌<◌, List, [], Some, 
 use Rattle.std.proofs.lemmas.Bool.{lt-ltb, eq-eqb}
 use Rattle.std.specs.Prelude.{slice_index}
 use Rattle.atomic_table.specs.Table.{keeps, stepped}
-use Rattle.registry_values.specs.declared.settings.Settings.{Settings}
-use Rattle.registry_values.specs.declared.slot.Slot.{Slot}
-use Rattle.registry_values.specs.declared.slot.Slot.TheVariants.{Retired}
-use Rattle.registry_values.specs.declared.mark.Mark.{Mark}
-use Rattle.protocol.specs.declared.state.Due.{Due}
-use Rattle.protocol.specs.declared.state.Due.TheVariants.{Rest, Snapshots}
-use Rattle.protocol.specs.declared.event.Event.{Event}
-use Rattle.protocol.specs.declared.event.Event.TheVariants.{Look, Snapshot}
-use Rattle.protocol.specs.declared.event.Reply.TheVariants.{Word}
-use Rattle.protocol.specs.State.{State, with_cell, section_at, mark_at, at_rest}
-use Rattle.registry_values.specs.Slots.{slot_at}
-use Rattle.protocol.specs.Events.{step, snapshot_mark}
-use Rattle.registry_values.specs.Marks.{mark_after_look}
-use Rattle.protocol.specs.Invariant.{DueHolds}
-use Rattle.cpu_words.specs.declared.view.KeeperView.{KeeperView}
-use Rattle.cpu_words.specs.declared.view.View.TheVariants.{Keeper}
-use Rattle.cpu_words.specs.Spots.{section_of, index}
-use Rattle.cpu_words.specs.Views.{KeeperOwn, keeper_own, keeper_view, KeeperShown}
-use Rattle.cpu_words.specs.Rule.{GoesOn, by_number, did}
-use Rattle.cpu_words.specs.Steps.{Makes, KeeperMay}
-use Rattle.cpu_words.specs.Grace.{MayGlance, MayLook, MaySnapshot, due_next, LookTold, keeper_after_look}
+use Rattle.cpu_words.specs.Types.{Settings, Slot, Retired, Mark, Due, Rest, Snapshots, Event, Look, Snapshot, Word}
+use Rattle.protocol.specs.Common.{State, with_cell, section_at, mark_at, at_rest, step, snapshot_mark, DueHolds}
+use Rattle.registry_values.specs.Common.{slot_at, mark_after_look}
+use Rattle.cpu_words.specs.Common.{KeeperView, Keeper, section_of, index, KeeperOwn, keeper_own, keeper_view, KeeperShown, GoesOn, by_number, did, Makes, KeeperMay, MayGlance, MayLook, MaySnapshot, due_next, LookTold, keeper_after_look}
 use Rattle.cpu_words.proofs.by_keeper.KeeperSteps.{KeeperLists, keeper_lists, with_keeper, leaves_all, keeper_makes}
 use Rattle.cpu_words.proofs.by_keeper.KeeperSees.{seen_by_keeper, loads}
 use Rattle.cpu_words.proofs.by_keeper.Marked.{DueAlike, due_alike, same_collected, shown_marked}

@@ -2,12 +2,9 @@
 use Rattle.std.proofs.Common.{◌≡◌, ℕ, List, set, sym, ap, subst}
 use Rattle.std.proofs.lemmas.List.{set-get_or}
 use Rattle.std.specs.Prelude.{slice_index}
-use Rattle.protocol.specs.State.{State}
+use Rattle.protocol.specs.Common.{State}
 use Rattle.registry_values.proofs.Fit.{Ranges, ranges}
-use Rattle.cpu_words.specs.declared.view.KeeperView.{KeeperView}
-use Rattle.cpu_words.specs.Spots.{Spot, IsSpot, word_at}
-use Rattle.cpu_words.specs.Views.{KeeperShown}
-use Rattle.cpu_words.specs.Rule.{Agrees, Good}
+use Rattle.cpu_words.specs.Common.{KeeperView, Spot, IsSpot, word_at, KeeperShown, Agrees, Good}
 use Rattle.cpu_words.proofs.shown.Placing.{agrees_same}
 
 pub record SeenByKeeper (g : State) (k : KeeperView) : Type 0 where

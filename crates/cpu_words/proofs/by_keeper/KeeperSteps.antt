@@ -6,40 +6,15 @@ use mathlib.Core.Option.{some}
 use mathlib.Core.List.{IsPrefix}
 use lib.ListN.{get_elem?}
 use Rattle.atomic_table.specs.Table.{State as Table, keeps, stepped}
-use Rattle.registry_values.specs.declared.entry.Entry.{Entry}
-use Rattle.registry_values.specs.declared.entry.Change.{Change}
-use Rattle.registry_values.specs.declared.settings.Settings.{Settings}
-use Rattle.protocol.specs.declared.event.Event.{Event}
-use Rattle.protocol.specs.declared.event.Reply.{Reply}
-use Rattle.protocol.specs.declared.state.RecordWords.{RecordWords}
-use Rattle.registry_values.specs.declared.slot.Slot.{Slot}
-use Rattle.registry_values.specs.declared.slot.Slot.TheVariants.{Retired}
-use Rattle.registry_values.specs.declared.mark.Mark.{Mark}
-use Rattle.protocol.specs.declared.state.Hand.{Hand}
-use Rattle.protocol.specs.declared.state.Hand.TheVariants.{Empty, Taking, Giving, Back}
-use Rattle.protocol.specs.declared.state.Due.{Due}
-use Rattle.protocol.specs.declared.state.LocalPlace.{LocalPlace}
-use Rattle.protocol.specs.History.{IsAttached}
-use Rattle.protocol.specs.State.{State, hand_at, mark_at, passive_at, count_at, seen_at}
-use Rattle.registry_values.specs.Balances.{bias}
-use Rattle.registry_values.specs.Slots.{slot_at, slot_of}
-use Rattle.protocol.specs.Events.{step}
-use Rattle.protocol.specs.Invariant.{IsIn, Occupies, one_if, standing_of, HandHolds, Holds}
+use Rattle.cpu_words.specs.Types.{Entry, Change, Settings, Event, Reply, RecordWords, Slot, Retired, Mark, Hand, Empty, Taking, Giving, Back, Due, LocalPlace}
+use Rattle.protocol.specs.Common.{IsAttached, State, hand_at, mark_at, passive_at, count_at, seen_at, step, IsIn, Occupies, one_if, standing_of, HandHolds, Holds}
+use Rattle.registry_values.specs.Common.{bias, slot_at, slot_of}
 use Rattle.protocol.proofs.slots.Occupied.{slot_has, slot_found, fresh_unoccupied}
 use Rattle.protocol.proofs.keeps.Keeping.{step_holds}
 use Rattle.cpu_words.proofs.laws.Reaching.{more}
 use Rattle.cpu_words.proofs.shown.Standing.{standing_place}
-use Rattle.cpu_words.specs.declared.view.InHand.{InHand}
+use Rattle.cpu_words.specs.Common.{InHand, CpuView, KeeperView, ReferenceView, View, Keeper, Cpu, Reference, Note, Spent, KeeperOwn, own_of, cpu_view, keeper_view, references_to, is_to, SameHand, HandFits, CpuShown, KeeperShown, Spot, section_of, passive_of, count_of, head_word, next_of, record_of, total_of, word_at, Agrees, IsFresh, Good, Ruled, GoesOn, by_number, did, Makes}
 use Rattle.cpu_words.specs.declared.view.InHand.TheVariants.{Empty as NoEntry, Taking as TakingEntry, Giving as GivingEntry, Back as BackEntry}
-use Rattle.cpu_words.specs.declared.view.CpuView.{CpuView}
-use Rattle.cpu_words.specs.declared.view.KeeperView.{KeeperView}
-use Rattle.cpu_words.specs.declared.view.ReferenceView.{ReferenceView}
-use Rattle.cpu_words.specs.declared.view.View.{View}
-use Rattle.cpu_words.specs.declared.view.View.TheVariants.{Keeper, Cpu, Reference, Note, Spent}
-use Rattle.cpu_words.specs.Views.{KeeperOwn, own_of, cpu_view, keeper_view, references_to, is_to, SameHand, HandFits, CpuShown, KeeperShown}
-use Rattle.cpu_words.specs.Spots.{Spot, section_of, passive_of, count_of, head_word, next_of, record_of, total_of, word_at}
-use Rattle.cpu_words.specs.Rule.{Agrees, IsFresh, Good, Ruled, GoesOn, by_number, did}
-use Rattle.cpu_words.specs.Steps.{Makes}
 use Rattle.cpu_words.proofs.shown.Showing.{standing_in, IsBacked, Stay, shows_set}
 use Rattle.cpu_words.proofs.shown.Passes.{attached_on, attached_prefix, prefix_on, take_on}
 

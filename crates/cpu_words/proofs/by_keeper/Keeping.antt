@@ -5,35 +5,15 @@ use mathlib.Core.Option.{some}
 use lib.ListN.{get_elem?}
 use Rattle.atomic_table.specs.Table.{Joins as TableJoins}
 use Rattle.atomic_table.proofs.Lists.{at_set}
-use Rattle.registry_values.specs.declared.entry.Entry.{Entry}
-use Rattle.registry_values.specs.declared.entry.Kind.TheVariants.{Driver}
-use Rattle.registry_values.specs.declared.settings.Settings.{Settings}
-use Rattle.protocol.specs.declared.event.Event.TheVariants.{Keep}
-use Rattle.protocol.specs.declared.event.Reply.TheVariants.{Done}
-use Rattle.registry_values.specs.declared.slot.Slot.{Slot}
-use Rattle.registry_values.specs.declared.slot.Slot.TheVariants.{Vacant, Live, Retired}
-use Rattle.protocol.specs.declared.state.LocalPlace.{LocalPlace}
-use Rattle.protocol.specs.declared.state.LocalPlace.TheVariants.{Free, Standing}
-use Rattle.protocol.specs.declared.state.Due.TheVariants.{Rest}
-use Rattle.registry_values.specs.Slots.{slot_at, slot_of, is_driver}
-use Rattle.protocol.specs.State.{kept_at}
-use Rattle.protocol.specs.Events.{number_standing, step, is_driver_slot}
-use Rattle.protocol.specs.Invariant.{IsIn, one_if}
+use Rattle.cpu_words.specs.Types.{Entry, Driver, Settings, Keep, Done, Slot, Vacant, Live, Retired, LocalPlace, Free, Standing, Rest}
+use Rattle.registry_values.specs.Common.{slot_at, slot_of, is_driver}
+use Rattle.protocol.specs.Common.{kept_at, number_standing, step, is_driver_slot, IsIn, one_if}
 use Rattle.protocol.proofs.slots.Numbers.{slot_number}
 use Rattle.protocol.proofs.counts.Sums.{one_at, local_changed, standing_within}
-use Rattle.cpu_words.specs.declared.view.KeeperView.{KeeperView}
-use Rattle.cpu_words.specs.declared.view.ReferenceView.{ReferenceView}
-use Rattle.cpu_words.specs.declared.view.Logged.{Logged}
-use Rattle.cpu_words.specs.declared.view.View.{View}
-use Rattle.cpu_words.specs.declared.view.View.TheVariants.{Keeper, Reference, Spent}
-use Rattle.cpu_words.specs.Views.{is_to, keeper_of, reference_of}
-use Rattle.cpu_words.specs.Rule.{number_or_none, did, log_of_events}
-use Rattle.cpu_words.specs.Steps.{JoinsBy, JoinsOn}
-use Rattle.cpu_words.specs.Keeping.{MayKeep, keeper_after_keep, with_kept}
+use Rattle.cpu_words.specs.Common.{KeeperView, ReferenceView, Logged, View, Keeper, Reference, Spent, is_to, keeper_of, reference_of, number_or_none, did, log_of_events, JoinsBy, JoinsOn, MayKeep, keeper_after_keep, with_kept, LoggedRuled, joined_seat, spent_seat, keeps_for}
 use Rattle.cpu_words.proofs.shown.Placing.{agrees_same}
 use Rattle.cpu_words.proofs.laws.Reaching.{more}
 use Rattle.cpu_words.proofs.logs.Seats.{seat_join}
-use Rattle.cpu_words.specs.Logs.{LoggedRuled, joined_seat, spent_seat, keeps_for}
 use Rattle.cpu_words.proofs.shown.Standing.{standing_place}
 use Rattle.cpu_words.proofs.shown.Showing.{standing_in, backed, shows_join}
 use Rattle.cpu_words.proofs.by_keeper.KeeperSteps.{KeeperLists, with_keeper, leaves_all, keeper_good_after, beside, beside_stays, beside_words}

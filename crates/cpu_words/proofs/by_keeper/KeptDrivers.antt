@@ -1,26 +1,12 @@
 -- A retired interface gives its driver up, on the words.
 use Rattle.std.proofs.Common.{length-set, ◌≡◌, inl, inr, ℕ, ◌+◌, ◌-◌, ◌%◌, ◌^◌, ◌<◌, List, replicate, set, Option, Some, None, true, refl, sym, ap, ◌∙◌, subst, arith}
 use Rattle.std.specs.Prelude.{slice_index}
-use Rattle.registry_values.specs.declared.entry.Entry.{Entry}
-use Rattle.registry_values.specs.declared.settings.Settings.{Settings}
-use Rattle.registry_values.specs.declared.settings.TheConstants.{MOST_CPUS}
-use Rattle.registry_values.specs.declared.slot.Slot.{Slot}
-use Rattle.registry_values.specs.declared.slot.Slot.TheVariants.{Vacant, Live, Retired}
-use Rattle.protocol.specs.declared.event.Event.TheVariants.{KeptSub}
-use Rattle.protocol.specs.declared.event.Reply.TheVariants.{Done}
-use Rattle.protocol.specs.State.{State, total_at, kept_at}
-use Rattle.registry_values.specs.Slots.{slot_at, slot_of, is_iface}
-use Rattle.protocol.specs.Events.{step}
-use Rattle.protocol.specs.Invariant.{IsIn}
+use Rattle.cpu_words.specs.Types.{Entry, Settings, MOST_CPUS, Slot, Vacant, Live, Retired, KeptSub, Done}
+use Rattle.protocol.specs.Common.{State, total_at, kept_at, step, IsIn}
+use Rattle.registry_values.specs.Common.{slot_at, slot_of, is_iface}
 use Rattle.protocol.proofs.slots.Occupied.{slot_has}
 use Rattle.protocol.proofs.counts.Bounds.{driver_positive}
-use Rattle.cpu_words.specs.declared.view.KeeperView.{KeeperView}
-use Rattle.cpu_words.specs.declared.view.View.TheVariants.{Keeper}
-use Rattle.cpu_words.specs.Spots.{total_of, index}
-use Rattle.cpu_words.specs.Views.{KeeperOwn, keeper_own, keeper_view, one_more, KeeperShown, GivesUp}
-use Rattle.cpu_words.specs.Rule.{Agrees, Good, did}
-use Rattle.cpu_words.specs.Steps.{Makes, KeeperMay}
-use Rattle.cpu_words.specs.Draining.{MayKeptSub, HasKeptSub, KeptSubTold}
+use Rattle.cpu_words.specs.Common.{KeeperView, Keeper, total_of, index, KeeperOwn, keeper_own, keeper_view, one_more, KeeperShown, GivesUp, Agrees, Good, did, Makes, KeeperMay, MayKeptSub, HasKeptSub, KeptSubTold}
 use Rattle.cpu_words.proofs.by_keeper.KeeperSteps.{KeeperLists, with_keeper, keeper_makes}
 use Rattle.cpu_words.proofs.by_keeper.KeeperSees.{seen_by_keeper}
 use Rattle.cpu_words.proofs.by_keeper.Drained.{Drained, drained_of, vacating, vacated_leaves, vacated_counts, stood}

@@ -1,15 +1,14 @@
 -- What the live numbers of the keeper's view tell of the links: where they lead, and which of them leads to a slot.
 use Rattle.std.proofs.Common.{◌≡◌, ℕ, zero, suc, ◌<◌, ◌≤◌, ⊎_elim, List, length, get_or, Option, Some, None, refl, sym, ap, ◌∙◌, subst, arith}
 use Rattle.std.proofs.lemmas.Bool.{cases_lt}
-use Rattle.registry_values.specs.declared.entry.Entry.{Entry}
-use Rattle.registry_values.specs.declared.entry.Change.{Change}
-use Rattle.registry_values.specs.declared.slot.Slot.{Slot}
-use Rattle.registry_values.specs.declared.slot.Slot.TheVariants.{Live}
-use Rattle.registry_values.specs.Slots.{slot_at, slot_before}
-use Rattle.protocol.specs.Invariant.{SlotsShow, ListShows, Leads, To_end as No_entry, To_entry}
+use Rattle.cpu_words.specs.Types.{Entry, Change, Slot, Live}
+use Rattle.registry_values.specs.Common.{slot_at, slot_before}
+use Rattle.protocol.specs.Common.{SlotsShow, ListShows, Leads, To_entry}
+use Rattle.protocol.specs.Invariant.{To_end as No_entry}
 use Rattle.protocol.proofs.history.History.{one_entry}
 use Rattle.protocol.proofs.keeps.Unlinking.{before_leads, head_leads, link_to}
-use Rattle.cpu_words.specs.Publishing.{LeadsBelow, To_end, To_slot, IsBefore}
+use Rattle.cpu_words.specs.Common.{LeadsBelow, IsBefore}
+use Rattle.cpu_words.specs.Publishing.{To_end, To_slot}
 
 -- two links that lead to the greatest live number below one number are the same
 pub one_link : (h : List Change) (slots : List Slot) (n x y : ℕ) → SlotsShow h slots → LeadsBelow slots n x → Leads h (length h) n y → x ≡ y

@@ -3,20 +3,13 @@ use Rattle.std.proofs.Common.{◌≡◌, ◌≢◌, inr, ⊎_elim, ℕ, zero, su
 use Rattle.std.specs.List.{zip}
 use Rattle.std.proofs.lemmas.List.Sums.{sum_by-cons}
 use Rattle.std.proofs.lemmas.Bool.{cases_eq}
-use Rattle.registry_values.specs.declared.entry.Entry.{Entry}
-use Rattle.registry_values.specs.declared.mark.Mark.{Mark}
-use Rattle.protocol.specs.declared.state.Due.{Due}
-use Rattle.protocol.specs.State.{State, with_cell, cell, mark_at, count_at, total_at}
-use Rattle.registry_values.specs.Marks.{no_mark}
-use Rattle.registry_values.specs.Slots.{slot_at}
-use Rattle.protocol.specs.Invariant.{AreRows, IsIn, subtraction_due_at, addition_due_at, is_adding_at}
+use Rattle.cpu_words.specs.Types.{Entry, Mark, Due, Change}
+use Rattle.protocol.specs.Common.{State, with_cell, cell, mark_at, count_at, total_at, AreRows, IsIn, subtraction_due_at, addition_due_at, is_adding_at}
+use Rattle.registry_values.specs.Common.{no_mark, slot_at}
 use Rattle.protocol.proofs.slots.Cells.{cell_cases, row_here, row_other}
 use Rattle.registry_values.proofs.Fit.{ranges}
-use Rattle.registry_values.specs.declared.entry.Change.{Change}
 use mathlib.Core.List.{IsPrefix}
-use Rattle.cpu_words.specs.declared.view.KeeperView.{KeeperView}
-use Rattle.cpu_words.specs.Views.{number_at, KeeperOwn, keeper_view, KeeperShown, GivesUp, collected_net, collected_one}
-use Rattle.cpu_words.specs.Rule.{Good}
+use Rattle.cpu_words.specs.Common.{KeeperView, number_at, KeeperOwn, keeper_view, KeeperShown, GivesUp, collected_net, collected_one, Good}
 use Rattle.protocol.proofs.slots.Occupied.{in_within}
 
 -- a sum over the marks and net counts of a slot, as one mark changes

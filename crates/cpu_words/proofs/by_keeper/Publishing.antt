@@ -3,34 +3,14 @@ use Rattle.std.proofs.Common.{◌≡◌, inl, inr, ⊎_elim, ℕ, zero, suc, ◌
 use Rattle.std.specs.List.{zip, list_all}
 use Rattle.std.proofs.lemmas.Bool.{and_from, lt-ltb, le-leb, eq-eqb}
 use Rattle.std.proofs.lemmas.List.{get_or-replicate}
-use Rattle.registry_values.specs.declared.entry.Entry.{Entry}
-use Rattle.registry_values.specs.declared.entry.Change.{Change}
-use Rattle.registry_values.specs.declared.entry.Change.TheVariants.{Attach}
-use Rattle.registry_values.specs.declared.settings.Settings.{Settings}
-use Rattle.registry_values.specs.declared.settings.TheConstants.{MOST_CPUS}
-use Rattle.registry_values.specs.declared.slot.Slot.{Slot}
-use Rattle.registry_values.specs.declared.slot.Slot.TheVariants.{Vacant, Live, Retired}
-use Rattle.protocol.specs.declared.state.Due.TheVariants.{Rest}
-use Rattle.protocol.specs.declared.state.RecordWords.{RecordWords}
-use Rattle.protocol.specs.declared.event.Event.TheVariants.{Publish}
-use Rattle.protocol.specs.declared.event.Reply.TheVariants.{Done}
-use Rattle.protocol.specs.History.{after_change}
-use Rattle.registry_values.specs.Slots.{key_of, slot_at, is_taken, live_count}
-use Rattle.protocol.specs.State.{State, row_at, count_at, total_at, kept_at}
-use Rattle.registry_values.specs.Balances.{bias}
-use Rattle.protocol.specs.Events.{step, entry_of, is_bias, keeps_rightly}
-use Rattle.protocol.specs.Invariant.{IsIn}
+use Rattle.cpu_words.specs.Types.{Entry, Change, Attach, Settings, MOST_CPUS, Slot, Vacant, Live, Retired, Rest, RecordWords, Publish, Done}
+use Rattle.protocol.specs.Common.{after_change, State, row_at, count_at, total_at, kept_at, step, entry_of, is_bias, keeps_rightly, IsIn}
+use Rattle.registry_values.specs.Common.{key_of, slot_at, is_taken, live_count, bias}
 use Rattle.protocol.proofs.slots.Cells.{cell_in_new, cell_in_old}
 use Rattle.registry_values.proofs.Fit.{ranges}
 use Rattle.protocol.proofs.history.History.{length-after_change}
 use Rattle.protocol.proofs.slots.Occupied.{slot_cases, in_other, in_published, not_vacant}
-use Rattle.cpu_words.specs.declared.view.KeeperView.{KeeperView}
-use Rattle.cpu_words.specs.declared.view.View.TheVariants.{Keeper}
-use Rattle.cpu_words.specs.Spots.{Spot, section_of, passive_of, count_of, head_word, next_of, record_of, total_of, IsSpot, word_at, index}
-use Rattle.cpu_words.specs.Views.{keeper_own, keeper_view, KeeperShown, number_at, collected_net, collected_one}
-use Rattle.cpu_words.specs.Rule.{Agrees, Good, did}
-use Rattle.cpu_words.specs.Steps.{Makes, KeeperStores}
-use Rattle.cpu_words.specs.Publishing.{LeadsBelow, MayPublish, HasPublished, PublishTold}
+use Rattle.cpu_words.specs.Common.{KeeperView, Keeper, Spot, section_of, passive_of, count_of, head_word, next_of, record_of, total_of, IsSpot, word_at, index, keeper_own, keeper_view, KeeperShown, number_at, collected_net, collected_one, Agrees, Good, did, Makes, KeeperStores, LeadsBelow, MayPublish, HasPublished, PublishTold}
 use Rattle.cpu_words.proofs.shown.Passes.{prefix_on}
 use Rattle.cpu_words.proofs.shown.Placing.{agrees_set}
 use Rattle.cpu_words.proofs.by_keeper.KeeperSteps.{KeeperLists, keeper_lists, with_keeper, LeavesCpus, Came, keeper_makes}

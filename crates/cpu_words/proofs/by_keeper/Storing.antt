@@ -1,27 +1,13 @@
 -- The stores of the keeper into a vacant slot.
 use Rattle.std.proofs.Common.{◌≡◌, ◌≢◌, ⊎_elim, ℕ, zero, suc, ◌+◌, ◌-◌, ◌<◌, List, [], length, get_or, set, Some, false, nat_lt, refl, sym, ap, ◌∙◌, subst, arith, length-set, get_or-set_same, get_or-set_other}
 use Rattle.std.proofs.lemmas.Bool.{cases_eq, lt-ltb, le-ltb}
-use Rattle.registry_values.specs.declared.settings.Settings.{Settings}
-use Rattle.protocol.specs.declared.event.Event.TheVariants.{StoreSlot, StoreNext}
-use Rattle.protocol.specs.declared.event.Reply.TheVariants.{Done}
-use Rattle.protocol.specs.declared.state.RecordWords.{RecordWords}
-use Rattle.registry_values.specs.declared.slot.Slot.{Slot}
-use Rattle.registry_values.specs.declared.slot.Slot.TheVariants.{Vacant}
-use Rattle.protocol.specs.declared.state.Due.TheVariants.{Rest}
-use Rattle.protocol.specs.State.{State, no_words, with_cell, row_at, count_at}
-use Rattle.registry_values.specs.Slots.{slot_at}
-use Rattle.protocol.specs.Events.{step, word, with_word}
+use Rattle.cpu_words.specs.Types.{Settings, StoreSlot, StoreNext, Done, RecordWords, Slot, Vacant, Rest}
+use Rattle.protocol.specs.Common.{State, no_words, with_cell, row_at, count_at, step, word, with_word}
+use Rattle.registry_values.specs.Common.{slot_at}
 use Rattle.protocol.proofs.slots.Cells.{by_cell, cell_here, cell_other}
 use Rattle.protocol.proofs.keeps.ListKeeps.{rows_cell}
 use Rattle.registry_values.proofs.Fit.{ranges}
-use Rattle.cpu_words.specs.declared.view.KeeperView.{KeeperView}
-use Rattle.cpu_words.specs.declared.view.View.TheVariants.{Keeper}
-use Rattle.cpu_words.specs.Spots.{Spot, section_of, passive_of, count_of, head_word, next_of, record_of, total_of, IsSpot, word_at, index}
-use Rattle.cpu_words.specs.Views.{KeeperOwn, keeper_own, keeper_view, KeeperShown}
-use Rattle.cpu_words.specs.Rule.{Agrees, Good, did}
-use Rattle.cpu_words.specs.Steps.{Makes, KeeperStores}
-use Rattle.cpu_words.specs.Vacating.{MayWrite}
-use Rattle.cpu_words.specs.Storing.{HasRecordWord, HasCountWord, HasLink}
+use Rattle.cpu_words.specs.Common.{KeeperView, Keeper, Spot, section_of, passive_of, count_of, head_word, next_of, record_of, total_of, IsSpot, word_at, index, KeeperOwn, keeper_own, keeper_view, KeeperShown, Agrees, Good, did, Makes, KeeperStores, MayWrite, HasRecordWord, HasCountWord, HasLink}
 use Rattle.cpu_words.proofs.shown.Placing.{agrees_set}
 use Rattle.cpu_words.proofs.by_keeper.KeeperSteps.{KeeperLists, keeper_lists, with_keeper, leaves_all, keeper_makes}
 use Rattle.cpu_words.proofs.by_keeper.KeeperSees.{SeenByKeeper, seen_by_keeper}

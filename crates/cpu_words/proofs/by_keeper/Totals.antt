@@ -6,23 +6,9 @@ use mathlib.Core.Option.{some}
 use lib.ListN.{get_elem?}
 use Rattle.atomic_table.specs.Table.{Joins as TableJoins}
 use Rattle.atomic_table.proofs.Lists.{at_set}
-use Rattle.registry_values.specs.declared.entry.Entry.{Entry}
-use Rattle.registry_values.specs.declared.entry.Change.TheVariants.{Attach}
-use Rattle.registry_values.specs.declared.settings.Settings.{Settings}
-use Rattle.registry_values.specs.declared.mark.Mark.{Mark}
-use Rattle.registry_values.specs.declared.slot.Slot.{Slot}
-use Rattle.registry_values.specs.declared.slot.Slot.TheVariants.{Live, Retired}
-use Rattle.protocol.specs.declared.state.LocalPlace.{LocalPlace}
-use Rattle.protocol.specs.declared.state.LocalPlace.TheVariants.{Free, Standing}
-use Rattle.protocol.specs.declared.state.Due.TheVariants.{Rest, Adding, Subtracting}
-use Rattle.protocol.specs.declared.event.Event.TheVariants.{TotalAdd, TotalSub, JoinKeeper}
-use Rattle.protocol.specs.declared.event.Reply.TheVariants.{Done}
-use Rattle.protocol.specs.State.{State, mark_at, total_at}
-use Rattle.registry_values.specs.Balances.{bias}
-use Rattle.registry_values.specs.Marks.{no_mark, is_collected, is_some_collected}
-use Rattle.registry_values.specs.Slots.{slot_at, slot_of}
-use Rattle.protocol.specs.Events.{number_standing, step, total_add, total_sub}
-use Rattle.protocol.specs.Invariant.{IsIn, one_if, subtraction_due_at, addition_due_at, is_adding_at}
+use Rattle.cpu_words.specs.Types.{Entry, Attach, Settings, Mark, Slot, Live, Retired, LocalPlace, Free, Standing, Rest, Adding, Subtracting, TotalAdd, TotalSub, JoinKeeper, Done}
+use Rattle.protocol.specs.Common.{State, mark_at, total_at, number_standing, step, total_add, total_sub, IsIn, one_if, subtraction_due_at, addition_due_at, is_adding_at}
+use Rattle.registry_values.specs.Common.{bias, no_mark, is_collected, is_some_collected, slot_at, slot_of}
 use Rattle.protocol.proofs.history.History.{at_within, one_entry}
 use Rattle.protocol.proofs.slots.Occupied.{attached_in, one_in, one_number, in_within}
 use Rattle.protocol.proofs.slots.Cells.{total_here, total_other}
@@ -33,19 +19,9 @@ use Rattle.protocol.proofs.slots.Numbers.{slot_number}
 use Rattle.protocol.proofs.slots.MarkRows.{any_within}
 use Rattle.protocol.proofs.counts.Sums.{local_changed, standing_within}
 use Rattle.protocol.proofs.counts.Bounds.{adding_range, adding_within, subtracting_range}
-use Rattle.cpu_words.specs.declared.view.KeeperView.{KeeperView}
-use Rattle.cpu_words.specs.declared.view.ReferenceView.{ReferenceView}
-use Rattle.cpu_words.specs.declared.view.Logged.{Logged}
-use Rattle.cpu_words.specs.declared.view.View.{View}
-use Rattle.cpu_words.specs.declared.view.View.TheVariants.{Keeper, Reference, Spent}
-use Rattle.cpu_words.specs.Spots.{Spot, section_of, passive_of, count_of, head_word, next_of, record_of, total_of, word_at, index}
-use Rattle.cpu_words.specs.Views.{KeeperOwn, keeper_own, keeper_view, number_at, one_more, is_to, IsCollectedFor, KeeperShown, ReferenceShown, GivesUp, keeper_of, reference_of}
-use Rattle.cpu_words.specs.Rule.{Agrees, Good, number_or_none, did, log_of_events}
-use Rattle.cpu_words.specs.Steps.{Makes, JoinsBy, JoinsOn, KeeperMay, KeeperStores}
-use Rattle.cpu_words.specs.Draining.{MayTotalAdd, TotalAddTold, MayTotalSub, TotalSubTold, MayJoinKeeper, keeper_after_join, with_given_up}
+use Rattle.cpu_words.specs.Common.{KeeperView, ReferenceView, Logged, View, Keeper, Reference, Spent, Spot, section_of, passive_of, count_of, head_word, next_of, record_of, total_of, word_at, index, KeeperOwn, keeper_own, keeper_view, number_at, one_more, is_to, IsCollectedFor, KeeperShown, ReferenceShown, GivesUp, keeper_of, reference_of, Agrees, Good, number_or_none, did, log_of_events, Makes, JoinsBy, JoinsOn, KeeperMay, KeeperStores, MayTotalAdd, TotalAddTold, MayTotalSub, TotalSubTold, MayJoinKeeper, keeper_after_join, with_given_up, LoggedRuled, joined_seat, spent_seat, gives_up}
 use Rattle.cpu_words.proofs.laws.Reaching.{more}
 use Rattle.cpu_words.proofs.logs.Seats.{seat_join}
-use Rattle.cpu_words.specs.Logs.{LoggedRuled, joined_seat, spent_seat, gives_up}
 use Rattle.cpu_words.proofs.shown.Placing.{agrees_set, agrees_same}
 use Rattle.cpu_words.proofs.shown.Showing.{standing_in, backed, shows_join}
 use Rattle.cpu_words.proofs.by_cpu.Counting.{one_more_same, one_more_other}

@@ -5,27 +5,11 @@ use Rattle.std.specs.Prelude.{slice_index}
 use mathlib.Core.Option.{some, some-ne-none}
 use lib.ListN.{get_elem?}
 use Rattle.atomic_table.specs.Table.{State as Table}
-use Rattle.registry_values.specs.declared.entry.Entry.{Entry}
-use Rattle.registry_values.specs.declared.settings.Settings.{Settings}
-use Rattle.registry_values.specs.declared.settings.TheConstants.{MOST_CPUS}
-use Rattle.protocol.specs.declared.event.Event.TheVariants.{Hear, Vacate}
-use Rattle.protocol.specs.declared.state.Due.TheVariants.{Rest}
-use Rattle.protocol.specs.declared.event.Reply.TheVariants.{Done}
-use Rattle.registry_values.specs.declared.slot.Slot.TheVariants.{Vacant, Live, Retired}
-use Rattle.protocol.specs.State.{State, kept_at}
-use Rattle.protocol.specs.Events.{step, after_vacate}
+use Rattle.cpu_words.specs.Types.{Entry, Settings, MOST_CPUS, Hear, Vacate, Rest, Done, Vacant, Live, Retired}
+use Rattle.protocol.specs.Common.{State, kept_at, step, after_vacate}
 use Rattle.protocol.proofs.keeps.ListKeeps.{rows_put}
-use Rattle.cpu_words.specs.declared.view.KeeperView.{KeeperView}
-use Rattle.cpu_words.specs.declared.view.LogItem.{LogItem}
-use Rattle.cpu_words.specs.declared.view.View.{View}
-use Rattle.cpu_words.specs.declared.view.View.TheVariants.{Keeper}
-use Rattle.cpu_words.specs.Views.{keeper_of, keeper_own, keeper_view, KeeperShown}
-use Rattle.cpu_words.specs.Notes.{KeeperHasHeard}
+use Rattle.cpu_words.specs.Common.{KeeperView, LogItem, View, Keeper, keeper_of, keeper_own, keeper_view, KeeperShown, KeeperHasHeard, Ruled, GoesOn, did, Makes, Moves, KeeperMay, MayVacate, keeper_after_vacate, VacateTold, head_word, index}
 use Rattle.cpu_words.proofs.laws.Reaching.{goes_both}
-use Rattle.cpu_words.specs.Rule.{Ruled, GoesOn, did}
-use Rattle.cpu_words.specs.Steps.{Makes, Moves, KeeperMay}
-use Rattle.cpu_words.specs.Vacating.{MayVacate, keeper_after_vacate, VacateTold}
-use Rattle.cpu_words.specs.Spots.{head_word, index}
 use Rattle.cpu_words.proofs.seats.Notes.{hear_keeper_may}
 use Rattle.cpu_words.proofs.by_keeper.KeeperSteps.{KeeperLists, with_keeper, keeper_makes}
 use Rattle.cpu_words.proofs.by_keeper.Drained.{Drained, drained_of, vacating, vacated_leaves, vacated_counts, stood}

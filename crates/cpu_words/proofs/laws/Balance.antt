@@ -4,27 +4,12 @@ use Rattle.std.proofs.lemmas.Bool.{cases_lt, cases_eq, lt-ltb, le-ltb}
 use Rattle.std.proofs.lemmas.List.Sums.{sum_by-cons}
 use mathlib.Core.Option.{some, some-ne-none, some-injective}
 use lib.ListN.{get_elem?}
-use Rattle.registry_values.specs.declared.entry.Entry.{Entry}
-use Rattle.registry_values.specs.declared.settings.Settings.{Settings}
-use Rattle.registry_values.specs.declared.slot.Slot.{Slot}
-use Rattle.registry_values.specs.Balances.{bias}
-use Rattle.registry_values.specs.Slots.{slot_at}
-use Rattle.protocol.specs.declared.state.Due.{Due}
-use Rattle.protocol.specs.declared.state.Hand.{Hand}
+use Rattle.cpu_words.specs.Types.{Entry, Settings, Slot, Due, Hand}
+use Rattle.registry_values.specs.Common.{bias, slot_at}
 use Rattle.protocol.specs.declared.state.Hand.TheVariants.{Empty as EmptyHand, Taking as TakingHand, Giving as GivingHand, Back as BackHand}
-use Rattle.protocol.specs.State.{State, hand_at, count_at, total_at}
-use Rattle.protocol.specs.Invariant.{IsIn, one_if_used, itself, in_hand, kept_of, addition_due_at, is_adding_at, subtraction_due_at}
+use Rattle.protocol.specs.Common.{State, hand_at, count_at, total_at, IsIn, one_if_used, itself, in_hand, kept_of, addition_due_at, is_adding_at, subtraction_due_at}
 use Rattle.protocol.proofs.slots.Occupied.{in_within}
-use Rattle.cpu_words.specs.declared.view.InHand.{InHand}
-use Rattle.cpu_words.specs.declared.view.InHand.TheVariants.{Empty, Taking, Giving, Back}
-use Rattle.cpu_words.specs.declared.view.KeeperView.{KeeperView}
-use Rattle.cpu_words.specs.declared.view.View.{View}
-use Rattle.cpu_words.specs.declared.view.View.TheVariants.{Keeper, Cpu, Reference, Note, Spent}
-use Rattle.cpu_words.specs.Spots.{count_of, total_of}
-use Rattle.cpu_words.specs.Views.{SameHand, CpuShown, Shown}
-use Rattle.cpu_words.specs.Rule.{Agrees, Sits, ShowsViews, Good}
-use Rattle.cpu_words.specs.KeeperLog.{sum_below}
-use Rattle.cpu_words.specs.Balance.{count_word, total_word, in_hand_to, hand_to, held_by_seats, HasOneSeat, IsBalanced, SeatsBalance}
+use Rattle.cpu_words.specs.Common.{InHand, Empty, Taking, Giving, Back, KeeperView, View, Keeper, Cpu, Reference, Note, Spent, count_of, total_of, SameHand, CpuShown, Shown, Agrees, Sits, ShowsViews, Good, sum_below, count_word, total_word, in_hand_to, hand_to, held_by_seats, HasOneSeat, IsBalanced, SeatsBalance}
 use Rattle.cpu_words.proofs.by_keeper.KeeperSees.{SeenByKeeper, seen_by_keeper}
 
 -- Sums over numbers

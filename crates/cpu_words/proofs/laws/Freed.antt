@@ -1,30 +1,15 @@
 -- Destroying: an entry whose slot the keeper made vacant has no slot and no holder in any later state.
 use Rattle.cpu_words.proofs.logs.Changes.{run_as_logged}
 use Rattle.std.proofs.Common.{◌≡◌, inr, ⊎_elim, ℕ, ◌&&◌, Bool, true, false, IsTrue, List, [], ◌∷◌, ◌++◌, length, set, Option, Some, None, IsSome, refl, sym, ap, ◌∙◌, subst, append_assoc, length-append, arith}
-use Rattle.std.proofs.lemmas.List.{append-nil, length-map}
+use Rattle.std.proofs.lemmas.List.{append-nil}
 use Rattle.std.proofs.lemmas.Option.{none-some, same_Some}
 use mathlib.Core.Option.{some}
 use mathlib.Core.List.{IsPrefix}
 use lib.ListN.{get_elem?}
 use Rattle.atomic_table.specs.Table.{State as Table}
-use Rattle.registry_values.specs.declared.entry.Entry.{Entry}
-use Rattle.registry_values.specs.declared.entry.Change.{Change}
-use Rattle.registry_values.specs.declared.entry.Change.TheVariants.{Attach, Detach}
-use Rattle.registry_values.specs.declared.settings.Settings.{Settings}
-use Rattle.registry_values.specs.declared.slot.Slot.TheVariants.{Vacant, Retired}
-use Rattle.registry_values.specs.Limits.{are_fit}
-use Rattle.registry_values.specs.Slots.{slot_at, slot_of}
-use Rattle.protocol.specs.declared.event.Event.{Event}
-use Rattle.protocol.specs.declared.event.Event.TheVariants.{Vacate, KeptSub}
-use Rattle.protocol.specs.declared.event.Reply.TheVariants.{Done}
-use Rattle.protocol.specs.History.{IsAttached, EndsAt}
-use Rattle.protocol.specs.State.{State, opening, kept_at}
-use Rattle.protocol.specs.Events.{Outcome, guard, with_some, some_outcome, step, state_after, is_drained, may_vacate, is_iface_slot, after_vacate, after_kept_sub}
-use Rattle.protocol.specs.Invariant.{Holds, Occupies}
-use Rattle.protocol.specs.Run.{empty_run}
-use Rattle.protocol.specs.Model.{IsUnheld}
-use Rattle.protocol.specs.Picture.{number_in, picture}
-use Rattle.protocol.specs.Laws.{after, occupant_of, destroyed_slot, IsAllowed}
+use Rattle.cpu_words.specs.Types.{Entry, Change, Attach, Detach, Settings, Vacant, Retired, Event, Vacate, KeptSub, Done}
+use Rattle.registry_values.specs.Common.{are_fit, slot_at, slot_of}
+use Rattle.protocol.specs.Common.{IsAttached, EndsAt, State, opening, kept_at, Outcome, guard, with_some, some_outcome, step, state_after, is_drained, may_vacate, is_iface_slot, after_vacate, after_kept_sub, Holds, Occupies, IsUnheld, number_in, picture, after, occupant_of, destroyed_slot, IsAllowed}
 use Rattle.protocol.proofs.history.History.{one_entry, at_within}
 use Rattle.protocol.proofs.keeps.Keeping.{opening_holds, step_holds}
 use Rattle.protocol.proofs.keeps.MarkKeeps.{is_drained_tells}
@@ -33,14 +18,7 @@ use Rattle.protocol.proofs.runs.Headline.{unheld_unoccupied}
 use Rattle.protocol.proofs.runs.Reuse.{number_is, destroyed_drained}
 use Rattle.protocol.proofs.runs.State.{obeys_laws}
 use Rattle.protocol.proofs.slots.Occupied.{attached_in, in_within, slot_cases}
-use Rattle.cpu_words.specs.declared.view.LogItem.{LogItem}
-use Rattle.cpu_words.specs.declared.view.Logged.{Logged}
-use Rattle.cpu_words.specs.declared.view.View.{View}
-use Rattle.cpu_words.specs.Rule.{Good, ShowsViews, log_of_events}
-use Rattle.cpu_words.specs.KeeperLog.{IsDetachedFrom, IsFreedFrom}
-use Rattle.cpu_words.specs.Logs.{part, without_logs, AreByOwn}
-use Rattle.cpu_words.specs.Headline.{RunsAsLogged}
-use Rattle.cpu_words.specs.Freed.{IsGone, HasGone, FreedIsGone}
+use Rattle.cpu_words.specs.Common.{LogItem, Logged, View, Good, ShowsViews, IsDetachedFrom, IsFreedFrom, part, without_logs, AreByOwn, RunsAsLogged, IsGone, HasGone, FreedIsGone}
 use Rattle.cpu_words.proofs.shown.Passes.{at_prefix, attached_prefix}
 use Rattle.cpu_words.proofs.shown.Showing.{backed}
 use Rattle.cpu_words.proofs.laws.Safety.{running_headline}
@@ -49,7 +27,7 @@ use Rattle.cpu_words.proofs.laws.Waiting.{own_first}
 use Rattle.cpu_words.proofs.logs.Known.{Known, known_stays, known_first}
 use Rattle.cpu_words.proofs.logs.Loads.{is_whole, same_event, place, halve}
 use Rattle.cpu_words.proofs.logs.Parts.{part_append}
-use Rattle.cpu_words.proofs.logs.Runs.{Follows, follows, follows_after, follows_holds, cut}
+use Rattle.cpu_words.proofs.logs.Runs.{Follows, follows_after, follows_holds, cut}
 use Rattle.cpu_words.proofs.logs.Standings.{one_detached}
 use Rattle.cpu_words.proofs.logs.Walks.{walked}
 

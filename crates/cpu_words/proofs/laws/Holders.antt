@@ -1,27 +1,14 @@
 -- Holders in the views of seats: what a seat holds has its slot.
 use Rattle.std.proofs.Common.{◌≡◌, ℕ, ◌≤◌, ◌<◌, ◌==◌, ◌⊎◌, inl, inr, ⊎_elim, List, Option, Some, None, refl, sym, ap, ◌∙◌, subst, arith}
 use Rattle.std.proofs.lemmas.Option.{none-some, same_Some}
-use Rattle.registry_values.specs.declared.entry.Entry.{Entry}
-use Rattle.registry_values.specs.declared.entry.Change.{Change}
-use Rattle.registry_values.specs.declared.slot.Slot.{Slot}
-use Rattle.registry_values.specs.Slots.{slot_at, slot_of}
-use Rattle.protocol.specs.declared.state.Hand.{Hand}
+use Rattle.cpu_words.specs.Types.{Entry, Change, Slot, Hand, LocalPlace}
+use Rattle.registry_values.specs.Common.{slot_at, slot_of}
 use Rattle.protocol.specs.declared.state.Hand.TheVariants.{Empty as EmptyHand, Taking as TakingHand, Giving as GivingHand, Back as BackHand}
-use Rattle.protocol.specs.declared.state.LocalPlace.{LocalPlace}
-use Rattle.protocol.specs.History.{IsAttached}
-use Rattle.protocol.specs.State.{State, hand_at, kept_at}
-use Rattle.protocol.specs.Invariant.{IsIn, Occupies, HandHolds, one_if}
+use Rattle.protocol.specs.Common.{IsAttached, State, hand_at, kept_at, IsIn, Occupies, HandHolds, one_if}
 use Rattle.protocol.proofs.history.History.{one_entry}
 use Rattle.protocol.proofs.counts.HeldSums.{number_of, no_standing, one_self}
 use Rattle.protocol.proofs.slots.Occupied.{attached_in, slot_occupied, slot_found}
-use Rattle.cpu_words.specs.declared.view.InHand.{InHand}
-use Rattle.cpu_words.specs.declared.view.InHand.TheVariants.{Empty, Taking, Giving, Back}
-use Rattle.cpu_words.specs.declared.view.CpuView.{CpuView}
-use Rattle.cpu_words.specs.declared.view.View.{View}
-use Rattle.cpu_words.specs.declared.view.View.TheVariants.{Keeper, Cpu, Reference, Note, Spent}
-use Rattle.cpu_words.specs.Views.{SameHand, references_to, CpuShown, Shown}
-use Rattle.cpu_words.specs.Rule.{Good}
-use Rattle.cpu_words.specs.Headline.{SectionMayHold, IsInHand, SeatHolds, HeldHaveSlots}
+use Rattle.cpu_words.specs.Common.{InHand, Empty, Taking, Giving, Back, CpuView, View, Keeper, Cpu, Reference, Note, Spent, SameHand, references_to, CpuShown, Shown, Good, SectionMayHold, IsInHand, SeatHolds, HeldHaveSlots}
 use Rattle.cpu_words.proofs.shown.Showing.{standing_in, IsBacked, backed}
 use Rattle.cpu_words.proofs.shown.Seeing.{seen_of}
 use Rattle.cpu_words.proofs.by_keeper.KeeperSees.{SeenByKeeper, seen_by_keeper}

@@ -1,27 +1,12 @@
 -- Honest marks: what the keeper's marks tell of the views of all seats, and what a last found entry tells.
 use Rattle.std.proofs.Common.{◌≡◌, ℕ, ◌≤◌, ◌<◌, ◌==◌, List, Option, ◌⊎◌, inr, ⊎_elim, refl, sym, ap, ◌∙◌, subst, arith}
-use Rattle.registry_values.specs.declared.entry.Entry.{Entry}
-use Rattle.registry_values.specs.declared.entry.Change.{Change}
-use Rattle.registry_values.specs.declared.mark.Mark.{Mark}
-use Rattle.registry_values.specs.declared.slot.Slot.{Slot}
-use Rattle.registry_values.specs.declared.slot.Slot.TheVariants.{Retired}
-use Rattle.registry_values.specs.Slots.{slot_at}
-use Rattle.protocol.specs.History.{MayHold}
-use Rattle.protocol.specs.State.{State, opening, hand_at, mark_at, kept_at}
-use Rattle.protocol.specs.Invariant.{one_if}
-use Rattle.protocol.specs.Model.{IsUnheld}
-use Rattle.protocol.specs.Picture.{picture, number_in}
-use Rattle.protocol.specs.Laws.{after}
+use Rattle.cpu_words.specs.Types.{Entry, Change, Mark, Slot, Retired}
+use Rattle.registry_values.specs.Common.{slot_at}
+use Rattle.protocol.specs.Common.{MayHold, State, opening, hand_at, mark_at, kept_at, one_if, IsUnheld, picture, number_in, after}
 use Rattle.protocol.proofs.counts.HeldSums.{none_in_hand, one_self}
 use Rattle.protocol.proofs.slots.Occupied.{in_within}
 use Rattle.protocol.proofs.model.RefiningEntries.{unheld_when_drained}
-use Rattle.cpu_words.specs.declared.view.CpuView.{CpuView}
-use Rattle.cpu_words.specs.declared.view.View.{View}
-use Rattle.cpu_words.specs.declared.view.View.TheVariants.{Keeper, Cpu, Reference, Note, Spent}
-use Rattle.cpu_words.specs.Spots.{passive_of, count_of}
-use Rattle.cpu_words.specs.Views.{references_to, KeeperShown, CpuShown, Shown}
-use Rattle.cpu_words.specs.Rule.{Agrees, Good}
-use Rattle.cpu_words.specs.Headline.{RunsLawfully, SectionMayHold, IsInHand, SeatHolds, MarkTells, DrainedIsFree, MarksAreHonest, FoundIsHeld}
+use Rattle.cpu_words.specs.Common.{CpuView, View, Keeper, Cpu, Reference, Note, Spent, passive_of, count_of, references_to, KeeperShown, CpuShown, Shown, Agrees, Good, RunsLawfully, SectionMayHold, IsInHand, SeatHolds, MarkTells, DrainedIsFree, MarksAreHonest, FoundIsHeld}
 use Rattle.cpu_words.proofs.shown.Showing.{standing_in, IsBacked, backed}
 use Rattle.cpu_words.proofs.shown.Seeing.{Seen, seen_of}
 use Rattle.cpu_words.proofs.by_keeper.KeeperSees.{SeenByKeeper, seen_by_keeper}

@@ -4,28 +4,15 @@ use Rattle.std.proofs.lemmas.Bool.{and_parts, eqb-true}
 use mathlib.Core.Option.{some}
 use lib.ListN.{get_elem?}
 use Rattle.atomic_table.specs.Table.{State as Table}
-use Rattle.registry_values.specs.declared.settings.Settings.{Settings}
-use Rattle.registry_values.specs.declared.slot.Slot.TheVariants.{Live}
-use Rattle.registry_values.specs.Slots.{key_of, slot_at, is_taken}
-use Rattle.protocol.specs.declared.event.Event.{Event}
-use Rattle.protocol.specs.declared.event.Event.TheVariants.{Publish}
-use Rattle.protocol.specs.declared.event.Reply.TheVariants.{Done}
-use Rattle.protocol.specs.State.{State, opening, row_at, kept_at}
-use Rattle.protocol.specs.Events.{Outcome, guard, with_some, some_outcome, step, entry_of, may_write, may_publish, has_room, is_prepared, after_publish}
-use Rattle.protocol.specs.Invariant.{Holds}
-use Rattle.protocol.specs.Picture.{number_in}
-use Rattle.protocol.specs.Laws.{after, occupant_of}
+use Rattle.cpu_words.specs.Types.{Settings, Live, Event, Publish, Done}
+use Rattle.registry_values.specs.Common.{key_of, slot_at, is_taken}
+use Rattle.protocol.specs.Common.{State, opening, row_at, kept_at, Outcome, guard, with_some, some_outcome, step, entry_of, may_write, may_publish, has_room, is_prepared, after_publish, Holds, number_in, after, occupant_of}
 use Rattle.protocol.proofs.keeps.Keeping.{step_holds}
 use Rattle.protocol.proofs.keeps.ListKeeps.{may_write_tells}
 use Rattle.protocol.proofs.model.RefiningEntries.{number_of}
 use Rattle.protocol.proofs.runs.State.{obeys_laws}
 use Rattle.protocol.proofs.slots.Cells.{slot_here}
-use Rattle.cpu_words.specs.declared.view.LogItem.{LogItem}
-use Rattle.cpu_words.specs.declared.view.Logged.{Logged}
-use Rattle.cpu_words.specs.Rule.{log_item}
-use Rattle.cpu_words.specs.KeeperLog.{changes_in, keeping, IsAttachedKeeping}
-use Rattle.cpu_words.specs.Headline.{RunsAsLogged}
-use Rattle.cpu_words.specs.Kept.{KeepsDriver, KeepsAsLong, AttachedKeeps}
+use Rattle.cpu_words.specs.Common.{LogItem, Logged, log_item, changes_in, keeping, IsAttachedKeeping, RunsAsLogged, KeepsDriver, KeepsAsLong, AttachedKeeps}
 use Rattle.cpu_words.proofs.laws.Freed.{at_item}
 use Rattle.cpu_words.proofs.laws.Safety.{running_headline}
 use Rattle.cpu_words.proofs.logs.Kept.{keeps_on}

@@ -1,17 +1,10 @@
 -- Reached states: what one event more makes of a reached state and of what was done.
 use Rattle.std.proofs.Common.{◌≡◌, ℕ, List, [], ◌∷◌, ◌++◌, Option, Some, None, refl, sym, ap, ◌∙◌, append_assoc, length, length-append, arith}
-use Rattle.registry_values.specs.declared.settings.Settings.{Settings}
-use Rattle.protocol.specs.declared.event.Event.{Event}
-use Rattle.protocol.specs.declared.event.Reply.{Reply}
-use Rattle.protocol.specs.State.{State, opening}
-use Rattle.protocol.specs.Events.{Outcome, step}
-use Rattle.protocol.specs.Run.{Run, run_of_events, empty_run, run_with_event}
-use Rattle.protocol.specs.Laws.{after}
+use Rattle.cpu_words.specs.Types.{Settings, Event, Reply}
+use Rattle.protocol.specs.Common.{State, opening, Outcome, step, Run, run_of_events, empty_run, run_with_event, after}
 use Rattle.protocol.proofs.runs.Runs.{ran_push}
 use Rattle.atomic_table.specs.Table.{State as Table}
-use Rattle.cpu_words.specs.declared.view.LogItem.{LogItem}
-use Rattle.cpu_words.specs.declared.view.View.{View}
-use Rattle.cpu_words.specs.Rule.{Reached, Ruled, GoesOn, by_number, did, log_with, log_from, log_of_events}
+use Rattle.cpu_words.specs.Common.{LogItem, View, Reached, Ruled, GoesOn, by_number, did, log_with, log_from, log_of_events}
 
 noted_push : (s : State) (e : Event) (o : Option Outcome) (a b : List LogItem) → log_with s e o (a ++ b) ≡ log_with s e o a ++ b
 noted_push s e None a b = refl

@@ -2,17 +2,13 @@
 use Rattle.std.proofs.Common.{◌≡◌, ℕ, List, IsTrue, length, sym, ap, ◌∙◌, subst}
 use Rattle.std.proofs.lemmas.List.{length-map}
 use Rattle.atomic_table.specs.Table.{State as Table}
-use Rattle.registry_values.specs.declared.settings.Settings.{Settings}
-use Rattle.registry_values.specs.Limits.{are_fit}
-use Rattle.protocol.specs.State.{State}
+use Rattle.cpu_words.specs.Types.{Settings}
+use Rattle.registry_values.specs.Common.{are_fit}
+use Rattle.protocol.specs.Common.{State}
 use Rattle.protocol.proofs.runs.Reuse.{every_run_keeps}
 use Rattle.protocol.proofs.runs.State.{obeys_laws}
 use Rattle.protocol.proofs.model.Refining.{every_run_is_model_run}
-use Rattle.cpu_words.specs.declared.view.LogItem.{LogItem}
-use Rattle.cpu_words.specs.declared.view.View.{View}
-use Rattle.cpu_words.specs.Logs.{without_logs, untold, AreByOwn, AreToldBefore}
-use Rattle.cpu_words.specs.Rule.{Agrees, ShowsViews, Good, Ruled}
-use Rattle.cpu_words.specs.Headline.{RunsLawfully, RunningHeadline}
+use Rattle.cpu_words.specs.Common.{LogItem, View, without_logs, untold, AreByOwn, AreToldBefore, Agrees, ShowsViews, Good, Ruled, RunsLawfully, RunningHeadline}
 
 pub runs_lawfully : (z : Settings) (s : Table ℕ View) → Ruled z s → RunsLawfully z s
 runs_lawfully z s r =

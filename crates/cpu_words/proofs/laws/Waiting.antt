@@ -7,29 +7,16 @@ use Rattle.std.proofs.Math.Seq.{take-append-add}
 use mathlib.Core.Option.{some}
 use lib.ListN.{get_elem?}
 use Rattle.atomic_table.specs.Table.{State as Table}
-use Rattle.registry_values.specs.declared.settings.Settings.{Settings}
-use Rattle.registry_values.specs.Limits.{are_fit}
-use Rattle.protocol.specs.declared.event.Event.{Event}
-use Rattle.protocol.specs.declared.event.Event.TheVariants.{Exit}
-use Rattle.protocol.specs.State.{State, opening, section_at, begin_at}
-use Rattle.protocol.specs.Invariant.{Holds}
-use Rattle.protocol.specs.Run.{empty_run}
-use Rattle.protocol.specs.Laws.{after, after_event, IsAllowed, HasExit, HasMoved}
+use Rattle.cpu_words.specs.Types.{Settings, Event, Exit}
+use Rattle.registry_values.specs.Common.{are_fit}
+use Rattle.protocol.specs.Common.{State, opening, section_at, begin_at, Holds, after, after_event, IsAllowed, HasExit, HasMoved}
 use Rattle.protocol.proofs.keeps.Keeping.{opening_holds}
 use Rattle.protocol.proofs.runs.Grace.{ends_by_exit}
-use Rattle.cpu_words.specs.declared.view.LogItem.{LogItem}
-use Rattle.cpu_words.specs.declared.view.Logged.{Logged}
-use Rattle.cpu_words.specs.declared.view.Teller.{Teller}
-use Rattle.cpu_words.specs.declared.view.View.TheVariants.{Cpu}
-use Rattle.cpu_words.specs.Rule.{log_of_events}
-use Rattle.cpu_words.specs.KeeperLog.{changes_in, has_taken, has_found, has_heard_from, HasHeardFrom, IsSeenOut, HasWaited}
-use Rattle.cpu_words.specs.Logs.{part, AreByOwn}
-use Rattle.cpu_words.specs.Headline.{RunsAsLogged}
-use Rattle.cpu_words.specs.Waiting.{HasEndedOn, HasEndedSince, HadHeard, IsBeforeTelling, HaveEnded, WaitingEnds}
+use Rattle.cpu_words.specs.Common.{LogItem, Logged, Teller, Cpu, changes_in, has_taken, has_found, has_heard_from, HasHeardFrom, IsSeenOut, HasWaited, part, AreByOwn, RunsAsLogged, HasEndedOn, HasEndedSince, HadHeard, IsBeforeTelling, HaveEnded, WaitingEnds}
 use Rattle.cpu_words.proofs.shown.Seeing.{seen_of}
 use Rattle.cpu_words.proofs.laws.Safety.{running_headline}
 use Rattle.cpu_words.proofs.logs.Changes.{counted, run_as_logged}
-use Rattle.cpu_words.proofs.logs.Runs.{Follows, after_append, follows, follows_after, follows_holds, cut}
+use Rattle.cpu_words.proofs.logs.Runs.{Follows, after_append, follows_after, follows_holds, cut}
 use Rattle.cpu_words.proofs.logs.Loads.{Same, Late, late_on, run_since, Placed, place, part_same, halve, starts_taken, starts_found}
 use Rattle.cpu_words.proofs.logs.Parts.{part_append}
 use Rattle.cpu_words.proofs.logs.Standings.{changes_both}

@@ -2,20 +2,8 @@
 use Rattle.std.proofs.Common.{◌≡◌, ℕ, List, [], ◌++◌, Some, None, refl, sym, subst}
 use Rattle.std.specs.Prelude.{slice_index}
 use Rattle.atomic_table.specs.Table.{Me, Step, Allows, keeps}
-use Rattle.registry_values.specs.declared.settings.Settings.{Settings}
-use Rattle.cpu_words.specs.declared.view.CpuView.{CpuView}
-use Rattle.cpu_words.specs.declared.view.KeeperView.{KeeperView}
-use Rattle.cpu_words.specs.declared.view.ReferenceView.{ReferenceView}
-use Rattle.cpu_words.specs.declared.view.LogItem.{LogItem}
-use Rattle.cpu_words.specs.declared.view.Logged.{Logged}
-use Rattle.cpu_words.specs.declared.view.View.TheVariants.{Keeper, Cpu, Reference}
-use Rattle.cpu_words.specs.Views.{cpu_of, keeper_of, reference_of}
-use Rattle.protocol.specs.declared.event.Event.TheVariants.{Hear}
-use Rattle.protocol.specs.declared.event.Reply.TheVariants.{Done}
-use Rattle.cpu_words.specs.Rule.{did}
-use Rattle.cpu_words.specs.KeeperLog.{IsShownAfter, heard_from}
-use Rattle.cpu_words.specs.Steps.{CpuMay, KeeperMay, KeeperStores, ReferenceMay}
-use Rattle.cpu_words.specs.Logs.{the_keeper, the_cpu, another, AreBy, LoggedRuled, IsToldByCpu, IsToldByKeeper, IsToldByReference, heard_by_cpu, heard_by_keeper, hears_note}
+use Rattle.cpu_words.specs.Types.{Settings, Hear, Done}
+use Rattle.cpu_words.specs.Common.{CpuView, KeeperView, ReferenceView, LogItem, Logged, Keeper, Cpu, Reference, cpu_of, keeper_of, reference_of, did, IsShownAfter, heard_from, CpuMay, KeeperMay, KeeperStores, ReferenceMay, the_keeper, the_cpu, another, AreBy, LoggedRuled, IsToldByCpu, IsToldByKeeper, IsToldByReference, heard_by_cpu, heard_by_keeper, hears_note}
 use Rattle.cpu_words.proofs.logs.Logs.{logged_moves, logged_hears, logged_heard}
 use Rattle.cpu_words.proofs.logs.OwnLog.{own_log, shown_after}
 

@@ -4,31 +4,14 @@ use Rattle.std.proofs.lemmas.Bool.{cases_eq}
 use Rattle.std.proofs.lemmas.List.{length-map}
 use Rattle.std.proofs.lemmas.Option.{none-some, same_Some}
 use Rattle.atomic_table.specs.Table.{State as Table}
-use Rattle.registry_values.specs.declared.settings.Settings.{Settings}
-use Rattle.registry_values.specs.declared.entry.Change.{Change}
-use Rattle.registry_values.specs.declared.entry.Change.TheVariants.{Attach, Detach}
-use Rattle.registry_values.specs.declared.slot.Slot.{Slot}
-use Rattle.registry_values.specs.declared.slot.Slot.TheVariants.{Vacant, Live, Retired}
-use Rattle.registry_values.specs.Slots.{slot_at, slot_before}
-use Rattle.registry_values.specs.Limits.{are_fit}
-use Rattle.protocol.specs.declared.event.Event.{Event}
-use Rattle.protocol.specs.declared.event.Event.TheVariants.{Publish, Unpublish}
-use Rattle.protocol.specs.declared.event.Reply.TheVariants.{Done}
-use Rattle.protocol.specs.State.{State, opening, row_at, at_rest}
-use Rattle.protocol.specs.Events.{Outcome, guard, some_outcome, with_some, step, entry_of, unpublish, with_link_past, may_publish, after_publish, after_unpublish}
-use Rattle.protocol.specs.Invariant.{Holds}
-use Rattle.protocol.specs.Run.{empty_run}
-use Rattle.protocol.specs.Laws.{after}
+use Rattle.cpu_words.specs.Types.{Settings, Change, Attach, Detach, Slot, Vacant, Live, Retired, Event, Publish, Unpublish, Done}
+use Rattle.registry_values.specs.Common.{slot_at, slot_before, are_fit}
+use Rattle.protocol.specs.Common.{State, opening, row_at, at_rest, Outcome, guard, some_outcome, with_some, step, entry_of, unpublish, with_link_past, may_publish, after_publish, after_unpublish, Holds, empty_run, after}
 use Rattle.protocol.proofs.history.History.{length-after_change}
 use Rattle.protocol.proofs.keeps.Keeping.{step_holds}
 use Rattle.protocol.proofs.runs.Steps.{Sort, Refused, Left, Entered, Exited, Sought, Heard, Searched, Published, Unpublished, Kept, Gave_up, Vacated, step_sort}
-use Rattle.cpu_words.specs.declared.view.LogItem.{LogItem}
-use Rattle.cpu_words.specs.declared.view.Logged.{Logged}
-use Rattle.cpu_words.specs.Rule.{by_number, log_of_events}
+use Rattle.cpu_words.specs.Common.{LogItem, Logged, by_number, log_of_events, changes_of, changes_in, part, untold, maker, IsSeatOf, AreByOwn, LoggedRuled, RunsAsLogged}
 use Rattle.cpu_words.proofs.logs.Runs.{Follows, follows}
-use Rattle.cpu_words.specs.KeeperLog.{changes_of, changes_in}
-use Rattle.cpu_words.specs.Logs.{part, untold, maker, IsSeatOf, AreByOwn, LoggedRuled}
-use Rattle.cpu_words.specs.Headline.{RunsAsLogged}
 
 -- One event
 

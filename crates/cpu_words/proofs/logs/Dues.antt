@@ -1,28 +1,11 @@
 -- What is due: after which events snapshots are, what becomes of the totals, and that all settings stay.
 use Rattle.std.proofs.Common.{◌≡◌, ℕ, zero, suc, nat_lt, ◌+◌, ◌==◌, ◌&&◌, ◌-◌, Bool, true, false, if◌then◌else◌, set, Option, Some, None, refl, ap, ◌∙◌}
 use Rattle.std.proofs.lemmas.Bool.{and_parts, eqb-true}
-use Rattle.registry_values.specs.declared.entry.Entry.{Entry}
-use Rattle.registry_values.specs.Balances.{bias}
-use Rattle.registry_values.specs.declared.slot.Slot.{Slot}
-use Rattle.registry_values.specs.declared.slot.Slot.TheVariants.{Vacant, Live, Retired}
-use Rattle.registry_values.specs.Slots.{slot_at, slot_of, slot_before}
-use Rattle.protocol.specs.declared.event.Event.{Event}
-use Rattle.protocol.specs.declared.event.Event.TheVariants.{Seat, Enter, Exit, Seek, LoadLink, LoadRecord, StoreSlot, StoreNext, Publish, Unpublish, Tell, Hear, Snapshot, Look, PassiveAdd, PassiveSub, PassiveLook, CountAdd, SplitRef, JoinRef, CountDown, SplitBack, Collect, TotalAdd, JoinKeeper, TotalSub, Keep, KeptSub, Vacate}
-use Rattle.protocol.specs.declared.event.RecordOf.{RecordOf}
-use Rattle.protocol.specs.declared.event.RecordOf.TheVariants.{Search as OfSearch, Passive, Local}
-use Rattle.protocol.specs.declared.event.Reply.{Reply}
-use Rattle.protocol.specs.declared.event.Reply.TheVariants.{Done, Word}
-use Rattle.protocol.specs.declared.state.Due.{Due}
-use Rattle.protocol.specs.declared.state.Due.TheVariants.{Rest, Snapshots, Adding, Subtracting}
-use Rattle.protocol.specs.declared.state.Hand.{Hand}
-use Rattle.protocol.specs.declared.state.Hand.TheVariants.{Empty, Taking, Giving, Back}
-use Rattle.protocol.specs.declared.state.Search.{Search}
-use Rattle.protocol.specs.declared.state.Loaded.{Loaded}
-use Rattle.protocol.specs.declared.state.Loaded.TheVariants.{On, Over}
-use Rattle.protocol.specs.State.{State, search_at, found_at, hand_at, row_at, count_at, total_at, kept_at, local_at, at_rest}
-use Rattle.protocol.specs.Loaded.{loaded_at, row_of_place}
+use Rattle.cpu_words.specs.Types.{Entry, Slot, Vacant, Live, Retired, Event, Seat, Enter, Exit, Seek, LoadLink, LoadRecord, StoreSlot, StoreNext, Publish, Unpublish, Tell, Hear, Snapshot, Look, PassiveAdd, PassiveSub, PassiveLook, CountAdd, SplitRef, JoinRef, CountDown, SplitBack, Collect, TotalAdd, JoinKeeper, TotalSub, Keep, KeptSub, Vacate, RecordOf, Passive, Local, Reply, Done, Word, Due, Rest, Snapshots, Adding, Subtracting, Hand, Empty, Taking, Giving, Back, Search, Loaded, On, Over}
+use Rattle.registry_values.specs.Common.{bias, slot_at, slot_of, slot_before}
+use Rattle.protocol.specs.declared.event.RecordOf.TheVariants.{Search as OfSearch}
+use Rattle.protocol.specs.Common.{State, search_at, found_at, hand_at, row_at, count_at, total_at, kept_at, local_at, at_rest, loaded_at, row_of_place, Outcome, guard, some_outcome, with_some, step, entry_of, due_after, is_snapshot_due, may_publish, may_collect, may_join_keeper, is_drained}
 use Rattle.protocol.specs.Events
-use Rattle.protocol.specs.Events.{Outcome, guard, some_outcome, with_some, step, entry_of, due_after, is_snapshot_due, may_publish, may_collect, may_join_keeper, is_drained}
 
 -- what an event makes due: after a detach the snapshots of all CPUs, after one of them the next; each other event makes no snapshot due
 abbrev pub DueAfter : State → Event → State → Type 0

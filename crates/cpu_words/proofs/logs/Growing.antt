@@ -1,7 +1,6 @@
 -- What follows from the words in a log: after a wait no look finds a section open whose snapshot was taken before.
 use Rattle.std.proofs.Common.{◌≡◌, inl, inr, ⊎_elim, ℕ, ◌%◌, ◌≤◌, List, [], ◌∷◌, ◌++◌, Some, None, refl, sym, ap, ◌∙◌, append_assoc, arith}
-use Rattle.cpu_words.specs.declared.view.LogItem.{LogItem}
-use Rattle.cpu_words.specs.KeeperLog.{has_taken, has_found, has_snapped, has_looked, IsSeenOut, KeepsEntry, IsSnapped, HasPassedOn, FindsWord, WordsGrow}
+use Rattle.cpu_words.specs.Common.{LogItem, has_taken, has_found, has_snapped, has_looked, IsSeenOut, KeepsEntry, IsSnapped, HasPassedOn, FindsWord, WordsGrow}
 use Rattle.cpu_words.proofs.logs.Marks.{keeps_more}
 
 -- the item is in the log

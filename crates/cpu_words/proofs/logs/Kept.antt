@@ -2,22 +2,14 @@
 use Rattle.std.proofs.Common.{◌≡◌, ◌≢◌, ⊎_elim, ℕ, ◌<◌, ◌==◌, ◌&&◌, Bool, true, false, if◌then◌else◌, List, [], ◌∷◌, ◌++◌, length, set, Option, Some, None, get_or-set_same, get_or-set_other, eq-eqb, ne_eqb, refl, sym, ap, ◌∙◌, subst, arith}
 use Rattle.std.proofs.lemmas.Bool.{and_parts, cases_eq}
 use Rattle.std.proofs.lemmas.Option.{none-some, same_Some}
-use Rattle.protocol.specs.declared.event.Event.{Event}
-use Rattle.protocol.specs.declared.event.Event.TheVariants.{Keep, KeptSub}
-use Rattle.protocol.specs.declared.event.Reply.TheVariants.{Done}
-use Rattle.protocol.specs.State.{State, kept_at, local_at}
+use Rattle.cpu_words.specs.Types.{Event, Keep, KeptSub, Done}
+use Rattle.protocol.specs.Common.{State, kept_at, local_at, Outcome, guard, with_some, some_outcome, step, may_write, may_keep, after_keep, is_iface_slot, is_drained, after_kept_sub, Holds}
 use Rattle.protocol.specs.Events
-use Rattle.protocol.specs.Events.{Outcome, guard, with_some, some_outcome, step, may_write, may_keep, after_keep, is_iface_slot, is_drained, after_kept_sub}
-use Rattle.protocol.specs.Invariant.{Holds}
-use Rattle.registry_values.specs.Slots.{slot_at, slot_of}
+use Rattle.registry_values.specs.Common.{slot_at, slot_of}
 use Rattle.protocol.proofs.keeps.ListKeeps.{may_write_tells}
 use Rattle.protocol.proofs.keeps.Searching.{within_some}
 use Rattle.protocol.proofs.runs.Steps.{Sort, Refused, Left, Entered, Exited, Sought, Heard, Searched, Published, Unpublished, Kept, Gave_up, Vacated, step_sort}
-use Rattle.cpu_words.specs.declared.view.LogItem.{LogItem}
-use Rattle.cpu_words.specs.declared.view.Teller.{Teller}
-use Rattle.cpu_words.specs.Rule.{number_or_none, by_number}
-use Rattle.cpu_words.specs.KeeperLog.{keeps_next, keeping_from, keeping}
-use Rattle.cpu_words.specs.Logs.{maker, IsSeatOf}
+use Rattle.cpu_words.specs.Common.{LogItem, Teller, number_or_none, by_number, keeps_next, keeping_from, keeping, maker, IsSeatOf}
 use Rattle.cpu_words.proofs.logs.Runs.{item_of}
 
 keeping_both : (t : ℕ) (x : Option ℕ) (a b : List LogItem) → keeping_from t x (a ++ b) ≡ keeping_from t (keeping_from t x a) b

@@ -1,27 +1,12 @@
 -- What the keeper's log says of the state, by a walk over the run: how many changes there were, marks and slots.
 use Rattle.std.proofs.Common.{◌≡◌, ◌≢◌, ⊎_elim, ℕ, ◌+◌, ◌<◌, ◌≤◌, Bool, true, false, if◌then◌else◌, nat_lt, List, [], ◌∷◌, ◌++◌, length, set, replicate, Option, Some, None, refl, sym, ap, ◌∙◌, subst, arith}
-use Rattle.registry_values.specs.declared.entry.Entry.{Entry}
-use Rattle.registry_values.specs.declared.mark.Mark.{Mark}
-use Rattle.registry_values.specs.declared.settings.Settings.{Settings}
-use Rattle.registry_values.specs.declared.settings.TheConstants.{MOST_CPUS}
-use Rattle.registry_values.specs.declared.slot.Slot.TheVariants.{Retired}
-use Rattle.registry_values.specs.Marks.{no_mark, mark_after_look, mark_after_passive_look, mark_after_collect}
-use Rattle.registry_values.specs.Slots.{slot_at}
-use Rattle.protocol.specs.declared.event.Event.{Event}
-use Rattle.protocol.specs.declared.event.Event.TheVariants.{Publish, Unpublish, Snapshot, Look, PassiveLook, Collect}
-use Rattle.protocol.specs.declared.state.Due.{Due}
-use Rattle.protocol.specs.declared.state.Due.TheVariants.{Rest, Snapshots}
-use Rattle.protocol.specs.State.{State, opening, with_cell, section_at, mark_at, kept_at}
-use Rattle.protocol.specs.Events.{Outcome, step, snapshot_mark, due_after}
-use Rattle.protocol.specs.Invariant.{Holds, DueHolds}
+use Rattle.cpu_words.specs.Types.{Entry, Mark, Settings, MOST_CPUS, Retired, Event, Publish, Unpublish, Snapshot, Look, PassiveLook, Collect, Due, Rest, Snapshots}
+use Rattle.registry_values.specs.Common.{no_mark, mark_after_look, mark_after_passive_look, mark_after_collect, slot_at}
+use Rattle.protocol.specs.Common.{State, opening, with_cell, section_at, mark_at, kept_at, Outcome, step, snapshot_mark, due_after, Holds, DueHolds}
 use Rattle.protocol.proofs.keeps.Unlinking.{within_retired}
 use Rattle.protocol.proofs.slots.Cells.{cell_cases, cell_other}
 use Rattle.protocol.proofs.slots.MarkRows.{mark_there}
-use Rattle.cpu_words.specs.declared.view.LogItem.{LogItem}
-use Rattle.cpu_words.specs.declared.view.Teller.{Teller}
-use Rattle.cpu_words.specs.Rule.{by_number}
-use Rattle.cpu_words.specs.KeeperLog.{changes_of, changes_in, AreCountsOf, AreTotalsOf, AreMarksOf, AreSlotsOf, keeping}
-use Rattle.cpu_words.specs.Logs.{maker, IsSeatOf}
+use Rattle.cpu_words.specs.Common.{LogItem, Teller, by_number, changes_of, changes_in, AreCountsOf, AreTotalsOf, AreMarksOf, AreSlotsOf, keeping, maker, IsSeatOf}
 use Rattle.cpu_words.proofs.logs.Changes.{Grows, step_grows, unnamed_changes}
 use Rattle.cpu_words.proofs.logs.Kept.{kept_own, kept_off}
 use Rattle.cpu_words.proofs.logs.Counted.{counts_own, counts_off, no_counts}

@@ -2,20 +2,12 @@
 use Rattle.std.proofs.Common.{◌≡◌, ◌≢◌, ◌⊎◌, inl, inr, ⊎_elim, ℕ, suc, ◌+◌, ◌*◌, ◌<◌, ◌≤◌, ◌==◌, ◌&&◌, Bool, true, false, cond, nat_lt, List, [], ◌∷◌, ◌++◌, length, set, get_or, Option, Some, None, eq-eqb, ne_eqb, refl, sym, ap, ◌∙◌, subst, length-append, get_or-set_same, get_or-set_other, arith}
 use Rattle.std.proofs.lemmas.Bool.{and_parts, cases_eq}
 use Rattle.std.proofs.lemmas.Option.{none-some, same_Some}
-use Rattle.protocol.specs.declared.event.Event.{Event}
-use Rattle.protocol.specs.declared.event.Event.TheVariants.{LoadRecord, Snapshot, Look, JoinRef, JoinKeeper, Keep}
-use Rattle.protocol.specs.declared.event.Reply.{Reply}
-use Rattle.protocol.specs.declared.event.Reply.TheVariants.{Word, Ref}
-use Rattle.protocol.specs.State.{State, section_at, begin_at}
-use Rattle.protocol.specs.Events.{Outcome, guard, some_outcome, step, state_after, is_idle, is_outside, is_inside, after_enter, after_exit, may_glance}
-use Rattle.protocol.specs.Invariant.{Holds}
+use Rattle.cpu_words.specs.Types.{Event, LoadRecord, Snapshot, Look, JoinRef, JoinKeeper, Keep, Reply, Word, Ref}
+use Rattle.protocol.specs.Common.{State, section_at, begin_at, Outcome, guard, some_outcome, step, state_after, is_idle, is_outside, is_inside, after_enter, after_exit, may_glance, Holds}
 use Rattle.protocol.proofs.keeps.Keeping.{step_holds}
 use Rattle.protocol.proofs.keeps.SectionKeeps.{idle_parts}
 use Rattle.protocol.proofs.runs.Steps.{Sort, Refused, Left, Entered, Exited, Sought, Heard, Searched, Published, Unpublished, Kept, Gave_up, Vacated, step_sort}
-use Rattle.cpu_words.specs.declared.view.LogItem.{LogItem}
-use Rattle.cpu_words.specs.Rule.{by_number, reply_without_id}
-use Rattle.cpu_words.specs.KeeperLog.{changes_of, has_taken, has_found}
-use Rattle.cpu_words.specs.Logs.{part}
+use Rattle.cpu_words.specs.Common.{LogItem, by_number, reply_without_id, changes_of, has_taken, has_found, part}
 use Rattle.cpu_words.proofs.logs.Changes.{Grows, step_grows, changes_up}
 use Rattle.cpu_words.proofs.logs.Runs.{item_of, Follows, same_first, same_rest}
 

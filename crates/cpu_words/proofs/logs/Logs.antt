@@ -1,5 +1,5 @@
 -- Steps, cuts and joins over the table with logs.
-use Rattle.std.proofs.Common.{◌≡◌, ◌≢◌, ◌⊎◌, inl, inr, ⊎_elim, ℕ, zero, suc, ◌<◌, ◌≤◌, ◌==◌, Bool, true, false, cond, List, [], ◌∷◌, ◌++◌, map, length, Option, None, set, length-set, length-append, eq-eqb, ne_eqb, refl, sym, ap, ◌∙◌, subst, append_assoc, arith}
+use Rattle.std.proofs.Common.{◌≡◌, ◌≢◌, ◌⊎◌, inl, inr, ⊎_elim, ℕ, zero, suc, ◌<◌, ◌≤◌, ◌==◌, List, [], ◌∷◌, ◌++◌, map, length, Option, None, set, length-set, length-append, refl, sym, ap, ◌∙◌, subst, append_assoc, arith}
 use Rattle.std.proofs.lemmas.List.{map-set, append-nil, map-append}
 use Rattle.std.specs.Prelude.{slice_index}
 use mathlib.Core.Option.{some, some-injective, some-ne-none}
@@ -7,23 +7,11 @@ use mathlib.Core.List.{IsPrefix}
 use lib.ListN.{get_elem?}
 use Rattle.atomic_table.specs.Table.{State as Table, Splits, Joins, keeps, stepped}
 use Rattle.atomic_table.proofs.Lists.{at_set, at_map}
-use Rattle.registry_values.specs.declared.settings.Settings.{Settings}
-use Rattle.cpu_words.specs.declared.view.LogItem.{LogItem}
-use Rattle.cpu_words.specs.declared.view.Teller.{Teller}
-use Rattle.cpu_words.specs.declared.view.Logged.{Logged}
-use Rattle.cpu_words.specs.declared.view.View.{View}
-use Rattle.cpu_words.specs.declared.view.View.TheVariants.{Keeper, Cpu, Reference, Note, Spent}
-use Rattle.cpu_words.specs.Views.{Shown}
-use Rattle.protocol.specs.declared.event.Event.TheVariants.{Hear}
-use Rattle.protocol.specs.declared.event.Reply.TheVariants.{Done}
-use Rattle.protocol.specs.State.{State, opening}
-use Rattle.protocol.specs.Run.{empty_run}
-use Rattle.cpu_words.specs.Rule.{Sits, Ruled, GoesOn, did, log_of_events}
-use Rattle.cpu_words.specs.Steps.{Moves, SplitsOn, JoinsOn}
-use Rattle.cpu_words.specs.Logs.{without_logs, part, events_of, untold, IsStanding, Maker, the_keeper, the_cpu, another, maker, maker_of_note, who, AreBy, IsSeatOf, AreByOwn, Knows, HasComeIf, AreToldBefore, spent_seat, LoggedRuled}
+use Rattle.cpu_words.specs.Types.{Settings, Hear, Done}
+use Rattle.cpu_words.specs.Common.{LogItem, Teller, Logged, View, Keeper, Cpu, Reference, Note, Spent, Shown, Sits, Ruled, GoesOn, did, log_of_events, Moves, SplitsOn, JoinsOn, without_logs, part, events_of, untold, IsStanding, Maker, the_keeper, the_cpu, another, maker, maker_of_note, who, AreBy, IsSeatOf, AreByOwn, Knows, HasComeIf, AreToldBefore, spent_seat, LoggedRuled, KnownLogGrows, heard_from}
+use Rattle.protocol.specs.Common.{State, opening, empty_run}
 use Rattle.cpu_words.proofs.logs.Parts.{by_seat, part_append, part_own, part_other, events_of_seat}
 use Rattle.cpu_words.proofs.logs.Told.{AreToldPast, come_more, come_seats, told_more, plain_of_end, plain_from, plain_past, heard_past}
-use Rattle.cpu_words.specs.KeeperLog.{KnownLogGrows, heard_from}
 
 at_within : (l : List Logged) (i : ℕ) (a : Logged) → get_elem? l i ≡ some a → i < length l
 at_within [] i a e = absurd (some-ne-none a (sym e))

@@ -3,36 +3,13 @@ use Rattle.std.proofs.Common.{◌≡◌, ◌≢◌, ◌⊎◌, inl, inr, ⊎_eli
 use Rattle.std.proofs.lemmas.Bool.{or_cases, not-true, eqb-true, eqb-false, cases_eq, cases_lt}
 use Rattle.std.proofs.lemmas.List.{get_or_past, set_past}
 use Rattle.std.proofs.lemmas.Option.{none-some, same_Some}
-use Rattle.registry_values.specs.declared.mark.Mark.{Mark}
-use Rattle.registry_values.specs.declared.slot.Slot.{Slot}
-use Rattle.registry_values.specs.declared.slot.Slot.TheVariants.{Vacant, Live, Retired}
-use Rattle.registry_values.specs.declared.settings.Settings.{Settings}
-use Rattle.registry_values.specs.declared.settings.TheConstants.{MOST_CPUS}
-use Rattle.registry_values.specs.Marks.{no_mark, is_even, has_changed, mark_after_look, mark_after_passive_look, mark_after_collect}
-use Rattle.registry_values.specs.Slots.{slot_at, slot_of, slot_before}
-use Rattle.protocol.specs.declared.event.Event.{Event}
-use Rattle.protocol.specs.declared.event.Event.TheVariants.{Seat, Enter, Exit, Seek, LoadLink, LoadRecord, StoreSlot, StoreNext, Publish, Unpublish, Tell, Hear, Snapshot, Look, PassiveAdd, PassiveSub, PassiveLook, CountAdd, SplitRef, JoinRef, CountDown, SplitBack, Collect, TotalAdd, JoinKeeper, TotalSub, Keep, KeptSub, Vacate}
-use Rattle.protocol.specs.declared.event.RecordOf.{RecordOf}
-use Rattle.protocol.specs.declared.event.RecordOf.TheVariants.{Search as OfSearch, Passive, Local}
-use Rattle.protocol.specs.declared.event.Reply.{Reply}
-use Rattle.protocol.specs.declared.event.Reply.TheVariants.{Done, Word}
-use Rattle.protocol.specs.declared.state.Due.{Due}
-use Rattle.protocol.specs.declared.state.Due.TheVariants.{Rest, Snapshots, Adding, Subtracting}
-use Rattle.protocol.specs.declared.state.Hand.{Hand}
-use Rattle.protocol.specs.declared.state.Hand.TheVariants.{Empty, Taking, Giving, Back}
-use Rattle.protocol.specs.declared.state.Search.{Search}
-use Rattle.protocol.specs.declared.state.Loaded.{Loaded}
-use Rattle.protocol.specs.declared.state.Loaded.TheVariants.{On, Over}
-use Rattle.protocol.specs.State.{State, with_cell, section_at, search_at, found_at, hand_at, row_at, mark_at, kept_at, local_at, opening}
-use Rattle.protocol.specs.Loaded.{loaded_at, row_of_place}
+use Rattle.cpu_words.specs.Types.{Mark, Slot, Vacant, Live, Retired, Settings, MOST_CPUS, Event, Seat, Enter, Exit, Seek, LoadLink, LoadRecord, StoreSlot, StoreNext, Publish, Unpublish, Tell, Hear, Snapshot, Look, PassiveAdd, PassiveSub, PassiveLook, CountAdd, SplitRef, JoinRef, CountDown, SplitBack, Collect, TotalAdd, JoinKeeper, TotalSub, Keep, KeptSub, Vacate, RecordOf, Passive, Local, Reply, Done, Word, Due, Rest, Snapshots, Adding, Subtracting, Hand, Empty, Taking, Giving, Back, Search, Loaded, On, Over}
+use Rattle.registry_values.specs.Common.{no_mark, is_even, has_changed, mark_after_look, mark_after_passive_look, mark_after_collect, slot_at, slot_of, slot_before}
+use Rattle.protocol.specs.declared.event.RecordOf.TheVariants.{Search as OfSearch}
+use Rattle.protocol.specs.Common.{State, with_cell, section_at, search_at, found_at, hand_at, row_at, mark_at, kept_at, local_at, opening, loaded_at, row_of_place, Outcome, guard, some_outcome, with_some, step, snapshot_mark, entry_of}
 use Rattle.protocol.specs.Events
-use Rattle.protocol.specs.Events.{Outcome, guard, some_outcome, with_some, step, snapshot_mark, entry_of}
 use Rattle.protocol.proofs.slots.Cells.{cell_cases, cell_in_new, cell_in_old, get_or_all}
-use Rattle.cpu_words.specs.declared.view.LogItem.{LogItem}
-use Rattle.cpu_words.specs.declared.view.Teller.{Teller}
-use Rattle.cpu_words.specs.Rule.{by_number}
-use Rattle.cpu_words.specs.KeeperLog.{has_snapped, has_looked, is_detach_from, KeepsEntry, IsSnapped, HasPassedOn, AreMarksOf}
-use Rattle.cpu_words.specs.Logs.{maker, IsSeatOf}
+use Rattle.cpu_words.specs.Common.{LogItem, Teller, by_number, has_snapped, has_looked, is_detach_from, KeepsEntry, IsSnapped, HasPassedOn, AreMarksOf, maker, IsSeatOf}
 use Rattle.cpu_words.proofs.logs.Loads.{no_place}
 use Rattle.cpu_words.proofs.logs.Runs.{item_as, item_of, same_first, same_rest}
 

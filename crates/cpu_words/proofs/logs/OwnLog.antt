@@ -5,29 +5,11 @@ use mathlib.Core.List.{IsPrefix}
 use lib.ListN.{get_elem?}
 use Rattle.atomic_table.specs.Table.{State as Table}
 use Rattle.atomic_table.proofs.Lists.{at_map}
-use Rattle.registry_values.specs.declared.entry.Entry.{Entry}
-use Rattle.registry_values.specs.declared.settings.Settings.{Settings}
-use Rattle.registry_values.specs.declared.slot.Slot.TheVariants.{Retired}
-use Rattle.registry_values.specs.Slots.{slot_at}
-use Rattle.registry_values.specs.declared.entry.Change.{Change}
-use Rattle.protocol.specs.declared.event.Event.{Event}
-use Rattle.protocol.specs.declared.event.Event.TheVariants.{Publish, Snapshot, Look}
-use Rattle.protocol.specs.declared.event.Reply.TheVariants.{Done, Word}
-use Rattle.protocol.specs.State.{State, opening, section_at, kept_at}
-use Rattle.protocol.specs.Events.{Outcome, step}
-use Rattle.protocol.specs.Invariant.{Holds}
-use Rattle.protocol.specs.Laws.{destroyed_slot}
+use Rattle.cpu_words.specs.Types.{Entry, Settings, Retired, Change, Event, Publish, Snapshot, Look, Done, Word}
+use Rattle.registry_values.specs.Common.{slot_at}
+use Rattle.protocol.specs.Common.{State, opening, section_at, kept_at, Outcome, step, Holds, destroyed_slot}
 use Rattle.protocol.proofs.keeps.Keeping.{opening_holds}
-use Rattle.cpu_words.specs.declared.view.LogItem.{LogItem}
-use Rattle.cpu_words.specs.declared.view.CpuView.{CpuView}
-use Rattle.cpu_words.specs.declared.view.KeeperView.{KeeperView}
-use Rattle.cpu_words.specs.declared.view.Logged.{Logged}
-use Rattle.cpu_words.specs.declared.view.View.{View}
-use Rattle.cpu_words.specs.declared.view.View.TheVariants.{Keeper, Cpu}
-use Rattle.cpu_words.specs.Rule.{log_item}
-use Rattle.cpu_words.specs.KeeperLog.{changes_in, AreMarksOf, AreSlotsOf, FindsWord, WordsGrow, IsFreedFrom, IsAttachedKeeping, IsShownAfter, IsOwnLog, keeping}
-use Rattle.cpu_words.specs.Logs.{part, LoggedRuled}
-use Rattle.cpu_words.specs.Notes.{with_note, keeper_with_note}
+use Rattle.cpu_words.specs.Common.{LogItem, CpuView, KeeperView, Logged, View, Keeper, Cpu, log_item, changes_in, AreMarksOf, AreSlotsOf, FindsWord, WordsGrow, IsFreedFrom, IsAttachedKeeping, IsShownAfter, IsOwnLog, keeping, part, LoggedRuled, with_note, keeper_with_note}
 use Rattle.cpu_words.proofs.logs.Changes.{run_of, fit_of}
 use Rattle.cpu_words.proofs.logs.Loads.{place, same_event, word_of, replied_word, run_since}
 use Rattle.cpu_words.proofs.logs.Known.{Known, known_stays, known_first}

@@ -1,7 +1,6 @@
 -- What each seat did, of what all seats did in order.
 use Rattle.std.proofs.Common.{◌≡◌, ◌≢◌, ℕ, ◌==◌, Bool, true, false, cond, List, [], ◌∷◌, ◌++◌, map, eq-eqb, ne_eqb, refl, sym, ap, ◌∙◌}
-use Rattle.cpu_words.specs.declared.view.LogItem.{LogItem}
-use Rattle.cpu_words.specs.Logs.{part, untold, events_of}
+use Rattle.cpu_words.specs.Common.{LogItem, part, untold, events_of}
 
 -- what the seat i did more
 abbrev pub by_seat : ℕ → List LogItem → List (ℕ × LogItem)

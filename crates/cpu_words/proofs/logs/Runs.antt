@@ -1,18 +1,10 @@
 -- A run whose events were all made, each beside the act that it is: how it is cut in two, and what its state is.
-use Rattle.std.proofs.Common.{◌≡◌, ℕ, suc, ◌≤◌, List, [], ◌∷◌, ◌++◌, map, length, Option, Some, None, refl, sym, ap, ◌∙◌, subst, append_assoc, arith}
-use Rattle.protocol.specs.declared.event.Event.{Event}
-use Rattle.protocol.specs.declared.event.Reply.{Reply}
-use Rattle.protocol.specs.State.{State}
-use Rattle.protocol.specs.Events.{Outcome, step, state_after}
-use Rattle.protocol.specs.Invariant.{Holds}
-use Rattle.protocol.specs.Run.{Run, run_of_events, run_with_event}
-use Rattle.protocol.specs.Laws.{after, after_event}
+use Rattle.std.proofs.Common.{◌≡◌, ℕ, suc, ◌≤◌, List, [], ◌∷◌, ◌++◌, length, Option, Some, None, refl, sym, ap, ◌∙◌, subst, append_assoc, arith}
+use Rattle.cpu_words.specs.Types.{Event, Reply}
+use Rattle.protocol.specs.Common.{State, Outcome, step, state_after, Holds, Run, run_of_events, run_with_event, after, after_event}
 use Rattle.protocol.proofs.keeps.Keeping.{step_holds}
 use Rattle.protocol.proofs.runs.Steps.{after_more}
-use Rattle.cpu_words.specs.declared.view.LogItem.{LogItem}
-use Rattle.cpu_words.specs.declared.view.Teller.{Teller}
-use Rattle.cpu_words.specs.Rule.{by_number, reply_without_id, log_item, log_with, log_from}
-use Rattle.cpu_words.specs.Logs.{events_of, untold, teller_if, AreToldBefore}
+use Rattle.cpu_words.specs.Common.{LogItem, Teller, by_number, reply_without_id, log_item, log_with, log_from, events_of, untold, teller_if, AreToldBefore}
 
 -- an event as its seat knows it; where it heard a note, h told that
 abbrev pub item_as : Event → Reply → Option Teller → LogItem

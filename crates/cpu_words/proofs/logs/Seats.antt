@@ -2,15 +2,8 @@
 use Rattle.std.proofs.Common.{◌≡◌, inl, inr, ℕ, List, [], ◌∷◌, ◌++◌, length, length-append, Option, Some, None, refl, sym, ap, ◌∙◌, subst, arith}
 use Rattle.std.proofs.lemmas.List.{append-nil}
 use Rattle.atomic_table.specs.Table.{Splits, Joins}
-use Rattle.registry_values.specs.declared.settings.Settings.{Settings}
-use Rattle.cpu_words.specs.declared.view.LogItem.{LogItem}
-use Rattle.cpu_words.specs.declared.view.Logged.{Logged}
-use Rattle.cpu_words.specs.declared.view.CpuView.{CpuView}
-use Rattle.cpu_words.specs.declared.view.Teller.{Teller}
-use Rattle.cpu_words.specs.declared.view.View.{View}
-use Rattle.cpu_words.specs.declared.view.View.TheVariants.{Cpu, Spent}
-use Rattle.cpu_words.specs.Steps.{SplitsOn, JoinsOn}
-use Rattle.cpu_words.specs.Logs.{part, IsStanding, who, AreBy, LoggedRuled, logged_after_split, fresh, teller_of, joined_seat, logged_with_note, spent_seat}
+use Rattle.cpu_words.specs.Types.{Settings}
+use Rattle.cpu_words.specs.Common.{LogItem, Logged, CpuView, Teller, View, Cpu, Spent, SplitsOn, JoinsOn, part, IsStanding, who, AreBy, LoggedRuled, logged_after_split, fresh, teller_of, joined_seat, logged_with_note, spent_seat}
 use Rattle.cpu_words.proofs.logs.Logs.{MayTell, MayName, IsKeeper, logged_splits, logged_joins, logged_joins_same}
 
 -- what a seat that is cut off has heard: nothing; what the other has; or all that the keeper did

@@ -2,29 +2,16 @@
 use Rattle.std.proofs.Common.{◌≡◌, ◌≢◌, ◌⊎◌, inl, inr, ⊎_elim, ℕ, suc, ◌+◌, ◌<◌, ◌==◌, ◌&&◌, Bool, true, false, not, if◌then◌else◌, List, [], ◌∷◌, ◌++◌, length, set, replicate, Option, Some, None, eq-eqb, ne_eqb, refl, sym, ap, ◌∙◌, subst, arith}
 use Rattle.std.proofs.lemmas.Bool.{and_parts, eqb-true}
 use Rattle.std.proofs.lemmas.Option.{none-some, same_Some}
-use Rattle.registry_values.specs.declared.entry.Entry.{Entry}
-use Rattle.registry_values.specs.declared.slot.Slot.{Slot}
-use Rattle.registry_values.specs.declared.slot.Slot.TheVariants.{Vacant, Live, Retired}
-use Rattle.registry_values.specs.declared.settings.Settings.{Settings}
-use Rattle.registry_values.specs.Slots.{key_of, slot_at, slot_before, is_taken}
-use Rattle.protocol.specs.declared.event.Event.{Event}
-use Rattle.protocol.specs.declared.event.Event.TheVariants.{Publish, Unpublish}
-use Rattle.protocol.specs.declared.event.Reply.{Reply}
-use Rattle.protocol.specs.declared.event.Reply.TheVariants.{Done}
-use Rattle.protocol.specs.State.{State, opening, row_at, at_rest}
-use Rattle.protocol.specs.Events.{Outcome, guard, some_outcome, with_some, step, unpublish, entry_of, may_write, may_publish, has_room, is_prepared, after_publish, with_link_past, after_unpublish, is_drained}
-use Rattle.protocol.specs.Invariant.{Holds}
+use Rattle.cpu_words.specs.Types.{Entry, Slot, Vacant, Live, Retired, Settings, Event, Publish, Unpublish, Reply, Done}
+use Rattle.registry_values.specs.Common.{key_of, slot_at, slot_before, is_taken}
+use Rattle.protocol.specs.Common.{State, opening, row_at, at_rest, Outcome, guard, some_outcome, with_some, step, unpublish, entry_of, may_write, may_publish, has_room, is_prepared, after_publish, with_link_past, after_unpublish, is_drained, Holds}
 use Rattle.protocol.proofs.keeps.ListKeeps.{may_write_tells}
 use Rattle.protocol.proofs.keeps.MarkKeeps.{is_drained_tells}
 use Rattle.protocol.proofs.keeps.Unlinking.{within_live, within_retired}
 use Rattle.protocol.proofs.runs.Steps.{Sort, Refused, Left, Entered, Exited, Sought, Heard, Searched, Published, Unpublished, Kept, Gave_up, Vacated, step_sort}
 use Rattle.protocol.proofs.slots.Cells.{get_or_all}
 use Rattle.protocol.proofs.slots.Occupied.{live_one, not_vacant, retired_one, slot_cases}
-use Rattle.cpu_words.specs.declared.view.LogItem.{LogItem}
-use Rattle.cpu_words.specs.declared.view.Teller.{Teller}
-use Rattle.cpu_words.specs.Rule.{by_number}
-use Rattle.cpu_words.specs.KeeperLog.{changes_in, HasPassedOn, AreMarksOf, Standing, nothing, attached, detached, number_of, standing, is_change_at, AreSlotsOf}
-use Rattle.cpu_words.specs.Logs.{maker, IsSeatOf}
+use Rattle.cpu_words.specs.Common.{LogItem, Teller, by_number, changes_in, HasPassedOn, AreMarksOf, Standing, nothing, attached, detached, number_of, standing, is_change_at, AreSlotsOf, maker, IsSeatOf}
 use Rattle.cpu_words.proofs.logs.Changes.{is_change}
 use Rattle.cpu_words.proofs.logs.Marks.{passed_more}
 use Rattle.cpu_words.proofs.logs.Runs.{item_as, item_of}

@@ -1,11 +1,8 @@
 -- What slots have by a log, and how that goes on.
 use Rattle.std.proofs.Common.{◌≡◌, ℕ, suc, ◌+◌, Bool, true, false, if◌then◌else◌, List, [], ◌∷◌, ◌++◌, refl, sym, ap, ◌∙◌, arith}
-use Rattle.protocol.specs.declared.event.Event.{Event}
-use Rattle.protocol.specs.declared.event.Event.TheVariants.{Publish, Unpublish}
-use Rattle.protocol.specs.State.{State}
-use Rattle.cpu_words.specs.declared.view.LogItem.{LogItem}
-use Rattle.cpu_words.specs.Rule.{by_number}
-use Rattle.cpu_words.specs.KeeperLog.{changes_of, changes_in, is_detach_from, KeepsEntry, Standing, nothing, attached, detached, number_of, stands_after, stands_from, standing, IsDetachedFrom, is_change_at, KeepsSlot}
+use Rattle.cpu_words.specs.Types.{Event, Publish, Unpublish}
+use Rattle.protocol.specs.Common.{State}
+use Rattle.cpu_words.specs.Common.{LogItem, by_number, changes_of, changes_in, is_detach_from, KeepsEntry, Standing, nothing, attached, detached, number_of, stands_after, stands_from, standing, IsDetachedFrom, is_change_at, KeepsSlot}
 use Rattle.cpu_words.proofs.logs.Changes.{is_change, moves_past}
 
 pushes : (e : Event) (a b : ℕ) → changes_of e (a + b) ≡ changes_of e a + b

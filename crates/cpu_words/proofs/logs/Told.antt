@@ -1,17 +1,9 @@
 -- Who told the notes that were heard: each teller had come as far as the log says before the note was heard, and that stays so.
-use Rattle.std.proofs.Common.{◌≡◌, ◌≢◌, ◌⊎◌, inl, inr, ⊎_elim, ℕ, suc, ◌<◌, ◌≤◌, List, [], ◌∷◌, ◌++◌, map, length, Option, Some, None, refl, sym, ap, ◌∙◌, subst, length-append, append_assoc, arith}
+use Rattle.std.proofs.Common.{◌≡◌, ◌≢◌, ◌⊎◌, inl, inr, ⊎_elim, ℕ, ◌<◌, ◌≤◌, List, [], ◌∷◌, ◌++◌, map, length, Option, Some, None, refl, sym, ap, ◌∙◌, subst, length-append, append_assoc, arith}
 use Rattle.std.proofs.lemmas.List.{append-nil}
-use Rattle.protocol.specs.declared.event.Event.{Event}
-use Rattle.protocol.specs.declared.event.Event.TheVariants.{Hear}
-use Rattle.protocol.specs.declared.event.Reply.TheVariants.{Done}
-use Rattle.protocol.specs.Events.{Outcome, step}
-use Rattle.protocol.specs.Run.{Run, run_with_event}
-use Rattle.protocol.specs.State.{State}
-use Rattle.cpu_words.specs.declared.view.LogItem.{LogItem}
-use Rattle.cpu_words.specs.declared.view.Teller.{Teller}
-use Rattle.cpu_words.specs.Rule.{by_number, reply_without_id, log_item, log_with, log_from}
-use Rattle.cpu_words.specs.Logs.{part, HasCome, HasComeIf, IsToldBefore, AreToldBefore, teller_if, untold}
-use Rattle.cpu_words.specs.KeeperLog.{has_heard_from, heard_from}
+use Rattle.cpu_words.specs.Types.{Event, Hear}
+use Rattle.protocol.specs.Common.{Outcome, step, Run, run_with_event, State}
+use Rattle.cpu_words.specs.Common.{LogItem, Teller, by_number, reply_without_id, log_item, log_with, log_from, part, HasComeIf, IsToldBefore, AreToldBefore, teller_if, untold, has_heard_from, heard_from}
 use Rattle.cpu_words.proofs.logs.Parts.{by_seat, part_append}
 use Rattle.cpu_words.proofs.logs.Runs.{same_first, same_rest}
 

@@ -1,5 +1,5 @@
 -- What the keeper's log says of totals: of each occupied slot the words that were collected, less the references given up.
-use Rattle.protocol.specs.declared.event.Reply.{Reply}
+use Rattle.cpu_words.specs.Types.{Reply, Entry, Mark, Settings, MOST_CPUS, Slot, Vacant, Live, Retired, Event, Publish, Unpublish, Snapshot, Collect, TotalAdd, JoinKeeper, TotalSub, KeptSub, Vacate, Due, Rest, Snapshots, Subtracting}
 use Rattle.std.proofs.Common.{◌≡◌, inl, inr, ⊎_elim, ℕ, zero, suc, ◌+◌, ◌-◌, ◌*◌, ◌<◌, ◌≤◌, ◌==◌, ◌&&◌, nat_lt, not, Bool, true, false, if◌then◌else◌, List, [], ◌∷◌, ◌++◌, length, get_or, set, sum_by, Option, Some, None, eq-eqb, ne_eqb, refl, sym, ap, ◌∙◌, subst, append_assoc, arith}
 use Rattle.std.specs.List.{zip, list_all}
 use Rattle.std.specs.Prelude.{take}
@@ -7,36 +7,16 @@ use Rattle.std.proofs.lemmas.Bool.{and_parts, cases_eq, cases_lt, eqb-true}
 use Rattle.std.proofs.lemmas.List.{append-nil}
 use Rattle.std.proofs.lemmas.List.Sums.{sum_by-cons}
 use Rattle.std.proofs.lemmas.Option.{same_Some}
-use Rattle.registry_values.specs.declared.entry.Entry.{Entry}
-use Rattle.registry_values.specs.declared.mark.Mark.{Mark}
-use Rattle.registry_values.specs.declared.settings.Settings.{Settings}
-use Rattle.registry_values.specs.declared.settings.TheConstants.{MOST_CPUS}
-use Rattle.registry_values.specs.declared.slot.Slot.{Slot}
-use Rattle.registry_values.specs.declared.slot.Slot.TheVariants.{Vacant, Live, Retired}
-use Rattle.registry_values.specs.Balances.{bias}
-use Rattle.registry_values.specs.Marks.{no_mark}
-use Rattle.registry_values.specs.Slots.{is_retired, is_taken, key_of, slot_at, slot_of}
+use Rattle.registry_values.specs.Common.{bias, no_mark, is_retired, is_taken, key_of, slot_at, slot_of}
 use Rattle.registry_values.proofs.Fit.{ranges}
-use Rattle.protocol.specs.declared.event.Event.{Event}
-use Rattle.protocol.specs.declared.event.Event.TheVariants.{Publish, Unpublish, Snapshot, Collect, TotalAdd, JoinKeeper, TotalSub, KeptSub, Vacate}
-use Rattle.protocol.specs.declared.state.Due.{Due}
-use Rattle.protocol.specs.declared.state.Due.TheVariants.{Rest, Snapshots, Subtracting}
-use Rattle.protocol.specs.State.{State, opening, mark_at, count_at, total_at, kept_at, at_rest}
-use Rattle.protocol.specs.Events.{Outcome, step, due_after, may_write, may_examine, may_join, is_drainable, has_room, is_prepared, are_unused, keeps_rightly, is_bias}
-use Rattle.protocol.specs.Invariant.{Holds, IsIn, one_if, addition_due_at, is_adding_at, subtraction_due_at}
+use Rattle.protocol.specs.Common.{State, opening, mark_at, count_at, total_at, kept_at, at_rest, Outcome, step, due_after, may_write, may_examine, may_join, is_drainable, has_room, is_prepared, are_unused, keeps_rightly, is_bias, Holds, IsIn, one_if, addition_due_at, is_adding_at, subtraction_due_at}
 use Rattle.protocol.proofs.counts.Bounds.{adding_range, adding_within, driver_positive, subtracting_range}
 use Rattle.protocol.proofs.counts.HeldSums.{one_self, one_other}
 use Rattle.protocol.proofs.keeps.ListKeeps.{may_write_tells, false_from}
 use Rattle.protocol.proofs.keeps.MarkKeeps.{is_drained_tells, may_examine_tells}
 use Rattle.protocol.proofs.slots.Cells.{total_here, total_other}
 use Rattle.protocol.proofs.slots.Occupied.{at_rest_tells, fresh_unoccupied, in_within, one_number, slot_has}
-use Rattle.cpu_words.specs.declared.view.LogItem.{LogItem}
-use Rattle.cpu_words.specs.declared.view.Teller.{Teller}
-use Rattle.cpu_words.specs.declared.view.KeeperView.{KeeperView}
-use Rattle.cpu_words.specs.Views.{number_at, collected_net, collected_one, GivesUp, KeeperShown}
-use Rattle.cpu_words.specs.Rule.{Good, number_or_none, by_number}
-use Rattle.cpu_words.specs.KeeperLog.{changes_of, changes_in, keeping, names, occupant_after, occupant, word_after, word_collected, replied, occupant_of, word_if, AreCountsOf, given_by, given_after, given_up, sum_below, is_there, word_or_none, words_collected, sum_collected, AreTotalsOf}
-use Rattle.cpu_words.specs.Logs.{maker, IsSeatOf}
+use Rattle.cpu_words.specs.Common.{LogItem, Teller, KeeperView, number_at, collected_net, collected_one, GivesUp, KeeperShown, Good, number_or_none, by_number, changes_of, changes_in, keeping, names, occupant_after, occupant, word_after, word_collected, replied, occupant_of, word_if, AreCountsOf, given_by, given_after, given_up, sum_below, is_there, word_or_none, words_collected, sum_collected, AreTotalsOf, maker, IsSeatOf}
 use Rattle.cpu_words.proofs.by_keeper.Marked.{due_alike}
 use Rattle.cpu_words.proofs.by_keeper.Totals.{one_subtracted}
 use Rattle.cpu_words.proofs.logs.Changes.{changes_up, unnamed_changes}

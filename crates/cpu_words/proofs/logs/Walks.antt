@@ -2,15 +2,10 @@
 use Rattle.std.proofs.Common.{◌≡◌, ◌≢◌, ⊎_elim, ℕ, Bool, List, [], ◌∷◌, ◌++◌, cond, Option, Some, eq-eqb, ne_eqb, sym, ap, ◌∙◌, subst, append_assoc}
 use Rattle.std.proofs.lemmas.Bool.{cases_eq}
 use Rattle.std.proofs.lemmas.List.{append-nil}
-use Rattle.protocol.specs.declared.event.Event.{Event}
-use Rattle.protocol.specs.State.{State}
-use Rattle.protocol.specs.Events.{Outcome, step}
-use Rattle.protocol.specs.Invariant.{Holds}
+use Rattle.cpu_words.specs.Types.{Event}
+use Rattle.protocol.specs.Common.{State, Outcome, step, Holds}
 use Rattle.protocol.proofs.keeps.Keeping.{step_holds}
-use Rattle.cpu_words.specs.declared.view.LogItem.{LogItem}
-use Rattle.cpu_words.specs.declared.view.Teller.{Teller}
-use Rattle.cpu_words.specs.Rule.{by_number}
-use Rattle.cpu_words.specs.Logs.{part, maker, IsSeatOf, AreByOwn}
+use Rattle.cpu_words.specs.Common.{LogItem, Teller, by_number, part, maker, IsSeatOf, AreByOwn}
 use Rattle.cpu_words.proofs.logs.Runs.{item_of, Follows}
 
 -- it stays so by each event: the keeper's log goes on with one of its own, and no other is the keeper's

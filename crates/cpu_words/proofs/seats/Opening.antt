@@ -7,33 +7,15 @@ use lib.ListN.{get_elem?}
 use Rattle.atomic_table.specs.Seated.{TableId}
 use Rattle.atomic_table.specs.Table.{opening as opening_table}
 use Rattle.atomic_table.proofs.Lists.{at_longer, at_last}
-use Rattle.registry_values.specs.declared.entry.Entry.{Entry}
-use Rattle.registry_values.specs.declared.settings.Settings.{Settings}
-use Rattle.registry_values.specs.declared.settings.TheConstants.{MOST_CPUS}
-use Rattle.protocol.specs.declared.state.RecordWords.{RecordWords}
-use Rattle.registry_values.specs.declared.slot.Slot.TheVariants.{Vacant}
-use Rattle.registry_values.specs.declared.mark.Mark.{Mark}
-use Rattle.registry_values.specs.Limits.{are_fit}
-use Rattle.registry_values.specs.Balances.{bias}
-use Rattle.protocol.specs.State.{no_words, opening}
-use Rattle.registry_values.specs.Marks.{no_mark}
-use Rattle.registry_values.specs.Slots.{slot_at}
-use Rattle.protocol.specs.Events.{word}
-use Rattle.protocol.specs.Invariant.{IsIn}
+use Rattle.cpu_words.specs.Types.{Entry, Settings, MOST_CPUS, RecordWords, Vacant, Mark}
+use Rattle.registry_values.specs.Common.{are_fit, bias, no_mark, slot_at}
+use Rattle.protocol.specs.Common.{no_words, opening, word, IsIn}
 use Rattle.registry_values.proofs.Fit.{ranges}
 use Rattle.protocol.proofs.slots.Cells.{get_or_all}
 use Rattle.protocol.proofs.keeps.MarkKeeps.{cell_all, rows_all}
 use Rattle.protocol.proofs.keeps.Keeping.{opening_holds}
-use Rattle.cpu_words.specs.declared.view.CpuView.{CpuView}
-use Rattle.cpu_words.specs.declared.view.KeeperView.{KeeperView}
-use Rattle.cpu_words.specs.declared.view.Logged.{Logged}
-use Rattle.cpu_words.specs.declared.view.View.{View}
-use Rattle.cpu_words.specs.Spots.{Spot, section_of, passive_of, count_of, head_word, next_of, record_of, total_of, index, IsSpot, word_at}
-use Rattle.cpu_words.specs.Views.{Seated, new_keeper, first_view, Shown}
-use Rattle.cpu_words.specs.Rule.{Sits, Good, Ruled}
-use Rattle.cpu_words.specs.Logs.{IsStanding, Knows, LoggedRuled, first_logged, HasComeIf}
+use Rattle.cpu_words.specs.Common.{CpuView, Logged, View, Spot, section_of, passive_of, count_of, head_word, next_of, record_of, total_of, index, IsSpot, word_at, Seated, new_keeper, first_view, Shown, Sits, Good, Ruled, IsStanding, Knows, LoggedRuled, first_logged, HasComeIf, AreOpening, AreSeats, cpu_seat}
 use Rattle.cpu_words.proofs.logs.Told.{no_act}
-use Rattle.cpu_words.specs.Opening.{AreOpening, AreSeats, cpu_seat}
 use Rattle.protocol.proofs.slots.Occupied.{not_vacant}
 
 -- no entry is in a slot at the start

@@ -3,30 +3,13 @@ use Rattle.std.proofs.Common.{◌≡◌, ◌≢◌, inl, inr, ⊎_elim, ℕ, ◌
 use Rattle.std.proofs.lemmas.Bool.{lt-ltb, cases_eq}
 use lib.ListN.{get_elem?}
 use Rattle.atomic_table.specs.Table.{Splits}
-use Rattle.registry_values.specs.declared.entry.Entry.{Entry}
-use Rattle.registry_values.specs.declared.settings.Settings.{Settings}
-use Rattle.protocol.specs.declared.event.Event.TheVariants.{Seat}
-use Rattle.protocol.specs.declared.event.Reply.TheVariants.{Done}
-use Rattle.protocol.specs.declared.state.Hand.{Hand}
-use Rattle.protocol.specs.declared.state.Due.TheVariants.{Rest}
-use Rattle.protocol.specs.State.{State, begin_at, found_at, at_rest}
-use Rattle.protocol.specs.Events.{step}
-use Rattle.protocol.specs.Invariant.{Holds}
+use Rattle.cpu_words.specs.Types.{Entry, Settings, Seat, Done, Hand, Rest}
+use Rattle.protocol.specs.Common.{State, begin_at, found_at, at_rest, step, Holds}
 use Rattle.protocol.proofs.keeps.Keeping.{step_holds}
 use Rattle.cpu_words.specs.declared.view.InHand.TheVariants.{Empty as NoEntry}
-use Rattle.cpu_words.specs.declared.view.CpuView.{CpuView}
-use Rattle.cpu_words.specs.declared.view.KeeperView.{KeeperView}
-use Rattle.cpu_words.specs.declared.view.Logged.{Logged}
-use Rattle.cpu_words.specs.declared.view.View.{View}
-use Rattle.cpu_words.specs.declared.view.View.TheVariants.{Keeper, Cpu, Reference, Note, Spent}
-use Rattle.cpu_words.specs.Spots.{Spot, section_of, passive_of, count_of, head_word, next_of, record_of, total_of, word_at}
-use Rattle.cpu_words.specs.Views.{SameHand, own_of, cpu_view, new_cpu, CpuShown, KeeperShown, Shown, cpu_of, keeper_of}
-use Rattle.cpu_words.specs.Rule.{Sits, ShowsViews, IsFresh, Good, did}
-use Rattle.cpu_words.specs.Steps.{SplitsBy, SplitsOn}
-use Rattle.cpu_words.specs.Opening.{MaySeat, one_seated, with_cpu_seated, next_seat}
+use Rattle.cpu_words.specs.Common.{CpuView, KeeperView, Logged, View, Keeper, Cpu, Reference, Note, Spent, Spot, section_of, passive_of, count_of, head_word, next_of, record_of, total_of, word_at, SameHand, own_of, cpu_view, new_cpu, CpuShown, KeeperShown, Shown, cpu_of, keeper_of, Sits, ShowsViews, IsFresh, Good, did, SplitsBy, SplitsOn, MaySeat, one_seated, with_cpu_seated, next_seat, the_cpu, LoggedRuled, logged_after_split, no_log, no_teller, fresh, seats_next}
 use Rattle.cpu_words.proofs.laws.Reaching.{more}
 use Rattle.cpu_words.proofs.logs.Seats.{tells_nothing, names_nobody, seat_cut}
-use Rattle.cpu_words.specs.Logs.{the_cpu, LoggedRuled, logged_after_split, no_log, no_teller, fresh, seats_next}
 use Rattle.cpu_words.proofs.shown.Showing.{Stay, SeatsWith, shows_split}
 use Rattle.cpu_words.proofs.shown.Placing.{agrees_same}
 use Rattle.cpu_words.proofs.by_keeper.KeeperSteps.{KeeperLists, keeper_lists, with_keeper, cpu_beside_shown}

@@ -1,11 +1,10 @@
 -- The words of two owners are at least nine words apart.
 use Rattle.std.proofs.Common.{◌≡◌, inl, inr, ⊎_elim, ℕ, ◌-◌, ◌<◌, ◌≤◌, Option, Some, None, IsTrue, refl, sym, ap, arith}
 use Rattle.std.proofs.lemmas.Bool.{cases_order}
-use Rattle.registry_values.specs.declared.settings.Settings.{Settings}
-use Rattle.registry_values.specs.declared.settings.TheConstants.{MOST_CPUS, MOST_SLOTS}
-use Rattle.registry_values.specs.Limits.{are_fit}
+use Rattle.cpu_words.specs.Types.{Settings, MOST_CPUS, MOST_SLOTS}
+use Rattle.registry_values.specs.Common.{are_fit}
 use Rattle.registry_values.proofs.Fit.{ranges}
-use Rattle.cpu_words.specs.Spots.{Spot, section_of, passive_of, count_of, head_word, next_of, record_of, total_of, index, IsSpot, owner, AreApart, LinesApart, OnePlace, FirstWordsFree}
+use Rattle.cpu_words.specs.Common.{Spot, section_of, passive_of, count_of, head_word, next_of, record_of, total_of, index, IsSpot, owner, AreApart, LinesApart, OnePlace, FirstWordsFree}
 use Rattle.cpu_words.proofs.shown.Placing.{same_spot}
 
 -- a CPU's words lie in its row, and the shared ones behind all rows

@@ -1,24 +1,10 @@
 -- A CPU's view that some good state shows: a new seat's, and what such a view tells of its section and of the last found entry.
 use Rattle.std.proofs.Common.{◌≡◌, ℕ, ◌<◌, Bool, true, false, List, length, take, Some, IsTrue, refl, sym, ap, ◌∙◌, subst, arith, get_or-set_same}
 use Rattle.std.proofs.lemmas.Option.{none-some}
-use Rattle.registry_values.specs.declared.settings.Settings.{Settings}
-use Rattle.registry_values.specs.Limits.{are_fit}
-use Rattle.registry_values.specs.declared.entry.Change.{Change}
-use Rattle.registry_values.specs.declared.entry.Entry.{Entry}
-use Rattle.registry_values.specs.Slots.{slot_at}
-use Rattle.protocol.specs.declared.event.Event.TheVariants.{Enter}
-use Rattle.protocol.specs.declared.event.Reply.TheVariants.{Done}
-use Rattle.protocol.specs.Events.{Outcome, guard, some_outcome, may_enter, after_enter}
-use Rattle.protocol.specs.Invariant.{IsIn}
-use Rattle.protocol.specs.State.{State, seen_at}
-use Rattle.cpu_words.specs.declared.view.CpuView.{CpuView}
-use Rattle.cpu_words.specs.declared.view.View.TheVariants.{Cpu}
-use Rattle.cpu_words.specs.Views.{new_cpu}
-use Rattle.cpu_words.specs.Headline.{SectionMayHold}
-use Rattle.cpu_words.specs.Opening.{keeper_with}
-use Rattle.cpu_words.specs.Rule.{IsShownCpu}
-use Rattle.cpu_words.specs.Sections.{HasWholePass}
-use Rattle.cpu_words.specs.Steps.{Makes}
+use Rattle.cpu_words.specs.Types.{Settings, Change, Entry, Enter, Done}
+use Rattle.registry_values.specs.Common.{are_fit, slot_at}
+use Rattle.protocol.specs.Common.{Outcome, guard, some_outcome, may_enter, after_enter, IsIn, State, seen_at}
+use Rattle.cpu_words.specs.Common.{CpuView, Cpu, new_cpu, SectionMayHold, keeper_with, IsShownCpu, HasWholePass, Makes}
 use Rattle.cpu_words.proofs.shown.KeepersShown.{seated_is_shown}
 use Rattle.cpu_words.proofs.shown.Passes.{take_whole}
 use Rattle.cpu_words.proofs.shown.Seeing.{seen_of}

@@ -1,15 +1,10 @@
 -- Views that some good state shows: any after a step or a cut, and the keeper's at the start.
 use Rattle.std.proofs.Common.{ℕ, zero, suc, ◌≤◌, IsTrue, refl, subst, arith}
 use Rattle.std.proofs.Math.Numerals.{add-one}
-use Rattle.protocol.specs.declared.event.Event.{Event}
-use Rattle.protocol.specs.declared.event.Reply.{Reply}
-use Rattle.registry_values.specs.declared.settings.Settings.{Settings}
-use Rattle.registry_values.specs.Limits.{are_fit}
-use Rattle.protocol.specs.State.{opening}
-use Rattle.cpu_words.specs.declared.view.View.{View}
-use Rattle.cpu_words.specs.Opening.{keeper_with}
-use Rattle.cpu_words.specs.Rule.{IsShownAs, IsShown}
-use Rattle.cpu_words.specs.Steps.{Makes, SplitsBy}
+use Rattle.cpu_words.specs.Types.{Event, Reply, Settings}
+use Rattle.registry_values.specs.Common.{are_fit}
+use Rattle.protocol.specs.Common.{opening}
+use Rattle.cpu_words.specs.Common.{View, keeper_with, IsShownAs, IsShown, Makes, SplitsBy}
 use Rattle.cpu_words.proofs.seats.Opening.{first_good, first_shown}
 use Rattle.cpu_words.proofs.seats.Seating.{seats_by}
 

@@ -2,10 +2,9 @@
 use Rattle.std.proofs.Common.{◌≡◌, ℕ, ◌≤◌, List, [], ◌∷◌, ◌++◌, length, take, drop, sym, ap, ◌∙◌, subst, arith, append_assoc}
 use Rattle.std.proofs.lemmas.List.{append-nil, take-append-drop, length-take-le, take_all, take-append-le}
 use mathlib.Core.List.{IsPrefix}
-use Rattle.registry_values.specs.declared.entry.Entry.{Entry}
-use Rattle.registry_values.specs.declared.entry.Change.{Change}
-use Rattle.registry_values.specs.declared.entry.Change.TheVariants.{Attach}
-use Rattle.protocol.specs.History.{change_at, IsAttached}
+use Rattle.cpu_words.specs.Types.{Entry, Change, Attach}
+use Rattle.protocol.specs.Common.{IsAttached}
+use Rattle.protocol.specs.History.{change_at}
 use Rattle.protocol.proofs.history.History.{length-after_change, at_old, at_within}
 
 -- what stands in a prefix stands in the whole

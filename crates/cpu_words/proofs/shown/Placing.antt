@@ -2,13 +2,11 @@
 use Rattle.std.proofs.Common.{◌≡◌, ℕ, ◌<◌, List, length, get_or, set, IsTrue, refl, sym, ap, ◌∙◌, subst, arith, length-set, get_or-set_same, get_or-set_other}
 use mathlib.Core.Logic.{dite}
 use native.Mathlib.Decide.{ℕ_discrete}
-use Rattle.registry_values.specs.declared.settings.Settings.{Settings}
-use Rattle.registry_values.specs.Limits.{are_fit}
-use Rattle.protocol.specs.State.{State}
+use Rattle.cpu_words.specs.Types.{Settings}
+use Rattle.registry_values.specs.Common.{are_fit}
+use Rattle.protocol.specs.Common.{State}
 use Rattle.registry_values.proofs.Fit.{ranges}
-use Rattle.cpu_words.specs.Spots.{Spot, section_of, passive_of, count_of, head_word, next_of, record_of, total_of, index, IsSpot, word_at}
-use Rattle.cpu_words.specs.Rule.{Agrees, IsUnused}
-use Rattle.cpu_words.specs.declared.layout.TheConstants.{WORDS}
+use Rattle.cpu_words.specs.Common.{Spot, section_of, passive_of, count_of, head_word, next_of, record_of, total_of, index, IsSpot, word_at, Agrees, IsUnused, WORDS}
 
 -- two words at one place are one word
 pub same_spot : (z : Settings) → IsTrue (are_fit z) → (p q : Spot) → IsSpot z p → IsSpot z q → index q ≡ index p → q ≡ p

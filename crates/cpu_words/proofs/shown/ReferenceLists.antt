@@ -3,9 +3,9 @@ use Rattle.std.proofs.Common.{◌≡◌, ◌⊎◌, inl, inr, ⊎_elim, ℕ, zer
 use Rattle.std.proofs.lemmas.Bool.{eq-eqb, ne_eqb, eqb-true, cases_Bool}
 use Rattle.std.proofs.lemmas.List.Sums.{sum_by-cons}
 use Rattle.std.specs.List.{Contains}
-use Rattle.registry_values.specs.declared.entry.Entry.{Entry}
-use Rattle.protocol.specs.Invariant.{one_if}
-use Rattle.cpu_words.specs.Views.{is_to, references_to, without}
+use Rattle.cpu_words.specs.Types.{Entry}
+use Rattle.protocol.specs.Common.{one_if}
+use Rattle.cpu_words.specs.Common.{is_to, references_to, without}
 
 -- 1 for an entry with the number n
 abbrev one_for : ℕ → Entry → ℕ

@@ -1,16 +1,11 @@
 -- What a CPU's view tells of the core that shows it.
 use Rattle.std.proofs.Common.{◌≡◌, ◌≤◌, ◌<◌, length, take, None, true, refl, sym, ap, ◌∙◌, subst, arith}
 use Rattle.std.proofs.lemmas.Bool.{lt-ltb}
-use Rattle.protocol.specs.declared.state.Hand.{Hand}
-use Rattle.protocol.specs.declared.state.Hand.TheVariants.{Empty, Taking, Giving, Back}
-use Rattle.protocol.specs.State.{State, section_at, begin_at, seen_at, search_at, found_at, hand_at}
-use Rattle.protocol.specs.Events.{is_idle}
+use Rattle.cpu_words.specs.Types.{Hand, Empty, Taking, Giving, Back}
+use Rattle.protocol.specs.Common.{State, section_at, begin_at, seen_at, search_at, found_at, hand_at, is_idle}
 use Rattle.registry_values.proofs.Fit.{Ranges, ranges}
 use Rattle.cpu_words.specs.declared.view.InHand.TheVariants.{Empty as NoEntry}
-use Rattle.cpu_words.specs.declared.view.CpuView.{CpuView}
-use Rattle.cpu_words.specs.Views.{SameHand, CpuShown}
-use Rattle.cpu_words.specs.Rule.{Good}
-use Rattle.cpu_words.specs.Sections.{IsIdle}
+use Rattle.cpu_words.specs.Common.{CpuView, SameHand, CpuShown, Good, IsIdle}
 
 pub record Seen (g : State) (x : CpuView) : Type 0 where
   pub fit : Ranges g.settings

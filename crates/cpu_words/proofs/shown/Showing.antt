@@ -4,15 +4,8 @@ use Rattle.std.proofs.lemmas.List.Sums.{sum_by-cons, sum_by_push}
 use mathlib.Core.Option.{some, some-ne-none, some-injective}
 use lib.ListN.{get_elem?}
 use Rattle.atomic_table.proofs.Lists.{at_set, at_longer, at_last}
-use Rattle.protocol.specs.State.{State}
-use Rattle.protocol.specs.Invariant.{standing_of}
-use Rattle.cpu_words.specs.declared.view.CpuView.{CpuView}
-use Rattle.cpu_words.specs.declared.view.KeeperView.{KeeperView}
-use Rattle.cpu_words.specs.declared.view.View.{View}
-use Rattle.cpu_words.specs.declared.view.View.TheVariants.{Keeper, Cpu, Reference, Note, Spent}
-use Rattle.cpu_words.specs.Views.{Shown}
-use Rattle.cpu_words.specs.Rule.{Sits, reference_to, HaveViews, ShowsViews}
-use Rattle.cpu_words.specs.Logs.{Maker, the_keeper, the_cpu, another, who}
+use Rattle.protocol.specs.Common.{State, standing_of}
+use Rattle.cpu_words.specs.Common.{CpuView, KeeperView, View, Keeper, Cpu, Reference, Note, Spent, Shown, Sits, reference_to, HaveViews, ShowsViews, Maker, the_keeper, the_cpu, another, who}
 
 sum_at : (f : View → ℕ) (l : List View) (i : ℕ) (v w : View) → get_elem? l i ≡ some v → sum_by f (set l i w) + f v ≡ sum_by f l + f w
 sum_at f [] i v w e = absurd (some-ne-none v (sym e))

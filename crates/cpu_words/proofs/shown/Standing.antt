@@ -2,10 +2,8 @@
 use Rattle.std.proofs.Common.{◌≡◌, ◌≢◌, ⊎_elim, ℕ, zero, suc, ◌<◌, List, [], ◌∷◌, sum_by, ap, arith}
 use Rattle.std.proofs.lemmas.List.Sums.{sum_by-cons}
 use Rattle.std.proofs.lemmas.Bool.{cases_eq}
-use Rattle.protocol.specs.declared.state.LocalPlace.{LocalPlace}
-use Rattle.protocol.specs.declared.state.LocalPlace.TheVariants.{Free, Standing, Lifted}
-use Rattle.protocol.specs.State.{local_at}
-use Rattle.protocol.specs.Invariant.{standing_of}
+use Rattle.cpu_words.specs.Types.{LocalPlace, Free, Standing, Lifted}
+use Rattle.protocol.specs.Common.{local_at, standing_of}
 use Rattle.protocol.proofs.counts.Sums.{none_at}
 
 -- a place where a live reference to n stands

@@ -1,10 +1,9 @@
 //! A local reference that a slot keeps: its seat is joined into the keeper's, for a slot that the caller names.
 
 ghost use Rattle.std.specs.Prelude.{◌≡◌};
-ghost use Rattle.protocol.specs.declared.event.Event.TheVariants.{Keep};
+ghost use Rattle.cpu_words.specs.Types.{Keep, Done};
 ghost use Rattle.cpu_words.specs.declared.view.View.TheVariants.{Keeper, Reference};
 ghost use Rattle.cpu_words.specs.Steps.{JoinsBy, SeatGoesOn};
-ghost use Rattle.protocol.specs.declared.event.Reply.TheVariants.{Done};
 ghost use Rattle.cpu_words.specs.Rule.{did};
 ghost use Rattle.cpu_words.specs.Keeping.{MayKeep, keeper_after_keep};
 

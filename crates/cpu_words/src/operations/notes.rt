@@ -2,7 +2,7 @@
 
 ghost use Rattle.std.specs.Prelude.{◌≡◌, ℕ, ◌<◌, ◌++◌, Some, None};
 ghost use Rattle.cpu_words.specs.declared.view.View.TheVariants.{Cpu};
-ghost use Rattle.protocol.specs.declared.state.Due.TheVariants.{Rest};
+ghost use Rattle.cpu_words.specs.Types.{Rest};
 ghost use Rattle.cpu_words.specs.KeeperLog.{KnownLogGrows, heard_from, IsOwnLog, IsShownAfter};
 ghost use Rattle.cpu_words.specs.Logs.{the_keeper, AreBy};
 ghost use Rattle.cpu_words.specs.Notes.{with_note, keeper_with_note, CpuHears, KeeperHears};

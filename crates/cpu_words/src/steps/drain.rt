@@ -2,11 +2,8 @@
 //! into the total, and references found collected are given up by the total.
 
 ghost use Rattle.std.specs.Prelude.{◌≡◌, ◌<◌, ℕ};
-ghost use Rattle.registry_values.specs.declared.entry.Entry.{Entry};
-ghost use Rattle.registry_values.specs.declared.slot.Slot.TheVariants.{Retired};
-ghost use Rattle.registry_values.specs.Slots.{slot_at};
-ghost use Rattle.protocol.specs.declared.event.Event.TheVariants.{PassiveLook, Collect, TotalAdd, TotalSub, JoinKeeper, KeptSub};
-ghost use Rattle.protocol.specs.declared.event.Reply.TheVariants.{Done, Word};
+ghost use Rattle.cpu_words.specs.Types.{Entry, Retired, PassiveLook, Collect, TotalAdd, TotalSub, JoinKeeper, KeptSub, Done, Word};
+ghost use Rattle.registry_values.specs.Common.{slot_at};
 ghost use Rattle.cpu_words.specs.declared.view.View.TheVariants.{Keeper, Reference};
 ghost use Rattle.cpu_words.specs.KeeperLog.{IsFreedFrom};
 ghost use Rattle.cpu_words.specs.Rule.{did};

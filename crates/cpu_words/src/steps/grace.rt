@@ -1,8 +1,7 @@
 //! Grace (pserialize(9)): what the keeper's seat sees of the CPUs' section words, a load each.
 
 ghost use Rattle.std.specs.Prelude.{◌≡◌, ◌<◌, Some, None};
-ghost use Rattle.protocol.specs.declared.event.Event.TheVariants.{Look, Snapshot};
-ghost use Rattle.protocol.specs.declared.event.Reply.TheVariants.{Word};
+ghost use Rattle.cpu_words.specs.Types.{Look, Snapshot, Word};
 ghost use Rattle.cpu_words.specs.declared.view.View.TheVariants.{Keeper};
 ghost use Rattle.cpu_words.specs.Steps.{SeatMakes};
 ghost use Rattle.cpu_words.specs.Grace.{MayGlance, MayLook, MaySnapshot, HasLooked, HasSnapshot, keeper_after_look};

@@ -1,8 +1,7 @@
 //! Kept drivers: an interface's slot keeps a local reference to its driver. The reference's seat is spent, and no word changes.
 
 ghost use Rattle.std.specs.Prelude.{◌≡◌};
-ghost use Rattle.protocol.specs.declared.event.Event.TheVariants.{Keep};
-ghost use Rattle.protocol.specs.declared.event.Reply.TheVariants.{Done};
+ghost use Rattle.cpu_words.specs.Types.{Keep, Done};
 ghost use Rattle.cpu_words.specs.declared.view.View.TheVariants.{Keeper, Reference};
 ghost use Rattle.cpu_words.specs.Rule.{did};
 ghost use Rattle.cpu_words.specs.Steps.{JoinsBy, SeatGoesOn};

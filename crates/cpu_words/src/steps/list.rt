@@ -1,8 +1,7 @@
 //! The words of a slot that the keeper's seat stores before it links an entry: StoreSlot and StoreNext, a store each.
 
 ghost use Rattle.std.specs.Prelude.{◌≡◌, ◌<◌, ◌+◌};
-ghost use Rattle.protocol.specs.declared.event.Event.TheVariants.{StoreSlot, StoreNext};
-ghost use Rattle.protocol.specs.declared.event.Reply.TheVariants.{Done};
+ghost use Rattle.cpu_words.specs.Types.{StoreSlot, StoreNext, Done};
 ghost use Rattle.cpu_words.specs.declared.view.View.TheVariants.{Keeper};
 ghost use Rattle.cpu_words.specs.Steps.{SeatMakes};
 ghost use Rattle.cpu_words.specs.Vacating.{MayWrite};

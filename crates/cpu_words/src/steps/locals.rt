@@ -1,10 +1,8 @@
 //! Local references (localcount(9)) by a CPU's seat: each is a seat of its own but while it is in the CPU's hand.
 
 ghost use Rattle.std.specs.Prelude.{◌≡◌, ◌≢◌, ◌+◌, ◌<◌, []};
-ghost use Rattle.registry_values.specs.declared.entry.Entry.{Entry};
-ghost use Rattle.registry_values.specs.Balances.{bias};
-ghost use Rattle.protocol.specs.declared.event.Event.TheVariants.{CountAdd, SplitRef, JoinRef, CountDown, SplitBack};
-ghost use Rattle.protocol.specs.declared.event.Reply.TheVariants.{Done, Word, Collected, Ref};
+ghost use Rattle.cpu_words.specs.Types.{Entry, CountAdd, SplitRef, JoinRef, CountDown, SplitBack, Done, Word, Collected, Ref};
+ghost use Rattle.registry_values.specs.Common.{bias};
 ghost use Rattle.cpu_words.specs.declared.view.View.TheVariants.{Cpu, Reference};
 ghost use Rattle.cpu_words.specs.declared.view.InHand.TheVariants.{Giving as GivingEntry};
 ghost use Rattle.cpu_words.specs.Sections.{IsIdle};

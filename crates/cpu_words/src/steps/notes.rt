@@ -3,9 +3,7 @@
 
 ghost use Rattle.std.specs.Prelude.{◌≡◌, ◌<◌, Some, None, ◌++◌, []};
 ghost use mathlib.Core.List.{IsPrefix};
-ghost use Rattle.protocol.specs.declared.event.Event.TheVariants.{Tell, Hear};
-ghost use Rattle.protocol.specs.declared.event.Reply.TheVariants.{Done};
-ghost use Rattle.protocol.specs.declared.state.Due.TheVariants.{Rest};
+ghost use Rattle.cpu_words.specs.Types.{Tell, Hear, Done, Rest};
 ghost use Rattle.cpu_words.specs.declared.view.View.TheVariants.{Keeper, Cpu, Note};
 ghost use Rattle.cpu_words.specs.Sections.{IsIdle};
 ghost use Rattle.cpu_words.specs.Rule.{did};

@@ -1,9 +1,7 @@
 //! Passive references (psref(9)): each counted in a passive word of the CPU that has it, one word for each slot.
 
 ghost use Rattle.std.specs.Prelude.{◌≡◌, ◌<◌};
-ghost use Rattle.protocol.specs.declared.event.Event.TheVariants.{PassiveAdd, PassiveSub, LoadRecord};
-ghost use Rattle.protocol.specs.declared.event.RecordOf.TheVariants.{Passive};
-ghost use Rattle.protocol.specs.declared.event.Reply.TheVariants.{Word};
+ghost use Rattle.cpu_words.specs.Types.{PassiveAdd, PassiveSub, LoadRecord, Passive, Word};
 ghost use Rattle.cpu_words.specs.declared.view.View.TheVariants.{Cpu};
 ghost use Rattle.cpu_words.specs.Views.{references_to};
 ghost use Rattle.cpu_words.specs.Steps.{SeatMakes};

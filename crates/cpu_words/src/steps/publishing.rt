@@ -2,11 +2,9 @@
 //! that leads to it.
 
 ghost use Rattle.std.specs.Prelude.{◌≡◌, ℕ, ◌<◌, Some, None, suc, length};
-ghost use Rattle.registry_values.specs.declared.entry.Entry.{Entry};
-ghost use Rattle.protocol.specs.declared.event.Event.TheVariants.{Publish, Unpublish};
-ghost use Rattle.protocol.specs.declared.event.Reply.TheVariants.{Done};
+ghost use Rattle.cpu_words.specs.Types.{Entry, Publish, Unpublish, Done};
 ghost use Rattle.cpu_words.specs.declared.view.View.TheVariants.{Keeper};
-ghost use Rattle.protocol.specs.State.{kept_at};
+ghost use Rattle.protocol.specs.Common.{kept_at};
 ghost use Rattle.cpu_words.specs.KeeperLog.{IsAttachedKeeping};
 ghost use Rattle.cpu_words.specs.Steps.{SeatMakes};
 ghost use Rattle.cpu_words.specs.Publishing.{MayPublish, HasPublished, MayUnpublish, HasUnpublished, IsLinkPlace, link_index};

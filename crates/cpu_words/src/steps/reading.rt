@@ -1,11 +1,9 @@
 //! A record's words, loaded by a local reference (localcount(9)).
 
 ghost use Rattle.std.specs.Prelude.{◌≡◌, ◌<◌, ℕ, IsTrue};
-ghost use Rattle.protocol.specs.declared.event.Event.TheVariants.{LoadRecord};
-ghost use Rattle.protocol.specs.declared.event.RecordOf.TheVariants.{Local};
-ghost use Rattle.protocol.specs.declared.event.Reply.TheVariants.{Word};
-ghost use Rattle.protocol.specs.Events.{word, words_of};
-ghost use Rattle.registry_values.specs.Names.{is_lawful};
+ghost use Rattle.cpu_words.specs.Types.{LoadRecord, Local, Word};
+ghost use Rattle.protocol.specs.Common.{word, words_of};
+ghost use Rattle.registry_values.specs.Common.{is_lawful};
 ghost use Rattle.cpu_words.specs.declared.view.View.TheVariants.{Reference};
 ghost use Rattle.cpu_words.specs.Rule.{did};
 ghost use Rattle.cpu_words.specs.Steps.{Makes, SeatGoesOn};

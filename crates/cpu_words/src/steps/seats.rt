@@ -1,8 +1,7 @@
 //! The seats of the CPUs: each is cut from the keeper's.
 
 ghost use Rattle.std.specs.Prelude.{◌≡◌, ◌+◌};
-ghost use Rattle.protocol.specs.declared.event.Event.TheVariants.{Seat};
-ghost use Rattle.protocol.specs.declared.event.Reply.TheVariants.{Done};
+ghost use Rattle.cpu_words.specs.Types.{Seat, Done};
 ghost use Rattle.cpu_words.specs.declared.view.View.TheVariants.{Keeper, Cpu};
 ghost use Rattle.cpu_words.specs.Rule.{did};
 ghost use Rattle.cpu_words.specs.Steps.{SplitsBy, SeatGoesOn};

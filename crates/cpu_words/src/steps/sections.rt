@@ -1,8 +1,7 @@
 //! Read sections (pserialize(9)): Enter and Exit, each one addition to the CPU's section word.
 
 ghost use Rattle.std.specs.Prelude.{◌≡◌, ◌<◌};
-ghost use Rattle.protocol.specs.declared.event.Event.TheVariants.{Enter, Exit};
-ghost use Rattle.protocol.specs.declared.event.Reply.TheVariants.{Done};
+ghost use Rattle.cpu_words.specs.Types.{Enter, Exit, Done};
 ghost use Rattle.cpu_words.specs.declared.view.View.TheVariants.{Cpu};
 ghost use Rattle.cpu_words.specs.Steps.{SeatMakes};
 ghost use Rattle.cpu_words.specs.Sections.{MayEnter, HasEntered, MayExit, HasExited};

@@ -1,11 +1,8 @@
 //! The end of a drain (psref(9), localcount(9)): the slot of a retired entry that nothing holds is vacant again.
 
 ghost use Rattle.std.specs.Prelude.{◌≡◌, ◌++◌, None};
-ghost use Rattle.registry_values.specs.declared.entry.Entry.{Entry};
-ghost use Rattle.registry_values.specs.declared.slot.Slot.TheVariants.{Retired};
-ghost use Rattle.registry_values.specs.Slots.{slot_at};
-ghost use Rattle.protocol.specs.declared.event.Event.TheVariants.{Hear, Vacate};
-ghost use Rattle.protocol.specs.declared.event.Reply.TheVariants.{Done};
+ghost use Rattle.cpu_words.specs.Types.{Entry, Retired, Hear, Vacate, Done};
+ghost use Rattle.registry_values.specs.Common.{slot_at};
 ghost use Rattle.cpu_words.specs.declared.view.View.TheVariants.{Keeper};
 ghost use Rattle.cpu_words.specs.KeeperLog.{IsFreedFrom};
 ghost use Rattle.cpu_words.specs.Rule.{did};

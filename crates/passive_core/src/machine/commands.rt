@@ -15,8 +15,7 @@ mod sections;
 
 ghost use Rattle.std.specs.Prelude.{◌≡◌, ◌<◌, IsSome, Some, false, true};
 ghost use Rattle.passive_core.specs.Commands.{all_seated};
-ghost use Rattle.protocol.specs.Events.{step, grows};
-ghost use Rattle.protocol.specs.State.{at_rest};
+ghost use Rattle.protocol.specs.Common.{step, grows, at_rest};
 
 use crate::machine::Core;
 use protocol::{Event, Reply};

@@ -1,10 +1,8 @@
 //! Draining: the keeper collects count words into totals, keeps drivers' references, and frees slots.
 
 ghost use Rattle.std.specs.Prelude.{◌≡◌, ◌<◌, IsTrue, Ok};
-ghost use Rattle.protocol.specs.declared.event.Event.TheVariants.{Collect, TotalAdd, TotalSub, JoinKeeper, Keep, KeptSub, Vacate};
-ghost use Rattle.protocol.specs.declared.state.Due.TheVariants.{Adding, Subtracting};
-ghost use Rattle.protocol.specs.Events.{may_collect, may_join_keeper, may_keep, is_driver_slot, is_iface_slot, is_drainable, is_drained, may_vacate};
-ghost use Rattle.protocol.specs.Taken.{Steps};
+ghost use Rattle.passive_core.specs.Types.{Collect, TotalAdd, TotalSub, JoinKeeper, Keep, KeptSub, Vacate, Adding, Subtracting};
+ghost use Rattle.protocol.specs.Common.{may_collect, may_join_keeper, may_keep, is_driver_slot, is_iface_slot, is_drainable, is_drained, may_vacate, Steps};
 
 use crate::machine::Core;
 use protocol::{Due, LocalPlace, Reply, StepFault};

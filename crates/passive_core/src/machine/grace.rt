@@ -1,9 +1,8 @@
 //! Grace periods: snapshots of section words and looks at them, and looks at passive words.
 
 ghost use Rattle.std.specs.Prelude.{◌≡◌, ◌<◌, Some, None, IsTrue};
-ghost use Rattle.protocol.specs.declared.event.Event.TheVariants.{Snapshot, Look};
-ghost use Rattle.protocol.specs.Events.{may_examine, may_glance, is_snapshot_due, due_after};
-ghost use Rattle.protocol.specs.Taken.{Steps};
+ghost use Rattle.passive_core.specs.Types.{Snapshot, Look};
+ghost use Rattle.protocol.specs.Common.{may_examine, may_glance, is_snapshot_due, due_after, Steps};
 
 use crate::machine::Core;
 use protocol::{Due, Reply, StepFault};

@@ -1,13 +1,10 @@
 //! The list: a vacant slot's words, the store that links its entry, and the store that unlinks it.
 
 ghost use Rattle.std.specs.Prelude.{◌≡◌, ◌<◌, ◌≤◌, IsTrue, IfSome, length, take, position, true};
-ghost use Rattle.protocol.specs.declared.event.Event.TheVariants.{StoreSlot, StoreNext, Publish, Unpublish};
-ghost use Rattle.protocol.specs.Events.{may_write, with_word, kind_of, entry_if, entry_of, is_bias, are_unused, room_of, keeps_rightly, is_prepared, may_publish};
-ghost use Rattle.registry_values.specs.Slots.{is_taken, is_live_as, is_live, live_count, slot_before, leads_to, slot_at};
-ghost use Rattle.protocol.specs.State.{at_rest, row_at};
+ghost use Rattle.passive_core.specs.Types.{StoreSlot, StoreNext, Publish, Unpublish, Live};
+ghost use Rattle.protocol.specs.Common.{may_write, with_word, kind_of, entry_if, entry_of, is_bias, are_unused, room_of, keeps_rightly, is_prepared, may_publish, at_rest, row_at, Steps};
+ghost use Rattle.registry_values.specs.Common.{is_taken, is_live_as, is_live, live_count, slot_before, leads_to, slot_at};
 ghost use Rattle.std.specs.List.{list_all, zip};
-ghost use Rattle.registry_values.specs.declared.slot.Slot.TheVariants.{Live};
-ghost use Rattle.protocol.specs.Taken.{Steps};
 
 use crate::machine::{Core, grow};
 use protocol::{Due, RecordWords, Reply, StepFault};

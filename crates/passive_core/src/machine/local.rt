@@ -1,15 +1,11 @@
 //! Local references: counted by CPU, split off into seats of their own, and given back on any CPU.
 
 ghost use Rattle.std.specs.Prelude.{◌≡◌, ◌<◌, ◌≤◌, IfErr, IfSome, OnErr, OnOk, Some, None, Ok, length, position};
-ghost use Rattle.protocol.specs.declared.event.Reply.TheVariants.{Ref};
+ghost use Rattle.passive_core.specs.Types.{Ref, CountAdd, SplitRef, JoinRef, CountDown, SplitBack, LoadRecord, Taking, Giving, Back};
 ghost use Rattle.passive_core.specs.Locals.{with_room};
-ghost use Rattle.protocol.specs.declared.event.Event.TheVariants.{CountAdd, SplitRef, JoinRef, CountDown, SplitBack, LoadRecord};
 ghost use Rattle.protocol.specs.declared.event.RecordOf.TheVariants.{Local as OfLocal};
-ghost use Rattle.protocol.specs.declared.state.Hand.TheVariants.{Taking, Giving, Back};
-ghost use Rattle.protocol.specs.Events.{may_count, is_free, least_id, exchange, step, with_local};
-ghost use Rattle.protocol.specs.State.{hand_at};
-ghost use Rattle.registry_values.specs.Slots.{slot_of};
-ghost use Rattle.protocol.specs.Taken.{Steps};
+ghost use Rattle.protocol.specs.Common.{may_count, is_free, least_id, exchange, step, with_local, hand_at, Steps};
+ghost use Rattle.registry_values.specs.Common.{slot_of};
 
 use crate::machine::reading::word;
 use crate::machine::{Core, grow};

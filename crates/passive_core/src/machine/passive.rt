@@ -1,10 +1,9 @@
 //! Passive references: each CPU counts its own, slot by slot.
 
 ghost use Rattle.std.specs.Prelude.{◌≡◌, ◌<◌, IsTrue};
-ghost use Rattle.protocol.specs.declared.event.Event.TheVariants.{PassiveAdd, PassiveSub, PassiveLook, LoadRecord};
+ghost use Rattle.passive_core.specs.Types.{PassiveAdd, PassiveSub, PassiveLook, LoadRecord};
 ghost use Rattle.protocol.specs.declared.event.RecordOf.TheVariants.{Passive as OfPassive};
-ghost use Rattle.protocol.specs.Events.{may_add, may_sub, may_look_passive, is_number};
-ghost use Rattle.protocol.specs.Taken.{Steps};
+ghost use Rattle.protocol.specs.Common.{may_add, may_sub, may_look_passive, is_number, Steps};
 
 use crate::machine::Core;
 use crate::machine::reading::word;

@@ -1,9 +1,8 @@
 //! One event after the other.
 
 ghost use Rattle.std.specs.Prelude.{◌≡◌, ◌<◌, IfOk, IfErr, take, length, slice_index_or};
-ghost use Rattle.protocol.specs.Taken.{Steps, WantsMemory};
-ghost use Rattle.protocol.specs.Run.{run_of_events, empty_run};
-ghost use Rattle.protocol.specs.declared.event.Event.TheVariants.{LoadRecord, Seat};
+ghost use Rattle.protocol.specs.Common.{Steps, WantsMemory, run_of_events, empty_run};
+ghost use Rattle.passive_core.specs.Types.{LoadRecord, Seat};
 
 use crate::machine::Core;
 use protocol::{Counted, Event, RecordOf, Reply, Short, StepFault};

@@ -1,12 +1,9 @@
 //! Searches: from the head along the links, and in each slot over its record words.
 
 ghost use Rattle.std.specs.Prelude.{◌≡◌, ◌<◌, ◌≤◌, Some, IsTrue, length};
-ghost use Rattle.protocol.specs.declared.event.Event.TheVariants.{Seek, LoadLink, LoadRecord};
+ghost use Rattle.passive_core.specs.Types.{Seek, LoadLink, LoadRecord};
 ghost use Rattle.protocol.specs.declared.event.RecordOf.TheVariants.{Search as OfSearch};
-ghost use Rattle.protocol.specs.Events.{may_seek, with_search_at, search_over, link_loaded};
-ghost use Rattle.protocol.specs.Invariant.{Holds};
-ghost use Rattle.protocol.specs.Loaded.{SlotWithin, loaded_at, row_of_place, entry_with};
-ghost use Rattle.protocol.specs.Taken.{Keeps, Steps};
+ghost use Rattle.protocol.specs.Common.{may_seek, with_search_at, search_over, link_loaded, Holds, SlotWithin, loaded_at, row_of_place, entry_with, Keeps, Steps};
 
 use crate::machine::{Core, NO_WORDS};
 use protocol::{Loaded, RecordWords, Reply, Search, SearchPlace, StepFault};

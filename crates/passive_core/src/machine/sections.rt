@@ -1,9 +1,8 @@
 //! Seats, sections and notes: the steps of a CPU that touch its section word or its pass alone.
 
 ghost use Rattle.std.specs.Prelude.{◌≡◌, ◌<◌, Some, IsTrue};
-ghost use Rattle.protocol.specs.declared.event.Event.TheVariants.{Seat, Enter, Exit, Tell, Hear};
-ghost use Rattle.protocol.specs.Events.{may_seat, may_enter, may_exit};
-ghost use Rattle.protocol.specs.Taken.{Steps};
+ghost use Rattle.passive_core.specs.Types.{Seat, Enter, Exit, Tell, Hear};
+ghost use Rattle.protocol.specs.Common.{may_seat, may_enter, may_exit, Steps};
 
 use crate::machine::Core;
 use protocol::{Reply, StepFault};

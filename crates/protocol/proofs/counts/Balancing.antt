@@ -2,9 +2,9 @@
 use Rattle.std.proofs.Common.{◌≡◌, ℕ, ◌+◌, ◌-◌, ◌*◌, ◌<◌, ◌≤◌, ◌⊎◌, List, length, get_or, set, ap, ◌∙◌, arith, get_or-set_same, get_or-set_other}
 use Rattle.std.proofs.lemmas.Bool.{cases_eq}
 use Rattle.std.proofs.lemmas.List.Sums.{sum_by-set}
-use Rattle.registry_values.specs.declared.settings.TheConstants.{MOST_CPUS}
-use Rattle.registry_values.specs.Balances.{bias}
-use Rattle.protocol.specs.Invariant.{Balances, one_if_used, itself, greatest_limit}
+use Rattle.protocol.specs.Types.{MOST_CPUS}
+use Rattle.registry_values.specs.Common.{bias}
+use Rattle.protocol.specs.Common.{Balances, one_if_used, itself, greatest_limit}
 use Rattle.protocol.proofs.counts.Sums.{used-le-length, words-le-used, words-at-bias, words-at-zero, is_used}
 use Rattle.protocol.proofs.Either.{either}
 

@@ -1,14 +1,8 @@
 -- What the invariant says of the ranges that the code's arithmetic and places need, where an event is allowed.
 use Rattle.std.proofs.Common.{◌≡◌, ℕ, ◌+◌, ◌^◌, ◌<◌, ◌≤◌, inr, length, get_or, Some, true, sym, ◌∙◌, arith}
-use Rattle.registry_values.specs.declared.entry.Entry.{Entry}
-use Rattle.protocol.specs.declared.state.Hand.TheVariants.{Empty, Giving, Back}
-use Rattle.protocol.specs.declared.state.Due.TheVariants.{Adding, Subtracting}
-use Rattle.protocol.specs.declared.state.Search.{Search}
-use Rattle.protocol.specs.State.{State, hand_at, found_at, count_at, total_at, kept_at, search_at}
-use Rattle.registry_values.specs.Balances.{bias}
-use Rattle.registry_values.specs.Slots.{slot_at, slot_of}
-use Rattle.protocol.specs.Events.{is_drained}
-use Rattle.protocol.specs.Invariant.{IsIn, Holds}
+use Rattle.protocol.specs.Types.{Entry}
+use Rattle.protocol.specs.Common.{Empty, Giving, Back, Adding, Subtracting, Search, State, hand_at, found_at, count_at, total_at, kept_at, search_at, is_drained, IsIn, Holds, SlotWithin}
+use Rattle.registry_values.specs.Common.{bias, slot_at, slot_of}
 use Rattle.protocol.proofs.counts.CountBounds.{word_ceiling, total_at_rest, total_at_subtraction, adding_fits}
 use Rattle.protocol.proofs.counts.Counts.{is_counting}
 use Rattle.protocol.proofs.keeps.CountKeeps.{fit_of, hand_within, held_counting}
@@ -17,7 +11,6 @@ use Rattle.protocol.proofs.keeps.MarkKeeps.{is_drained_tells}
 use Rattle.protocol.proofs.slots.Occupied.{slot_has, in_within}
 use Rattle.protocol.proofs.keeps.References.{giving_holds, back_holds, due_adding, due_subtracting}
 use Rattle.protocol.proofs.keeps.Searching.{search_walks, place_within}
-use Rattle.protocol.specs.Loaded.{SlotWithin}
 use Rattle.protocol.proofs.counts.Sums.{lifted_within}
 
 -- what is given up has its place, its CPU and its slot

@@ -2,22 +2,9 @@
 use Rattle.std.proofs.Common.{◌≡◌, ℕ, zero, suc, ◌+◌, ◌*◌, ◌^◌, ◌<◌, ◌≤◌, inr, ⊎_elim, List, [], ◌∷◌, length, get_or, take, Option, Bool, true, refl, ap, subst, ◌∙◌, arith, cond}
 use Rattle.std.specs.List.{list_all}
 use Rattle.std.proofs.lemmas.Bool.{cases_lt, and_parts, eqb-true, eq-eqb}
-use Rattle.registry_values.specs.declared.entry.Entry.{Entry}
-use Rattle.registry_values.specs.declared.settings.Settings.{Settings}
-use Rattle.registry_values.specs.declared.settings.TheConstants.{MOST_CPUS}
-use Rattle.registry_values.specs.declared.slot.Slot.{Slot}
-use Rattle.registry_values.specs.declared.slot.Slot.TheVariants.{Retired}
-use Rattle.registry_values.specs.declared.mark.Mark.{Mark}
-use Rattle.protocol.specs.declared.state.Hand.{Hand}
-use Rattle.protocol.specs.declared.state.LocalPlace.{LocalPlace}
-use Rattle.protocol.specs.declared.state.Due.{Due}
-use Rattle.protocol.specs.declared.state.Due.TheVariants.{Rest, Adding, Subtracting}
-use Rattle.registry_values.specs.Balances.{bias}
-use Rattle.registry_values.specs.Marks.{no_mark, is_collected, are_collected}
-use Rattle.registry_values.specs.Slots.{slot_at}
-use Rattle.protocol.specs.State.{mark_at, count_at, total_at}
-use Rattle.protocol.specs.Events.{is_bias}
-use Rattle.protocol.specs.Invariant.{IsIn, Balances, IsCounting, CountsHold, held_at, addition_due_at, is_adding_at, greatest_limit}
+use Rattle.protocol.specs.Types.{Entry, Settings, MOST_CPUS, Slot, Retired, Mark}
+use Rattle.protocol.specs.Common.{Hand, LocalPlace, Due, Rest, Adding, Subtracting, mark_at, count_at, total_at, is_bias, IsIn, Balances, IsCounting, CountsHold, held_at, addition_due_at, is_adding_at, greatest_limit}
+use Rattle.registry_values.specs.Common.{bias, no_mark, is_collected, are_collected, slot_at}
 use Rattle.protocol.proofs.counts.Balancing.{total_floor as floor_of, total_ceiling as ceiling_of, word_floor as word_floor_of, all_collected as all_of}
 use Rattle.protocol.proofs.counts.Counts.{CountsFit, are_words}
 use Rattle.protocol.proofs.counts.Sums.{one_at}

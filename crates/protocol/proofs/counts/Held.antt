@@ -3,11 +3,7 @@ use Rattle.std.proofs.Common.{◌≡◌, ℕ, ◌<◌, List, length, get_or, Opt
 use Rattle.std.proofs.lemmas.List.{get_or_past}
 use Rattle.std.proofs.lemmas.List.Sums.{get_or-le-sum_by}
 use Rattle.std.proofs.lemmas.Bool.{cases_lt}
-use Rattle.protocol.specs.declared.state.Hand.{Hand}
-use Rattle.protocol.specs.declared.state.LocalPlace.{LocalPlace}
-use Rattle.protocol.specs.declared.state.Due.{Due}
-use Rattle.protocol.specs.State.{kept_at}
-use Rattle.protocol.specs.Invariant.{kept_of, held_at}
+use Rattle.protocol.specs.Common.{Hand, LocalPlace, Due, kept_at, kept_of, held_at}
 use Rattle.protocol.proofs.counts.Sums.{one_at}
 use Rattle.protocol.proofs.Either.{either}
 

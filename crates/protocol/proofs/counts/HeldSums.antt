@@ -2,16 +2,8 @@
 use Rattle.std.proofs.Common.{◌≡◌, ℕ, suc, ◌<◌, ◌≤◌, ◌==◌, List, [], ◌∷◌, length, get_or, Option, Some, None, sum_by, refl, sym, ap, subst, ◌∙◌, arith}
 use Rattle.std.proofs.lemmas.List.Sums.{get_or-le-sum_by, sum_by-cons}
 use Rattle.std.proofs.lemmas.Bool.{eq-eqb, ne_eqb}
-use Rattle.registry_values.specs.declared.entry.Change.{Change}
-use Rattle.registry_values.specs.declared.slot.Slot.{Slot}
-use Rattle.protocol.specs.declared.state.Hand.{Hand}
-use Rattle.protocol.specs.declared.state.Hand.TheVariants.{Empty, Taking, Giving, Back}
-use Rattle.protocol.specs.declared.state.LocalPlace.{LocalPlace}
-use Rattle.protocol.specs.declared.state.LocalPlace.TheVariants.{Free, Standing}
-use Rattle.protocol.specs.declared.state.Due.{Due}
-use Rattle.protocol.specs.declared.state.Due.TheVariants.{Rest, Snapshots, Adding, Subtracting}
-use Rattle.protocol.specs.State.{kept_at, local_at}
-use Rattle.protocol.specs.Invariant.{Occupies, one_if, standing_of, in_hand, kept_of, subtraction_due_at, held_at, SlotsShow, HandHolds, ReferencesHold, DriversKept}
+use Rattle.protocol.specs.Types.{Change, Slot}
+use Rattle.protocol.specs.Common.{Hand, Empty, Taking, Giving, Back, LocalPlace, Free, Standing, Due, Rest, Snapshots, Adding, Subtracting, kept_at, local_at, Occupies, one_if, standing_of, in_hand, kept_of, subtraction_due_at, held_at, SlotsShow, HandHolds, ReferencesHold, DriversKept}
 use Rattle.protocol.proofs.slots.Occupied.{place_within, fresh_unoccupied}
 
 -- the number that a hand names

@@ -4,14 +4,8 @@ use Rattle.std.proofs.lemmas.List.Sums.{sum_by-set, sum_by-cons, sum_by_push}
 use Rattle.std.proofs.lemmas.List.Quantifiers.{position-Some}
 use Rattle.std.proofs.lemmas.List.{get_or_past}
 use Rattle.std.proofs.lemmas.Bool.{cases_lt, eq-eqb, ne_eqb, lt-ltb, le-ltb}
-use Rattle.protocol.specs.declared.state.Hand.{Hand}
-use Rattle.protocol.specs.declared.state.Hand.TheVariants.{Empty}
-use Rattle.protocol.specs.declared.state.LocalPlace.{LocalPlace}
-use Rattle.protocol.specs.declared.state.LocalPlace.TheVariants.{Free, Standing, Lifted}
-use Rattle.registry_values.specs.Balances.{bias}
-use Rattle.protocol.specs.State.{local_at, kept_at}
-use Rattle.protocol.specs.Events.{is_free, id_if, least_id, with_local}
-use Rattle.protocol.specs.Invariant.{one_if_used, itself, greatest_limit, one_if, standing_of, in_hand, kept_of}
+use Rattle.protocol.specs.Common.{Hand, Empty, LocalPlace, Free, Standing, Lifted, local_at, kept_at, is_free, id_if, least_id, with_local, one_if_used, itself, greatest_limit, one_if, standing_of, in_hand, kept_of}
+use Rattle.registry_values.specs.Common.{bias}
 use Rattle.protocol.proofs.Either.{either}
 
 -- no more words are used than there are

@@ -1,15 +1,8 @@
 -- What one more change of the history keeps, whichever it is.
 use Rattle.std.proofs.Common.{◌≡◌, ℕ, zero, suc, ◌≤◌, List, length, get_or, Option, Some, None, arith}
 use Rattle.std.proofs.lemmas.Bool.{cases_lt}
-use Rattle.registry_values.specs.declared.slot.Key.{Key}
-use Rattle.registry_values.specs.declared.entry.Entry.{Entry}
-use Rattle.registry_values.specs.declared.entry.Change.{Change}
-use Rattle.protocol.specs.History.{after_change, MayHold}
-use Rattle.registry_values.specs.declared.settings.Settings.{Settings}
-use Rattle.protocol.specs.declared.state.Search.{Search}
-use Rattle.protocol.specs.declared.state.SearchPlace.{SearchPlace}
-use Rattle.protocol.specs.declared.state.SearchPlace.TheVariants.{AtHead, AtNext, AtNumber, AtKind, AtHigh, AtLow, AtValue}
-use Rattle.protocol.specs.Invariant.{SectionsShow, SearchHolds, SearchesHold, FoundHold, Leads, To_end, To_entry, StandsOn, AllBelow, PlaceHolds}
+use Rattle.protocol.specs.Types.{Key, Entry, Change, Settings}
+use Rattle.protocol.specs.Common.{after_change, MayHold, Search, SearchPlace, AtHead, AtNext, AtNumber, AtKind, AtHigh, AtLow, AtValue, SectionsShow, SearchHolds, SearchesHold, FoundHold, Leads, To_end, To_entry, StandsOn, AllBelow, PlaceHolds}
 use Rattle.protocol.proofs.history.History.{ends_old, ends_was, attached_old, attached_was, live_old, live_was, length-after_change}
 use Rattle.protocol.proofs.Either.{either}
 

@@ -3,11 +3,10 @@ use Rattle.std.proofs.Common.{◌≡◌, ℕ, zero, suc, ◌<◌, ◌≤◌, ◌
 use Rattle.std.specs.Prelude.{slice_get}
 use Rattle.std.proofs.lemmas.Option.{same_Some, slice_get_within, none-some}
 use Rattle.std.proofs.lemmas.Bool.{cases_lt}
-use Rattle.registry_values.specs.declared.entry.Entry.{Entry}
-use Rattle.registry_values.specs.declared.entry.Change.{Change}
-use Rattle.registry_values.specs.declared.entry.Change.TheVariants.{Attach, Detach}
-use Rattle.registry_values.specs.Slots.{key_of}
-use Rattle.protocol.specs.History.{change_at, after_change, IsAttached, EndsAt, IsLiveAt, IsLegal}
+use Rattle.protocol.specs.Types.{Entry, Change, Attach, Detach}
+use Rattle.registry_values.specs.Common.{key_of}
+use Rattle.protocol.specs.Common.{after_change, IsAttached, EndsAt, IsLiveAt, IsLegal}
+use Rattle.protocol.specs.History.{change_at}
 use Rattle.protocol.proofs.Either.{either}
 
 get_old : (h : List Change) (c : Change) (k : ℕ) → k < length h → slice_get (h ++ c ∷ []) k ≡ slice_get h k

@@ -1,16 +1,10 @@
 -- What a walk over links finds is lawful.
 use Rattle.std.proofs.Common.{◌≡◌, ℕ, zero, suc, ◌<◌, ◌≤◌, ◌⊎◌, inl, inr, List, Option, Some, None, refl, sym, ap, subst, ◌∙◌, arith}
 use Rattle.std.proofs.lemmas.Bool.{cases_lt, cases_eq}
-use Rattle.registry_values.specs.declared.entry.Kind.{Kind}
-use Rattle.registry_values.specs.declared.entry.Kind.TheVariants.{Iface, Driver}
-use Rattle.registry_values.specs.declared.entry.Entry.{Entry}
-use Rattle.registry_values.specs.declared.entry.Change.{Change}
-use Rattle.registry_values.specs.declared.entry.Change.TheVariants.{Attach, Detach}
-use Rattle.registry_values.specs.declared.name.Name.{Name}
-use Rattle.registry_values.specs.declared.slot.Key.{Key}
-use Rattle.registry_values.specs.Slots.{key_of}
-use Rattle.protocol.specs.History.{change_at, IsAttached, EndsAt, IsLiveAt, IsLegal, IsLookup, IsLawful}
-use Rattle.protocol.specs.Invariant.{Leads, To_end, To_entry, AllBelow, StandsOn}
+use Rattle.protocol.specs.Types.{Kind, Iface, Driver, Entry, Change, Attach, Detach, Name, Key}
+use Rattle.registry_values.specs.Common.{key_of}
+use Rattle.protocol.specs.Common.{IsAttached, EndsAt, IsLiveAt, IsLegal, IsLookup, IsLawful, Leads, To_end, To_entry, AllBelow, StandsOn}
+use Rattle.protocol.specs.History.{change_at}
 use Rattle.protocol.proofs.history.History.{one_entry, ends_after, none_at_end, at_within}
 use Rattle.protocol.proofs.Either.{either}
 

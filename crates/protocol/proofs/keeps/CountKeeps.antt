@@ -11,20 +11,9 @@ use Rattle.protocol.proofs.keeps.Passive.{found_not_passed, passive_marked}
 use Rattle.protocol.proofs.keeps.Drivers.{drivers_keep}
 use Rattle.protocol.proofs.keeps.References.{back_holds, due_adding, due_subtracting, giving_holds, hand_seated, references_collect, references_collected, references_count_add, references_count_down, references_join, references_join_keeper, references_keep, references_split, references_split_back, references_total, seats_hand}
 use Rattle.protocol.proofs.keeps.SectionKeeps.{idle_parts, idle_tells, none_from}
-use Rattle.protocol.specs.Events.{after_collect, after_collected, after_count_add, after_count_down, after_count_store, after_hand, after_join_keeper, after_keep, after_split, after_total, exchange, is_drainable, is_driver_slot, is_idle, is_number, may_collect, may_count, may_examine, may_join, may_join_keeper, may_keep, may_write, some_outcome}
-use Rattle.registry_values.specs.Marks.{mark_after_collect, are_clear, have_passed, is_clear, is_some_collected, no_mark}
-use Rattle.protocol.specs.Invariant.{Holds, IsCounting, IsIn, SeatsShow, SnapshotsStand}
-use Rattle.protocol.specs.State.{at_rest, State, count_at, found_at, hand_at, kept_at, local_at, mark_at, total_at}
-use Rattle.registry_values.specs.Slots.{is_retired, slot_of, slot_at}
-use Rattle.registry_values.specs.Balances.{bias}
-use Rattle.protocol.specs.Taken.{Keeps}
-use Rattle.registry_values.specs.declared.entry.Entry.{Entry}
-use Rattle.protocol.specs.declared.event.Reply.TheVariants.{Collected, Word}
-use Rattle.protocol.specs.declared.state.Due.{Due}
-use Rattle.protocol.specs.declared.state.Due.TheVariants.{Adding, Rest, Snapshots, Subtracting}
-use Rattle.protocol.specs.declared.state.Hand.{Hand}
-use Rattle.protocol.specs.declared.state.Hand.TheVariants.{Back, Empty, Giving, Taking}
-use Rattle.protocol.specs.declared.state.LocalPlace.TheVariants.{Lifted, Standing}
+use Rattle.protocol.specs.Common.{after_collect, after_collected, after_count_add, after_count_down, after_count_store, after_hand, after_join_keeper, after_keep, after_split, after_total, exchange, is_drainable, is_driver_slot, is_idle, is_number, may_collect, may_count, may_examine, may_join, may_join_keeper, may_keep, may_write, some_outcome, Holds, IsCounting, IsIn, SeatsShow, SnapshotsStand, at_rest, State, count_at, found_at, hand_at, kept_at, local_at, mark_at, total_at, Keeps, Collected, Word, Due, Adding, Rest, Snapshots, Subtracting, Hand, Back, Empty, Giving, Taking, Lifted, Standing}
+use Rattle.registry_values.specs.Common.{mark_after_collect, are_clear, have_passed, is_clear, is_some_collected, no_mark, is_retired, slot_of, slot_at, bias}
+use Rattle.protocol.specs.Types.{Entry}
 use Rattle.protocol.proofs.Either.{either}
 
 -- the lengths and limits of the counts

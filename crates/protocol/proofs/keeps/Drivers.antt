@@ -1,19 +1,9 @@
 -- Each event keeps what is so of kept drivers.
 use Rattle.std.proofs.Common.{◌≡◌, ℕ, ◌<◌, inl, inr, List, length, set, replicate, Bool, true, false, Option, Some, None, refl, sym, ap, subst, ◌∙◌, get_or-set_other}
 use Rattle.std.proofs.lemmas.Bool.{cases_eq}
-use Rattle.registry_values.specs.declared.entry.Kind.{Kind}
-use Rattle.registry_values.specs.declared.entry.Kind.TheVariants.{Iface, Driver}
-use Rattle.registry_values.specs.declared.entry.Entry.{Entry}
-use Rattle.registry_values.specs.declared.entry.Change.{Change}
-use Rattle.registry_values.specs.declared.slot.Slot.{Slot}
-use Rattle.registry_values.specs.declared.slot.Slot.TheVariants.{Vacant, Live, Retired}
-use Rattle.protocol.specs.declared.state.Hand.{Hand}
-use Rattle.protocol.specs.declared.state.LocalPlace.{LocalPlace}
-use Rattle.protocol.specs.declared.state.Due.{Due}
-use Rattle.registry_values.specs.Slots.{slot_at, slot_of, is_driver}
-use Rattle.protocol.specs.State.{kept_at}
-use Rattle.protocol.specs.Events.{keeps_rightly, is_driver_slot}
-use Rattle.protocol.specs.Invariant.{IsIn, SlotsShow, held_at, DriversKept}
+use Rattle.protocol.specs.Types.{Kind, Iface, Driver, Entry, Change, Slot, Vacant, Live, Retired}
+use Rattle.protocol.specs.Common.{Hand, LocalPlace, Due, kept_at, keeps_rightly, is_driver_slot, IsIn, SlotsShow, held_at, DriversKept}
+use Rattle.registry_values.specs.Common.{slot_at, slot_of, is_driver}
 use Rattle.protocol.proofs.slots.Occupied.{written_cases, in_other, in_written, in_within, not_vacant, live_one, retired_one, one_in, in_published, in_unpublished, in_vacated, one_number, slot_has}
 use Rattle.protocol.proofs.counts.HeldSums.{Unreferred, unreferred}
 use Rattle.protocol.proofs.slots.Cells.{get_or_all}

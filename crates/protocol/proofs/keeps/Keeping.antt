@@ -15,30 +15,10 @@ use Rattle.protocol.proofs.slots.Occupied.{in_within, at_rest_tells}
 use Rattle.protocol.proofs.keeps.References.{references_kept_sub, references_opening, references_publish, references_snapshot, references_unpublish, references_vacate, standing_tells, snapshot_due_tells}
 use Rattle.protocol.proofs.keeps.SearchKeeps.{link_keeps, record_keeps, seek_keeps}
 use Rattle.protocol.proofs.keeps.SectionKeeps.{enter_keeps, exit_keeps, hear_keeps, seat_keeps}
-use Rattle.protocol.specs.Events.{Outcome, after_count_store, after_kept_sub, after_look, after_look_passive, after_publish, after_row_store, after_snapshot, after_unpublish, after_vacate, count_down, entry_of, exchange, guard, hear, is_bias, is_drained, is_iface_slot, is_idle, is_snapshot_due, kept_sub, load_record, look, may_add, may_collect, may_count, may_enter, may_examine, may_exit, may_glance, may_join_keeper, may_keep, may_look_passive, may_publish, may_seat, may_seek, may_sub, may_vacate, may_write, snapshot, snapshot_mark, split_back, split_ref, number_standing, state_after, step, store_slot, some_outcome, tell, total_add, total_sub, unpublish, with_some}
-use Rattle.registry_values.specs.Marks.{mark_after_passive_look, mark_after_look}
-use Rattle.registry_values.specs.Slots.{slot_of, slot_at}
-use Rattle.protocol.specs.Invariant.{Holds, held_at}
-use Rattle.registry_values.specs.Limits.{are_fit}
-use Rattle.protocol.specs.Run.{Run, run_of_events, run_with_event}
-use Rattle.protocol.specs.State.{at_rest, State, found_at, hand_at, kept_at, local_at, mark_at, opening, passive_at, row_at, search_at, section_at, total_at}
-use Rattle.registry_values.specs.Balances.{bias}
-use Rattle.protocol.specs.Taken.{Keeps}
-use Rattle.registry_values.specs.declared.entry.Entry.{Entry}
-use Rattle.protocol.specs.declared.event.Event.{Event}
-use Rattle.protocol.specs.declared.event.Event.TheVariants.{Seat, Enter, Exit, Seek, LoadLink, LoadRecord, StoreSlot, StoreNext, Publish, Unpublish, Tell, Hear, Snapshot, Look, PassiveAdd, PassiveSub, PassiveLook, CountAdd, SplitRef, JoinRef, CountDown, SplitBack, Collect, TotalAdd, JoinKeeper, TotalSub, Keep, KeptSub, Vacate}
-use Rattle.protocol.specs.declared.event.RecordOf.{RecordOf}
+use Rattle.protocol.specs.Common.{Outcome, after_count_store, after_kept_sub, after_look, after_look_passive, after_publish, after_row_store, after_snapshot, after_unpublish, after_vacate, count_down, entry_of, exchange, guard, hear, is_bias, is_drained, is_iface_slot, is_idle, is_snapshot_due, kept_sub, load_record, look, may_add, may_collect, may_count, may_enter, may_examine, may_exit, may_glance, may_join_keeper, may_keep, may_look_passive, may_publish, may_seat, may_seek, may_sub, may_vacate, may_write, snapshot, snapshot_mark, split_back, split_ref, number_standing, state_after, step, store_slot, some_outcome, tell, total_add, total_sub, unpublish, with_some, Holds, held_at, Run, run_of_events, run_with_event, at_rest, State, found_at, hand_at, kept_at, local_at, mark_at, opening, passive_at, row_at, search_at, section_at, total_at, Keeps, Event, Seat, Enter, Exit, Seek, LoadLink, LoadRecord, StoreSlot, StoreNext, Publish, Unpublish, Tell, Hear, Snapshot, Look, PassiveAdd, PassiveSub, PassiveLook, CountAdd, SplitRef, JoinRef, CountDown, SplitBack, Collect, TotalAdd, JoinKeeper, TotalSub, Keep, KeptSub, Vacate, RecordOf, Reply, Done, Due, Adding, Snapshots, Subtracting, Hand, Back, Giving, Taking, Standing}
+use Rattle.registry_values.specs.Common.{mark_after_passive_look, mark_after_look, slot_of, slot_at, are_fit, bias}
+use Rattle.protocol.specs.Types.{Entry, Settings, Slot, Live, Retired}
 use Rattle.protocol.specs.declared.event.RecordOf.TheVariants.{Search as OfSearch, Passive as OfPassive, Local as OfLocal}
-use Rattle.protocol.specs.declared.event.Reply.{Reply}
-use Rattle.protocol.specs.declared.event.Reply.TheVariants.{Done}
-use Rattle.registry_values.specs.declared.settings.Settings.{Settings}
-use Rattle.protocol.specs.declared.state.Due.{Due}
-use Rattle.protocol.specs.declared.state.Due.TheVariants.{Adding, Snapshots, Subtracting}
-use Rattle.protocol.specs.declared.state.Hand.{Hand}
-use Rattle.protocol.specs.declared.state.Hand.TheVariants.{Back, Giving, Taking}
-use Rattle.protocol.specs.declared.state.LocalPlace.TheVariants.{Standing}
-use Rattle.registry_values.specs.declared.slot.Slot.{Slot}
-use Rattle.registry_values.specs.declared.slot.Slot.TheVariants.{Live, Retired}
 
 -- The list
 

@@ -12,24 +12,10 @@ use Rattle.protocol.proofs.keeps.Marking.{marks_detach, snapshots_detach}
 use Rattle.protocol.proofs.keeps.Passive.{passive_attach, passive_detach}
 use Rattle.protocol.proofs.keeps.Publishing.{held_attach, legal_attach, links_attach, list_attach, marks_attach, rows_attach, slots_attach, snapshots_attach}
 use Rattle.protocol.proofs.keeps.Unlinking.{before_leads, head_leads, head_leads_on, held_detach, legal_detach, link_to, links_detach, list_unlink_head, list_unlink_mid, rows_detach, slots_detach, within_live}
-use Rattle.protocol.specs.Events.{after_link_store, after_publish, after_row_store, after_unpublish, are_unused, entry_if, entry_of, has_room, is_prepared, keeps_rightly, kind_of, may_publish, may_write, with_retired, with_link_past, with_word, words_of}
-use Rattle.protocol.specs.History.{after_change}
-use Rattle.registry_values.specs.declared.settings.TheConstants.{MOST_CPUS}
-use Rattle.registry_values.specs.Slots.{key_of, is_live, is_live_as, is_taken, is_vacant, kind_word, live_count, same_key, same_kind, same_name, slot_before, slot_at}
-use Rattle.protocol.specs.Invariant.{AreRows, CountsHold, DriversKept, HasShape, Holds, IsIn, Leads, LinksStay, ListShows, ReferencesHold, RowsShow, SnapshotsStand, one_if}
+use Rattle.protocol.specs.Common.{after_link_store, after_publish, after_row_store, after_unpublish, are_unused, entry_if, entry_of, has_room, is_prepared, keeps_rightly, kind_of, may_publish, may_write, with_retired, with_link_past, with_word, words_of, after_change, AreRows, CountsHold, DriversKept, HasShape, Holds, IsIn, Leads, LinksStay, ListShows, ReferencesHold, RowsShow, SnapshotsStand, one_if, at_rest, State, kept_at, no_words, row_at, with_cell, Rest, RecordWords}
+use Rattle.protocol.specs.Types.{MOST_CPUS, Attach, Detach, Entry, Kind, Driver, Iface, Key, Slot, Live, Retired, Vacant}
+use Rattle.registry_values.specs.Common.{key_of, is_live, is_live_as, is_taken, is_vacant, kind_word, live_count, same_key, same_kind, same_name, slot_before, slot_at, bias, no_mark}
 use Rattle.registry_values.specs.Names.{are_name_words}
-use Rattle.protocol.specs.State.{at_rest, State, kept_at, no_words, row_at, with_cell}
-use Rattle.registry_values.specs.Balances.{bias}
-use Rattle.registry_values.specs.Marks.{no_mark}
-use Rattle.registry_values.specs.declared.entry.Change.TheVariants.{Attach, Detach}
-use Rattle.registry_values.specs.declared.entry.Entry.{Entry}
-use Rattle.registry_values.specs.declared.entry.Kind.{Kind}
-use Rattle.registry_values.specs.declared.entry.Kind.TheVariants.{Driver, Iface}
-use Rattle.protocol.specs.declared.state.Due.TheVariants.{Rest}
-use Rattle.registry_values.specs.declared.slot.Key.{Key}
-use Rattle.protocol.specs.declared.state.RecordWords.{RecordWords}
-use Rattle.registry_values.specs.declared.slot.Slot.{Slot}
-use Rattle.registry_values.specs.declared.slot.Slot.TheVariants.{Live, Retired, Vacant}
 use Rattle.protocol.proofs.slots.Occupied.{not_vacant, is_vacant_tells, at_rest_tells}
 use Rattle.protocol.proofs.Either.{either}
 

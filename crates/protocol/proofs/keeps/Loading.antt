@@ -1,15 +1,7 @@
 -- What the loads of a search do to the state, by what they make of the words.
 use Rattle.std.proofs.Common.{◌≡◌, ℕ, zero, suc, ◌<◌, ◌≤◌, length, get_or, Option, Some, subst, arith}
-use Rattle.protocol.specs.declared.state.SearchPlace.{SearchPlace}
-use Rattle.protocol.specs.declared.state.SearchPlace.TheVariants.{AtHead, AtNext}
-use Rattle.protocol.specs.declared.state.Search.{Search}
-use Rattle.protocol.specs.declared.state.Loaded.{Loaded}
-use Rattle.registry_values.specs.declared.slot.Key.{Key}
-use Rattle.protocol.specs.State.{State, search_at}
-use Rattle.protocol.specs.Events.{load_link, link_loaded, outcome_of}
-use Rattle.protocol.specs.Invariant.{Holds, PlaceHolds}
-use Rattle.protocol.specs.Loaded.{loaded_at, row_of_place}
-use Rattle.protocol.specs.Taken.{Keeps}
+use Rattle.protocol.specs.Common.{SearchPlace, AtHead, AtNext, Search, Loaded, State, search_at, load_link, link_loaded, outcome_of, Holds, PlaceHolds, loaded_at, row_of_place, Keeps}
+use Rattle.protocol.specs.Types.{Key}
 use Rattle.protocol.proofs.keeps.SearchKeeps.{link_keeps, record_keeps}
 use Rattle.protocol.proofs.keeps.Searching.{LinkTells, head_ahead, at_next_ahead, link_tells, search_walks, Walks}
 

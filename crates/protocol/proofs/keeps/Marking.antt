@@ -5,22 +5,9 @@ use Rattle.std.proofs.lemmas.Option.{same_Some}
 use Rattle.std.specs.List.{list_all}
 use Rattle.std.specs.Prelude.{if◌then◌else◌, nat_lt}
 use Rattle.protocol.proofs.keeps.Unlinking.{end_before, gone_before, within_live}
-use Rattle.registry_values.specs.Marks.{mark_after_look, has_changed, is_even, no_mark}
-use Rattle.protocol.specs.Events.{snapshot_mark}
-use Rattle.protocol.specs.History.{EndsAt, IsLiveAt, after_change}
-use Rattle.protocol.specs.Invariant.{HeldStay, IsIn, IsSnapshotDue, LinksStay, ListShows, MarksHold, RowsShow, SectionsShow, SlotsShow, SnapshotsStand}
-use Rattle.protocol.specs.State.{mark_at}
-use Rattle.registry_values.specs.Slots.{slot_at}
-use Rattle.registry_values.specs.declared.entry.Change.{Change}
-use Rattle.registry_values.specs.declared.entry.Change.TheVariants.{Detach}
-use Rattle.registry_values.specs.declared.entry.Entry.{Entry}
-use Rattle.registry_values.specs.declared.settings.Settings.{Settings}
-use Rattle.protocol.specs.declared.state.Due.{Due}
-use Rattle.protocol.specs.declared.state.Due.TheVariants.{Rest, Snapshots}
-use Rattle.registry_values.specs.declared.mark.Mark.{Mark}
-use Rattle.protocol.specs.declared.state.RecordWords.{RecordWords}
-use Rattle.registry_values.specs.declared.slot.Slot.{Slot}
-use Rattle.registry_values.specs.declared.slot.Slot.TheVariants.{Live, Retired, Vacant}
+use Rattle.registry_values.specs.Common.{mark_after_look, has_changed, is_even, no_mark, slot_at}
+use Rattle.protocol.specs.Common.{snapshot_mark, EndsAt, IsLiveAt, after_change, HeldStay, IsIn, IsSnapshotDue, LinksStay, ListShows, MarksHold, RowsShow, SectionsShow, SlotsShow, SnapshotsStand, mark_at, Due, Rest, Snapshots, RecordWords}
+use Rattle.protocol.specs.Types.{Change, Detach, Entry, Settings, Mark, Slot, Live, Retired, Vacant}
 use Rattle.protocol.proofs.slots.Occupied.{slot_cases, not_vacant}
 use Rattle.protocol.proofs.slots.Cells.{by_cell, cell_here, cell_other, cell_put, get_or_all}
 use Rattle.protocol.proofs.Either.{either}

@@ -5,17 +5,9 @@ use Rattle.protocol.proofs.history.History.{one_entry}
 use Rattle.protocol.proofs.keeps.Marking.{vacated_before}
 use Rattle.protocol.proofs.keeps.Publishing.{retired_before}
 use Rattle.protocol.proofs.keeps.Unlinking.{gone_before}
-use Rattle.protocol.specs.Events.{is_number}
-use Rattle.protocol.specs.History.{EndsAt}
-use Rattle.protocol.specs.Invariant.{FoundHold, MarksHold, PassiveShow, SlotsShow}
-use Rattle.protocol.specs.State.{mark_at, passive_at}
-use Rattle.registry_values.specs.Marks.{no_mark}
-use Rattle.registry_values.specs.Slots.{slot_at}
-use Rattle.registry_values.specs.declared.entry.Change.{Change}
-use Rattle.registry_values.specs.declared.entry.Entry.{Entry}
-use Rattle.registry_values.specs.declared.mark.Mark.{Mark}
-use Rattle.registry_values.specs.declared.slot.Slot.{Slot}
-use Rattle.registry_values.specs.declared.slot.Slot.TheVariants.{Live, Retired, Vacant}
+use Rattle.protocol.specs.Common.{is_number, EndsAt, FoundHold, MarksHold, PassiveShow, SlotsShow, mark_at, passive_at}
+use Rattle.registry_values.specs.Common.{no_mark, slot_at}
+use Rattle.protocol.specs.Types.{Change, Entry, Mark, Slot, Live, Retired, Vacant}
 use Rattle.protocol.proofs.slots.Cells.{cell_put, get_or_all, place_in}
 use Rattle.protocol.proofs.Either.{either}
 

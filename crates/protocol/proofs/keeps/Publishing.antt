@@ -3,20 +3,11 @@ use Rattle.std.proofs.Common.{List, Option, ap, arith, get_or, get_or-set_other,
 use Rattle.std.proofs.lemmas.Bool.{cases_eq, cases_lt}
 use Rattle.protocol.proofs.history.Growing.{hold_was, leads_old}
 use Rattle.protocol.proofs.history.History.{at_cases, at_new, at_within, attached_old, ends_after, ends_old, length-after_change, live_down, live_old, live_was, one_entry}
-use Rattle.protocol.specs.Events.{words_of}
-use Rattle.protocol.specs.History.{EndsAt, IsLegal, IsLiveAt, after_change, change_at}
-use Rattle.registry_values.specs.Slots.{key_of, slot_at}
-use Rattle.protocol.specs.Invariant.{HeldStay, IsIn, Leads, LinksStay, ListShows, MarksHold, RowsShow, SlotsShow, SnapshotsStand, To_end, To_entry}
+use Rattle.protocol.specs.Common.{words_of, EndsAt, IsLegal, IsLiveAt, after_change, HeldStay, IsIn, Leads, LinksStay, ListShows, MarksHold, RowsShow, SlotsShow, SnapshotsStand, To_end, To_entry, row_at, Due, RecordWords}
+use Rattle.protocol.specs.History.{change_at}
+use Rattle.registry_values.specs.Common.{key_of, slot_at}
 use Rattle.registry_values.specs.Names.{are_name_words}
-use Rattle.protocol.specs.State.{row_at}
-use Rattle.registry_values.specs.declared.entry.Change.{Change}
-use Rattle.registry_values.specs.declared.entry.Change.TheVariants.{Attach, Detach}
-use Rattle.registry_values.specs.declared.entry.Entry.{Entry}
-use Rattle.protocol.specs.declared.state.Due.{Due}
-use Rattle.registry_values.specs.declared.mark.Mark.{Mark}
-use Rattle.protocol.specs.declared.state.RecordWords.{RecordWords}
-use Rattle.registry_values.specs.declared.slot.Slot.{Slot}
-use Rattle.registry_values.specs.declared.slot.Slot.TheVariants.{Live, Retired, Vacant}
+use Rattle.protocol.specs.Types.{Change, Attach, Detach, Entry, Mark, Slot, Live, Retired, Vacant}
 use Rattle.protocol.proofs.slots.Occupied.{slot_cases, in_other, not_vacant, live_one}
 use Rattle.protocol.proofs.Either.{either}
 

@@ -3,20 +3,9 @@ use Rattle.std.proofs.Common.{◌≡◌, ℕ, ◌+◌, ◌<◌, ◌≤◌, ◌==
 use Rattle.std.proofs.lemmas.List.{get_or_past, get_or_append_left, get_or_push, length_push}
 use Rattle.std.proofs.lemmas.List.Quantifiers.{position-Some}
 use Rattle.std.proofs.lemmas.Bool.{cases_lt, cases_eq, and_parts, eqb-true, cond_both, ltb-true, ltb-false}
-use Rattle.registry_values.specs.declared.entry.Entry.{Entry}
-use Rattle.registry_values.specs.declared.slot.Slot.{Slot}
-use Rattle.registry_values.specs.declared.slot.Slot.TheVariants.{Vacant, Live, Retired}
-use Rattle.protocol.specs.declared.state.Search.{Search}
-use Rattle.protocol.specs.declared.state.Hand.{Hand}
-use Rattle.protocol.specs.declared.state.Hand.TheVariants.{Empty, Taking, Giving, Back}
-use Rattle.protocol.specs.declared.state.LocalPlace.{LocalPlace}
-use Rattle.protocol.specs.declared.state.LocalPlace.TheVariants.{Free, Standing, Lifted}
-use Rattle.protocol.specs.declared.state.Due.{Due}
-use Rattle.protocol.specs.declared.state.Due.TheVariants.{Rest, Snapshots, Adding, Subtracting}
-use Rattle.registry_values.specs.Slots.{slot_at}
-use Rattle.protocol.specs.State.{local_at}
-use Rattle.protocol.specs.Events.{is_snapshot_due, number_standing, is_free, id_if, least_id, with_local}
-use Rattle.protocol.specs.Invariant.{Occupies, held_at, HandHolds, DueHolds, ReferencesHold, SeatsShow}
+use Rattle.protocol.specs.Types.{Entry, Slot, Vacant, Live, Retired}
+use Rattle.protocol.specs.Common.{Search, Hand, Empty, Taking, Giving, Back, LocalPlace, Free, Standing, Lifted, Due, Rest, Snapshots, Adding, Subtracting, local_at, is_snapshot_due, number_standing, is_free, id_if, least_id, with_local, Occupies, held_at, HandHolds, DueHolds, ReferencesHold, SeatsShow}
+use Rattle.registry_values.specs.Common.{slot_at}
 use Rattle.protocol.proofs.slots.Occupied.{place_cases, place_within, written_cases, in_within, occupies_publish, occupies_unpublish, occupies_vacate}
 use Rattle.protocol.proofs.counts.HeldSums.{number_of, Unreferred, unreferred}
 use Rattle.protocol.proofs.slots.Cells.{get_or_all}

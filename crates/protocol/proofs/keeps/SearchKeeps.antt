@@ -1,22 +1,10 @@
 -- Seek and the loads of a search keep the invariant, and their answers are lawful.
 use Rattle.std.proofs.Common.{◌≡◌, ℕ, zero, suc, ◌<◌, List, length, get_or, set, Option, Some, None, Bool, true, false, refl, sym, subst, ◌∙◌, arith, get_or-set_same, length-set}
 use Rattle.std.proofs.lemmas.Bool.{and_parts}
-use Rattle.registry_values.specs.Slots.{are_words_of}
-use Rattle.registry_values.specs.declared.entry.Entry.{Entry}
-use Rattle.protocol.specs.declared.event.Reply.{Reply}
-use Rattle.protocol.specs.declared.event.Reply.TheVariants.{Done, Word, Found, Missed, Ref, Collected}
-use Rattle.registry_values.specs.declared.slot.Key.{Key}
-use Rattle.protocol.specs.declared.state.SearchPlace.{SearchPlace}
-use Rattle.protocol.specs.declared.state.SearchPlace.TheVariants.{AtHead, AtNext, AtNumber, AtKind, AtHigh, AtLow, AtValue}
-use Rattle.protocol.specs.declared.state.Search.{Search}
-use Rattle.registry_values.specs.declared.entry.Change.{Change}
-use Rattle.protocol.specs.History.{MayHold, IsLawful}
-use Rattle.protocol.specs.State.{State, begin_at, seen_at, search_at, row_at}
-use Rattle.protocol.specs.Loaded.{entry_with, loaded_of_name}
-use Rattle.protocol.specs.Events.{Outcome, is_idle, is_inside, may_seek, after_seek, after_seeing, with_search_at, search_over, link_loaded, load_link, load_searched, outcome_of}
-use Rattle.protocol.specs.Invariant.{StandsOn, PlaceHolds, SearchHolds, FoundHold, Holds}
+use Rattle.registry_values.specs.Common.{are_words_of}
+use Rattle.protocol.specs.Types.{Entry, Key, Change}
+use Rattle.protocol.specs.Common.{Reply, Done, Word, Found, Missed, Ref, Collected, SearchPlace, AtHead, AtNext, AtNumber, AtKind, AtHigh, AtLow, AtValue, Search, MayHold, IsLawful, State, begin_at, seen_at, search_at, row_at, entry_with, loaded_of_name, Outcome, is_idle, is_inside, may_seek, after_seek, after_seeing, with_search_at, search_over, link_loaded, load_link, load_searched, outcome_of, StandsOn, PlaceHolds, SearchHolds, FoundHold, Holds, Keeps}
 use Rattle.protocol.proofs.keeps.Sections.{seats_search, seated_search}
-use Rattle.protocol.specs.Taken.{Keeps}
 use Rattle.protocol.proofs.keeps.SectionKeeps.{some_from, idle_parts, see_keeps}
 use Rattle.protocol.proofs.keeps.Searching.{within_some, searches_over, searches_on, found_none, found_some, Walks, search_walks, head_ahead, next_ahead, LinkTells, link_tells, goes_on, found_is, weight, IsStep, Steps, load_link_steps, load_searched_steps}
 

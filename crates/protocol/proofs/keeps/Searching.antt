@@ -3,26 +3,9 @@ use Rattle.std.proofs.Common.{◌≡◌, ℕ, zero, suc, ◌+◌, ◌*◌, ◌<�
 use Rattle.std.proofs.lemmas.Option.{same_Some, none-some}
 use Rattle.std.proofs.lemmas.List.{get_or_past}
 use Rattle.std.proofs.lemmas.Bool.{cases_lt, cases_eq, and_parts}
-use Rattle.registry_values.specs.declared.entry.Kind.{Kind}
-use Rattle.registry_values.specs.declared.entry.Kind.TheVariants.{Iface, Driver}
-use Rattle.registry_values.specs.declared.entry.Entry.{Entry}
-use Rattle.registry_values.specs.declared.entry.Change.{Change}
-use Rattle.registry_values.specs.declared.entry.Change.TheVariants.{Attach, Detach}
-use Rattle.protocol.specs.declared.event.Reply.{Reply}
-use Rattle.protocol.specs.declared.event.Reply.TheVariants.{Done, Word, Found, Missed, Ref, Collected}
-use Rattle.registry_values.specs.declared.slot.Key.{Key}
-use Rattle.protocol.specs.declared.state.RecordWords.{RecordWords}
-use Rattle.protocol.specs.declared.state.Loaded.{Loaded}
-use Rattle.protocol.specs.declared.state.SearchPlace.{SearchPlace}
-use Rattle.protocol.specs.declared.state.Loaded.TheVariants.{On, Over}
-use Rattle.protocol.specs.declared.state.SearchPlace.TheVariants.{AtHead, AtNext, AtNumber, AtKind, AtHigh, AtLow, AtValue}
-use Rattle.protocol.specs.declared.state.Search.{Search}
-use Rattle.registry_values.specs.Slots.{are_words_of, key_of, slot_at, kind_word}
-use Rattle.protocol.specs.History.{EndsAt, MayHold, IsLookup, IsLawful}
-use Rattle.protocol.specs.State.{State, row_at, seen_at, search_at, begin_at}
-use Rattle.protocol.specs.Events.{Outcome, after_seeing, with_search_at, with_some, link_at, link_loaded, load_link, load_searched, outcome_of, words_of}
-use Rattle.protocol.specs.Loaded.{SlotWithin, entry_with, loaded_at, loaded_of_name, row_of_place}
-use Rattle.protocol.specs.Invariant.{IsIn, SearchHolds, SearchesHold, FoundHold, StandsOn, AllBelow, PlaceHolds, Holds}
+use Rattle.protocol.specs.Types.{Kind, Iface, Driver, Entry, Change, Attach, Detach, Key}
+use Rattle.protocol.specs.Common.{Reply, Done, Word, Found, Missed, Ref, Collected, RecordWords, Loaded, SearchPlace, On, Over, AtHead, AtNext, AtNumber, AtKind, AtHigh, AtLow, AtValue, Search, EndsAt, MayHold, IsLookup, IsLawful, State, row_at, seen_at, search_at, begin_at, Outcome, after_seeing, with_search_at, with_some, link_at, link_loaded, load_link, load_searched, outcome_of, words_of, SlotWithin, entry_with, loaded_at, loaded_of_name, row_of_place, IsIn, SearchHolds, SearchesHold, FoundHold, StandsOn, AllBelow, PlaceHolds, Holds}
+use Rattle.registry_values.specs.Common.{are_words_of, key_of, slot_at, kind_word}
 use Rattle.protocol.proofs.history.History.{at_within, one_entry}
 use Rattle.protocol.proofs.history.Lookup.{Ahead, No_more, One_more, step_ahead, all_below_later, found_lawful, missed_lawful, find_exact}
 use Rattle.protocol.proofs.slots.Occupied.{in_within}

@@ -9,15 +9,9 @@ use Rattle.std.specs.Prelude.{◌==◌}
 use Rattle.protocol.proofs.history.Growing.{hold_was, leads_old}
 use Rattle.protocol.proofs.history.History.{at_cases, at_new, at_within, attached_old, ends_old, length-after_change, live_down, live_old, live_was, one_end, one_entry}
 use Rattle.protocol.proofs.slots.Numbers.{position_fails}
-use Rattle.protocol.specs.History.{EndsAt, IsAttached, IsLegal, IsLiveAt, after_change}
-use Rattle.protocol.specs.Invariant.{HeldStay, IsIn, Leads, LinksStay, ListShows, RowsShow, SlotsShow, To_end, To_entry}
-use Rattle.registry_values.specs.Slots.{is_live, leads_to, slot_before, slot_at}
-use Rattle.registry_values.specs.declared.entry.Change.{Change}
-use Rattle.registry_values.specs.declared.entry.Change.TheVariants.{Attach, Detach}
-use Rattle.registry_values.specs.declared.entry.Entry.{Entry}
-use Rattle.protocol.specs.declared.state.RecordWords.{RecordWords}
-use Rattle.registry_values.specs.declared.slot.Slot.{Slot}
-use Rattle.registry_values.specs.declared.slot.Slot.TheVariants.{Live, Retired, Vacant}
+use Rattle.protocol.specs.Common.{EndsAt, IsAttached, IsLegal, IsLiveAt, after_change, HeldStay, IsIn, Leads, LinksStay, ListShows, RowsShow, SlotsShow, To_end, To_entry, RecordWords}
+use Rattle.registry_values.specs.Common.{is_live, leads_to, slot_before, slot_at}
+use Rattle.protocol.specs.Types.{Change, Attach, Detach, Entry, Slot, Live, Retired, Vacant}
 use Rattle.protocol.proofs.slots.Occupied.{slot_cases, live_one}
 use Rattle.protocol.proofs.Either.{either}
 

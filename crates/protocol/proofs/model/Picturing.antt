@@ -1,10 +1,7 @@
 -- When two model states are the same, what written lists show, and runs of few steps.
 use Rattle.std.proofs.Common.{◌≡◌, ℕ, ◌<◌, List, length, get_or, set, cond, Bool, true, false, Option, Some, None, refl, sym, ap, subst, ◌∙◌, get_or-set_same, get_or-set_other}
 use Rattle.std.proofs.lemmas.Bool.{cases_eq, eq-eqb, ne_eqb}
-use Rattle.protocol.specs.Events.{Outcome, guard, with_some}
-use Rattle.protocol.specs.Invariant.{Holds}
-use Rattle.protocol.specs.Model.{put, Model, IsModelStep, IsModelRun, Stays, Goes_on}
-use Rattle.protocol.specs.Picture.{picture}
+use Rattle.protocol.specs.Common.{Outcome, guard, with_some, Holds, put, Model, IsModelStep, IsModelRun, Stays, Goes_on, picture}
 use Rattle.protocol.proofs.slots.Occupied.{written_cases}
 use Rattle.protocol.proofs.Either.{either}
 

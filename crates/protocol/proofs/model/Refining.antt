@@ -1,31 +1,11 @@
 -- Every event makes steps of the model.
 use Rattle.std.proofs.Common.{◌≡◌, ℕ, ◌+◌, ◌-◌, List, [], ◌∷◌, replicate, Option, Some, None, Bool, true, false, ◌&&◌, ◌==◌, nat_lt, if◌then◌else◌, refl, sym, ap, subst, ◌∙◌, arith, eqb-true}
 use Rattle.std.proofs.lemmas.Bool.{and_parts}
-use Rattle.registry_values.specs.declared.entry.Entry.{Entry}
-use Rattle.registry_values.specs.declared.settings.Settings.{Settings}
-use Rattle.registry_values.specs.declared.settings.TheConstants.{MOST_CPUS}
-use Rattle.protocol.specs.declared.event.Event.{Event}
-use Rattle.protocol.specs.declared.event.Event.TheVariants.{Seat, Enter, Exit, Seek, LoadLink, LoadRecord, StoreSlot, StoreNext, Publish, Unpublish, Tell, Hear, Snapshot, Look, PassiveAdd, PassiveSub, PassiveLook, CountAdd, SplitRef, JoinRef, CountDown, SplitBack, Collect, TotalAdd, JoinKeeper, TotalSub, Keep, KeptSub, Vacate}
-use Rattle.protocol.specs.declared.event.RecordOf.{RecordOf}
+use Rattle.protocol.specs.Types.{Entry, Settings, MOST_CPUS, Slot, Vacant, Live}
+use Rattle.protocol.specs.Common.{Event, Seat, Enter, Exit, Seek, LoadLink, LoadRecord, StoreSlot, StoreNext, Publish, Unpublish, Tell, Hear, Snapshot, Look, PassiveAdd, PassiveSub, PassiveLook, CountAdd, SplitRef, JoinRef, CountDown, SplitBack, Collect, TotalAdd, JoinKeeper, TotalSub, Keep, KeptSub, Vacate, RecordOf, Reply, Done, Word, Collected, Hand, Empty, Taking, Giving, Back, Lifted, Due, Adding, Subtracting, State, opening, section_at, search_at, found_at, row_at, passive_at, count_at, total_at, hand_at, kept_at, local_at, at_rest, Outcome, guard, some_outcome, step, Run, run_with_event, run_of_events, empty_run, Holds, Model, empty_model, IsModelRun, Stays, passive_in, lookup_of, number_in, picture, EveryRunIsModelRun}
 use Rattle.protocol.specs.declared.event.RecordOf.TheVariants.{Search as OfSearch, Passive as OfPassive, Local as OfLocal}
-use Rattle.protocol.specs.declared.event.Reply.{Reply}
-use Rattle.protocol.specs.declared.event.Reply.TheVariants.{Done, Word, Collected}
-use Rattle.registry_values.specs.declared.slot.Slot.{Slot}
-use Rattle.registry_values.specs.declared.slot.Slot.TheVariants.{Vacant, Live}
-use Rattle.protocol.specs.declared.state.Hand.{Hand}
-use Rattle.protocol.specs.declared.state.Hand.TheVariants.{Empty, Taking, Giving, Back}
-use Rattle.protocol.specs.declared.state.LocalPlace.TheVariants.{Lifted}
-use Rattle.protocol.specs.declared.state.Due.{Due}
-use Rattle.protocol.specs.declared.state.Due.TheVariants.{Adding, Subtracting}
-use Rattle.protocol.specs.State.{State, opening, section_at, search_at, found_at, row_at, passive_at, count_at, total_at, hand_at, kept_at, local_at, at_rest}
-use Rattle.registry_values.specs.Balances.{bias}
-use Rattle.registry_values.specs.Slots.{slot_at, slot_of}
+use Rattle.registry_values.specs.Common.{bias, slot_at, slot_of}
 use Rattle.protocol.specs.Events
-use Rattle.protocol.specs.Events.{Outcome, guard, some_outcome, step}
-use Rattle.protocol.specs.Run.{Run, run_with_event, run_of_events, empty_run}
-use Rattle.protocol.specs.Invariant.{Holds}
-use Rattle.protocol.specs.Model.{Model, empty_model, IsModelRun, Stays}
-use Rattle.protocol.specs.Picture.{passive_in, lookup_of, number_in, picture, EveryRunIsModelRun}
 use Rattle.protocol.proofs.slots.Occupied.{at_rest_tells}
 use Rattle.protocol.proofs.keeps.References.{standing_tells}
 use Rattle.protocol.proofs.keeps.Keeping.{step_holds, opening_holds}

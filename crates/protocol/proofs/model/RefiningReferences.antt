@@ -1,22 +1,10 @@
 -- The events of passive and local references make steps of the model.
 use Rattle.std.proofs.Common.{◌≡◌, ℕ, ◌+◌, ◌-◌, ◌<◌, inr, List, [], length, get_or, set, Option, Some, None, Bool, true, false, ◌&&◌, ◌||◌, ◌==◌, nat_lt, if◌then◌else◌, refl, sym, ap, subst, ◌∙◌, arith, ltb-true}
 use Rattle.std.proofs.lemmas.Bool.{and_parts, or_cases}
-use Rattle.registry_values.specs.declared.entry.Entry.{Entry}
-use Rattle.registry_values.specs.declared.slot.Slot.{Slot}
-use Rattle.registry_values.specs.declared.slot.Slot.TheVariants.{Retired}
-use Rattle.protocol.specs.declared.state.Hand.{Hand}
-use Rattle.protocol.specs.declared.state.Hand.TheVariants.{Empty, Taking, Giving, Back}
-use Rattle.protocol.specs.declared.state.LocalPlace.{LocalPlace}
-use Rattle.protocol.specs.declared.state.LocalPlace.TheVariants.{Free, Standing, Lifted}
-use Rattle.protocol.specs.declared.state.Due.{Due}
-use Rattle.protocol.specs.declared.state.Due.TheVariants.{Rest, Snapshots, Adding, Subtracting}
-use Rattle.protocol.specs.State.{State, with_cell, found_at, hand_at, passive_at, count_at, local_at}
-use Rattle.registry_values.specs.Slots.{slot_at, slot_of, has_number}
-use Rattle.protocol.specs.Events.{is_idle, is_number, may_add, after_add, may_sub, after_sub, may_count, after_count_add, least_id, with_local, after_split, after_hand, after_count_down, after_collected, is_snapshot_due, after_snapshot, due_after, after_look, after_look_passive, may_collect, after_collect, after_total, may_join_keeper, may_join, after_join_keeper}
-use Rattle.protocol.specs.Invariant.{Holds, DueHolds, one_if}
-use Rattle.protocol.specs.Model.{put, Model, IsModelRun, Stays}
+use Rattle.protocol.specs.Types.{Entry, Slot, Retired}
+use Rattle.protocol.specs.Common.{Hand, Empty, Taking, Giving, Back, LocalPlace, Free, Standing, Lifted, Due, Rest, Snapshots, Adding, Subtracting, State, with_cell, found_at, hand_at, passive_at, count_at, local_at, is_idle, is_number, may_add, after_add, may_sub, after_sub, may_count, after_count_add, least_id, with_local, after_split, after_hand, after_count_down, after_collected, is_snapshot_due, after_snapshot, due_after, after_look, after_look_passive, may_collect, after_collect, after_total, may_join_keeper, may_join, after_join_keeper, Holds, DueHolds, one_if, put, Model, IsModelRun, Stays, passive_in, subtractions_due, locals_of, picture}
+use Rattle.registry_values.specs.Common.{slot_at, slot_of, has_number}
 use Rattle.protocol.specs.Model
-use Rattle.protocol.specs.Picture.{passive_in, subtractions_due, locals_of, picture}
 use Rattle.protocol.proofs.slots.Cells.{cell_here, cell_other}
 use Rattle.protocol.proofs.slots.Occupied.{one_in, slot_has, is_retired_tells, at_rest_tells}
 use Rattle.protocol.proofs.keeps.SectionKeeps.{idle_tells}

@@ -1,21 +1,9 @@
 -- Seats, sections, notes and lookups make steps of the model.
 use Rattle.std.proofs.Common.{◌≡◌, ℕ, zero, suc, ◌*◌, ◌<◌, length, Option, Some, None, true, ◌&&◌, nat_eq, nat_lt, ap, subst, arith}
 use Rattle.std.proofs.lemmas.Bool.{and_parts}
-use Rattle.registry_values.specs.declared.entry.Entry.{Entry}
-use Rattle.registry_values.specs.declared.slot.Key.{Key}
-use Rattle.protocol.specs.declared.state.Loaded.{Loaded}
-use Rattle.protocol.specs.declared.state.Loaded.TheVariants.{On, Over}
-use Rattle.protocol.specs.declared.state.SearchPlace.{SearchPlace}
-use Rattle.protocol.specs.declared.state.SearchPlace.TheVariants.{AtHead, AtNumber}
-use Rattle.protocol.specs.declared.state.Search.{Search}
-use Rattle.protocol.specs.History.{IsLawful}
-use Rattle.protocol.specs.State.{State, section_at, begin_at, depth_at, seen_at, search_at}
-use Rattle.protocol.specs.Loaded.{loaded_at, row_of_place}
-use Rattle.protocol.specs.Events.{is_idle, is_outside, is_inside, after_seat, may_enter, after_enter, may_exit, after_exit, after_seeing, may_seek, after_seek, with_search_at, search_over, with_some, link_at, link_loaded, load_link, load_searched, outcome_of}
-use Rattle.protocol.specs.Invariant.{Holds}
-use Rattle.protocol.specs.Model.{Model, IsModelStep, IsModelRun, Stays, Goes_on}
+use Rattle.protocol.specs.Types.{Entry, Key}
+use Rattle.protocol.specs.Common.{Loaded, On, Over, SearchPlace, AtHead, AtNumber, Search, IsLawful, State, section_at, begin_at, depth_at, seen_at, search_at, loaded_at, row_of_place, is_idle, is_outside, is_inside, after_seat, may_enter, after_enter, may_exit, after_exit, after_seeing, may_seek, after_seek, with_search_at, search_over, with_some, link_at, link_loaded, load_link, load_searched, outcome_of, Holds, Model, IsModelStep, IsModelRun, Stays, Goes_on, lookup_of, picture}
 use Rattle.protocol.specs.Model
-use Rattle.protocol.specs.Picture.{lookup_of, picture}
 use Rattle.protocol.proofs.keeps.Searching.{within_some}
 use Rattle.protocol.proofs.keeps.SectionKeeps.{none_from, some_from, idle_parts, idle_tells}
 use Rattle.protocol.proofs.keeps.SearchKeeps.{AnswersLookup, link_answers, record_answers}

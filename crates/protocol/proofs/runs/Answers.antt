@@ -1,20 +1,8 @@
 -- Each answer of a lookup is lawful, and a search has its start from its Seek on.
 use Rattle.std.proofs.Common.{◌≡◌, ℕ, ◌≤◌, inl, inr, List, [], ◌∷◌, ◌++◌, length, get_or, set, Option, Some, None, refl, sym, ap, subst, ◌∙◌, arith}
 use Rattle.std.proofs.lemmas.Option.{none-some, same_Some}
-use Rattle.registry_values.specs.declared.entry.Entry.{Entry}
-use Rattle.registry_values.specs.declared.entry.Change.{Change}
-use Rattle.registry_values.specs.declared.entry.Change.TheVariants.{Attach, Detach}
-use Rattle.protocol.specs.declared.event.Event.{Event}
-use Rattle.protocol.specs.declared.event.Event.TheVariants.{Seek}
-use Rattle.protocol.specs.declared.event.Reply.{Reply}
-use Rattle.protocol.specs.declared.event.Reply.TheVariants.{Found, Missed}
-use Rattle.registry_values.specs.declared.slot.Key.{Key}
-use Rattle.protocol.specs.declared.state.Search.{Search}
-use Rattle.protocol.specs.History.{IsLawful}
-use Rattle.protocol.specs.State.{State, opening, seen_at, search_at}
-use Rattle.protocol.specs.Events.{Outcome, step, state_after}
-use Rattle.protocol.specs.Invariant.{Holds}
-use Rattle.protocol.specs.Laws.{after, after_event, answer_of, IsAnswered, HasBegun, AnswersLawfully, LawfulAnswers}
+use Rattle.protocol.specs.Types.{Entry, Change, Attach, Detach, Key}
+use Rattle.protocol.specs.Common.{Event, Seek, Reply, Found, Missed, Search, IsLawful, State, opening, seen_at, search_at, Outcome, step, state_after, Holds, after, after_event, answer_of, IsAnswered, HasBegun, AnswersLawfully, LawfulAnswers}
 use Rattle.protocol.proofs.slots.Occupied.{written_cases}
 use Rattle.protocol.proofs.keeps.SearchKeeps.{IsAnswer}
 use Rattle.protocol.proofs.runs.Steps.{IsOn, Sort, Refused, Left, Entered, Sought, Heard, Searched, Published, Unpublished, step_sort}

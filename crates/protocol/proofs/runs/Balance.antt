@@ -1,16 +1,9 @@
 -- At rest the balance of each slot is its local references held.
 use Rattle.std.proofs.Common.{◌≡◌, ℕ, ◌<◌, inl, inr, Some, None, Bool, true, false, refl, sym, ap, subst, arith}
 use Rattle.std.proofs.lemmas.Option.{none-some}
-use Rattle.registry_values.specs.declared.entry.Entry.{Entry}
-use Rattle.registry_values.specs.declared.slot.Slot.{Slot}
-use Rattle.registry_values.specs.declared.slot.Slot.TheVariants.{Vacant, Live, Retired}
-use Rattle.protocol.specs.declared.state.Due.TheVariants.{Rest}
-use Rattle.protocol.specs.State.{State, opening, mark_at, count_at, total_at, at_rest}
-use Rattle.registry_values.specs.Balances.{bias}
-use Rattle.registry_values.specs.Slots.{slot_at}
-use Rattle.protocol.specs.Invariant.{Holds, IsIn, IsCounting, held_at, subtraction_due_at, addition_due_at, is_adding_at}
-use Rattle.protocol.specs.Picture.{number_in, subtractions_due}
-use Rattle.protocol.specs.Laws.{after, occupant_of, held_of, IsBalanced, BalancesAtRest, BalanceAtRest}
+use Rattle.protocol.specs.Types.{Entry, Slot, Vacant, Live, Retired}
+use Rattle.protocol.specs.Common.{Rest, State, opening, mark_at, count_at, total_at, at_rest, Holds, IsIn, IsCounting, held_at, subtraction_due_at, addition_due_at, is_adding_at, number_in, subtractions_due, after, occupant_of, held_of, IsBalanced, BalancesAtRest, BalanceAtRest}
+use Rattle.registry_values.specs.Common.{bias, slot_at}
 use Rattle.protocol.proofs.runs.Reuse.{every_run_keeps, number_is}
 use Rattle.protocol.proofs.slots.Occupied.{at_rest_tells}
 use Rattle.protocol.proofs.Either.{either}

@@ -1,11 +1,7 @@
 -- Safe reuse over runs, and drivers that outlive their interfaces.
 use Rattle.std.proofs.Common.{◌≡◌, ℕ, ◌≤◌, List, [], ◌∷◌, ◌++◌, length, Some, sym, ap, subst, ◌∙◌, arith}
-use Rattle.registry_values.specs.declared.entry.Change.{Change}
-use Rattle.protocol.specs.declared.event.Event.{Event}
-use Rattle.protocol.specs.State.{State, opening, kept_at}
-use Rattle.protocol.specs.Events.{step, keeps_rightly}
-use Rattle.protocol.specs.Invariant.{Holds}
-use Rattle.protocol.specs.Laws.{after, after_event, occupant_of, ReusesSafely, SafeReuse, OutliveInterfaces, DriversOutlive}
+use Rattle.protocol.specs.Types.{Change}
+use Rattle.protocol.specs.Common.{Event, State, opening, kept_at, step, keeps_rightly, Holds, after, after_event, occupant_of, ReusesSafely, SafeReuse, OutliveInterfaces, DriversOutlive}
 use Rattle.protocol.proofs.keeps.Keeping.{step_keeps, after_keeps}
 use Rattle.protocol.proofs.slots.Occupied.{attached_in}
 use Rattle.protocol.proofs.history.History.{at_within}

@@ -2,12 +2,7 @@
 use Rattle.std.proofs.Common.{◌≡◌, ℕ, ◌*◌, ◌⊎◌, inl, inr, List, [], ◌∷◌, get_or, Option, Some, None, ◌&&◌, nat_lt, IsSome, refl, sym, ap, ◌∙◌, arith, get_or-set_other}
 use Rattle.std.proofs.lemmas.Bool.{and_parts, cases_eq}
 use Rattle.std.proofs.lemmas.Option.{none-some}
-use Rattle.protocol.specs.declared.event.Event.{Event}
-use Rattle.protocol.specs.declared.event.Event.TheVariants.{Exit}
-use Rattle.protocol.specs.State.{State, opening, section_at, begin_at}
-use Rattle.protocol.specs.Events.{Outcome, step, state_after, is_idle, is_outside}
-use Rattle.protocol.specs.Invariant.{Holds}
-use Rattle.protocol.specs.Laws.{after, after_event, HasExit, EndsByExit, GraceLaw}
+use Rattle.protocol.specs.Common.{Event, Exit, State, opening, section_at, begin_at, Outcome, step, state_after, is_idle, is_outside, Holds, after, after_event, HasExit, EndsByExit, GraceLaw}
 use Rattle.protocol.proofs.keeps.Keeping.{step_keeps, after_keeps}
 use Rattle.protocol.proofs.keeps.SectionKeeps.{none_from}
 use Rattle.protocol.proofs.runs.Steps.{Sort, Left, Entered, Exited, Searched, Unpublished, step_sort, after_more}

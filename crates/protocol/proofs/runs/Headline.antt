@@ -1,19 +1,9 @@
 -- The headline for the core.
 use Rattle.std.proofs.Common.{◌≡◌, ℕ, inl, inr, List, Option, Some, None, refl, sym, ap, ◌∙◌, arith}
 use Rattle.std.proofs.lemmas.Option.{none-some}
-use Rattle.registry_values.specs.declared.entry.Entry.{Entry}
-use Rattle.protocol.specs.declared.event.Event.{Event}
-use Rattle.registry_values.specs.declared.slot.Slot.{Slot}
-use Rattle.registry_values.specs.declared.slot.Slot.TheVariants.{Vacant, Live, Retired}
-use Rattle.protocol.specs.declared.state.Due.{Due}
-use Rattle.protocol.specs.declared.state.Due.TheVariants.{Subtracting}
-use Rattle.protocol.specs.History.{IsAttached}
-use Rattle.protocol.specs.State.{State, opening}
-use Rattle.registry_values.specs.Slots.{slot_at, slot_of, has_number}
-use Rattle.protocol.specs.Invariant.{Holds, IsIn, Occupies, one_if}
-use Rattle.protocol.specs.Model.{IsUnheld}
-use Rattle.protocol.specs.Picture.{passive_in, subtractions_due, picture}
-use Rattle.protocol.specs.Laws.{after, IsAllowed, occupant_of, destroyed_slot, given_slot, IsSafe, Headline}
+use Rattle.protocol.specs.Types.{Entry, Slot, Vacant, Live, Retired}
+use Rattle.protocol.specs.Common.{Event, Due, Subtracting, IsAttached, State, opening, Holds, IsIn, Occupies, one_if, IsUnheld, passive_in, subtractions_due, picture, after, IsAllowed, occupant_of, destroyed_slot, given_slot, IsSafe, Headline}
+use Rattle.registry_values.specs.Common.{slot_at, slot_of, has_number}
 use Rattle.protocol.proofs.history.History.{one_entry}
 use Rattle.protocol.proofs.slots.Occupied.{attached_in, slot_occupied}
 use Rattle.protocol.proofs.counts.HeldSums.{one_other, no_standing, no_hand, unoccupied}

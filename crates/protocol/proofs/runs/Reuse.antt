@@ -2,21 +2,10 @@
 use Rattle.std.proofs.Common.{◌≡◌, ℕ, suc, ◌+◌, ◌-◌, ◌⊎◌, inl, inr, List, length, set, Option, Some, None, Bool, true, false, not, ◌&&◌, ◌==◌, nat_lt, if◌then◌else◌, IsSome, refl, sym, ap, subst, ◌∙◌, arith, get_or-set_same, get_or-set_other}
 use Rattle.std.proofs.lemmas.Bool.{and_parts, cases_eq, eqb-true}
 use Rattle.std.proofs.lemmas.Option.{none-some, same_Some}
-use Rattle.registry_values.specs.declared.entry.Entry.{Entry}
-use Rattle.protocol.specs.declared.event.Event.{Event}
-use Rattle.protocol.specs.declared.event.Event.TheVariants.{StoreSlot, StoreNext, Publish, Keep, KeptSub, Vacate}
-use Rattle.registry_values.specs.declared.slot.Slot.{Slot}
-use Rattle.registry_values.specs.declared.slot.Slot.TheVariants.{Vacant, Live, Retired}
-use Rattle.protocol.specs.History.{EndsAt}
-use Rattle.registry_values.specs.Slots.{key_of, slot_at, slot_of, is_taken}
-use Rattle.protocol.specs.State.{State, opening, row_at, kept_at, local_at}
+use Rattle.protocol.specs.Types.{Entry, Slot, Vacant, Live, Retired}
+use Rattle.protocol.specs.Common.{Event, StoreSlot, StoreNext, Publish, Keep, KeptSub, Vacate, EndsAt, State, opening, row_at, kept_at, local_at, Outcome, guard, with_some, step, state_after, may_write, may_publish, is_drained, may_vacate, entry_of, has_room, is_prepared, Holds, IsIn, IsUnheld, number_in, picture, empty_run, after, IsAllowed, occupant_of, destroyed_slot, given_slot, EveryRunKeeps}
+use Rattle.registry_values.specs.Common.{key_of, slot_at, slot_of, is_taken}
 use Rattle.protocol.specs.Events
-use Rattle.protocol.specs.Events.{Outcome, guard, with_some, step, state_after, may_write, may_publish, is_drained, may_vacate, entry_of, has_room, is_prepared}
-use Rattle.protocol.specs.Invariant.{Holds, IsIn}
-use Rattle.protocol.specs.Model.{IsUnheld}
-use Rattle.protocol.specs.Picture.{number_in, picture}
-use Rattle.protocol.specs.Run.{empty_run}
-use Rattle.protocol.specs.Laws.{after, IsAllowed, occupant_of, destroyed_slot, given_slot, EveryRunKeeps}
 use Rattle.protocol.proofs.keeps.Keeping.{ran_keeps, opening_holds}
 use Rattle.protocol.proofs.model.RefiningEntries.{Drained, drained}
 use Rattle.protocol.proofs.slots.Occupied.{written_cases, in_within}

@@ -1,11 +1,7 @@
 -- A run over one event more.
 use Rattle.std.proofs.Common.{◌≡◌, ℕ, ◌+◌, ◌<◌, List, [], ◌∷◌, ◌++◌, Option, refl, ap, ◌∙◌, take, length, get_or}
 use Rattle.std.proofs.lemmas.List.{take_more}
-use Rattle.protocol.specs.declared.event.Event.{Event}
-use Rattle.protocol.specs.declared.event.Counted.{Counted}
-use Rattle.protocol.specs.State.{State}
-use Rattle.protocol.specs.Events.{Outcome, step}
-use Rattle.protocol.specs.Run.{Run, run_of_events, run_with_event}
+use Rattle.protocol.specs.Common.{Event, Counted, State, Outcome, step, Run, run_of_events, run_with_event}
 
 pub ran_push : (r : Run) (es : List Event) (e : Event) → run_of_events r (es ++ e ∷ []) ≡ run_with_event (run_of_events r es) (step (run_of_events r es).state e)
 ran_push r [] e = refl

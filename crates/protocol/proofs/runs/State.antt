@@ -1,8 +1,5 @@
 -- All laws of a state with the invariant.
-use Rattle.protocol.specs.State.{State}
-use Rattle.protocol.specs.Invariant.{Holds}
-use Rattle.protocol.specs.Run.{empty_run}
-use Rattle.protocol.specs.Laws.{ObeysLaws, InvariantSuffices}
+use Rattle.protocol.specs.Common.{State, Holds, empty_run, ObeysLaws, InvariantSuffices}
 use Rattle.protocol.proofs.keeps.Keeping.{ran_keeps}
 use Rattle.protocol.proofs.runs.Headline.{is_safe}
 use Rattle.protocol.proofs.runs.Drivers.{reuses_safely, outlive_interfaces}

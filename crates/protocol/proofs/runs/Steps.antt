@@ -1,36 +1,11 @@
 -- What each event does to the history, the slots, the sections, the passes and the searches.
 use Rattle.std.proofs.Common.{◌≡◌, ℕ, zero, suc, ◌⊎◌, inl, inr, List, [], ◌∷◌, set, Option, Some, None, Bool, true, false, ◌==◌, nat_lt, if◌then◌else◌, refl, sym, ap, ◌∙◌}
 use Rattle.std.proofs.lemmas.Bool.{and_parts}
-use Rattle.registry_values.specs.declared.entry.Kind.{Kind}
-use Rattle.registry_values.specs.declared.entry.Entry.{Entry}
-use Rattle.registry_values.specs.declared.entry.Change.TheVariants.{Detach}
-use Rattle.registry_values.specs.declared.name.Name.{Name}
-use Rattle.protocol.specs.declared.event.Event.{Event}
-use Rattle.protocol.specs.declared.event.Event.TheVariants.{Seat, Enter, Exit, Seek, LoadLink, LoadRecord, StoreSlot, StoreNext, Publish, Unpublish, Tell, Hear, Snapshot, Look, PassiveAdd, PassiveSub, PassiveLook, CountAdd, SplitRef, JoinRef, CountDown, SplitBack, Collect, TotalAdd, JoinKeeper, TotalSub, Keep, KeptSub, Vacate}
-use Rattle.protocol.specs.declared.event.RecordOf.{RecordOf}
+use Rattle.protocol.specs.Types.{Kind, Entry, Detach, Name, Slot, Live, Retired}
+use Rattle.protocol.specs.Common.{Event, Seat, Enter, Exit, Seek, LoadLink, LoadRecord, StoreSlot, StoreNext, Publish, Unpublish, Tell, Hear, Snapshot, Look, PassiveAdd, PassiveSub, PassiveLook, CountAdd, SplitRef, JoinRef, CountDown, SplitBack, Collect, TotalAdd, JoinKeeper, TotalSub, Keep, KeptSub, Vacate, RecordOf, Reply, Done, Hand, Taking, Giving, Back, Due, Adding, Subtracting, Loaded, On, Over, SearchPlace, AtNumber, Search, after_change, State, search_at, found_at, hand_at, row_at, count_at, kept_at, local_at, loaded_at, row_of_place, Outcome, guard, some_outcome, with_some, step, state_after, is_idle, may_enter, after_enter, may_exit, after_exit, may_seek, after_seek, after_seeing, link_loaded, entry_of, may_publish, after_publish, with_link_past, with_retired, after_unpublish, may_keep, after_keep, is_drained, after_kept_sub, may_vacate, after_vacate, Holds, Run, run_of_events, empty_run, run_with_event, after, after_event, answer_of, IsLoadOf}
 use Rattle.protocol.specs.declared.event.RecordOf.TheVariants.{Search as OfSearch, Passive as OfPassive, Local as OfLocal}
-use Rattle.protocol.specs.declared.event.Reply.{Reply}
-use Rattle.protocol.specs.declared.event.Reply.TheVariants.{Done}
-use Rattle.registry_values.specs.declared.slot.Slot.{Slot}
-use Rattle.registry_values.specs.declared.slot.Slot.TheVariants.{Live, Retired}
-use Rattle.protocol.specs.declared.state.Hand.{Hand}
-use Rattle.protocol.specs.declared.state.Hand.TheVariants.{Taking, Giving, Back}
-use Rattle.protocol.specs.declared.state.Due.{Due}
-use Rattle.protocol.specs.declared.state.Due.TheVariants.{Adding, Subtracting}
-use Rattle.protocol.specs.declared.state.Loaded.{Loaded}
-use Rattle.protocol.specs.declared.state.Loaded.TheVariants.{On, Over}
-use Rattle.protocol.specs.declared.state.SearchPlace.{SearchPlace}
-use Rattle.protocol.specs.declared.state.SearchPlace.TheVariants.{AtNumber}
-use Rattle.protocol.specs.declared.state.Search.{Search}
-use Rattle.protocol.specs.History.{after_change}
-use Rattle.protocol.specs.State.{State, search_at, found_at, hand_at, row_at, count_at, kept_at, local_at}
-use Rattle.registry_values.specs.Slots.{slot_at, slot_of, slot_before}
+use Rattle.registry_values.specs.Common.{slot_at, slot_of, slot_before}
 use Rattle.protocol.specs.Events
-use Rattle.protocol.specs.Loaded.{loaded_at, row_of_place}
-use Rattle.protocol.specs.Events.{Outcome, guard, some_outcome, with_some, step, state_after, is_idle, may_enter, after_enter, may_exit, after_exit, may_seek, after_seek, after_seeing, link_loaded, entry_of, may_publish, after_publish, with_link_past, with_retired, after_unpublish, may_keep, after_keep, is_drained, after_kept_sub, may_vacate, after_vacate}
-use Rattle.protocol.specs.Invariant.{Holds}
-use Rattle.protocol.specs.Run.{Run, run_of_events, empty_run, run_with_event}
-use Rattle.protocol.specs.Laws.{after, after_event, answer_of, IsLoadOf}
 use Rattle.protocol.proofs.keeps.SearchKeeps.{AnswersLookup, link_answers, record_answers}
 
 -- all of them stay, and the reply is no answer

@@ -2,12 +2,9 @@
 use Rattle.std.proofs.Common.{◌≡◌, ℕ, zero, suc, ◌<◌, ◌⊎◌, inl, inr, List, [], length, get_or, set, replicate, refl, sym, ap, subst, ◌∙◌, get_or-set_same, get_or-set_other}
 use Rattle.std.proofs.lemmas.List.{set_past}
 use Rattle.std.proofs.lemmas.Bool.{cases_lt, cases_eq}
-use Rattle.registry_values.specs.declared.entry.Entry.{Entry}
-use Rattle.registry_values.specs.declared.slot.Slot.{Slot}
-use Rattle.registry_values.specs.declared.slot.Slot.TheVariants.{Vacant}
-use Rattle.protocol.specs.State.{cell, with_cell, total_at}
-use Rattle.registry_values.specs.Slots.{slot_at}
-use Rattle.protocol.specs.Invariant.{IsIn}
+use Rattle.protocol.specs.Types.{Entry, Slot, Vacant}
+use Rattle.protocol.specs.Common.{cell, with_cell, total_at, IsIn}
+use Rattle.registry_values.specs.Common.{slot_at}
 use Rattle.protocol.proofs.slots.Occupied.{not_vacant, one_in as same_in, place_cases, written_cases}
 use Rattle.protocol.proofs.Either.{either}
 

@@ -2,13 +2,9 @@
 use Rattle.std.proofs.Common.{◌≡◌, ℕ, zero, suc, ◌<◌, List, [], ◌∷◌, length, get_or, set, take, Some, Bool, true, false, ◌||◌, refl, sym, ap, ◌∙◌, arith, get_or-set_same, get_or-set_other}
 use Rattle.std.proofs.lemmas.Bool.{and_from}
 use Rattle.std.specs.List.{list_all, list_any}
-use Rattle.protocol.specs.declared.state.Due.TheVariants.{Rest, Snapshots}
-use Rattle.registry_values.specs.declared.mark.Mark.{Mark}
-use Rattle.protocol.specs.Marking.{AllClear, AllCollected, AllPassed, MarksGrow, SameElsewhere}
-use Rattle.registry_values.specs.Marks.{Grows, are_clear, are_collected, have_passed, is_clear, is_collected, is_passed, no_mark}
-use Rattle.protocol.specs.Invariant.{Holds}
-use Rattle.protocol.specs.State.{at_rest, State, mark_at, with_cell}
-use Rattle.registry_values.specs.Slots.{is_retired, slot_at}
+use Rattle.protocol.specs.Common.{Rest, Snapshots, AllClear, AllCollected, AllPassed, MarksGrow, SameElsewhere, Holds, at_rest, State, mark_at, with_cell}
+use Rattle.protocol.specs.Types.{Mark}
+use Rattle.registry_values.specs.Common.{Grows, are_clear, are_collected, have_passed, is_clear, is_collected, is_passed, no_mark, is_retired, slot_at}
 use Rattle.registry_values.proofs.Fit.{ranges}
 use Rattle.protocol.proofs.slots.Cells.{cell_put}
 use Rattle.protocol.proofs.slots.Occupied.{at_rest_tells, is_retired_tells}

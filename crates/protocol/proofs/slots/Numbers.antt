@@ -7,13 +7,9 @@ use Rattle.std.proofs.lemmas.Option.{none-some}
 use Rattle.std.specs.List.{position_or_len}
 use Rattle.std.specs.Prelude.{if◌then◌else◌, position}
 use Rattle.protocol.proofs.history.History.{one_entry}
-use Rattle.protocol.specs.History.{IsAttached}
-use Rattle.protocol.specs.Invariant.{IsIn, Occupies, SlotsShow}
-use Rattle.registry_values.specs.Slots.{has_number, slot_of, slot_at}
-use Rattle.registry_values.specs.declared.entry.Change.{Change}
-use Rattle.registry_values.specs.declared.entry.Entry.{Entry}
-use Rattle.registry_values.specs.declared.slot.Slot.{Slot}
-use Rattle.registry_values.specs.declared.slot.Slot.TheVariants.{Live, Retired, Vacant}
+use Rattle.protocol.specs.Common.{IsAttached, IsIn, Occupies, SlotsShow}
+use Rattle.registry_values.specs.Common.{has_number, slot_of, slot_at}
+use Rattle.protocol.specs.Types.{Change, Entry, Slot, Live, Retired, Vacant}
 use Rattle.protocol.proofs.slots.Occupied.{slot_has}
 use Rattle.protocol.proofs.Either.{either}
 

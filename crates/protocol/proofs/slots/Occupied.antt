@@ -5,17 +5,10 @@ use Rattle.std.proofs.lemmas.Option.{slice_get_within}
 use Rattle.std.proofs.lemmas.List.Quantifiers.{position-Some}
 use Rattle.std.proofs.lemmas.List.Recursion.{is_position_or_len}
 use Rattle.std.proofs.lemmas.Bool.{cases_lt, cases_eq, eqb-true, eq-eqb, cond_below}
-use Rattle.registry_values.specs.declared.entry.Entry.{Entry}
-use Rattle.registry_values.specs.declared.entry.Change.{Change}
-use Rattle.registry_values.specs.declared.entry.Change.TheVariants.{Attach}
-use Rattle.registry_values.specs.declared.slot.Slot.{Slot}
-use Rattle.registry_values.specs.declared.slot.Slot.TheVariants.{Vacant, Live, Retired}
-use Rattle.protocol.specs.declared.state.Due.{Due}
-use Rattle.protocol.specs.declared.state.Due.TheVariants.{Rest, Snapshots, Adding, Subtracting}
-use Rattle.protocol.specs.History.{IsAttached, change_at}
-use Rattle.registry_values.specs.Slots.{slot_at, has_number, slot_of, is_vacant, is_retired}
-use Rattle.protocol.specs.State.{at_rest}
-use Rattle.protocol.specs.Invariant.{IsIn, Occupies, SlotsShow}
+use Rattle.protocol.specs.Types.{Entry, Change, Attach, Slot, Vacant, Live, Retired}
+use Rattle.protocol.specs.Common.{Due, Rest, Snapshots, Adding, Subtracting, IsAttached, at_rest, IsIn, Occupies, SlotsShow}
+use Rattle.protocol.specs.History.{change_at}
+use Rattle.registry_values.specs.Common.{slot_at, has_number, slot_of, is_vacant, is_retired}
 use Rattle.protocol.proofs.Either.{either}
 
 -- a place of a list after one is written

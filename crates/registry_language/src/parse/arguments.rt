@@ -3,7 +3,7 @@
 ghost use Rattle.std.specs.Prelude.{◌≡◌, IfOk, IsTrue, map, ◌<◌, ◌≤◌};
 ghost use Rattle.registry_language.specs.Grammar.{cpu_of, kind_from_text, name_if, turns_of, label_of, cpu_label_of, cpu_label_words};
 ghost use Rattle.registry_language.specs.Program.{is_label, are_turns};
-ghost use Rattle.registry_values.specs.Names.{name_of_bytes, is_lawful};
+ghost use Rattle.registry_values.specs.Common.{name_of_bytes, is_lawful};
 
 use crate::fault::Cause;
 use crate::label::Label;

@@ -3,7 +3,7 @@
 ghost use Rattle.std.specs.Prelude.{◌≡◌, IfOk, IsTrue, map};
 ghost use Rattle.registry_language.specs.Grammar.{fit_command, domain_of, limits_of, limits_words};
 ghost use Rattle.registry_language.specs.Program.{settings_for, with_limits, may_follow};
-ghost use Rattle.registry_values.specs.Limits.{are_fit};
+ghost use Rattle.registry_values.specs.Common.{are_fit};
 
 use crate::command::Command;
 use crate::fault::Cause;

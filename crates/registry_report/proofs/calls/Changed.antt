@@ -3,46 +3,19 @@ use Rattle.std.proofs.Common.{◌≡◌, ℕ, suc, ◌<◌, inl, inr, List, leng
 use Rattle.std.specs.Prelude.{IsTrue, if◌then◌else◌, not, Result, Ok, Err}
 use Rattle.std.proofs.lemmas.Bool.{cases_eq, not-false}
 use Rattle.std.proofs.lemmas.List.{set-set}
-use Rattle.registry_values.specs.declared.entry.Entry.{Entry}
-use Rattle.registry_values.specs.declared.entry.Record.{Record}
-use Rattle.registry_values.specs.declared.entry.Change.{Change}
-use Rattle.registry_values.specs.declared.entry.Change.TheVariants.{Detach}
-use Rattle.registry_values.specs.declared.refusal.Refusal.{Refusal}
-use Rattle.registry_values.specs.declared.refusal.Refusal.TheVariants.{NoMemory, NotFound, Inside}
-use Rattle.registry_values.specs.declared.slot.Key.{Key}
-use Rattle.protocol.specs.declared.state.LocalPlace.TheVariants.{Standing}
-use Rattle.registry_values.specs.declared.mark.Mark.{Mark}
-use Rattle.registry_values.specs.declared.slot.Slot.TheVariants.{Vacant, Live, Retired}
+use Rattle.registry_report.specs.Types.{Entry, Record, Change, Detach, Refusal, NoMemory, NotFound, Inside, Key, Standing, Mark, Vacant, Live, Retired, MOST_CPUS}
 use Rattle.passive_core.specs.Attaching as core
-use Rattle.passive_core.specs.Attaching.{IsAnswer, after_attach, after_attach_iface}
-use Rattle.passive_core.specs.Commands.{all_seated}
-use Rattle.passive_core.specs.Detaching.{IsDetachAnswer, IsDetachRefusal, IsLookupNow, after_detach, with_all_snapshots, snapshot_row}
+use Rattle.passive_core.specs.Common.{IsAnswer, after_attach, after_attach_iface, all_seated, IsDetachAnswer, IsDetachRefusal, IsLookupNow, after_detach, with_all_snapshots, snapshot_row}
 use Rattle.protocol.specs.Events as events
-use Rattle.protocol.specs.Events.{after_seeing, with_retired, with_link_past}
-use Rattle.protocol.specs.History.{EndsAt, after_change}
-use Rattle.protocol.specs.Invariant.{Holds, IsIn, SlotsShow}
-use Rattle.protocol.specs.Model.{put}
-use Rattle.registry_values.specs.Names.{is_lawful}
-use Rattle.protocol.specs.Picture.{number_in, passive_in}
-use Rattle.registry_values.specs.Slots.{is_iface, slot_before, slot_of, slot_at}
-use Rattle.protocol.specs.State.{State, local_at}
+use Rattle.protocol.specs.Common.{after_seeing, with_retired, with_link_past, EndsAt, after_change, Holds, IsIn, SlotsShow, put, number_in, passive_in, State, local_at}
+use Rattle.registry_values.specs.Common.{is_lawful, is_iface, slot_before, slot_of, slot_at, no_mark, found_answer}
 use Rattle.registry_values.proofs.Answers.{attach_tells}
-use Rattle.registry_values.specs.Marks.{no_mark}
 use Rattle.passive_core.proofs.Attaching.{given_tells, first_fit_tells, seated_keeps, iface_links}
 use Rattle.protocol.proofs.history.History.{at_within}
 use Rattle.protocol.proofs.slots.Occupied.{is_vacant_tells, in_other, in_unpublished, in_within, in_written, live_one}
 use Rattle.protocol.proofs.model.Picturing.{unwritten}
 use Rattle.protocol.proofs.model.RefiningEntries.{passive_moved}
-use Rattle.registry_values.specs.Answers.{found_answer}
-use Rattle.registry_values.specs.declared.settings.TheConstants.{MOST_CPUS}
-use Rattle.registry_report.specs.Answers.{attach_answer, attach_iface_answer, detach_answer, command_answer, lookup_now, plug_answer, with_label}
-use Rattle.registry_report.specs.declared.hitch.Hitch.{Hitch}
-use Rattle.registry_report.specs.declared.hitch.Hitch.TheVariants.{Refused}
-use Rattle.registry_report.specs.Given.{Gives, Leaves}
-use Rattle.registry_report.specs.Registry.{Registry}
-use Rattle.registry_report.specs.Session.{SessionState, with_core, IsSession}
-use Rattle.registry_report.specs.Shows.{Shows, ShowsModel, SnapshotsFollow, number_at}
-use Rattle.registry_report.specs.Turns.{after_plug, with_attached, with_detached, with_reference_kept, on_ok, on_some, with_attached_iface}
+use Rattle.registry_report.specs.Common.{attach_answer, attach_iface_answer, detach_answer, command_answer, lookup_now, plug_answer, with_label, Hitch, Refused, Gives, Leaves, Registry, SessionState, with_core, IsSession, Shows, ShowsModel, SnapshotsFollow, number_at, after_plug, with_attached, with_detached, with_reference_kept, on_ok, on_some, with_attached_iface}
 use Rattle.registry_report.proofs.shows.Attached.{attach_answers, attach_iface_answers, keeping_shows, linked_shows, now_is}
 use Rattle.registry_report.proofs.calls.Giving.{gives, leaves}
 use Rattle.registry_report.proofs.shows.Published.{detach_counts, detach_follows, retired_tallies}

@@ -1,34 +1,16 @@
 -- What a call of a session gave and left, from what the core's call did: `v` is the session as its callers see it, `k` the core afterwards.
 use Rattle.std.proofs.Common.{◌≡◌, ℕ, ◌<◌, Option, Bool, true, refl, sym, ap, subst, ◌∙◌}
 use Rattle.std.specs.Prelude.{IfOk, Result, Ok, Err}
-use Rattle.registry_values.specs.declared.entry.Entry.{Entry}
-use Rattle.registry_values.specs.declared.entry.Record.{Record}
-use Rattle.registry_values.specs.declared.refusal.Refusal.{Refusal}
-use Rattle.registry_values.specs.declared.stage.Stage.{Stage}
-use Rattle.registry_values.specs.declared.slot.Key.{Key}
-use Rattle.registry_values.specs.declared.slot.Slot.TheVariants.{Live}
+use Rattle.registry_report.specs.Types.{Entry, Record, Refusal, Stage, Key, Live}
 use Rattle.passive_core.specs.Advancing as advancing
-use Rattle.passive_core.specs.Advancing.{AdvanceLeaves, DestroyLeaves}
+use Rattle.passive_core.specs.Common.{AdvanceLeaves, DestroyLeaves, IsAnswer, after_attach, IsDetachAnswer, IsLookupNow, after_detach, all_seated, after_enter_command, after_exit_command, after_find, PerformLeaves}
 use Rattle.passive_core.specs.Attaching as attaching
-use Rattle.passive_core.specs.Attaching.{IsAnswer, after_attach}
-use Rattle.passive_core.specs.Detaching.{IsDetachAnswer, IsLookupNow, after_detach}
-use Rattle.passive_core.specs.Commands.{all_seated}
 use Rattle.passive_core.specs.Entering as entering
-use Rattle.passive_core.specs.Entering.{after_enter_command, after_exit_command}
 use Rattle.protocol.specs.Events as events
-use Rattle.passive_core.specs.Finding.{after_find}
-use Rattle.protocol.specs.Invariant.{Holds}
+use Rattle.protocol.specs.Common.{Holds, State}
 use Rattle.passive_core.specs.Performing as performing
-use Rattle.passive_core.specs.Performing.{PerformLeaves}
-use Rattle.protocol.specs.State.{State}
-use Rattle.registry_values.specs.Slots.{slot_at}
-use Rattle.registry_report.specs.declared.hitch.Hitch.{Hitch}
-use Rattle.registry_report.specs.Answers.{advance_answer, attach_answer, destroy_answer, detach_answer, enter_answer, exit_answer, find_answer, command_answer, perform_answer}
-use Rattle.registry_report.specs.Given.{Gives, Leaves}
-use Rattle.registry_report.specs.Registry.{Registry}
-use Rattle.registry_report.specs.Session.{SessionState, with_core, IsSession}
-use Rattle.registry_report.specs.Shows.{Shows}
-use Rattle.registry_report.specs.Turns.{after_advance, after_destroy, with_attached, with_detached, with_section_entered, with_section_exited, with_found, on_ok}
+use Rattle.registry_values.specs.Common.{slot_at}
+use Rattle.registry_report.specs.Common.{Hitch, advance_answer, attach_answer, destroy_answer, detach_answer, enter_answer, exit_answer, find_answer, command_answer, perform_answer, Gives, Leaves, Registry, SessionState, with_core, IsSession, Shows, after_advance, after_destroy, with_attached, with_detached, with_section_entered, with_section_exited, with_found, on_ok}
 use Rattle.registry_report.proofs.calls.Changed.{attach_done, detach_done}
 use Rattle.registry_report.proofs.calls.Giving.{gives, leaves}
 use Rattle.registry_report.proofs.calls.Sessions.{detached_locals}

@@ -2,33 +2,14 @@
 use Rattle.std.proofs.Common.{◌≡◌, ℕ, ◌<◌, get_or, set, Option, Some, None, Bool, true, false, nat_lt, refl, sym, ap, subst, ◌∙◌, arith}
 use Rattle.std.proofs.lemmas.Option.{same_Some}
 use Rattle.std.specs.Prelude.{[], is_ok, IsErr, IsErrAnd, IsTrue, Result, Ok, Err}
-use Rattle.registry_values.specs.declared.entry.Entry.{Entry}
-use Rattle.registry_values.specs.declared.entry.Record.{Record}
-use Rattle.passive_core.specs.declared.psref.CorePsref.{CorePsref}
-use Rattle.registry_values.specs.declared.refusal.Refusal.{Refusal}
-use Rattle.registry_values.specs.declared.refusal.Refusal.TheVariants.{NoMemory}
-use Rattle.protocol.specs.declared.state.LocalPlace.TheVariants.{Standing}
+use Rattle.registry_report.specs.Types.{Entry, Record, CorePsref, Refusal, NoMemory, Standing}
 use Rattle.passive_core.specs.Attaching as attaching
-use Rattle.passive_core.specs.Attaching.{IsAnswer, after_attach_iface}
-use Rattle.passive_core.specs.Commands.{all_seated}
-use Rattle.protocol.specs.Events.{least_id, number_standing, with_local}
-use Rattle.protocol.specs.Invariant.{Holds}
-use Rattle.passive_core.specs.Locals.{IsCounted, after_acquire_local, after_counting, with_count_more, after_release_local, count_refusal}
-use Rattle.registry_values.specs.Names.{is_lawful}
+use Rattle.passive_core.specs.Common.{IsAnswer, after_attach_iface, all_seated, IsCounted, after_acquire_local, after_counting, with_count_more, after_release_local, count_refusal, IsRecordOf, psref_to_found, psref_copy, passive_of, refusal_of}
+use Rattle.protocol.specs.Common.{least_id, number_standing, with_local, Holds, State, found_at, local_at}
+use Rattle.registry_values.specs.Common.{is_lawful, Answers, is_iface}
 use Rattle.passive_core.specs.Passives as core
-use Rattle.registry_values.specs.Refusals.{Answers}
-use Rattle.passive_core.specs.Passives.{IsRecordOf, psref_to_found, psref_copy, passive_of, refusal_of}
-use Rattle.registry_values.specs.Slots.{is_iface}
-use Rattle.protocol.specs.State.{State, found_at, local_at}
 use Rattle.passive_core.proofs.Passives.{found_slot}
-use Rattle.registry_report.specs.declared.hitch.Hitch.{Hitch}
-use Rattle.registry_report.specs.declared.hitch.Hitch.TheVariants.{NoLabel, Refused}
-use Rattle.registry_report.specs.Answers.{copy_answer, count_answer, count_of_found, held_answer, command_answer, plug_answer, read_answer, reference_answer, release_answer, uncount_answer, with_label}
-use Rattle.registry_report.specs.Given.{Leaves}
-use Rattle.registry_report.specs.Registry.{Registry}
-use Rattle.registry_report.specs.Session.{SessionState, label_answer, with_core, IsSession}
-use Rattle.registry_report.specs.Shows.{Shows}
-use Rattle.registry_report.specs.Turns.{after_plug, with_one_counted, on_ok, on_some, with_attached_iface, with_reference, without_reference, with_one_uncounted}
+use Rattle.registry_report.specs.Common.{Hitch, NoLabel, Refused, copy_answer, count_answer, count_of_found, held_answer, command_answer, plug_answer, read_answer, reference_answer, release_answer, uncount_answer, with_label, Leaves, Registry, SessionState, label_answer, with_core, IsSession, Shows, after_plug, with_one_counted, on_ok, on_some, with_attached_iface, with_reference, without_reference, with_one_uncounted}
 use Rattle.registry_report.proofs.calls.Changed.{plug_done}
 use Rattle.registry_report.proofs.shows.Counted.{Counts, acquire_local_shows, count_error, label_is, label_none, refuses, release_local_shows, uncount_answers}
 use Rattle.registry_report.proofs.calls.Done.{Does, seen}

@@ -1,24 +1,11 @@
 -- The core refuses each command only as the command may be refused.
 use Rattle.std.proofs.Common.{◌≡◌, ℕ, Option, None, Some, Bool, true, false, inl, inr, refl, ap, ◌∙◌}
 use Rattle.std.specs.Prelude.{IfErr, Result, Ok, Err, if◌then◌else◌}
-use Rattle.registry_values.specs.declared.answer.Room.{Room}
-use Rattle.registry_values.specs.declared.entry.Entry.{Entry}
-use Rattle.registry_values.specs.declared.entry.Record.{Record}
-use Rattle.registry_values.specs.declared.refusal.Refusal.{Refusal}
-use Rattle.registry_values.specs.declared.stage.Stage.{Stage}
-use Rattle.registry_values.specs.declared.stage.Stage.TheVariants.{Grace}
-use Rattle.passive_core.specs.Advancing.{destroy_answer}
-use Rattle.registry_values.specs.Answers.{entry_in, wait_answer}
-use Rattle.registry_values.specs.Stages.{destroy_result, destroy_result_of, stage_in}
-use Rattle.passive_core.specs.Attaching.{IsAnswer, attach_answer, attach_iface_answer, given_entry}
-use Rattle.passive_core.specs.Entering.{enter_answer}
-use Rattle.passive_core.specs.Performing.{perform_answer}
-use Rattle.protocol.specs.State.{State}
-use Rattle.registry_report.specs.declared.hitch.Hitch.{Hitch}
-use Rattle.registry_report.specs.declared.hitch.Hitch.TheVariants.{Refused}
-use Rattle.registry_language.specs.declared.command.Command.{Command}
-use Rattle.registry_report.specs.Answers.{command_answer}
-use Rattle.registry_report.specs.Printed.{IsHitchOf, IsOfAttach, IsOfDestroy, IsOfEnter, IsOfPerform, MayHitch, MayWantMemory}
+use Rattle.registry_report.specs.Types.{Room, Entry, Record, Refusal, Stage, Grace, Command}
+use Rattle.passive_core.specs.Common.{destroy_answer, IsAnswer, attach_answer, attach_iface_answer, given_entry, enter_answer, perform_answer}
+use Rattle.registry_values.specs.Common.{entry_in, wait_answer, destroy_result, destroy_result_of, stage_in}
+use Rattle.protocol.specs.Common.{State}
+use Rattle.registry_report.specs.Common.{Hitch, Refused, command_answer, IsHitchOf, IsOfAttach, IsOfDestroy, IsOfEnter, IsOfPerform, MayHitch, MayWantMemory}
 
 -- a refusal by a test
 if_refused : {X : Type 0} (P : Refusal → Type 0) (b : Bool) (x y : Result X Refusal) → IfErr x P → IfErr y P → IfErr (if b then x else y) P

@@ -2,21 +2,14 @@
 use Rattle.std.proofs.Common.{◌≡◌, ℕ, ◌<◌, ◌⊎◌, inl, inr, zero, suc, List, length, replicate, Bool, true, false, Option, Some, None, if◌then◌else◌, refl, sym, ap, ◌∙◌, arith, length-set, get_or-set_same, get_or-set_other, Ok}
 use Rattle.std.specs.Prelude.{is_some, slice_index_or, slice_set}
 use Rattle.std.proofs.lemmas.Bool.{cases_eq}
-use Rattle.registry_values.specs.declared.entry.Entry.{Entry}
-use Rattle.protocol.specs.declared.state.LocalPlace.{LocalPlace}
-use Rattle.protocol.specs.declared.state.LocalPlace.TheVariants.{Free, Standing}
-use Rattle.protocol.specs.State.{at_rest, State, found_at, local_at}
-use Rattle.registry_values.specs.Slots.{slot_before}
-use Rattle.passive_core.specs.Commands.{IsQuiet, all_seated, may_act}
-use Rattle.passive_core.specs.Detaching.{with_detached}
-use Rattle.passive_core.specs.Entering.{with_depth}
-use Rattle.protocol.specs.Events.{after_exit, least_id, number_standing, with_link_past, with_local}
-use Rattle.protocol.specs.Invariant.{Holds}
-use Rattle.passive_core.specs.Locals.{after_counting, count_refusal, is_live_local, local_slot, with_count_less, with_total_less}
+use Rattle.registry_report.specs.Types.{Entry, LocalPlace, Free, Standing}
+use Rattle.protocol.specs.Common.{at_rest, State, found_at, local_at, after_exit, least_id, number_standing, with_link_past, with_local, Holds}
+use Rattle.registry_values.specs.Common.{slot_before}
+use Rattle.passive_core.specs.Common.{IsQuiet, all_seated, may_act, with_detached, with_depth, after_counting, count_refusal, is_live_local, local_slot, with_count_less, with_total_less}
 use Rattle.passive_core.proofs.Locals.{live_slot, slot_is}
 use Rattle.passive_core.proofs.Passives.{found_slot}
 use Rattle.protocol.proofs.keeps.References.{least_free, least_stays, least_within, with_local_same}
-use Rattle.registry_report.specs.Session.{SessionState, IsSession, label_answer}
+use Rattle.registry_report.specs.Common.{SessionState, IsSession, label_answer}
 use Rattle.protocol.proofs.Either.{either}
 
 -- What the core's commands leave of the places of local references

@@ -1,25 +1,13 @@
 -- The commands on sections and lookups: what they give and leave.
 use Rattle.std.proofs.Common.{◌≡◌, ℕ, ◌<◌, Option, None, Bool, true, false, not, is_some, sym, ap, subst, ◌∙◌}
 use Rattle.std.specs.Prelude.{if◌then◌else◌, ◌==◌, Result, Ok, Err}
-use Rattle.registry_values.specs.declared.entry.Entry.{Entry}
-use Rattle.registry_values.specs.declared.refusal.Refusal.{Refusal}
-use Rattle.registry_values.specs.declared.slot.Key.{Key}
-use Rattle.passive_core.specs.Commands.{all_seated}
-use Rattle.passive_core.specs.Detaching.{IsLookupNow}
+use Rattle.registry_report.specs.Types.{Entry, Refusal, Key}
+use Rattle.passive_core.specs.Common.{all_seated, IsLookupNow, after_enter_command, after_exit_command, after_find}
 use Rattle.passive_core.specs.Entering as core
-use Rattle.passive_core.specs.Entering.{after_enter_command, after_exit_command}
 use Rattle.protocol.specs.Events as events
-use Rattle.passive_core.specs.Finding.{after_find}
-use Rattle.protocol.specs.Invariant.{Holds}
+use Rattle.protocol.specs.Common.{Holds}
 use Rattle.protocol.proofs.model.Picturing.{put_here}
-use Rattle.registry_report.specs.declared.hitch.Hitch.{Hitch}
-use Rattle.registry_report.specs.declared.hitch.Hitch.TheVariants.{NotInside}
-use Rattle.registry_report.specs.Answers.{enter_answer, exit_answer, find_answer, command_answer, is_inside, lookup_now}
-use Rattle.registry_report.specs.Given.{Gives, Leaves}
-use Rattle.registry_report.specs.Registry.{Registry}
-use Rattle.registry_report.specs.Session.{SessionState, with_core}
-use Rattle.registry_report.specs.Shows.{Shows}
-use Rattle.registry_report.specs.Turns.{with_section_entered, with_section_exited, with_found, on_ok}
+use Rattle.registry_report.specs.Common.{Hitch, NotInside, enter_answer, exit_answer, find_answer, command_answer, is_inside, lookup_now, Gives, Leaves, Registry, SessionState, with_core, Shows, with_section_entered, with_section_exited, with_found, on_ok}
 use Rattle.registry_report.proofs.shows.Attached.{now_is}
 use Rattle.registry_report.proofs.calls.Giving.{gives, leaves}
 use Rattle.registry_report.proofs.shows.Sectioned.{enter_answers, enter_shows, exit_shows, found_shows, inside_is}

@@ -3,30 +3,14 @@ use Rattle.std.proofs.Common.{◌≡◌, ℕ, suc, ◌-◌, ◌<◌, inl, inr, L
 use Rattle.std.specs.Prelude.{not}
 use Rattle.std.specs.List.{list_any, zip}
 use Rattle.std.proofs.lemmas.Slice.Zip.{length-zip, get_or-zip}
-use Rattle.registry_values.specs.declared.entry.Entry.{Entry}
-use Rattle.registry_values.specs.declared.entry.Record.{Record}
-use Rattle.registry_values.specs.declared.entry.Change.{Change}
-use Rattle.registry_values.specs.declared.entry.Change.TheVariants.{Attach}
-use Rattle.registry_values.specs.declared.slot.Key.{Key}
-use Rattle.protocol.specs.declared.state.LocalPlace.{LocalPlace}
-use Rattle.protocol.specs.declared.state.LocalPlace.TheVariants.{Free, Standing}
-use Rattle.registry_values.specs.declared.slot.Slot.{Slot}
-use Rattle.registry_values.specs.declared.slot.Slot.TheVariants.{Vacant, Live}
-use Rattle.registry_values.specs.declared.settings.Settings.{Settings}
+use Rattle.registry_report.specs.Types.{Entry, Record, Change, Attach, Key, LocalPlace, Free, Standing, Slot, Vacant, Live, Settings}
 use Rattle.registry_values.specs.Answers as answers
-use Rattle.registry_values.specs.Marks.{least_below}
+use Rattle.registry_values.specs.Common.{least_below, key_of_record, is_vacant, is_iface, is_live_as, is_taken, live_count, slot_of, slot_at}
 use Rattle.passive_core.specs.Attaching as core
 use Rattle.registry_values.specs.Slots as values
-use Rattle.registry_values.specs.Slots.{key_of_record, is_vacant, is_iface, is_live_as, is_taken, live_count, slot_of, slot_at}
-use Rattle.passive_core.specs.Attaching.{with_linked}
-use Rattle.passive_core.specs.Commands.{all_seated}
-use Rattle.passive_core.specs.Detaching.{IsLookupNow}
+use Rattle.passive_core.specs.Common.{with_linked, all_seated, IsLookupNow}
 use Rattle.protocol.specs.Events as events
-use Rattle.protocol.specs.History.{after_change}
-use Rattle.protocol.specs.Invariant.{Holds, IsIn, Occupies, SlotsShow, standing_of}
-use Rattle.protocol.specs.Model.{put}
-use Rattle.protocol.specs.Picture.{number_in, passive_in}
-use Rattle.protocol.specs.State.{State, local_at, kept_at, passive_at}
+use Rattle.protocol.specs.Common.{after_change, Holds, IsIn, Occupies, SlotsShow, standing_of, put, number_in, passive_in, State, local_at, kept_at, passive_at}
 use Rattle.registry_values.proofs.Slots.{live_tells}
 use Rattle.registry_values.proofs.Fit.{ranges}
 use Rattle.protocol.proofs.keeps.ListKeeps.{taken_from}
@@ -35,12 +19,7 @@ use Rattle.protocol.proofs.model.Picturing.{put_is}
 use Rattle.protocol.proofs.counts.Sums.{local_changed, none_at, one_at, standing_within}
 use Rattle.protocol.proofs.model.RefiningEntries.{passive_moved}
 use Rattle.registry_values.proofs.Least.{least_agrees}
-use Rattle.registry_report.specs.Changes.{lookup, live_entries, is_driver_entry, is_driver_number}
-use Rattle.registry_report.specs.Answers.{attach_iface_answer, is_available, lookup_now, first_fit, room_of, given_entry, attach_answer}
-use Rattle.registry_report.specs.Registry.{Registry}
-use Rattle.registry_report.specs.Session.{SessionState, with_core, IsSession}
-use Rattle.registry_report.specs.Shows.{Shows, number_at}
-use Rattle.registry_report.specs.Turns.{with_attached, with_reference_kept}
+use Rattle.registry_report.specs.Common.{lookup, live_entries, is_driver_entry, is_driver_number, attach_iface_answer, is_available, lookup_now, first_fit, room_of, given_entry, attach_answer, Registry, SessionState, with_core, IsSession, Shows, number_at, with_attached, with_reference_kept}
 use Rattle.registry_report.proofs.Below.{position_is}
 use Rattle.registry_report.proofs.Lookups.{entry_is, lookup_is, one_lookup}
 use Rattle.registry_report.proofs.shows.Published.{published_tallies, attach_counts, attach_follows}

@@ -3,23 +3,15 @@ use Rattle.std.proofs.Common.{◌≡◌, ℕ, zero, suc, ◌<◌, ◌≤◌, inl
 use Rattle.std.specs.Prelude.{if◌then◌else◌}
 use Rattle.std.proofs.lemmas.Int.{ints}
 use Rattle.std.proofs.lemmas.List.{map_more}
-use Rattle.registry_values.specs.declared.entry.Entry.{Entry}
-use Rattle.registry_values.specs.declared.slot.Slot.{Slot}
-use Rattle.registry_values.specs.declared.slot.Slot.TheVariants.{Vacant, Live, Retired}
+use Rattle.registry_report.specs.Types.{Entry, Slot, Vacant, Live, Retired}
 use Rattle.passive_core.specs.Audits as core
-use Rattle.registry_values.specs.Balances.{Tally, less_bias, local_of}
-use Rattle.passive_core.specs.Audits.{audit_of}
-use Rattle.protocol.specs.Invariant.{IsIn, addition_due_at, is_adding_at}
-use Rattle.protocol.specs.Picture.{number_in}
-use Rattle.protocol.specs.State.{count_at, total_at}
-use Rattle.registry_values.specs.Slots.{slot_at}
+use Rattle.registry_values.specs.Common.{Tally, less_bias, local_of, slot_at}
+use Rattle.passive_core.specs.Common.{audit_of}
+use Rattle.protocol.specs.Common.{IsIn, addition_due_at, is_adding_at, number_in, count_at, total_at}
 use Rattle.passive_core.proofs.Audits.{rightly, row_long}
 use Rattle.protocol.proofs.slots.Occupied.{at_rest_tells}
 use Rattle.protocol.proofs.counts.Sums.{words-at-zero}
-use Rattle.registry_report.specs.Answers.{audit_answer, held_count, list_below, net_count, tallies_below, tallies_in, tally_of}
-use Rattle.registry_report.specs.Registry.{Registry}
-use Rattle.registry_report.specs.Session.{IsSession, SessionState}
-use Rattle.registry_report.specs.Shows.{Shows}
+use Rattle.registry_report.specs.Common.{audit_answer, held_count, list_below, net_count, tallies_below, tallies_in, tally_of, Registry, IsSession, SessionState, Shows}
 use Rattle.registry_report.proofs.shows.Staged.{held_is}
 
 -- a list of what is below a bound is what a row's first words say

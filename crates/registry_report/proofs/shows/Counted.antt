@@ -1,21 +1,12 @@
 -- Local references: the registry that the session shows answers and changes as the core does.
 use Rattle.std.proofs.Common.{◌≡◌, ℕ, ◌+◌, ◌-◌, ◌<◌, ◌≤◌, ◌⊎◌, inl, inr, List, [], length, get_or, set, get_or-set_same, get_or-set_other, Option, Some, None, Bool, true, false, not, is_some, nat_lt, refl, sym, ap, subst, ◌∙◌, arith, sum_by}
 use Rattle.std.specs.Prelude.{if◌then◌else◌, Result, Ok, Err}
-use Rattle.std.proofs.lemmas.Bool.{cases_Bool, cases_eq, cases_lt, lt-ltb, le-ltb}
+use Rattle.std.proofs.lemmas.Bool.{cases_Bool, cases_eq, lt-ltb, le-ltb}
 use Rattle.std.proofs.lemmas.Option.{none-some}
-use Rattle.registry_values.specs.declared.entry.Entry.{Entry}
-use Rattle.registry_values.specs.declared.refusal.Refusal.{Refusal}
-use Rattle.registry_values.specs.declared.refusal.Refusal.TheVariants.{LocalFull, NoMemory, NothingFound}
-use Rattle.protocol.specs.declared.state.LocalPlace.{LocalPlace}
-use Rattle.protocol.specs.declared.state.LocalPlace.TheVariants.{Free, Standing}
-use Rattle.protocol.specs.State.{State, count_at, found_at, local_at, total_at, with_cell}
-use Rattle.registry_values.specs.Balances.{bias}
-use Rattle.registry_values.specs.Slots.{slot_at, slot_of}
-use Rattle.passive_core.specs.Commands.{all_seated}
-use Rattle.protocol.specs.Events.{least_id, number_standing, with_local}
-use Rattle.protocol.specs.Invariant.{Holds, IsIn, SlotsShow, standing_of}
-use Rattle.passive_core.specs.Locals.{IsCounted, after_acquire_local, after_counting, after_release_local, count_in, count_refusal, is_counting, local_slot, with_count_less, with_count_more, with_total_less}
-use Rattle.protocol.specs.Model.{put, with_locals}
+use Rattle.registry_report.specs.Types.{Entry, Refusal, NoMemory, NothingFound, LocalPlace, Free, Standing}
+use Rattle.protocol.specs.Common.{State, count_at, found_at, local_at, total_at, with_cell, least_id, number_standing, with_local, Holds, IsIn, SlotsShow, standing_of, put, with_locals}
+use Rattle.registry_values.specs.Common.{bias, slot_at, slot_of}
+use Rattle.passive_core.specs.Common.{all_seated, IsCounted, after_acquire_local, after_counting, after_release_local, count_in, count_refusal, is_counting, local_slot, with_count_less, with_count_more, with_total_less}
 use Rattle.protocol.proofs.slots.Cells.{by_cell, cell_here, cell_other, one_in}
 use Rattle.protocol.proofs.keeps.CountKeeps.{held_counting}
 use Rattle.registry_values.proofs.Answers.{uncounted_alike}
@@ -29,11 +20,7 @@ use Rattle.protocol.proofs.model.Picturing.{put_here, put_is, put_other}
 use Rattle.protocol.proofs.keeps.References.{least_free, least_within, standing_tells, with_local_other, with_local_same}
 use Rattle.protocol.proofs.counts.Sums.{local_added, local_changed, none_at, one_at, standing_within}
 use Rattle.registry_values.specs.Answers as answers
-use Rattle.registry_report.specs.Answers.{count_of_found, uncount_answer, unless, why_uncounted, with_label}
-use Rattle.registry_report.specs.Registry.{Registry}
-use Rattle.registry_report.specs.Session.{IsSession, SessionState}
-use Rattle.registry_report.specs.Shows.{Shows, ShowsTallies, number_at}
-use Rattle.registry_report.specs.Turns.{with_one_counted, put_at, with_one_uncounted}
+use Rattle.registry_report.specs.Common.{count_of_found, uncount_answer, unless, why_uncounted, with_label, Registry, IsSession, SessionState, Shows, ShowsTallies, number_at, with_one_counted, put_at, with_one_uncounted}
 use Rattle.protocol.proofs.Either.{either}
 
 -- In general

@@ -1,20 +1,13 @@
 -- A session that begins shows the registry that a script begins with.
 use Rattle.std.proofs.Common.{◌≡◌, ℕ, [], replicate, Option, Some, None, is_some, refl, sym, ap, subst, ◌∙◌, arith}
 use Rattle.std.proofs.lemmas.Option.{none-some}
-use Rattle.registry_values.specs.declared.entry.Entry.{Entry}
-use Rattle.registry_values.specs.declared.settings.Settings.{Settings}
-use Rattle.registry_values.specs.declared.slot.Slot.TheVariants.{Vacant}
-use Rattle.protocol.specs.Invariant.{IsIn, one_if}
-use Rattle.protocol.specs.Picture.{number_in, passive_in}
-use Rattle.registry_values.specs.Slots.{slot_of, slot_at}
-use Rattle.registry_values.specs.declared.settings.TheConstants.{MOST_CPUS}
-use Rattle.protocol.specs.State.{opening}
+use Rattle.registry_report.specs.Types.{Entry, Settings, Vacant, MOST_CPUS}
+use Rattle.protocol.specs.Common.{IsIn, one_if, number_in, passive_in, opening}
+use Rattle.registry_values.specs.Common.{slot_of, slot_at}
 use Rattle.protocol.proofs.slots.Cells.{get_or_all}
 use Rattle.protocol.proofs.keeps.MarkKeeps.{none_live}
 use Rattle.protocol.proofs.slots.Occupied.{not_vacant, slot_has}
-use Rattle.registry_report.specs.Registry.{opening_registry}
-use Rattle.registry_report.specs.Session.{SessionState, without_labels}
-use Rattle.registry_report.specs.Shows.{Shows, number_at}
+use Rattle.registry_report.specs.Common.{opening_registry, SessionState, without_labels, Shows, number_at}
 
 -- no slot is occupied
 vacant_at : (n t : ℕ) → slot_at (replicate n Vacant) t ≡ Vacant

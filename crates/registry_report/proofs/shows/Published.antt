@@ -3,25 +3,14 @@ use Rattle.std.proofs.Common.{◌≡◌, ℕ, suc, ◌+◌, ◌<◌, ◌≤◌, 
 use Rattle.std.specs.Prelude.{not}
 use Rattle.std.proofs.lemmas.List.{get_or-replicate, get_or_append_left, length-replicate}
 use Rattle.std.proofs.lemmas.List.Sums.{sum_by-append}
-use Rattle.registry_values.specs.declared.entry.Entry.{Entry}
-use Rattle.registry_values.specs.declared.entry.Change.{Change}
-use Rattle.registry_values.specs.declared.entry.Change.TheVariants.{Attach, Detach}
-use Rattle.registry_values.specs.declared.mark.Mark.{Mark}
-use Rattle.registry_values.specs.declared.slot.Slot.{Slot}
-use Rattle.registry_values.specs.declared.slot.Slot.TheVariants.{Vacant, Live, Retired}
-use Rattle.protocol.specs.State.{with_biases, count_at, total_at}
-use Rattle.protocol.specs.History.{EndsAt, after_change}
-use Rattle.protocol.specs.Invariant.{IsIn}
-use Rattle.registry_values.specs.Balances.{bias}
-use Rattle.registry_values.specs.Marks.{no_mark}
-use Rattle.registry_values.specs.Slots.{slot_at}
-use Rattle.registry_values.specs.declared.settings.TheConstants.{MOST_CPUS}
+use Rattle.registry_report.specs.Types.{Entry, Change, Attach, Detach, Mark, Slot, Vacant, Live, Retired, MOST_CPUS}
+use Rattle.protocol.specs.Common.{with_biases, count_at, total_at, EndsAt, after_change, IsIn}
+use Rattle.registry_values.specs.Common.{bias, no_mark, slot_at}
 use Rattle.protocol.proofs.slots.Cells.{cell_in_new, cell_in_old}
 use Rattle.protocol.proofs.history.History.{at_cases, length-after_change}
 use Rattle.protocol.proofs.keeps.ListKeeps.{live_count_put}
 use Rattle.protocol.proofs.slots.Occupied.{in_published, in_unpublished, not_vacant, slot_cases}
-use Rattle.registry_report.specs.Changes.{is_attach}
-use Rattle.registry_report.specs.Shows.{CountsLive, IsFresh, ShowsTallies, SnapshotsFollow}
+use Rattle.registry_report.specs.Common.{is_attach, CountsLive, IsFresh, ShowsTallies, SnapshotsFollow}
 use Rattle.protocol.proofs.Either.{either}
 
 -- what stands in a slot is the new entry, or what stood there

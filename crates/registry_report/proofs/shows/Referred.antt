@@ -3,33 +3,13 @@ use Rattle.std.proofs.Common.{◌≡◌, ℕ, ◌+◌, ◌-◌, ◌<◌, List, l
 use Rattle.std.specs.Prelude.{if◌then◌else◌, ◌==◌, Result, Ok, Err}
 use Rattle.std.proofs.lemmas.Bool.{eq-eqb, or_left, or_right}
 use Rattle.std.proofs.lemmas.Option.{none-some}
-use Rattle.registry_values.specs.declared.entry.Entry.{Entry}
-use Rattle.registry_values.specs.declared.entry.Change.{Change}
-use Rattle.registry_values.specs.declared.entry.Record.{Record}
-use Rattle.passive_core.specs.declared.psref.CorePsref.{CorePsref}
-use Rattle.registry_values.specs.declared.refusal.Refusal.{Refusal}
-use Rattle.registry_values.specs.declared.refusal.Refusal.TheVariants.{NothingFound, PassiveFull, WrongCpu, NotHeld}
-use Rattle.protocol.specs.declared.state.LocalPlace.{LocalPlace}
-use Rattle.protocol.specs.State.{State, found_at, local_at}
-use Rattle.registry_values.specs.Slots.{slot_of}
-use Rattle.passive_core.specs.Commands.{IsQuiet, all_seated}
-use Rattle.protocol.specs.Events.{is_number, number_standing}
-use Rattle.protocol.specs.Invariant.{Holds}
-use Rattle.protocol.specs.Model.{put, with_passive}
-use Rattle.protocol.specs.Picture.{passive_in}
+use Rattle.registry_report.specs.Types.{Entry, Change, Record, CorePsref, Refusal, NothingFound, PassiveFull, WrongCpu, NotHeld, LocalPlace}
+use Rattle.protocol.specs.Common.{State, found_at, local_at, is_number, number_standing, Holds, put, with_passive, passive_in}
+use Rattle.registry_values.specs.Common.{slot_of, Answers}
+use Rattle.passive_core.specs.Common.{IsQuiet, all_seated, IsRecordOf, psref_to_found, psref_copy, passive_of, refusal_of, with_one_less, with_one_more}
 use Rattle.passive_core.specs.Passives as core
-use Rattle.registry_values.specs.Refusals.{Answers}
-use Rattle.passive_core.specs.Passives.{IsRecordOf, psref_to_found, psref_copy, passive_of, refusal_of, with_one_less, with_one_more}
 use Rattle.passive_core.proofs.Passives.{counted_less, counted_more}
-use Rattle.registry_report.specs.declared.hitch.Hitch.{Hitch}
-use Rattle.registry_report.specs.declared.hitch.Hitch.TheVariants.{LabelTaken}
-use Rattle.registry_report.specs.declared.session.Reading.{Reading}
-use Rattle.registry_report.specs.Answers.{acquire_answer, copy_answer, held_answer, command_answer, if_free, misuse, one_more, read_answer, reading_of, reference_answer, release_answer, unless, with_label}
-use Rattle.registry_report.specs.Changes.{value_in, value_of}
-use Rattle.registry_report.specs.Registry.{Registry}
-use Rattle.registry_report.specs.Session.{IsSession, SessionState, with_core}
-use Rattle.registry_report.specs.Shows.{Shows}
-use Rattle.registry_report.specs.Turns.{with_reference, without_reference}
+use Rattle.registry_report.specs.Common.{Hitch, LabelTaken, Reading, acquire_answer, copy_answer, held_answer, command_answer, if_free, misuse, one_more, read_answer, reading_of, reference_answer, release_answer, unless, with_label, value_in, value_of, Registry, IsSession, SessionState, with_core, Shows, with_reference, without_reference}
 use Rattle.registry_report.proofs.Lookups.{entry_is}
 use Rattle.registry_report.proofs.shows.Showing.{put_shows}
 

@@ -3,26 +3,13 @@ use Rattle.std.proofs.Common.{◌≡◌, ℕ, ◌+◌, ◌-◌, ◌*◌, ◌<◌
 use Rattle.std.specs.Prelude.{if◌then◌else◌, ◌==◌, Result, Ok, Err, is_ok}
 use Rattle.std.proofs.lemmas.Bool.{cases_eq}
 use Rattle.std.proofs.lemmas.Option.{none-some}
-use Rattle.registry_values.specs.declared.entry.Entry.{Entry}
-use Rattle.registry_values.specs.declared.entry.Change.{Change}
-use Rattle.registry_values.specs.declared.refusal.Refusal.{Refusal}
-use Rattle.registry_values.specs.declared.refusal.Refusal.TheVariants.{TooDeep, SectionsSpent}
-use Rattle.registry_values.specs.declared.mark.Mark.{Mark}
-use Rattle.registry_values.specs.declared.slot.Slot.{Slot}
-use Rattle.protocol.specs.State.{section_at, begin_at, depth_at, mark_at}
-use Rattle.passive_core.specs.Commands.{all_seated}
+use Rattle.registry_report.specs.Types.{Entry, Change, Refusal, TooDeep, SectionsSpent, Mark, Slot}
+use Rattle.protocol.specs.Common.{section_at, begin_at, depth_at, mark_at, Holds, MarksHold, one_if, put}
+use Rattle.passive_core.specs.Common.{all_seated, with_depth, after_enter_command, after_exit_command, after_find}
 use Rattle.passive_core.specs.Entering as core
-use Rattle.passive_core.specs.Entering.{with_depth, after_enter_command, after_exit_command}
 use Rattle.protocol.specs.Events as events
-use Rattle.passive_core.specs.Finding.{after_find}
-use Rattle.protocol.specs.Invariant.{Holds, MarksHold, one_if}
-use Rattle.protocol.specs.Model.{put}
 use Rattle.protocol.proofs.keeps.SectionKeeps.{some_from}
-use Rattle.registry_report.specs.Answers.{is_inside, enter_answer, may_begin}
-use Rattle.registry_report.specs.Registry.{Registry}
-use Rattle.registry_report.specs.Session.{SessionState, with_core}
-use Rattle.registry_report.specs.Shows.{Shows, SnapshotsFollow}
-use Rattle.registry_report.specs.Turns.{on_ok, with_section_entered, with_section_exited, with_section_begun, with_section_ended, with_found}
+use Rattle.registry_report.specs.Common.{is_inside, enter_answer, may_begin, Registry, SessionState, with_core, Shows, SnapshotsFollow, on_ok, with_section_entered, with_section_exited, with_section_begun, with_section_ended, with_found}
 use Rattle.protocol.proofs.slots.Cells.{by_place}
 use Rattle.protocol.proofs.model.Picturing.{put_here, put_other}
 use Rattle.registry_report.proofs.shows.Showing.{put_shows, twice_less}

@@ -1,7 +1,7 @@
 -- A list with another value in a place, and a function with the same one there.
 use Rattle.std.proofs.Common.{◌≡◌, ℕ, ◌*◌, ◌<◌, List, length, get_or, set, get_or-set_same, get_or-set_other, nat_lt, sym, ◌∙◌, arith}
 use Rattle.std.proofs.lemmas.Bool.{cases_lt, lt-ltb, le-ltb}
-use Rattle.protocol.specs.Model.{put}
+use Rattle.protocol.specs.Common.{put}
 use Rattle.protocol.proofs.model.Picturing.{put_is}
 use Rattle.protocol.proofs.Either.{either}
 

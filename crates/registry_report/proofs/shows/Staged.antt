@@ -3,34 +3,14 @@ use Rattle.std.proofs.Common.{◌≡◌, ℕ, zero, suc, ◌+◌, ◌<◌, ◌�
 use Rattle.std.specs.Prelude.{if◌then◌else◌, is_some, Result, Ok, Err}
 use Rattle.std.proofs.lemmas.Bool.{and_parts, cases_Bool, cases_eq, cases_lt, eq-eqb, ne_eqb, lt-ltb, le-ltb}
 use Rattle.std.proofs.lemmas.Option.{none-some}
-use Rattle.registry_values.specs.declared.entry.Entry.{Entry}
-use Rattle.registry_values.specs.declared.entry.Change.{Change}
-use Rattle.registry_values.specs.declared.entry.Change.TheVariants.{Attach, Detach}
-use Rattle.registry_values.specs.declared.refusal.Refusal.{Refusal}
-use Rattle.registry_values.specs.declared.refusal.Refusal.TheVariants.{Inside}
-use Rattle.registry_values.specs.declared.stage.Stage.{Stage}
-use Rattle.registry_values.specs.declared.stage.Stage.TheVariants.{Freed, Grace, Local, Passive}
-use Rattle.protocol.specs.declared.state.Hand.{Hand}
-use Rattle.protocol.specs.declared.state.Hand.TheVariants.{Empty}
-use Rattle.registry_values.specs.declared.mark.Mark.{Mark}
-use Rattle.registry_values.specs.declared.slot.Slot.{Slot}
-use Rattle.registry_values.specs.declared.slot.Slot.TheVariants.{Vacant, Live, Retired}
+use Rattle.registry_report.specs.Types.{Entry, Change, Attach, Detach, Refusal, Inside, Stage, Freed, Grace, Local, Passive, Hand, Empty, Mark, Slot, Vacant, Live, Retired}
 use Rattle.passive_core.specs.Advancing as core
-use Rattle.passive_core.specs.Advancing.{AdvanceLeaves, DestroyLeaves, LeavesFree, LeavesMarks, LeavesTotal, StageLeaves, is_open_since, is_snapshot}
-use Rattle.registry_values.specs.Answers.{wait_answer}
-use Rattle.protocol.specs.Marking.{MarksGrow, SameElsewhere}
-use Rattle.registry_values.specs.Stages.{destroy_result, destroy_result_of, stage_of}
+use Rattle.passive_core.specs.Common.{AdvanceLeaves, DestroyLeaves, LeavesFree, LeavesMarks, LeavesTotal, StageLeaves, is_open_since, is_snapshot, IsQuiet, all_seated, PerformLeaves}
+use Rattle.registry_values.specs.Common.{wait_answer, destroy_result, destroy_result_of, stage_of, is_retired_as, has_number, is_retired, slot_at, least_below, no_mark}
+use Rattle.protocol.specs.Common.{MarksGrow, SameElsewhere, Holds, IsIn, SlotsShow, held_at, in_hand, one_if, subtraction_due_at, put, number_in, passive_in, is_empty, State, begin_at, count_at, hand_at, kept_at, mark_at, passive_at, section_at, total_at}
 use Rattle.registry_values.specs.Slots as values
-use Rattle.registry_values.specs.Slots.{is_retired_as, has_number, is_retired, slot_at}
-use Rattle.registry_values.specs.Marks.{least_below, no_mark}
-use Rattle.passive_core.specs.Commands.{IsQuiet, all_seated}
 use Rattle.protocol.specs.Events as events
-use Rattle.protocol.specs.Invariant.{Holds, IsIn, SlotsShow, held_at, in_hand, one_if, subtraction_due_at}
-use Rattle.protocol.specs.Model.{put}
 use Rattle.passive_core.specs.Performing as performing
-use Rattle.passive_core.specs.Performing.{PerformLeaves}
-use Rattle.protocol.specs.Picture.{number_in, passive_in}
-use Rattle.protocol.specs.State.{is_empty, State, begin_at, count_at, hand_at, kept_at, mark_at, passive_at, section_at, total_at}
 use Rattle.registry_values.proofs.Least.{none_below, least_none, least_agrees}
 use Rattle.registry_values.proofs.Slots.{retired_slot_tells}
 use Rattle.protocol.proofs.slots.MarkRows.{snapshot_stands}
@@ -43,12 +23,7 @@ use Rattle.protocol.proofs.slots.Occupied.{at_rest_tells, attached_in, has_it, i
 use Rattle.protocol.proofs.model.Picturing.{put_here, put_is, put_other, unwritten}
 use Rattle.protocol.proofs.model.RefiningEntries.{passive_moved}
 use Rattle.protocol.proofs.keeps.Searching.{within_some}
-use Rattle.registry_report.specs.Answers.{advance_answer, count_below, destroy_answer, is_inside, perform_answer, has_passive, has_section, held_count, is_this, first_obstacle, retired_slot, stage_in}
-use Rattle.registry_report.specs.Changes.{end_of, has_ended, may_hold}
-use Rattle.registry_report.specs.Registry.{Registry}
-use Rattle.registry_report.specs.Session.{IsSession, SessionState, with_core}
-use Rattle.registry_report.specs.Shows.{CountsLive, Shows, ShowsModel, ShowsTallies, SnapshotsFollow}
-use Rattle.registry_report.specs.Turns.{after_advance, after_destroy, with_freed, on_ok, after_stage}
+use Rattle.registry_report.specs.Common.{advance_answer, count_below, destroy_answer, is_inside, perform_answer, has_passive, has_section, held_count, is_this, first_obstacle, retired_slot, stage_in, end_of, has_ended, may_hold, Registry, IsSession, SessionState, with_core, CountsLive, Shows, ShowsModel, ShowsTallies, SnapshotsFollow, after_advance, after_destroy, with_freed, on_ok, after_stage}
 use Rattle.registry_report.proofs.Below.{kept_is, position_is, same_count}
 use Rattle.registry_report.proofs.Lookups.{end_is, end_tells}
 use Rattle.registry_report.proofs.shows.Sectioned.{inside_is}

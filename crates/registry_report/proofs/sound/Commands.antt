@@ -2,16 +2,11 @@
 use Rattle.std.proofs.Common.{◌≡◌, true, ◌&&◌, nat_lt, ltb-true}
 use Rattle.std.proofs.lemmas.Bool.{and_parts}
 use Rattle.std.proofs.lemmas.List.Sums.{AllPass-from_list_all}
-use Rattle.registry_values.specs.declared.settings.Settings.{Settings}
-use Rattle.registry_values.specs.Names.{is_lawful}
-use Rattle.registry_values.specs.Slots.{is_iface}
-use Rattle.registry_language.specs.declared.command.Command.{Command}
-use Rattle.registry_language.specs.declared.command.Command.TheVariants.{Attach, Plug, Detach, Enter, Exit, Find, Reference, Copy, Release, Count, Uncount, Advance, Destroy}
-use Rattle.registry_report.specs.Laws.{ReportIsModelRun}
+use Rattle.registry_report.specs.Types.{Settings, Command, Plug, Enter, Exit, Find, Reference, Copy, Release, Count, Uncount, Advance, Destroy}
+use Rattle.registry_values.specs.Common.{is_lawful, is_iface}
+use Rattle.registry_language.specs.declared.command.Command.TheVariants.{Attach, Detach}
+use Rattle.registry_report.specs.Common.{ReportIsModelRun, Registry, opening_registry, after, IsSound, IsLawfulTurn}
 use Rattle.registry_language.specs.Program.{is_label, suits}
-use Rattle.registry_report.specs.Registry.{Registry, opening_registry}
-use Rattle.registry_report.specs.Report.{after}
-use Rattle.registry_report.specs.Sound.{IsSound, IsLawfulTurn}
 use Rattle.registry_report.proofs.sound.Turns.{each_turn, idle_turn, opened_sound}
 use Rattle.registry_report.proofs.sound.Entries.{attach_turn, detach_turn, plug_turn}
 use Rattle.registry_report.proofs.sound.Freeing.{advance_turn, destroy_turn}

@@ -3,19 +3,11 @@ use Rattle.std.proofs.Common.{◌≡◌, ℕ, suc, ◌<◌, ◌≤◌, length, O
 use Rattle.std.specs.Prelude.{Ok, not}
 use Rattle.std.proofs.lemmas.Bool.{and_parts, cases_lt, not-false}
 use Rattle.std.proofs.lemmas.Option.{none-some}
-use Rattle.registry_values.specs.declared.entry.Kind.{Kind}
-use Rattle.registry_values.specs.declared.entry.Kind.TheVariants.{Iface, Driver}
-use Rattle.registry_values.specs.declared.entry.Entry.{Entry}
-use Rattle.registry_values.specs.declared.entry.Change.TheVariants.{Attach, Detach}
-use Rattle.registry_values.specs.declared.entry.Record.{Record}
-use Rattle.registry_values.specs.declared.refusal.Refusal.{Refusal}
-use Rattle.registry_values.specs.declared.refusal.Refusal.TheVariants.{Inside, NeedsDriver, NotFound}
-use Rattle.registry_values.specs.declared.settings.Settings.{Settings}
-use Rattle.registry_values.specs.declared.slot.Key.{Key}
-use Rattle.registry_values.specs.Slots.{key_of_record, is_iface, is_driver}
-use Rattle.protocol.specs.Events.{keeps_rightly}
-use Rattle.protocol.specs.History.{after_change, change_at, IsLegal, IsLiveAt, IsLookup}
-use Rattle.protocol.specs.Model.{Model, put, IsDriverHere, Stays, Goes_on, Attaches, Detaches, Keeps, Sees}
+use Rattle.registry_report.specs.Types.{Kind, Iface, Driver, Entry, Attach, Detach, Record, Refusal, Inside, NeedsDriver, NotFound, Settings, Key}
+use Rattle.registry_values.specs.Common.{key_of_record, is_iface, is_driver, found_answer}
+use Rattle.protocol.specs.Common.{keeps_rightly, after_change, IsLegal, IsLiveAt, IsLookup, Model, put, IsDriverHere, Stays, Goes_on, Attaches, Detaches, Sees}
+use Rattle.protocol.specs.History.{change_at}
+use Rattle.protocol.specs.Model.{Keeps}
 use Rattle.registry_values.proofs.Answers as answers
 use Rattle.registry_values.proofs.Least.{none_is}
 use Rattle.protocol.proofs.history.Growing.{hold_was, hold_old}
@@ -24,12 +16,7 @@ use Rattle.protocol.proofs.model.Picturing.{put_here}
 use Rattle.protocol.proofs.keeps.Publishing.{legal_attach, live_cases}
 use Rattle.protocol.proofs.keeps.SectionKeeps.{none_from}
 use Rattle.protocol.proofs.keeps.Unlinking.{attached_before, legal_detach, was_there}
-use Rattle.registry_values.specs.Answers.{found_answer}
-use Rattle.registry_report.specs.Answers.{attach_answer, attach_iface_answer, detach_answer, given_entry, command_answer, is_inside, is_available, lookup_now, first_fit, room_of, plug_answer, with_label}
-use Rattle.registry_report.specs.Changes.{entry_of, is_driver_entry, is_driver_number}
-use Rattle.registry_report.specs.Registry.{Registry}
-use Rattle.registry_report.specs.Sound.{HasSlot, IsSound, IsSoundModel, IsLawfulTurn}
-use Rattle.registry_report.specs.Turns.{after_plug, with_attached, with_detached, with_reference_kept, on_ok, on_some, with_attached_iface, with_all_seen, with_entry}
+use Rattle.registry_report.specs.Common.{attach_answer, attach_iface_answer, detach_answer, given_entry, command_answer, is_inside, is_available, lookup_now, first_fit, room_of, plug_answer, with_label, entry_of, is_driver_entry, is_driver_number, Registry, HasSlot, IsSound, IsSoundModel, IsLawfulTurn, after_plug, with_attached, with_detached, with_reference_kept, on_ok, on_some, with_attached_iface, with_all_seen, with_entry}
 use Rattle.registry_report.proofs.Lookups.{entry_is, lookup_is}
 use Rattle.registry_report.proofs.sound.Turns.{dropped_counts, else_ok, hitched_ok, idle_turn, labelled_counts, least_some, not_ok, ok_turn, put_capped, put_cases, put_none, same_ok, still_there}
 use Rattle.protocol.proofs.Either.{either}

@@ -3,23 +3,13 @@ use Rattle.std.proofs.Common.{◌≡◌, ℕ, zero, suc, ◌+◌, ◌-◌, ◌<�
 use Rattle.std.specs.Prelude.{Ok, if◌then◌else◌}
 use Rattle.std.proofs.lemmas.Bool.{both_ways, cases_lt, lt-ltb}
 use Rattle.std.proofs.lemmas.Option.{none-some}
-use Rattle.registry_values.specs.declared.refusal.Refusal.{Refusal}
-use Rattle.registry_values.specs.declared.refusal.Refusal.TheVariants.{NotRetired}
-use Rattle.registry_values.specs.declared.settings.Settings.{Settings}
-use Rattle.registry_values.specs.declared.stage.Stage.{Stage}
-use Rattle.registry_values.specs.declared.stage.Stage.TheVariants.{Grace, Passive, Local, Freed}
-use Rattle.registry_values.specs.Marks.{least_below}
-use Rattle.registry_values.specs.Stages.{stage_of}
-use Rattle.protocol.specs.History.{EndsAt}
-use Rattle.protocol.specs.Model.{Model, put, with_locals, IsUnheld, Stays, Goes_on, Gives_up, Uncounts, Vacates}
+use Rattle.registry_report.specs.Types.{Refusal, NotRetired, Settings, Stage, Grace, Passive, Local, Freed}
+use Rattle.registry_values.specs.Common.{least_below, stage_of}
+use Rattle.protocol.specs.Common.{EndsAt, Model, put, with_locals, IsUnheld, Stays, Goes_on, Gives_up, Uncounts, Vacates}
 use Rattle.protocol.proofs.history.History.{at_within}
 use Rattle.registry_values.proofs.Least.{least_none}
 use Rattle.protocol.proofs.model.Picturing.{put_here, put_is, put_other, two_steps}
-use Rattle.registry_report.specs.Answers.{advance_answer, has_passive, has_section, held_count, is_inside, is_this, first_obstacle, retired_slot, slot_of, stage_in}
-use Rattle.registry_report.specs.Changes.{end_of, has_ended, may_hold}
-use Rattle.registry_report.specs.Registry.{Registry}
-use Rattle.registry_report.specs.Sound.{IsSound, IsSoundModel, IsLawfulTurn}
-use Rattle.registry_report.specs.Turns.{after_advance, after_destroy, with_freed, after_stage}
+use Rattle.registry_report.specs.Common.{advance_answer, has_passive, has_section, held_count, is_inside, is_this, first_obstacle, retired_slot, slot_of, stage_in, end_of, has_ended, may_hold, Registry, IsSound, IsSoundModel, IsLawfulTurn, after_advance, after_destroy, with_freed, after_stage}
 use Rattle.registry_report.proofs.Lookups.{end_tells}
 use Rattle.registry_report.proofs.sound.Turns.{count_none, idle_turn, is_this_own, is_this_tells, labelled_counts, least_some, not_ok, ok_turn, put_none, same_ok, still_beside}
 use Rattle.protocol.proofs.keeps.SectionKeeps.{some_from}

@@ -2,20 +2,11 @@
 use Rattle.std.proofs.Common.{◌≡◌, ℕ, suc, ◌+◌, ◌-◌, ◌<◌, Option, Some, None, Bool, true, false, nat_lt, refl, sym, ap, subst, ◌∙◌, arith, ltb-true}
 use Rattle.std.specs.Prelude.{Result, Ok, if◌then◌else◌, ◌==◌}
 use Rattle.std.proofs.lemmas.Option.{none-some, same_Some}
-use Rattle.registry_values.specs.declared.entry.Entry.{Entry}
-use Rattle.passive_core.specs.declared.psref.CorePsref.{CorePsref}
-use Rattle.registry_values.specs.declared.refusal.Refusal.{Refusal}
-use Rattle.registry_values.specs.declared.refusal.Refusal.TheVariants.{NothingFound, NotHeld, WrongCpu}
-use Rattle.registry_values.specs.declared.settings.Settings.{Settings}
-use Rattle.protocol.specs.Model.{Model, put, with_locals, with_passive, Stays, Goes_on, Acquires, Copies, Counts, Releases, Uncounts}
-use Rattle.registry_report.specs.declared.hitch.Hitch.{Hitch}
-use Rattle.registry_report.specs.declared.hitch.Hitch.TheVariants.{LabelTaken, NoLabel}
+use Rattle.registry_report.specs.Types.{Entry, CorePsref, Refusal, NothingFound, NotHeld, WrongCpu, Settings}
+use Rattle.protocol.specs.Common.{Model, put, with_locals, with_passive, Stays, Goes_on, Acquires, Copies, Counts, Releases, Uncounts}
+use Rattle.registry_report.specs.Common.{Hitch, LabelTaken, NoLabel, acquire_answer, copy_answer, count_answer, command_answer, if_free, misuse, one_more, reference_answer, release_answer, uncount_answer, unless, why_uncounted, with_label, Registry, HasSlot, IsSound, IsSoundModel, IsLawfulTurn, with_one_counted, on_ok, with_reference, without_reference, with_one_uncounted}
 use Rattle.registry_report.specs.Answers as answers
-use Rattle.registry_values.specs.Answers.{why_full}
-use Rattle.registry_report.specs.Answers.{acquire_answer, copy_answer, count_answer, command_answer, if_free, misuse, one_more, reference_answer, release_answer, uncount_answer, unless, why_uncounted, with_label}
-use Rattle.registry_report.specs.Registry.{Registry}
-use Rattle.registry_report.specs.Sound.{HasSlot, IsSound, IsSoundModel, IsLawfulTurn}
-use Rattle.registry_report.specs.Turns.{with_one_counted, on_ok, with_reference, without_reference, with_one_uncounted}
+use Rattle.registry_values.specs.Common.{why_full}
 use Rattle.registry_report.proofs.sound.Turns.{added_counts, dropped_counts, hitched_ok, labelled_counts, not_ok, ok_turn, put_cases, put_none, same_ok}
 use Rattle.protocol.proofs.Either.{either}
 

@@ -2,21 +2,12 @@
 use Rattle.std.proofs.Common.{◌≡◌, ℕ, ◌+◌, ◌<◌, length, Option, Some, None, Bool, true, false, not, refl, sym, ap, subst, ◌∙◌, arith}
 use Rattle.std.specs.Prelude.{Ok, if◌then◌else◌, ◌==◌}
 use Rattle.std.proofs.lemmas.Option.{same_Some}
-use Rattle.registry_values.specs.declared.entry.Entry.{Entry}
-use Rattle.registry_values.specs.declared.entry.Change.TheVariants.{Attach}
-use Rattle.registry_values.specs.declared.settings.Settings.{Settings}
-use Rattle.registry_values.specs.declared.slot.Key.{Key}
-use Rattle.protocol.specs.History.{IsLawful, IsLiveAt, IsLookup}
-use Rattle.protocol.specs.Model.{Lookup, Model, put, IsModelRun, Stays, Goes_on, Answers, Enters, Exits, Seeks, Sees}
+use Rattle.registry_report.specs.Types.{Entry, Attach, Settings, Key}
+use Rattle.protocol.specs.Common.{IsLawful, IsLiveAt, IsLookup, Lookup, Model, put, IsModelRun, Stays, Goes_on, Answers, Enters, Exits, Seeks, Sees}
 use Rattle.registry_values.proofs.Least.{none_is}
 use Rattle.protocol.proofs.history.History.{at_within}
 use Rattle.protocol.proofs.model.Picturing.{Alike, put_here, put_is, put_other, same_model}
-use Rattle.registry_report.specs.declared.hitch.Hitch.{Hitch}
-use Rattle.registry_report.specs.declared.hitch.Hitch.TheVariants.{NotInside}
-use Rattle.registry_report.specs.Answers.{enter_answer, exit_answer, find_answer, is_inside, lookup_now}
-use Rattle.registry_report.specs.Registry.{Registry}
-use Rattle.registry_report.specs.Sound.{IsSound, IsSoundModel, IsLawfulTurn}
-use Rattle.registry_report.specs.Turns.{with_section_begun, with_section_entered, with_section_exited, with_found, on_ok, with_all_seen}
+use Rattle.registry_report.specs.Common.{Hitch, NotInside, enter_answer, exit_answer, find_answer, is_inside, lookup_now, Registry, IsSound, IsSoundModel, IsLawfulTurn, with_section_begun, with_section_entered, with_section_exited, with_found, on_ok, with_all_seen}
 use Rattle.registry_report.proofs.Lookups.{lookup_is}
 use Rattle.registry_report.proofs.sound.Turns.{ok_turn, put_capped, put_cases, put_none, same_ok, still_there, then_ok}
 use Rattle.protocol.proofs.keeps.SectionKeeps.{some_from}

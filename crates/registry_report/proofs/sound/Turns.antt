@@ -5,20 +5,11 @@ use Rattle.std.proofs.lemmas.Bool.{cases_eq, cases_lt, eq-eqb, ne_eqb}
 use Rattle.std.specs.List.{All}
 use Rattle.std.proofs.lemmas.List.Elements.{All-head, All-tail}
 use Rattle.std.proofs.lemmas.Option.{none-some, same_Some}
-use Rattle.registry_values.specs.Marks.{least_below, or_next}
-use Rattle.protocol.specs.Invariant.{one_if}
-use Rattle.protocol.specs.Model.{put, Stays}
+use Rattle.registry_values.specs.Common.{least_below, or_next}
+use Rattle.protocol.specs.Common.{one_if, put, Stays, IsLegal}
 use Rattle.protocol.proofs.model.Picturing.{join_runs, put_here, put_other}
-use Rattle.registry_values.specs.declared.refusal.Refusal.{Refusal}
-use Rattle.registry_report.specs.declared.hitch.Hitch.{Hitch}
-use Rattle.registry_report.specs.declared.hitch.Hitch.TheVariants.{Refused}
-use Rattle.registry_report.specs.Answers.{count_below, command_answer, is_this}
-use Rattle.registry_report.specs.Registry.{Registry, opening_registry}
-use Rattle.registry_report.specs.Sound.{after_each, labels_for, IsSound, IsLawfulTurn}
-use Rattle.registry_report.specs.Turns.{on_ok}
-use Rattle.registry_values.specs.declared.settings.Settings.{Settings}
-use Rattle.registry_values.specs.declared.entry.Change.TheVariants.{Attach, Detach}
-use Rattle.protocol.specs.History.{IsLegal}
+use Rattle.registry_report.specs.Types.{Refusal, Settings, Attach, Detach}
+use Rattle.registry_report.specs.Common.{Hitch, Refused, count_below, command_answer, is_this, Registry, opening_registry, after_each, labels_for, IsSound, IsLawfulTurn, on_ok}
 use Rattle.protocol.proofs.history.History.{at_empty}
 use Rattle.protocol.proofs.Either.{either}
 

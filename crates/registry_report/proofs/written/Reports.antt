@@ -2,10 +2,9 @@
 use Rattle.std.proofs.Common.{◌≡◌, ℕ, ◌+◌, ◌<◌, ◌≤◌, suc, List, [], ◌∷◌, ◌++◌, length, drop, get_or, Option, Result, Ok, Err, OnErr, refl, sym, add-one, drop-cons, append-nil}
 use Rattle.std.proofs.Math.ListN.{drop_of_length-le}
 use Rattle.std.specs.Io.KnownBytes.{Appends, Keeps}
-use Rattle.registry_language.specs.declared.command.Command.{Command}
-use Rattle.registry_report.specs.Registry.{Registry}
-use Rattle.registry_report.specs.Report.{after, report_from, text_of}
-use Rattle.registry_report.specs.Written.{Written, AppendsPrefix}
+use Rattle.registry_report.specs.Types.{Command}
+use Rattle.registry_report.specs.Common.{Registry, after, text_of, Written, AppendsPrefix}
+use Rattle.registry_report.specs.Report.{report_from}
 use Rattle.registry_report.proofs.written.Writing.{written_none, written_more, written_kept, written_all, written_prefix}
 
 report_cons : (r : Registry) (k : Command) (ks : List Command) → report_from r (k ∷ ks) ≡ text_of r k ++ report_from (after r k) ks

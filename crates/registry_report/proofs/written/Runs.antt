@@ -2,11 +2,9 @@
 use Rattle.std.proofs.Common.{ℕ, ◌+◌, ◌<◌, ◌≤◌, List, [], ◌∷◌, ◌++◌, length, take, drop, get_or, Option, None, true, Ok, refl, sym, ap, ◌∙◌, append_assoc, append-nil, take-append-drop}
 use Rattle.std.proofs.lemmas.List.{take_all, take_more}
 use Rattle.std.specs.Io.KnownBytes.{Appends}
-use Rattle.registry_values.specs.declared.stage.Stage.TheVariants.{Freed}
-use Rattle.registry_language.specs.declared.command.Command.{Command}
-use Rattle.registry_language.specs.declared.command.Command.TheVariants.{Domain, Limits, Attach, Plug, Detach, Enter, Exit, Find, Held, Read, Peek, Advance, Destroy, Perform, Audit}
-use Rattle.registry_report.specs.Printed.{IsLineOf, IsRunOf, WritesFront, WritesRun}
-use Rattle.registry_report.specs.Written.{AppendsPrefix}
+use Rattle.registry_report.specs.Types.{Freed, Command, Domain, Limits, Plug, Enter, Exit, Find, Held, Read, Peek, Advance, Destroy, Perform, Audit}
+use Rattle.registry_language.specs.declared.command.Command.TheVariants.{Attach, Detach}
+use Rattle.registry_report.specs.Common.{IsLineOf, IsRunOf, WritesFront, WritesRun, AppendsPrefix}
 use Rattle.registry_report.proofs.written.Writing.{appends_more, written_none, written_prefix}
 
 -- each command has a line

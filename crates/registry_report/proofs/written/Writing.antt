@@ -4,9 +4,8 @@ use Rattle.std.proofs.lemmas.List.{map-append, take_all, take_more}
 use Rattle.std.specs.Io.KnownBytes.{Appends, Keeps}
 use Rattle.std.specs.Prelude.{codes}
 use Rattle.std.specs.Fmt.{decimal, signed_decimal}
-use Rattle.registry_values.specs.Balances.{Tally}
-use Rattle.registry_report.specs.Lines.{balance_line, balance_lines, spaced_words, line_of_words}
-use Rattle.registry_report.specs.Written.{Written, AppendsPrefix}
+use Rattle.registry_values.specs.Common.{Tally}
+use Rattle.registry_report.specs.Common.{balance_line, balance_lines, spaced_words, line_of_words, Written, AppendsPrefix}
 
 pub appends_none : (a : Option (List ℕ)) → Appends a a []
 appends_none None = tt

@@ -1,8 +1,7 @@
 //! Calls of the runs on parsed scripts: the row found, and what a run leaves on a registry that the test made.
 
 ghost use Rattle.std.specs.Prelude.{◌≡◌, IfOk};
-ghost use Rattle.name_registry.specs.Auditing.{AreAllCpus};
-ghost use Rattle.name_registry.specs.Opening.{IsBlankOf};
+ghost use Rattle.name_registry.specs.Common.{AreAllCpus, IsBlankOf};
 
 use super::lines;
 use super::streams::Sips;

@@ -4,8 +4,7 @@
 //! refusal that is met is noted on standard error.
 
 ghost use Rattle.std.specs.Prelude.{◌≡◌, IfOk};
-ghost use Rattle.name_registry.specs.Auditing.{AreAllCpus};
-ghost use Rattle.name_registry.specs.Opening.{AreNewCpus, IsBlankOf};
+ghost use Rattle.name_registry.specs.Common.{AreAllCpus, AreNewCpus, IsBlankOf};
 
 use super::ENGINES;
 use super::ends::{REPORT, SCRIPT};

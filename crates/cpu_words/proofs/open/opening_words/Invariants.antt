@@ -1,7 +1,6 @@
 use Rattle.std.proofs.Common.{◌≡◌, ◌<◌, ℕ, length, get_or}
-use Rattle.registry_values.specs.Balances.{bias}
-use Rattle.cpu_words.specs.declared.layout.TheConstants.{TOTALS, WORDS}
-use Rattle.cpu_words.specs.Spots.{total_of, index}
+use Rattle.registry_values.specs.Common.{bias}
+use Rattle.cpu_words.specs.Common.{TOTALS, WORDS, total_of, index}
 use Rattle.cpu_words.proofs.open.opening_words.Given as goal
 
 -- all words are 0 but the totals so far

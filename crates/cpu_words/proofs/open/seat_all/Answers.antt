@@ -1,7 +1,5 @@
 use Rattle.std.proofs.Common.{◌≤◌, ◌+◌, List, ap, ◌∙◌, sym, subst}
-use Rattle.cpu_words.specs.declared.view.CpuView.{CpuView}
-use Rattle.cpu_words.specs.Views.{Seated}
-use Rattle.cpu_words.specs.Opening.{AreSeats, cpu_seat, one_seated}
+use Rattle.cpu_words.specs.Common.{CpuView, Seated, AreSeats, cpu_seat, one_seated}
 use Rattle.cpu_words.proofs.seats.Opening.{more_seats}
 use Rattle.cpu_words.proofs.open.seat_all.Goals as goal
 

@@ -1,5 +1,5 @@
 use Rattle.std.proofs.Common.{◌≡◌, ◌≤◌, vec_len, vec_capacity}
-use Rattle.cpu_words.specs.Opening.{AreSeats, keeper_with}
+use Rattle.cpu_words.specs.Common.{AreSeats, keeper_with}
 use Rattle.cpu_words.proofs.open.seat_all.Given as goal
 
 -- the CPUs so far have their seats, and the list has room for the others

@@ -1,9 +1,8 @@
 -- The count of the place decides, where something was found.
 use Rattle.std.proofs.Common.{◌≡◌, ◌+◌, ap, ◌∙◌, subst, sym, None}
-use Rattle.registry_values.specs.declared.settings.Settings.{Settings}
-use Rattle.registry_values.specs.Answers.{why_uncounted}
-use Rattle.registry_values.specs.Balances.{bias}
-use Rattle.passive_list.specs.Cpus.{OnPlainCpu}
+use Rattle.passive_list.specs.Types.{Settings}
+use Rattle.registry_values.specs.Common.{why_uncounted, bias}
+use Rattle.passive_list.specs.Common.{OnPlainCpu}
 use Rattle.passive_list.proofs.Agreeing.{found_as, found_none}
 use Rattle.local_count.specs.References.{why_not_acquired_local}
 use Rattle.local_count.proofs.Acquiring.{nothing_found, why_by_place}

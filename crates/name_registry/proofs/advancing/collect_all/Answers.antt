@@ -1,6 +1,6 @@
 use Rattle.std.proofs.Common.{◌≡◌, ◌∙◌, true}
 use borrow.Author.Count.{below_more}
-use Rattle.protocol.specs.State.{mark_at}
+use Rattle.protocol.specs.Common.{mark_at}
 use Rattle.name_registry.proofs.Worked.{still_collected, worked_more}
 use Rattle.name_registry.proofs.advancing.collect_all.Goals as goal
 

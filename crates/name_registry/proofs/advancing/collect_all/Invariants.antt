@@ -1,5 +1,5 @@
 use Rattle.std.proofs.Common.{◌≡◌}
-use Rattle.name_registry.specs.Advancing.{HasWorkedFor, CollectedBelow}
+use Rattle.name_registry.specs.Common.{HasWorkedFor, CollectedBelow}
 use Rattle.name_registry.proofs.advancing.collect_all.Given as goal
 
 -- the words of the CPUs so far are collected

@@ -1,5 +1,5 @@
 use Rattle.std.proofs.Common.{◌≡◌}
-use Rattle.name_registry.specs.Advancing.{HasLookedFor, LooksBelow, PassedBelow}
+use Rattle.name_registry.specs.Common.{HasLookedFor, LooksBelow, PassedBelow}
 use Rattle.name_registry.proofs.advancing.look_at_all.Given as goal
 
 -- the CPUs so far have passed, and looks alone were made

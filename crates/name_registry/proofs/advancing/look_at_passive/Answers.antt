@@ -1,7 +1,7 @@
 use Rattle.std.proofs.Common.{◌≡◌, ◌∙◌, true, sym, subst, ◌<◌}
 use borrow.Author.Count.{below_more}
-use Rattle.registry_values.specs.declared.settings.Settings.{Settings}
-use Rattle.protocol.specs.State.{mark_at}
+use Rattle.name_registry.specs.Types.{Settings}
+use Rattle.protocol.specs.Common.{mark_at}
 use Rattle.name_registry.proofs.Seen.{passive_met}
 use Rattle.name_registry.proofs.Worked.{looked_more, still_clear}
 use Rattle.name_registry.proofs.advancing.look_at_passive.Goals as goal

@@ -1,5 +1,5 @@
 use Rattle.std.proofs.Common.{◌≡◌}
-use Rattle.name_registry.specs.Advancing.{HasLookedFor, ClearBelow}
+use Rattle.name_registry.specs.Common.{HasLookedFor, ClearBelow}
 use Rattle.name_registry.proofs.advancing.look_at_passive.Given as goal
 
 -- the CPUs so far are clear, and looks alone were made

@@ -1,9 +1,8 @@
 use Rattle.std.proofs.Common.{sym, subst}
-use Rattle.registry_values.specs.declared.stage.Stage.{Stage}
-use Rattle.passive_list.specs.Keepers.{OnKeeper}
-use Rattle.passive_list.specs.Vacating.{IsDrainedOn}
+use Rattle.name_registry.specs.Types.{Stage}
+use Rattle.passive_list.specs.Common.{OnKeeper, IsDrainedOn}
 use Rattle.passive_list.proofs.Rows.{keeper_is}
-use Rattle.name_registry.specs.Advancing.{HasEnded, Settles}
+use Rattle.name_registry.specs.Common.{HasEnded, Settles}
 use Rattle.name_registry.proofs.Worked.{all_passed, all_clear, all_collected, is_drained, settled_held, settled_free}
 use Rattle.name_registry.proofs.advancing.settle.Goals as goal
 

@@ -1,14 +1,9 @@
 use Rattle.std.proofs.Common.{◌≡◌, ◌∙◌, ◌+◌, ◌<◌, ◌≤◌, length, Result, Ok, IfOk, refl, sym, ap, subst}
-use Rattle.registry_values.specs.declared.entry.Entry.{Entry}
-use Rattle.registry_values.specs.declared.refusal.Refusal.{Refusal}
-use Rattle.registry_values.specs.Answers.{attach_answer}
-use Rattle.registry_values.specs.Slots.{is_iface, live_count, slot_at}
-use Rattle.cpu_words.specs.declared.view.KeeperView.{KeeperView}
-use Rattle.passive_list.specs.Keepers.{OnKeeper}
-use Rattle.passive_list.specs.Draining.{HasAttachedKeeping}
-use Rattle.cpu_words.specs.Views.{Named}
-use Rattle.registry_values.specs.declared.slot.Slot.TheVariants.{Vacant}
-use Rattle.name_registry.specs.Attaching.{HasAttachedIfaceFor}
+use Rattle.name_registry.specs.Types.{Entry, Refusal, KeeperView, Vacant}
+use Rattle.registry_values.specs.Common.{attach_answer, is_iface, live_count, slot_at}
+use Rattle.passive_list.specs.Common.{OnKeeper, HasAttachedKeeping}
+use Rattle.cpu_words.specs.Common.{Named}
+use Rattle.name_registry.specs.Common.{HasAttachedIfaceFor}
 use Rattle.name_registry.proofs.Attached.{keeping_more, log_told, a_driver, inside_is, taken_tells, attach_met, keeping_told}
 use Rattle.name_registry.proofs.attaching.attach_iface_in.Goals as goal
 

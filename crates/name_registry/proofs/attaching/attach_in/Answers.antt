@@ -1,15 +1,10 @@
 use Rattle.std.proofs.Common.{◌≡◌, ◌∙◌, ◌+◌, ◌<◌, ◌≤◌, length, Result, Ok, IfOk, sym, ap, subst}
-use Rattle.registry_values.specs.declared.entry.Entry.{Entry}
-use Rattle.registry_values.specs.declared.refusal.Refusal.{Refusal}
-use Rattle.registry_values.specs.Answers.{attach_answer}
+use Rattle.name_registry.specs.Types.{Entry, Refusal, KeeperView, Vacant}
+use Rattle.registry_values.specs.Common.{attach_answer, live_count, slot_at}
 use Rattle.registry_values.proofs.Answers.{handed_on}
-use Rattle.cpu_words.specs.declared.view.KeeperView.{KeeperView}
-use Rattle.passive_list.specs.Keepers.{OnKeeper}
-use Rattle.passive_list.specs.Publishing.{HasAttached}
-use Rattle.registry_values.specs.Slots.{live_count, slot_at}
-use Rattle.cpu_words.specs.Views.{Named}
-use Rattle.registry_values.specs.declared.slot.Slot.TheVariants.{Vacant}
-use Rattle.name_registry.specs.Attaching.{HasAttachedFor}
+use Rattle.passive_list.specs.Common.{OnKeeper, HasAttached}
+use Rattle.cpu_words.specs.Common.{Named}
+use Rattle.name_registry.specs.Common.{HasAttachedFor}
 use Rattle.name_registry.proofs.Attached.{inside_is, taken_tells, driver_keeps, attach_met, attached_told}
 use Rattle.name_registry.proofs.attaching.attach_in.Goals as goal
 

@@ -1,7 +1,7 @@
 use Rattle.std.proofs.Common.{◌≡◌, ℕ, ◌<◌}
 use mathlib.Core.Option.{some}
 use lib.ListN.{get_elem?}
-use Rattle.passive_list.specs.Cpus.{OnCpu}
+use Rattle.passive_list.specs.Common.{OnCpu}
 use Rattle.name_registry.proofs.auditing.are_all.Given as goal
 
 -- those so far have their numbers

@@ -1,8 +1,8 @@
 -- What is said of all entries.
 use Rattle.std.proofs.Common.{◌∙◌, ap, subst}
-use Rattle.registry_values.specs.declared.settings.Settings.{Settings}
-use Rattle.cpu_words.specs.Views.{Named}
-use Rattle.name_registry.specs.Auditing.{AreAllCpus, tallies_met}
+use Rattle.name_registry.specs.Types.{Settings}
+use Rattle.cpu_words.specs.Common.{Named}
+use Rattle.name_registry.specs.Common.{AreAllCpus, tallies_met}
 use Rattle.name_registry.proofs.Audits.{counts_met, places_met, sums_met}
 use Rattle.name_registry.proofs.ByLog.{audit_known}
 use Rattle.name_registry.proofs.Gathered.{listened_none, tallies_learned}

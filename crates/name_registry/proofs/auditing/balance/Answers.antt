@@ -1,7 +1,7 @@
 -- What is said of one entry.
 use Rattle.std.proofs.Common.{ap, ◌∙◌, arith}
 use Rattle.std.proofs.lemmas.Int.{ints}
-use Rattle.registry_values.specs.Balances.{less_bias, sum_of}
+use Rattle.registry_values.specs.Common.{less_bias, sum_of}
 use Rattle.passive_list.proofs.Rows.{keeper_is}
 use Rattle.name_registry.proofs.Audits.{has, tally_is}
 use Rattle.name_registry.proofs.auditing.balance.Goals as goal

@@ -1,6 +1,6 @@
 -- One slot more.
 use Rattle.std.proofs.Common.{ap, Vec, Global}
-use Rattle.registry_values.specs.declared.balance.Balance.{Balance}
+use Rattle.name_registry.specs.Types.{Balance}
 use Rattle.name_registry.proofs.Audits.{tallies_more, tallies_none}
 use Rattle.name_registry.proofs.auditing.balances.Goals.{in-Vacant, in-Live+in_ok-balance-in-Live+in_ok-push-in-Live}
 use Rattle.name_registry.proofs.auditing.balances.Goals as goal

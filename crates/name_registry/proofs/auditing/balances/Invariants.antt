@@ -1,6 +1,6 @@
 use Rattle.std.proofs.Common.{◌≡◌, map}
-use Rattle.registry_values.specs.Balances.{tally_shown}
-use Rattle.name_registry.specs.Auditing.{tallies_met}
+use Rattle.registry_values.specs.Common.{tally_shown}
+use Rattle.name_registry.specs.Common.{tallies_met}
 use Rattle.name_registry.proofs.auditing.balances.Given as goal
 
 -- what is said of the slots so far

@@ -2,8 +2,8 @@
 use Rattle.std.proofs.Common.{◌∙◌, ◌++◌, ap, arith, None}
 use mathlib.Core.Option.{some}
 use Rattle.atomic_table.proofs.Lists.{at_index}
-use Rattle.cpu_words.specs.KeeperLog.{heard_from}
-use Rattle.passive_list.specs.Keepers.{OnKeeper}
+use Rattle.cpu_words.specs.Common.{heard_from}
+use Rattle.passive_list.specs.Common.{OnKeeper}
 use Rattle.name_registry.proofs.Gathered.{gathered_alike, gathered_learned, gathered_more, gathered_notes, listened}
 use Rattle.name_registry.proofs.auditing.gather.Goals as goal
 

@@ -1,7 +1,6 @@
 use Rattle.std.proofs.Common.{◌≡◌, ◌++◌, None}
-use Rattle.protocol.specs.declared.event.Event.TheVariants.{Tell}
-use Rattle.protocol.specs.declared.event.Reply.TheVariants.{Done}
-use Rattle.cpu_words.specs.Rule.{did}
+use Rattle.name_registry.specs.Types.{Tell, Done}
+use Rattle.cpu_words.specs.Common.{did}
 use Rattle.name_registry.proofs.Gathered.{Gathered}
 use Rattle.name_registry.proofs.auditing.gather.Given as goal
 

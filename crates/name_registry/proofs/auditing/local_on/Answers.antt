@@ -1,9 +1,9 @@
 -- A CPU's place says its net count.
 use Rattle.std.proofs.Common.{◌≡◌, ap, sym, ◌∙◌, subst, arith}
 use Rattle.std.proofs.lemmas.Int.{ints}
-use Rattle.passive_list.specs.Cpus.{OnPlainCpu}
+use Rattle.passive_list.specs.Common.{OnPlainCpu}
 use Rattle.local_count.proofs.Agreeing.{net_most}
-use Rattle.name_registry.specs.Auditing.{net_met}
+use Rattle.name_registry.specs.Common.{net_met}
 use Rattle.name_registry.proofs.Audits.{local_is, net_is}
 use Rattle.name_registry.proofs.auditing.local_on.Goals as goal
 

@@ -2,7 +2,7 @@
 use Rattle.std.proofs.Common.{◌≡◌, ◌^◌, ◌∙◌, ◌++◌, ◌∷◌, [], ◌≤ℤ◌, neg_ℤ, pos, ap, arith, ℤ}
 use Rattle.std.proofs.lemmas.Int.{ints}
 use Rattle.std.proofs.lemmas.List.Elements.{All-push, All-same}
-use Rattle.name_registry.specs.Auditing.{local_met}
+use Rattle.name_registry.specs.Common.{local_met}
 use Rattle.name_registry.proofs.Audits.{locals_more}
 use Rattle.name_registry.proofs.auditing.locals.Goals as goal
 

@@ -1,5 +1,5 @@
 use Rattle.std.proofs.Common.{◌≡◌, ◌^◌, ◌≤ℤ◌, All, map, neg_ℤ, pos, take}
-use Rattle.name_registry.specs.Auditing.{local_met}
+use Rattle.name_registry.specs.Common.{local_met}
 use Rattle.name_registry.proofs.auditing.locals.Given as goal
 
 -- the numbers of the CPUs so far, and how far they go

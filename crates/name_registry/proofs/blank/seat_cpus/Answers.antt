@@ -1,10 +1,10 @@
 use Rattle.std.proofs.Common.{◌∙◌, ◌≤◌, ◌+◌, ◌∷◌, ◌++◌, List, [], length, length-append, ap, sym, subst, arith, append_assoc}
 use Rattle.std.specs.Vec.Iter.{into_iter_items}
 use Rattle.registry_values.proofs.Fit.{ranges}
-use Rattle.cpu_words.specs.declared.view.CpuView.{CpuView}
-use Rattle.cpu_words.specs.Views.{Seated, new_cpu}
-use Rattle.passive_list.specs.Cpus.{OnCpu}
-use Rattle.name_registry.specs.Opening.{AreNewCpus}
+use Rattle.name_registry.specs.Types.{CpuView}
+use Rattle.cpu_words.specs.Common.{Seated, new_cpu}
+use Rattle.passive_list.specs.Common.{OnCpu}
+use Rattle.name_registry.specs.Common.{AreNewCpus}
 use Rattle.name_registry.proofs.Opened.{seat_after, more_cpus}
 use Rattle.name_registry.proofs.blank.seat_cpus.Goals as goal
 

@@ -1,8 +1,8 @@
 use Rattle.std.proofs.Common.{◌≡◌, ◌+◌, ◌≤◌, ◌++◌, length, vec_len, vec_capacity}
 use Rattle.std.specs.Vec.Iter.{into_iter_items}
-use Rattle.name_registry.specs.Opening.{AreNewCpus}
+use Rattle.name_registry.specs.Common.{AreNewCpus}
 use Rattle.name_registry.proofs.blank.seat_cpus.Given as goal
-use Rattle.registry_values.specs.declared.settings.TheConstants.{MOST_CPUS}
+use Rattle.name_registry.specs.Types.{MOST_CPUS}
 
 -- the seats so far have their CPUs, and the list has room for the others; each has a part of the ledger
 abbrev pub invariant-loop-seat : goal.invariant-loop-seat

@@ -1,6 +1,6 @@
 use Rattle.std.proofs.Common.{subst}
-use Rattle.registry_values.specs.declared.settings.Settings.{Settings}
-use Rattle.name_registry.specs.Destroying.{HasAdvancedFor}
+use Rattle.name_registry.specs.Types.{Settings}
+use Rattle.name_registry.specs.Common.{HasAdvancedFor}
 use Rattle.name_registry.proofs.Turned.{made_turn, told_turn}
 use Rattle.name_registry.proofs.destroying.advance_for.Goals as goal
 

@@ -1,5 +1,5 @@
 use Rattle.std.proofs.Common.{◌≡◌, ℕ, suc, Ok}
-use Rattle.name_registry.specs.Destroying.{LastMeeting}
+use Rattle.name_registry.specs.Common.{LastMeeting}
 use Rattle.name_registry.proofs.destroying.destroy_in_turns.Given as goal
 
 -- as many turns were made as the counter says, and the last one met this stage

@@ -1,9 +1,9 @@
 use Rattle.std.proofs.Common.{◌∙◌, sym, ap, subst}
-use Rattle.registry_values.specs.declared.slot.Key.{Key}
-use Rattle.registry_values.specs.Slots.{slot_at}
+use Rattle.name_registry.specs.Types.{Key}
+use Rattle.registry_values.specs.Common.{slot_at}
 use Rattle.registry_values.proofs.Answers.{handed_on}
-use Rattle.passive_list.specs.Keepers.{OnKeeper}
-use Rattle.name_registry.specs.Detaching.{HasDetachedFor, IsDetachAnswer, IsLivePlace}
+use Rattle.passive_list.specs.Common.{OnKeeper}
+use Rattle.name_registry.specs.Common.{HasDetachedFor, IsDetachAnswer, IsLivePlace}
 use Rattle.name_registry.proofs.Attached.{inside_is}
 use Rattle.name_registry.proofs.Detached.{place_is, detached_for, refused_rightly}
 use Rattle.name_registry.proofs.detaching.detach_in.Goals as goal

@@ -1,6 +1,6 @@
 use Rattle.std.proofs.Common.{◌∙◌, position, sym, ap}
-use Rattle.registry_values.specs.Slots.{is_live_as}
-use Rattle.passive_list.specs.Keepers.{OnKeeper}
+use Rattle.registry_values.specs.Common.{is_live_as}
+use Rattle.passive_list.specs.Common.{OnKeeper}
 use Rattle.passive_list.proofs.Rows.{keeper_is}
 use Rattle.name_registry.proofs.Detached.{keeper_shows, place_tells, no_place}
 use Rattle.name_registry.proofs.Rows.{live_in_rows}

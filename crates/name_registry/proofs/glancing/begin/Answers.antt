@@ -1,6 +1,6 @@
 use Rattle.std.proofs.Common.{subst}
-use Rattle.registry_values.specs.declared.settings.Settings.{Settings}
-use Rattle.name_registry.specs.Performing.{HasBegun, SnapshotsBelow}
+use Rattle.name_registry.specs.Types.{Settings}
+use Rattle.name_registry.specs.Common.{HasBegun, SnapshotsBelow}
 use Rattle.name_registry.proofs.Glanced.{made_hold}
 use Rattle.name_registry.proofs.glancing.begin.Goals as goal
 

@@ -1,8 +1,8 @@
 use Rattle.std.proofs.Common.{◌∙◌, Bool, false, ap, subst, arith, length-set}
 use Rattle.std.proofs.lemmas.List.{get_or-set_other}
-use Rattle.registry_values.specs.declared.settings.Settings.{Settings}
+use Rattle.name_registry.specs.Types.{Settings}
 use Rattle.registry_values.proofs.Fit.{ranges}
-use Rattle.name_registry.specs.Performing.{GlancesOnce, looking, word_of}
+use Rattle.name_registry.specs.Common.{GlancesOnce, looking, word_of}
 use Rattle.name_registry.proofs.Glanced.{glances_more}
 use Rattle.name_registry.proofs.glancing.glance_at_cpus.Goals as goal
 

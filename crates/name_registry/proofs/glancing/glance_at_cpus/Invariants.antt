@@ -1,7 +1,7 @@
 use Rattle.std.proofs.Common.{◌≡◌, ◌≤◌, ℕ, length}
-use Rattle.name_registry.specs.Performing.{GlancesBelow, is_seen, looking}
+use Rattle.name_registry.specs.Common.{GlancesBelow, is_seen, looking}
 use Rattle.name_registry.proofs.glancing.glance_at_cpus.Given as goal
-use Rattle.registry_values.specs.declared.settings.TheConstants.{MOST_CPUS}
+use Rattle.name_registry.specs.Types.{MOST_CPUS}
 
 -- the CPUs so far were glanced at, and of the others is known what was
 abbrev pub invariant-loop-cpu : goal.invariant-loop-cpu

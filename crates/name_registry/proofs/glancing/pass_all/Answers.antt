@@ -1,6 +1,6 @@
 use Rattle.std.proofs.Common.{subst}
-use Rattle.registry_values.specs.declared.settings.Settings.{Settings}
-use Rattle.name_registry.specs.Performing.{HasPassedAll}
+use Rattle.name_registry.specs.Types.{Settings}
+use Rattle.name_registry.specs.Common.{HasPassedAll}
 use Rattle.name_registry.proofs.Passed.{made_passes}
 use Rattle.name_registry.proofs.glancing.pass_all.Goals as goal
 

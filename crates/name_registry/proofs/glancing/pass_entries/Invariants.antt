@@ -1,5 +1,5 @@
 use Rattle.std.proofs.Common.{◌≡◌}
-use Rattle.name_registry.specs.Performing.{PassesBelow}
+use Rattle.name_registry.specs.Common.{PassesBelow}
 use Rattle.name_registry.proofs.glancing.pass_entries.Given as goal
 
 -- the entries so far were looked at

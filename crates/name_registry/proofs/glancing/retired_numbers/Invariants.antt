@@ -1,6 +1,6 @@
 use Rattle.std.proofs.Common.{◌≡◌, ◌<◌, ℕ, None, length, slice_index_or}
-use Rattle.registry_values.specs.Slots.{retired_number, slot_at}
-use Rattle.registry_values.specs.declared.settings.TheConstants.{MOST_SLOTS}
+use Rattle.registry_values.specs.Common.{retired_number, slot_at}
+use Rattle.name_registry.specs.Types.{MOST_SLOTS}
 use Rattle.name_registry.proofs.glancing.retired_numbers.Given as goal
 
 -- the numbers of the slots so far are there

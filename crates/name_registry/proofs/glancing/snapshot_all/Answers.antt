@@ -1,8 +1,7 @@
 use Rattle.std.proofs.Common.{◌∙◌, None, ap, arith, length-set}
-use Rattle.protocol.specs.declared.event.Event.TheVariants.{Snapshot}
-use Rattle.registry_values.specs.declared.settings.Settings.{Settings}
+use Rattle.name_registry.specs.Types.{Snapshot, Settings}
 use Rattle.registry_values.proofs.Fit.{ranges}
-use Rattle.name_registry.specs.Performing.{LooksOnce, looking}
+use Rattle.name_registry.specs.Common.{LooksOnce, looking}
 use Rattle.name_registry.proofs.Glanced.{snapshots_more}
 use Rattle.name_registry.proofs.glancing.snapshot_all.Goals as goal
 

@@ -1,7 +1,7 @@
 use Rattle.std.proofs.Common.{◌≡◌, length}
-use Rattle.name_registry.specs.Performing.{SnapshotsBelow, looking}
+use Rattle.name_registry.specs.Common.{SnapshotsBelow, looking}
 use Rattle.name_registry.proofs.glancing.snapshot_all.Given as goal
-use Rattle.registry_values.specs.declared.settings.TheConstants.{MOST_CPUS}
+use Rattle.name_registry.specs.Types.{MOST_CPUS}
 
 -- the snapshots of the CPUs so far are taken
 abbrev pub invariant-loop-cpu : goal.invariant-loop-cpu

@@ -1,5 +1,5 @@
 use Rattle.std.proofs.Common.{◌≡◌, ℕ, suc}
-use Rattle.name_registry.specs.Performing.{LastTurn, none_seen}
+use Rattle.name_registry.specs.Common.{LastTurn, none_seen}
 use Rattle.name_registry.proofs.performing.wait_for_sections.Given as goal
 
 -- as many turns were made as the counter says, and this is the answer of the last

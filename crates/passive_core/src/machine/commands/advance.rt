@@ -2,17 +2,12 @@
 
 ghost use Rattle.std.specs.Prelude.{◌≡◌, ◌<◌, IfSome, ℕ, Some, None, true, false, not, length};
 ghost use Rattle.registry_values.specs.declared.entry.Entry.{Entry as AnEntry};
-ghost use Rattle.registry_values.specs.declared.slot.Slot.TheVariants.{Retired};
-ghost use Rattle.registry_values.specs.Slots.{is_retired_as, retired_slot, is_retired, slot_at};
+ghost use Rattle.passive_core.specs.Types.{Retired};
+ghost use Rattle.registry_values.specs.Common.{is_retired_as, retired_slot, is_retired, slot_at, least_below, stage_of};
 ghost use Rattle.passive_core.specs.Advancing.{is_open_since, has_passive, advance_answer, first_obstacle, AdvanceLeaves, StageLeaves, Settles, Empties, Gathers, HoldersAreOpen, MarksPass, MarksClear, SameBut, PassedBelow, ClearBelow, StageMarks, AdvanceMarks};
-ghost use Rattle.registry_values.specs.Marks.{least_below};
-ghost use Rattle.registry_values.specs.Stages.{stage_of};
-ghost use Rattle.protocol.specs.Marking.{AllPassed, AllClear, AllCollected};
+ghost use Rattle.protocol.specs.Common.{AllPassed, AllClear, AllCollected, is_drained, held_at, at_rest, count_at, mark_at};
 ghost use Rattle.passive_core.specs.Commands.{may_act};
 ghost use Rattle.passive_core.specs.Making.{AdvanceMakes, MakesOnly, IsWork, IsLookFor, IsPassiveLookFor, IsCollectionFor, IsFreeingOf};
-ghost use Rattle.protocol.specs.Events.{is_drained};
-ghost use Rattle.protocol.specs.Invariant.{held_at};
-ghost use Rattle.protocol.specs.State.{at_rest, count_at, mark_at};
 
 use crate::machine::Core;
 use protocol::Event;

@@ -2,16 +2,12 @@
 
 ghost use Rattle.std.specs.Prelude.{◌≡◌, ◌<◌, ◌+◌, ◌∷◌, ℕ, IfErr, IfOk, IfSome, IsSome, IsTrue, None, OnErr, OnOk, Ok, Some, [], length, position, slice_set, slice_index_or, true};
 ghost use Rattle.std.specs.List.{zip};
-ghost use Rattle.protocol.specs.declared.event.Event.TheVariants.{Hear, Keep, Publish, StoreSlot, Tell};
-ghost use Rattle.protocol.specs.declared.event.Reply.TheVariants.{Done};
+ghost use Rattle.passive_core.specs.Types.{Hear, Keep, Publish, StoreSlot, Tell, Done};
 ghost use Rattle.passive_core.specs.Attaching.{IsAnswer, after_attach, after_attach_iface, attach_answer, attach_iface_answer, with_reference_given_back, given_entry, is_to_driver, with_reference_kept, first_fit, with_prepared, with_attach_undone, words_before};
 ghost use Rattle.passive_core.specs.Making.{AttachMakes, Makes, attach_events, attach_iface_events, count_stores_from, prepare_events, record_stores, seats_and};
-ghost use Rattle.registry_values.specs.Slots.{is_available, is_iface};
-ghost use Rattle.protocol.specs.State.{with_biases, at_rest, kept_at, local_at};
+ghost use Rattle.registry_values.specs.Common.{is_available, is_iface, is_lawful};
+ghost use Rattle.protocol.specs.Common.{with_biases, at_rest, kept_at, local_at, after_publish, after_row_store, after_seeing, is_idle, may_write, number_standing, step, words_of, Holds};
 ghost use Rattle.passive_core.specs.Commands.{all_seated, may_act};
-ghost use Rattle.protocol.specs.Events.{after_publish, after_row_store, after_seeing, is_idle, may_write, number_standing, step, words_of};
-ghost use Rattle.protocol.specs.Invariant.{Holds};
-ghost use Rattle.registry_values.specs.Names.{is_lawful};
 
 use crate::machine::drain::is_driver_slot;
 use crate::machine::{Core, make_room};

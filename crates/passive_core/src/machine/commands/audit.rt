@@ -2,11 +2,9 @@
 
 ghost use Rattle.std.specs.Prelude.{◌≡◌, ℕ, ◌+◌, ◌<◌, ◌≤◌, ◌^◌, IfOk, IfErr, OnErr, All, map, length, pos, neg_ℤ, ◌≤ℤ◌, slice_index_or, true};
 ghost use Rattle.passive_core.specs.Audits.{IsHeldRightly, IsOccupied, audit_of, locals_at, tally_of};
-ghost use Rattle.registry_values.specs.Balances.{less_bias, local_of, sum_of, tally_shown, bias};
-ghost use Rattle.protocol.specs.Invariant.{IsIn};
-ghost use Rattle.protocol.specs.State.{at_rest};
-ghost use Rattle.registry_values.specs.Slots.{slot_at};
-ghost use Rattle.registry_values.specs.declared.entry.Entry.{Entry};
+ghost use Rattle.registry_values.specs.Common.{less_bias, local_of, sum_of, tally_shown, bias, slot_at};
+ghost use Rattle.protocol.specs.Common.{IsIn, at_rest};
+ghost use Rattle.passive_core.specs.Types.{Entry};
 
 use crate::machine::Core;
 use registry_values::{BIAS, Balance, Refusal, Slot, less_bias, local_of, sum};

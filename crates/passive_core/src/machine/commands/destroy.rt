@@ -4,7 +4,7 @@ ghost use Rattle.std.specs.Prelude.{◌≡◌, ◌<◌, ◌≤◌, ℕ, true};
 ghost use Rattle.passive_core.specs.Advancing.{destroy_answer, DestroyLeaves, DestroyMarks};
 ghost use Rattle.passive_core.specs.Commands.{may_act};
 ghost use Rattle.passive_core.specs.Making.{DestroyMakes};
-ghost use Rattle.protocol.specs.State.{at_rest};
+ghost use Rattle.protocol.specs.Common.{at_rest};
 
 use crate::machine::Core;
 use registry_values::{Refusal, Stage, destroyed};

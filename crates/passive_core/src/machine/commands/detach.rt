@@ -4,12 +4,9 @@ ghost use Rattle.std.specs.Prelude.{◌≡◌, ◌<◌, ℕ, IfErr, IfOk, IfSome
 ghost use Rattle.passive_core.specs.Commands.{all_seated, may_act};
 ghost use Rattle.passive_core.specs.Detaching.{after_detach, with_all_snapshots, IsDetachAnswer, IsLookupNow};
 ghost use Rattle.passive_core.specs.Making.{Makes, detach_events, seats_and, snapshots_from};
-ghost use Rattle.protocol.specs.Events.{after_unpublish, is_idle};
-ghost use Rattle.protocol.specs.State.{at_rest};
-ghost use Rattle.registry_values.specs.Marks.{no_mark};
-ghost use Rattle.registry_values.specs.Slots.{slot_at};
-ghost use Rattle.protocol.specs.declared.state.Due.TheVariants.{Snapshots};
-ghost use Rattle.registry_values.specs.declared.slot.Slot.TheVariants.{Live};
+ghost use Rattle.protocol.specs.Common.{after_unpublish, is_idle, at_rest};
+ghost use Rattle.registry_values.specs.Common.{no_mark, slot_at};
+ghost use Rattle.passive_core.specs.Types.{Snapshots, Live};
 
 use crate::machine::{Core, make_room};
 use protocol::Event;

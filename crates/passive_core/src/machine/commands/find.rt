@@ -4,12 +4,8 @@ ghost use Rattle.std.specs.Prelude.{◌≡◌, ◌<◌, ℕ, IsSome, Some, lengt
 ghost use Rattle.passive_core.specs.Commands.{all_seated, may_act};
 ghost use Rattle.passive_core.specs.Making.{FindMakes};
 ghost use Rattle.protocol.specs.declared.event.Event.{Event as AnEvent};
-ghost use Rattle.protocol.specs.Events.{is_inside, step};
-ghost use Rattle.protocol.specs.Laws.{IsLoadOf};
+ghost use Rattle.protocol.specs.Common.{is_inside, step, IsLoadOf, IsLookup, Holds, at_rest, search_at};
 ghost use Rattle.passive_core.specs.Finding.{after_find, next_load};
-ghost use Rattle.protocol.specs.History.{IsLookup};
-ghost use Rattle.protocol.specs.Invariant.{Holds};
-ghost use Rattle.protocol.specs.State.{at_rest, search_at};
 
 use crate::machine::Core;
 use protocol::{Event, RecordOf, Reply, Search, SearchPlace};

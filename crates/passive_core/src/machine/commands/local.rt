@@ -3,15 +3,12 @@
 ghost use Rattle.std.specs.Prelude.{◌≡◌, ℕ, ◌+◌, ◌<◌, nat_lt, IfOk, IsTrue, Some, None, [], ◌∷◌, ◌++◌, if◌then◌else◌, false, true};
 ghost use Rattle.passive_core.specs.Commands.{all_seated, may_act};
 ghost use Rattle.passive_core.specs.Making.{Makes, record_loads, seats_and};
-ghost use Rattle.protocol.specs.declared.event.Event.TheVariants.{CountAdd, SplitRef, JoinRef, CountDown, SplitBack};
+ghost use Rattle.passive_core.specs.Types.{CountAdd, SplitRef, JoinRef, CountDown, SplitBack};
 ghost use Rattle.protocol.specs.declared.event.RecordOf.TheVariants.{Local as OfLocal};
-ghost use Rattle.protocol.specs.Events.{is_idle, number_standing};
+ghost use Rattle.protocol.specs.Common.{is_idle, number_standing, at_rest, found_at, local_at};
 ghost use Rattle.passive_core.specs.Locals.{IsCounted, after_acquire_local, after_release_local, release_events, under_events, count_in, count_refusal, is_counting, is_live_local, local_slot, with_count_less, with_total_less};
 ghost use Rattle.passive_core.specs.Passives.{IsRecordOf};
-ghost use Rattle.protocol.specs.State.{at_rest, found_at, local_at};
-ghost use Rattle.registry_values.specs.Answers.{why_uncounted};
-ghost use Rattle.registry_values.specs.Slots.{slot_of};
-ghost use Rattle.registry_values.specs.Balances.{bias};
+ghost use Rattle.registry_values.specs.Common.{why_uncounted, slot_of, bias};
 
 use crate::machine::Core;
 use protocol::{Event, RecordOf, Reply};

@@ -3,16 +3,11 @@
 ghost use Rattle.std.specs.Prelude.{◌≡◌, ℕ, ◌<◌, ◌||◌, nat_lt, IfOk, Option, Some, None, [], ◌∷◌, true};
 ghost use Rattle.passive_core.specs.Commands.{all_seated, may_act};
 ghost use Rattle.passive_core.specs.Making.{Makes, record_loads, seats_and};
-ghost use Rattle.protocol.specs.declared.event.Event.TheVariants.{PassiveAdd, PassiveSub};
+ghost use Rattle.passive_core.specs.Types.{PassiveAdd, PassiveSub, Word};
 ghost use Rattle.protocol.specs.declared.event.RecordOf.TheVariants.{Passive as OfPassive};
-ghost use Rattle.protocol.specs.Events.{is_idle, is_number, load_record, some_outcome};
-ghost use Rattle.protocol.specs.Invariant.{Holds};
-ghost use Rattle.protocol.specs.State.{found_at, at_rest};
-ghost use Rattle.registry_values.specs.Slots.{slot_of};
-ghost use Rattle.protocol.specs.declared.event.Reply.TheVariants.{Word};
+ghost use Rattle.protocol.specs.Common.{is_idle, is_number, load_record, some_outcome, Holds, found_at, at_rest};
+ghost use Rattle.registry_values.specs.Common.{slot_of, why_full, Answers};
 ghost use Rattle.passive_core.specs.Passives.{passive_of, psref_to_found, refusal_of, psref_copy, IsOneMore, IsOneLess, IsRecordOf, IsWordLoad, after_acquire, after_release, after_read, with_one_more, with_one_less};
-ghost use Rattle.registry_values.specs.Answers.{why_full};
-ghost use Rattle.registry_values.specs.Refusals.{Answers};
 
 use crate::machine::Core;
 use crate::psref::CorePsref;

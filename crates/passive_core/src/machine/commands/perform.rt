@@ -1,14 +1,11 @@
 //! Waiting until each section that was open has ended.
 
 ghost use Rattle.std.specs.Prelude.{◌≡◌, ◌<◌, ◌≤◌, ℕ, true, false, not, slice_index_or, Some, None};
-ghost use Rattle.protocol.specs.Marking.{AllPassed};
-ghost use Rattle.registry_values.specs.Marks.{least_below};
+ghost use Rattle.protocol.specs.Common.{AllPassed, is_inside, at_rest, section_at};
+ghost use Rattle.registry_values.specs.Common.{least_below, retired_number, is_retired, slot_at};
 ghost use Rattle.passive_core.specs.Commands.{may_act};
 ghost use Rattle.passive_core.specs.Making.{IsWaiting, MakesOnly};
-ghost use Rattle.protocol.specs.Events.{is_inside};
-ghost use Rattle.registry_values.specs.Slots.{retired_number, is_retired, slot_at};
 ghost use Rattle.passive_core.specs.Performing.{perform_answer, PerformLeaves, OnlyPasses, AllOutside, AreSeen, AreWords};
-ghost use Rattle.protocol.specs.State.{at_rest, section_at};
 
 use crate::machine::Core;
 use protocol::{Event, Reply};

@@ -4,10 +4,8 @@ ghost use Rattle.std.specs.Prelude.{◌≡◌, ◌<◌, ◌≤◌, ℕ, OnOk, []
 ghost use Rattle.passive_core.specs.Commands.{all_seated, may_act};
 ghost use Rattle.passive_core.specs.Entering.{enter_answer, may_begin, after_enter_command, after_exit_command, with_depth};
 ghost use Rattle.passive_core.specs.Making.{Makes, seats_and};
-ghost use Rattle.protocol.specs.declared.event.Event.TheVariants.{Enter, Exit};
-ghost use Rattle.protocol.specs.Events.{is_idle, is_inside};
-ghost use Rattle.protocol.specs.Invariant.{Holds};
-ghost use Rattle.protocol.specs.State.{at_rest, depth_at};
+ghost use Rattle.passive_core.specs.Types.{Enter, Exit};
+ghost use Rattle.protocol.specs.Common.{is_idle, is_inside, Holds, at_rest, depth_at};
 
 use crate::machine::Core;
 use protocol::Event;

@@ -1,6 +1,6 @@
 use Rattle.std.proofs.Common.{sym, ◌∙◌}
 use Rattle.cpu_words.proofs.shown.KeepersShown.{step_is_shown}
-use Rattle.passive_list.specs.Keepers.{row_at}
+use Rattle.passive_list.specs.Common.{row_at}
 use Rattle.passive_list.proofs.Rows.{keeper_is}
 use Rattle.passive_list.proofs.Freed.{keeps_on, keeps_at, may_free, freed_keeper, has_freed}
 use Rattle.passive_list.proofs.Subtracting.{held_row}

@@ -1,9 +1,8 @@
 -- The section is this CPU's from its enter to its exit, and the data agree with the view again.
 use Rattle.std.proofs.Common.{◌≡◌, IsTrue, Some, ap, ◌∙◌, sym, subst}
-use Rattle.cpu_words.specs.Searching.{key_with}
+use Rattle.cpu_words.specs.Common.{key_with}
 use Rattle.cpu_words.proofs.shown.KeepersShown.{step_is_shown}
-use Rattle.passive_list.specs.Cpus.{OnPlainCpu}
-use Rattle.passive_list.specs.Sections.{may_begin}
+use Rattle.passive_list.specs.Common.{OnPlainCpu, may_begin}
 use Rattle.passive_list.proofs.FromOutside.{may_seek, may_exit, from_outside_agrees, found_from_outside}
 use Rattle.passive_list.proofs.Walking.{slot_seen}
 use Rattle.passive_list.proofs.from_outside.find_from_outside.Goals as goal

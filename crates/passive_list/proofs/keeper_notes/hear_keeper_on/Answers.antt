@@ -1,7 +1,6 @@
 -- What the log says of the view it says of the keeper, whose rows agree with the view.
 use Rattle.std.proofs.Common.{subst}
-use Rattle.passive_list.specs.Keepers.{OnPlainKeeper}
-use Rattle.passive_list.specs.Logs.{HasOwnLog}
+use Rattle.passive_list.specs.Common.{OnPlainKeeper, HasOwnLog}
 use Rattle.passive_list.proofs.Logs.{own_log}
 use Rattle.passive_list.proofs.keeper_notes.hear_keeper_on.Goals as goal
 

@@ -1,20 +1,12 @@
 -- The slot keeps the reference, and then the interface is published there.
 use Rattle.std.proofs.Common.{◌+◌, ◌<◌, ◌∙◌, List, sym, ap, subst, set}
 use Rattle.std.proofs.lemmas.List.{map-set}
-use Rattle.registry_values.specs.declared.entry.Entry.{Entry}
-use Rattle.protocol.specs.declared.event.Event.TheVariants.{Keep}
-use Rattle.registry_values.specs.declared.settings.Settings.{Settings}
-use Rattle.registry_values.specs.declared.slot.Slot.{Slot}
-use Rattle.registry_values.specs.declared.slot.Slot.TheVariants.{Live}
-use Rattle.cpu_words.specs.declared.view.KeeperView.{KeeperView}
-use Rattle.cpu_words.specs.declared.view.View.TheVariants.{Keeper, Reference}
-use Rattle.cpu_words.specs.Steps.{JoinsBy}
+use Rattle.passive_list.specs.Types.{Entry, Keep, Settings, Slot, Live, KeeperView, Keeper, Reference}
+use Rattle.cpu_words.specs.Common.{JoinsBy}
 use Rattle.cpu_words.proofs.shown.KeepersShown.{step_is_shown}
-use Rattle.passive_list.specs.Keepers.{OnKeeper, row_at, state_of, states_of}
-use Rattle.passive_list.specs.Publishing.{MayAttach, HasEntry}
+use Rattle.passive_list.specs.Common.{OnKeeper, row_at, state_of, states_of, MayAttach, HasEntry, HasAttachedKeeping}
 use Rattle.passive_list.proofs.Rows.{keeper_is, settings_are}
 use Rattle.passive_list.proofs.Attached.{published_keeper, row_live}
-use Rattle.passive_list.specs.Draining.{HasAttachedKeeping}
 use Rattle.passive_list.proofs.Kept.{keeps_it, rows_keeping, states_keeping, may_attach, same_history}
 use Rattle.passive_list.proofs.keeping.publish_keeping.Goals as goal
 

@@ -1,10 +1,9 @@
 use Rattle.std.proofs.Common.{◌≡◌, ◌∙◌, sym, ap, subst, arith}
-use Rattle.cpu_words.specs.Publishing.{LeadsBelow}
-use Rattle.passive_list.specs.Keepers.{states_of}
-use Rattle.passive_list.specs.Links.{link_to}
+use Rattle.cpu_words.specs.Common.{LeadsBelow}
+use Rattle.passive_list.specs.Common.{states_of, link_to}
 use Rattle.passive_list.proofs.Leading.{newest_to, newest_leads}
 use Rattle.passive_list.proofs.links.link_below.Goals as goal
-use Rattle.registry_values.specs.declared.settings.TheConstants.{MOST_SLOTS}
+use Rattle.passive_list.specs.Types.{MOST_SLOTS}
 
 pub returns : goal.returns
 returns c =

@@ -1,10 +1,9 @@
 use Rattle.std.proofs.Common.{◌≡◌, ◌∙◌, sym, ap, subst, arith}
-use Rattle.cpu_words.specs.Publishing.{IsBefore, IsLinkPlace}
-use Rattle.passive_list.specs.Keepers.{states_of}
-use Rattle.passive_list.specs.Links.{place_of}
+use Rattle.cpu_words.specs.Common.{IsBefore, IsLinkPlace}
+use Rattle.passive_list.specs.Common.{states_of, place_of}
 use Rattle.passive_list.proofs.Leading.{oldest_to, oldest_before}
 use Rattle.passive_list.proofs.links.slot_above.Goals as goal
-use Rattle.registry_values.specs.declared.settings.TheConstants.{MOST_SLOTS}
+use Rattle.passive_list.specs.Types.{MOST_SLOTS}
 
 pub returns-clause-before : goal.returns-clause-before
 returns-clause-before c =

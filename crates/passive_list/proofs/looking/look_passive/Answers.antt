@@ -1,9 +1,8 @@
 -- A look at a passive word makes `mark_after_passive_look` of the CPU's mark.
 use Rattle.std.proofs.Common.{◌∙◌, ◌<◌, ap, subst, sym}
-use Rattle.registry_values.specs.declared.mark.Mark.{Mark}
-use Rattle.registry_values.specs.Slots.{slot_at}
-use Rattle.registry_values.specs.Marks.{mark_after_passive_look}
-use Rattle.passive_list.specs.Keepers.{OnPlainKeeper}
+use Rattle.passive_list.specs.Types.{Mark}
+use Rattle.registry_values.specs.Common.{slot_at, mark_after_passive_look}
+use Rattle.passive_list.specs.Common.{OnPlainKeeper}
 use Rattle.passive_list.proofs.Marks.{looked_keeper, looked_mark, looked_states}
 use Rattle.passive_list.proofs.looking.look_passive.Goals as goal
 

@@ -1,8 +1,8 @@
 -- The data agree with the view as a lookup is over.
 use Rattle.std.proofs.Common.{Option, subst, sym}
-use Rattle.registry_values.specs.declared.entry.Entry.{Entry}
-use Rattle.cpu_words.specs.Searching.{key_with}
-use Rattle.passive_list.specs.Walking.{HasLookedUp}
+use Rattle.passive_list.specs.Types.{Entry}
+use Rattle.cpu_words.specs.Common.{key_with}
+use Rattle.passive_list.specs.Common.{HasLookedUp}
 use Rattle.passive_list.proofs.Agreeing.{looked_up_agrees, own_agrees}
 use Rattle.passive_list.proofs.Walking.{slot_seen}
 use Rattle.passive_list.proofs.lookup.find_on.Goals as goal

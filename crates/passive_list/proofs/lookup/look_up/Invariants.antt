@@ -1,8 +1,6 @@
 use Rattle.std.proofs.Common.{◌≡◌, ℕ}
-use Rattle.cpu_words.specs.Rule.{IsShownCpu}
-use Rattle.cpu_words.specs.Searching.{key_with}
-use Rattle.passive_list.specs.Searches.{HasSearchedFor}
-use Rattle.passive_list.specs.Walking.{IsAtLink}
+use Rattle.cpu_words.specs.Common.{IsShownCpu, key_with}
+use Rattle.passive_list.specs.Common.{HasSearchedFor, IsAtLink}
 use Rattle.passive_list.proofs.Searches.{EndsAtLink}
 use Rattle.passive_list.proofs.Visited.{HasGoneBy}
 use Rattle.passive_list.proofs.lookup.look_up.Given as goal

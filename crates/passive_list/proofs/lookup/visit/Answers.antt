@@ -1,8 +1,8 @@
 -- The words of a slot, one after the other.
 use Rattle.std.proofs.Common.{refl, sym, subst, Bool}
-use Rattle.protocol.specs.declared.state.SearchPlace.TheVariants.{AtNumber, AtKind, AtHigh, AtLow}
-use Rattle.cpu_words.specs.Searching.{key_with}
-use Rattle.passive_list.specs.Walking.{HasVisited}
+use Rattle.passive_list.specs.Types.{AtNumber, AtKind, AtHigh, AtLow}
+use Rattle.cpu_words.specs.Common.{key_with}
+use Rattle.passive_list.specs.Common.{HasVisited}
 use Rattle.passive_list.proofs.Walking.{goes_on, may_load, visited}
 use Rattle.passive_list.proofs.Searches.{four_loaded}
 use Rattle.passive_list.proofs.lookup.visit.Goals as goal

@@ -1,7 +1,6 @@
 use Rattle.std.proofs.Common.{◌∙◌, ◌≤◌, sym, ap, subst}
-use Rattle.registry_values.specs.declared.settings.Settings.{Settings}
-use Rattle.registry_values.specs.declared.settings.TheConstants.{MOST_SLOTS}
-use Rattle.protocol.specs.Events.{words_of}
+use Rattle.passive_list.specs.Types.{Settings, MOST_SLOTS}
+use Rattle.protocol.specs.Common.{words_of}
 use Rattle.passive_list.proofs.Preparing.{row_may, row_settings, sized_after, counts_may, prepared_from}
 use Rattle.passive_list.proofs.publishing.prepare.Goals as goal
 

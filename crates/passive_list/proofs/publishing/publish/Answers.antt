@@ -1,10 +1,8 @@
 use Rattle.std.proofs.Common.{◌+◌, ◌∙◌, sym, ap, subst, set}
 use Rattle.std.proofs.lemmas.List.{map-set}
-use Rattle.registry_values.specs.declared.entry.Entry.{Entry}
-use Rattle.registry_values.specs.declared.settings.Settings.{Settings}
+use Rattle.passive_list.specs.Types.{Entry, Settings}
 use Rattle.cpu_words.proofs.shown.KeepersShown.{step_is_shown}
-use Rattle.passive_list.specs.Keepers.{OnKeeper, OnPlainKeeper, row_at, state_of, states_of}
-use Rattle.passive_list.specs.Publishing.{MayAttach, HasAttached}
+use Rattle.passive_list.specs.Common.{OnKeeper, OnPlainKeeper, row_at, state_of, states_of, MayAttach, HasAttached}
 use Rattle.passive_list.proofs.Attached.{ask, published_keeper, row_live}
 use Rattle.passive_list.proofs.publishing.publish.Goals as goal
 

@@ -1,11 +1,7 @@
 use Rattle.std.proofs.Common.{sym, subst}
-use Rattle.protocol.specs.declared.event.Event.TheVariants.{Publish}
-use Rattle.protocol.specs.declared.event.Reply.TheVariants.{Done}
-use Rattle.cpu_words.specs.declared.view.KeeperView.{KeeperView}
-use Rattle.cpu_words.specs.declared.view.View.TheVariants.{Keeper}
-use Rattle.cpu_words.specs.Publishing.{MayPublish}
-use Rattle.cpu_words.specs.Steps.{Makes}
-use Rattle.passive_list.specs.Keepers.{states_of}
+use Rattle.passive_list.specs.Types.{Publish, Done, KeeperView, Keeper}
+use Rattle.cpu_words.specs.Common.{MayPublish, Makes}
+use Rattle.passive_list.specs.Common.{states_of}
 use Rattle.passive_list.proofs.Attached.{attached_as, may_publish, published_is, leads_on, rows_live, live_rows}
 use Rattle.passive_list.proofs.publishing.publish_entry.Goals as goal
 

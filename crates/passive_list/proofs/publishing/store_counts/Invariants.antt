@@ -1,5 +1,5 @@
 use Rattle.std.proofs.Common.{◌≡◌}
-use Rattle.passive_list.specs.Publishing.{with_counts}
+use Rattle.passive_list.specs.Common.{with_counts}
 use Rattle.passive_list.proofs.publishing.store_counts.Given as goal
 
 -- the words of the CPUs so far are stored

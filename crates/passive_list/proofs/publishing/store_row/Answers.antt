@@ -1,6 +1,5 @@
-use Rattle.protocol.specs.State.{row_at}
-use Rattle.protocol.specs.Events.{with_word}
-use Rattle.registry_values.specs.Slots.{kind_word}
+use Rattle.protocol.specs.Common.{row_at, with_word}
+use Rattle.registry_values.specs.Common.{kind_word}
 use Rattle.passive_list.proofs.Preparing.{row_next}
 use Rattle.passive_list.proofs.publishing.store_row.Goals as goal
 

@@ -1,14 +1,9 @@
 use Rattle.std.proofs.Common.{◌∙◌, sym, subst, set}
 use Rattle.std.proofs.lemmas.List.{map-set}
-use Rattle.registry_values.specs.declared.settings.Settings.{Settings}
-use Rattle.protocol.specs.declared.event.Event.TheVariants.{Unpublish}
-use Rattle.protocol.specs.declared.event.Reply.TheVariants.{Done}
-use Rattle.cpu_words.specs.declared.view.KeeperView.{KeeperView}
-use Rattle.cpu_words.specs.declared.view.View.TheVariants.{Keeper}
-use Rattle.cpu_words.specs.Steps.{Makes}
+use Rattle.passive_list.specs.Types.{Settings, Unpublish, Done, KeeperView, Keeper}
+use Rattle.cpu_words.specs.Common.{Makes}
 use Rattle.cpu_words.proofs.shown.KeepersShown.{step_is_shown}
-use Rattle.passive_list.specs.Keepers.{OnKeeper, OnPlainKeeper, row_at, state_of, states_of}
-use Rattle.passive_list.specs.Retiring.{AreSnapshots, HasDetached}
+use Rattle.passive_list.specs.Common.{OnKeeper, OnPlainKeeper, row_at, state_of, states_of, AreSnapshots, HasDetached}
 use Rattle.passive_list.proofs.Rows.{state_at, live_in}
 use Rattle.passive_list.proofs.Detached.{before_in, leads_in, may_unpublish, unpublished_is, detached_is, detached_keeper, row_retired}
 use Rattle.passive_list.proofs.retiring.retire.Goals as goal

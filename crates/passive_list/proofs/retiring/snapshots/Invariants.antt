@@ -1,6 +1,6 @@
 use Rattle.std.proofs.Common.{◌≡◌}
-use Rattle.cpu_words.specs.Rule.{IsShown}
-use Rattle.passive_list.specs.Retiring.{AreSnapshots}
+use Rattle.cpu_words.specs.Common.{IsShown}
+use Rattle.passive_list.specs.Common.{AreSnapshots}
 use Rattle.passive_list.proofs.Taking.{taking}
 use Rattle.passive_list.proofs.retiring.snapshots.Given as goal
 

@@ -1,7 +1,6 @@
 -- The data agree with the view as a section begins.
 use Rattle.std.proofs.Common.{◌≡◌, ◌+◌, ◌<◌, IsTrue, sym, subst, ap, ◌∙◌, arith}
-use Rattle.passive_list.specs.Cpus.{OnPlainCpu}
-use Rattle.passive_list.specs.Sections.{may_begin}
+use Rattle.passive_list.specs.Common.{OnPlainCpu, may_begin}
 use Rattle.cpu_words.proofs.shown.KeepersShown.{step_is_shown}
 use Rattle.passive_list.proofs.Agreeing.{entered_agrees, own_agrees}
 use Rattle.passive_list.proofs.Entering.{unspent, entered_on}

@@ -1,8 +1,7 @@
 -- The count of ended sections says what the section word does.
 use Rattle.std.proofs.Common.{◌≡◌, nat_lt, ap, ◌∙◌, sym, subst}
-use Rattle.registry_values.specs.declared.settings.Settings.{Settings}
-use Rattle.passive_list.specs.Cpus.{OnPlainCpu}
-use Rattle.passive_list.specs.Sections.{may_begin}
+use Rattle.passive_list.specs.Types.{Settings}
+use Rattle.passive_list.specs.Common.{OnPlainCpu, may_begin}
 use Rattle.passive_list.proofs.Entering.{may_begin_is}
 use Rattle.passive_list.proofs.sections.may_begin.Goals as goal
 

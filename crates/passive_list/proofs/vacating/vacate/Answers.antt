@@ -1,8 +1,7 @@
 use Rattle.std.proofs.Common.{◌∙◌, sym, ap, subst}
-use Rattle.protocol.specs.State.{kept_at}
+use Rattle.protocol.specs.Common.{kept_at}
 use Rattle.cpu_words.proofs.shown.KeepersShown.{step_is_shown}
-use Rattle.passive_list.specs.Keepers.{OnPlainKeeper, row_at}
-use Rattle.passive_list.specs.Vacating.{IsDrainedOn}
+use Rattle.passive_list.specs.Common.{OnPlainKeeper, row_at, IsDrainedOn}
 use Rattle.passive_list.proofs.Marks.{has_vacated, vacated_keeper}
 use Rattle.passive_list.proofs.vacating.vacate.Goals as goal
 

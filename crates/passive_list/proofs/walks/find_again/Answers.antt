@@ -1,12 +1,9 @@
 -- What the search for a noted entry found.
 use Rattle.std.proofs.Common.{◌≡◌, Option, Some, None, sym, ap, ◌∙◌, subst, arith}
-use Rattle.registry_values.specs.declared.entry.Entry.{Entry}
-use Rattle.protocol.specs.Loaded.{entry_with}
-use Rattle.cpu_words.specs.Searching.{key_with}
-use Rattle.passive_list.specs.declared.lookup.Seen.{Seen}
-use Rattle.passive_list.specs.declared.walks.Noted.{Noted}
-use Rattle.passive_list.specs.Noting.{HasFoundAgain}
-use Rattle.passive_list.specs.Walking.{HasLookedUp, entry_seen}
+use Rattle.passive_list.specs.Types.{Entry}
+use Rattle.protocol.specs.Common.{entry_with}
+use Rattle.cpu_words.specs.Common.{key_with}
+use Rattle.passive_list.specs.Common.{Seen, Noted, HasFoundAgain, HasLookedUp, entry_seen}
 use Rattle.passive_list.proofs.FoundAgain.{key_noted, missed_again, other_again, same_again, looked_up_again}
 use Rattle.passive_list.proofs.Walking.{slot_seen}
 use Rattle.passive_list.proofs.walks.find_again.Goals as goal

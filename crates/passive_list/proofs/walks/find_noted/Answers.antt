@@ -1,10 +1,8 @@
 -- One noted entry after the other.
 use Rattle.std.proofs.Common.{ℕ, List, ◌<◌, length, take, refl, ◌∙◌, subst, arith}
-use Rattle.registry_values.specs.declared.entry.Entry.{Entry}
-use Rattle.passive_list.specs.declared.walks.Noted.{Noted}
-use Rattle.passive_list.specs.Noting.{HaveBeenFound, LooksUpAgain}
+use Rattle.passive_list.specs.Types.{Entry}
+use Rattle.passive_list.specs.Common.{Noted, HaveBeenFound, LooksUpAgain, LooksUpEach}
 use Rattle.passive_list.proofs.FoundAgain.{none_found, searched_none, searched_on, searched_id, may_seek_again, next_found, next_looked_up, all_taken, searched_slots, rest_stays, few_written, size_stays}
-use Rattle.passive_list.specs.Searches.{LooksUpEach}
 use Rattle.passive_list.proofs.Searches.{none_looked_up}
 use Rattle.passive_list.proofs.walks.find_noted.Goals as goal
 

@@ -1,8 +1,6 @@
 use Rattle.std.proofs.Common.{◌≡◌, ◌≤◌, List, length, take, drop}
-use Rattle.registry_values.specs.declared.entry.Entry.{Entry}
-use Rattle.registry_values.specs.declared.settings.TheConstants.{MOST_SLOTS}
-use Rattle.passive_list.specs.Searches.{LooksUpEach}
-use Rattle.passive_list.specs.Noting.{AreNoted, HaveSearched, HaveBeenFound}
+use Rattle.passive_list.specs.Types.{Entry, MOST_SLOTS}
+use Rattle.passive_list.specs.Common.{LooksUpEach, AreNoted, HaveSearched, HaveBeenFound}
 use Rattle.passive_list.proofs.walks.find_noted.Given as goal
 
 -- the entries noted so far were sought

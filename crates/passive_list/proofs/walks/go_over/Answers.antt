@@ -1,8 +1,8 @@
 -- The two parts, and the search that clears the last found entry.
 use Rattle.std.proofs.Common.{take, ap}
-use Rattle.registry_values.specs.declared.entry.Kind.TheVariants.{Iface}
-use Rattle.cpu_words.specs.Searching.{key_with}
-use Rattle.passive_list.specs.Walking.{entry_seen}
+use Rattle.passive_list.specs.Types.{Iface}
+use Rattle.cpu_words.specs.Common.{key_with}
+use Rattle.passive_list.specs.Common.{entry_seen}
 use Rattle.passive_list.proofs.FoundAgain.{all_noted, all_gone_by, nobody_found, gone_over, gone_over_by}
 use Rattle.passive_list.proofs.Walking.{prefix_trans}
 use Rattle.passive_list.proofs.walks.go_over.Goals as goal

@@ -1,7 +1,7 @@
 -- The words of a slot, one after the other.
 use Rattle.std.proofs.Common.{refl}
-use Rattle.protocol.specs.declared.state.SearchPlace.TheVariants.{AtNumber, AtKind, AtHigh, AtLow}
-use Rattle.passive_list.specs.Searches.{nobody}
+use Rattle.passive_list.specs.Types.{AtNumber, AtKind, AtHigh, AtLow}
+use Rattle.passive_list.specs.Common.{nobody}
 use Rattle.passive_list.proofs.Noting.{noted}
 use Rattle.passive_list.proofs.Walking.{goes_on, may_load}
 use Rattle.passive_list.proofs.Searches.{four_loaded}

@@ -1,13 +1,8 @@
 -- One slot on the list after the other.
 use Rattle.std.proofs.Common.{◌≡◌, ◌+◌, ◌-◌, ◌++◌, set, ap, ◌∙◌, subst, arith, length-set, append_assoc}
-use Rattle.registry_values.specs.declared.entry.Kind.TheVariants.{Iface}
-use Rattle.registry_values.specs.declared.slot.Key.{Key}
-use Rattle.protocol.specs.declared.event.Event.TheVariants.{Seek}
-use Rattle.protocol.specs.declared.event.Reply.TheVariants.{Done}
-use Rattle.cpu_words.specs.Rule.{did}
-use Rattle.cpu_words.specs.Searching.{HasFollowed, cpu_after_seek, search_for, key_with}
-use Rattle.passive_list.specs.Searches.{nobody, HasSearchedFor}
-use Rattle.passive_list.specs.Noting.{HasNotedSoFar}
+use Rattle.passive_list.specs.Types.{Iface, Key, Seek, Done}
+use Rattle.cpu_words.specs.Common.{did, HasFollowed, cpu_after_seek, search_for, key_with}
+use Rattle.passive_list.specs.Common.{nobody, HasSearchedFor, HasNotedSoFar}
 use Rattle.passive_list.proofs.Noting.{noting_begins, none_noted, on_slot, slot_within, may_note, may_go_on, has_room, one_more_noted, few_noted, noted_id, slot_id}
 use Rattle.passive_list.proofs.Searches.{search_begun, link_loaded, one_visited, search_missed}
 use Rattle.passive_list.proofs.walks.note_all.Goals as goal

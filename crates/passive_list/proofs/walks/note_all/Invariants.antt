@@ -1,9 +1,8 @@
 use Rattle.std.proofs.Common.{◌≡◌, ◌≤◌, ◌-◌, length}
-use Rattle.passive_list.specs.Searches.{nobody, HasSearchedFor}
-use Rattle.passive_list.specs.Noting.{HasNotedSoFar}
+use Rattle.passive_list.specs.Common.{nobody, HasSearchedFor, HasNotedSoFar}
 use Rattle.passive_list.proofs.Searches.{EndsAtLink}
 use Rattle.passive_list.proofs.walks.note_all.Given as goal
-use Rattle.registry_values.specs.declared.settings.TheConstants.{MOST_SLOTS}
+use Rattle.passive_list.specs.Types.{MOST_SLOTS}
 
 -- the slots so far are noted, and the link leads to the next one
 abbrev pub invariant-loop-link : goal.invariant-loop-link

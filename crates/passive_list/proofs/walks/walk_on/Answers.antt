@@ -1,9 +1,7 @@
 -- The data agree with the view as a walk is over.
 use Rattle.std.proofs.Common.{◌≡◌, ℕ, Option, None, take, refl, sym, ap, ◌∙◌, subst}
-use Rattle.protocol.specs.declared.state.Search.{Search}
-use Rattle.passive_list.specs.Cpus.{OnCpu, OnPlainCpu}
-use Rattle.passive_list.specs.Searches.{HasGoneOverBy}
-use Rattle.passive_list.specs.Walks.{HasWalked}
+use Rattle.passive_list.specs.Types.{Search}
+use Rattle.passive_list.specs.Common.{OnCpu, OnPlainCpu, HasGoneOverBy, HasWalked}
 use Rattle.passive_list.proofs.Agreeing.{seen_agrees, own_agrees}
 use Rattle.passive_list.proofs.FoundAgain.{walked}
 use Rattle.passive_list.proofs.walks.walk_on.Goals as goal

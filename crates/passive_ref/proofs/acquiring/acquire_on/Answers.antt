@@ -1,6 +1,6 @@
 -- The last found entry is in the pass.
 use Rattle.std.proofs.Common.{◌≡◌, inl, sym, subst, None}
-use Rattle.passive_list.specs.Cpus.{OnPlainCpu}
+use Rattle.passive_list.specs.Common.{OnPlainCpu}
 use Rattle.passive_list.proofs.Agreeing.{IsFoundAs, found_as, found_none}
 use Rattle.passive_ref.proofs.Copying.{acquired, not_acquired}
 use Rattle.passive_ref.proofs.acquiring.acquire_on.Goals as goal

@@ -1,7 +1,7 @@
 -- The data agree with the view as a reference is added.
 use Rattle.std.proofs.Common.{◌∙◌, sym, ap}
-use Rattle.passive_list.specs.Cpus.{OnPlainCpu}
-use Rattle.cpu_words.specs.Views.{references_to}
+use Rattle.passive_list.specs.Common.{OnPlainCpu}
+use Rattle.cpu_words.specs.Common.{references_to}
 use Rattle.cpu_words.proofs.shown.KeepersShown.{step_is_shown}
 use Rattle.passive_list.proofs.Agreeing.{own_agrees}
 use Rattle.passive_ref.proofs.Changing.{added_agrees}

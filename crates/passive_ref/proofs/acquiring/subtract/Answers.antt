@@ -1,6 +1,6 @@
 -- The data agree with the view as a reference is taken away.
 use Rattle.std.proofs.Common.{sym, subst}
-use Rattle.passive_list.specs.Cpus.{OnPlainCpu}
+use Rattle.passive_list.specs.Common.{OnPlainCpu}
 use Rattle.passive_ref.specs.Psrefs.{IsHeldAt}
 use Rattle.cpu_words.proofs.shown.KeepersShown.{step_is_shown}
 use Rattle.passive_list.proofs.Agreeing.{own_agrees}

@@ -1,7 +1,7 @@
 -- A place of another number counts nothing of this one.
 use Rattle.std.proofs.Common.{◌≡◌, sym, subst}
-use Rattle.passive_list.specs.Cpus.{OnPlainCpu}
-use Rattle.cpu_words.specs.Views.{references_to}
+use Rattle.passive_list.specs.Common.{OnPlainCpu}
+use Rattle.cpu_words.specs.Common.{references_to}
 use Rattle.passive_ref.specs.Psrefs.{MayRefer}
 use Rattle.passive_ref.proofs.Places.{known_attached, uncounted_here}
 use Rattle.passive_ref.proofs.holding.count_of.Goals as goal

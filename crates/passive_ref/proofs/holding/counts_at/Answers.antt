@@ -1,7 +1,7 @@
 -- A place that counts for a number is its entry's.
 use Rattle.std.proofs.Common.{subst, arith}
 use Rattle.std.proofs.lemmas.Bool.{ltb-true}
-use Rattle.passive_list.specs.Cpus.{OnPlainCpu, place_at}
+use Rattle.passive_list.specs.Common.{OnPlainCpu, place_at}
 use Rattle.passive_ref.specs.Psrefs.{IsHeldAt}
 use Rattle.passive_ref.proofs.Places.{held_at}
 use Rattle.passive_ref.proofs.holding.counts_at.Goals as goal

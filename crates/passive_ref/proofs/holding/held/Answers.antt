@@ -1,7 +1,7 @@
 -- The CPU that names its own table is this one.
 use Rattle.std.proofs.Common.{ℕ, ◌<◌, ◌↔◌, IsTrue, subst}
-use Rattle.cpu_words.specs.Views.{references_to}
-use Rattle.passive_list.specs.Cpus.{OnCpu}
+use Rattle.cpu_words.specs.Common.{references_to}
+use Rattle.passive_list.specs.Common.{OnCpu}
 use Rattle.passive_ref.proofs.holding.held.Goals as goal
 
 pub returns : goal.returns

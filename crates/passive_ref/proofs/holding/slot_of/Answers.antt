@@ -1,8 +1,8 @@
 -- The first place that counts for a number is its entry's.
 use Rattle.std.proofs.Common.{◌≡◌, ◌∙◌, sym, subst}
-use Rattle.passive_list.specs.Cpus.{OnPlainCpu}
+use Rattle.passive_list.specs.Common.{OnPlainCpu}
 use Rattle.passive_ref.specs.Psrefs.{IsHeldAt}
-use Rattle.cpu_words.specs.Views.{references_to}
+use Rattle.cpu_words.specs.Common.{references_to}
 use Rattle.passive_ref.proofs.Places.{held_here, none_here}
 use Rattle.passive_ref.proofs.holding.slot_of.Goals as goal
 

@@ -1,6 +1,6 @@
 -- Four loads give the record of the entry that the CPU refers to.
 use Rattle.std.proofs.Common.{◌∙◌, ap, refl}
-use Rattle.passive_list.specs.Cpus.{OnPlainCpu}
+use Rattle.passive_list.specs.Common.{OnPlainCpu}
 use Rattle.passive_ref.proofs.Records.{after_word, all_loaded, named, word_is}
 use Rattle.passive_ref.proofs.reading.load_record.Goals as goal
 

@@ -1,7 +1,7 @@
 -- Whether the handles have all CPUs.
 use Rattle.std.proofs.Common.{◌≡◌, ◌<◌, List, length, Option, refl, sym, ap, ◌∙◌, arith, get_or}
 use Rattle.std.proofs.lemmas.Bool.{false≢true}
-use Rattle.passive_list.specs.Cpus.{OnPlainCpu}
+use Rattle.passive_list.specs.Common.{OnPlainCpu}
 use Rattle.registry_c.specs.Opening.{bodies_of, body_at}
 use Rattle.registry_c.proofs.Handles.{body_is, count_bodies, same_bodies}
 use Rattle.registry_c.proofs.Here.{here_more}

@@ -1,5 +1,5 @@
 use Rattle.std.proofs.Common.{◌≡◌, ◌<◌, ℕ, Some}
-use Rattle.passive_list.specs.Cpus.{OnPlainCpu}
+use Rattle.passive_list.specs.Common.{OnPlainCpu}
 use Rattle.registry_c.specs.Opening.{bodies_of, body_at}
 use Rattle.registry_c.proofs.audit.are_all.Given as goal
 

@@ -1,10 +1,9 @@
 -- What an audit answers at each test.
 use Rattle.std.proofs.Common.{◌≡◌, ℕ, List, Option, refl, sym, ap, ◌∙◌, subst, arith}
-use Rattle.registry_values.specs.declared.refusal.Refusal.TheVariants.{MissingCpu}
-use Rattle.registry_values.specs.declared.settings.Settings.{Settings}
-use Rattle.registry_values.specs.Refusals.{number_of_refusal}
-use Rattle.passive_list.specs.Cpus.{OnPlainCpu}
-use Rattle.cpu_words.specs.Views.{Named}
+use Rattle.registry_c.specs.Types.{MissingCpu, Settings}
+use Rattle.registry_values.specs.Common.{number_of_refusal}
+use Rattle.passive_list.specs.Common.{OnPlainCpu}
+use Rattle.cpu_words.specs.Common.{Named}
 use Rattle.name_registry.proofs.Gathered.{listened_none}
 use Rattle.name_registry.proofs.Tallies.{known_keeper}
 use Rattle.registry_c.specs.declared.values.TheConstants.{DONE, NO_ROOM}

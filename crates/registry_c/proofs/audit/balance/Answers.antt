@@ -1,8 +1,8 @@
 -- What is told of one entry.
 use Rattle.std.proofs.Common.{ap, ◌∙◌, arith, take}
 use Rattle.std.proofs.lemmas.Int.{ints}
-use Rattle.registry_values.specs.declared.settings.Settings.{Settings}
-use Rattle.registry_values.specs.Balances.{less_bias, sum_of}
+use Rattle.registry_c.specs.Types.{Settings}
+use Rattle.registry_values.specs.Common.{less_bias, sum_of}
 use Rattle.passive_list.proofs.Rows.{keeper_is}
 use Rattle.name_registry.proofs.Audits.{has}
 use Rattle.registry_c.specs.Audits.{cpus_in}

@@ -1,7 +1,7 @@
 -- One CPU more has heard, and all have.
 use Rattle.std.proofs.Common.{◌<◌, ◌∙◌, ◌++◌, length, ap, arith, None}
-use Rattle.cpu_words.specs.KeeperLog.{heard_from}
-use Rattle.passive_list.specs.Keepers.{OnKeeper}
+use Rattle.cpu_words.specs.Common.{heard_from}
+use Rattle.passive_list.specs.Common.{OnKeeper}
 use Rattle.name_registry.proofs.Gathered.{gathered_alike, gathered_notes, listened}
 use Rattle.registry_c.specs.Audits.{cpus_in}
 use Rattle.registry_c.specs.Opening.{bodies_of}

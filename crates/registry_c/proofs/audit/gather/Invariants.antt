@@ -1,7 +1,6 @@
 use Rattle.std.proofs.Common.{◌≡◌, ◌++◌, None}
-use Rattle.protocol.specs.declared.event.Event.TheVariants.{Tell}
-use Rattle.protocol.specs.declared.event.Reply.TheVariants.{Done}
-use Rattle.cpu_words.specs.Rule.{did}
+use Rattle.registry_c.specs.Types.{Tell, Done}
+use Rattle.cpu_words.specs.Common.{did}
 use Rattle.name_registry.proofs.Gathered.{Gathered}
 use Rattle.registry_c.specs.Audits.{cpus_in}
 use Rattle.registry_c.specs.Opening.{bodies_of}

@@ -1,8 +1,8 @@
 -- One CPU more.
 use Rattle.std.proofs.Common.{◌≡◌, ◌<◌, ◌^◌, ◌≤ℤ◌, ℤ, neg_ℤ, pos, of_z, to_z, w64, subst, List, Option, length, refl, sym, ap, ◌∙◌, arith, get_or}
 use Rattle.std.proofs.lemmas.Int.{ints}
-use Rattle.registry_values.specs.declared.settings.Settings.{Settings}
-use Rattle.passive_list.specs.Cpus.{OnPlainCpu}
+use Rattle.registry_c.specs.Types.{Settings}
+use Rattle.passive_list.specs.Common.{OnPlainCpu}
 use Rattle.registry_c.specs.Opening.{bodies_of, body_at}
 use Rattle.registry_c.proofs.Audited.{locals_more, none_local}
 use Rattle.registry_c.proofs.Handles.{body_is, count_bodies, same_bodies}

@@ -1,7 +1,7 @@
 -- The entries of all slots, one after the other.
 use Rattle.std.proofs.Common.{◌≡◌, ◌<◌, ℕ, List, Option, refl, sym, ap, ◌∙◌, subst, arith, rules}
-use Rattle.registry_values.specs.declared.settings.Settings.{Settings}
-use Rattle.passive_list.specs.Cpus.{OnPlainCpu}
+use Rattle.registry_c.specs.Types.{Settings}
+use Rattle.passive_list.specs.Common.{OnPlainCpu}
 use Rattle.registry_c.specs.Audits.{AreAllHere, AreTold, WritesNext, occupied}
 use Rattle.registry_c.specs.Opening.{bodies_of}
 use Rattle.registry_c.proofs.Audited.{has_place, none_told, told_more}

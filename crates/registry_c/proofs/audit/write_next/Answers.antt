@@ -1,6 +1,6 @@
 -- The list has room for the slot's entry.
 use Rattle.std.proofs.Common.{◌<◌, length, subst, rules}
-use Rattle.protocol.specs.Invariant.{IsIn}
+use Rattle.protocol.specs.Common.{IsIn}
 use Rattle.registry_c.proofs.audit.write_next.Goals as goal
 
 pub offset_bounds-list-at : goal.offset_bounds-list-at

@@ -1,8 +1,7 @@
 -- A destroy outside a section, whose turn met a stage.
 use Rattle.std.proofs.Common.{◌∙◌, Ok, Result, sym, ap, subst}
-use Rattle.registry_values.specs.declared.refusal.Refusal.{Refusal}
-use Rattle.registry_values.specs.declared.stage.Stage.{Stage}
-use Rattle.name_registry.specs.Meeting.{is_inside}
+use Rattle.registry_c.specs.Types.{Refusal, Stage}
+use Rattle.name_registry.specs.Common.{is_inside}
 use Rattle.registry_c.specs.KeeperCalls.{AdvancesFor}
 use Rattle.registry_c.specs.Places.{put}
 use Rattle.registry_c.proofs.Gone.{destroyed_by}

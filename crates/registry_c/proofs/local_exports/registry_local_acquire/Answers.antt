@@ -1,5 +1,5 @@
 use Rattle.std.proofs.Common.{Ok, Err, refl, subst, ◌∙◌}
-use Rattle.passive_list.specs.Cpus.{OnPlainCpu}
+use Rattle.passive_list.specs.Common.{OnPlainCpu}
 use Rattle.registry_c.specs.LocalCalls.{LocalAcquires}
 use Rattle.registry_c.proofs.Acquired.{no_body, one_body}
 use Rattle.registry_c.proofs.local_exports.registry_local_acquire.Goals as goal

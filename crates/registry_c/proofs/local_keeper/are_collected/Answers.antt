@@ -1,9 +1,8 @@
 -- The entry is retired in the slot, and the marks are looked at.
 use Rattle.std.proofs.Common.{◌≡◌, ◌+◌, ◌&&◌, true, false, ap, sym, ◌∙◌, arith}
-use Rattle.registry_values.specs.declared.mark.Mark.{Mark}
-use Rattle.registry_values.specs.declared.settings.Settings.{Settings}
-use Rattle.registry_values.specs.Slots.{is_retired_as, slot_at}
-use Rattle.passive_list.specs.Keepers.{OnPlainKeeper}
+use Rattle.registry_c.specs.Types.{Mark, Settings}
+use Rattle.registry_values.specs.Common.{is_retired_as, slot_at}
+use Rattle.passive_list.specs.Common.{OnPlainKeeper}
 use Rattle.passive_list.proofs.Rows.{retired_in}
 use Rattle.registry_c.specs.Collected.{some_collected}
 use Rattle.registry_c.proofs.Collected.{none_below, retired_of, some_now, some_stays}

@@ -1,10 +1,7 @@
 -- An attach under a lawful name.
 use Rattle.std.proofs.Common.{None, Some, Ok, Err, refl, sym, ap, subst, ◌∙◌}
 use Rattle.std.specs.Prelude.{Result}
-use Rattle.registry_values.specs.declared.entry.Entry.{Entry}
-use Rattle.registry_values.specs.declared.entry.Kind.TheVariants.{Iface}
-use Rattle.registry_values.specs.declared.name.Name.{Name}
-use Rattle.registry_values.specs.declared.refusal.Refusal.{Refusal}
+use Rattle.registry_c.specs.Types.{Entry, Iface, Name, Refusal}
 use Rattle.registry_c.specs.Bodies.{OnLocalBody}
 use Rattle.registry_c.specs.KeeperCalls.{AttachesIface, record_of}
 use Rattle.registry_c.specs.LocalCalls.{WritesIface}

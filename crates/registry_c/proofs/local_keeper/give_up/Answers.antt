@@ -1,6 +1,6 @@
 use Rattle.std.proofs.Common.{sym, subst, ◌∙◌}
-use Rattle.cpu_words.specs.Draining.{IsFoundCollected}
-use Rattle.passive_list.specs.Keepers.{OnPlainKeeper}
+use Rattle.cpu_words.specs.Common.{IsFoundCollected}
+use Rattle.passive_list.specs.Common.{OnPlainKeeper}
 use Rattle.registry_c.proofs.Collected.{back_found, collected_found}
 use Rattle.registry_c.proofs.local_keeper.give_up.Goals as goal
 

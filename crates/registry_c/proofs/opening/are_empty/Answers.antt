@@ -1,7 +1,7 @@
 -- Whether all handles are empty.
 use Rattle.std.proofs.Common.{◌≡◌, ◌<◌, List, length, Option, sym, ap, ◌∙◌, arith, get_or}
 use Rattle.std.proofs.lemmas.Bool.{false≢true}
-use Rattle.passive_list.specs.Cpus.{OnPlainCpu}
+use Rattle.passive_list.specs.Common.{OnPlainCpu}
 use Rattle.registry_c.specs.Opening.{bodies_of, body_at}
 use Rattle.registry_c.proofs.Handles.{body_is, count_bodies, same_bodies}
 use Rattle.registry_c.proofs.Here.{all_none, none_more}

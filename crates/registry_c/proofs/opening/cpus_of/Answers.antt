@@ -1,9 +1,8 @@
 use Rattle.std.proofs.Common.{◌≡◌, ◌∙◌, ◌+◌, ◌-◌, ◌<◌, ◌∷◌, [], length, length-append, ap, arith, rules, subst, sym, IsTrue}
-use Rattle.registry_values.specs.declared.settings.Settings.{Settings}
-use Rattle.registry_values.specs.Limits.{are_fit}
+use Rattle.registry_c.specs.Types.{Settings, CpuView}
+use Rattle.registry_values.specs.Common.{are_fit}
 use Rattle.registry_values.proofs.Fit.{ranges}
-use Rattle.cpu_words.specs.declared.view.CpuView.{CpuView}
-use Rattle.cpu_words.specs.Views.{Named, Seated, new_cpu}
+use Rattle.cpu_words.specs.Common.{Named, Seated, new_cpu}
 use Rattle.registry_c.specs.Opening.{boxed, opened_cpu, opened_down}
 use Rattle.registry_c.proofs.Handles.{boxed_last}
 use Rattle.registry_c.proofs.Opened.{down_more}

@@ -1,10 +1,8 @@
 -- What opening answers at each test.
 use Rattle.std.proofs.Common.{◌≡◌, ℕ, List, Option, length, true, refl, sym, ap, ◌∙◌, subst}
-use Rattle.registry_values.specs.declared.settings.Settings.{Settings}
-use Rattle.registry_values.specs.Limits.{are_fit}
-use Rattle.registry_values.specs.Refusals.{number_of_refusal}
-use Rattle.passive_list.specs.Cpus.{OnPlainCpu}
-use Rattle.passive_list.specs.Keepers.{OnPlainKeeper}
+use Rattle.registry_c.specs.Types.{Settings}
+use Rattle.registry_values.specs.Common.{are_fit, number_of_refusal}
+use Rattle.passive_list.specs.Common.{OnPlainCpu, OnPlainKeeper}
 use Rattle.registry_c.specs.Opening.{AreEmpty, HasOpened, Opens, bodies_of}
 use Rattle.registry_c.proofs.Handles.{count_bodies}
 use Rattle.registry_c.proofs.Opens.{bad_settings, came_to_open, full_handle, missing_cpu}

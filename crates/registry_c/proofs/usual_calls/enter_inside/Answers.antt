@@ -1,7 +1,7 @@
 -- A section is open just where the depth isn't 0, by what the CPU says of itself.
 use Rattle.std.proofs.Common.{◌≡◌, None, ap, subst, ◌∙◌}
 use Rattle.std.specs.Prelude.{◌↔◌}
-use Rattle.passive_list.specs.Cpus.{OnPlainCpu}
+use Rattle.passive_list.specs.Common.{OnPlainCpu}
 use Rattle.registry_c.specs.declared.cpu_body.CpuBody.TheInside.{Inside}
 use Rattle.registry_c.proofs.UsualCalls.{begin_of, entered_inside}
 use Rattle.registry_c.proofs.usual_calls.enter_inside.Goals as goal

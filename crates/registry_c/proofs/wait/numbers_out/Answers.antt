@@ -2,7 +2,7 @@ use Rattle.std.proofs.Common.{◌≡◌, ◌∙◌, arith, length, rules, sym, N
 use Rattle.registry_c.specs.Flags.{number_or_none}
 use Rattle.registry_c.proofs.Lists.{map_by_place}
 use Rattle.registry_c.proofs.wait.numbers_out.Goals as goal
-use Rattle.registry_values.specs.declared.settings.TheConstants.{MOST_SLOTS}
+use Rattle.registry_c.specs.Types.{MOST_SLOTS}
 
 pub returns : goal.returns
 returns c =

@@ -2,7 +2,7 @@ use Rattle.std.proofs.Common.{◌≡◌, ◌∙◌, arith, length, rules, sym, f
 use Rattle.registry_c.specs.Flags.{is_set}
 use Rattle.registry_c.proofs.Lists.{map_by_place}
 use Rattle.registry_c.proofs.wait.seen_in.Goals as goal
-use Rattle.registry_values.specs.declared.settings.TheConstants.{MOST_CPUS}
+use Rattle.registry_c.specs.Types.{MOST_CPUS}
 
 pub returns : goal.returns
 returns c =

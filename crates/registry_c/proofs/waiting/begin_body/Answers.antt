@@ -1,13 +1,12 @@
 use Rattle.std.proofs.Common.{◌≡◌, length, replicate, rules, subst}
-use Rattle.passive_list.specs.Cpus.{OnPlainCpu}
-use Rattle.passive_list.specs.Keepers.{OnPlainKeeper}
+use Rattle.passive_list.specs.Common.{OnPlainCpu, OnPlainKeeper}
 use Rattle.passive_list.proofs.Rows.{keeper_is}
 use Rattle.registry_c.specs.declared.wait.CWait.{CWait}
 use Rattle.registry_c.specs.declared.wait.TheConstants.{BEGUN}
 use Rattle.registry_c.specs.KeeperCalls.{Begins}
 use Rattle.registry_c.proofs.Turned.{begins_by}
 use Rattle.registry_c.proofs.waiting.begin_body.Goals as goal
-use Rattle.registry_values.specs.declared.settings.TheConstants.{MOST_CPUS, MOST_SLOTS}
+use Rattle.registry_c.specs.Types.{MOST_CPUS, MOST_SLOTS}
 
 pub returns : goal.returns
 returns c =

@@ -1,5 +1,5 @@
 use Rattle.registry_live.proofs.run.run_live.Given as goal
-use Rattle.registry_values.specs.declared.settings.TheConstants.{MOST_CPUS}
+use Rattle.name_registry.specs.Types.{MOST_CPUS}
 
 -- the registry that was just made
 abbrev pub ghosts-run_on_blank-D-Domain : goal.ghosts-run_on_blank-D-Domain

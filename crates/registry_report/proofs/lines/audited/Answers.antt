@@ -1,7 +1,7 @@
 use Rattle.std.proofs.Common.{List, ℕ, ◌++◌, ◌∙◌, ap, map, sym, take}
-use Rattle.registry_values.specs.Balances.{tally_shown}
-use Rattle.registry_values.specs.declared.balance.Balance.{Balance}
-use Rattle.registry_report.specs.Lines.{balance_line, balance_lines}
+use Rattle.registry_values.specs.Common.{tally_shown}
+use Rattle.registry_report.specs.Types.{Balance}
+use Rattle.registry_report.specs.Common.{balance_line, balance_lines}
 use Rattle.registry_report.proofs.written.Writing.{lines_step}
 use Rattle.registry_report.proofs.lines.audited.Goals as goal
 

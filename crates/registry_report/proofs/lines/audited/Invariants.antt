@@ -1,7 +1,7 @@
 use Rattle.std.proofs.Common.{◌≡◌, map, take}
 use Rattle.std.specs.Prelude.{string_bytes}
-use Rattle.registry_values.specs.Balances.{tally_shown}
-use Rattle.registry_report.specs.Lines.{balance_lines}
+use Rattle.registry_values.specs.Common.{tally_shown}
+use Rattle.registry_report.specs.Common.{balance_lines}
 use Rattle.registry_report.proofs.lines.audited.Given as goal
 
 -- the lines of the balances so far

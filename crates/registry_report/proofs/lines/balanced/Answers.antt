@@ -1,8 +1,8 @@
 use Rattle.std.proofs.Common.{List, ℤ, ℕ, [], ◌∷◌, ◌++◌, ◌∙◌, ap, map, sym}
 use Rattle.std.specs.Prelude.{codes}
 use Rattle.std.specs.Fmt.{decimal, signed_decimal}
-use Rattle.registry_values.specs.Balances.{tally_shown}
-use Rattle.registry_report.specs.Lines.{spaced_words}
+use Rattle.registry_values.specs.Common.{tally_shown}
+use Rattle.registry_report.specs.Common.{spaced_words}
 use Rattle.registry_report.proofs.written.Writing.{balance_is}
 use Rattle.registry_report.proofs.lines.balanced.Goals as goal
 

@@ -1,7 +1,7 @@
 use Rattle.std.proofs.Common.{◌≡◌, map, take}
 use Rattle.std.specs.Prelude.{string_bytes}
 use Rattle.std.specs.Fmt.{signed_decimal}
-use Rattle.registry_report.specs.Lines.{spaced_words}
+use Rattle.registry_report.specs.Common.{spaced_words}
 use Rattle.registry_report.proofs.lines.numbers.Given as goal
 
 -- the words of the numbers so far

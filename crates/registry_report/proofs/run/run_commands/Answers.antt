@@ -1,7 +1,6 @@
 use Rattle.std.proofs.Common.{[], get_or, refl, subst, sym, ◌∙◌}
-use Rattle.registry_report.specs.Printed.{IsLineOf, WritesFront}
+use Rattle.registry_report.specs.Common.{IsLineOf, WritesFront, AppendsPrefix}
 use Rattle.registry_report.specs.Report.{report_from}
-use Rattle.registry_report.specs.Written.{AppendsPrefix}
 use Rattle.registry_report.proofs.written.Reports.{on_err, report_done, report_step, report_stopped}
 use Rattle.registry_report.proofs.written.Runs.{run_done, run_so_far, run_step, run_stopped}
 use Rattle.registry_report.proofs.written.Writing.{appends_none, written_none}

@@ -1,8 +1,6 @@
 use Rattle.std.proofs.Common.{◌≡◌, drop, take}
-use Rattle.registry_report.specs.Printed.{WritesRun}
-use Rattle.registry_report.specs.Registry.{Registry}
+use Rattle.registry_report.specs.Common.{WritesRun, Registry, Written}
 use Rattle.registry_report.specs.Report.{report_from}
-use Rattle.registry_report.specs.Written.{Written}
 use Rattle.registry_report.proofs.run.run_commands.Given as goal
 
 -- the texts so far are written, each one that its command may print; a session that shows a registry shows then the one that the report of the commands left goes on from

@@ -1,10 +1,8 @@
 use Rattle.std.proofs.Common.{List, OnErr, OnOk, ap, subst, ◌∙◌}
 use Rattle.std.specs.Io.KnownBytes.{Appends}
-use Rattle.registry_language.specs.declared.command.Command.{Command}
-use Rattle.registry_report.specs.Registry.{opening_registry}
-use Rattle.registry_report.specs.Report.{report, report_from}
-use Rattle.registry_report.specs.Session.{SessionState}
-use Rattle.registry_report.specs.Written.{AppendsPrefix}
+use Rattle.registry_report.specs.Types.{Command}
+use Rattle.registry_report.specs.Common.{opening_registry, report, SessionState, AppendsPrefix}
+use Rattle.registry_report.specs.Report.{report_from}
 use Rattle.registry_report.proofs.shows.Opened.{begins}
 use Rattle.registry_report.proofs.written.Reports.{nothing_yet, on_err}
 use Rattle.registry_report.proofs.run.run_core.Goals as goal

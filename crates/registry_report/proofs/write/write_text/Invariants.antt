@@ -1,5 +1,5 @@
 use Rattle.std.proofs.Common.{length}
-use Rattle.registry_report.specs.Written.{Written}
+use Rattle.registry_report.specs.Common.{Written}
 use Rattle.registry_report.proofs.write.write_text.Given as goal
 
 abbrev pub invariant-loop-rest : goal.invariant-loop-rest

@@ -1,5 +1,5 @@
 use Rattle.registry_storm.proofs.storms.storm_run.Given as goal
-use Rattle.registry_values.specs.declared.settings.TheConstants.{MOST_CPUS}
+use Rattle.name_registry.specs.Types.{MOST_CPUS}
 
 -- the registry that was just made
 abbrev pub ghosts-storm_on-D-Domain : goal.ghosts-storm_on-D-Domain

@@ -1,6 +1,6 @@
 use Rattle.std.proofs.Common.{sym, ap, subst, arith}
-use Rattle.registry_values.specs.declared.settings.Settings.{Settings}
-use Rattle.passive_list.specs.Cpus.{OnCpu}
+use Rattle.name_registry.specs.Types.{Settings}
+use Rattle.passive_list.specs.Common.{OnCpu}
 use Rattle.registry_storm.specs.Storms.{IsOutside}
 use Rattle.registry_storm.proofs.Storming.{new_outside, rest_outside}
 use Rattle.registry_storm.proofs.storms.take_first.Goals as goal

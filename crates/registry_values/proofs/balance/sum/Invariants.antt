@@ -1,5 +1,5 @@
 use Rattle.std.proofs.Common.{◌≡◌, ◌*◌, ◌^◌, ◌≤ℤ◌, neg_ℤ, pos, take}
-use Rattle.registry_values.specs.Balances.{sum_of}
+use Rattle.registry_values.specs.Common.{sum_of}
 use Rattle.registry_values.proofs.balance.sum.Given as goal
 
 -- the sum so far, and how far it goes

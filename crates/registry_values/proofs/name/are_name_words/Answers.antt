@@ -1,5 +1,6 @@
 use Rattle.std.proofs.Common.{ap, ◌∙◌}
-use Rattle.registry_values.specs.Names.{is_padded, are_name_words}
+use Rattle.registry_values.specs.Common.{is_padded}
+use Rattle.registry_values.specs.Names.{are_name_words}
 use Rattle.registry_values.proofs.name.are_name_words.Goals as goal
 
 pub returns : goal.returns

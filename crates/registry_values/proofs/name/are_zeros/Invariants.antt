@@ -1,5 +1,5 @@
 use Rattle.std.proofs.Common.{◌≡◌, drop}
-use Rattle.registry_values.specs.Names.{are_zeros}
+use Rattle.registry_values.specs.Common.{are_zeros}
 use Rattle.registry_values.proofs.name.are_zeros.Given as goal
 
 -- zero bytes so far

@@ -1,5 +1,5 @@
 use Rattle.std.proofs.Common.{◌≡◌, drop}
-use Rattle.registry_values.specs.Names.{bad_place}
+use Rattle.registry_values.specs.Common.{bad_place}
 use Rattle.registry_values.proofs.name.bad_place.Given as goal
 
 -- no bad byte so far

@@ -1,5 +1,5 @@
 use Rattle.std.proofs.Common.{◌≡◌, drop}
-use Rattle.registry_values.specs.Names.{is_rest}
+use Rattle.registry_values.specs.Common.{is_rest}
 use Rattle.registry_values.proofs.name.is_rest.Given as goal
 
 -- letters and digits so far

@@ -1,6 +1,6 @@
 use Rattle.std.proofs.Common.{◌≡◌, ◌-◌, ℕ, List, ◌++◌, length, take, drop, replicate, ap, ap₂, sym, ◌∙◌, arith, take-append-drop, take_all}
 use Rattle.std.proofs.lemmas.List.{drop-replicate}
-use Rattle.registry_values.specs.Names.{padded_bytes}
+use Rattle.registry_values.specs.Common.{padded_bytes}
 use Rattle.registry_values.proofs.name.padded.Goals as goal
 
 all_written : (n : ℕ) (bytes text : List ℕ) → n ≡ length text → take n bytes ≡ take n text → drop n bytes ≡ drop n (replicate 16 0) → bytes ≡ padded_bytes text

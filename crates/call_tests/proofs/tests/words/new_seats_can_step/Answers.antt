@@ -4,9 +4,7 @@ use Rattle.atomic_table.specs.Seated.{TableId}
 use Rattle.atomic_table.proofs.Lists.{at_last}
 use Rattle.registry_values.specs.declared.settings.Settings.{Settings}
 use Rattle.cpu_words.specs.declared.view.CpuView.{CpuView}
-use Rattle.cpu_words.specs.Views.{Seated, new_cpu}
-use Rattle.cpu_words.specs.Opening.{AreSeats}
-use Rattle.cpu_words.specs.Sections.{MayEnter}
+use Rattle.cpu_words.specs.Common.{Seated, new_cpu, AreSeats, MayEnter}
 use Rattle.call_tests.proofs.tests.words.new_seats_can_step.Goals as goal
 
 -- the last seat is a new CPU's

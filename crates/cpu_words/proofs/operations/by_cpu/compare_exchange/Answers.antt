@@ -1,8 +1,7 @@
 use mathlib.Core.Option.{none}
 use prog.Atomic.{either}
 use Rattle.std.proofs.Common.{ℕ, ◌==◌, sym, ap, ◌∙◌, arith}
-use Rattle.cpu_words.specs.Views.{Named, Seated}
-use Rattle.cpu_words.specs.declared.view.CpuView.{CpuView}
+use Rattle.cpu_words.specs.Common.{Named, Seated, CpuView}
 use Rattle.cpu_words.proofs.logs.Allowing.{allows_cpu}
 use Rattle.cpu_words.proofs.operations.by_cpu.compare_exchange.Goals as goal
 

@@ -1,7 +1,6 @@
 use mathlib.Core.Option.{none}
 use Rattle.std.proofs.Common.{ℕ, ◌+◌, ◌-◌, ◌%◌, ◌^◌, sym, ap, ◌∙◌, arith}
-use Rattle.cpu_words.specs.Views.{Named, Seated}
-use Rattle.cpu_words.specs.declared.view.CpuView.{CpuView}
+use Rattle.cpu_words.specs.Common.{Named, Seated, CpuView}
 use Rattle.cpu_words.proofs.logs.Allowing.{allows_cpu}
 use Rattle.cpu_words.proofs.operations.by_cpu.subtract.Goals as goal
 

@@ -1,7 +1,6 @@
 use mathlib.Core.Option.{none}
 use Rattle.std.proofs.Common.{sym, ap, ◌∙◌, arith}
-use Rattle.cpu_words.specs.Views.{Named, Seated}
-use Rattle.cpu_words.specs.declared.view.KeeperView.{KeeperView}
+use Rattle.cpu_words.specs.Common.{Named, Seated, KeeperView}
 use Rattle.cpu_words.proofs.logs.Allowing.{allows_store}
 use Rattle.cpu_words.proofs.operations.by_keeper.store.Goals as goal
 

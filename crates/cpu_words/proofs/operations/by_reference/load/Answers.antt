@@ -1,7 +1,6 @@
 use mathlib.Core.Option.{none}
 use Rattle.std.proofs.Common.{sym, ap, ◌∙◌, arith}
-use Rattle.cpu_words.specs.Views.{Named, Seated}
-use Rattle.cpu_words.specs.declared.view.ReferenceView.{ReferenceView}
+use Rattle.cpu_words.specs.Common.{Named, Seated, ReferenceView}
 use Rattle.cpu_words.proofs.logs.Allowing.{allows_reference}
 use Rattle.cpu_words.proofs.operations.by_reference.load.Goals as goal
 

@@ -1,12 +1,7 @@
 use Rattle.std.proofs.Common.{rules, arith, ap, ◌∙◌, ◌++◌, ℕ}
 use Rattle.atomic_table.specs.Table.{Me}
-use Rattle.cpu_words.specs.declared.view.KeeperView.{KeeperView}
-use Rattle.cpu_words.specs.declared.view.ReferenceView.{ReferenceView}
-use Rattle.cpu_words.specs.declared.view.Logged.{Logged}
-use Rattle.cpu_words.specs.Views.{Seated}
+use Rattle.cpu_words.specs.Common.{KeeperView, ReferenceView, Logged, Seated}
 use Rattle.cpu_words.proofs.by_keeper.Keeping.{keeps_seats, keep_by}
-use Rattle.cpu_words.specs.Logs.{keeps_for}
-use Rattle.cpu_words.specs.declared.view.View.TheVariants.{Keeper, Reference}
 use Rattle.cpu_words.proofs.operations.kept.join.Goals as goal
 
 pub join_seat-requires : goal.join_seat-requires

@@ -1,8 +1,6 @@
 use mathlib.Core.Option.{none}
 use Rattle.std.proofs.Common.{sym, ap, ◌∙◌, arith}
-use Rattle.cpu_words.specs.Views.{Named, Seated}
-use Rattle.cpu_words.specs.Notes.{KeeperHears}
-use Rattle.cpu_words.specs.declared.view.KeeperView.{KeeperView}
+use Rattle.cpu_words.specs.Common.{Named, Seated, KeeperHears, KeeperView}
 use Rattle.cpu_words.proofs.logs.Allowing.{allows_note_hearing}
 use Rattle.cpu_words.proofs.seats.Notes.{hear_keeper_may}
 use Rattle.cpu_words.proofs.operations.notes.hear_noted.Goals as goal

@@ -1,8 +1,6 @@
 use Rattle.std.proofs.Common.{rules, arith, ap, ◌∙◌, ℕ}
 use Rattle.atomic_table.specs.Table.{Me}
-use Rattle.cpu_words.specs.declared.view.Logged.{Logged}
-use Rattle.cpu_words.specs.declared.view.CpuView.{CpuView}
-use Rattle.cpu_words.specs.Views.{Seated}
+use Rattle.cpu_words.specs.Common.{Logged, CpuView, Seated}
 use Rattle.cpu_words.proofs.seats.Notes.{cpu_joins}
 use Rattle.cpu_words.proofs.operations.notes.lay.Goals as goal
 

@@ -1,8 +1,6 @@
 use Rattle.std.proofs.Common.{rules, arith, ap, ◌∙◌, ℕ}
 use Rattle.atomic_table.specs.Table.{Me}
-use Rattle.cpu_words.specs.declared.view.Logged.{Logged}
-use Rattle.cpu_words.specs.declared.view.KeeperView.{KeeperView}
-use Rattle.cpu_words.specs.Views.{Seated}
+use Rattle.cpu_words.specs.Common.{Logged, KeeperView, Seated}
 use Rattle.cpu_words.proofs.seats.Notes.{keeper_joins}
 use Rattle.cpu_words.proofs.operations.notes.lay_by_keeper.Goals as goal
 

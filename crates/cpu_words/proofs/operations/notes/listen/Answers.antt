@@ -1,8 +1,6 @@
 use mathlib.Core.Option.{none}
-use Rattle.std.proofs.Common.{Some, ℕ, sym, ap, ◌∙◌, arith}
-use Rattle.cpu_words.specs.Views.{Named, Seated}
-use Rattle.cpu_words.specs.Notes.{CpuHears}
-use Rattle.cpu_words.specs.declared.view.CpuView.{CpuView}
+use Rattle.std.proofs.Common.{ℕ, sym, ap, ◌∙◌, arith}
+use Rattle.cpu_words.specs.Common.{Named, Seated, CpuHears, CpuView}
 use Rattle.cpu_words.proofs.logs.Allowing.{allows_hearing}
 use Rattle.cpu_words.proofs.seats.Notes.{own_hear_may}
 use Rattle.cpu_words.proofs.operations.notes.listen.Goals as goal

@@ -1,7 +1,6 @@
 use mathlib.Core.Option.{none}
 use Rattle.std.proofs.Common.{ℕ, sym, ap, ◌∙◌, arith}
-use Rattle.cpu_words.specs.Views.{Named, Seated}
-use Rattle.cpu_words.specs.declared.view.KeeperView.{KeeperView}
+use Rattle.cpu_words.specs.Common.{Named, Seated, KeeperView}
 use Rattle.cpu_words.proofs.logs.Allowing.{allows_keeper_hearing}
 use Rattle.cpu_words.proofs.operations.notes.listen_by_keeper.Goals as goal
 

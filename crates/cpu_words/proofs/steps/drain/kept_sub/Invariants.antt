@@ -1,8 +1,5 @@
-use Rattle.protocol.specs.declared.event.Reply.TheVariants.{Done}
-use Rattle.cpu_words.specs.declared.view.View.TheVariants.{Keeper}
-use Rattle.cpu_words.specs.Steps.{Makes}
-use Rattle.cpu_words.specs.Draining.{KeptSubTold}
-use Rattle.cpu_words.specs.Rule.{did}
+use Rattle.cpu_words.specs.Types.{Done}
+use Rattle.cpu_words.specs.Common.{Keeper, Makes, KeptSubTold, did}
 use Rattle.cpu_words.proofs.steps.drain.kept_sub.Given as goal
 
 abbrev pub ghosts-subtract : goal.ghosts-subtract

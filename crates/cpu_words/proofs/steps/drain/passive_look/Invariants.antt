@@ -1,8 +1,5 @@
-use Rattle.protocol.specs.declared.event.Reply.TheVariants.{Word}
-use Rattle.cpu_words.specs.declared.view.View.TheVariants.{Keeper}
-use Rattle.cpu_words.specs.Steps.{Makes}
-use Rattle.cpu_words.specs.Draining.{LookedPassiveTold}
-use Rattle.cpu_words.specs.Rule.{did}
+use Rattle.cpu_words.specs.Types.{Word}
+use Rattle.cpu_words.specs.Common.{Keeper, Makes, LookedPassiveTold, did}
 use Rattle.cpu_words.proofs.steps.drain.passive_look.Given as goal
 
 abbrev pub ghosts-load : goal.ghosts-load

@@ -1,8 +1,5 @@
-use Rattle.protocol.specs.declared.event.Reply.TheVariants.{Word}
-use Rattle.cpu_words.specs.declared.view.View.TheVariants.{Keeper}
-use Rattle.cpu_words.specs.Steps.{Makes}
-use Rattle.cpu_words.specs.Grace.{LookTold}
-use Rattle.cpu_words.specs.Rule.{did}
+use Rattle.cpu_words.specs.Types.{Word}
+use Rattle.cpu_words.specs.Common.{Keeper, Makes, LookTold, did}
 use Rattle.cpu_words.proofs.steps.grace.look.Given as goal
 
 abbrev pub ghosts-load : goal.ghosts-load

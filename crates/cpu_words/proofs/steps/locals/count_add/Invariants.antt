@@ -1,8 +1,5 @@
-use Rattle.protocol.specs.declared.event.Reply.TheVariants.{Word}
-use Rattle.cpu_words.specs.declared.view.View.TheVariants.{Cpu}
-use Rattle.cpu_words.specs.Steps.{Makes}
-use Rattle.cpu_words.specs.Locals.{CountTold}
-use Rattle.cpu_words.specs.Rule.{did}
+use Rattle.cpu_words.specs.Types.{Word}
+use Rattle.cpu_words.specs.Common.{Cpu, Makes, CountTold, did}
 use Rattle.cpu_words.proofs.steps.locals.count_add.Given as goal
 
 abbrev pub ghosts-add : goal.ghosts-add

@@ -1,6 +1,6 @@
 use Rattle.std.proofs.Common.{refl, sym, ap}
 use Rattle.cpu_words.proofs.by_cpu.Locals.{count_down_may}
-use Rattle.cpu_words.specs.Logs.{the_cpu}
+use Rattle.cpu_words.specs.Common.{the_cpu}
 use Rattle.cpu_words.proofs.steps.locals.count_down.Goals as goal
 
 pub compare_exchange-requires-clause-may : goal.compare_exchange-requires-clause-may

@@ -1,5 +1,4 @@
-use Rattle.cpu_words.specs.Locals.{down_reply, DownTold}
-use Rattle.cpu_words.specs.Rule.{did}
+use Rattle.cpu_words.specs.Common.{down_reply, DownTold, did}
 use Rattle.cpu_words.proofs.steps.locals.count_down.Given as goal
 
 abbrev pub ghosts-compare_exchange : goal.ghosts-compare_exchange

@@ -1,13 +1,7 @@
 use Rattle.std.proofs.Common.{rules, arith, ap, ℕ, ◌∙◌, ◌++◌}
 use Rattle.atomic_table.specs.Table.{Me}
-use Rattle.cpu_words.specs.declared.view.CpuView.{CpuView}
-use Rattle.cpu_words.specs.declared.view.ReferenceView.{ReferenceView}
-use Rattle.cpu_words.specs.declared.view.Logged.{Logged}
-use Rattle.cpu_words.specs.Views.{Seated}
+use Rattle.cpu_words.specs.Common.{CpuView, ReferenceView, Logged, Seated}
 use Rattle.cpu_words.proofs.by_cpu.Hands.{seat_joins, seat_joins_by}
-use Rattle.protocol.specs.declared.event.Event.TheVariants.{JoinRef}
-use Rattle.protocol.specs.declared.event.Reply.TheVariants.{Done}
-use Rattle.cpu_words.specs.Rule.{did}
 use Rattle.cpu_words.proofs.steps.locals.join_ref.Goals as goal
 
 pub join_seat-requires : goal.join_seat-requires

@@ -1,10 +1,7 @@
 use Rattle.std.proofs.Common.{rules, arith, ap, ℕ, ◌∙◌, ◌++◌, sym}
 use Rattle.atomic_table.specs.Table.{Me}
-use Rattle.cpu_words.specs.declared.view.CpuView.{CpuView}
-use Rattle.cpu_words.specs.declared.view.Logged.{Logged}
-use Rattle.cpu_words.specs.Views.{Seated}
+use Rattle.cpu_words.specs.Common.{CpuView, Logged, Seated, the_cpu}
 use Rattle.cpu_words.proofs.by_cpu.Hands.{seat_splits, does_split_back, seat_splits_by, split_back_leaves}
-use Rattle.cpu_words.specs.Logs.{the_cpu, leaves_hand}
 use Rattle.cpu_words.proofs.steps.locals.split_back.Goals as goal
 
 pub split_seat-requires : goal.split_seat-requires

@@ -1,10 +1,5 @@
-use Rattle.std.proofs.Common.{Some, ap, ◌∙◌, subst}
-use Rattle.protocol.specs.declared.event.Event.TheVariants.{Hear}
-use Rattle.protocol.specs.declared.event.Reply.TheVariants.{Done}
-use Rattle.cpu_words.specs.declared.view.CpuView.{CpuView}
-use Rattle.cpu_words.specs.declared.view.View.TheVariants.{Cpu}
-use Rattle.cpu_words.specs.Notes.{with_note}
-use Rattle.cpu_words.specs.Steps.{Makes}
+use Rattle.std.proofs.Common.{ap, ◌∙◌}
+use Rattle.cpu_words.specs.Common.{CpuView}
 use Rattle.cpu_words.proofs.seats.Notes.{cpu_heard, heard_event, laid_idle}
 use Rattle.cpu_words.proofs.logs.OwnLog.{shown_with_note}
 use Rattle.cpu_words.proofs.steps.notes.hear.Goals as goal

@@ -1,6 +1,5 @@
 use Rattle.std.proofs.Common.{ap, ◌∙◌, ◌++◌}
-use Rattle.cpu_words.specs.declared.view.KeeperView.{KeeperView}
-use Rattle.cpu_words.specs.KeeperLog.{heard_from}
+use Rattle.cpu_words.specs.Common.{KeeperView}
 use Rattle.cpu_words.proofs.logs.OwnLog.{own_with_note}
 use Rattle.cpu_words.proofs.seats.Notes.{keeper_heard}
 use Rattle.cpu_words.proofs.steps.notes.hear_keeper.Goals as goal

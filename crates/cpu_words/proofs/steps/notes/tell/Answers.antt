@@ -1,12 +1,7 @@
-use Rattle.std.proofs.Common.{Some, rules, arith, ap, ℕ, ◌∙◌, ◌++◌}
+use Rattle.std.proofs.Common.{rules, arith, ap, ℕ, ◌∙◌, ◌++◌}
 use Rattle.atomic_table.specs.Table.{Me}
-use Rattle.cpu_words.specs.declared.view.CpuView.{CpuView}
-use Rattle.cpu_words.specs.declared.view.Logged.{Logged}
-use Rattle.cpu_words.specs.Views.{Seated}
+use Rattle.cpu_words.specs.Common.{CpuView, Logged, Seated}
 use Rattle.cpu_words.proofs.seats.Notes.{cpu_splits, cpu_splits_by}
-use Rattle.protocol.specs.declared.event.Event.TheVariants.{Tell}
-use Rattle.protocol.specs.declared.event.Reply.TheVariants.{Done}
-use Rattle.cpu_words.specs.Rule.{did}
 use Rattle.cpu_words.proofs.steps.notes.tell.Goals as goal
 
 pub split_seat-requires : goal.split_seat-requires

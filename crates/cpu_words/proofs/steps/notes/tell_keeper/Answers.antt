@@ -1,12 +1,7 @@
-use Rattle.std.proofs.Common.{None, rules, arith, ap, ℕ, ◌∙◌, ◌++◌}
+use Rattle.std.proofs.Common.{rules, arith, ap, ℕ, ◌∙◌, ◌++◌}
 use Rattle.atomic_table.specs.Table.{Me}
-use Rattle.cpu_words.specs.declared.view.KeeperView.{KeeperView}
-use Rattle.cpu_words.specs.declared.view.Logged.{Logged}
-use Rattle.cpu_words.specs.Views.{Seated}
+use Rattle.cpu_words.specs.Common.{KeeperView, Logged, Seated}
 use Rattle.cpu_words.proofs.seats.Notes.{keeper_splits, keeper_splits_by}
-use Rattle.protocol.specs.declared.event.Event.TheVariants.{Tell}
-use Rattle.protocol.specs.declared.event.Reply.TheVariants.{Done}
-use Rattle.cpu_words.specs.Rule.{did}
 use Rattle.cpu_words.proofs.steps.notes.tell_keeper.Goals as goal
 
 pub split_seat-requires : goal.split_seat-requires

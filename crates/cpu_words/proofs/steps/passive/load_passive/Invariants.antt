@@ -1,6 +1,5 @@
-use Rattle.protocol.specs.declared.event.Reply.TheVariants.{Word}
-use Rattle.cpu_words.specs.Passives.{tells_passive}
-use Rattle.cpu_words.specs.Rule.{did}
+use Rattle.cpu_words.specs.Types.{Word}
+use Rattle.cpu_words.specs.Common.{tells_passive, did}
 use Rattle.cpu_words.proofs.steps.passive.load_passive.Given as goal
 
 abbrev pub ghosts-load : goal.ghosts-load

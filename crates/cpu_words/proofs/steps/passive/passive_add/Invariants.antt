@@ -1,6 +1,5 @@
-use Rattle.protocol.specs.declared.event.Reply.TheVariants.{Word}
-use Rattle.cpu_words.specs.Passives.{tells_added}
-use Rattle.cpu_words.specs.Rule.{did}
+use Rattle.cpu_words.specs.Types.{Word}
+use Rattle.cpu_words.specs.Common.{tells_added, did}
 use Rattle.cpu_words.proofs.steps.passive.passive_add.Given as goal
 
 abbrev pub ghosts-add : goal.ghosts-add

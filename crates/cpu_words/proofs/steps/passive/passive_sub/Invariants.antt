@@ -1,6 +1,5 @@
-use Rattle.protocol.specs.declared.event.Reply.TheVariants.{Word}
-use Rattle.cpu_words.specs.Passives.{tells_subtracted}
-use Rattle.cpu_words.specs.Rule.{did}
+use Rattle.cpu_words.specs.Types.{Word}
+use Rattle.cpu_words.specs.Common.{tells_subtracted, did}
 use Rattle.cpu_words.proofs.steps.passive.passive_sub.Given as goal
 
 abbrev pub ghosts-subtract : goal.ghosts-subtract

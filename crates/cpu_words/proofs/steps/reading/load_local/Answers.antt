@@ -1,10 +1,6 @@
 use Rattle.std.proofs.Common.{ℕ, refl, sym, subst}
-use Rattle.protocol.specs.declared.event.Event.TheVariants.{LoadRecord}
-use Rattle.protocol.specs.declared.event.RecordOf.TheVariants.{Local}
-use Rattle.protocol.specs.declared.event.Reply.TheVariants.{Word}
-use Rattle.cpu_words.specs.declared.view.ReferenceView.{ReferenceView}
-use Rattle.cpu_words.specs.declared.view.View.TheVariants.{Reference}
-use Rattle.cpu_words.specs.Steps.{Makes}
+use Rattle.cpu_words.specs.Types.{LoadRecord, Local, Word}
+use Rattle.cpu_words.specs.Common.{ReferenceView, Reference, Makes}
 use Rattle.cpu_words.proofs.by_cpu.Reading.{local_may}
 use Rattle.cpu_words.proofs.steps.reading.load_local.Goals as goal
 

@@ -1,6 +1,5 @@
-use Rattle.protocol.specs.declared.event.Reply.TheVariants.{Word}
-use Rattle.cpu_words.specs.Reading.{loads_by, tells_local}
-use Rattle.cpu_words.specs.Rule.{did}
+use Rattle.cpu_words.specs.Types.{Word}
+use Rattle.cpu_words.specs.Common.{loads_by, tells_local, did}
 use Rattle.cpu_words.proofs.steps.reading.load_local.Given as goal
 
 abbrev pub ghosts-load : goal.ghosts-load

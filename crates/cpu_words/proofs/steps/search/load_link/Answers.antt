@@ -1,6 +1,6 @@
 use Rattle.std.proofs.Common.{sym, ap}
 use Rattle.cpu_words.proofs.by_cpu.Searching.{load_link_may}
-use Rattle.cpu_words.specs.Logs.{the_cpu}
+use Rattle.cpu_words.specs.Common.{the_cpu}
 use Rattle.cpu_words.proofs.steps.search.load_link.Goals as goal
 
 pub load-requires-clause-may : goal.load-requires-clause-may

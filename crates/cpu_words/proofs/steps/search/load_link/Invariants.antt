@@ -1,7 +1,4 @@
-use Rattle.cpu_words.specs.declared.view.View.TheVariants.{Cpu}
-use Rattle.cpu_words.specs.Steps.{Makes}
-use Rattle.cpu_words.specs.Searching.{link_answer, HasLoadedLink}
-use Rattle.cpu_words.specs.Rule.{did}
+use Rattle.cpu_words.specs.Common.{Cpu, Makes, link_answer, HasLoadedLink, did}
 use Rattle.cpu_words.proofs.steps.search.load_link.Given as goal
 
 abbrev pub ghosts-load : goal.ghosts-load

@@ -1,7 +1,4 @@
-use Rattle.cpu_words.specs.declared.view.View.TheVariants.{Cpu}
-use Rattle.cpu_words.specs.Steps.{Makes}
-use Rattle.cpu_words.specs.Searching.{loaded_of, loaded_answer, HasLoadedWord}
-use Rattle.cpu_words.specs.Rule.{did}
+use Rattle.cpu_words.specs.Common.{Cpu, Makes, loaded_of, loaded_answer, HasLoadedWord, did}
 use Rattle.cpu_words.proofs.steps.search.load_searched.Given as goal
 
 abbrev pub ghosts-load : goal.ghosts-load

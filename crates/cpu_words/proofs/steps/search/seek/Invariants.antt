@@ -1,4 +1,4 @@
-use Rattle.cpu_words.specs.Searching.{sought, HasSought}
+use Rattle.cpu_words.specs.Common.{sought, HasSought}
 use Rattle.cpu_words.proofs.steps.search.seek.Given as goal
 
 abbrev pub ghosts-load : goal.ghosts-load

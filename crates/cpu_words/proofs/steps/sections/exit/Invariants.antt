@@ -1,8 +1,5 @@
-use Rattle.protocol.specs.declared.event.Reply.TheVariants.{Done}
-use Rattle.cpu_words.specs.declared.view.View.TheVariants.{Cpu}
-use Rattle.cpu_words.specs.Steps.{Makes}
-use Rattle.cpu_words.specs.Sections.{HasExited}
-use Rattle.cpu_words.specs.Rule.{did}
+use Rattle.cpu_words.specs.Types.{Done}
+use Rattle.cpu_words.specs.Common.{Cpu, Makes, HasExited, did}
 use Rattle.cpu_words.proofs.steps.sections.exit.Given as goal
 
 abbrev pub ghosts-add : goal.ghosts-add

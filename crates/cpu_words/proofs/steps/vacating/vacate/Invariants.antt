@@ -1,10 +1,6 @@
 use Rattle.std.specs.Prelude.{None, ◌++◌}
-use Rattle.protocol.specs.declared.event.Event.TheVariants.{Hear}
-use Rattle.protocol.specs.declared.event.Reply.TheVariants.{Done}
-use Rattle.cpu_words.specs.declared.view.View.TheVariants.{Keeper}
-use Rattle.cpu_words.specs.Steps.{Makes}
-use Rattle.cpu_words.specs.Vacating.{VacateTold}
-use Rattle.cpu_words.specs.Rule.{did}
+use Rattle.cpu_words.specs.Types.{Hear, Done}
+use Rattle.cpu_words.specs.Common.{Keeper, Makes, VacateTold, did}
 use Rattle.cpu_words.proofs.steps.vacating.vacate.Given as goal
 
 abbrev pub ghosts-listen_by_keeper : goal.ghosts-listen_by_keeper

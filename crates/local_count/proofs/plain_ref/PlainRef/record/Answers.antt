@@ -1,8 +1,8 @@
 -- The four words are the record.
 use Rattle.std.proofs.Common.{◌≡◌, ◌∙◌, ap}
-use Rattle.protocol.specs.Events.{word, words_of}
+use Rattle.protocol.specs.Common.{word, words_of}
 use Rattle.registry_values.specs.Names.{are_name_words}
-use Rattle.cpu_words.specs.declared.view.ReferenceView.{ReferenceView}
+use Rattle.passive_list.specs.Types.{ReferenceView}
 use Rattle.local_count.specs.References.{OnPlainRef}
 use Rattle.local_count.proofs.plain_ref.PlainRef.record.Goals as goal
 

@@ -1,9 +1,8 @@
 -- A turn changes nothing of the history, and the CPU has the share that it had.
 use Rattle.std.proofs.Common.{IfOk, subst}
-use Rattle.registry_values.specs.declared.settings.Settings.{Settings}
-use Rattle.passive_list.specs.Cpus.{OnCpu}
-use Rattle.name_registry.specs.Destroying.{HasAdvancedFor}
-use Rattle.name_registry.specs.Locking.{IsStageOf}
+use Rattle.name_registry.specs.Types.{Settings}
+use Rattle.passive_list.specs.Common.{OnCpu}
+use Rattle.name_registry.specs.Common.{HasAdvancedFor, IsStageOf}
 use Rattle.name_registry.proofs.Counted.{advanced_for_same, still_booked}
 use Rattle.name_registry.proofs.Sharing.{advanced, sharing}
 use Rattle.name_registry.proofs.Turned.{told_turn}

@@ -1,7 +1,7 @@
 use Rattle.std.proofs.Common.{◌≡◌, Ok, subst}
-use Rattle.registry_values.specs.declared.entry.Change.TheVariants.{Attach}
-use Rattle.passive_list.specs.Cpus.{OnCpu}
-use Rattle.name_registry.specs.Attaching.{HasAttachedFor, attach_answer}
+use Rattle.name_registry.specs.Types.{Attach}
+use Rattle.passive_list.specs.Common.{OnCpu}
+use Rattle.name_registry.specs.Common.{HasAttachedFor, attach_answer}
 use Rattle.name_registry.proofs.Counted.{attach_counted, attach_numbered, few_changes, one_made}
 use Rattle.name_registry.proofs.Owned.{attach_may, attach_owned}
 use Rattle.name_registry.proofs.Sharing.{attached, sharing}

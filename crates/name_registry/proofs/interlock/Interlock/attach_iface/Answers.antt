@@ -1,14 +1,11 @@
 use Rattle.std.proofs.Common.{◌≡◌, Ok, Err, ap, sym, subst}
-use Rattle.registry_values.specs.declared.entry.Change.TheVariants.{Attach}
-use Rattle.cpu_words.specs.KeeperLog.{IsAttachedKeeping}
-use Rattle.cpu_words.specs.declared.view.ReferenceView.{ReferenceView}
-use Rattle.passive_list.specs.Cpus.{OnCpu, OnPlainCpu}
+use Rattle.name_registry.specs.Types.{Attach, ReferenceView}
+use Rattle.cpu_words.specs.Common.{IsAttachedKeeping}
+use Rattle.passive_list.specs.Common.{OnCpu, OnPlainCpu}
 use Rattle.local_count.specs.References.{OnPlainRef}
 use Rattle.passive_list.proofs.Rows.{keeper_is}
-use Rattle.registry_values.specs.Slots.{is_iface}
-use Rattle.name_registry.specs.Attaching.{HasAttachedIfaceFor, attach_iface_answer}
-use Rattle.name_registry.specs.Locking.{IsAttachRefusal}
-use Rattle.name_registry.specs.Meeting.{is_inside}
+use Rattle.registry_values.specs.Common.{is_iface}
+use Rattle.name_registry.specs.Common.{HasAttachedIfaceFor, attach_iface_answer, IsAttachRefusal, is_inside}
 use Rattle.name_registry.proofs.Counted.{attach_counted, iface_numbered, few_changes, one_made}
 use Rattle.name_registry.proofs.Owned.{iface_may, iface_owned, iface_refused}
 use Rattle.name_registry.proofs.Sharing.{iface_attached, sharing}

@@ -1,8 +1,7 @@
 use Rattle.std.proofs.Common.{Ok, subst}
-use Rattle.registry_values.specs.declared.entry.Change.TheVariants.{Detach}
-use Rattle.registry_values.specs.declared.slot.Key.{Key}
-use Rattle.passive_list.specs.Cpus.{OnCpu}
-use Rattle.name_registry.specs.Detaching.{HasDetachedFor, IsDetachAnswer}
+use Rattle.name_registry.specs.Types.{Detach, Key}
+use Rattle.passive_list.specs.Common.{OnCpu}
+use Rattle.name_registry.specs.Common.{HasDetachedFor, IsDetachAnswer}
 use Rattle.name_registry.proofs.Counted.{detach_counted, detach_numbered, few_changes, one_made}
 use Rattle.name_registry.proofs.Owned.{detach_may, detach_owned}
 use Rattle.name_registry.proofs.Sharing.{detached, sharing}

@@ -1,8 +1,8 @@
 -- Snapshots change nothing of the history, and the CPU has the share that it had.
 use Rattle.std.proofs.Common.{subst}
-use Rattle.registry_values.specs.declared.settings.Settings.{Settings}
-use Rattle.passive_list.specs.Cpus.{OnCpu}
-use Rattle.name_registry.specs.Performing.{HasBegun}
+use Rattle.name_registry.specs.Types.{Settings}
+use Rattle.passive_list.specs.Common.{OnCpu}
+use Rattle.name_registry.specs.Common.{HasBegun}
 use Rattle.name_registry.proofs.Counted.{begun_same, still_booked}
 use Rattle.name_registry.proofs.Sharing.{begun, sharing}
 use Rattle.name_registry.proofs.performing.LockedUnderInterlock.begin.Goals as goal

@@ -1,8 +1,8 @@
 -- Glances change nothing of the history, and the CPU has the share that it had.
 use Rattle.std.proofs.Common.{subst}
-use Rattle.registry_values.specs.declared.settings.Settings.{Settings}
-use Rattle.passive_list.specs.Cpus.{OnCpu}
-use Rattle.name_registry.specs.Performing.{HasGlanced}
+use Rattle.name_registry.specs.Types.{Settings}
+use Rattle.passive_list.specs.Common.{OnCpu}
+use Rattle.name_registry.specs.Common.{HasGlanced}
 use Rattle.name_registry.proofs.Counted.{glanced_same, still_booked}
 use Rattle.name_registry.proofs.Sharing.{glanced, sharing}
 use Rattle.name_registry.proofs.performing.LockedUnderInterlock.glance.Goals as goal

@@ -1,8 +1,8 @@
 -- Looks change nothing of the history, and the CPU has the share that it had.
 use Rattle.std.proofs.Common.{subst}
-use Rattle.registry_values.specs.declared.settings.Settings.{Settings}
-use Rattle.passive_list.specs.Cpus.{OnCpu}
-use Rattle.name_registry.specs.Performing.{HasPassedAll}
+use Rattle.name_registry.specs.Types.{Settings}
+use Rattle.passive_list.specs.Common.{OnCpu}
+use Rattle.name_registry.specs.Common.{HasPassedAll}
 use Rattle.name_registry.proofs.Counted.{passed_same, still_booked}
 use Rattle.name_registry.proofs.Sharing.{passed, sharing}
 use Rattle.name_registry.proofs.performing.LockedUnderInterlock.pass.Goals as goal

@@ -1,5 +1,5 @@
 use Rattle.std.proofs.Common.{◌≡◌, ◌∙◌, false, sym}
-use Rattle.name_registry.specs.Meeting.{is_inside}
+use Rattle.name_registry.specs.Common.{is_inside}
 use Rattle.name_registry.proofs.Attached.{inside_is}
 use Rattle.name_registry.proofs.Destroyed.{destroyed_gone, destroyed_refused, destroyed_small, destroyed_told, destroys_inside, destroys_outside, learns_destroyed}
 use Rattle.name_registry.proofs.Waited.{learns_none}

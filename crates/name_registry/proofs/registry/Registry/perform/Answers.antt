@@ -1,7 +1,6 @@
 use Rattle.std.proofs.Common.{◌≡◌, ◌∙◌, false, Result, IfErr, sym, subst}
-use Rattle.registry_values.specs.declared.refusal.Refusal.{Refusal}
-use Rattle.name_registry.specs.Locking.{IsPerformRefusal}
-use Rattle.name_registry.specs.Meeting.{is_inside}
+use Rattle.name_registry.specs.Types.{Refusal}
+use Rattle.name_registry.specs.Common.{IsPerformRefusal, is_inside}
 use Rattle.name_registry.proofs.Attached.{inside_is}
 use Rattle.name_registry.proofs.Owned.{waited_outside, waiting_refused}
 use Rattle.name_registry.proofs.Glanced.{performs_inside, performs_outside, told_small}

@@ -1,5 +1,5 @@
 use Rattle.std.proofs.Common.{inl, ap}
-use Rattle.cpu_words.specs.declared.view.ReferenceView.{ReferenceView}
+use Rattle.name_registry.specs.Types.{ReferenceView}
 use Rattle.name_registry.proofs.registry.Registry.release_local.Goals as goal
 
 pub release_under-requires-clause-collected : goal.release_under-requires-clause-collected

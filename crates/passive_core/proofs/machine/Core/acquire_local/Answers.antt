@@ -1,10 +1,8 @@
 use Rattle.std.proofs.Common.{◌≡◌, ◌∙◌, ◌<◌, ℕ, Bool, None, Some, ap, subst, sym, true}
 use Rattle.std.specs.Prelude.{if◌then◌else◌}
-use Rattle.protocol.specs.State.{State, at_rest}
-use Rattle.passive_core.specs.Commands.{all_seated, may_act}
-use Rattle.protocol.specs.Invariant.{Holds}
-use Rattle.passive_core.specs.Locals.{after_counting, count_refusal, with_count_more}
-use Rattle.registry_values.specs.declared.refusal.Refusal.TheVariants.{LocalFull}
+use Rattle.protocol.specs.Common.{State, at_rest, Holds}
+use Rattle.passive_core.specs.Common.{all_seated, may_act, after_counting, count_refusal, with_count_more}
+use Rattle.passive_core.specs.Types.{LocalFull}
 use Rattle.passive_core.proofs.Locals.{Acquired, acquires, count_allowed, more_count_ready, none_from}
 use Rattle.passive_core.proofs.Making.{acquire_makes}
 use Rattle.passive_core.proofs.Acting.{acting_idle}

@@ -1,8 +1,8 @@
 use Rattle.std.proofs.Common.{[], ◌∷◌, subst, sym}
-use Rattle.protocol.specs.State.{State}
-use Rattle.passive_core.specs.Passives.{IsOneMore}
+use Rattle.protocol.specs.Common.{State}
+use Rattle.passive_core.specs.Common.{IsOneMore}
 use Rattle.passive_core.proofs.Passives.{add_allowed, added, counted_more}
-use Rattle.protocol.specs.declared.event.Event.TheVariants.{PassiveAdd}
+use Rattle.passive_core.specs.Types.{PassiveAdd}
 use Rattle.passive_core.proofs.Making.{makes_one, seated_and}
 use Rattle.passive_core.proofs.machine.Core.add_passive.Goals as goal
 

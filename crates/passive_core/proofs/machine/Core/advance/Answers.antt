@@ -1,11 +1,8 @@
 use Rattle.std.proofs.Common.{◌≡◌, true, sym, ap, subst, ◌∙◌, Ok}
-use Rattle.registry_values.specs.declared.slot.Slot.TheVariants.{Retired}
-use Rattle.registry_values.specs.declared.stage.Stage.{Stage}
-use Rattle.passive_core.specs.Advancing.{first_obstacle, stage_in}
-use Rattle.passive_core.specs.Commands.{may_act}
-use Rattle.protocol.specs.Invariant.{Holds}
-use Rattle.registry_values.specs.Slots.{is_retired, slot_at}
-use Rattle.protocol.specs.State.{State}
+use Rattle.passive_core.specs.Types.{Retired, Stage}
+use Rattle.passive_core.specs.Common.{first_obstacle, stage_in, may_act}
+use Rattle.protocol.specs.Common.{Holds, State}
+use Rattle.registry_values.specs.Common.{is_retired, slot_at}
 use Rattle.passive_core.proofs.Advancing.{holders_are_open, stage_acts}
 use Rattle.registry_values.proofs.Slots.{retired_slot_tells}
 use Rattle.passive_core.proofs.Acting.{acting_on}

@@ -1,14 +1,10 @@
 use Rattle.std.proofs.Common.{◌≡◌, true, subst, sym, ap, ◌∙◌}
 use Rattle.std.specs.Prelude.{Result}
-use Rattle.registry_values.specs.declared.entry.Entry.{Entry}
-use Rattle.registry_values.specs.declared.refusal.Refusal.{Refusal}
+use Rattle.passive_core.specs.Types.{Entry, Refusal}
 use Rattle.registry_values.proofs.Answers.{handed_on}
-use Rattle.passive_core.specs.Attaching.{IsAnswer, attach_answer}
-use Rattle.passive_core.specs.Commands.{all_seated, may_act}
-use Rattle.passive_core.specs.Making.{Makes, linking_events}
+use Rattle.passive_core.specs.Common.{IsAnswer, attach_answer, all_seated, may_act, Makes, linking_events}
 use Rattle.passive_core.proofs.Making.{begun_makes, linking_makes}
-use Rattle.protocol.specs.State.{State}
-use Rattle.protocol.specs.Invariant.{Holds}
+use Rattle.protocol.specs.Common.{State, Holds}
 use Rattle.passive_core.proofs.Attaching.{MayLink, answer_refused, call_acts, call_restored, driver_links}
 use Rattle.passive_core.proofs.machine.Core.attach.Goals.{In_ok-entry}
 use Rattle.passive_core.proofs.machine.Core.attach.Goals as goal

@@ -1,16 +1,11 @@
 use Rattle.std.proofs.Common.{◌≡◌, None, [], ◌∷◌, true, not, subst, sym, ap, ◌∙◌}
 use Rattle.std.proofs.lemmas.Bool.{not-false}
 use Rattle.std.specs.Prelude.{Result}
-use Rattle.registry_values.specs.declared.entry.Entry.{Entry}
-use Rattle.registry_values.specs.declared.refusal.Refusal.{Refusal}
+use Rattle.passive_core.specs.Types.{Entry, Refusal, Keep}
 use Rattle.registry_values.proofs.Answers.{handed_on}
-use Rattle.passive_core.specs.Attaching.{IsAnswer, attach_iface_answer, with_attach_undone, with_reference_given_back, with_reference_kept}
-use Rattle.passive_core.specs.Commands.{all_seated, may_act}
-use Rattle.passive_core.specs.Making.{Makes, linking_events}
+use Rattle.passive_core.specs.Common.{IsAnswer, attach_iface_answer, with_attach_undone, with_reference_given_back, with_reference_kept, all_seated, may_act, Makes, linking_events}
 use Rattle.passive_core.proofs.Making.{begun_makes, linking_makes, makes_more}
-use Rattle.protocol.specs.State.{State, kept_at}
-use Rattle.protocol.specs.declared.event.Event.TheVariants.{Keep}
-use Rattle.protocol.specs.Invariant.{Holds}
+use Rattle.protocol.specs.Common.{State, kept_at, Holds}
 use Rattle.passive_core.proofs.Attaching.{MayPlug, answer_refused, call_acts, iface_links, plug_restored, plug_words_restored}
 use Rattle.passive_core.proofs.machine.Core.attach_iface.Goals.{After-restore, In-Err, In_ok-entry}
 use Rattle.passive_core.proofs.machine.Core.attach_iface.Goals as goal

@@ -1,10 +1,9 @@
 use Rattle.std.proofs.Common.{◌≡◌, ◌∙◌, ◌<◌, ◌≤◌, ◌^◌, ◌≤ℤ◌, ℕ, ℤ, List, ap, arith, get_or, length, neg_ℤ, pos, subst, sym}
 use Rattle.std.proofs.lemmas.Int.{ints}
-use Rattle.protocol.specs.State.{total_at}
-use Rattle.registry_values.specs.declared.settings.TheConstants.{MOST_CPUS}
-use Rattle.registry_values.specs.Balances.{less_bias, sum_of}
-use Rattle.passive_core.specs.Audits.{locals_at}
-use Rattle.protocol.specs.Invariant.{Holds}
+use Rattle.protocol.specs.Common.{total_at, Holds}
+use Rattle.passive_core.specs.Types.{MOST_CPUS}
+use Rattle.registry_values.specs.Common.{less_bias, sum_of}
+use Rattle.passive_core.specs.Common.{locals_at}
 use Rattle.passive_core.proofs.Audits.{few_locals, locals_range, slot_within, tally_is, total_range}
 use Rattle.passive_core.proofs.machine.Core.balance.Goals as goal
 

@@ -1,7 +1,6 @@
 use Rattle.std.proofs.Common.{◌≡◌, ◌∙◌, ap, arith, subst}
-use Rattle.protocol.specs.State.{State}
-use Rattle.passive_core.specs.Audits.{tallies_below}
-use Rattle.protocol.specs.Invariant.{Holds}
+use Rattle.protocol.specs.Common.{State, Holds}
+use Rattle.passive_core.specs.Common.{tallies_below}
 use Rattle.passive_core.proofs.Audits.{audit_right, tallies_more, tallies_none}
 use Rattle.passive_core.proofs.machine.Core.balances.Goals as goal
 use Rattle.passive_core.proofs.machine.Core.balances.Goals.{in-Vacant, in-Live+in_ok-balance-in-Live+in_ok-push-in-Live}

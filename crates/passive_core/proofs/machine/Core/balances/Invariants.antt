@@ -1,6 +1,6 @@
 use Rattle.std.proofs.Common.{◌≡◌, map}
-use Rattle.passive_core.specs.Audits.{tallies_below}
-use Rattle.registry_values.specs.Balances.{tally_shown}
+use Rattle.passive_core.specs.Common.{tallies_below}
+use Rattle.registry_values.specs.Common.{tally_shown}
 use Rattle.passive_core.proofs.machine.Core.balances.Given as goal
 
 -- what is said of the slots so far

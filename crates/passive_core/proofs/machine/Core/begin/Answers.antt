@@ -1,8 +1,6 @@
 use Rattle.std.proofs.Common.{◌≡◌, subst, sym, true}
-use Rattle.protocol.specs.State.{State}
-use Rattle.protocol.specs.Events.{is_idle}
-use Rattle.protocol.specs.Invariant.{Holds}
-use Rattle.passive_core.specs.Commands.{may_act}
+use Rattle.protocol.specs.Common.{State, is_idle, Holds}
+use Rattle.passive_core.specs.Common.{may_act}
 use Rattle.passive_core.proofs.Passives.{may_still}
 use Rattle.passive_core.proofs.Acting.{acting_idle}
 use Rattle.passive_core.proofs.machine.Core.begin.Goals as goal

@@ -1,5 +1,5 @@
 use Rattle.std.proofs.Common.{None, Some, [], ◌∷◌}
-use Rattle.protocol.specs.declared.event.Event.TheVariants.{Hear, Tell}
+use Rattle.passive_core.specs.Types.{Hear, Tell}
 use Rattle.passive_core.proofs.Making.{makes_first, makes_one, seated_and}
 use Rattle.passive_core.proofs.machine.Core.begin_change.Goals as goal
 

@@ -1,14 +1,10 @@
 use Rattle.std.proofs.Common.{◌≡◌, inr, refl, sym, ap, subst, ◌∙◌}
-use Rattle.registry_values.specs.declared.mark.Mark.{Mark}
-use Rattle.passive_core.specs.Advancing.{MarksClear, SameBut}
-use Rattle.protocol.specs.Events.{after_look_passive, may_look_passive}
-use Rattle.registry_values.specs.Marks.{mark_after_passive_look}
-use Rattle.protocol.specs.Invariant.{Holds}
-use Rattle.protocol.specs.State.{State, mark_at, passive_at}
+use Rattle.passive_core.specs.Types.{Mark, PassiveLook}
+use Rattle.passive_core.specs.Common.{MarksClear, SameBut, IsPassiveLookFor}
+use Rattle.protocol.specs.Common.{after_look_passive, may_look_passive, Holds, State, mark_at, passive_at}
+use Rattle.registry_values.specs.Common.{mark_after_passive_look}
 use Rattle.passive_core.proofs.Advancing.{clear_left, examines_passive, guard_some, mark_beside, passive_clears, passive_look_is, passive_look_marks}
 use Rattle.protocol.proofs.slots.MarkRows.{mark_there}
-use Rattle.protocol.specs.declared.event.Event.TheVariants.{PassiveLook}
-use Rattle.passive_core.specs.Making.{IsPassiveLookFor}
 use Rattle.passive_core.proofs.Making.{only_none, only_one}
 use Rattle.passive_core.proofs.machine.Core.clears.Goals as goal
 

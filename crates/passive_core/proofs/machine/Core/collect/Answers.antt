@@ -1,12 +1,8 @@
 use Rattle.std.proofs.Common.{◌≡◌, inl, inr, refl, false, sym, ap, subst, ◌∙◌}
-use Rattle.registry_values.specs.declared.mark.Mark.{Mark}
-use Rattle.protocol.specs.declared.event.Event.TheVariants.{Collect, TotalAdd}
-use Rattle.protocol.specs.declared.event.Reply.TheVariants.{Done}
-use Rattle.protocol.specs.Events.{may_collect, step}
-use Rattle.protocol.specs.Invariant.{Holds}
-use Rattle.protocol.specs.State.{mark_at}
+use Rattle.passive_core.specs.Types.{Mark, Collect, TotalAdd, Done}
+use Rattle.protocol.specs.Common.{may_collect, step, Holds, mark_at}
 use Rattle.passive_core.proofs.Advancing.{added, adds, collect_is, collected_there, collects, guard_some, left_by}
-use Rattle.passive_core.specs.Making.{IsCollectionFor}
+use Rattle.passive_core.specs.Common.{IsCollectionFor}
 use Rattle.passive_core.proofs.Making.{only_after, only_none, only_one}
 use Rattle.passive_core.proofs.machine.Core.collect.Goals as goal
 

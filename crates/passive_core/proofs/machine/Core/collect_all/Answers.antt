@@ -1,7 +1,7 @@
 use Rattle.std.proofs.Common.{◌≡◌, true, arith}
 use borrow.Author.Count.{below_more}
-use Rattle.protocol.specs.State.{mark_at}
-use Rattle.passive_core.specs.Making.{IsCollectionFor}
+use Rattle.protocol.specs.Common.{mark_at}
+use Rattle.passive_core.specs.Common.{IsCollectionFor}
 use Rattle.passive_core.proofs.Advancing.{gathers_more, gathers_none}
 use Rattle.passive_core.proofs.Making.{only_after, only_none}
 use Rattle.passive_core.proofs.machine.Core.collect_all.Goals as goal

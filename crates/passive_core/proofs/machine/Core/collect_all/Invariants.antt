@@ -1,7 +1,6 @@
 use Rattle.std.proofs.Common.{◌≡◌, ◌<◌, ℕ, true}
-use Rattle.protocol.specs.State.{mark_at}
-use Rattle.passive_core.specs.Advancing.{Gathers}
-use Rattle.passive_core.specs.Making.{IsCollectionFor, MakesOnly}
+use Rattle.protocol.specs.Common.{mark_at}
+use Rattle.passive_core.specs.Common.{Gathers, IsCollectionFor, MakesOnly}
 use Rattle.passive_core.proofs.machine.Core.collect_all.Given as goal
 
 -- the words of the CPUs so far are collected

@@ -1,8 +1,7 @@
 use Rattle.std.proofs.Common.{[], ◌∷◌, ◌∙◌, ap, subst, sym}
-use Rattle.protocol.specs.Invariant.{Holds}
-use Rattle.protocol.specs.Events.{step}
-use Rattle.passive_core.specs.Locals.{is_counting, with_count_less}
-use Rattle.protocol.specs.declared.event.Event.TheVariants.{JoinRef, CountDown, SplitBack}
+use Rattle.protocol.specs.Common.{Holds, step}
+use Rattle.passive_core.specs.Common.{is_counting, with_count_less}
+use Rattle.passive_core.specs.Types.{JoinRef, CountDown, SplitBack}
 use Rattle.protocol.proofs.keeps.SectionKeeps.{idle_tells}
 use Rattle.passive_core.proofs.Locals.{back_allowed, counted_down, down_allowed, down_fell, down_went, gone_back, joins, live_slot, slot_is}
 use Rattle.passive_core.proofs.Passives.{made}

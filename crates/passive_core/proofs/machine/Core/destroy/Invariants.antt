@@ -1,8 +1,6 @@
 use Rattle.std.proofs.Common.{◌≡◌, ℕ, true, Ok}
-use Rattle.passive_core.specs.Advancing.{AdvanceLeaves, AdvanceMarks, advance_answer}
-use Rattle.passive_core.specs.Commands.{may_act}
-use Rattle.protocol.specs.State.{at_rest}
-use Rattle.passive_core.specs.Making.{AdvanceMakes}
+use Rattle.passive_core.specs.Common.{AdvanceLeaves, AdvanceMarks, advance_answer, may_act, AdvanceMakes}
+use Rattle.protocol.specs.Common.{at_rest}
 use Rattle.passive_core.proofs.machine.Core.destroy.Given as goal
 
 -- the turns so far are as one

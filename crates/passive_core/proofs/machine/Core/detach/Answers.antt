@@ -1,8 +1,8 @@
 use Rattle.std.proofs.Common.{refl, sym, subst}
-use Rattle.registry_values.specs.declared.slot.Key.{Key}
+use Rattle.passive_core.specs.Types.{Key}
 use Rattle.registry_values.proofs.Answers.{handed_on}
-use Rattle.passive_core.specs.Detaching.{IsDetachAnswer}
-use Rattle.protocol.specs.Invariant.{Holds}
+use Rattle.passive_core.specs.Common.{IsDetachAnswer}
+use Rattle.protocol.specs.Common.{Holds}
 use Rattle.passive_core.proofs.Acting.{acting_idle}
 use Rattle.passive_core.proofs.Detaching.{detached_is, detached_ready, detached_settings, found_live, refused_rightly, snapped_idle, snapped_told, unlinked_blank}
 use Rattle.passive_core.proofs.Making.{detach_makes}

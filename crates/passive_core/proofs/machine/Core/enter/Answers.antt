@@ -1,5 +1,5 @@
 use Rattle.std.proofs.Common.{[], ◌∷◌}
-use Rattle.protocol.specs.declared.event.Event.TheVariants.{Enter}
+use Rattle.passive_core.specs.Types.{Enter}
 use Rattle.passive_core.proofs.Making.{makes_one, seated_and}
 use Rattle.passive_core.proofs.machine.Core.enter.Goals as goal
 

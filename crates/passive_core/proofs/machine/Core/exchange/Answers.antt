@@ -1,10 +1,9 @@
 use Rattle.std.proofs.Common.{◌≡◌, ◌<◌, length, [], true, false, refl, sym, ap, ◌∙◌, arith, rules, nat_eq, eq-eqb, ne_eqb}
 use Rattle.std.proofs.lemmas.List.{get_or_read}
-use Rattle.protocol.specs.State.{State, hand_at, count_at}
-use Rattle.passive_core.specs.Shown.{state_shown}
-use Rattle.registry_values.specs.Slots.{slot_of}
-use Rattle.protocol.specs.declared.event.Event.TheVariants.{CountDown}
-use Rattle.protocol.specs.declared.event.Reply.TheVariants.{Word, Collected}
+use Rattle.protocol.specs.Common.{State, hand_at, count_at}
+use Rattle.passive_core.specs.Common.{state_shown}
+use Rattle.registry_values.specs.Common.{slot_of}
+use Rattle.passive_core.specs.Types.{CountDown, Word, Collected}
 use Rattle.protocol.proofs.keeps.Keeping.{step_holds}
 use Rattle.passive_core.proofs.machine.Core.exchange.Goals as goal
 use Rattle.protocol.proofs.counts.Bounds.{counting_positive}

@@ -1,7 +1,7 @@
 use Rattle.std.proofs.Common.{[], ◌∷◌, subst, arith}
-use Rattle.protocol.specs.Invariant.{Holds}
+use Rattle.protocol.specs.Common.{Holds}
 use Rattle.passive_core.proofs.Entering.{depth_range}
-use Rattle.protocol.specs.declared.event.Event.TheVariants.{Exit}
+use Rattle.passive_core.specs.Types.{Exit}
 use Rattle.passive_core.proofs.Making.{makes_one, seated_and}
 use Rattle.passive_core.proofs.machine.Core.exit.Goals as goal
 

@@ -1,13 +1,7 @@
 use Rattle.std.proofs.Common.{◌≡◌, ℕ, ◌<◌, length, Option, Some, None, Bool, true, ◌&&◌, refl, sym, ap, subst, ◌∙◌, arith}
-use Rattle.passive_core.specs.Commands.{all_seated, may_act}
-use Rattle.protocol.specs.Events.{guard, some_outcome, after_seek, is_inside, may_seek}
-use Rattle.passive_core.specs.Finding.{after_find, next_load}
-use Rattle.protocol.specs.Invariant.{Holds}
-use Rattle.protocol.specs.State.{State, at_rest, search_at}
-use Rattle.registry_values.specs.declared.entry.Entry.{Entry}
-use Rattle.protocol.specs.declared.event.Reply.{Reply}
-use Rattle.protocol.specs.declared.event.Reply.TheVariants.{Done, Found, Missed}
-use Rattle.registry_values.specs.declared.slot.Key.{Key}
+use Rattle.passive_core.specs.Common.{all_seated, may_act, after_find, next_load}
+use Rattle.protocol.specs.Common.{guard, some_outcome, after_seek, is_inside, may_seek, Holds, State, at_rest, search_at}
+use Rattle.passive_core.specs.Types.{Entry, Reply, Done, Found, Missed, Key}
 use Rattle.passive_core.proofs.Acting.{acting_idle, acting_on, idle_unsearching}
 use Rattle.passive_core.proofs.Finding.{IsTurn, Walks, left, load_turns, seek_starts, walk_goes_on}
 use Rattle.passive_core.proofs.Making.{find_goes_on, find_starts}

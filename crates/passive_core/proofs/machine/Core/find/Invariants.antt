@@ -1,6 +1,5 @@
-use Rattle.passive_core.specs.Commands.{all_seated}
-use Rattle.passive_core.specs.Making.{FindMakes}
-use Rattle.protocol.specs.State.{search_at}
+use Rattle.passive_core.specs.Common.{all_seated, FindMakes}
+use Rattle.protocol.specs.Common.{search_at}
 use Rattle.passive_core.proofs.Finding.{Walks, left}
 use Rattle.passive_core.proofs.machine.Core.find.Given as goal
 

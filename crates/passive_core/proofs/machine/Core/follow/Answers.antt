@@ -1,11 +1,8 @@
 use Rattle.std.proofs.Common.{◌≡◌, ℕ, ◌-◌, suc, length, sym, ap, subst, ◌∙◌, arith}
-use Rattle.protocol.specs.State.{State}
-use Rattle.passive_core.specs.Shown.{state_shown}
-use Rattle.protocol.specs.declared.event.Reply.TheVariants.{Word}
+use Rattle.protocol.specs.Common.{State, link_loaded, with_search_at, after_seeing, some_outcome, Keeps}
+use Rattle.passive_core.specs.Common.{state_shown}
+use Rattle.passive_core.specs.Types.{Word, AtNumber}
 use Rattle.passive_core.proofs.machine.Core.follow.Goals as goal
-use Rattle.protocol.specs.Events.{link_loaded, with_search_at, after_seeing, some_outcome}
-use Rattle.protocol.specs.Taken.{Keeps}
-use Rattle.protocol.specs.declared.state.SearchPlace.TheVariants.{AtNumber}
 
 pub invariant_of-self-else-link-eq0 : goal.invariant_of-self-else-link-eq0
 invariant_of-self-else-link-eq0 c =

@@ -1,14 +1,11 @@
 use Rattle.std.proofs.Common.{◌≡◌, inl, inr, refl, sym, subst, ◌∙◌, Some, None}
-use Rattle.protocol.specs.declared.event.Reply.TheVariants.{Done}
-use Rattle.protocol.specs.Events.{after_kept_sub, after_vacate, may_vacate, step}
-use Rattle.protocol.specs.Invariant.{Holds}
-use Rattle.protocol.specs.State.{kept_at}
-use Rattle.protocol.specs.declared.event.Event.TheVariants.{KeptSub, Vacate}
+use Rattle.passive_core.specs.Types.{Done, KeptSub, Vacate}
+use Rattle.protocol.specs.Common.{after_kept_sub, after_vacate, may_vacate, step, Holds, kept_at}
 use Rattle.passive_core.proofs.Advancing.{allowed, gave_up, gives_up, guard_some, kept_slot, left_by, vacated, vacates}
 use Rattle.registry_values.proofs.Least.{none_is}
 use Rattle.passive_core.proofs.Acting.{made_is}
 use Rattle.protocol.proofs.keeps.SectionKeeps.{some_from}
-use Rattle.passive_core.specs.Making.{IsFreeingOf}
+use Rattle.passive_core.specs.Common.{IsFreeingOf}
 use Rattle.passive_core.proofs.Making.{only_one}
 use Rattle.passive_core.proofs.machine.Core.free.Goals as goal
 

@@ -1,6 +1,5 @@
 use Rattle.std.proofs.Common.{◌≡◌, ◌<◌, true, false, not, ap, ◌∙◌, arith, length, length-set}
-use Rattle.protocol.specs.Events.{is_inside}
-use Rattle.protocol.specs.State.{State}
+use Rattle.protocol.specs.Common.{is_inside, State}
 use Rattle.registry_values.proofs.Fit.{ranges}
 use Rattle.passive_core.proofs.Performing.{sound_out, written_below, written_each}
 use Rattle.passive_core.proofs.machine.Core.glance_at_all.Goals as goal

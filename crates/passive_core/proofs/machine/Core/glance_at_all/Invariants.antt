@@ -1,6 +1,6 @@
 use Rattle.std.proofs.Common.{◌≡◌, ◌<◌, ℕ, length, slice_index_or, not, false, true}
-use Rattle.registry_values.specs.declared.settings.TheConstants.{MOST_CPUS}
-use Rattle.protocol.specs.Events.{is_inside}
+use Rattle.passive_core.specs.Types.{MOST_CPUS}
+use Rattle.protocol.specs.Common.{is_inside}
 use Rattle.passive_core.proofs.machine.Core.glance_at_all.Given as goal
 
 -- of the CPUs so far it is known who is outside, and none is taken to be that isn't

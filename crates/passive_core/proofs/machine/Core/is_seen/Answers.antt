@@ -1,7 +1,6 @@
 use Rattle.std.proofs.Common.{ℕ, ap, subst, ◌∙◌}
-use Rattle.protocol.specs.Invariant.{Holds}
-use Rattle.registry_values.specs.Marks.{is_out}
-use Rattle.protocol.specs.State.{section_at}
+use Rattle.protocol.specs.Common.{Holds, section_at}
+use Rattle.registry_values.specs.Common.{is_out}
 use Rattle.passive_core.proofs.Performing.{seen_out}
 use Rattle.passive_core.proofs.machine.Core.is_seen.Goals as goal
 

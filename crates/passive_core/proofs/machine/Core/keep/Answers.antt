@@ -1,4 +1,4 @@
-use Rattle.protocol.specs.declared.event.Event.TheVariants.{Keep}
+use Rattle.passive_core.specs.Types.{Keep}
 use Rattle.passive_core.proofs.Making.{makes_one}
 use Rattle.passive_core.proofs.machine.Core.keep.Goals as goal
 

@@ -1,5 +1,5 @@
 use Rattle.std.proofs.Common.{inl, inr, refl}
-use Rattle.protocol.specs.declared.event.Event.TheVariants.{LoadLink, LoadRecord}
+use Rattle.passive_core.specs.Types.{LoadLink, LoadRecord}
 use Rattle.protocol.specs.declared.event.RecordOf.TheVariants.{Search as OfSearch}
 use Rattle.passive_core.proofs.machine.Core.load_next.Goals as goal
 

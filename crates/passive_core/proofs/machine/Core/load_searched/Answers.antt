@@ -1,14 +1,10 @@
 use Rattle.std.proofs.Common.{length, List, Some, sym, ap, subst, ◌∙◌}
-use Rattle.protocol.specs.State.{State, search_at}
-use Rattle.passive_core.specs.Shown.{state_shown}
+use Rattle.protocol.specs.Common.{State, search_at, Holds, SlotWithin, loaded_at, row_of_place, with_search_at, search_over}
+use Rattle.passive_core.specs.Common.{state_shown}
 use Rattle.passive_core.proofs.machine.Core.load_searched.Goals as goal
 use Rattle.protocol.proofs.keeps.Loading.{loaded_keeps}
 use Rattle.protocol.proofs.counts.Bounds.{search_within}
-use Rattle.protocol.specs.Invariant.{Holds}
-use Rattle.protocol.specs.Loaded.{SlotWithin, loaded_at, row_of_place}
-use Rattle.protocol.specs.declared.state.RecordWords.{RecordWords}
-use Rattle.protocol.specs.Events.{with_search_at, search_over}
-use Rattle.protocol.specs.declared.state.Loaded.TheVariants.{On, Over}
+use Rattle.passive_core.specs.Types.{RecordWords, On, Over}
 
 pub row_of_place-row-requires : goal.row_of_place-row-requires
 row_of_place-row-requires c =

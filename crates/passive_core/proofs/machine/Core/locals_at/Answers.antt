@@ -1,8 +1,7 @@
 use Rattle.std.proofs.Common.{◌≡◌, ◌<◌, ◌∙◌, ap, arith, subst}
 use Rattle.std.proofs.lemmas.Int.{ints}
-use Rattle.protocol.specs.State.{State, count_at}
-use Rattle.registry_values.specs.Balances.{local_of}
-use Rattle.protocol.specs.Invariant.{Holds}
+use Rattle.protocol.specs.Common.{State, count_at, Holds}
+use Rattle.registry_values.specs.Common.{local_of}
 use Rattle.passive_core.proofs.Audits.{local_range, locals_more, row_long, word_small}
 use Rattle.passive_core.proofs.machine.Core.locals_at.Goals as goal
 

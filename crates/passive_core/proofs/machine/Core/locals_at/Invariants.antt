@@ -1,5 +1,5 @@
 use Rattle.std.proofs.Common.{◌≡◌, [], map, take, slice_index_or}
-use Rattle.registry_values.specs.Balances.{local_of}
+use Rattle.registry_values.specs.Common.{local_of}
 use Rattle.passive_core.proofs.machine.Core.locals_at.Given as goal
 
 -- the net counts of the CPUs so far

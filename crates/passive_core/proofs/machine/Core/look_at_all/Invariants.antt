@@ -1,7 +1,6 @@
 use Rattle.std.proofs.Common.{◌≡◌, ◌<◌, ◌≤◌, ℕ, true, false}
-use Rattle.protocol.specs.State.{mark_at}
-use Rattle.passive_core.specs.Advancing.{MarksPass, is_open_since}
-use Rattle.passive_core.specs.Making.{MakesOnly, IsLookFor}
+use Rattle.protocol.specs.Common.{mark_at}
+use Rattle.passive_core.specs.Common.{MarksPass, is_open_since, MakesOnly, IsLookFor}
 use Rattle.passive_core.proofs.machine.Core.look_at_all.Given as goal
 
 -- the CPUs so far have passed, and only marks for the slot have changed

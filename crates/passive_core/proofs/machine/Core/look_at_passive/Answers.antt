@@ -1,11 +1,10 @@
 use Rattle.std.proofs.Common.{◌≡◌, ◌<◌, ◌≤◌, true, false, refl, sym, subst, ◌∙◌, ap, arith}
-use Rattle.passive_core.specs.Advancing.{has_passive}
-use Rattle.registry_values.specs.declared.mark.Mark.{Mark}
-use Rattle.protocol.specs.State.{State, mark_at}
+use Rattle.passive_core.specs.Common.{has_passive, IsPassiveLookFor}
+use Rattle.passive_core.specs.Types.{Mark}
+use Rattle.protocol.specs.Common.{State, mark_at}
 use borrow.Author.Count.{below_more}
 use Rattle.registry_values.proofs.Least.{least_is, none_below}
 use Rattle.passive_core.proofs.Advancing.{marks_clear_none, marks_clear_more, not_false, not_true, only_marks, passive_same}
-use Rattle.passive_core.specs.Making.{IsPassiveLookFor}
 use Rattle.passive_core.proofs.Making.{only_after, only_none}
 use Rattle.passive_core.proofs.machine.Core.look_at_passive.Goals as goal
 

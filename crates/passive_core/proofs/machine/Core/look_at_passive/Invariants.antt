@@ -1,7 +1,6 @@
 use Rattle.std.proofs.Common.{◌≡◌, ◌<◌, ◌≤◌, ℕ, true, false}
-use Rattle.protocol.specs.State.{mark_at}
-use Rattle.passive_core.specs.Advancing.{MarksClear, has_passive}
-use Rattle.passive_core.specs.Making.{MakesOnly, IsPassiveLookFor}
+use Rattle.protocol.specs.Common.{mark_at}
+use Rattle.passive_core.specs.Common.{MarksClear, has_passive, MakesOnly, IsPassiveLookFor}
 use Rattle.passive_core.proofs.machine.Core.look_at_passive.Given as goal
 
 -- the CPUs so far are clear, and only marks for the slot have changed

@@ -1,10 +1,8 @@
 use Rattle.std.proofs.Common.{◌<◌, length, [], Some, refl, sym, ap, ◌∙◌, rules}
 use Rattle.std.proofs.lemmas.List.{get_or_read}
-use Rattle.protocol.specs.State.{State, section_at, mark_at}
-use Rattle.passive_core.specs.Shown.{state_shown}
-use Rattle.protocol.specs.Events.{may_examine}
-use Rattle.protocol.specs.declared.event.Event.TheVariants.{Look}
-use Rattle.protocol.specs.declared.event.Reply.TheVariants.{Word}
+use Rattle.protocol.specs.Common.{State, section_at, mark_at, may_examine}
+use Rattle.passive_core.specs.Common.{state_shown}
+use Rattle.passive_core.specs.Types.{Look, Word}
 use Rattle.protocol.proofs.keeps.Keeping.{step_holds}
 use Rattle.passive_core.proofs.machine.Core.look_for.Goals as goal
 

@@ -1,6 +1,6 @@
 use Rattle.std.proofs.Common.{◌∙◌, ap, position, sym}
-use Rattle.protocol.specs.Events.{is_free}
-use Rattle.passive_core.specs.Shown.{state_shown}
+use Rattle.protocol.specs.Common.{is_free}
+use Rattle.passive_core.specs.Common.{state_shown}
 use Rattle.passive_core.proofs.Locals.{grown_holds, grown_room}
 use Rattle.passive_core.proofs.machine.Core.make_place.Goals as goal
 

@@ -1,12 +1,10 @@
 use Rattle.std.proofs.Common.{refl, ◌≡◌, ℕ, ◌<◌, ◌≤◌, true, sym, ap, subst, ◌∙◌, arith, length, inr}
 use Rattle.std.proofs.lemmas.Bool.{cases_eq}
-use Rattle.protocol.specs.Marking.{AllPassed}
-use Rattle.protocol.specs.Invariant.{Holds}
-use Rattle.registry_values.specs.Slots.{retired_number, is_retired, slot_at}
-use Rattle.protocol.specs.State.{State, mark_at}
+use Rattle.protocol.specs.Common.{AllPassed, Holds, State, mark_at}
+use Rattle.registry_values.specs.Common.{retired_number, is_retired, slot_at}
 use Rattle.protocol.proofs.slots.Occupied.{in_within, is_retired_tells}
 use Rattle.passive_core.proofs.Performing.{only_more, still_passed}
-use Rattle.passive_core.specs.Making.{IsWaiting}
+use Rattle.passive_core.specs.Common.{IsWaiting}
 use Rattle.passive_core.proofs.Advancing.{passes_none}
 use Rattle.passive_core.proofs.Making.{only_after, only_none}
 use Rattle.passive_core.proofs.machine.Core.pass_all.Goals as goal

@@ -1,8 +1,7 @@
 use Rattle.std.proofs.Common.{◌≡◌, ◌<◌, ℕ, true}
-use Rattle.protocol.specs.Marking.{AllPassed}
-use Rattle.passive_core.specs.Performing.{OnlyPasses}
-use Rattle.registry_values.specs.Slots.{is_retired, slot_at}
-use Rattle.passive_core.specs.Making.{IsWaiting, MakesOnly}
+use Rattle.protocol.specs.Common.{AllPassed}
+use Rattle.passive_core.specs.Common.{OnlyPasses, IsWaiting, MakesOnly}
+use Rattle.registry_values.specs.Common.{is_retired, slot_at}
 use Rattle.passive_core.proofs.machine.Core.pass_all.Given as goal
 
 -- every CPU has passed for the retired entries so far

@@ -1,11 +1,10 @@
 use Rattle.std.proofs.Common.{◌≡◌, sym, ap, subst, ◌∙◌, Some}
 use Rattle.std.proofs.lemmas.Option.{none-some, same_Some}
-use Rattle.protocol.specs.Marking.{AllPassed}
-use Rattle.registry_values.specs.Slots.{retired_slot, is_retired}
-use Rattle.protocol.specs.Invariant.{Holds}
+use Rattle.protocol.specs.Common.{AllPassed, Holds}
+use Rattle.registry_values.specs.Common.{retired_slot, is_retired}
 use Rattle.registry_values.proofs.Slots.{retired_slot_tells}
 use Rattle.passive_core.proofs.Performing.{none_open, only_one, retired_found}
-use Rattle.passive_core.specs.Making.{IsWaiting}
+use Rattle.passive_core.specs.Common.{IsWaiting}
 use Rattle.passive_core.proofs.Making.{looks_wait, only_none}
 use Rattle.passive_core.proofs.machine.Core.pass_entry.Goals as goal
 

@@ -1,14 +1,10 @@
 use Rattle.std.proofs.Common.{◌≡◌, inr, refl, Some, sym, ap, subst, ◌∙◌}
-use Rattle.registry_values.specs.declared.mark.Mark.{Mark}
-use Rattle.passive_core.specs.Advancing.{MarksPass, SameBut}
-use Rattle.protocol.specs.Events.{after_look}
-use Rattle.registry_values.specs.Marks.{mark_after_look}
-use Rattle.protocol.specs.Invariant.{Holds}
-use Rattle.protocol.specs.State.{State, section_at, mark_at}
+use Rattle.passive_core.specs.Types.{Mark, Look}
+use Rattle.passive_core.specs.Common.{MarksPass, SameBut, IsLookFor}
+use Rattle.protocol.specs.Common.{after_look, Holds, State, section_at, mark_at}
+use Rattle.registry_values.specs.Common.{mark_after_look}
 use Rattle.passive_core.proofs.Advancing.{look_is, look_marks, mark_beside, look_passes, passed_left}
 use Rattle.protocol.proofs.slots.MarkRows.{mark_there}
-use Rattle.protocol.specs.declared.event.Event.TheVariants.{Look}
-use Rattle.passive_core.specs.Making.{IsLookFor}
 use Rattle.passive_core.proofs.Making.{only_none, only_one}
 use Rattle.passive_core.proofs.machine.Core.passes.Goals as goal
 

@@ -1,16 +1,10 @@
 use Rattle.std.proofs.Common.{◌≡◌, ◌<◌, true, false, refl, sym, ap, subst, ◌∙◌, None}
-use Rattle.registry_values.specs.Answers.{wait_answer}
-use Rattle.registry_values.specs.Marks.{least_below}
-use Rattle.passive_core.specs.Commands.{all_seated, may_act}
-use Rattle.protocol.specs.Events.{is_inside}
-use Rattle.protocol.specs.Invariant.{Holds}
-use Rattle.passive_core.specs.Performing.{AllOutside, OnlyPasses}
-use Rattle.registry_values.specs.Slots.{retired_number, is_retired, slot_at}
-use Rattle.protocol.specs.State.{State}
+use Rattle.registry_values.specs.Common.{wait_answer, least_below, retired_number, is_retired, slot_at}
+use Rattle.passive_core.specs.Common.{all_seated, may_act, AllOutside, OnlyPasses, IsWaiting}
+use Rattle.protocol.specs.Common.{is_inside, Holds, State}
 use Rattle.registry_values.proofs.Answers.{handed_on}
 use Rattle.registry_values.proofs.Least.{least_none}
 use Rattle.passive_core.proofs.Acting.{acting_on}
-use Rattle.passive_core.specs.Making.{IsWaiting}
 use Rattle.passive_core.proofs.Making.{only_after, only_none, seats_wait}
 use Rattle.passive_core.proofs.machine.Core.perform.Goals as goal
 

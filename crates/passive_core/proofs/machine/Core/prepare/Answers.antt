@@ -1,8 +1,7 @@
 use Rattle.std.proofs.Common.{◌≡◌, ℕ, [], ◌∷◌, ◌++◌, Some, ap, subst, ◌∙◌}
-use Rattle.protocol.specs.State.{State}
-use Rattle.protocol.specs.declared.event.Event.TheVariants.{StoreNext}
-use Rattle.protocol.specs.Events.{step}
-use Rattle.passive_core.specs.Making.{Makes, count_stores_from, record_stores}
+use Rattle.protocol.specs.Common.{State, step}
+use Rattle.passive_core.specs.Types.{StoreNext}
+use Rattle.passive_core.specs.Common.{Makes, count_stores_from, record_stores}
 use Rattle.passive_core.proofs.Making.{makes_more, makes_one}
 use Rattle.passive_core.proofs.machine.Core.prepare.Goals as goal
 

@@ -1,8 +1,7 @@
 use Rattle.std.proofs.Common.{refl, ap, ◌∙◌}
-use Rattle.protocol.specs.State.{State, hand_at}
-use Rattle.passive_core.specs.Shown.{state_shown}
-use Rattle.protocol.specs.declared.event.Event.TheVariants.{SplitBack}
-use Rattle.protocol.specs.declared.event.Reply.TheVariants.{Ref}
+use Rattle.protocol.specs.Common.{State, hand_at}
+use Rattle.passive_core.specs.Common.{state_shown}
+use Rattle.passive_core.specs.Types.{SplitBack, Ref}
 use Rattle.protocol.proofs.keeps.Keeping.{step_holds}
 use Rattle.passive_core.proofs.machine.Core.put_back.Goals as goal
 

@@ -1,5 +1,5 @@
 use Rattle.protocol.specs.declared.event.RecordOf.TheVariants.{Passive as OfPassive}
-use Rattle.passive_core.specs.Making.{record_loads}
+use Rattle.passive_core.specs.Common.{record_loads}
 use Rattle.passive_core.proofs.Making.{seated_and}
 use Rattle.passive_core.proofs.machine.Core.read.Goals as goal
 

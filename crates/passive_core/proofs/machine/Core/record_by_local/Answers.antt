@@ -1,11 +1,9 @@
 use Rattle.std.proofs.Common.{◌≡◌, ◌∙◌, ℕ, Option, Some, refl, subst, sym}
-use Rattle.protocol.specs.State.{State}
-use Rattle.protocol.specs.Events.{load_local}
-use Rattle.protocol.specs.Invariant.{Holds}
+use Rattle.protocol.specs.Common.{State, load_local, Holds}
 use Rattle.passive_core.proofs.Locals.{local_shows}
 use Rattle.passive_core.proofs.Passives.{ShowsRecord, load_ok, lawful_words, word_is}
 use Rattle.std.proofs.Common.{[], ◌∷◌}
-use Rattle.protocol.specs.declared.event.Event.TheVariants.{LoadRecord}
+use Rattle.passive_core.specs.Types.{LoadRecord}
 use Rattle.protocol.specs.declared.event.RecordOf.TheVariants.{Local as OfLocal}
 use Rattle.passive_core.proofs.Making.{makes_load}
 use Rattle.passive_core.proofs.machine.Core.record_by_local.Goals.{After-number-number}

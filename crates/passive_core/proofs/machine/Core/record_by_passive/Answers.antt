@@ -1,10 +1,8 @@
 use Rattle.std.proofs.Common.{◌∙◌, ℕ, refl, subst}
-use Rattle.protocol.specs.State.{State}
-use Rattle.protocol.specs.Events.{load_passive}
-use Rattle.protocol.specs.Invariant.{Holds}
+use Rattle.protocol.specs.Common.{State, load_passive, Holds}
 use Rattle.passive_core.proofs.Passives.{ShowsRecord, load_ok, lawful_words, passive_shows, word_is}
 use Rattle.std.proofs.Common.{[], ◌∷◌}
-use Rattle.protocol.specs.declared.event.Event.TheVariants.{LoadRecord}
+use Rattle.passive_core.specs.Types.{LoadRecord}
 use Rattle.protocol.specs.declared.event.RecordOf.TheVariants.{Passive as OfPassive}
 use Rattle.passive_core.proofs.Making.{makes_load}
 use Rattle.passive_core.proofs.machine.Core.record_by_passive.Goals.{After-self}

@@ -1,10 +1,8 @@
 use Rattle.std.proofs.Common.{Bool, [], ◌∷◌, ◌∙◌, ◌≡◌, subst, sym, true}
 use Rattle.std.specs.Prelude.{if◌then◌else◌}
-use Rattle.protocol.specs.declared.event.Event.TheVariants.{CountDown, JoinRef, SplitBack}
-use Rattle.protocol.specs.State.{State}
-use Rattle.passive_core.specs.Making.{Makes}
-use Rattle.passive_core.specs.Commands.{may_act}
-use Rattle.passive_core.specs.Locals.{local_slot}
+use Rattle.passive_core.specs.Types.{CountDown, JoinRef, SplitBack}
+use Rattle.protocol.specs.Common.{State}
+use Rattle.passive_core.specs.Common.{Makes, may_act, local_slot}
 use Rattle.passive_core.proofs.Locals.{less_count_ready}
 use Rattle.passive_core.proofs.Making.{released_by_count, released_by_total}
 use Rattle.passive_core.proofs.machine.Core.release_local.Goals as goal

@@ -1,11 +1,9 @@
 use Rattle.std.proofs.Common.{ℕ, [], ◌∷◌, Option, ◌∙◌, refl, subst, sym}
-use Rattle.protocol.specs.Invariant.{Holds}
-use Rattle.protocol.specs.Events.{step}
-use Rattle.protocol.specs.declared.event.Event.TheVariants.{JoinKeeper, TotalSub}
+use Rattle.protocol.specs.Common.{Holds, step}
+use Rattle.passive_core.specs.Types.{JoinKeeper, TotalSub}
 use Rattle.passive_core.proofs.Locals.{joined_keeper, live_slot, slot_is, sub_allowed}
 use Rattle.passive_core.proofs.Passives.{is_some, made}
-use Rattle.passive_core.specs.Locals.{under_events}
-use Rattle.passive_core.specs.Making.{Makes}
+use Rattle.passive_core.specs.Common.{under_events, Makes}
 use Rattle.passive_core.proofs.Making.{makes_first, makes_one}
 use Rattle.passive_core.proofs.machine.Core.release_under.Goals as goal
 

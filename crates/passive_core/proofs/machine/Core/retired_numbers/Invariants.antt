@@ -1,6 +1,6 @@
 use Rattle.std.proofs.Common.{◌≡◌, ◌<◌, ℕ, length, slice_index_or, None}
-use Rattle.registry_values.specs.declared.settings.TheConstants.{MOST_SLOTS}
-use Rattle.registry_values.specs.Slots.{retired_number, slot_at}
+use Rattle.passive_core.specs.Types.{MOST_SLOTS}
+use Rattle.registry_values.specs.Common.{retired_number, slot_at}
 use Rattle.passive_core.proofs.machine.Core.retired_numbers.Given as goal
 
 -- the numbers of the slots so far

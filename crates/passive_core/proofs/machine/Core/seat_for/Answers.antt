@@ -1,5 +1,5 @@
 use Rattle.std.proofs.Common.{subst}
-use Rattle.protocol.specs.Invariant.{Holds}
+use Rattle.protocol.specs.Common.{Holds}
 use Rattle.passive_core.proofs.Acting.{acting_idle, acting_on}
 use Rattle.passive_core.proofs.machine.Core.seat_for.Goals as goal
 

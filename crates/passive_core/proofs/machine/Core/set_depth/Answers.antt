@@ -1,7 +1,6 @@
 use Rattle.std.proofs.Common.{◌<◌, sym, ap, subst, ◌∙◌, arith}
-use Rattle.passive_core.specs.Shown.{state_shown}
-use Rattle.protocol.specs.State.{State}
-use Rattle.protocol.specs.Events.{is_inside}
+use Rattle.passive_core.specs.Common.{state_shown}
+use Rattle.protocol.specs.Common.{State, is_inside}
 use Rattle.passive_core.proofs.Entering.{depth_keeps}
 use Rattle.passive_core.proofs.machine.Core.set_depth.Goals as goal
 

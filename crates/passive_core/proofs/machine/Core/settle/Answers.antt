@@ -1,14 +1,10 @@
 use Rattle.std.proofs.Common.{◌≡◌, ℕ, ◌+◌, None, sym, ap, subst, ◌∙◌, arith}
-use Rattle.protocol.specs.Invariant.{Holds, held_at}
-use Rattle.registry_values.specs.Balances.{bias}
-use Rattle.registry_values.specs.Slots.{slot_at}
-use Rattle.registry_values.specs.declared.stage.Stage.{Stage}
-use Rattle.registry_values.specs.Stages.{stage_of}
-use Rattle.protocol.specs.State.{total_at}
-use Rattle.passive_core.specs.Advancing.{Settles}
+use Rattle.protocol.specs.Common.{Holds, held_at, total_at}
+use Rattle.registry_values.specs.Common.{bias, slot_at, stage_of}
+use Rattle.passive_core.specs.Types.{Stage}
+use Rattle.passive_core.specs.Common.{Settles, IsWork, MakesOnly}
 use Rattle.passive_core.proofs.Advancing.{drained_from, gathered_total, gathered_words, settled_free, settled_held}
 use Rattle.protocol.proofs.slots.Occupied.{is_retired_tells}
-use Rattle.passive_core.specs.Making.{IsWork, MakesOnly}
 use Rattle.passive_core.proofs.Making.{only_none}
 use Rattle.passive_core.proofs.machine.Core.settle.Goals as goal
 

@@ -1,5 +1,5 @@
 use Rattle.std.proofs.Common.{◌≡◌, ◌<◌, ap, ◌∙◌, arith, length, length-set}
-use Rattle.protocol.specs.State.{State, section_at}
+use Rattle.protocol.specs.Common.{State, section_at}
 use Rattle.registry_values.proofs.Fit.{ranges}
 use Rattle.passive_core.proofs.Performing.{written_below}
 use Rattle.passive_core.proofs.machine.Core.snapshot_all.Goals as goal

@@ -1,6 +1,6 @@
 use Rattle.std.proofs.Common.{◌≡◌, ◌<◌, ℕ, length, slice_index_or}
-use Rattle.registry_values.specs.declared.settings.TheConstants.{MOST_CPUS}
-use Rattle.protocol.specs.State.{section_at}
+use Rattle.passive_core.specs.Types.{MOST_CPUS}
+use Rattle.protocol.specs.Common.{section_at}
 use Rattle.passive_core.proofs.machine.Core.snapshot_all.Given as goal
 
 -- the words of the CPUs so far

@@ -1,9 +1,7 @@
 use Rattle.std.proofs.Common.{refl, sym, ap, ◌∙◌}
-use Rattle.protocol.specs.State.{State, hand_at}
-use Rattle.passive_core.specs.Shown.{state_shown}
-use Rattle.protocol.specs.Events.{least_id}
-use Rattle.protocol.specs.declared.event.Event.TheVariants.{SplitRef}
-use Rattle.protocol.specs.declared.event.Reply.TheVariants.{Ref}
+use Rattle.protocol.specs.Common.{State, hand_at, least_id}
+use Rattle.passive_core.specs.Common.{state_shown}
+use Rattle.passive_core.specs.Types.{SplitRef, Ref}
 use Rattle.protocol.proofs.keeps.Keeping.{step_holds}
 use Rattle.passive_core.proofs.machine.Core.split.Goals as goal
 

@@ -1,10 +1,10 @@
 use Rattle.std.proofs.Common.{◌<◌, length, sym, subst, ◌∙◌, arith}
 use Rattle.std.proofs.lemmas.List.{get_or_read}
-use Rattle.protocol.specs.State.{State}
-use Rattle.passive_core.specs.Shown.{state_shown}
+use Rattle.protocol.specs.Common.{State}
+use Rattle.passive_core.specs.Common.{state_shown}
 use Rattle.passive_core.proofs.machine.Core.step_count_down.Goals as goal
 use Rattle.protocol.proofs.counts.Bounds.{giving_within}
-use Rattle.protocol.specs.declared.state.Hand.TheVariants.{Empty}
+use Rattle.passive_core.specs.Types.{Empty}
 
 pub exchange-requires-clause-place : goal.exchange-requires-clause-place
 exchange-requires-clause-place c =

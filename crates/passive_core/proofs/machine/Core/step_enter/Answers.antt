@@ -1,9 +1,7 @@
 use Rattle.std.proofs.Common.{length, refl, sym, ap, ◌∙◌}
-use Rattle.protocol.specs.State.{State, section_at}
-use Rattle.passive_core.specs.Shown.{state_shown}
-use Rattle.protocol.specs.Events.{may_enter}
-use Rattle.protocol.specs.declared.event.Event.TheVariants.{Enter}
-use Rattle.protocol.specs.declared.event.Reply.TheVariants.{Done}
+use Rattle.protocol.specs.Common.{State, section_at, may_enter}
+use Rattle.passive_core.specs.Common.{state_shown}
+use Rattle.passive_core.specs.Types.{Enter, Done}
 use Rattle.protocol.proofs.keeps.Keeping.{step_holds}
 use Rattle.passive_core.proofs.machine.Core.step_enter.Goals as goal
 

@@ -1,9 +1,7 @@
 use Rattle.std.proofs.Common.{refl, sym, ap, ◌∙◌}
-use Rattle.protocol.specs.State.{State, local_at}
-use Rattle.passive_core.specs.Shown.{state_shown}
-use Rattle.protocol.specs.Events.{is_idle, number_standing}
-use Rattle.protocol.specs.declared.event.Event.TheVariants.{JoinRef}
-use Rattle.protocol.specs.declared.event.Reply.TheVariants.{Done}
+use Rattle.protocol.specs.Common.{State, local_at, is_idle, number_standing}
+use Rattle.passive_core.specs.Common.{state_shown}
+use Rattle.passive_core.specs.Types.{JoinRef, Done}
 use Rattle.protocol.proofs.keeps.Keeping.{step_holds}
 use Rattle.passive_core.proofs.machine.Core.step_join_ref.Goals as goal
 

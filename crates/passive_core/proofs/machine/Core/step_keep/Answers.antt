@@ -1,10 +1,8 @@
 use Rattle.std.proofs.Common.{refl, sym, ap, ◌∙◌}
-use Rattle.protocol.specs.State.{State, local_at}
-use Rattle.passive_core.specs.Shown.{state_shown}
-use Rattle.registry_values.specs.Slots.{slot_of}
-use Rattle.protocol.specs.Events.{may_keep, number_standing}
-use Rattle.protocol.specs.declared.event.Event.TheVariants.{Keep}
-use Rattle.protocol.specs.declared.event.Reply.TheVariants.{Done}
+use Rattle.protocol.specs.Common.{State, local_at, may_keep, number_standing}
+use Rattle.passive_core.specs.Common.{state_shown}
+use Rattle.registry_values.specs.Common.{slot_of}
+use Rattle.passive_core.specs.Types.{Keep, Done}
 use Rattle.protocol.proofs.keeps.Keeping.{step_holds}
 use Rattle.passive_core.proofs.machine.Core.step_keep.Goals as goal
 

@@ -1,10 +1,8 @@
 use Rattle.std.proofs.Common.{refl, sym, ap, ◌∙◌, arith}
-use Rattle.protocol.specs.State.{State, total_at, kept_at}
-use Rattle.registry_values.specs.Slots.{slot_at, slot_of}
-use Rattle.passive_core.specs.Shown.{state_shown}
-use Rattle.protocol.specs.Events.{is_drained, is_iface_slot}
-use Rattle.protocol.specs.declared.event.Event.TheVariants.{KeptSub}
-use Rattle.protocol.specs.declared.event.Reply.TheVariants.{Done}
+use Rattle.protocol.specs.Common.{State, total_at, kept_at, is_drained, is_iface_slot}
+use Rattle.registry_values.specs.Common.{slot_at, slot_of}
+use Rattle.passive_core.specs.Common.{state_shown}
+use Rattle.passive_core.specs.Types.{KeptSub, Done}
 use Rattle.protocol.proofs.keeps.Keeping.{step_holds}
 use Rattle.passive_core.proofs.machine.Core.step_kept_sub.Goals as goal
 use Rattle.protocol.proofs.counts.Bounds.{driver_positive}

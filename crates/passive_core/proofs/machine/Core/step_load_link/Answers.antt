@@ -1,12 +1,10 @@
 use Rattle.std.proofs.Common.{ℕ, ◌<◌, length, get_or, Option, sym, ap, subst, ◌∙◌, arith, rules}
 use Rattle.std.proofs.lemmas.List.{get_or_read}
-use Rattle.protocol.specs.State.{State, search_at}
-use Rattle.passive_core.specs.Shown.{state_shown}
+use Rattle.protocol.specs.Common.{State, search_at, link_loaded, load_link, with_some, Keeps}
+use Rattle.passive_core.specs.Common.{state_shown}
 use Rattle.passive_core.proofs.machine.Core.step_load_link.Goals as goal
 use Rattle.protocol.proofs.keeps.Loading.{head_keeps, next_keeps, head_bound, next_bound}
-use Rattle.protocol.specs.Events.{link_loaded, load_link, with_some}
-use Rattle.protocol.specs.declared.state.Search.{Search}
-use Rattle.protocol.specs.Taken.{Keeps}
+use Rattle.passive_core.specs.Types.{Search}
 
 pub follow-requires-clause-slot : goal.follow-requires-clause-slot
 follow-requires-clause-slot c =

@@ -1,11 +1,9 @@
 use Rattle.std.proofs.Common.{◌<◌, length, [], refl, sym, ap, ◌∙◌, rules}
 use Rattle.std.proofs.lemmas.List.{get_or_read}
-use Rattle.protocol.specs.State.{State, passive_at}
-use Rattle.passive_core.specs.Shown.{state_shown}
-use Rattle.registry_values.specs.Slots.{slot_of}
-use Rattle.protocol.specs.Events.{may_add}
-use Rattle.protocol.specs.declared.event.Event.TheVariants.{PassiveAdd}
-use Rattle.protocol.specs.declared.event.Reply.TheVariants.{Word}
+use Rattle.protocol.specs.Common.{State, passive_at, may_add}
+use Rattle.passive_core.specs.Common.{state_shown}
+use Rattle.registry_values.specs.Common.{slot_of}
+use Rattle.passive_core.specs.Types.{PassiveAdd, Word}
 use Rattle.protocol.proofs.keeps.Keeping.{step_holds}
 use Rattle.passive_core.proofs.machine.Core.step_passive_add.Goals as goal
 

@@ -1,9 +1,7 @@
 use Rattle.std.proofs.Common.{refl, sym, ap, ◌∙◌}
-use Rattle.protocol.specs.State.{State, seen_at}
-use Rattle.passive_core.specs.Shown.{state_shown}
-use Rattle.protocol.specs.Events.{may_seek}
-use Rattle.protocol.specs.declared.event.Event.TheVariants.{Seek}
-use Rattle.protocol.specs.declared.event.Reply.TheVariants.{Done}
+use Rattle.protocol.specs.Common.{State, seen_at, may_seek}
+use Rattle.passive_core.specs.Common.{state_shown}
+use Rattle.passive_core.specs.Types.{Seek, Done}
 use Rattle.protocol.proofs.keeps.Keeping.{step_holds}
 use Rattle.passive_core.proofs.machine.Core.step_seek.Goals as goal
 

@@ -1,10 +1,8 @@
 use Rattle.std.proofs.Common.{◌≡◌, ◌-◌, ◌<◌, length, [], true, false, refl, sym, ap, ◌∙◌, arith, rules, nat_lt}
 use Rattle.std.proofs.lemmas.List.{get_or_read}
-use Rattle.protocol.specs.State.{State}
-use Rattle.passive_core.specs.Shown.{state_shown}
-use Rattle.protocol.specs.Events.{may_write}
-use Rattle.protocol.specs.declared.event.Event.TheVariants.{StoreSlot}
-use Rattle.protocol.specs.declared.event.Reply.TheVariants.{Done}
+use Rattle.protocol.specs.Common.{State, may_write}
+use Rattle.passive_core.specs.Common.{state_shown}
+use Rattle.passive_core.specs.Types.{StoreSlot, Done}
 use Rattle.protocol.proofs.keeps.Keeping.{step_holds}
 use Rattle.passive_core.proofs.machine.Core.store_count.Goals as goal
 use Rattle.std.proofs.lemmas.Bool.{lt-ltb, le-ltb}

@@ -1,7 +1,6 @@
 use Rattle.std.proofs.Common.{◌≡◌, ◌<◌, sym, ap, subst, ◌∙◌, arith}
-use Rattle.protocol.specs.State.{State}
-use Rattle.protocol.specs.Invariant.{Holds}
-use Rattle.passive_core.specs.Making.{Makes, count_stores_from}
+use Rattle.protocol.specs.Common.{State, Holds}
+use Rattle.passive_core.specs.Common.{Makes, count_stores_from}
 use Rattle.passive_core.proofs.Attaching.{counts_stored, with_counts}
 use Rattle.passive_core.proofs.Making.{counts_make}
 use Rattle.passive_core.proofs.machine.Core.store_counts.Goals as goal

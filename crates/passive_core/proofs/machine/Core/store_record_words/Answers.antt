@@ -1,8 +1,7 @@
 use Rattle.std.proofs.Common.{[], ◌∷◌}
-use Rattle.protocol.specs.State.{row_at}
-use Rattle.protocol.specs.Events.{with_word}
-use Rattle.registry_values.specs.Slots.{kind_word}
-use Rattle.protocol.specs.declared.event.Event.TheVariants.{StoreSlot}
+use Rattle.protocol.specs.Common.{row_at, with_word}
+use Rattle.registry_values.specs.Common.{kind_word}
+use Rattle.passive_core.specs.Types.{StoreSlot}
 use Rattle.passive_core.proofs.Attaching.{row_first, row_next}
 use Rattle.passive_core.proofs.Making.{makes_more}
 use Rattle.passive_core.proofs.machine.Core.store_record_words.Goals as goal

@@ -1,4 +1,4 @@
-use Rattle.protocol.specs.declared.event.Event.TheVariants.{StoreSlot}
+use Rattle.passive_core.specs.Types.{StoreSlot}
 use Rattle.passive_core.proofs.Making.{makes_one}
 use Rattle.passive_core.proofs.machine.Core.store_word.Goals as goal
 

@@ -1,8 +1,7 @@
 use Rattle.std.proofs.Common.{◌≡◌, true, refl, sym, ap, ◌∙◌, arith, nat_eq, eq-eqb}
-use Rattle.protocol.specs.State.{State, total_at}
-use Rattle.passive_core.specs.Shown.{state_shown}
-use Rattle.protocol.specs.declared.event.Event.TheVariants.{TotalSub}
-use Rattle.protocol.specs.declared.event.Reply.TheVariants.{Done}
+use Rattle.protocol.specs.Common.{State, total_at}
+use Rattle.passive_core.specs.Common.{state_shown}
+use Rattle.passive_core.specs.Types.{TotalSub, Done}
 use Rattle.protocol.proofs.keeps.Keeping.{step_holds}
 use Rattle.passive_core.proofs.machine.Core.subtract_from_total.Goals as goal
 use Rattle.protocol.proofs.counts.Bounds.{subtracting_range}

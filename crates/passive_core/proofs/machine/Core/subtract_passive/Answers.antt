@@ -1,8 +1,8 @@
 use Rattle.std.proofs.Common.{[], ◌∷◌, subst, sym}
-use Rattle.protocol.specs.State.{State}
-use Rattle.passive_core.specs.Passives.{IsOneLess}
+use Rattle.protocol.specs.Common.{State}
+use Rattle.passive_core.specs.Common.{IsOneLess}
 use Rattle.passive_core.proofs.Passives.{sub_allowed, subbed, counted_less}
-use Rattle.protocol.specs.declared.event.Event.TheVariants.{PassiveSub}
+use Rattle.passive_core.specs.Types.{PassiveSub}
 use Rattle.passive_core.proofs.Making.{makes_one, seated_and}
 use Rattle.passive_core.proofs.machine.Core.subtract_passive.Goals as goal
 

@@ -1,10 +1,8 @@
 use Rattle.std.proofs.Common.{◌<◌, length, [], Some, refl, sym, ap, ◌∙◌, rules}
 use Rattle.std.proofs.lemmas.List.{get_or_read}
-use Rattle.protocol.specs.State.{State, section_at}
-use Rattle.passive_core.specs.Shown.{state_shown}
-use Rattle.protocol.specs.Events.{is_snapshot_due, due_after}
-use Rattle.protocol.specs.declared.event.Event.TheVariants.{Snapshot}
-use Rattle.protocol.specs.declared.event.Reply.TheVariants.{Word}
+use Rattle.protocol.specs.Common.{State, section_at, is_snapshot_due, due_after}
+use Rattle.passive_core.specs.Common.{state_shown}
+use Rattle.passive_core.specs.Types.{Snapshot, Word}
 use Rattle.protocol.proofs.keeps.Keeping.{step_holds}
 use Rattle.passive_core.proofs.machine.Core.take_snapshot.Goals as goal
 

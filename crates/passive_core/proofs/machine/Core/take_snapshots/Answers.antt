@@ -1,8 +1,7 @@
 use Rattle.std.proofs.Common.{◌≡◌, ◌<◌, refl, sym, ap, subst, ◌∙◌, arith}
-use Rattle.protocol.specs.Invariant.{Holds}
-use Rattle.protocol.specs.State.{State}
+use Rattle.protocol.specs.Common.{Holds, State}
 use Rattle.passive_core.proofs.Detaching.{snap_allowed, snap_turns, snapping, snapping_ends, snapping_starts}
-use Rattle.passive_core.specs.Making.{Makes, snapshots_from}
+use Rattle.passive_core.specs.Common.{Makes, snapshots_from}
 use Rattle.passive_core.proofs.Making.{snapshots_make}
 use Rattle.passive_core.proofs.machine.Core.take_snapshots.Goals as goal
 

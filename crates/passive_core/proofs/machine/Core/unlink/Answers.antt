@@ -1,9 +1,8 @@
 use Rattle.std.proofs.Common.{get_or, refl, sym, ap, ◌∙◌}
-use Rattle.protocol.specs.State.{State, at_rest}
-use Rattle.registry_values.specs.Slots.{slot_at, slot_before}
-use Rattle.passive_core.specs.Shown.{state_shown}
-use Rattle.protocol.specs.declared.event.Event.TheVariants.{Unpublish}
-use Rattle.protocol.specs.declared.event.Reply.TheVariants.{Done}
+use Rattle.protocol.specs.Common.{State, at_rest}
+use Rattle.registry_values.specs.Common.{slot_at, slot_before}
+use Rattle.passive_core.specs.Common.{state_shown}
+use Rattle.passive_core.specs.Types.{Unpublish, Done}
 use Rattle.protocol.proofs.keeps.Keeping.{step_holds}
 use Rattle.passive_core.proofs.machine.Core.unlink.Goals as goal
 use Rattle.passive_core.proofs.machine.Core.unlink.Goals.{in-Some, in-None}

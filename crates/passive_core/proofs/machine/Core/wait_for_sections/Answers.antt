@@ -1,7 +1,6 @@
 use Rattle.std.proofs.Common.{◌<◌, false, not, ap, subst, ◌∙◌, slice_index_or}
-use Rattle.registry_values.specs.Marks.{least_below}
-use Rattle.protocol.specs.Events.{is_inside}
-use Rattle.protocol.specs.State.{State}
+use Rattle.registry_values.specs.Common.{least_below}
+use Rattle.protocol.specs.Common.{is_inside, State}
 use Rattle.registry_values.proofs.Least.{least_agrees}
 use Rattle.passive_core.proofs.Performing.{not_not}
 use Rattle.passive_core.proofs.machine.Core.wait_for_sections.Goals as goal

@@ -1,6 +1,6 @@
 use Rattle.std.proofs.Common.{◌≡◌, ℕ, true, false, slice_index_or}
-use Rattle.protocol.specs.Events.{is_inside}
-use Rattle.passive_core.specs.Performing.{AreSeen}
+use Rattle.protocol.specs.Common.{is_inside}
+use Rattle.passive_core.specs.Common.{AreSeen}
 use Rattle.passive_core.proofs.machine.Core.wait_for_sections.Given as goal
 
 -- nothing has changed, and who is outside is known

@@ -1,5 +1,5 @@
 use Rattle.std.proofs.Common.{◌≡◌, ◌+◌, take}
-use Rattle.protocol.specs.Run.{run_of_events, empty_run}
+use Rattle.protocol.specs.Common.{run_of_events, empty_run}
 use Rattle.passive_core.proofs.machine.run.run_events.Given as goal
 
 -- the state and the counts are those of the events so far

@@ -1,6 +1,5 @@
 use Rattle.std.proofs.Common.{◌∙◌, ◌<◌, refl, sym, subst}
-use Rattle.passive_list.specs.Keepers.{OnPlainKeeper}
-use Rattle.passive_list.specs.Vacating.{IsDrainedOn}
+use Rattle.passive_list.specs.Common.{OnPlainKeeper, IsDrainedOn}
 use Rattle.passive_list.proofs.Marks.{drained_tells, drained_from}
 use Rattle.passive_list.proofs.keeper.Keeper.is_drained.Goals as goal
 

@@ -1,11 +1,10 @@
 use Rattle.std.proofs.Common.{sym, ap, subst, arith, length, replicate}
-use Rattle.cpu_words.specs.declared.view.KeeperView.{KeeperView}
-use Rattle.cpu_words.specs.Rule.{IsShown}
+use Rattle.passive_list.specs.Types.{KeeperView, MOST_SLOTS}
+use Rattle.cpu_words.specs.Common.{IsShown}
 use Rattle.cpu_words.proofs.shown.KeepersShown.{seated_is_shown}
-use Rattle.passive_list.specs.Keepers.{IsAtRest, RowsAgree}
+use Rattle.passive_list.specs.Common.{IsAtRest, RowsAgree}
 use Rattle.passive_list.proofs.Rows.{first_row, new_at_rest, new_rows}
 use Rattle.passive_list.proofs.keeper.Keeper.of_seat.Goals as goal
-use Rattle.registry_values.specs.declared.settings.TheConstants.{MOST_SLOTS}
 
 pub invariant_of-result : goal.invariant_of-result
 invariant_of-result c =

@@ -1,6 +1,6 @@
 -- What every CPU keeps of itself.
 use Rattle.std.proofs.Common.{subst}
-use Rattle.passive_list.specs.Cpus.{OnPlainCpu, HoldsFound}
+use Rattle.passive_list.specs.Common.{OnPlainCpu, HoldsFound}
 use Rattle.passive_list.proofs.Agreeing.{holds_found}
 use Rattle.passive_list.proofs.plain_cpu.PlainCpu.depth.Goals as goal
 

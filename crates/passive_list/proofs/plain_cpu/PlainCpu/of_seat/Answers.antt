@@ -1,10 +1,9 @@
 -- A new CPU's data agree with the view of its seat.
 use Rattle.std.proofs.Common.{refl, subst, sym, replicate}
-use Rattle.cpu_words.specs.declared.view.CpuView.{CpuView}
-use Rattle.passive_list.specs.Cpus.{IsOurCpu, no_place, no_found}
+use Rattle.passive_list.specs.Types.{CpuView, MOST_SLOTS}
+use Rattle.passive_list.specs.Common.{IsOurCpu, no_place, no_found}
 use Rattle.passive_list.proofs.Agreeing.{new_agrees, own_agrees}
 use Rattle.passive_list.proofs.plain_cpu.PlainCpu.of_seat.Goals as goal
-use Rattle.registry_values.specs.declared.settings.TheConstants.{MOST_SLOTS}
 
 pub invariant_of-result : goal.invariant_of-result
 invariant_of-result c =

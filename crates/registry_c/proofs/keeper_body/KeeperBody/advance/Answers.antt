@@ -1,5 +1,5 @@
 use Rattle.std.proofs.Common.{subst}
-use Rattle.passive_list.specs.Keepers.{OnPlainKeeper}
+use Rattle.passive_list.specs.Common.{OnPlainKeeper}
 use Rattle.registry_c.specs.KeeperCalls.{Advances}
 use Rattle.registry_c.proofs.Turned.{advances_by}
 use Rattle.registry_c.proofs.keeper_body.KeeperBody.advance.Goals as goal

@@ -1,6 +1,5 @@
 use Rattle.std.proofs.Common.{subst}
-use Rattle.passive_list.specs.Cpus.{OnPlainCpu}
-use Rattle.passive_list.specs.Keepers.{OnPlainKeeper}
+use Rattle.passive_list.specs.Common.{OnPlainCpu, OnPlainKeeper}
 use Rattle.registry_c.specs.KeeperCalls.{AdvancesFor}
 use Rattle.registry_c.proofs.Turned.{advances_for_by}
 use Rattle.registry_c.proofs.keeper_body.KeeperBody.advance_for.Goals as goal

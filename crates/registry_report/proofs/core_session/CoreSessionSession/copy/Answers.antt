@@ -1,9 +1,9 @@
 use Rattle.std.proofs.Common.{None, ◌<◌, ap, subst, sym, ◌∙◌, Ok, Some, length-set, slice_set}
 use Rattle.std.specs.Prelude.{slice_index_or}
-use Rattle.registry_report.specs.Session.{SessionState}
+use Rattle.registry_report.specs.Common.{SessionState}
 use Rattle.registry_report.proofs.calls.DoneReferences.{copy_does, copy_fails, free_label, told_err}
 use Rattle.registry_report.proofs.calls.Sessions.{filled_tells}
-use Rattle.protocol.specs.State.{State}
+use Rattle.protocol.specs.Common.{State}
 use Rattle.registry_report.proofs.shows.Referred.{acquire_places, same_session}
 use Rattle.registry_report.proofs.core_session.CoreSessionSession.copy.Goals as goal
 

@@ -1,8 +1,8 @@
 use Rattle.std.proofs.Common.{None, ap, subst, sym, ◌<◌, ◌∙◌}
-use Rattle.protocol.specs.State.{State}
+use Rattle.protocol.specs.Common.{State}
 use Rattle.registry_report.proofs.calls.Sessions.{counted_locals, new_live, taken_up}
 use Rattle.std.specs.Prelude.{slice_index_or}
-use Rattle.registry_report.specs.Session.{SessionState, IsSession}
+use Rattle.registry_report.specs.Common.{SessionState, IsSession}
 use Rattle.registry_report.proofs.calls.DoneReferences.{count_does, count_fails, free_label, taken_label, taken_leaves, told_err}
 use Rattle.registry_report.proofs.core_session.CoreSessionSession.count.Goals as goal
 

@@ -1,5 +1,5 @@
 use Rattle.registry_report.proofs.calls.Done.{destroy_does}
-use Rattle.registry_language.specs.declared.command.Command.TheVariants.{Destroy}
+use Rattle.registry_report.specs.Types.{Destroy}
 use Rattle.registry_report.proofs.calls.Hitches.{destroy_refused, hitch_is}
 use Rattle.registry_report.proofs.core_session.CoreSessionSession.destroy.Goals as goal
 

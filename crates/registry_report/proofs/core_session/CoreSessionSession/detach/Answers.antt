@@ -1,5 +1,5 @@
 use Rattle.std.proofs.Common.{ap, ◌∙◌}
-use Rattle.protocol.specs.State.{State}
+use Rattle.protocol.specs.Common.{State}
 use Rattle.registry_report.proofs.calls.Done.{detach_does, detach_places}
 use Rattle.registry_report.proofs.calls.Sessions.{same_places}
 use Rattle.registry_report.proofs.core_session.CoreSessionSession.detach.Goals as goal

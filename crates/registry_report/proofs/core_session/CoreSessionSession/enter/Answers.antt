@@ -1,7 +1,7 @@
 use Rattle.std.proofs.Common.{◌<◌, subst, sym}
-use Rattle.registry_report.specs.Session.{SessionState}
+use Rattle.registry_report.specs.Common.{SessionState}
 use Rattle.registry_report.proofs.calls.Done.{enter_does}
-use Rattle.registry_language.specs.declared.command.Command.TheVariants.{Enter}
+use Rattle.registry_report.specs.Types.{Enter}
 use Rattle.registry_report.proofs.calls.Hitches.{enter_refused, hitch_is}
 use Rattle.registry_report.proofs.core_session.CoreSessionSession.enter.Goals as goal
 

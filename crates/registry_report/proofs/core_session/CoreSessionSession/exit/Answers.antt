@@ -1,7 +1,7 @@
 use Rattle.std.proofs.Common.{ap, ◌∙◌, ◌<◌, subst, sym}
-use Rattle.protocol.specs.State.{State}
+use Rattle.protocol.specs.Common.{State}
 use Rattle.registry_report.proofs.calls.Sessions.{exited_locals, same_places}
-use Rattle.registry_report.specs.Session.{SessionState}
+use Rattle.registry_report.specs.Common.{SessionState}
 use Rattle.registry_report.proofs.calls.Done.{exit_does}
 use Rattle.registry_report.proofs.core_session.CoreSessionSession.exit.Goals as goal
 

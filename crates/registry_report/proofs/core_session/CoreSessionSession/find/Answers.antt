@@ -1,5 +1,5 @@
 use Rattle.std.proofs.Common.{◌<◌, subst, sym, ◌∙◌}
-use Rattle.registry_report.specs.Session.{SessionState}
+use Rattle.registry_report.specs.Common.{SessionState}
 use Rattle.registry_report.proofs.calls.Done.{find_does}
 use Rattle.registry_report.proofs.core_session.CoreSessionSession.find.Goals as goal
 

@@ -1,5 +1,5 @@
 use Rattle.registry_report.proofs.calls.Done.{perform_does}
-use Rattle.registry_language.specs.declared.command.Command.TheVariants.{Perform}
+use Rattle.registry_report.specs.Types.{Perform}
 use Rattle.registry_report.proofs.calls.Hitches.{hitch_is, perform_refused}
 use Rattle.registry_report.proofs.core_session.CoreSessionSession.perform.Goals as goal
 

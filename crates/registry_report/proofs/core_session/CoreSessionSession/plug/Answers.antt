@@ -1,10 +1,10 @@
 use Rattle.std.proofs.Common.{Err, None, ap, sym, ◌∙◌}
 use Rattle.std.specs.Prelude.{slice_index_or}
-use Rattle.protocol.specs.State.{State}
-use Rattle.registry_report.specs.Session.{SessionState}
+use Rattle.protocol.specs.Common.{State}
+use Rattle.registry_report.specs.Common.{SessionState}
 use Rattle.registry_report.proofs.calls.Sessions.{filled_tells, given_up}
 use Rattle.registry_report.proofs.calls.DoneReferences.{plug_none, plug_fails, plug_does, told_err, unfilled}
-use Rattle.registry_language.specs.declared.command.Command.TheVariants.{Plug}
+use Rattle.registry_report.specs.Types.{Plug}
 use Rattle.registry_report.proofs.calls.Hitches.{attach_hitch, attach_iface_refused}
 use Rattle.registry_report.proofs.core_session.CoreSessionSession.plug.Goals as goal
 

@@ -1,10 +1,9 @@
 use Rattle.std.proofs.Common.{None, ap, sym, ◌∙◌}
 use Rattle.std.specs.Prelude.{slice_index_or}
-use Rattle.registry_report.specs.Session.{SessionState}
+use Rattle.registry_report.specs.Common.{SessionState, read_answer}
 use Rattle.registry_report.proofs.calls.DoneReferences.{read_gives, read_leaves, told_err}
 use Rattle.registry_report.proofs.calls.Sessions.{filled_tells}
 use Rattle.std.proofs.Common.{Err, Ok}
-use Rattle.registry_report.specs.Answers.{read_answer}
 use Rattle.registry_report.proofs.calls.Giving.{gives}
 use Rattle.registry_report.proofs.core_session.CoreSessionSession.read.Goals as goal
 

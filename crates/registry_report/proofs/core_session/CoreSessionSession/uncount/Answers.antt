@@ -1,7 +1,7 @@
 use Rattle.std.proofs.Common.{None, ap, subst, sym, ◌<◌, ◌∙◌}
 use Rattle.std.specs.Prelude.{slice_index_or}
-use Rattle.protocol.specs.State.{State}
-use Rattle.registry_report.specs.Session.{SessionState}
+use Rattle.protocol.specs.Common.{State}
+use Rattle.registry_report.specs.Common.{SessionState}
 use Rattle.registry_report.proofs.calls.Sessions.{filled_tells, given_up, released_locals}
 use Rattle.registry_report.proofs.calls.DoneReferences.{uncount_leaves, uncount_none, unfilled}
 use Rattle.registry_report.proofs.core_session.CoreSessionSession.uncount.Goals as goal

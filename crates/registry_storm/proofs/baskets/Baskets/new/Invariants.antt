@@ -1,5 +1,5 @@
 use Rattle.std.proofs.Common.{◌≡◌, ◌≤◌, vec_len, vec_capacity}
-use Rattle.registry_values.specs.declared.settings.TheConstants.{MOST_CPUS}
+use Rattle.name_registry.specs.Types.{MOST_CPUS}
 use Rattle.registry_storm.proofs.baskets.Baskets.new.Given as goal
 
 -- as many places as were counted, and room for the others

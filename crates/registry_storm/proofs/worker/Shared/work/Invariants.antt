@@ -1,5 +1,5 @@
 use Rattle.std.specs.Prelude.{◌≡◌, ◌+◌, ◌*◌, ◌≤◌}
-use Rattle.cpu_words.specs.Views.{number_at}
+use Rattle.cpu_words.specs.Common.{number_at}
 use Rattle.registry_storm.specs.Storms.{IsOutside}
 use Rattle.registry_storm.proofs.worker.Shared.work.Given as goal
 

@@ -1,6 +1,5 @@
 use Rattle.std.proofs.Common.{◌≡◌, ap, ◌∙◌, rules}
-use Rattle.registry_values.specs.declared.name.Name.{Name}
-use Rattle.registry_values.specs.Names.{name_of, is_lawful}
+use Rattle.registry_values.specs.Common.{Name, name_of, is_lawful}
 use Rattle.registry_values.proofs.Names.{lawful_words}
 use Rattle.registry_values.proofs.name.Name.from_bytes.Goals as goal
 
