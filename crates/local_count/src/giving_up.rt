@@ -4,27 +4,15 @@ ghost use Rattle.std.specs.Prelude.{◌≡◌};
 ghost use Rattle.cpu_words.specs.Common.{AreWordsOf, IsFoundCollected};
 ghost use Rattle.passive_list.specs.Common.{HasGivenUp};
 
-use crate::local_ref::LocalRef;
 use crate::plain_ref::PlainRef;
-use cpu_words::{Domain, Words};
+use cpu_words::Words;
 use passive_list::{Keeper, give_up};
 
 /// Releases a local reference under the interlock: the total of its entry's slot is one less.
 /// Condition: some count word of its slot was collected. `try_release` found it so where it handed the reference back; else the keeper
-/// has an entry with the reference's number retired in a slot (`Keeper::slot`), and `collected` tells of some CPU.
-pub fn release_under<D: Domain>(words: &Words, keeper: &mut Keeper, reference: LocalRef<D>)
-    requires words { AreWordsOf words.now keeper.old.words.table keeper.old.words.settings }
-    requires named { keeper.old.words.table ≡ D.table }
-    requires collected { IsFoundCollected keeper.old.keeper.slots keeper.old.keeper.view.marks reference }
-    ensures change { HasGivenUp keeper.old.keeper reference keeper.new.keeper }
-    ensures words { keeper.new.words ≡ keeper.old.words }
-{
-    let LocalRef { plain, domain: _ } = reference;
-    release_under_on(words, keeper, plain);
-}
-
-/// `release_under` where no type names the reference's table. Condition: it is the keeper's.
-pub fn release_under_on(words: &Words, keeper: &mut Keeper, reference: PlainRef)
+/// has an entry with the reference's number retired in a slot (`Keeper::slot`), and `collected` tells of some CPU. The reference is of the
+/// keeper's table.
+pub fn release_under(words: &Words, keeper: &mut Keeper, reference: PlainRef)
     requires words { AreWordsOf words.now keeper.old.words.table keeper.old.words.settings }
     requires reference { reference.table ≡ keeper.old.words.table }
     requires collected { IsFoundCollected keeper.old.keeper.slots keeper.old.keeper.view.marks reference.reference }

@@ -7,9 +7,8 @@ ghost use Rattle.protocol.specs.Common.{kept_at};
 ghost use Rattle.cpu_words.specs.Common.{AreWordsOf};
 ghost use Rattle.passive_list.specs.Common.{HasAttachedKeeping};
 
-use crate::local_ref::LocalRef;
 use crate::plain_ref::PlainRef;
-use cpu_words::{Domain, Words};
+use cpu_words::Words;
 use passive_list::{Keeper, publish_keeping};
 use registry_values::{Entry, Record};
 
@@ -17,33 +16,8 @@ use registry_values::{Entry, Record};
 /// before the first word is stored. It answers the entry.
 /// Condition: the slot is one of the table's and vacant, and keeps nothing (`Keeper::keeps`). The record's kind is Iface, the reference
 /// is to a driver, live or retired; the name is lawful, no live entry has this kind and name, and the history has room for this change and
-/// for the detach of each live entry, the new one too.
-pub fn publish_iface<D: Domain>(
-    words: &Words,
-    keeper: &mut Keeper,
-    slot: u8,
-    rec: Record,
-    reference: LocalRef<D>,
-) -> Entry
-    requires words { AreWordsOf words.now keeper.old.words.table keeper.old.words.settings }
-    requires named { keeper.old.words.table ≡ D.table }
-    requires vacant { (slot < keeper.old.words.settings.slots) × (slot_at keeper.old.keeper.slots slot ≡ Vacant) }
-    requires nothing { kept_at keeper.old.keeper.view.keeps slot ≡ None }
-    requires kind { rec.kind ≡ Iface }
-    requires driver { reference.entry.rec.kind ≡ Driver }
-    requires name { IsTrue (is_lawful rec.name) }
-    requires free { is_taken (key_of_record rec) keeper.old.keeper.slots ≡ false }
-    requires room { length keeper.old.keeper.view.history + live_count keeper.old.keeper.slots + 2 ≤ keeper.old.words.settings.change_limit }
-    ensures entry { result ≡ record { number = suc (length keeper.old.keeper.view.history); slot = slot; rec = rec } }
-    ensures change { HasAttachedKeeping keeper.old.keeper reference result keeper.new.keeper }
-    ensures words { keeper.new.words ≡ keeper.old.words }
-{
-    let LocalRef { plain, domain: _ } = reference;
-    publish_iface_on(words, keeper, slot, rec, plain)
-}
-
-/// `publish_iface` where no type names the reference's table. Condition: it is the keeper's, beside the others.
-pub fn publish_iface_on(
+/// for the detach of each live entry, the new one too. The reference is of the keeper's table.
+pub fn publish_iface(
     words: &Words,
     keeper: &mut Keeper,
     slot: u8,

@@ -16,8 +16,8 @@ mod plain_ref;
 mod release;
 
 pub use acquire::{acquire_local, acquire_local_on, why_not_acquired_local};
-pub use giving_up::{release_under, release_under_on};
-pub use interfaces::{publish_iface, publish_iface_on};
+pub use giving_up::release_under;
+pub use interfaces::publish_iface;
 pub use local_ref::LocalRef;
 pub use net::net_count;
 pub use passive_list::{collect, collected, free_iface, total};

@@ -10,7 +10,7 @@ ghost use Rattle.name_registry.specs.Meeting.{KeepsWords};
 use crate::first_fit::entry_for;
 use crate::meeting::{hear_cpu, show_cpu};
 use cpu_words::Words;
-use local_count::{PlainRef, publish_iface_on};
+use local_count::{PlainRef, publish_iface};
 use passive_list::{Keeper, PlainCpu, publish};
 use registry_values::{Entry, Record, Refusal, attach_answer, is_iface};
 
@@ -71,7 +71,7 @@ pub fn attach_iface_in(
         Err(refusal) => return Err((refusal, reference)),
     };
     hear_cpu(words, keeper, cpu);
-    let entry = publish_iface_on(words, keeper, entry.slot, rec, reference);
+    let entry = publish_iface(words, keeper, entry.slot, rec, reference);
     show_cpu(words, keeper, cpu);
     Ok(entry)
 }

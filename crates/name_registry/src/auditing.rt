@@ -9,7 +9,7 @@ ghost use Rattle.name_registry.specs.Auditing.{AreAllCpus, AreAlike, HasListened
 
 use cpu_words::{Domain, NoteSeat, Words};
 use local_count::net_count;
-use passive_list::{Cpu, Keeper, PlainCpu, hear_keeper_on, hear_on, tell_keeper_on, tell_on};
+use passive_list::{Cpu, Keeper, PlainCpu, hear_keeper, hear_on, tell_keeper, tell_on};
 use registry_values::{Balance, MOST_CPUS, MOST_SLOTS, Refusal, Slot, less_bias, sum};
 use std::alloc::{AllocError, Global};
 
@@ -62,11 +62,11 @@ fn gather<D: Domain>(words: &Words, keeper: &mut Keeper, cpus: &mut [Cpu<D>])
     ensures notes { HaveHeardAndTold cpus.old cpus.new }
     ensures words { keeper.new.words ≡ keeper.old.words }
 {
-    let mut note = tell_keeper_on(words, keeper);
+    let mut note = tell_keeper(words, keeper);
     for c in 0..cpus.len() {
         note = pass_on(words, &mut cpus[c], note);
     }
-    hear_keeper_on(words, keeper, note);
+    hear_keeper(words, keeper, note);
 }
 
 /// One CPU hears the note and tells on what it knows then.

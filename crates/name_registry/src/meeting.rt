@@ -7,7 +7,7 @@ ghost use Rattle.passive_list.specs.Common.{HasOwnLog, HasHeardOn, cpu_after_tel
 ghost use Rattle.name_registry.specs.Meeting.{KeepsWords, keeper_after_hear, keeper_after_tell};
 
 use cpu_words::Words;
-use passive_list::{Keeper, PlainCpu, hear_keeper_on, hear_on, tell_keeper_on, tell_on};
+use passive_list::{Keeper, PlainCpu, hear_keeper, hear_on, tell_keeper, tell_on};
 
 /// The keeper hears what the CPU has seen: from now on it is known to be in the keeper's history. What the CPU knows of the keeper's log
 /// begins the keeper's log, and that log has what the keeper has.
@@ -22,7 +22,7 @@ pub(crate) fn hear_cpu(words: &Words, keeper: &mut Keeper, cpu: &mut PlainCpu)
     ensures words { KeepsWords keeper.old cpu.old keeper.new cpu.new }
 {
     let note = tell_on(words, cpu);
-    hear_keeper_on(words, keeper, note);
+    hear_keeper(words, keeper, note);
 }
 
 /// The CPU hears the whole history, and all that the keeper did: what the keeper changed is in its pass.
@@ -35,6 +35,6 @@ pub(crate) fn show_cpu(words: &Words, keeper: &mut Keeper, cpu: &mut PlainCpu)
     ensures log { cpu.new.cpu.log ≡ cpu.old.cpu.log ++ has_heard cpu.old.cpu None }
     ensures words { KeepsWords keeper.old cpu.old keeper.new cpu.new }
 {
-    let note = tell_keeper_on(words, keeper);
+    let note = tell_keeper(words, keeper);
     hear_on(words, cpu, note);
 }

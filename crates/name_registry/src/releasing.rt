@@ -16,7 +16,8 @@ impl<D: Domain> Registry<D> {
         ensures { IsLetGo cpu.old reference cpu.new }
     {
         if let Err(back) = try_release(&self.words, cpu, reference) {
-            release_under(&self.words, &mut self.interlock.lock(rt).keeper, back);
+            let LocalRef { plain, domain: _ } = back;
+            release_under(&self.words, &mut self.interlock.lock(rt).keeper, plain);
         }
     }
 }

@@ -7,28 +7,10 @@ ghost use Rattle.cpu_words.specs.Common.{AreWordsOf, heard_from, keeper_with_not
 ghost use Rattle.passive_list.specs.Logs.{HasOwnLog};
 
 use crate::keeper::Keeper;
-use crate::notes::Note;
-use cpu_words::{Domain, NoteSeat, Words, steps};
-use std::marker::PhantomData;
+use cpu_words::{NoteSeat, Words, steps};
 
 /// The keeper tells the history: the note has just that, and all that the keeper did, this with it. It changes nothing but the log.
-/// Condition: D names the keeper's table.
-pub fn tell_keeper<D: Domain>(words: &Words, keeper: &mut Keeper) -> Note<D>
-    requires words { AreWordsOf words.now keeper.old.words.table keeper.old.words.settings }
-    requires named { keeper.old.words.table ≡ D.table }
-    ensures note { result.pass ≡ keeper.old.keeper.view.history }
-    ensures known_log { result.known_log ≡ keeper.new.keeper.log }
-    ensures teller { result.teller ≡ None }
-    ensures log { keeper.new ≡ record keeper.old { keeper = record keeper.old.keeper { log = keeper.old.keeper.log ++ did (Tell None) Done } } }
-{
-    Note {
-        seat: tell_keeper_on(words, keeper),
-        domain: PhantomData,
-    }
-}
-
-/// `tell_keeper` where no type names the keeper's table.
-pub fn tell_keeper_on(words: &Words, keeper: &mut Keeper) -> NoteSeat
+pub fn tell_keeper(words: &Words, keeper: &mut Keeper) -> NoteSeat
     requires words { AreWordsOf words.now keeper.old.words.table keeper.old.words.settings }
     ensures table { result.table ≡ keeper.old.words.table }
     ensures note { result.view ≡ keeper.old.keeper.view.history }
@@ -42,24 +24,8 @@ pub fn tell_keeper_on(words: &Words, keeper: &mut Keeper) -> NoteSeat
 /// The keeper hears a note: what the note tells is in its history, and what it tells of the keeper's log begins that log. It has
 /// all that the keeper has in its slots and marks (`own`). Of the keeper nothing changes but the note that it heard last, and the log, which says
 /// whose note it was, and how many events that CPU had made by then.
-/// Condition: D names the keeper's table.
-pub fn hear_keeper<D: Domain>(words: &Words, keeper: &mut Keeper, note: Note<D>)
-    requires words { AreWordsOf words.now keeper.old.words.table keeper.old.words.settings }
-    requires named { keeper.old.words.table ≡ D.table }
-    ensures told { IsPrefix note.pass keeper.new.keeper.view.history }
-    ensures view { keeper.new.keeper.view ≡ keeper_with_note keeper.old.keeper.view note.pass }
-    ensures slots { keeper.new.keeper.slots ≡ keeper.old.keeper.slots }
-    ensures log { keeper.new.keeper.log ≡ keeper.old.keeper.log ++ heard_from None note.teller }
-    ensures known_log { IsPrefix note.known_log keeper.old.keeper.log }
-    ensures own { HasOwnLog keeper.old.words.settings keeper.old.keeper }
-    ensures words { keeper.new.words ≡ keeper.old.words }
-{
-    let Note { seat, domain: _ } = note;
-    hear_keeper_on(words, keeper, seat);
-}
-
-/// `hear_keeper` where no type names the keeper's table. Condition: the words and the note's seat are of it.
-pub fn hear_keeper_on(words: &Words, keeper: &mut Keeper, note: NoteSeat)
+/// Condition: the words and the note's seat are of the keeper's table.
+pub fn hear_keeper(words: &Words, keeper: &mut Keeper, note: NoteSeat)
     requires words { AreWordsOf words.now keeper.old.words.table keeper.old.words.settings }
     requires note { note.table ≡ keeper.old.words.table }
     ensures told { IsPrefix note.view keeper.new.keeper.view.history }

@@ -38,7 +38,7 @@ pub use from_outside::find_from_outside;
 pub use giving_up::give_up;
 pub use grace::{glance, look, snapshot};
 pub use keeper::{Keeper, KeptSlot, SlotState};
-pub use keeper_notes::{hear_keeper, hear_keeper_on, tell_keeper, tell_keeper_on};
+pub use keeper_notes::{hear_keeper, tell_keeper};
 pub use keeping::publish_keeping;
 pub use looking::look_passive;
 pub use lookup::{Seen, find, find_on};

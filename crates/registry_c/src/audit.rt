@@ -23,7 +23,7 @@ use crate::values::{DONE, EMPTY_HANDLE, NO_ROOM, NULL, refused};
 use cpu_words::{NoteSeat, Words};
 use held::CHandle;
 use name_registry::local_on;
-use passive_list::{Keeper, hear_keeper_on, tell_keeper_on};
+use passive_list::{Keeper, hear_keeper, tell_keeper};
 use registry_values::{MOST_CPUS, MOST_SLOTS, Refusal, Slot, less_bias, sum};
 
 /// What the counts say of the local references to a live or retired entry.
@@ -163,11 +163,11 @@ fn gather(words: &Words, keeper: &mut Keeper, cpus: &mut [CpuHandle])
     ensures cpus { HaveHeard (bodies_of cpus.old) (bodies_of cpus.new) }
     ensures notes { HaveHeardAndTold (cpus_in (bodies_of cpus.old)) (cpus_in (bodies_of cpus.new)) }
 {
-    let mut note = tell_keeper_on(words, keeper);
+    let mut note = tell_keeper(words, keeper);
     for c in 0..cpus.len() {
         note = pass_on(&mut cpus[c], note);
     }
-    hear_keeper_on(words, keeper, note);
+    hear_keeper(words, keeper, note);
 }
 
 /// One CPU hears the note and tells on what it knows then.

@@ -11,7 +11,7 @@ use crate::keeper_body::KeeperBody;
 use crate::local_body::LocalBody;
 use crate::place::EntryPlace;
 use crate::values::{BAD_NAME, CName, DONE, NOT_COLLECTED, NULL, entry_out, refused};
-use local_count::release_under_on;
+use local_count::release_under;
 use passive_list::Keeper;
 use registry_values::{Kind, MOST_SLOTS, Name, Record, is_retired_as};
 
@@ -37,7 +37,7 @@ fn spend(keeper: &mut KeeperBody, local: LocalBody) -> (u32, Option<LocalBody>)
     ensures words { keeper.new.words ≡ keeper.old.words }
     ensures done { (result.0 ≡ DONE) × HasGivenUp keeper.old.keeper local.reference keeper.new.keeper × (result.1 ≡ None) }
 {
-    release_under_on(&keeper.words, &mut keeper.keeper, local.into_reference());
+    release_under(&keeper.words, &mut keeper.keeper, local.into_reference());
     (DONE, None)
 }
 

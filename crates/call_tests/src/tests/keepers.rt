@@ -13,7 +13,7 @@ use super::answers::{Answer, at, standing};
 use super::readers::Held;
 use super::records::{Wanted, record};
 use cpu_words::{Domain, Words};
-use local_count::publish_iface;
+use local_count::{LocalRef, publish_iface};
 use passive_list::{Keeper, KeptSlot, SlotState, glance, look, publish, retire, snapshot};
 use passive_ref::look_passive;
 use registry_values::{Entry, Key, Kind, Record, is_live_as};
@@ -117,7 +117,8 @@ fn plugged<D: Domain, R: Abort>(
     assert!(rt; rec.kind == Kind::Iface);
     assert!(rt; reference.kind() == Kind::Driver);
     takes(rt, keeper, slot, rec);
-    at(rt, publish_iface(words, keeper, slot, rec, reference), rec)
+    let LocalRef { plain, domain: _ } = reference;
+    at(rt, publish_iface(words, keeper, slot, rec, plain), rec)
 }
 
 /// The slot is vacant and keeps nothing, no live entry has the record's kind and name, and the history has room.

@@ -8,9 +8,10 @@ use super::answers::Answer;
 use super::keepers::{Writer, by_keeper};
 use super::readers::{Held, Reader, by_reader};
 use cpu_words::{CpuSeat, Domain, KeeperSeat, Words};
-use passive_list::{Cpu, Keeper, hear, hear_keeper, tell, tell_keeper};
+use passive_list::{Cpu, Keeper, Note, hear, hear_keeper, tell, tell_keeper};
 use registry_values::Settings;
 use std::alloc::Global;
+use std::marker::PhantomData;
 use std::process::Abort;
 use std::sync::ledger;
 use std::test::Fail;
@@ -108,13 +109,16 @@ impl<D: Domain> Seats<D> {
             Step::Second(call) => by_reader(rt, words, &mut self.second, refs, call),
             Step::Keeper(call) => by_keeper(rt, words, &mut self.keeper, refs, call),
             Step::Tell => {
-                let note = tell_keeper(words, &mut self.keeper);
+                let note = Note {
+                    seat: tell_keeper(words, &mut self.keeper),
+                    domain: PhantomData,
+                };
                 hear(words, &mut self.first, note);
                 Answer::Done
             }
             Step::Hear => {
-                let note = tell(words, &mut self.first);
-                hear_keeper(words, &mut self.keeper, note);
+                let Note { seat, domain: _ } = tell(words, &mut self.first);
+                hear_keeper(words, &mut self.keeper, seat);
                 Answer::Done
             }
         }

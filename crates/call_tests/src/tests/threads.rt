@@ -11,7 +11,7 @@ use cpu_words::{Domain, Words};
 use local_count::{LocalRef, acquire_local, collect, collected, total, try_release};
 use passive_list::{Cpu, Keeper, Note, SlotState, enter, exit, find, hear, tell, tell_keeper};
 use registry_values::{Kind, Name, Record, Refusal};
-use std::marker::Brand;
+use std::marker::{Brand, PhantomData};
 use std::process::Abort;
 use std::sync::atomic::{AtomicBool, Ordering};
 use std::test::*;
@@ -181,7 +181,14 @@ fn publish_and_tell<D: Domain, R: Abort>(
     requires driver { IsTrue (is_lawful driver.name) }
 {
     let entry = published(rt, words, &mut keeper, 0, driver);
-    (entry.number, tell_keeper(words, &mut keeper))
+    let seat = tell_keeper(words, &mut keeper);
+    (
+        entry.number,
+        Note {
+            seat,
+            domain: PhantomData,
+        },
+    )
 }
 
 /// Hears the note in the open section, and looks the driver up. It answers the number found, and a note of what the CPU has seen then.

@@ -41,13 +41,13 @@ loop-c-preserved c =
 pub returns-clause-alike : goal.returns-clause-alike
 returns-clause-alike c =
     let l = c.loop-c in
-    gathered_alike _ c.args.keeper.now.keeper _ (cpus_in (bodies_of c.args.cpus.now)) (cpus_in (bodies_of l.cpus)) l.c _ l.note.known_log l.invariant.gathered (let long = cpus_size l.cpus in omega (arith, c.loop-c-test.false, l.auto.cpus, long)) l.invariant.keeper c.hear_keeper_on.ensures.known_log c.hear_keeper_on.ensures.own
+    gathered_alike _ c.args.keeper.now.keeper _ (cpus_in (bodies_of c.args.cpus.now)) (cpus_in (bodies_of l.cpus)) l.c _ l.note.known_log l.invariant.gathered (let long = cpus_size l.cpus in omega (arith, c.loop-c-test.false, l.auto.cpus, long)) l.invariant.keeper c.hear_keeper.ensures.known_log c.hear_keeper.ensures.own
 
 pub returns-clause-keeper : goal.returns-clause-keeper
 returns-clause-keeper c =
     let told = c.loop-c.invariant.keeper in
-    let e = c.hear_keeper_on.ensures in
-    (e.words ∙ c.loop-c.invariant.words, listened c.args.keeper.now.keeper c.hear_keeper_on.new.keeper.keeper c.loop-c.note.view _ _ (e.view ∙ ap (λ (k : OnKeeper). record k.view { noted_pass = c.loop-c.note.view }) told) (e.slots ∙ ap (λ (k : OnKeeper). k.slots) told) (e.log ∙ ap (λ (k : OnKeeper). k.log ++ heard_from None c.loop-c.note.teller) told))
+    let e = c.hear_keeper.ensures in
+    (e.words ∙ c.loop-c.invariant.words, listened c.args.keeper.now.keeper c.hear_keeper.new.keeper.keeper c.loop-c.note.view _ _ (e.view ∙ ap (λ (k : OnKeeper). record k.view { noted_pass = c.loop-c.note.view }) told) (e.slots ∙ ap (λ (k : OnKeeper). k.slots) told) (e.log ∙ ap (λ (k : OnKeeper). k.log ++ heard_from None c.loop-c.note.teller) told))
 
 pub returns-clause-cpus : goal.returns-clause-cpus
 returns-clause-cpus c = all_heard c.args.keeper.now.words.settings.cpus (bodies_of c.args.cpus.now) c.loop-c.cpus c.loop-c.c _ _ c.requires.all c.loop-c.invariant.gathered (omega (arith, c.loop-c-test.false, c.loop-c.auto.cpus)) c.loop-c.invariant.same
