@@ -130,12 +130,22 @@ pub struct Balance {
 }
 
 #[repr(C)]
-#[derive(Clone, Copy, Default)]
+#[derive(Clone, Copy)]
 pub struct Wait {
     pub snapshots: [u64; MOST_CPUS],
     pub retired: [u64; MOST_SLOTS],
     pub seen: [u64; MOST_CPUS],
     pub begun: u64,
+}
+
+impl Wait {
+    /// Not begun yet.
+    pub const EMPTY: Wait = Wait {
+        snapshots: [0; MOST_CPUS],
+        retired: [0; MOST_SLOTS],
+        seen: [0; MOST_CPUS],
+        begun: 0,
+    };
 }
 
 extern "C" {

@@ -286,7 +286,7 @@ impl<T> Registry<T> {
     pub fn perform(&self, cpu: &Cpu<T>, patience: Patience) -> Result<(), Refusal> {
         self.check(cpu)?;
         cpu.release_dropped();
-        let mut wait = ffi::Wait::default();
+        let mut wait = ffi::Wait::EMPTY;
         // SAFETY: as for `attach`.
         checked(unsafe { ffi::registry_perform_begin(&mut self.shared.kept().keeper, cpu.handle(), &mut wait) })?;
         let mut pauses = Pauses::new(patience);
