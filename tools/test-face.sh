@@ -198,6 +198,9 @@ test_c() {
     check "C: unwinds makes each call" unwinds_calls
     check "C: a debugger's stack goes through each call" "$out/unwinds"
     check "C: waits" "$out/waits"
+    check "C: turns, each step of a wait" "$out/turns"
+    check "C: deferred, beside a model" "$out/deferred"
+    check "C: history to its end, beside a model" "$out/history"
     check "C: walk" "$out/walk" 5000
     check "C: usual" "$out/usual" 1000
     check "C: forwarder" "$out/forwarder"

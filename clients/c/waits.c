@@ -92,7 +92,8 @@ static void enter_and_find(struct registry_cpu *cpu)
 	DONE(registry_find(cpu, REGISTRY_DRIVER, &wm, &found));
 }
 
-enum { HELD_TURNS = 14 };
+/* So many turns without a sleep between: the first one, those after a spin, and those after a yield. And so often the interlock is taken. */
+enum { AWAKE_TURNS = 1 + 16 + 8, HELD_TURNS = AWAKE_TURNS + 5 };
 
 /* Holds the entry in a section until the interlock was taken so often. */
 static void *hold(void *cpu)
@@ -131,7 +132,7 @@ static void detach_wm(void)
 	DONE(registry_detach(&keeper, &cpus[1], REGISTRY_DRIVER, &wm, &gone));
 }
 
-/* A destroy waits for the holder: between its turns it yields eight times, and then sleeps, each time twice as long. */
+/* A destroy waits for the holder: between its turns it spins, then yields, and then sleeps, each time twice as long. */
 static void test_destroy_waits(void)
 {
 	struct registry_stage met = {9, 9};
@@ -144,7 +145,7 @@ static void test_destroy_waits(void)
 	EXPECT(atomic_load(&left) && met.stage == REGISTRY_FREED && met.what == 0);
 	unsigned turns = takes();
 	exact = false;
-	EXPECT(turns >= HELD_TURNS && slept == turns - 9);
+	EXPECT(turns >= HELD_TURNS && slept == turns - AWAKE_TURNS);
 	EXPECT(pthread_join(holder, NULL) == 0);
 	EXPECT(registry_destroy_wait(&lock, &keeper, &cpus[1], number, NULL, &met) == REGISTRY_NOT_RETIRED && takes() == 1);
 }

@@ -1,0 +1,502 @@
+/*
+ * history - registries to the end of their histories, on one thread, beside the plain model of model.h: each answer is compared
+ *
+ *     history [CHANGES [SEED]]
+ *
+ * The largest registry goes through CHANGES changes, by default as many as there may be; smaller ones meet each limit. The last line says how many
+ * calls were compared, of how many changes.
+ */
+#include <inttypes.h>
+
+#include "model.h"
+
+enum { NAMES = 24, HANDLES = 96, MANY = 70001 };
+
+struct held {
+	struct registry_local handle;
+	uint64_t number;
+};
+
+/* A registry beside its model, and what the test refers to. */
+struct world {
+	struct model model;
+	struct registry_keeper keeper;
+	struct registry_cpu cpus[CPUS];
+	struct registry_wait wait;
+	bool begun;
+	struct held locals[HANDLES];
+	unsigned held;
+	uint64_t random;
+};
+
+static struct registry_name names[NAMES];
+static uint64_t compared;
+
+/* A number below `end`, by xorshift. */
+static uint64_t below(struct world *world, uint64_t end)
+{
+	world->random ^= world->random << 13;
+	world->random ^= world->random >> 7;
+	world->random ^= world->random << 17;
+	return (world->random >> 11) % end;
+}
+
+static unsigned any_cpu(struct world *world)
+{
+	return (unsigned)below(world, world->model.settings.cpus);
+}
+
+/* One of so many names that those of both kinds are more than the slots. */
+static const struct registry_name *any_name(struct world *world)
+{
+	uint64_t few = world->model.settings.slots * 3 / 4 + 1;
+	return &names[below(world, few < NAMES ? few : NAMES)];
+}
+
+static uint64_t any_kind(struct world *world)
+{
+	return below(world, 2) ? REGISTRY_DRIVER : REGISTRY_INTERFACE;
+}
+
+/* A number that an entry has, in most cases: of the slots' last entries, or one that was never given or lost its slot long ago. */
+static uint64_t any_number(struct world *world)
+{
+	if (below(world, 16) == 0)
+		return below(world, world->model.changes + 3);
+	return world->model.slots[below(world, world->model.settings.slots)].entry.number;
+}
+
+/* The answer is the model's. */
+static uint32_t same(uint32_t answer, uint32_t wanted)
+{
+	compared++;
+	EXPECT(answer == wanted);
+	return answer;
+}
+
+/* Done, and the entries are the same; or refused alike, and nothing is written. */
+static uint32_t same_entry(uint32_t answer, const struct registry_entry *entry, uint32_t wanted, const struct registry_entry *other)
+{
+	same(answer, wanted);
+	EXPECT(memcmp(entry, other, sizeof *entry) == 0);
+	return answer;
+}
+
+static void enter(struct world *world)
+{
+	unsigned cpu = any_cpu(world);
+	same(registry_enter(&world->cpus[cpu]), model_enter(&world->model, cpu));
+}
+
+static void leave(struct world *world)
+{
+	unsigned cpu = any_cpu(world);
+	uint64_t depth = 999;
+	same(registry_exit(&world->cpus[cpu]), model_exit(&world->model, cpu));
+	DONE(registry_depth(&world->cpus[cpu], &depth));
+	EXPECT(depth == world->model.cpus[cpu].depth);
+}
+
+typedef uint32_t lookup(struct registry_cpu *, uint64_t, const struct registry_name *, struct registry_entry *);
+typedef uint32_t model_lookup(struct model *, unsigned, uint64_t, const struct registry_name *, struct registry_entry *);
+
+static void look(struct world *world, lookup *call, model_lookup *model_call)
+{
+	struct registry_entry found = {0}, wanted = {0};
+	unsigned cpu = any_cpu(world);
+	uint64_t kind = any_kind(world);
+	const struct registry_name *name = any_name(world);
+	uint32_t answer = call(&world->cpus[cpu], kind, name, &found);
+	same_entry(answer, &found, model_call(&world->model, cpu, kind, name, &wanted), &wanted);
+}
+
+static void find(struct world *world)
+{
+	look(world, registry_find, model_find);
+}
+
+static void look_up(struct world *world)
+{
+	look(world, registry_look_up, model_look_up);
+}
+
+static void get(struct world *world)
+{
+	look(world, registry_get, model_get);
+}
+
+static void walk(struct world *world)
+{
+	struct registry_entry row[SLOTS] = {0}, wanted[SLOTS] = {0};
+	size_t count = 99, length = 99, room = below(world, 4) ? SLOTS : below(world, SLOTS);
+	unsigned cpu = any_cpu(world);
+	uint32_t answer = registry_walk(&world->cpus[cpu], row, room, &count);
+	same(answer, model_walk(&world->model, cpu, wanted, room, &length));
+	EXPECT(count == length && memcmp(row, wanted, sizeof row) == 0);
+}
+
+static void acquire(struct world *world)
+{
+	uint64_t number = 0, wanted = 0;
+	unsigned cpu = any_cpu(world);
+	same(registry_acquire(&world->cpus[cpu], &number), model_acquire(&world->model, cpu, &wanted));
+	EXPECT(number == wanted);
+}
+
+static void copy(struct world *world)
+{
+	unsigned cpu = any_cpu(world);
+	uint64_t number = any_number(world);
+	same(registry_copy(&world->cpus[cpu], number), model_copy(&world->model, cpu, number));
+}
+
+static void read_held(struct world *world)
+{
+	struct registry_entry entry = {0}, wanted = {0};
+	unsigned cpu = any_cpu(world);
+	uint64_t number = any_number(world);
+	bool held = false;
+	uint32_t answer = registry_read(&world->cpus[cpu], number, &entry);
+	same_entry(answer, &entry, model_read(&world->model, cpu, number, &wanted), &wanted);
+	DONE(registry_held(&world->cpus[cpu], number, &held));
+	EXPECT(held == (answer == REGISTRY_DONE));
+}
+
+static void release(struct world *world)
+{
+	unsigned cpu = any_cpu(world);
+	uint64_t number = any_number(world);
+	same(registry_release(&world->cpus[cpu], number), model_release(&world->model, cpu, number));
+}
+
+static void acquire_local(struct world *world)
+{
+	unsigned cpu = any_cpu(world);
+	uint64_t wanted = 0;
+	if (world->held == HANDLES)
+		return;
+	struct held *held = &world->locals[world->held];
+	if (same(registry_local_acquire(&world->cpus[cpu], &held->handle), model_local_acquire(&world->model, cpu, &wanted)) != REGISTRY_DONE)
+		return;
+	held->number = wanted;
+	world->held++;
+}
+
+/* Takes the handle out of the row: it is empty. */
+static void forget_local(struct world *world, struct held *held)
+{
+	EXPECT(held->handle.at == NULL);
+	*held = world->locals[--world->held];
+	world->locals[world->held].handle.at = NULL;
+}
+
+static void release_held(struct world *world, struct held *held)
+{
+	struct registry_entry entry;
+	unsigned cpu = any_cpu(world);
+	DONE(registry_local_read(&held->handle, &entry));
+	EXPECT(memcmp(&entry, &model_slot_of(&world->model, held->number)->entry, sizeof entry) == 0);
+	uint32_t answer = same(registry_local_release(&world->cpus[cpu], &held->handle), model_local_release(&world->model, cpu, held->number));
+	if (answer == REGISTRY_COLLECTED)
+		same(registry_local_give_up(&world->keeper, &held->handle), model_local_give_up(&world->model, held->number));
+	forget_local(world, held);
+}
+
+static void release_local(struct world *world)
+{
+	if (world->held > 0)
+		release_held(world, &world->locals[below(world, world->held)]);
+}
+
+static void give_up_local(struct world *world)
+{
+	if (world->held == 0)
+		return;
+	struct held *held = &world->locals[below(world, world->held)];
+	if (same(registry_local_give_up(&world->keeper, &held->handle), model_local_give_up(&world->model, held->number)) == REGISTRY_DONE)
+		forget_local(world, held);
+}
+
+static void attach(struct world *world)
+{
+	struct registry_entry made = {0}, wanted = {0};
+	unsigned cpu = any_cpu(world);
+	const struct registry_name *name = any_name(world);
+	uint64_t value = below(world, UINT64_MAX);
+	uint32_t answer = registry_attach(&world->keeper, &world->cpus[cpu], name, value, &made);
+	same_entry(answer, &made, model_attach(&world->model, cpu, 0, name, value, &wanted), &wanted);
+}
+
+static void attach_iface(struct world *world)
+{
+	struct registry_entry made = {0}, wanted = {0};
+	unsigned cpu = any_cpu(world);
+	const struct registry_name *name = any_name(world);
+	uint64_t value = below(world, UINT64_MAX);
+	if (world->held == 0)
+		return;
+	struct held *held = &world->locals[below(world, world->held)];
+	uint32_t answer = registry_attach_iface(&world->keeper, &world->cpus[cpu], &held->handle, name, value, &made);
+	same_entry(answer, &made, model_attach(&world->model, cpu, held->number, name, value, &wanted), &wanted);
+	if (answer == REGISTRY_DONE)
+		forget_local(world, held);
+}
+
+static void detach(struct world *world)
+{
+	struct registry_entry gone = {0}, wanted = {0};
+	unsigned cpu = any_cpu(world);
+	uint64_t kind = any_kind(world);
+	const struct registry_name *name = any_name(world);
+	uint32_t answer = registry_detach(&world->keeper, &world->cpus[cpu], kind, name, &gone);
+	same_entry(answer, &gone, model_detach(&world->model, cpu, kind, name, &wanted), &wanted);
+}
+
+static bool same_stage(struct registry_stage met, struct registry_stage wanted)
+{
+	return met.stage == wanted.stage && met.what == wanted.what;
+}
+
+static void advance_number(struct world *world, uint64_t number)
+{
+	struct registry_stage met = {9, 9}, wanted = {9, 9};
+	same(registry_advance(&world->keeper, number, &met), model_advance(&world->model, number, &wanted));
+	EXPECT(same_stage(met, wanted));
+}
+
+static void advance(struct world *world)
+{
+	advance_number(world, any_number(world));
+}
+
+static void destroy(struct world *world)
+{
+	struct registry_stage met = {9, 9}, wanted = {9, 9};
+	unsigned cpu = any_cpu(world);
+	uint64_t number = any_number(world);
+	same(registry_destroy(&world->keeper, &world->cpus[cpu], number, &met), model_destroy(&world->model, cpu, number, &wanted));
+	EXPECT(same_stage(met, wanted));
+}
+
+static void begin_wait(struct world *world)
+{
+	unsigned cpu = any_cpu(world);
+	uint32_t answer = registry_perform_begin(&world->keeper, &world->cpus[cpu], &world->wait);
+	world->begun = same(answer, model_perform_begin(&world->model, cpu)) == REGISTRY_DONE || world->begun;
+}
+
+static void turn_wait(struct world *world)
+{
+	uint64_t waited = 99, wanted = 99;
+	unsigned cpu = any_cpu(world);
+	if (!world->begun)
+		return;
+	same(registry_perform_turn(&world->keeper, &world->cpus[cpu], &world->wait, &waited), model_perform_turn(&world->model, cpu, &wanted));
+	EXPECT(waited == wanted);
+}
+
+static void audit(struct world *world)
+{
+	struct registry_balance list[SLOTS], wanted[SLOTS];
+	size_t length = 99, count = model_audit(&world->model, wanted), room = below(world, 4) ? SLOTS : below(world, SLOTS);
+	uint32_t answer = registry_audit(&world->keeper, world->cpus, world->model.settings.cpus, list, room, &length);
+	same(answer, count > room ? REGISTRY_NO_ROOM : REGISTRY_DONE);
+	EXPECT(length == count && (answer != REGISTRY_DONE || memcmp(list, wanted, count * sizeof *list) == 0));
+}
+
+/* All CPUs leave their sections, and nothing is referred to but by slots. */
+static void let_all_go(struct world *world)
+{
+	struct model *model = &world->model;
+	for (unsigned c = 0; c < model->settings.cpus; c++)
+		while (model->cpus[c].depth > 0)
+			same(registry_exit(&world->cpus[c]), model_exit(model, c));
+	for (unsigned place = 0; place < model->settings.cpus * SLOTS; place++) {
+		unsigned c = place / SLOTS;
+		const struct model_slot *slot = &model->slots[place % SLOTS];
+		while (slot->state != VACANT && slot->passive[c] > 0)
+			same(registry_release(&world->cpus[c], slot->entry.number), model_release(model, c, slot->entry.number));
+	}
+	while (world->held > 0)
+		release_held(world, &world->locals[world->held - 1]);
+}
+
+/* And then what is retired is freed, twice over: an interface before the driver that its slot keeps. */
+static void settle(struct world *world)
+{
+	let_all_go(world);
+	for (unsigned s = 0; s < 2 * SLOTS; s++)
+		if (world->model.slots[s % SLOTS].state == RETIRED)
+			advance_number(world, world->model.slots[s % SLOTS].entry.number);
+}
+
+/* What is done, and how often of a hundred. */
+static const struct {
+	unsigned often;
+	void (*act)(struct world *);
+} deeds[] = {
+	{9, enter}, {10, leave}, {7, find}, {5, look_up}, {3, get}, {1, walk}, {4, acquire}, {2, copy}, {2, read_held}, {9, release}, {3, acquire_local},
+	{4, release_local}, {1, give_up_local}, {10, attach}, {5, attach_iface}, {10, detach}, {8, advance}, {3, destroy}, {1, begin_wait}, {2, turn_wait},
+	{1, audit},
+};
+
+static void act(struct world *world)
+{
+	uint64_t which = below(world, 100);
+	for (unsigned i = 0; i < sizeof deeds / sizeof *deeds; which -= deeds[i++].often)
+		if (which < deeds[i].often) {
+			deeds[i].act(world);
+			return;
+		}
+}
+
+static struct world *opened(const struct registry_settings *settings, uint64_t seed)
+{
+	struct world *world = calloc(1, sizeof *world);
+	EXPECT(world != NULL);
+	world->model.settings = *settings;
+	world->random = seed * 0x9e3779b97f4a7c15 | 1;
+	DONE(registry_open(settings, &world->keeper, world->cpus, settings->cpus));
+	return world;
+}
+
+static void closed(struct world *world)
+{
+	for (unsigned c = 0; c < world->model.settings.cpus; c++)
+		DONE(registry_close_cpu(&world->cpus[c]));
+	DONE(registry_close_keeper(&world->keeper));
+	free(world);
+}
+
+static unsigned live(const struct world *world)
+{
+	unsigned count = 0;
+	for (unsigned s = 0; s < world->model.settings.slots; s++)
+		count += world->model.slots[s].state == LIVE;
+	return count;
+}
+
+/* At the end of the history an attach is refused in each slot, and each live entry can still be detached. */
+static void end_history(struct world *world)
+{
+	struct registry_entry none = {0};
+	settle(world);
+	if (world->model.changes + 2 + live(world) > world->model.settings.change_limit)
+		for (unsigned i = 0; i < NAMES; i++)
+			same(registry_attach(&world->keeper, &world->cpus[0], &names[i], 1, &none), model_attach(&world->model, 0, 0, &names[i], 1, &none));
+	while (live(world) > 0)
+		detach(world);
+	settle(world);
+	audit(world);
+	EXPECT(live(world) == 0);
+}
+
+/* A registry through so many changes, or to its end. */
+static uint64_t run(const struct registry_settings *settings, uint64_t changes, uint64_t seed)
+{
+	struct world *world = opened(settings, seed);
+	uint64_t limit = settings->change_limit - SLOTS - 2 < changes ? settings->change_limit - SLOTS - 2 : changes;
+	for (uint64_t turn = 1; world->model.changes < limit && turn < 200 * changes; turn++) {
+		act(world);
+		if (turn % 1024 == 0)
+			settle(world);
+	}
+	EXPECT(world->model.changes >= limit);
+	/* The last changes before the limit, one by one. */
+	for (unsigned turn = 0; turn < 100 * SLOTS; turn++)
+		act(world);
+	end_history(world);
+	changes = world->model.changes;
+	closed(world);
+	return changes;
+}
+
+/* The registry's answers where sections, references and counts come to their limits: each registry is small, so that they come often. */
+static void run_small(uint64_t seed)
+{
+	struct registry_settings settings = {1, 1, 400, 1000000, 3, 3};
+	for (uint64_t i = 0; i < 200; i++) {
+		settings.cpus = 1 + i % CPUS;
+		settings.slots = 1 + i % SLOTS;
+		run(&settings, 300, seed + i);
+	}
+}
+
+/* A CPU's sections come to an end, and then each enter is refused, but for one nested in an open section. */
+static void spend_sections(void)
+{
+	const struct registry_settings settings = {1, 1, 10, 5, 1, 1};
+	struct world *world = opened(&settings, 1);
+	for (unsigned turn = 0; turn < 2000; turn++)
+		(below(world, 4) == 0 ? look_up : below(world, 2) ? enter : leave)(world);
+	EXPECT(world->model.cpus[0].sections == 5);
+	settle(world);
+	EXPECT(same(registry_enter(&world->cpus[0]), model_enter(&world->model, 0)) == REGISTRY_SECTIONS_SPENT);
+	closed(world);
+}
+
+/* Sections nest to the greatest depth, and no deeper. */
+static void nest(struct world *world)
+{
+	for (unsigned i = 0; i < REGISTRY_MOST_DEPTH + 2; i++)
+		same(registry_enter(&world->cpus[0]), model_enter(&world->model, 0));
+	EXPECT(world->model.cpus[0].depth == REGISTRY_MOST_DEPTH);
+	settle(world);
+}
+
+/* More references of each kind to one entry than a word of 16 bits counts: each CPU has some, and they are told one by one. */
+static void refer_often(void)
+{
+	const struct registry_settings settings = {CPUS, SLOTS, REGISTRY_MOST_CHANGES, REGISTRY_MOST_COUNT, REGISTRY_MOST_COUNT, REGISTRY_MOST_COUNT};
+	struct world *world = opened(&settings, 1);
+	struct registry_local *handles = calloc(MANY, sizeof *handles);
+	struct registry_entry entry = {0}, wanted = {0};
+	uint64_t number = 0;
+	EXPECT(handles != NULL);
+	nest(world);
+	same(registry_attach(&world->keeper, &world->cpus[0], &names[0], 7, &entry), model_attach(&world->model, 0, 0, &names[0], 7, &wanted));
+	for (unsigned i = 0; i < MANY; i++) {
+		unsigned cpu = i % CPUS;
+		same(registry_enter_find(&world->cpus[cpu], REGISTRY_DRIVER, &names[0], &entry), model_enter(&world->model, cpu));
+		DONE(model_find(&world->model, cpu, REGISTRY_DRIVER, &names[0], &wanted));
+		same(registry_local_acquire(&world->cpus[cpu], &handles[i]), model_local_acquire(&world->model, cpu, &number));
+		same(registry_acquire(&world->cpus[cpu], NULL), model_acquire(&world->model, cpu, &number));
+		same(registry_exit(&world->cpus[cpu]), model_exit(&world->model, cpu));
+	}
+	audit(world);
+	same(registry_detach(&world->keeper, &world->cpus[1], REGISTRY_DRIVER, &names[0], &entry), model_detach(&world->model, 1, REGISTRY_DRIVER, &names[0], &wanted));
+	for (unsigned i = 0; i < MANY; i++) {
+		if (i % 1000 == 0)
+			advance_number(world, number);
+		same(registry_release(&world->cpus[i % CPUS], number), model_release(&world->model, i % CPUS, number));
+	}
+	for (unsigned i = 0; i < MANY; i++) {
+		if (i % 1000 == 0)
+			advance_number(world, number);
+		same(registry_local_release(&world->cpus[i % CPUS], &handles[i]), model_local_release(&world->model, i % CPUS, number));
+		same(registry_local_give_up(&world->keeper, &handles[i]), model_local_give_up(&world->model, number));
+	}
+	audit(world);
+	advance_number(world, number);
+	EXPECT(model_slot_of(&world->model, number) == NULL);
+	free(handles);
+	closed(world);
+}
+
+int main(int argc, char **argv)
+{
+	uint64_t changes = argc > 1 ? strtoull(argv[1], NULL, 10) : REGISTRY_MOST_CHANGES;
+	uint64_t seed = argc > 2 ? strtoull(argv[2], NULL, 10) : 1;
+	const struct registry_settings largest = {CPUS, SLOTS, REGISTRY_MOST_CHANGES, REGISTRY_MOST_COUNT, REGISTRY_MOST_COUNT, REGISTRY_MOST_COUNT};
+	for (unsigned i = 0; i < NAMES; i++) {
+		char text[8];
+		snprintf(text, sizeof text, "n%u", i);
+		names[i] = name_of(text);
+	}
+	spend_sections();
+	refer_often();
+	run_small(seed);
+	changes = run(&largest, changes, seed);
+	printf("history: %" PRIu64 " calls compared, %" PRIu64 " changes\n", compared, changes);
+	return 0;
+}

@@ -1,0 +1,334 @@
+/* The plain model of model.h. */
+#include "model.h"
+
+static bool is_inside(const struct model *model, unsigned cpu)
+{
+	return model->cpus[cpu].depth > 0;
+}
+
+struct model_slot *model_slot_of(struct model *model, uint64_t number)
+{
+	for (unsigned s = 0; s < model->settings.slots; s++)
+		if (model->slots[s].state != VACANT && model->slots[s].entry.number == number)
+			return &model->slots[s];
+	return NULL;
+}
+
+static struct model_slot *live_slot(struct model *model, uint64_t kind, const struct registry_name *name)
+{
+	for (unsigned s = 0; s < model->settings.slots; s++) {
+		const struct registry_entry *entry = &model->slots[s].entry;
+		if (model->slots[s].state == LIVE && entry->kind == kind && entry->name.high == name->high && entry->name.low == name->low)
+			return &model->slots[s];
+	}
+	return NULL;
+}
+
+uint32_t model_enter(struct model *model, unsigned cpu)
+{
+	struct model_cpu *own = &model->cpus[cpu];
+	if (own->depth == REGISTRY_MOST_DEPTH)
+		return REGISTRY_TOO_DEEP;
+	if (own->depth == 0 && own->sections == model->settings.section_limit)
+		return REGISTRY_SECTIONS_SPENT;
+	if (own->depth++ == 0)
+		own->sections++;
+	return REGISTRY_DONE;
+}
+
+uint32_t model_exit(struct model *model, unsigned cpu)
+{
+	struct model_cpu *own = &model->cpus[cpu];
+	if (own->depth == 0)
+		return REGISTRY_OUTSIDE;
+	if (--own->depth > 0)
+		return REGISTRY_DONE;
+	own->found = 0;
+	model->wait.open[cpu] = false;
+	for (unsigned s = 0; s < model->settings.slots; s++)
+		model->slots[s].open[cpu] = false;
+	return REGISTRY_DONE;
+}
+
+uint32_t model_find(struct model *model, unsigned cpu, uint64_t kind, const struct registry_name *name, struct registry_entry *found)
+{
+	struct model_cpu *own = &model->cpus[cpu];
+	if (own->depth == 0)
+		return REGISTRY_OUTSIDE;
+	const struct model_slot *slot = live_slot(model, kind, name);
+	own->found = slot == NULL ? 0 : slot->entry.number;
+	if (slot == NULL)
+		return REGISTRY_NOT_FOUND;
+	*found = slot->entry;
+	return REGISTRY_DONE;
+}
+
+uint32_t model_look_up(struct model *model, unsigned cpu, uint64_t kind, const struct registry_name *name, struct registry_entry *found)
+{
+	uint32_t answer = model_enter(model, cpu);
+	if (answer != REGISTRY_DONE)
+		return answer;
+	answer = model_find(model, cpu, kind, name, found);
+	model_exit(model, cpu);
+	return answer;
+}
+
+uint32_t model_get(struct model *model, unsigned cpu, uint64_t kind, const struct registry_name *name, struct registry_entry *found)
+{
+	struct registry_entry seen;
+	uint64_t number;
+	uint32_t answer = model_enter(model, cpu);
+	if (answer != REGISTRY_DONE)
+		return answer;
+	answer = model_find(model, cpu, kind, name, &seen);
+	if (answer == REGISTRY_DONE)
+		answer = model_acquire(model, cpu, &number);
+	if (answer == REGISTRY_DONE)
+		*found = seen;
+	model_exit(model, cpu);
+	return answer;
+}
+
+/* The live entry with the greatest number below `below`, or NULL. */
+static const struct registry_entry *next_older(const struct model *model, uint64_t below)
+{
+	const struct registry_entry *newest = NULL;
+	for (unsigned s = 0; s < model->settings.slots; s++) {
+		const struct registry_entry *entry = &model->slots[s].entry;
+		if (model->slots[s].state == LIVE && entry->number < below && (newest == NULL || entry->number > newest->number))
+			newest = entry;
+	}
+	return newest;
+}
+
+uint32_t model_walk(struct model *model, unsigned cpu, struct registry_entry *row, size_t room, size_t *count)
+{
+	struct registry_entry all[SLOTS];
+	const struct registry_entry *next;
+	if (!is_inside(model, cpu))
+		return REGISTRY_OUTSIDE;
+	model->cpus[cpu].found = 0;
+	*count = 0;
+	for (uint64_t below = UINT64_MAX; (next = next_older(model, below)) != NULL; below = next->number)
+		all[(*count)++] = *next;
+	if (*count > room)
+		return REGISTRY_NO_ROOM;
+	memcpy(row, all, *count * sizeof *row);
+	return REGISTRY_DONE;
+}
+
+uint32_t model_acquire(struct model *model, unsigned cpu, uint64_t *number)
+{
+	struct model_slot *slot = model->cpus[cpu].found == 0 ? NULL : model_slot_of(model, model->cpus[cpu].found);
+	if (slot == NULL)
+		return REGISTRY_NOTHING_FOUND;
+	if (slot->passive[cpu] == model->settings.passive_limit)
+		return REGISTRY_PASSIVE_FULL;
+	slot->passive[cpu]++;
+	*number = slot->entry.number;
+	return REGISTRY_DONE;
+}
+
+/* The slot to which the CPU has a passive reference by this number, or NULL. */
+static struct model_slot *held_slot(struct model *model, unsigned cpu, uint64_t number)
+{
+	struct model_slot *slot = model_slot_of(model, number);
+	return slot != NULL && slot->passive[cpu] > 0 ? slot : NULL;
+}
+
+uint32_t model_copy(struct model *model, unsigned cpu, uint64_t number)
+{
+	struct model_slot *slot = held_slot(model, cpu, number);
+	if (slot == NULL)
+		return REGISTRY_NOT_HELD;
+	if (slot->passive[cpu] == model->settings.passive_limit)
+		return REGISTRY_PASSIVE_FULL;
+	slot->passive[cpu]++;
+	return REGISTRY_DONE;
+}
+
+uint32_t model_read(struct model *model, unsigned cpu, uint64_t number, struct registry_entry *entry)
+{
+	const struct model_slot *slot = held_slot(model, cpu, number);
+	if (slot == NULL)
+		return REGISTRY_NOT_HELD;
+	*entry = slot->entry;
+	return REGISTRY_DONE;
+}
+
+uint32_t model_release(struct model *model, unsigned cpu, uint64_t number)
+{
+	struct model_slot *slot = held_slot(model, cpu, number);
+	if (slot == NULL)
+		return REGISTRY_NOT_HELD;
+	slot->passive[cpu]--;
+	return REGISTRY_DONE;
+}
+
+uint32_t model_local_acquire(struct model *model, unsigned cpu, uint64_t *number)
+{
+	struct model_slot *slot = model->cpus[cpu].found == 0 ? NULL : model_slot_of(model, model->cpus[cpu].found);
+	if (slot == NULL)
+		return REGISTRY_NOTHING_FOUND;
+	if (slot->net[cpu] == (int64_t)model->settings.count_limit)
+		return REGISTRY_LOCAL_FULL;
+	slot->net[cpu]++;
+	slot->locals++;
+	*number = slot->entry.number;
+	return REGISTRY_DONE;
+}
+
+uint32_t model_local_release(struct model *model, unsigned cpu, uint64_t number)
+{
+	struct model_slot *slot = model_slot_of(model, number);
+	if (slot->collected)
+		return REGISTRY_COLLECTED;
+	slot->net[cpu]--;
+	slot->locals--;
+	return REGISTRY_DONE;
+}
+
+uint32_t model_local_give_up(struct model *model, uint64_t number)
+{
+	struct model_slot *slot = model_slot_of(model, number);
+	if (!slot->collected)
+		return REGISTRY_NOT_COLLECTED;
+	slot->total--;
+	slot->locals--;
+	return REGISTRY_DONE;
+}
+
+static unsigned count_of(const struct model *model, enum state state)
+{
+	unsigned count = 0;
+	for (unsigned s = 0; s < model->settings.slots; s++)
+		count += model->slots[s].state == state;
+	return count;
+}
+
+static struct model_slot *first_vacant(struct model *model)
+{
+	unsigned s = 0;
+	while (s < model->settings.slots && model->slots[s].state != VACANT)
+		s++;
+	return s < model->settings.slots ? &model->slots[s] : NULL;
+}
+
+uint32_t model_attach(struct model *model, unsigned cpu, uint64_t driver, const struct registry_name *name, uint64_t value, struct registry_entry *made)
+{
+	const uint64_t kind = driver == 0 ? REGISTRY_DRIVER : REGISTRY_INTERFACE;
+	if (is_inside(model, cpu))
+		return REGISTRY_INSIDE;
+	if (driver != 0 && model_slot_of(model, driver)->entry.kind != REGISTRY_DRIVER)
+		return REGISTRY_NEEDS_DRIVER;
+	if (live_slot(model, kind, name) != NULL)
+		return REGISTRY_NAME_TAKEN;
+	struct model_slot *slot = first_vacant(model);
+	if (slot == NULL)
+		return REGISTRY_NO_SLOT;
+	if (model->changes + 2 + count_of(model, LIVE) > model->settings.change_limit)
+		return REGISTRY_HISTORY_FULL;
+	*slot = (struct model_slot){.state = LIVE, .driver = driver};
+	slot->entry = (struct registry_entry){++model->changes, (uint64_t)(slot - model->slots), kind, *name, value};
+	*made = slot->entry;
+	return REGISTRY_DONE;
+}
+
+uint32_t model_detach(struct model *model, unsigned cpu, uint64_t kind, const struct registry_name *name, struct registry_entry *gone)
+{
+	if (is_inside(model, cpu))
+		return REGISTRY_INSIDE;
+	struct model_slot *slot = live_slot(model, kind, name);
+	if (slot == NULL)
+		return REGISTRY_NOT_FOUND;
+	slot->state = RETIRED;
+	model->changes++;
+	for (unsigned c = 0; c < model->settings.cpus; c++)
+		slot->open[c] = is_inside(model, c);
+	*gone = slot->entry;
+	return REGISTRY_DONE;
+}
+
+/* Collects the counts of a slot that nobody holds but by local references. */
+static void collect(struct model *model, struct model_slot *slot)
+{
+	for (unsigned c = 0; c < model->settings.cpus && !slot->collected; c++)
+		slot->total += slot->net[c];
+	slot->collected = true;
+}
+
+/* What holds a retired slot first; FREED, and the slot is vacant, where nothing does. */
+static struct registry_stage stage_of(struct model *model, struct model_slot *slot)
+{
+	for (unsigned c = 0; c < model->settings.cpus; c++)
+		if (slot->open[c])
+			return (struct registry_stage){REGISTRY_GRACE, c};
+	for (unsigned c = 0; c < model->settings.cpus; c++)
+		if (slot->passive[c] > 0)
+			return (struct registry_stage){REGISTRY_PASSIVE, c};
+	collect(model, slot);
+	if (slot->locals > 0)
+		return (struct registry_stage){REGISTRY_LOCAL, (uint64_t)slot->locals};
+	if (slot->driver != 0) {
+		struct model_slot *kept = model_slot_of(model, slot->driver);
+		kept->total--;
+		kept->locals--;
+	}
+	slot->state = VACANT;
+	return (struct registry_stage){REGISTRY_FREED, (uint64_t)(slot - model->slots)};
+}
+
+uint32_t model_advance(struct model *model, uint64_t number, struct registry_stage *met)
+{
+	struct model_slot *slot = model_slot_of(model, number);
+	if (slot == NULL || slot->state != RETIRED)
+		return REGISTRY_NOT_RETIRED;
+	*met = stage_of(model, slot);
+	return REGISTRY_DONE;
+}
+
+uint32_t model_destroy(struct model *model, unsigned cpu, uint64_t number, struct registry_stage *met)
+{
+	if (is_inside(model, cpu))
+		return REGISTRY_INSIDE;
+	uint32_t answer = model_advance(model, number, met);
+	if (answer != REGISTRY_DONE)
+		return answer;
+	return met->stage == REGISTRY_FREED ? REGISTRY_DONE : REGISTRY_STILL_HELD;
+}
+
+uint32_t model_perform_begin(struct model *model, unsigned cpu)
+{
+	if (is_inside(model, cpu))
+		return REGISTRY_INSIDE;
+	for (unsigned c = 0; c < model->settings.cpus; c++)
+		model->wait.open[c] = is_inside(model, c);
+	return REGISTRY_DONE;
+}
+
+uint32_t model_perform_turn(struct model *model, unsigned cpu, uint64_t *waited)
+{
+	if (is_inside(model, cpu))
+		return REGISTRY_INSIDE;
+	for (unsigned c = 0; c < model->settings.cpus; c++)
+		if (model->wait.open[c]) {
+			*waited = c;
+			return REGISTRY_WAITING;
+		}
+	return REGISTRY_DONE;
+}
+
+size_t model_audit(const struct model *model, struct registry_balance *list)
+{
+	size_t length = 0;
+	for (unsigned s = 0; s < model->settings.slots; s++) {
+		const struct model_slot *slot = &model->slots[s];
+		if (slot->state == VACANT)
+			continue;
+		struct registry_balance *balance = &list[length++];
+		*balance = (struct registry_balance){.number = slot->entry.number, .slot = s, .held = slot->locals, .total = slot->total};
+		for (unsigned c = 0; c < model->settings.cpus; c++)
+			balance->locals[c] = slot->collected ? 0 : slot->net[c];
+	}
+	return length;
+}

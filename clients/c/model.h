@@ -1,0 +1,71 @@
+/*
+ * model.h - a registry in plain C, without threads and without words: what each call answers, by the text of registry.h alone
+ *
+ * One function for each call, with the same answer. A name is a small number here, and an entry is what registry.h writes.
+ */
+#ifndef MODEL_H
+#define MODEL_H
+
+#include "client.h"
+
+enum { CPUS = REGISTRY_MOST_CPUS, SLOTS = REGISTRY_MOST_SLOTS };
+
+enum state { VACANT, LIVE, RETIRED };
+
+struct model_slot {
+	enum state state;
+	struct registry_entry entry;
+	uint64_t driver;		/* the number of the driver that an interface's slot keeps, or 0 */
+	bool open[CPUS];		/* whether the section of that CPU which was open at the detach is open still */
+	bool collected;			/* whether the counts were collected for a drain */
+	uint64_t passive[CPUS];		/* passive references of that CPU */
+	int64_t net[CPUS];		/* local references: acquired on that CPU less released on it */
+	int64_t total;			/* what was collected, less what was given up */
+	int64_t locals;			/* local references held, those kept by slots among them */
+};
+
+struct model_cpu {
+	unsigned depth;
+	uint64_t sections;		/* outermost sections begun */
+	uint64_t found;			/* the number of the last found entry, or 0 */
+};
+
+/* A wait of a perform: the CPUs whose section was open as it began, and is open still. */
+struct model_wait {
+	bool open[CPUS];
+};
+
+struct model {
+	struct registry_settings settings;
+	uint64_t changes;
+	struct model_slot slots[SLOTS];
+	struct model_cpu cpus[CPUS];
+	struct model_wait wait;
+};
+
+uint32_t model_enter(struct model *model, unsigned cpu);
+uint32_t model_exit(struct model *model, unsigned cpu);
+uint32_t model_find(struct model *model, unsigned cpu, uint64_t kind, const struct registry_name *name, struct registry_entry *found);
+uint32_t model_look_up(struct model *model, unsigned cpu, uint64_t kind, const struct registry_name *name, struct registry_entry *found);
+uint32_t model_get(struct model *model, unsigned cpu, uint64_t kind, const struct registry_name *name, struct registry_entry *found);
+uint32_t model_walk(struct model *model, unsigned cpu, struct registry_entry *row, size_t room, size_t *count);
+uint32_t model_acquire(struct model *model, unsigned cpu, uint64_t *number);
+uint32_t model_copy(struct model *model, unsigned cpu, uint64_t number);
+uint32_t model_read(struct model *model, unsigned cpu, uint64_t number, struct registry_entry *entry);
+uint32_t model_release(struct model *model, unsigned cpu, uint64_t number);
+uint32_t model_local_acquire(struct model *model, unsigned cpu, uint64_t *number);
+uint32_t model_local_release(struct model *model, unsigned cpu, uint64_t number);
+uint32_t model_local_give_up(struct model *model, uint64_t number);
+/* A driver is attached with `driver` 0, an interface with the number to which its local reference is. */
+uint32_t model_attach(struct model *model, unsigned cpu, uint64_t driver, const struct registry_name *name, uint64_t value, struct registry_entry *made);
+uint32_t model_detach(struct model *model, unsigned cpu, uint64_t kind, const struct registry_name *name, struct registry_entry *gone);
+uint32_t model_advance(struct model *model, uint64_t number, struct registry_stage *met);
+uint32_t model_destroy(struct model *model, unsigned cpu, uint64_t number, struct registry_stage *met);
+uint32_t model_perform_begin(struct model *model, unsigned cpu);
+uint32_t model_perform_turn(struct model *model, unsigned cpu, uint64_t *waited);
+size_t model_audit(const struct model *model, struct registry_balance *list);
+
+/* The slot of the live or retired entry with this number, or NULL. */
+struct model_slot *model_slot_of(struct model *model, uint64_t number);
+
+#endif

@@ -1,0 +1,259 @@
+/*
+ * turns - each step that the waits of waiting.h make: which calls, in which order, how long they sleep, and that they stop where they should
+ *
+ * The linker leads the registry's calls, the clock, nanosleep and sched_yield here (--wrap). The calls answer what the test says, time is the test's
+ * own, and each step leaves a letter: t and g the interlock taken and given up, d a destroy's turn, b and p a perform's begin and turn, y a yield,
+ * s a sleep.
+ */
+#include <pthread.h>
+#include <sched.h>
+#include <signal.h>
+#include <sys/wait.h>
+#include <unistd.h>
+
+#include "client.h"
+#include "waiting.h"
+
+enum { SPINS = 16, YIELDS = 8, FIRST_SLEEP = 16000, LONGEST_SLEEP = 8000000, MOST = 400, TURN = 100 };
+
+static struct {
+	uint32_t begun;			/* what a begin answers */
+	uint32_t refused, last;		/* what the first turns answer, and the one after them */
+	unsigned refusals;		/* how many those are */
+} said;
+
+static struct {
+	char steps[MOST];
+	unsigned count, turns, sleeps;
+	int64_t slept[MOST];
+	const struct registry_wait *wait;
+} seen;
+
+static int64_t now;	/* in nanoseconds: a turn takes TURN of them, and a sleep its length */
+static struct registry_keeper keeper;
+static struct registry_cpu cpu;
+static struct registry_stage met;
+
+int __wrap_clock_gettime(clockid_t clock, struct timespec *time);
+int __wrap_nanosleep(const struct timespec *length, struct timespec *left);
+int __wrap_sched_yield(void);
+uint32_t __wrap_registry_destroy(struct registry_keeper *of, struct registry_cpu *on, uint64_t number, struct registry_stage *stage);
+uint32_t __wrap_registry_perform_begin(struct registry_keeper *of, struct registry_cpu *on, struct registry_wait *wait);
+uint32_t __wrap_registry_perform_turn(struct registry_keeper *of, struct registry_cpu *on, struct registry_wait *wait, uint64_t *waited);
+
+static void step(char letter)
+{
+	EXPECT(seen.count < MOST - 1);
+	seen.steps[seen.count++] = letter;
+}
+
+int __wrap_clock_gettime(clockid_t clock, struct timespec *time)
+{
+	EXPECT(clock == CLOCK_MONOTONIC);
+	*time = (struct timespec){now / 1000000000, now % 1000000000};
+	return 0;
+}
+
+int __wrap_nanosleep(const struct timespec *length, struct timespec *left)
+{
+	EXPECT(length->tv_sec == 0 && left == NULL);
+	step('s');
+	seen.slept[seen.sleeps++] = length->tv_nsec;
+	now += length->tv_nsec;
+	return 0;
+}
+
+int __wrap_sched_yield(void)
+{
+	step('y');
+	return 0;
+}
+
+static uint32_t turn(char letter)
+{
+	step(letter);
+	now += TURN;
+	return seen.turns++ < said.refusals ? said.refused : said.last;
+}
+
+uint32_t __wrap_registry_destroy(struct registry_keeper *of, struct registry_cpu *on, uint64_t number, struct registry_stage *stage)
+{
+	EXPECT(of == &keeper && on == &cpu && number == 5 && stage == &met);
+	return turn('d');
+}
+
+uint32_t __wrap_registry_perform_begin(struct registry_keeper *of, struct registry_cpu *on, struct registry_wait *wait)
+{
+	EXPECT(of == &keeper && on == &cpu && seen.wait == NULL);
+	seen.wait = wait;
+	step('b');
+	return said.begun;
+}
+
+uint32_t __wrap_registry_perform_turn(struct registry_keeper *of, struct registry_cpu *on, struct registry_wait *wait, uint64_t *waited)
+{
+	EXPECT(of == &keeper && on == &cpu && wait == seen.wait);
+	*waited = 3;
+	return turn('p');
+}
+
+static void take(void *of)
+{
+	EXPECT(of == &said);
+	step('t');
+}
+
+static void give(void *of)
+{
+	EXPECT(of == &said);
+	step('g');
+}
+
+static const struct registry_lock lock = {take, give, &said};
+
+/* What the calls answer from now on: so many refused turns, and the last one; nothing was seen yet. */
+static void say(uint32_t begun, uint32_t refused, unsigned refusals, uint32_t last)
+{
+	said.begun = begun;
+	said.refused = refused;
+	said.refusals = refusals;
+	said.last = last;
+	memset(&seen, 0, sizeof seen);
+}
+
+/* The steps of so many turns with this letter, each but the last followed by a pause. */
+static void expect_turns(const char *begin, char letter, unsigned turns)
+{
+	char wanted[MOST] = "";
+	size_t length = (size_t)snprintf(wanted, sizeof wanted, "%s", begin);
+	for (unsigned i = 0; i < turns; i++) {
+		if (i > SPINS)
+			wanted[length++] = i <= SPINS + YIELDS ? 'y' : 's';
+		wanted[length++] = 't';
+		wanted[length++] = letter;
+		wanted[length++] = 'g';
+	}
+	EXPECT(strcmp(seen.steps, wanted) == 0);
+}
+
+/* Each sleep is twice as long as the one before, up to the longest; the last may be cut. */
+static void expect_sleeps(unsigned sleeps, int64_t last)
+{
+	int64_t length = FIRST_SLEEP;
+	EXPECT(seen.sleeps == sleeps);
+	for (unsigned i = 0; i < sleeps; i++) {
+		EXPECT(seen.slept[i] == (i + 1 == sleeps && last != 0 ? last : length));
+		length = length * 2 < LONGEST_SLEEP ? length * 2 : LONGEST_SLEEP;
+	}
+}
+
+/* A destroy goes on while it is refused as held, and ends with the first other answer, whichever it is. */
+static void test_destroy_ends(void)
+{
+	const uint32_t ends[] = {REGISTRY_DONE, REGISTRY_NOT_RETIRED, REGISTRY_INSIDE, REGISTRY_EMPTY_HANDLE, REGISTRY_WAITING};
+	for (unsigned end = 0; end < sizeof ends / sizeof *ends; end++)
+		for (unsigned refusals = 0; refusals < 60; refusals++) {
+			say(REGISTRY_DONE, REGISTRY_STILL_HELD, refusals, ends[end]);
+			EXPECT(registry_destroy_wait(&lock, &keeper, &cpu, 5, NULL, &met) == ends[end]);
+			expect_turns("", 'd', refusals + 1);
+			expect_sleeps(refusals > SPINS + YIELDS ? refusals - SPINS - YIELDS : 0, 0);
+		}
+}
+
+/* A perform begins once, and each turn gets the wait that was begun; a refused begin has no turn. */
+static void test_perform_ends(void)
+{
+	const uint32_t ends[] = {REGISTRY_DONE, REGISTRY_INSIDE, REGISTRY_EMPTY_HANDLE, REGISTRY_NOT_BEGUN, REGISTRY_STILL_HELD};
+	uint64_t waited;
+	for (unsigned end = 0; end < sizeof ends / sizeof *ends; end++)
+		for (unsigned refusals = 0; refusals < 60; refusals++) {
+			say(REGISTRY_DONE, REGISTRY_WAITING, refusals, ends[end]);
+			waited = 9;
+			EXPECT(registry_perform_wait(&lock, &keeper, &cpu, NULL, &waited) == ends[end] && waited == 3);
+			expect_turns("tbg", 'p', refusals + 1);
+			expect_sleeps(refusals > SPINS + YIELDS ? refusals - SPINS - YIELDS : 0, 0);
+		}
+	say(REGISTRY_INSIDE, REGISTRY_WAITING, 9, REGISTRY_DONE);
+	EXPECT(registry_perform_wait(&lock, &keeper, &cpu, NULL, &waited) == REGISTRY_INSIDE);
+	expect_turns("tbg", 'p', 0);
+}
+
+/* A deadline so many nanoseconds from now. */
+static struct timespec in(int64_t nanoseconds)
+{
+	int64_t then = now + nanoseconds;
+	return (struct timespec){then / 1000000000, then % 1000000000};
+}
+
+/*
+ * A sleep is cut to the deadline, so the wait ends with a turn that begins at the deadline and not later; a deadline that has passed leaves the first
+ * turn alone. The time crosses a full second in some of these.
+ */
+static void test_deadlines(void)
+{
+	enum { AWAKE = (SPINS + YIELDS + 1) * TURN };
+	struct timespec deadline;
+	for (int64_t start = 0; start < 3; start++) {
+		now = start * 999980000;
+		say(REGISTRY_DONE, REGISTRY_STILL_HELD, MOST, REGISTRY_DONE);
+		deadline = in(AWAKE + FIRST_SLEEP + TURN + 5000);
+		EXPECT(registry_destroy_wait(&lock, &keeper, &cpu, 5, &deadline, &met) == REGISTRY_STILL_HELD);
+		expect_turns("", 'd', SPINS + YIELDS + 3);
+		expect_sleeps(2, 5000);
+		say(REGISTRY_DONE, REGISTRY_STILL_HELD, MOST, REGISTRY_DONE);
+		deadline = in(3 * TURN);
+		EXPECT(registry_destroy_wait(&lock, &keeper, &cpu, 5, &deadline, &met) == REGISTRY_STILL_HELD);
+		expect_turns("", 'd', 3);
+		say(REGISTRY_DONE, REGISTRY_STILL_HELD, MOST, REGISTRY_DONE);
+		deadline = in(start - 1);
+		EXPECT(registry_destroy_wait(&lock, &keeper, &cpu, 5, &deadline, &met) == REGISTRY_STILL_HELD);
+		expect_turns("", 'd', 1);
+	}
+	say(REGISTRY_DONE, REGISTRY_STILL_HELD, 60, REGISTRY_DONE);
+	deadline = in(5000000000);
+	EXPECT(registry_destroy_wait(&lock, &keeper, &cpu, 5, &deadline, &met) == REGISTRY_DONE);
+	expect_sleeps(60 - SPINS - YIELDS, 0);
+}
+
+/* A child that takes the interlock so often and gives it up so often is aborted. */
+static void expect_abort(const struct registry_lock *of_mutex, unsigned takes, unsigned gives)
+{
+	int status;
+	pid_t child = fork();
+	EXPECT(child >= 0);
+	if (child == 0) {
+		while (takes-- > 0)
+			of_mutex->take(of_mutex->of);
+		while (gives-- > 0)
+			of_mutex->give(of_mutex->of);
+		_exit(0);
+	}
+	EXPECT(waitpid(child, &status, 0) == child && WIFSIGNALED(status) && WTERMSIG(status) == SIGABRT);
+}
+
+/* The interlock of a mutex takes it and gives it up; one that refuses either aborts the program. */
+static void test_mutex(void)
+{
+	pthread_mutexattr_t kind;
+	pthread_mutex_t mutex;
+	EXPECT(pthread_mutexattr_init(&kind) == 0 && pthread_mutexattr_settype(&kind, PTHREAD_MUTEX_ERRORCHECK) == 0);
+	EXPECT(pthread_mutex_init(&mutex, &kind) == 0);
+	const struct registry_lock of_mutex = registry_lock_of_mutex(&mutex);
+	expect_abort(&of_mutex, 0, 1);
+	expect_abort(&of_mutex, 2, 0);
+	expect_abort(&of_mutex, 1, 2);
+	of_mutex.take(of_mutex.of);
+	EXPECT(pthread_mutex_trylock(&mutex) != 0);
+	of_mutex.give(of_mutex.of);
+	EXPECT(pthread_mutex_trylock(&mutex) == 0 && pthread_mutex_unlock(&mutex) == 0);
+}
+
+int main(void)
+{
+	test_destroy_ends();
+	test_perform_ends();
+	test_deadlines();
+	test_mutex();
+	puts("turns end");
+	return 0;
+}
