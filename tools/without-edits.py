@@ -6,38 +6,11 @@
 A law has no body to change, and the method of a trait none either: it is listed, since its types' own methods are other functions. A call is
 known by its name alone, so a function may pass here for the edit of another with the name of one that it calls.
 """
-import collections
 import re
 import sys
 
-from contracts import FUNCTION, heads
 from edits import ROOT, changes
-
-PRIVATE = re.compile(r"( *)(?:pub\(crate\) )?(?:const )?fn (\w+)")
-Function = collections.namedtuple("Function", "path name is_public first last text")
-
-
-def end_of(lines, first, indent):
-    """The line that ends the function which begins here: its closing bracket, or its semicolon where it has no body."""
-    for number in range(first, len(lines)):
-        if lines[number] in (indent + "}", indent + "{}"):
-            return number
-        if lines[number].endswith(";") and indent + "{" not in lines[first:number]:
-            return number
-    return len(lines) - 1
-
-
-def functions_of(path):
-    """The functions of a file, public and private."""
-    lines = path.read_text().split("\n")
-    for number, line, owner, is_trait in heads(lines):
-        public = FUNCTION.match(line)
-        head = public or PRIVATE.match(line)
-        if head:
-            last = end_of(lines, number, head[1])
-            name = owner + (public[3] if public else head[2])
-            is_public = bool(public and (public[2] or is_trait))
-            yield Function(path, name, is_public, number, last, "\n".join(lines[number + 1:last]))
+from functions import functions_of
 
 
 def places(edit):

@@ -1,0 +1,37 @@
+"""Finds the functions of a source file: where each begins and ends, and the name that the checker prints for it."""
+import collections
+import re
+
+from contracts import FUNCTION, heads
+
+PRIVATE = re.compile(r"( *)(?:pub\(crate\) )?(?:const )?fn (\w+)")
+Function = collections.namedtuple("Function", "path name is_public first last text")
+
+
+def end_of(lines, first, indent):
+    """The line that ends the function which begins here: its closing bracket, or its semicolon where it has no body."""
+    for number in range(first, len(lines)):
+        if lines[number] in (indent + "}", indent + "{}"):
+            return number
+        if lines[number].endswith(";") and indent + "{" not in lines[first:number]:
+            return number
+    return len(lines) - 1
+
+
+def functions_of(path):
+    """The functions of a file, public and private."""
+    lines = path.read_text().split("\n")
+    for number, line, owner, is_trait in heads(lines):
+        public = FUNCTION.match(line)
+        head = public or PRIVATE.match(line)
+        if head:
+            last = end_of(lines, number, head[1])
+            name = owner + (public[3] if public else head[2])
+            is_public = bool(public and (public[2] or is_trait))
+            yield Function(path, name, is_public, number, last, "\n".join(lines[number + 1:last]))
+
+
+def module_of(path, source):
+    """The module that a file of the folder `source` (a crate's src/) holds, as `steps::locals`."""
+    parts = [it for it in path.relative_to(source).with_suffix("").parts if it not in ("lib", "main", "mod")]
+    return "::".join(parts)

@@ -1,0 +1,188 @@
+#!/usr/bin/env python3
+"""Tries the wrong bodies of the gate: crates/CRATE/must-fail-gate/EDIT.edit (docs/EDITS.md). The prover must refuse each.
+
+    tools/gate-edits.py [--anew] [CRATE | CRATE/EDIT]..     all of them, if none is named
+
+It wants the libraries that `rt ci` has just built in crates/*/out/rlib, and checks of an edited crate only the function whose body the edit changes,
+or those that the edit names in a line `only: MODULE::FUNCTION ..`, with what they call. These functions are checked once as they stand, and each edit
+begins with what that check kept. A refusal is kept by the sum of all that it read, so a later run on this machine tries what has changed; --anew tries
+all. As many are tried side by side as there are processors and memory. It says of each edit what refused it, and ends with 'N passed, M failed'.
+"""
+import collections
+import concurrent.futures
+import hashlib
+import os
+import pathlib
+import re
+import shutil
+import subprocess
+import sys
+import tempfile
+
+from edits import ROOT, apply, changes, edits_of
+from functions import functions_of, module_of
+
+KIT = pathlib.Path(subprocess.run(["rt", "doc"], check=True, capture_output=True, text=True).stdout.strip()).parent
+sys.path.insert(0, str(KIT / "bin"))
+sys.dont_write_bytecode = True
+import rtlib  # noqa: E402 (it lies in the kit: rt itself reads the crates with it)
+
+FOLDER = "must-fail-gate"
+STORE = pathlib.Path(os.environ.get("XDG_CACHE_HOME", pathlib.Path.home() / ".cache")) / "kupaldiz" / "edits"
+# What the check of one function takes of memory, in kB, above the most that was seen.
+MEMORY = 2_500_000
+Try = collections.namedtuple("Try", "is_refused said")
+
+
+def crates():
+    """The crates of the repository, by name, as rt reads them."""
+    return {it.name: it for it in rtlib.crates_below(str(ROOT))}
+
+
+def asked_for(edit):
+    """The functions to check: those that the edit names, or the one in which its first text stands."""
+    named = re.search(r"^only: (.+)$", edit.read_text(), re.M)
+    if named:
+        return named[1].split()
+    path, old, _ = next(changes(edit))
+    line = path.read_text().partition(old)[0].count("\n")
+    found = [it for it in functions_of(path) if it.first <= line <= it.last] if path.suffix == ".rt" else []
+    if not found:
+        return []
+    return ["::".join(filter(None, (module_of(path, edit.parents[1] / "src"), found[-1].name)))]
+
+
+def key_of(crate, edit):
+    """The sum of all that a try of the edit reads: the kit, this tool, the edit, the crate, and the libraries below it."""
+    total = hashlib.sha256(rtlib.text_of(f"{KIT}/KIT-ID").encode() + pathlib.Path(__file__).read_bytes() + edit.read_bytes())
+    for path in rtlib.files_of(crate.folder):
+        total.update(os.path.relpath(path, crate.folder).encode() + pathlib.Path(path).read_bytes())
+    for below in crate.below():
+        total.update(pathlib.Path(below.rlib, "format").read_bytes())
+    return total.hexdigest()
+
+
+def judged(ran, names):
+    """What the check of the functions came to. A refusal is one only where the check ran to its end, and a goal of theirs or an answer is refused."""
+    lines = ran.stdout.splitlines()
+    ended = lines and lines[-1].startswith("only=")
+    unread = [it for it in lines if re.match(r"(\./)?(src|specs)/\S+: error|error\[", it)]
+    goals = [it for it in lines if re.match(r"note: \S+:\d+:\d+:|\S+:\d+:\d+: error", it)]
+    # A proof file that names what the edit took away says nothing of the contract.
+    telling = [it for it in goals if not re.match(r"(note: )?(\./)?proofs/.*(has no field|is not in scope|has no `|was not admitted)", it)]
+    if ran.returncode == 0:
+        return Try(False, f"NOT REFUSED: {', '.join(names)} still proved")
+    if ran.returncode != 1 or not ended or unread:
+        return Try(False, "NOT TRIED: " + next(iter([*unread, *lines[-1:]]), f"status {ran.returncode}")[:300])
+    if not telling:
+        return Try(False, "refused only because a proof names what the edit took away: " + next(iter(goals), lines[-1])[:200])
+    return Try(True, f"refused: {telling[0].removeprefix('note: ')[:160]}")
+
+
+def check(crate, names, tree, kept):
+    """Checks the functions of the crate as it stands in `tree`, over what is kept in the folder `kept`, and keeps what it proves there."""
+    only = [word for it in names for word in ("--only", it)]
+    words = [f"{KIT}/bin/rattle", "check", *crate.words(["--jobs", "1", *only], keeps=False), "--incremental", str(kept)]
+    said = {"stdin": subprocess.DEVNULL, "stdout": subprocess.PIPE, "stderr": subprocess.STDOUT, "text": True, "errors": "replace"}
+    return subprocess.run(words, cwd=tree / "crates" / crate.name, **said)
+
+
+def copied(crate, room):
+    """A tree with a copy of the crate's sources."""
+    tree = pathlib.Path(room) / "tree"
+    shutil.copytree(crate.folder, tree / "crates" / crate.name, ignore=shutil.ignore_patterns("out", "must-fail*"))
+    return tree
+
+
+def seeded(crate, names, room):
+    """A folder with what is proved of these functions as they stand."""
+    kept = pathlib.Path(room) / crate.name
+    kept.mkdir()
+    with tempfile.TemporaryDirectory() as scratch:
+        ran = check(crate, names, copied(crate, scratch), kept)
+    if ran.returncode:
+        print(f"{crate.name}: the functions of its edits aren't proved as they stand: {ran.stdout[-600:]}", flush=True)
+    return kept
+
+
+def try_edit(crate, edit, kept):
+    """Checks the functions of the edited crate, in a copy of it; what is kept there goes with the copy."""
+    names = asked_for(edit)
+    with tempfile.TemporaryDirectory() as room:
+        tree = copied(crate, room)
+        _, misfit = apply(edit, tree)
+        if misfit or not names:
+            return Try(False, f"NOT TRIED: {misfit or 'it changes no function: name those to check in a line only: MODULE::FUNCTION'}")
+        # A check replaces a file that it writes anew, so links to what is kept are enough.
+        over = shutil.copytree(kept, f"{room}/kept", copy_function=os.link)
+        return judged(check(crate, names, tree, over), names)
+
+
+def keep(place, result):
+    """Keeps a refusal for later runs."""
+    if result.is_refused:
+        STORE.mkdir(parents=True, exist_ok=True)
+        with tempfile.NamedTemporaryFile("w", dir=STORE, delete=False) as new:
+            new.write(result.said)
+        os.replace(new.name, place)
+    return result
+
+
+def earlier(crate, edit, anew):
+    """Where the edit's refusal is kept, and the result of an earlier run, if there is one."""
+    place = STORE / key_of(crate, edit)
+    return place, Try(True, f"{place.read_text()} (kept)") if place.is_file() and not anew else None
+
+
+def chosen(words):
+    """The edits that the words name, with their crates."""
+    known = crates()
+    for word in words or sorted(it.parent.name for it in ROOT.glob(f"crates/*/{FOLDER}")):
+        name, _, edit = word.partition("/")
+        found = edits_of(name, FOLDER, edit or "*")
+        if name not in known or not found:
+            sys.exit(f"no edit {word} in {FOLDER}/")
+        unbuilt = [it.name for it in known[name].below() if not os.path.isfile(f"{it.rlib}/format")]
+        if unbuilt:
+            sys.exit(f"{name} stands on {unbuilt[0]}, which isn't built: run rt ci first")
+        yield from ((known[name], it) for it in found)
+
+
+def lanes():
+    """How many to try side by side."""
+    free = int(re.search(r"MemAvailable:\s+(\d+)", pathlib.Path("/proc/meminfo").read_text())[1])
+    return max(1, min(len(os.sched_getaffinity(0)), free // MEMORY))
+
+
+def results(edits, anew):
+    """The result of each edit, in order."""
+    known = [earlier(crate, edit, anew) for crate, edit in edits]
+    names = collections.defaultdict(set)
+    for (crate, edit), (_, result) in zip(edits, known):
+        if result is None:
+            names[crate].update(asked_for(edit))
+    with tempfile.TemporaryDirectory() as room, concurrent.futures.ThreadPoolExecutor(lanes()) as pool:
+        # The pool takes tasks in their order, so each seed has begun before an edit waits for it.
+        seeds = {crate: pool.submit(seeded, crate, sorted(of), room) for crate, of in names.items()}
+        tries = [
+            result or pool.submit(lambda crate=crate, edit=edit, place=place: keep(place, try_edit(crate, edit, seeds[crate].result())))
+            for (crate, edit), (place, result) in zip(edits, known)
+        ]
+        yield from (it if isinstance(it, Try) else it.result() for it in tries)
+
+
+def main():
+    words = sys.argv[1:]
+    anew = "--anew" in words
+    if any(it.startswith("-") and it != "--anew" for it in words):
+        sys.exit(__doc__)
+    edits = list(chosen([it for it in words if it != "--anew"]))
+    failed = 0
+    for (crate, edit), result in zip(edits, results(edits, anew)):
+        failed += not result.is_refused
+        print(f"{crate.name}/{edit.stem}: {result.said}", flush=True)
+    print(f"{len(edits) - failed} passed, {failed} failed")
+    sys.exit(failed > 0)
+
+
+main()
