@@ -12,6 +12,9 @@ import subprocess
 import sys
 import tempfile
 
+sys.dont_write_bytecode = True
+
+from counts import ended
 from edits import FOLDERS, ROOT, apply, edits_of, restore
 
 CRATES = sorted(it.name for it in (ROOT / "crates").iterdir() if it.is_dir())
@@ -72,8 +75,7 @@ def main():
             passed, failed = passed + (not fault), failed + bool(fault)
             if fault:
                 print(f"{name}: {fault}", flush=True)
-    print(f"{passed} passed, {failed} failed")
-    sys.exit(failed > 0)
+    sys.exit(ended(passed, failed))
 
 
 main()

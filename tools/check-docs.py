@@ -10,6 +10,10 @@ import re
 import subprocess
 import sys
 
+sys.dont_write_bytecode = True
+
+from counts import ended
+
 ROOT = pathlib.Path(__file__).resolve().parent.parent
 
 # Words in backquotes that no file of this repository has, by where they come from.
@@ -109,8 +113,7 @@ def main():
             passed, failed = passed + (not found), failed + bool(found)
             for line in found:
                 print(f"{path.relative_to(ROOT)}: {kind}: {line}")
-    print(f"{passed} passed, {failed} failed")
-    sys.exit(failed > 0)
+    sys.exit(ended(passed, failed))
 
 
 main()

@@ -9,6 +9,10 @@ import pathlib
 import re
 import sys
 
+sys.dont_write_bytecode = True
+
+from counts import ended
+
 CRATES = pathlib.Path(__file__).resolve().parent.parent / "crates"
 IMPORT = re.compile(r"^ *(?:pub |ghost )*use ([\w.]+)\.\{([^}]*)\};?$", re.M)
 PASSING = ("specs/Common.antt", "specs/Types.antt")
@@ -54,8 +58,7 @@ def main():
         found = list(faults(path, imported[path], importers))
         failed += bool(found)
         print(*found, sep="\n", end="\n" if found else "")
-    print(f"{len(paths) - failed} passed, {failed} failed")
-    return failed > 0
+    return ended(len(paths) - failed, failed)
 
 
 sys.exit(main())

@@ -7,6 +7,10 @@ import pathlib
 import re
 import sys
 
+sys.dont_write_bytecode = True
+
+from counts import ended
+
 ROOT = pathlib.Path(__file__).resolve().parent.parent
 SETTINGS = "crates/registry_values/src/settings.rt"
 
@@ -35,8 +39,7 @@ def main():
         if wanted is None or found != wanted:
             failed += 1
             print(f"{path}: {name} is {found} there, and {wanted} in {SETTINGS}")
-    print(f"{len(PLACES) - failed} passed, {failed} failed")
-    return failed > 0
+    return ended(len(PLACES) - failed, failed)
 
 
 sys.exit(main())

@@ -36,7 +36,31 @@ check() {
     judge "$name" $?
 }
 
+# counted NAME COMMAND..: a command that counts its own checks in lines with 'N passed, M failed' or 'N passed; M failed'.
+counted() {
+    local name=$1 good bad status
+    shift
+    limited "$@" >"$log" 2>&1
+    status=$?
+    good=$(grep -oE '[0-9]+ passed' "$log" | awk '{ n += $1 } END { print n + 0 }')
+    bad=$(grep -oE '[0-9]+ failed' "$log" | awk '{ n += $1 } END { print n + 0 }')
+    if [ "$status" -ne 0 ] && [ "$bad" -eq 0 ] || [ "$good" -eq 0 ]; then
+        bad=$((bad + 1))
+    fi
+    passed=$((passed + good))
+    failed=$((failed + bad))
+    if [ "$bad" -eq 0 ]; then
+        echo "ok      $name: $good"
+    else
+        echo "FAILED  $name: $bad of $((good + bad))"
+        grep -E 'panicked at|signal: |status: |overflowed|aborting|FAILED' "$log" | head -n 12
+        tail -n 60 "$log"
+    fi
+}
+
+# Ends with the count. No check at all is a failure.
 finish() {
+    [ "$((passed + failed))" -gt 0 ] || failed=1
     echo "$passed passed, $failed failed"
     [ "$failed" -eq 0 ]
     exit

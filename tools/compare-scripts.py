@@ -15,6 +15,10 @@ import subprocess
 import sys
 import tempfile
 
+sys.dont_write_bytecode = True
+
+from counts import ended
+
 ROOT = pathlib.Path(__file__).resolve().parent.parent
 CLIENT = ROOT / "clients/out/script"
 PROGRAM = ROOT / "crates/registry_run/out/registry_run"
@@ -130,8 +134,7 @@ def main():
             passed += 1
         else:
             print(f"seed {seed}: the client says\n{found}\nand not\n{want}\nof\n{script}")
-    print(f"{passed} passed, {len(scripts) - passed} failed")
-    sys.exit(passed != len(scripts))
+    sys.exit(ended(passed, len(scripts) - passed))
 
 
 if __name__ == "__main__":

@@ -14,9 +14,12 @@ import argparse
 import importlib.util
 import pathlib
 import random
-import subprocess
 import sys
 import tempfile
+
+sys.dont_write_bytecode = True
+
+from counts import ended
 
 TOOLS = pathlib.Path(__file__).resolve().parent
 FOREIGN = TOOLS / "foreign-registry.py"
@@ -179,8 +182,7 @@ def run(options):
     for failure in failures:
         print(failure)
     count = len(list(options.folder.glob("*.txt")))
-    print(f"{count - len(failures)} passed, {len(failures) + (count == 0)} failed")
-    return bool(failures) or count == 0
+    return ended(count - len(failures), len(failures))
 
 
 def test(_):
@@ -195,8 +197,7 @@ def test(_):
     for check, passed in checks.items():
         print(f"{'ok     ' if passed else 'FAILED '} {check}")
     passed = sum(checks.values())
-    print(f"{passed} passed, {len(checks) - passed} failed")
-    return passed != len(checks)
+    return ended(passed, len(checks) - passed)
 
 
 def main():

@@ -1,12 +1,20 @@
 #!/usr/bin/env python3
 """Runs the gate, or the command that is given, and says where its time went: processor minutes by crate and phase.
 
-    tools/gate-time.py                         rt ci, as the gate runs it
+    tools/gate-time.py                         .ci/run, the gate
     taskset -c 0,1 tools/gate-time.py          the same on two processors
     tools/gate-time.py rt must-fail protocol   another command
 
-The table comes last, on standard output, in the form of docs/GATE.md. It is read off /proc four times a second: each check of a crate is
-a process of its own, whose arguments say which crate it is and whether it proves the crate, its tests or an edit.
+The gate itself prints what each of its parts took. The table of the crates comes after it, on standard output, in the form of docs/GATE.md. It is
+read off /proc four times a second: each check of a crate is a process of its own, whose arguments and folder say which crate it is and what it does.
+
+| Phase | What is counted |
+|---|---|
+| proofs | the crate |
+| tests | the crate with its tests |
+| seeds | the crate once more, which its edits begin with, and once more after them |
+| edits | each edit |
+| archive | the static library for C, compiled too (tools/build-archive.sh, tools/archive-beside.py) |
 """
 import collections
 import os
@@ -16,7 +24,8 @@ import subprocess
 import sys
 import time
 
-PHASES = ("proofs", "tests", "edits")
+ROOT = pathlib.Path(__file__).resolve().parent.parent
+PHASES = ("proofs", "tests", "seeds", "edits", "archive")
 TICKS = os.sysconf("SC_CLK_TCK")
 
 
@@ -34,12 +43,23 @@ def is_check(words):
     return os.path.basename(words[0]) == "rattle" and len(words) > 1 and words[1] in ("check", "build") and "--crate-name" in words
 
 
-def part_of(words):
+def kept_of(words):
+    """The folder of kept work that a check begins with, if it has one."""
+    return words[words.index("--incremental") + 1] if "--incremental" in words else ""
+
+
+def phase_of(words, folder):
+    """What a check does, by its arguments and the folder that it runs in."""
+    if "rt-edit" in folder:
+        return "seeds" if kept_of(words).endswith("/seed") else "edits"
+    if words[1] == "build" and "staticlib" in words:
+        return "archive"
+    return "tests" if "--test" in words else "proofs"
+
+
+def part_of(words, folder):
     """The crate and the phase that a check belongs to."""
-    crate = words[words.index("--crate-name") + 1]
-    if any("rt-edits-" in it for it in words):
-        return crate, "edits"
-    return crate, "tests" if "--test" in words else "proofs"
+    return words[words.index("--crate-name") + 1], phase_of(words, folder)
 
 
 def is_below(pid, top):
@@ -57,11 +77,12 @@ def look(top, seen):
             if not is_check(words):
                 continue
             parent, seconds = stat_of(pid)
+            folder = os.readlink(f"/proc/{pid}/cwd")
             if is_check(words_of(parent)) or not is_below(parent, top):
                 continue
         except (OSError, ValueError, IndexError):
             continue
-        seen[pid, part_of(words)] = seconds
+        seen[pid, part_of(words, folder)] = seconds
 
 
 def table(seen, clock, whole):
@@ -69,20 +90,20 @@ def table(seen, clock, whole):
     for (_, (crate, phase)), seconds in seen.items():
         spent[crate, phase] += seconds / 60
     crates = sorted({crate for crate, _ in spent}, key=lambda it: -sum(spent[it, phase] for phase in PHASES))
-    yield "| Crate | Proofs | Tests | Edits | Together |\n|---|---|---|---|---|"
+    yield f"| Crate | {' | '.join(PHASES).title()} | Together |\n|---|{'---|' * len(PHASES)}---|"
     for crate in crates:
         cells = [spent[crate, phase] for phase in PHASES]
         yield f"| `{crate}` | " + " | ".join(f"{it:.1f}" if it else "" for it in [*cells, sum(cells)]) + " |"
     sums = [sum(spent[crate, phase] for crate in crates) for phase in PHASES]
     yield "| all crates | " + " | ".join(f"{it:.1f}" for it in [*sums, sum(sums)]) + " |"
-    yield f"| the rest: formats, builds, runs | | | | {whole - sum(sums):.1f} |"
-    yield f"| **together** | | | | **{whole:.1f}** |"
+    yield f"| the rest: formats, builds, runs, clients |{' |' * len(PHASES)} {whole - sum(sums):.1f} |"
+    yield f"| **together** |{' |' * len(PHASES)} **{whole:.1f}** |"
     yield f"\nBy the clock {clock:.1f} minutes, on {len(os.sched_getaffinity(0))} processors."
 
 
 def main():
     start, seen = time.monotonic(), {}
-    ran = subprocess.Popen(sys.argv[1:] or ["rt", "ci"])
+    ran = subprocess.Popen(sys.argv[1:] or [ROOT / ".ci/run"])
     while ran.poll() is None:
         look(ran.pid, seen)
         time.sleep(0.25)

@@ -19,6 +19,10 @@ import subprocess
 import sys
 import tempfile
 
+sys.dont_write_bytecode = True
+
+from counts import ended
+
 ROOT = pathlib.Path(__file__).resolve().parent.parent
 ENGINES = ("core", "live")
 # After so many seconds a program that is run is taken to wait for ever.
@@ -34,7 +38,7 @@ FILES = [ROOT / "README.md", *sorted((ROOT / "docs").glob("*.md")), *sorted((ROO
 
 def blocks(text):
     """The line, the word and the text of each fenced block."""
-    word = None
+    word, body = None, []
     for number, line in enumerate(text.split("\n"), 1):
         if not line.startswith("```"):
             if word is not None:
@@ -127,8 +131,7 @@ def main():
                 failed += 1
                 status, printed, complained = answer
                 print(f"{place} {engine}: status {status}, and it said\n{printed}{complained}and not\n{text}", end="")
-    print(f"{passed} passed, {failed} failed")
-    sys.exit(failed != 0)
+    sys.exit(ended(passed, failed))
 
 
 if __name__ == "__main__":

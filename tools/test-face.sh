@@ -3,8 +3,10 @@
 # What is missing is installed by apt: gcc, g++, make, ar, cargo, mandoc, man, pkg-config, valgrind. Each step says what it does; the last line is
 # 'N passed, M failed'.
 #
-#     tools/test-face.sh              proves and builds the archive first
-#     tools/test-face.sh --built      takes clients/out/libregistry.a as it stands
+#     tools/test-face.sh                      proves and builds the archive first
+#     tools/test-face.sh --built              takes clients/out/libregistry.a as it stands
+#     tools/test-face.sh --built PART..       some parts alone, which may run beside each other once build has ended:
+#                                             page build c watched heap netbsd rust rust-watched
 set -uo pipefail
 cd "$(dirname "$0")/.."
 header=crates/registry_c/include/registry.h
@@ -13,28 +15,6 @@ out=clients/out
 # shellcheck source=tools/checks.sh
 . tools/checks.sh
 trap 'forget_log; rm -f "$log.said" "$log.wanted"' EXIT
-
-# counted NAME COMMAND..: a command that counts its own checks in lines with 'N passed, M failed' or 'N passed; M failed'.
-counted() {
-    local name=$1 good bad status
-    shift
-    limited "$@" >"$log" 2>&1
-    status=$?
-    good=$(grep -oE '[0-9]+ passed' "$log" | awk '{ n += $1 } END { print n + 0 }')
-    bad=$(grep -oE '[0-9]+ failed' "$log" | awk '{ n += $1 } END { print n + 0 }')
-    if [ "$status" -ne 0 ] && [ "$bad" -eq 0 ] || [ "$good" -eq 0 ]; then
-        bad=$((bad + 1))
-    fi
-    passed=$((passed + good))
-    failed=$((failed + bad))
-    if [ "$bad" -eq 0 ]; then
-        echo "ok      $name: $good"
-    else
-        echo "FAILED  $name: $bad of $((good + bad))"
-        grep -E 'panicked at|signal: |status: |overflowed|aborting|FAILED' "$log" | head -n 12
-        tail -n 60 "$log"
-    fi
-}
 
 # Installs each package whose command is missing.
 install_missing() {
@@ -217,7 +197,7 @@ test_c() {
 }
 
 # The same programs, where each access of the client's, or of all, is watched.
-test_c_watched() {
+test_watched() {
     local script
     check "C: row under valgrind" row_says guarded "$out/row"
     check "C: packet under valgrind" guarded "$out/packet"
@@ -228,7 +208,6 @@ test_c_watched() {
     check "C: usual under valgrind" guarded "$out/usual" 50
     check "C: refuse under valgrind" guarded "$out/refuse"
     check "C: storm 4 100 under valgrind" storm_says 4 100 guarded "$out/storm"
-    check "C: all of them are built with sanitizers" make -C clients sanitized
     check "C: misuse with sanitizers" "$out/sanitized-misuse"
     check "C: packet with sanitizers" "$out/sanitized-packet"
     check "C: row with sanitizers" row_says "$out/sanitized-row"
@@ -246,7 +225,6 @@ test_c_watched() {
 # Objects of the heap behind entries, freed once nobody holds them, under three checkers; each of them catches what frees a turn too early.
 test_heap() {
     local when
-    check "C: heap_stress is built nine times" make -C clients stresses
     check "C: heap_stress with the address sanitizer" "$out/heap_stress-address-right" 500
     check "C: heap_stress with the thread sanitizer" "$out/heap_stress-thread-right" 200
     check "C: heap_stress under valgrind" guarded "$out/heap_stress-none-right" 20
@@ -257,9 +235,27 @@ test_heap() {
     done
 }
 
+# All that the parts below run, but for the crate's programs, which cargo builds when they are wanted.
+test_build() {
+    check "the archive has the header's calls" archive_names
+    check "no call takes more stack than the page says" stack_within
+    check "the clients in C are built, no warning" make -C clients
+    check "C: all of them are built with sanitizers" make -C clients sanitized
+    check "C: heap_stress is built nine times" make -C clients stresses
+    check "the manual pages' own names are built" make -C clients/netbsd all sanitized
+}
+
+# A part that is run without build finds what it runs all the same; that it can't is a failure.
+need_built() {
+    make -C clients all sanitized stresses >"$log" 2>&1 || judge "the clients in C are built" 1
+}
+
+test_netbsd() {
+    counted "C: the manual pages' own names" tools/test-netbsd.sh
+}
+
 test_rust() {
-    local target=$out/rust storm
-    export REGISTRY_LIB_DIR=$PWD/$out CARGO_TARGET_DIR=$PWD/$target
+    local storm
     cd clients/rust || return
     check "Rust: no warning" env RUSTFLAGS="-D warnings" cargo check --offline --all-targets
     if cargo clippy --version >/dev/null 2>&1; then
@@ -270,41 +266,56 @@ test_rust() {
     counted "Rust: the docs' examples" cargo test --offline --doc
     check "Rust: the examples are built" cargo build --offline --release --examples
     cd ../.. || return
-    check "Rust: packet" "$target/release/examples/packet"
-    check "Rust: row" row_says "$target/release/examples/row"
+    check "Rust: packet" "$examples/packet"
+    check "Rust: row" row_says "$examples/row"
     for storm in "1 1000" "2 3" "4 20000" "8 5000"; do
         # shellcheck disable=SC2086
-        check "Rust: storm $storm" storm_says $storm "$target/release/examples/storm"
+        check "Rust: storm $storm" storm_says $storm "$examples/storm"
     done
-    check "Rust: forwarder" changes_say 2000 "$target/release/examples/forwarder"
-    check "Rust: device_switch" changes_say 600 "$target/release/examples/device_switch"
-    check "Rust: forwarder under valgrind" changes_say 20 guarded_rust "$target/release/examples/forwarder"
-    check "Rust: device_switch under valgrind" changes_say 20 guarded_rust "$target/release/examples/device_switch"
-    check "Rust: packet under valgrind" guarded_rust "$target/release/examples/packet"
-    check "Rust: speed, briefly" "$target/release/examples/speed" 2 8 1000
-    check "Rust: changes, briefly" "$target/release/examples/changes" 20
-    check "Rust: row under valgrind" row_says guarded_rust "$target/release/examples/row"
-    check "Rust: storm 4 100 under valgrind" storm_says 4 100 guarded_rust "$target/release/examples/storm"
-    check "Rust: tests under valgrind, but for those that forget" guarded_tests
+    check "Rust: forwarder" changes_say 2000 "$examples/forwarder"
+    check "Rust: device_switch" changes_say 600 "$examples/device_switch"
+    check "Rust: speed, briefly" "$examples/speed" 2 8 1000
+    check "Rust: changes, briefly" "$examples/changes" 20
     check "Rust: the stress where a yield does nothing" ends_without_yields
 }
 
+test_rust_watched() {
+    (cd clients/rust && cargo build --offline --release --examples) >"$log" 2>&1 || judge "Rust: the examples are built" 1
+    check "Rust: forwarder under valgrind" changes_say 20 guarded_rust "$examples/forwarder"
+    check "Rust: device_switch under valgrind" changes_say 20 guarded_rust "$examples/device_switch"
+    check "Rust: packet under valgrind" guarded_rust "$examples/packet"
+    check "Rust: row under valgrind" row_says guarded_rust "$examples/row"
+    check "Rust: storm 4 100 under valgrind" storm_says 4 100 guarded_rust "$examples/storm"
+    check "Rust: tests under valgrind, but for those that forget" guarded_tests
+}
+
+parts=(page build c watched heap netbsd rust rust-watched)
+is_built=
+if [ "${1-}" = --built ]; then
+    is_built=yes
+    shift
+fi
+for part; do
+    if [[ " ${parts[*]} " != *" $part "* ]]; then
+        echo "no part $part: ${parts[*]}" >&2
+        exit 2
+    fi
+done
+[ $# -eq 0 ] || parts=("$@")
+export REGISTRY_LIB_DIR=$PWD/$out CARGO_TARGET_DIR=$PWD/$out/rust
+examples=$out/rust/release/examples
+
 install_missing
-test_page
-if [ "${1-}" != --built ]; then
+if [ -z "$is_built" ]; then
     check "the archive, proved and built" build_archive
 fi
-if [ ! -e "$out/libregistry.a" ]; then
+if [ ! -e "$out/libregistry.a" ] && [ "${parts[*]}" != page ]; then
     failed=$((failed + 1))
     echo "FAILED  no archive"
     finish
 fi
-check "the archive has the header's calls" archive_names
-check "no call takes more stack than the page says" stack_within
-check "the clients in C are built, no warning" make -C clients
-test_c
-test_c_watched
-test_heap
-counted "C: the manual pages' own names" tools/test-netbsd.sh
-test_rust
+for part in "${parts[@]}"; do
+    [[ " c watched heap " != *" $part "* ]] || need_built
+    "test_${part/-/_}"
+done
 finish

@@ -14,6 +14,10 @@ import subprocess
 import sys
 import tempfile
 
+sys.dont_write_bytecode = True
+
+from counts import ended
+
 ROOT = pathlib.Path(__file__).resolve().parent.parent
 USAGE = b"usage: registry_run core | live | storm C T\n"
 SCRIPT = b"domain 2 2\nattach 0 driver wm 7\nenter 0\nfind 0 driver wm\n"
@@ -184,8 +188,7 @@ def main():
         for part in (usual, with_ends, with_closed_streams, with_unread_input, part_of_report):
             passed += part(program)
     passed += with_little_memory(programs()[0])
-    print(f"{sum(passed)} passed, {len(passed) - sum(passed)} failed")
-    sys.exit(not all(passed))
+    sys.exit(ended(sum(passed), len(passed) - sum(passed)))
 
 
 main()

@@ -2,6 +2,8 @@
 import pathlib
 import re
 
+from counts import ended
+
 from .commands import Unfit
 from .drawn import FORMS, drawn
 
@@ -158,8 +160,7 @@ def check():
             passed, failed = passed + (not fault), failed + bool(fault)
             if fault:
                 print(f"{name}: {fault}")
-    print(f"{passed} passed, {failed} failed")
-    return int(failed > 0)
+    return ended(passed, failed)
 
 
 def make():

@@ -1,0 +1,158 @@
+#!/usr/bin/env python3
+"""Runs `rt ci`, and beside it proves and builds the archive for C, clients/out/libregistry.a.
+
+    tools/archive-beside.py rt ci
+
+`rt ci` proves the static library registry_c and keeps nothing that it could be linked from. So as soon as it says that the libraries beneath are
+proved, `rattle build` proves registry_c over these same libraries and compiles it, on the processors that `rt ci` leaves idle. What it makes becomes the
+archive if no file that it was proved from was touched since; else, or where it was killed for want of memory, tools/build-archive.sh proves the
+archive once `rt ci` is done. The last line is that of `rt ci` with one check more, the archive.
+"""
+import os
+import pathlib
+import re
+import shutil
+import signal
+import subprocess
+import sys
+import tempfile
+import threading
+import time
+
+sys.dont_write_bytecode = True
+
+from kit import below, kit, over_libraries
+from parts import GIGABYTE, LAST_LINE, ROOT, free_memory, guard, minutes, running, say, stop_running
+
+LIBRARY = "registry_c"
+ARCHIVE = ROOT / "clients/out/libregistry.a"
+# What a proof of the archive keeps for the next one in this copy of the repository, which begins with it.
+KEPT = ROOT / "clients/out/proof"
+# What `rt ci` says of a library that stands in its folder out/ from then on, and of one that won't.
+STANDS = re.compile(r"^rt: (\w+) (?:proved$|is kept: )")
+FAILED = re.compile(r"^rt: (\w+) NOT PROVED")
+# A check of the library takes at most this; it waits until so much is free.
+NEEDS = 2 * GIGABYTE
+NICENESS = 10
+
+
+def state():
+    """What changes when a file that the archive is proved from is touched."""
+    files = [ROOT / "crates.txt"]
+    for crate in [LIBRARY, *below(LIBRARY)]:
+        files += [it for part in ("src", "specs", "proofs") for it in (ROOT / "crates" / crate / part).rglob("*")]
+    found = [(it, it.lstat()) for it in sorted(files)]
+    return [(it, stat.st_ino, stat.st_size, stat.st_mtime_ns, stat.st_ctime_ns) for it, stat in found]
+
+
+def link_or_copy(one, other):
+    """A second name: a library is replaced, and its files are never written to."""
+    try:
+        os.link(one, other)
+    except OSError:
+        shutil.copy2(one, other)
+
+
+class Proof(threading.Thread):
+    """The proof of the archive's library over what `rt ci` has proved, in a folder of its own."""
+
+    def __init__(self, room):
+        super().__init__(daemon=True)
+        self.room, self.log, self.made = room, room / "log", room / f"lib{LIBRARY}.a"
+        self.status, self.seconds = None, 0.0
+
+    def take(self):
+        """Copies what is proved and what it is proved over: `rt ci` puts its folders out/ back as they were when it ends."""
+        for part in ("src", "specs", "proofs"):
+            shutil.copytree(ROOT / "crates" / LIBRARY / part, self.room / LIBRARY / part)
+        for name in below(LIBRARY):
+            made = f"{name}.rlib"
+            shutil.copytree(ROOT / "crates" / name / "out/rlib" / made, self.room / made, copy_function=link_or_copy)
+
+    def run(self):
+        began = time.monotonic()
+        try:
+            self.take()
+            self.status = self.build()
+        except OSError as fault:
+            self.log.write_text(f"{fault}\n")
+            self.status = 1
+        self.seconds = time.monotonic() - began
+
+    def build(self):
+        """Proves and compiles the library once there is memory for it; the status of that."""
+        while free_memory() < NEEDS:
+            time.sleep(1)
+        KEPT.mkdir(parents=True, exist_ok=True)
+        words = ["nice", "-n", str(NICENESS), kit() / "bin/rattle", "build", *over_libraries(LIBRARY, self.room), "--jobs", "1"]
+        words += ["--incremental", KEPT, "--toolchain", kit() / "toolchain", "--backend", "llvm", "-o", self.made]
+        with open(self.log, "w") as log:
+            ran = subprocess.Popen(words, cwd=self.room / LIBRARY, stdin=subprocess.DEVNULL, stdout=log, stderr=log, start_new_session=True)
+            running.add(ran.pid)
+            status = ran.wait()
+            running.discard(ran.pid)
+        return status
+
+
+def beside(command, proof):
+    """Runs the command and starts the proof as soon as it can be; the command's last line, and its status."""
+    waits, failed, held = set(below(LIBRARY)), False, ""
+    ran = subprocess.Popen(command, cwd=ROOT, stdin=subprocess.DEVNULL, stdout=subprocess.PIPE, text=True, errors="replace", start_new_session=True)
+    running.add(ran.pid)
+    for line in ran.stdout:
+        say(held)
+        held = line
+        failed = failed or bool(FAILED.match(line)) and FAILED.match(line)[1] in waits
+        stands = STANDS.match(line)
+        if stands and stands[1] in waits:
+            waits.discard(stands[1])
+            if not waits and not failed:
+                proof.start()
+    status = ran.wait()
+    running.discard(ran.pid)
+    return held, status
+
+
+def archive(proof, before):
+    """Whether the archive stands, made of what was proved beside `rt ci` or proved now."""
+    if proof.ident is None:
+        say("the archive is not built: a library beneath it is not proved\n")
+        return False
+    began = time.monotonic()
+    proof.join()
+    waited = time.monotonic() - began
+    if proof.status == 0 and state() == before:
+        say(f"the archive: proved beside rt ci in {minutes(proof.seconds)} minutes; rt ci had ended {minutes(waited)} minutes before\n")
+        command = ["tools/build-archive.sh", proof.made]
+    elif proof.status in (0, -signal.SIGKILL):
+        say(f"the archive is proved again: {'a file that it is proved from was touched' if proof.status == 0 else 'its proof was killed'}\n")
+        command = ["tools/build-archive.sh"]
+    else:
+        say(f"the archive is not proved, status {proof.status}:\n{proof.log.read_text(errors='replace')}")
+        return False
+    return subprocess.run(command, cwd=ROOT).returncode == 0
+
+
+def main():
+    command = sys.argv[1:]
+    if not command:
+        sys.exit(__doc__)
+    guard()
+    ARCHIVE.unlink(missing_ok=True)
+    with tempfile.TemporaryDirectory(prefix="archive-") as folder:
+        try:
+            proof, before = Proof(pathlib.Path(folder)), state()
+            last, status = beside(command, proof)
+            stands = archive(proof, before)
+        finally:
+            stop_running()
+    counted = LAST_LINE.match(last)
+    if not counted:
+        sys.exit(last)
+    passed, failed = int(counted[1]) + stands, int(counted[2]) + (not stands)
+    print(f"{'ok     ' if stands else 'FAILED '} the archive, proved and built\n{passed} passed, {failed} failed")
+    return status or int(failed > 0)
+
+
+if __name__ == "__main__":
+    sys.exit(main())

@@ -1,0 +1,60 @@
+"""Knows the crates of crates.txt and the folder of the Rattle kit, and names both to `rattle`, the command beneath `rt`."""
+import functools
+import pathlib
+import subprocess
+
+ROOT = pathlib.Path(__file__).resolve().parent.parent
+
+
+@functools.cache
+def kit():
+    """The kit's folder."""
+    said = subprocess.run(["rt", "doc"], check=True, stdout=subprocess.PIPE, text=True)
+    return pathlib.Path(said.stdout.strip()).parent
+
+
+@functools.cache
+def listed():
+    """Of each crate of crates.txt the libraries that its line names, in the order of the file."""
+    lines = [line.partition("#")[0].partition(":") for line in (ROOT / "crates.txt").read_text().splitlines()]
+    return {head.split()[0]: names.split() for head, _, names in lines if head.strip()}
+
+
+def below(crate):
+    """The crates of this repository that a crate stands on, each after those that it stands on itself."""
+    found = []
+    for name in listed()[crate]:
+        if name in listed():
+            found += [it for it in [*below(name), name] if it not in found]
+    return found
+
+
+def libraries_of_kit(crate):
+    return list(dict.fromkeys(["std", *(name for name in listed()[crate] if name not in listed())]))
+
+
+def externs(names):
+    return [word for name in names for word in ("--extern", f"{name}={kit()}/rlibs/{name}.rlib")]
+
+
+def logic():
+    return ["--antt-project", f"{kit()}/rattle/logic/antt-project.json", "--logic-built", f"{kit()}/logic_built"]
+
+
+def over_libraries(crate, folder):
+    """What names a static library and those beneath it to `rattle`, which finds each of these as folder/NAME.rlib."""
+    own = [name for name in listed()[crate] if name in listed()]
+    words = ["--crate-name", crate, "src/lib.rt", *externs(libraries_of_kit(crate)), "-L", f"dependency={kit()}/rlibs"]
+    words += [word for name in own for word in ("--extern", f"{name}={folder}/{name}.rlib")]
+    return [*words, "-L", f"dependency={folder}", *logic(), "--links", f"{crate}=", "--crate-type", "staticlib"]
+
+
+def over_sources(crate):
+    """What names a crate to `rattle` with the sources of those beneath it, of which none is built. A static library goes as any other: the checks of
+    what it may link want built ones."""
+    libraries = {name for it in [crate, *below(crate)] for name in libraries_of_kit(it)} | {"core"}
+    words = ["--crate-name", crate, "src/lib.rt", *externs(sorted(libraries)), "-L", f"dependency={kit()}/rlibs"]
+    for name in below(crate):
+        uses = dict.fromkeys(["core", *libraries_of_kit(name), *(it for it in listed()[name] if it in listed())])
+        words += ["--lib", f"{name}:{','.join(uses)}={ROOT}/crates/{name}/src/lib.rt"]
+    return [*words, *logic(), "--links", f"{crate}="]

@@ -1,0 +1,198 @@
+"""Runs the parts of a check, counts them, and says how long each took. The gate (.ci/run) and ./check are lists of parts.
+
+A part is a command, and the last line that it prints is 'N passed, M failed'. It fails also where it ends without that line, with a status other
+than 0, or with no check at all.
+"""
+import atexit
+import collections
+import contextlib
+import os
+import pathlib
+import re
+import shlex
+import signal
+import subprocess
+import sys
+import threading
+import time
+from concurrent.futures import ThreadPoolExecutor
+
+from counts import ended
+
+ROOT = pathlib.Path(__file__).resolve().parent.parent
+# The bounds of the whole gate, in minutes: of all processors together, and by the clock on so many processors.
+MOST_PROCESSOR_MINUTES = 150
+MOST_CLOCK_MINUTES = {4: 50, 2: 90}
+
+GIGABYTE = 1 << 30
+LAST_LINE = re.compile(r"^(\d+) passed, (\d+) failed\s*\Z", re.MULTILINE)
+# What `rt try --test` prints; other lines follow it.
+TESTS = re.compile(r"^test result: \w+\. (\d+) passed; (\d+) failed;", re.MULTILINE)
+# No count: the status is the one check.
+STATUS = None
+
+Part = collections.namedtuple("Part", "name command count folder memory", defaults=(LAST_LINE, ROOT, GIGABYTE // 4))
+Ended = collections.namedtuple("Ended", "name passed failed clock processor text")
+
+running = set()
+
+
+def of_session(leader):
+    """The processes of the session that this one leads."""
+    for folder in pathlib.Path("/proc").glob("[0-9]*"):
+        with contextlib.suppress(OSError, ValueError, IndexError):
+            if int((folder / "stat").read_text().rpartition(")")[2].split()[3]) == leader:
+                yield int(folder.name)
+
+
+def stop_running():
+    """Ends the parts that run, with all that they started: first by asking, so that a part can end what it keeps in sessions of its own."""
+    for number, seconds in ((signal.SIGTERM, 2), (signal.SIGKILL, 0)):
+        left = [pid for leader in list(running) for pid in of_session(leader)]
+        for pid in left:
+            with contextlib.suppress(ProcessLookupError):
+                os.kill(pid, number)
+        time.sleep(seconds if left else 0)
+
+
+def guard():
+    """However this process is told to end, its parts end with it."""
+    atexit.register(stop_running)
+    for number in (signal.SIGTERM, signal.SIGHUP):
+        signal.signal(number, lambda number, _: sys.exit(128 + number))
+
+
+def judged(part, text, status):
+    """How many checks passed and failed, by what the part printed and by its status."""
+    if part.count is STATUS:
+        return int(status == 0), int(status != 0)
+    counts = part.count.findall(text)
+    passed, failed = map(int, counts[-1]) if counts else (0, 0)
+    return passed, failed or int(status != 0 or passed == 0)
+
+
+def run(part, say=None):
+    """Runs a part to its end. `say` gets each line of standard output as it comes, except the count; without it standard error is kept with the rest."""
+    began, lines = time.monotonic(), []
+    command = shlex.split(part.command) if isinstance(part.command, str) else list(map(str, part.command))
+    streams = {"stdin": subprocess.DEVNULL, "stdout": subprocess.PIPE, "stderr": None if say else subprocess.STDOUT}
+    process = subprocess.Popen(command, cwd=part.folder, errors="replace", text=True, start_new_session=True, **streams)
+    running.add(process.pid)
+    for line in process.stdout:
+        if say and lines:
+            say(lines[-1])
+        lines.append(line)
+    _, status, used = os.wait4(process.pid, 0)
+    running.discard(process.pid)
+    process.returncode = os.waitstatus_to_exitcode(status)
+    text = "".join(lines)
+    passed, failed = judged(part, text, process.returncode)
+    if say and lines and not LAST_LINE.search(text):
+        say(lines[-1])
+    return Ended(part.name, passed, failed, time.monotonic() - began, used.ru_utime + used.ru_stime, text)
+
+
+def processors():
+    return len(os.sched_getaffinity(0))
+
+
+def free_memory():
+    """The bytes that are free, under the limit of the control group too."""
+    found = re.search(r"MemAvailable:\s+(\d+)", pathlib.Path("/proc/meminfo").read_text())
+    free = 1024 * int(found[1])
+    with contextlib.suppress(OSError, ValueError):
+        group = pathlib.Path("/sys/fs/cgroup")
+        free = min(free, int((group / "memory.max").read_text()) - int((group / "memory.current").read_text()))
+    return free
+
+
+class Memory:
+    """Lets parts begin while their memory is free; one alone always may."""
+
+    def __init__(self):
+        self.left, self.users, self.changed = 0.85 * free_memory(), 0, threading.Condition()
+
+    @contextlib.contextmanager
+    def room(self, size):
+        with self.changed:
+            self.changed.wait_for(lambda: not self.users or size <= self.left)
+            self.left, self.users = self.left - size, self.users + 1
+        try:
+            yield
+        finally:
+            with self.changed:
+                self.left, self.users = self.left + size, self.users - 1
+                self.changed.notify_all()
+
+
+def run_beside(parts, tell):
+    """Runs parts beside each other, as many as there are processors and memory; `tell` gets each as it ends, one at a time. The longest come first."""
+    memory, telling = Memory(), threading.Lock()
+
+    def one(part):
+        with memory.room(part.memory):
+            done = run(part)
+        with telling:
+            tell(done)
+        return done
+
+    with ThreadPoolExecutor(processors()) as pool:
+        try:
+            return list(pool.map(one, parts))
+        except BaseException:
+            stop_running()
+            raise
+
+
+def say(text):
+    sys.stdout.write(text)
+    sys.stdout.flush()
+
+
+def minutes(seconds):
+    return f"{seconds / 60:.1f}"
+
+
+def table(parts, clock):
+    """What each part took, in the form of docs/GATE.md."""
+    yield "| Part | By the clock | Processor minutes |\n|---|---|---|\n"
+    for it in parts:
+        yield f"| {it.name} | {minutes(it.clock)} | {minutes(it.processor)} |\n"
+    yield f"| **together**, on {processors()} processors | **{minutes(clock)}** | **{minutes(sum(it.processor for it in parts))}** |\n"
+
+
+def above_bound(clock, processor):
+    """A line for each bound that the gate did not keep."""
+    for count, most in sorted(MOST_CLOCK_MINUTES.items(), reverse=True):
+        if processors() >= count:
+            if clock > 60 * most:
+                yield f"ABOVE ITS BOUND: {minutes(clock)} minutes by the clock, and at most {most} on {count} processors\n"
+            break
+    if processor > 60 * MOST_PROCESSOR_MINUTES:
+        yield f"ABOVE ITS BOUND: {minutes(processor)} processor minutes, and at most {MOST_PROCESSOR_MINUTES}\n"
+
+
+def tell(part):
+    """Prints what a part said, without its count."""
+    say(f"== {part.name}\n{LAST_LINE.sub('', part.text)}")
+
+
+def gate(*groups):
+    """Runs groups of parts, one group after the other and the parts of a group beside each other; the status. A part that is alone says what it does as it goes."""
+    guard()
+    began, done = time.monotonic(), []
+    for parts in groups:
+        if len(parts) == 1:
+            say(f"== {parts[0].name}\n")
+            done.append(run(parts[0], say))
+        else:
+            done += run_beside(parts, tell)
+    clock = time.monotonic() - began
+    for line in [*table(done, clock), *above_bound(clock, sum(it.processor for it in done))]:
+        say(line)
+    return count(done)
+
+
+def count(parts):
+    """Prints the count of all parts; the status that goes with it."""
+    return ended(sum(it.passed for it in parts), sum(it.failed for it in parts))

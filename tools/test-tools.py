@@ -1,0 +1,77 @@
+#!/usr/bin/env python3
+"""Tries the tools of the gate: each on a tree that it finds good, and on the same tree with one planted fault of each kind that it is to find.
+
+    tools/test-tools.py [WORD]..    the tools whose names have one of the words, or all
+
+The trees and the faults are tools/tests/. A fault passes where the tool ends with another status than 0, says what the fault names, and counts a failure
+if it counts. What takes the proved program is left out where that isn't built. The last line is 'N passed, M failed'.
+"""
+import os
+import pathlib
+import re
+import sys
+import tempfile
+from concurrent.futures import ThreadPoolExecutor
+
+sys.dont_write_bytecode = True
+
+from counts import ended
+from tests import compares, documents, pictures, programs, sources, stack
+from tests.trees import lay, said_by, spoil
+
+MODULES = (documents, sources, programs, compares, pictures, stack)
+COUNT = re.compile(r"^(\d+) passed, (\d+) failed\s*\Z", re.MULTILINE)
+
+
+def try_good(case, tree):
+    """What is wrong with what the tool says of the good tree, if anything is."""
+    status, said = said_by(case.command, tree)
+    counted = COUNT.search(said)
+    if status != 0:
+        return f"status {status}: {said}"
+    if case.counts and not (counted and int(counted[1]) > 0 and int(counted[2]) == 0):
+        return f"it doesn't count what passed: {said}"
+    return ""
+
+
+def try_fault(case, fault, tree):
+    """What is wrong with what the tool says of the fault, if anything is."""
+    misfit = spoil(fault, tree)
+    if misfit:
+        return misfit
+    status, said = said_by(fault.command or case.command, tree)
+    counted = COUNT.search(said)
+    if status == 0:
+        return f"NOT TOLD: {said}"
+    if fault.said not in said:
+        return f"it should say '{fault.said}', and says: {said}"
+    if counted and int(counted[2]) == 0:
+        return f"it counts no failure: {said}"
+    return ""
+
+
+def run(job):
+    """The name of a try, and what is wrong with it."""
+    case, fault = job
+    with tempfile.TemporaryDirectory() as folder:
+        tree = pathlib.Path(folder)
+        lay(case, tree)
+        case.prepare(tree)
+        if fault is None:
+            return f"{case.name}: the good tree", try_good(case, tree)
+        return f"{case.name}: {fault.name}", try_fault(case, fault, tree)
+
+
+def main():
+    cases = [case for module in MODULES for case in module.cases()]
+    chosen = [it for it in cases if not sys.argv[1:] or any(word in it.name for word in sys.argv[1:])]
+    jobs = [(case, fault) for case in chosen for fault in [None, *case.faults]]
+    passed = 0
+    with ThreadPoolExecutor(len(os.sched_getaffinity(0))) as pool:
+        for name, wrong in pool.map(run, jobs):
+            passed += not wrong
+            print(f"FAILED  {name}: {wrong}" if wrong else f"ok      {name}", flush=True)
+    return ended(passed, len(jobs) - passed)
+
+
+sys.exit(main())

@@ -1,0 +1,53 @@
+"""Faults of sources: tools/check-limits.py and tools/check-imports.py."""
+from .trees import Case, Fault, real
+
+# Each place that says a limit again: a part of the line, with its number.
+PLACES = (
+    ("crates/registry_c/include/registry.h", "REGISTRY_MOST_CPUS\t8", "MOST_CPUS"),
+    ("crates/registry_c/include/registry.h", "REGISTRY_MOST_SLOTS\t32", "MOST_SLOTS"),
+    ("clients/rust/src/ffi.rs", "MOST_CPUS: usize = 8;", "MOST_CPUS"),
+    ("clients/rust/src/ffi.rs", "MOST_SLOTS: usize = 32;", "MOST_SLOTS"),
+    ("bench/common.h", "MOST_THREADS = 8", "MOST_CPUS"),
+    ("bench/common.h", "MOST_ENTRIES = 32", "MOST_SLOTS"),
+    ("bench/peers/src/list.rs", "MOST_ENTRIES: usize = 32;", "MOST_SLOTS"),
+)
+SETTINGS = "crates/registry_values/src/settings.rt"
+
+
+def check_limits():
+    faults = [Fault(f"another number: {path}, {name}", f"{path}: {name} is", ((path, old, old.replace("8", "9").replace("32", "31")),))
+              for path, old, name in PLACES]
+    faults += [Fault(f"no number: {path}, {name}", f"{path}: {name} is None", ((path, old, "gone"),)) for path, old, name in PLACES]
+    faults += [Fault(f"another {name} in Rattle", f"{name} is", ((SETTINGS, f"const {name}: usize = {number};", f"const {name}: usize = 7;"),))
+               for name, number in (("MOST_CPUS", 8), ("MOST_SLOTS", 32))]
+    tree = real(SETTINGS, *{path for path, _, _ in PLACES})
+    return Case("check-limits", ["check-limits.py", "counts.py"], tree, ["tools/check-limits.py"], faults)
+
+
+IMPORTS = {
+    # one passes on what it defines and what low defines; two takes both from there.
+    "crates/low/specs/Words.antt": "pub data Word\n",
+    "crates/one/specs/Counts.antt": "pub data Count\n",
+    "crates/one/specs/Common.antt": "pub use Rattle.one.specs.Counts.{Count};\npub use Rattle.low.specs.Words.{Word};\n",
+    "crates/two/src/lib.rt": "ghost use Rattle.one.specs.Common.{Count};\n",
+    "crates/two/proofs/Lemma.antt": "use Rattle.one.specs.Common.{Word};\n",
+}
+
+
+def check_imports():
+    faults = (
+        Fault("a name that no one takes", "one/specs/Common.antt: no one imports Word", (("crates/two/proofs/Lemma.antt", "use Rattle", "-- Rattle"),)),
+        Fault("a name that is taken past it", "two/src/lib.rt imports Count of Rattle.one.specs.Counts, which Rattle.one.specs.Common passes on",
+              (("crates/two/src/lib.rt", "ghost use", "ghost use Rattle.one.specs.Counts.{Count};\nghost use"),)),
+        Fault("a name of a lower crate that is taken past it", "two/proofs/Lemma.antt imports Word of Rattle.low.specs.Words",
+              (("crates/two/proofs/Lemma.antt", "use Rattle", "use Rattle.low.specs.Words.{Word};\nuse Rattle"),)),
+        Fault("one of several names", "imports Count", (("crates/two/src/lib.rt", "ghost use", "ghost use Rattle.one.specs.Counts.{Other, Count};\nghost use"),)),
+        Fault("a type that no one takes", "one/specs/Types.antt: no one imports Count",
+              (("crates/one/specs/Types.antt", None, "pub use Rattle.one.specs.Counts.{Count};\n"),)),
+        Fault("nothing that passes names on", "0 passed, 1 failed", (("crates/one/specs/Common.antt", "pub use Rattle.one", None),)),
+    )
+    return Case("check-imports", ["check-imports.py", "counts.py"], IMPORTS, ["tools/check-imports.py"], faults)
+
+
+def cases():
+    return [check_limits(), check_imports()]
