@@ -10,6 +10,7 @@ all. As many are tried side by side as there are processors and memory. It says 
 """
 import collections
 import concurrent.futures
+import functools
 import hashlib
 import os
 import pathlib
@@ -19,24 +20,23 @@ import subprocess
 import sys
 import tempfile
 
+sys.dont_write_bytecode = True
+
+from counts import ended
 from edits import ROOT, apply, changes, edits_of
 from functions import functions_of, module_of
-
-KIT = pathlib.Path(subprocess.run(["rt", "doc"], check=True, capture_output=True, text=True).stdout.strip()).parent
-sys.path.insert(0, str(KIT / "bin"))
-sys.dont_write_bytecode = True
-import rtlib  # noqa: E402 (it lies in the kit: rt itself reads the crates with it)
+from kit import below, built, kit, listed, over_libraries
+from parts import GIGABYTE, free_memory, processors
 
 FOLDER = "must-fail-gate"
 STORE = pathlib.Path(os.environ.get("XDG_CACHE_HOME", pathlib.Path.home() / ".cache")) / "kupaldiz" / "edits"
-# What the check of one function takes of memory, in kB, above the most that was seen.
-MEMORY = 2_500_000
+# What the check of some functions takes of memory, above the most that was seen.
+MEMORY = 2.5 * GIGABYTE
 Try = collections.namedtuple("Try", "is_refused said")
 
 
-def crates():
-    """The crates of the repository, by name, as rt reads them."""
-    return {it.name: it for it in rtlib.crates_below(str(ROOT))}
+def folder_of(crate):
+    return ROOT / "crates" / crate
 
 
 def asked_for(edit):
@@ -52,14 +52,24 @@ def asked_for(edit):
     return ["::".join(filter(None, (module_of(path, edit.parents[1] / "src"), found[-1].name)))]
 
 
-def key_of(crate, edit):
-    """The sum of all that a try of the edit reads: the kit, this tool, the edit, the crate, and the libraries below it."""
-    total = hashlib.sha256(rtlib.text_of(f"{KIT}/KIT-ID").encode() + pathlib.Path(__file__).read_bytes() + edit.read_bytes())
-    for path in rtlib.files_of(crate.folder):
-        total.update(os.path.relpath(path, crate.folder).encode() + pathlib.Path(path).read_bytes())
-    for below in crate.below():
-        total.update(pathlib.Path(below.rlib, "format").read_bytes())
+def sources(crate):
+    """The files that a proof of the crate reads."""
+    return sorted(it for part in ("src", "specs", "proofs") for it in (folder_of(crate) / part).rglob("*") if it.is_file())
+
+
+@functools.cache
+def sum_of(crate):
+    """The sum of what a check of the crate reads: the kit, this tool, the crate, and the libraries below it."""
+    total = hashlib.sha256((kit() / "KIT-ID").read_bytes() + pathlib.Path(__file__).read_bytes())
+    for path in sources(crate):
+        total.update(str(path.relative_to(ROOT)).encode() + path.read_bytes())
+    for name in below(crate):
+        total.update((built(name) / "format").read_bytes())
     return total.hexdigest()
+
+
+def key_of(crate, edit):
+    return hashlib.sha256(sum_of(crate).encode() + edit.read_bytes()).hexdigest()
 
 
 def judged(ran, names):
@@ -82,26 +92,29 @@ def judged(ran, names):
 def check(crate, names, tree, kept):
     """Checks the functions of the crate as it stands in `tree`, over what is kept in the folder `kept`, and keeps what it proves there."""
     only = [word for it in names for word in ("--only", it)]
-    words = [f"{KIT}/bin/rattle", "check", *crate.words(["--jobs", "1", *only], keeps=False), "--incremental", str(kept)]
+    words = [kit() / "bin/rattle", "check", *over_libraries(crate), "--jobs", "1", *only, "--incremental", kept]
     said = {"stdin": subprocess.DEVNULL, "stdout": subprocess.PIPE, "stderr": subprocess.STDOUT, "text": True, "errors": "replace"}
-    return subprocess.run(words, cwd=tree / "crates" / crate.name, **said)
+    return subprocess.run(words, cwd=tree / "crates" / crate, **said)
 
 
 def copied(crate, room):
     """A tree with a copy of the crate's sources."""
     tree = pathlib.Path(room) / "tree"
-    shutil.copytree(crate.folder, tree / "crates" / crate.name, ignore=shutil.ignore_patterns("out", "must-fail*"))
+    for path in sources(crate):
+        to = tree / path.relative_to(ROOT)
+        to.parent.mkdir(parents=True, exist_ok=True)
+        shutil.copy(path, to)
     return tree
 
 
 def seeded(crate, names, room):
     """A folder with what is proved of these functions as they stand."""
-    kept = pathlib.Path(room) / crate.name
+    kept = pathlib.Path(room) / crate
     kept.mkdir()
     with tempfile.TemporaryDirectory() as scratch:
         ran = check(crate, names, copied(crate, scratch), kept)
     if ran.returncode:
-        print(f"{crate.name}: the functions of its edits aren't proved as they stand: {ran.stdout[-600:]}", flush=True)
+        print(f"{crate}: the functions of its edits aren't proved as they stand: {ran.stdout[-600:]}", flush=True)
     return kept
 
 
@@ -136,22 +149,20 @@ def earlier(crate, edit, anew):
 
 def chosen(words):
     """The edits that the words name, with their crates."""
-    known = crates()
     for word in words or sorted(it.parent.name for it in ROOT.glob(f"crates/*/{FOLDER}")):
-        name, _, edit = word.partition("/")
-        found = edits_of(name, FOLDER, edit or "*")
-        if name not in known or not found:
+        crate, _, edit = word.partition("/")
+        found = edits_of(crate, FOLDER, edit or "*")
+        if crate not in listed() or not found:
             sys.exit(f"no edit {word} in {FOLDER}/")
-        unbuilt = [it.name for it in known[name].below() if not os.path.isfile(f"{it.rlib}/format")]
+        unbuilt = [it for it in below(crate) if not (built(it) / "format").is_file()]
         if unbuilt:
-            sys.exit(f"{name} stands on {unbuilt[0]}, which isn't built: run rt ci first")
-        yield from ((known[name], it) for it in found)
+            sys.exit(f"{crate} stands on {unbuilt[0]}, which isn't built: run rt ci first")
+        yield from ((crate, it) for it in found)
 
 
 def lanes():
     """How many to try side by side."""
-    free = int(re.search(r"MemAvailable:\s+(\d+)", pathlib.Path("/proc/meminfo").read_text())[1])
-    return max(1, min(len(os.sched_getaffinity(0)), free // MEMORY))
+    return max(1, min(processors(), int(free_memory() // MEMORY)))
 
 
 def results(edits, anew):
@@ -180,9 +191,8 @@ def main():
     failed = 0
     for (crate, edit), result in zip(edits, results(edits, anew)):
         failed += not result.is_refused
-        print(f"{crate.name}/{edit.stem}: {result.said}", flush=True)
-    print(f"{len(edits) - failed} passed, {failed} failed")
-    sys.exit(failed > 0)
+        print(f"{crate}/{edit.stem}: {result.said}", flush=True)
+    sys.exit(ended(len(edits) - failed, failed))
 
 
 main()

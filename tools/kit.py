@@ -14,10 +14,21 @@ def kit():
 
 
 @functools.cache
+def lines():
+    """The lines of crates.txt: of each crate its name with what stands beside that, and the libraries that it stands on."""
+    texts = [line.partition("#")[0].partition(":") for line in (ROOT / "crates.txt").read_text().splitlines()]
+    return [(head.split(), names.split()) for head, _, names in texts if head.strip()]
+
+
+@functools.cache
 def listed():
-    """Of each crate of crates.txt the libraries that its line names, in the order of the file."""
-    lines = [line.partition("#")[0].partition(":") for line in (ROOT / "crates.txt").read_text().splitlines()]
-    return {head.split()[0]: names.split() for head, _, names in lines if head.strip()}
+    """Of each crate the libraries that its line names, in the order of the file."""
+    return {head[0]: names for head, names in lines()}
+
+
+def is_static(crate):
+    """Whether it is a static library."""
+    return [crate, "staticlib"] in [head for head, _ in lines()]
 
 
 def below(crate):
@@ -41,12 +52,18 @@ def logic():
     return ["--antt-project", f"{kit()}/rattle/logic/antt-project.json", "--logic-built", f"{kit()}/logic_built"]
 
 
-def over_libraries(crate, folder):
-    """What names a static library and those beneath it to `rattle`, which finds each of these as folder/NAME.rlib."""
-    own = [name for name in listed()[crate] if name in listed()]
+def built(crate):
+    """The library that rt makes of a crate."""
+    return ROOT / "crates" / crate / "out/rlib" / f"{crate}.rlib"
+
+
+def over_libraries(crate, folder=None):
+    """What names a library and those beneath it to `rattle`: each of these is folder/NAME.rlib, or where rt makes it."""
+    at = {name: folder / f"{name}.rlib" if folder else built(name) for name in below(crate)}
     words = ["--crate-name", crate, "src/lib.rt", *externs(libraries_of_kit(crate)), "-L", f"dependency={kit()}/rlibs"]
-    words += [word for name in own for word in ("--extern", f"{name}={folder}/{name}.rlib")]
-    return [*words, "-L", f"dependency={folder}", *logic(), "--links", f"{crate}=", "--crate-type", "staticlib"]
+    words += [word for name in listed()[crate] if name in at for word in ("--extern", f"{name}={at[name]}")]
+    words += [word for path in dict.fromkeys(it.parent for it in at.values()) for word in ("-L", f"dependency={path}")]
+    return [*words, *logic(), "--links", f"{crate}=", *(["--crate-type", "staticlib"] if is_static(crate) else [])]
 
 
 def over_sources(crate):

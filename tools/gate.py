@@ -1,0 +1,42 @@
+#!/usr/bin/env python3
+"""The merge gate: the README's test command. docs/GATE.md says what each part does and what it may take.
+
+The groups come one after the other, the parts of a group beside each other. The last line, 'N passed, M failed', counts all of it; the status is 0
+where nothing failed.
+"""
+import sys
+
+sys.dont_write_bytecode = True
+
+from parts import Part, gate
+
+PROGRAM = "crates/registry_run/out/registry_run"
+FACE = "tools/test-face.sh --built"
+
+sys.exit(gate(
+    # What needs no proof.
+    [
+        Part("documents", "tools/check-docs.py"),
+        Part("limits", "tools/check-limits.py"),
+        Part("imports", "tools/check-imports.py"),
+    ],
+    # Every proof and test of the crates, from nothing.
+    [Part("rt ci, and the archive", "tools/archive-beside.py rt ci")],
+    # Wrong bodies, over the libraries that were proved.
+    [Part("edits", "tools/gate-edits.py")],
+    # What stands outside of Rattle, over the program and the archive that were proved.
+    [Part("clients are built", f"{FACE} build")],
+    [
+        Part("Rust clients, watched", f"{FACE} rust-watched"),
+        Part("Rust clients", f"{FACE} rust"),
+        Part("C clients, watched", f"{FACE} watched"),
+        Part("C clients", f"{FACE} c"),
+        Part("memory behind entries", f"{FACE} heap"),
+        Part("the manual pages' names", f"{FACE} netbsd"),
+        Part("manual page", f"{FACE} page"),
+        Part("program", "tools/test-program.py"),
+        Part("examples", f"tools/run-examples.py --program {PROGRAM}"),
+        Part("conformance kit", "tools/conformance.py test"),
+        Part("pictures", "tools/picture.py check"),
+    ],
+))
