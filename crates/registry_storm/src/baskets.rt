@@ -3,7 +3,6 @@
 ghost use Rattle.std.specs.Prelude.{◌≡◌, ◌<◌, vec_len};
 ghost use Rattle.name_registry.specs.Types.{MOST_CPUS};
 ghost use Rattle.registry_storm.specs.Judging.{GoesOn};
-ghost use Rattle.registry_storm.specs.Storms.{Unacquired};
 
 use crate::sum::Counts;
 use cpu_words::Domain;
@@ -64,8 +63,7 @@ impl<D: Domain> Baskets<D> {
         cpu: &mut Cpu<D>,
         counts: &mut Counts,
     )
-        ensures section { Unacquired cpu.old cpu.new }
-        ensures counted { GoesOn counts.old counts.new }
+        ensures { GoesOn counts.old counts.new }
     {
         let Baskets { mut places } = self;
         while let Some(place) = places.pop() {
@@ -82,8 +80,7 @@ fn empty_place<D: Domain, R: Wait>(
     counts: &mut Counts,
     place: Basket<D>,
 )
-    ensures section { Unacquired cpu.old cpu.new }
-    ensures counted { GoesOn counts.old counts.new }
+    ensures { GoesOn counts.old counts.new }
 {
     if let Some(Laid { by: _by, reference }) = place.into_inner() {
         give_back(rt, registry, cpu, counts, reference);
@@ -98,8 +95,7 @@ pub fn give_back<D: Domain, R: Wait>(
     counts: &mut Counts,
     reference: LocalRef<D>,
 )
-    ensures section { Unacquired cpu.old cpu.new }
-    ensures counted { GoesOn counts.old counts.new }
+    ensures { GoesOn counts.old counts.new }
 {
     registry.release_local(rt, cpu, reference);
     counts.add_reference();

@@ -1,16 +1,9 @@
-//! The calls of a storm, each with the judgement of its answer. A contract here says, of what the call beneath says, what a storm needs, and that just this
-//! answer was judged: so an answer can't be passed over, nor another one judged in its place.
+//! The calls of a storm, each with the judgement of its answer. A contract here says that just this answer was judged: so an answer can't be passed over,
+//! nor another one judged in its place.
 
-ghost use Rattle.std.specs.Prelude.{◌≡◌, ◌≢◌, IsSome, IsNone, IfSome, IfOk, IfErr, Some, None, Ok};
-ghost use Rattle.cpu_words.specs.Common.{IsFreedFrom, key_with};
-ghost use Rattle.local_count.specs.References.{HasAcquired};
-ghost use Rattle.name_registry.specs.Common.{HasMade, SomeAdvanced};
-ghost use Rattle.passive_list.specs.Common.{HasFound};
-ghost use Rattle.passive_ref.specs.Psrefs.{HasOneLess, IsAcquired, IsRead, why_unusable};
-ghost use Rattle.registry_values.specs.Common.{Answers};
-ghost use Rattle.name_registry.specs.Types.{Attach, Detach, Driver, Iface};
-ghost use Rattle.registry_storm.specs.Judging.{driver_entry, driver_record, iface_record, IsAttachOf, IsIfaceOf, IsJudged, IsTurnOf};
-ghost use Rattle.registry_storm.specs.Storms.{Unacquired};
+ghost use Rattle.std.specs.Prelude.{◌≡◌, IsSome, IsTrue, Some, None, Ok};
+ghost use Rattle.passive_ref.specs.Psrefs.{why_unusable};
+ghost use Rattle.registry_storm.specs.Judging.{driver_entry, driver_record, IsAttachOf, IsIfaceOf, IsJudged, IsTurnOf};
 
 use crate::judging::{is_attach, is_destroyed, is_detached, is_turn};
 use crate::plan::Plan;
@@ -18,39 +11,65 @@ use crate::sum::Counts;
 use cpu_words::Domain;
 use local_count::{LocalRef, acquire_local};
 use name_registry::Registry;
-use passive_list::{Cpu, find};
+use passive_list::{Cpu, enter, exit, find};
 use passive_ref::{Psref, acquire, read, release};
-use registry_values::{Entry, Kind, Record, Refusal, Stage};
+use registry_values::{Entry, Kind, Name, Record, Refusal, Stage};
 use std::sync::Wait;
 
-/// Looks the driver up. Right: it is found. Condition: inside.
+/// What a lookup finds. Where the section was refused it isn't made, and finds nothing.
+fn looked_up<D: Domain>(
+    registry: &Registry<D>,
+    cpu: &mut Cpu<D>,
+    kind: Kind,
+    name: &Name,
+) -> Option<Entry> {
+    if cpu.inside() {
+        find(registry.words(), cpu, kind, name)
+    } else {
+        None
+    }
+}
+
+/// Begins a section, and answers whether it is begun. Right: it is.
+pub fn begin<D: Domain>(registry: &Registry<D>, cpu: &mut Cpu<D>, counts: &mut Counts) -> bool
+    ensures judged { IsJudged (IsTrue result) counts.old counts.new }
+{
+    let begun = enter(registry.words(), cpu).is_ok();
+    counts.judge(begun);
+    begun
+}
+
+/// Ends the section, unless it was refused.
+pub(crate) fn end<D: Domain>(registry: &Registry<D>, cpu: &mut Cpu<D>) {
+    if cpu.inside() {
+        exit(registry.words(), cpu);
+    }
+}
+
+/// Looks the driver up. Right: it is found.
 pub fn find_driver<D: Domain>(
     registry: &Registry<D>,
     plan: Plan,
     cpu: &mut Cpu<D>,
     counts: &mut Counts,
 ) -> Option<Entry>
-    requires inside { cpu.old.view.begin ≢ None }
-    ensures found { HasFound (key_with Driver plan.driver) cpu.old cpu.new result }
     ensures judged { IsJudged (result ≡ Some (driver_entry plan.driver)) counts.old counts.new }
 {
-    let found = find(registry.words(), cpu, Kind::Driver, &plan.driver);
+    let found = looked_up(registry, cpu, Kind::Driver, &plan.driver);
     counts.judge(plan.is_driver(found));
     found
 }
 
-/// Looks the interface up. Right: there is none, or that of some turn. Condition: inside.
+/// Looks the interface up. Right: there is none, or that of some turn.
 pub fn find_iface<D: Domain>(
     registry: &Registry<D>,
     plan: Plan,
     cpu: &mut Cpu<D>,
     counts: &mut Counts,
 ) -> Option<Entry>
-    requires inside { cpu.old.view.begin ≢ None }
-    ensures found { HasFound (key_with Iface plan.iface) cpu.old cpu.new result }
     ensures judged { IsJudged (IsIfaceOf plan.turns result) counts.old counts.new }
 {
-    let found = find(registry.words(), cpu, Kind::Iface, &plan.iface);
+    let found = looked_up(registry, cpu, Kind::Iface, &plan.iface);
     counts.judge(plan.is_iface(found));
     found
 }
@@ -61,8 +80,6 @@ pub fn acquire_passive<D: Domain>(
     cpu: &mut Cpu<D>,
     counts: &mut Counts,
 ) -> Option<Psref>
-    ensures acquired { IfSome result (IsAcquired cpu.old cpu.new) }
-    ensures refused { IsNone result → cpu.new ≡ cpu.old }
     ensures judged { IsJudged (IsSome result) counts.old counts.new }
 {
     let passive = acquire(registry.words(), cpu).ok();
@@ -76,8 +93,6 @@ pub fn acquire_counted<D: Domain>(
     cpu: &mut Cpu<D>,
     counts: &mut Counts,
 ) -> Option<LocalRef<D>>
-    ensures acquired { IfSome result (λ v. HasAcquired cpu.old cpu.new v) }
-    ensures refused { IsNone result → cpu.new ≡ cpu.old }
     ensures judged { IsJudged (IsSome result) counts.old counts.new }
 {
     let local = acquire_local(registry.words(), cpu).ok();
@@ -93,9 +108,6 @@ pub fn read_passive<D: Domain>(
     psref: &Psref,
     counts: &mut Counts,
 ) -> Result<Record, Refusal>
-    ensures answer { Answers (why_unusable cpu.old.view psref.now) (IsRead psref.now.number cpu.old cpu.new) result }
-    ensures refused { IfErr result (λ _. cpu.new ≡ cpu.old) }
-    ensures section { Unacquired cpu.old cpu.new }
     ensures judged { IsJudged ((psref.now.number ≡ 1) × (result ≡ Ok (driver_record plan.driver))) counts.old counts.new }
 {
     let answer = read(registry.words(), cpu, psref);
@@ -110,7 +122,6 @@ pub fn read_local<D: Domain>(
     reference: &mut LocalRef<D>,
     counts: &mut Counts,
 )
-    ensures same { reference.new ≡ reference.old }
     ensures judged { IsJudged ((reference.old.entry.number ≡ 1) × (reference.old.entry.rec ≡ driver_record plan.driver)) counts.old counts.new }
 {
     let rec = reference.record(registry.words());
@@ -124,8 +135,6 @@ pub fn release_passive<D: Domain>(
     psref: Psref,
     counts: &mut Counts,
 )
-    ensures released { why_unusable cpu.old.view psref ≡ None → HasOneLess psref.number cpu.old cpu.new }
-    ensures section { Unacquired cpu.old cpu.new }
     ensures judged { IsJudged (why_unusable cpu.old.view psref ≡ None) counts.old counts.new }
 {
     match release(registry.words(), cpu, psref) {
@@ -146,8 +155,6 @@ pub fn attach_driver<D: Domain, R: Wait>(
     cpu: &mut Cpu<D>,
     counts: &mut Counts,
 ) -> Option<Entry>
-    ensures made { IfSome result (λ e. HasMade cpu.old (Attach e) cpu.new) }
-    ensures section { Unacquired cpu.old cpu.new }
     ensures judged { IsJudged (result ≡ Some (driver_entry plan.driver)) counts.old counts.new }
 {
     let driver = Record {
@@ -170,8 +177,6 @@ pub fn attach_iface<D: Domain, R: Wait>(
     reference: LocalRef<D>,
     counts: &mut Counts,
 ) -> Result<Entry, Refusal>
-    ensures made { IfOk result (λ e. (e.rec ≡ iface_record plan.iface turn) × HasMade cpu.old (Attach e) cpu.new) }
-    ensures section { Unacquired cpu.old cpu.new }
     ensures judged { IsJudged (IsAttachOf result) counts.old counts.new }
 {
     let answer = match registry.attach_iface(rt, cpu, plan.iface(turn), reference) {
@@ -193,8 +198,6 @@ pub fn detach<D: Domain, R: Wait>(
     entry: Entry,
     counts: &mut Counts,
 ) -> Result<Entry, Refusal>
-    ensures made { IfOk result (λ e. (e.rec.kind ≡ entry.rec.kind) × (e.rec.name ≡ entry.rec.name) × HasMade cpu.old (Detach e.number) cpu.new) }
-    ensures section { Unacquired cpu.old cpu.new }
     ensures judged { IsJudged (result ≡ Ok entry) counts.old counts.new }
 {
     let answer = registry.detach(rt, cpu, entry.rec.kind, &entry.rec.name);
@@ -210,7 +213,6 @@ pub fn advance<D: Domain, R: Wait>(
     slot: u8,
     counts: &mut Counts,
 ) -> Result<Stage, Refusal>
-    ensures made { SomeAdvanced D.settings number result }
     ensures judged { IsJudged (IsTurnOf slot result) counts.old counts.new }
 {
     let answer = registry.advance(rt, number);
@@ -227,8 +229,6 @@ pub fn destroy<D: Domain, R: Wait>(
     slot: u8,
     counts: &mut Counts,
 ) -> Result<u8, Refusal>
-    ensures gone { IfOk result (λ t. IsFreedFrom t number cpu.new.known_log) }
-    ensures section { Unacquired cpu.old cpu.new }
     ensures judged { IsJudged (result ≡ Ok slot) counts.old counts.new }
 {
     let answer = registry.destroy(rt, cpu, number, 1);

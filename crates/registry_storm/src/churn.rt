@@ -1,16 +1,17 @@
 //! What CPU 0 does beside the other workers: it attaches and detaches an interface, and frees what it has detached.
 
-ghost use Rattle.std.specs.Prelude.{◌+◌, ◌*◌, ◌<◌};
+ghost use Rattle.std.specs.Prelude.{◌<◌};
 ghost use Rattle.registry_storm.specs.Judging.{GoesOn};
-ghost use Rattle.registry_storm.specs.Storms.{IsOutside, KeepsAcquired, Unacquired};
 
-use crate::calls::{acquire_counted, advance, attach_iface, destroy, detach, find_driver};
+use crate::calls::{
+    acquire_counted, advance, attach_iface, begin, destroy, detach, end, find_driver,
+};
 use crate::plan::{Plan, SLOTS};
 use crate::sum::{Counts, count};
 use cpu_words::Domain;
 use local_count::LocalRef;
 use name_registry::Registry;
-use passive_list::{Cpu, enter, exit};
+use passive_list::Cpu;
 use registry_values::{Entry, Stage};
 use std::sync::Wait;
 
@@ -42,11 +43,7 @@ impl Churn {
         turn: u32,
         counts: &mut Counts,
     )
-        requires turn { turn < 100000 }
-        requires cpu { IsOutside (4 * turn) cpu.old }
-        ensures cpu { IsOutside (4 * turn + 2) cpu.new }
-        ensures kept { KeepsAcquired cpu.old cpu.new }
-        ensures counted { GoesOn counts.old counts.new }
+        ensures { GoesOn counts.old counts.new }
     {
         match self.live {
             Some(entry) => self.detach(rt, registry, cpu, entry, counts),
@@ -65,13 +62,9 @@ impl Churn {
         turn: u32,
         counts: &mut Counts,
     )
-        requires turn { turn < 100000 }
-        requires cpu { IsOutside (4 * turn) cpu.old }
-        ensures cpu { IsOutside (4 * turn + 2) cpu.new }
-        ensures kept { KeepsAcquired cpu.old cpu.new }
-        ensures counted { GoesOn counts.old counts.new }
+        ensures { GoesOn counts.old counts.new }
     {
-        let Some(reference) = refer_to_driver(registry, plan, cpu, turn, counts) else {
+        let Some(reference) = refer_to_driver(registry, plan, cpu, counts) else {
             return;
         };
         let answer = attach_iface(rt, registry, plan, cpu, turn, reference, counts);
@@ -90,8 +83,7 @@ impl Churn {
         entry: Entry,
         counts: &mut Counts,
     )
-        ensures section { Unacquired cpu.old cpu.new }
-        ensures counted { GoesOn counts.old counts.new }
+        ensures { GoesOn counts.old counts.new }
     {
         let Ok(entry) = detach(rt, registry, cpu, entry, counts) else {
             return;
@@ -149,8 +141,7 @@ impl Churn {
         cpu: &mut Cpu<D>,
         counts: &mut Counts,
     )
-        ensures section { Unacquired cpu.old cpu.new }
-        ensures counted { GoesOn counts.old counts.new }
+        ensures { GoesOn counts.old counts.new }
     {
         for slot in 0..SLOTS {
             let number = self.retired[slot as usize];
@@ -170,8 +161,7 @@ pub fn destroy_one<D: Domain, R: Wait>(
     slot: u8,
     counts: &mut Counts,
 )
-    ensures section { Unacquired cpu.old cpu.new }
-    ensures counted { GoesOn counts.old counts.new }
+    ensures { GoesOn counts.old counts.new }
 {
     if destroy(rt, registry, cpu, number, slot, counts).is_ok() {
         count(&mut counts.deeds.freed);
@@ -183,21 +173,13 @@ fn refer_to_driver<D: Domain>(
     registry: &Registry<D>,
     plan: Plan,
     cpu: &mut Cpu<D>,
-    turn: u32,
     counts: &mut Counts,
 ) -> Option<LocalRef<D>>
-    requires turn { turn < 100000 }
-    requires cpu { IsOutside (4 * turn) cpu.old }
-    ensures cpu { IsOutside (4 * turn + 2) cpu.new }
-    ensures kept { KeepsAcquired cpu.old cpu.new }
-    ensures counted { GoesOn counts.old counts.new }
+    ensures { GoesOn counts.old counts.new }
 {
-    let words = registry.words();
-    let Ok(()) = enter(words, cpu) else {
-        unreachable!()
-    };
+    begin(registry, cpu, counts);
     find_driver(registry, plan, cpu, counts);
     let reference = acquire_counted(registry, cpu, counts);
-    exit(words, cpu);
+    end(registry, cpu);
     reference
 }

@@ -1,8 +1,8 @@
 //! A storm: workers on all CPUs look up, refer and release at once, while one of them attaches and detaches an interface.
 
-ghost use Rattle.std.specs.Prelude.{◌≡◌, ◌+◌, ◌*◌, ◌≤◌, IfOk, IfErr, All, length, vec_len};
+ghost use Rattle.std.specs.Prelude.{◌≡◌, ◌+◌, ◌*◌, ◌≤◌, IfOk, IfErr, length, vec_len};
 ghost use Rattle.name_registry.specs.Common.{AreNewCpus, IsBlankOf};
-ghost use Rattle.registry_storm.specs.Storms.{IsOfStorm, IsOutside, IsSumOf, settings_of};
+ghost use Rattle.registry_storm.specs.Storms.{IsOfStorm, IsSumOf, settings_of};
 
 use crate::baskets::Baskets;
 use crate::calls::attach_driver;
@@ -110,8 +110,7 @@ fn storm_on<D: Domain + Send + Sync, R: Threads + Wait + Sync, G: Gate + Sync>(
 fn take_first<D: Domain>(plan: Plan, cpus: &mut Vec<Cpu<D>>) -> Cpu<D>
     requires settings { D.settings ≡ settings_of plan.cpus }
     requires new { AreNewCpus D.settings D.settings.cpus cpus.old.items }
-    ensures first { IsOutside 0 result }
-    ensures others { All (IsOutside 0) cpus.new.items × (vec_len cpus.new + 1 ≡ plan.cpus) }
+    ensures others { vec_len cpus.new + 1 ≡ plan.cpus }
 {
     // Reading it opens what its type keeps: a storm has a CPU 0.
     let _plan = plan;
@@ -128,8 +127,7 @@ fn blow<D: Domain + Send + Sync, R: Threads + Wait + Sync, G: Gate + Sync>(
     first: &mut Cpu<D>,
     others: &mut [Cpu<D>],
 ) -> Result<Done, RunFault>
-    requires first { IsOutside 0 first.old }
-    requires others { All (IsOutside 0) others.old × (length others.old + 1 ≡ plan.cpus) }
+    requires { length others.old + 1 ≡ plan.cpus }
     ensures ok { IfOk result (λ done. done.counts.lookups ≡ 2 * plan.turns * plan.cpus) }
     ensures err { IfErr result IsOfStorm }
 {

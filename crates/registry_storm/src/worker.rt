@@ -1,15 +1,12 @@
 //! A worker: its turns on its own CPU.
 
-ghost use Rattle.std.specs.Prelude.{◌≡◌, ◌≢◌, ◌+◌, ◌*◌, ◌<◌, ◌≤◌, ◌^◌, IfSome, IsSome, None};
-ghost use Rattle.cpu_words.specs.Common.{number_at};
-ghost use Rattle.passive_list.specs.Common.{OnCpu};
-ghost use Rattle.registry_storm.specs.Judging.{driver_record, GoesOn};
-ghost use Rattle.registry_storm.specs.Storms.{HasLookedUp, HasReferred, IsOutside, KeepsAcquired, SameSection, Unacquired};
+ghost use Rattle.std.specs.Prelude.{◌≡◌, ◌≢◌, ◌+◌, ◌*◌, ◌<◌, ◌≤◌, ◌^◌, None};
+ghost use Rattle.registry_storm.specs.Judging.{GoesOn};
 
 use crate::baskets::{Baskets, Laid, give_back};
 use crate::calls::{
-    acquire_counted, acquire_passive, find_driver, find_iface, read_local, read_passive,
-    release_passive,
+    acquire_counted, acquire_passive, begin, end, find_driver, find_iface, read_local,
+    read_passive, release_passive,
 };
 use crate::churn::Churn;
 use crate::gate::Gate;
@@ -18,7 +15,7 @@ use crate::sum::{Counts, count};
 use cpu_words::Domain;
 use local_count::LocalRef;
 use name_registry::Registry;
-use passive_list::{Cpu, enter, exit};
+use passive_list::Cpu;
 use passive_ref::Psref;
 use std::sync::Wait;
 
@@ -58,11 +55,9 @@ struct Held<D: Domain> {
 }
 
 impl<'a, D: Domain, G: Gate> Shared<'a, D, G> {
-    /// All turns of the worker of a CPU. Where it counts no wrong answer, it has acquired a local reference to the driver in each.
+    /// All turns of the worker of a CPU.
     pub fn work<R: Wait>(&self, rt: &R, cpu: &mut Cpu<D>) -> Done
-        requires { IsOutside 0 cpu.old }
-        ensures lookups { result.counts.lookups ≡ 2 * self.now.plan.turns }
-        ensures referred { result.counts.wrong ≡ 0 → number_at cpu.old.view.acquired 1 + self.now.plan.turns ≤ number_at cpu.new.view.acquired 1 }
+        ensures { result.counts.lookups ≡ 2 * self.now.plan.turns }
     {
         let mut done = Done::NONE;
         for turn in 0..self.plan.turns {
@@ -74,11 +69,7 @@ impl<'a, D: Domain, G: Gate> Shared<'a, D, G> {
 
     /// What CPU 0 alone does in a turn.
     fn churn<R: Wait>(&self, rt: &R, cpu: &mut Cpu<D>, turn: u32, done: &mut Done)
-        requires turn { turn < self.now.plan.turns }
-        requires cpu { IsOutside (4 * turn) cpu.old }
-        ensures cpu { IsOutside (4 * turn + 2) cpu.new }
-        ensures kept { KeepsAcquired cpu.old cpu.new }
-        ensures counted { GoesOn done.old.counts done.new.counts }
+        ensures { GoesOn done.old.counts done.new.counts }
     {
         if cpu.id() == 0 {
             let churn = &mut done.churn;
@@ -88,21 +79,16 @@ impl<'a, D: Domain, G: Gate> Shared<'a, D, G> {
 
     /// One turn of the worker of a CPU.
     fn make_turn<R: Wait>(&self, rt: &R, cpu: &mut Cpu<D>, turn: u32, counts: &mut Counts)
-        requires turn { turn < self.now.plan.turns }
-        requires cpu { IsOutside (4 * turn + 2) cpu.old }
         requires counted { counts.old.lookups ≡ 2 * turn }
-        ensures cpu { IsOutside (4 * turn + 4) cpu.new }
         ensures counted { counts.new.lookups ≡ 2 * turn + 2 }
         ensures wrong { counts.old.wrong ≤ counts.new.wrong }
-        ensures referred { counts.new.wrong ≡ 0 → HasReferred 1 cpu.old cpu.new }
     {
-        let words = self.registry.words();
-        let Ok(()) = enter(words, cpu) else {
-            unreachable!()
-        };
-        self.pass_gate(cpu, turn);
+        begin(self.registry, cpu, counts);
+        if cpu.inside() {
+            self.pass_gate(cpu, turn);
+        }
         let held = self.refer(cpu, counts);
-        exit(words, cpu);
+        end(self.registry, cpu);
         self.let_go(rt, cpu, held, counts);
     }
 
@@ -113,15 +99,11 @@ impl<'a, D: Domain, G: Gate> Shared<'a, D, G> {
         self.gate.pass(cpu.id(), turn);
     }
 
-    /// The lookups of a turn, and the references that are acquired after them. Condition: inside.
+    /// The lookups of a turn, and the references that are acquired after them.
     fn refer(&self, cpu: &mut Cpu<D>, counts: &mut Counts) -> Held<D>
-        requires inside { cpu.old.view.begin ≢ None }
         requires few { counts.old.lookups < 2 ^ 62 }
-        ensures section { SameSection cpu.old cpu.new }
         ensures counted { counts.new.lookups ≡ counts.old.lookups + 2 }
         ensures wrong { counts.old.wrong ≤ counts.new.wrong }
-        ensures looked { (looked : OnCpu) × HasLookedUp self.now.plan.turns self.now.plan.iface self.now.plan.driver cpu.old looked counts.new.wrong }
-        ensures referred { counts.new.wrong ≡ 0 → IsSome result.passive × IsSome result.local × HasReferred 1 cpu.old cpu.new }
     {
         self.look_up(cpu, counts);
         let passive = acquire_passive(self.registry, cpu, counts);
@@ -129,14 +111,11 @@ impl<'a, D: Domain, G: Gate> Shared<'a, D, G> {
         Held { passive, local }
     }
 
-    /// Looks the interface up, and then the driver. Condition: inside.
+    /// Looks the interface up, and then the driver.
     fn look_up(&self, cpu: &mut Cpu<D>, counts: &mut Counts)
-        requires inside { cpu.old.view.begin ≢ None }
         requires few { counts.old.lookups < 2 ^ 62 }
-        ensures section { Unacquired cpu.old cpu.new }
         ensures counted { counts.new.lookups ≡ counts.old.lookups + 2 }
         ensures wrong { counts.old.wrong ≤ counts.new.wrong }
-        ensures looked { HasLookedUp self.now.plan.turns self.now.plan.iface self.now.plan.driver cpu.old cpu.new counts.new.wrong }
     {
         let iface = find_iface(self.registry, self.plan, cpu, counts);
         counts.add_lookup();
@@ -150,8 +129,7 @@ impl<'a, D: Domain, G: Gate> Shared<'a, D, G> {
     /// Reads both records, releases the passive reference, and exchanges the local one with what lies in the next CPU's basket, which is
     /// released here.
     fn let_go<R: Wait>(&self, rt: &R, cpu: &mut Cpu<D>, held: Held<D>, counts: &mut Counts)
-        ensures section { Unacquired cpu.old cpu.new }
-        ensures counted { GoesOn counts.old counts.new }
+        ensures { GoesOn counts.old counts.new }
     {
         let Held { passive, mut local } = held;
         self.read_both(cpu, &passive, &mut local, counts);
@@ -171,9 +149,7 @@ impl<'a, D: Domain, G: Gate> Shared<'a, D, G> {
         local: &mut Option<LocalRef<D>>,
         counts: &mut Counts,
     )
-        ensures section { Unacquired cpu.old cpu.new }
-        ensures counted { GoesOn counts.old counts.new }
-        ensures right { counts.new.wrong ≡ 0 → IfSome passive.now (λ p. p.number ≡ 1) × IfSome local.old (λ r. (r.entry.number ≡ 1) × (r.entry.rec ≡ driver_record self.now.plan.driver)) }
+        ensures { GoesOn counts.old counts.new }
     {
         if let Some(psref) = passive {
             read_passive(self.registry, self.plan, cpu, psref, counts).ok();
@@ -194,8 +170,7 @@ impl<'a, D: Domain, G: Gate> Shared<'a, D, G> {
         reference: LocalRef<D>,
         counts: &mut Counts,
     )
-        ensures section { Unacquired cpu.old cpu.new }
-        ensures counted { GoesOn counts.old counts.new }
+        ensures { GoesOn counts.old counts.new }
     {
         let own = cpu.plain.id;
         let next = next_basket(own, self.plan.cpus);
@@ -214,8 +189,7 @@ impl<'a, D: Domain, G: Gate> Shared<'a, D, G> {
         taken: Option<Laid<D>>,
         counts: &mut Counts,
     )
-        ensures section { Unacquired cpu.old cpu.new }
-        ensures counted { GoesOn counts.old counts.new }
+        ensures { GoesOn counts.old counts.new }
     {
         if let Some(Laid { by, reference }) = taken {
             if by != cpu.id() {
@@ -230,7 +204,6 @@ impl<'a, D: Domain, G: Gate> Shared<'a, D, G> {
 fn next_basket(cpu: u8, cpus: u8) -> u8
     requires { 1 ≤ cpus }
     ensures next { cpu + 1 < cpus → result ≡ cpu + 1 }
-    ensures first { cpus ≤ cpu + 1 → result ≡ 0 }
 {
     if cpu < cpus - 1 { cpu + 1 } else { 0 }
 }

@@ -2,7 +2,7 @@
 
 ghost use Rattle.std.specs.Prelude.{◌≡◌, ◌+◌, ◌*◌, ◌<◌, ◌≤◌, IfOk, IfErr, length, vec_len, All};
 ghost use denote.Param.Send.{IsSync};
-ghost use Rattle.registry_storm.specs.Storms.{IsOfStorm, IsOutside};
+ghost use Rattle.registry_storm.specs.Storms.{IsOfStorm};
 
 use crate::gate::Gate;
 use crate::sum::Counts;
@@ -33,8 +33,7 @@ pub fn work_all<D: Domain + Send + Sync, R: Threads + Wait + Sync, G: Gate + Syn
     first: &mut Cpu<D>,
     others: &mut [Cpu<D>],
 ) -> Result<Done, RunFault>
-    requires first { IsOutside 0 first.old }
-    requires others { All (IsOutside 0) others.old × (length others.old + 1 ≡ shared.now.plan.cpus) }
+    requires others { length others.old + 1 ≡ shared.now.plan.cpus }
     ensures ok { IfOk result (λ done. done.counts.lookups ≡ 2 * shared.now.plan.turns * shared.now.plan.cpus) }
     ensures err { IfErr result IsOfStorm }
 {
@@ -42,15 +41,14 @@ pub fn work_all<D: Domain + Send + Sync, R: Threads + Wait + Sync, G: Gate + Syn
         thread::scope_env(),
         rt,
         move |scope| -> Result<Done, RunFault>
-            requires first { IsOutside 0 first.now }
-            requires others { All (IsOutside 0) others.now × (length others.now + 1 ≡ shared.now.plan.cpus) }
+            requires others { length others.now + 1 ≡ shared.now.plan.cpus }
             ensures ok { IfOk result (λ done. done.counts.lookups ≡ 2 * shared.entry.now.plan.turns * shared.entry.now.plan.cpus) }
             ensures err { IfErr result IsOfStorm }
         {
             let turns = Turns(shared.plan.turns);
             let mut started = Vec::with_capacity(alloc, others.len())?;
             let leading = move || -> Done
-                requires { IsSync R.row × IsSync G.row × IsOutside 0 first.now }
+                requires { IsSync R.row × IsSync G.row }
                 ensures { result.counts.lookups ≡ 2 * shared.entry.now.plan.turns }
             { shared.work(rt, first) };
             let Ok(leading) = scope.spawn_with(turns, leading) else {
@@ -58,7 +56,7 @@ pub fn work_all<D: Domain + Send + Sync, R: Threads + Wait + Sync, G: Gate + Syn
             };
             for cpu in others.iter_mut() {
                 let worker = move || -> Done
-                    requires { IsSync R.row × IsSync G.row × IsOutside 0 cpu.now }
+                    requires { IsSync R.row × IsSync G.row }
                     ensures { result.counts.lookups ≡ 2 * shared.entry.now.plan.turns }
                 { shared.work(rt, cpu) };
                 match scope.spawn_with(turns, worker) {

@@ -1,6 +1,6 @@
 //! What the calls of rows answer.
 
-use registry_values::{Balance, Entry, Record, Refusal, Slot, Stage};
+use registry_values::{Balance, Entry, Record, Refusal, Stage};
 use std::process::Abort;
 
 /// What a call answers.
@@ -8,15 +8,13 @@ use std::process::Abort;
 pub(crate) enum Answer {
     Done,
     Refused(Refusal),
-    /// Nothing was found, or nothing stands there.
+    /// Nothing was found.
     Nothing,
     /// The entry with this number, in this slot.
     At(u64, u8),
-    /// The retired entry with this number, in this slot.
-    RetiredAt(u64, u8),
     /// How the destruction of an entry has come on.
     Come(Stage),
-    /// A word, a number, or a depth.
+    /// The number of a slot.
     Number(u64),
     /// Whether it is so.
     Is(bool),
@@ -24,8 +22,6 @@ pub(crate) enum Answer {
     Names(u8, u64),
     /// What a look at CPU 0 answers, and one at CPU 1.
     Looks(bool, bool),
-    /// What an audit says of its one entry.
-    Audited(Line),
 }
 
 /// What an audit says of an entry.
@@ -50,15 +46,6 @@ pub(crate) fn line_of<R: Abort>(rt: &R, balance: &Balance) -> Line {
         held: balance.held,
         locals: [*first, *second, *third],
         total: balance.total,
-    }
-}
-
-/// What an audit answers that has one entry at most.
-pub(crate) fn audited<R: Abort>(rt: &R, list: &[Balance]) -> Answer {
-    match list {
-        [] => Answer::Nothing,
-        [balance] => Answer::Audited(line_of(rt, balance)),
-        _ => panic!(rt; "more than one entry"),
     }
 }
 
@@ -90,16 +77,4 @@ pub(crate) fn entry<R: Abort>(rt: &R, answer: Result<Entry, Refusal>, rec: Recor
 pub(crate) fn at<R: Abort>(rt: &R, entry: Entry, rec: Record) -> Answer {
     assert_eq!(rt; entry.rec, rec);
     Answer::At(entry.number, entry.slot)
-}
-
-/// What stands in a slot: nothing, or an entry whose record must be this one.
-pub(crate) fn standing<R: Abort>(rt: &R, slot: Slot, rec: Record) -> Answer {
-    match slot {
-        Slot::Vacant => Answer::Nothing,
-        Slot::Live(entry) => at(rt, entry, rec),
-        Slot::Retired(entry) => {
-            assert_eq!(rt; entry.rec, rec);
-            Answer::RetiredAt(entry.number, entry.slot)
-        }
-    }
 }

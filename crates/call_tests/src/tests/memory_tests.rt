@@ -8,11 +8,11 @@ ghost use Rattle.name_registry.specs.Common.{IsBlankOf};
 use super::answers::Answer::{self, At, Done};
 use super::answers::{Line, line_of};
 use super::bench::Call::{Attach, Uncount};
-use super::bench::Step::{self, First, FirstReads, Second, SecondReads};
+use super::bench::Step::{self, By, Reads};
 use super::bench::{Bench, blank};
 use super::readers::Held;
 use super::readers::Reader::{Count, Enter, Exit, Find};
-use super::records::{DRIVER_WM0, VGA, WM};
+use super::records::{VGA, WM};
 use cpu_words::Domain;
 use name_registry::Blank;
 use registry_values::{Balance, Refusal};
@@ -22,33 +22,25 @@ use std::process::Abort;
 use std::sync::Wait;
 use std::test::*;
 
-/// CPU 0 attaches a driver, and CPU 1 finds it in a section.
-const FOUND: &[(Step, Answer)] = &[
-    (First(Attach(DRIVER_WM0)), At(1, 0)),
-    (SecondReads(Enter), Done),
-    (SecondReads(Find(DRIVER_WM0)), At(1, 0)),
-    (SecondReads(Exit), Done),
-];
-
 /// CPU 0 attaches two drivers, and acquires a local reference to the second.
 const COUNTED: &[(Step, Answer)] = &[
-    (First(Attach(WM)), At(1, 0)),
-    (First(Attach(VGA)), At(2, 1)),
-    (FirstReads(Enter), Done),
-    (FirstReads(Find(VGA)), At(2, 1)),
-    (FirstReads(Count), Done),
-    (FirstReads(Exit), Done),
+    (By(0, Attach(WM)), At(1, 0)),
+    (By(0, Attach(VGA)), At(2, 1)),
+    (Reads(0, Enter), Done),
+    (Reads(0, Find(VGA)), At(2, 1)),
+    (Reads(0, Count), Done),
+    (Reads(0, Exit), Done),
 ];
 
 /// The registry answers as before: CPU 1 finds the second driver.
 const AS_BEFORE: &[(Step, Answer)] = &[
-    (SecondReads(Enter), Done),
-    (SecondReads(Find(VGA)), At(2, 1)),
-    (SecondReads(Exit), Done),
+    (Reads(1, Enter), Done),
+    (Reads(1, Find(VGA)), At(2, 1)),
+    (Reads(1, Exit), Done),
 ];
 
 /// CPU 1 releases the local reference.
-const RELEASED: &[(Step, Answer)] = &[(Second(Uncount), Done)];
+const RELEASED: &[(Step, Answer)] = &[(By(1, Uncount), Done)];
 
 fn note(rt: &impl Eprint, what: &str) -> Result<(), Fail> {
     eprintln!(rt; "refused memory: {what}")?;
@@ -75,7 +67,7 @@ fn opened<D: Domain, R: Abort + Eprint>(
     requires { IsBlankOf blank D.table D.settings D.name D.parts }
 {
     let (refusal, back) = match blank.open::<D>(alloc) {
-        Ok((registry, cpus)) => return Bench::of(registry, cpus),
+        Ok((registry, cpus)) => return Ok(Bench { registry, cpus }),
         Err(refused) => refused,
     };
     assert_eq!(rt; refusal, Refusal::NoMemory);
@@ -84,26 +76,7 @@ fn opened<D: Domain, R: Abort + Eprint>(
 }
 
 #[test]
-fn open(rt: HostRuntime) -> Result<(), Fail> {
-    found_once_open::<Brand, _>(&rt, rt.alloc(), made(&rt, rt.alloc())?)
-}
-
-fn found_once_open<D: Domain, R: Wait + Abort + Eprint>(
-    rt: &R,
-    alloc: Global,
-    blank: Blank,
-) -> Result<(), Fail>
-    requires { IsBlankOf blank D.table D.settings D.name D.parts }
-{
-    let mut bench = opened::<D, _>(rt, alloc, blank)?;
-    let mut refs = Held::nothing();
-    bench.follow(rt, alloc, &mut refs, "open", FOUND);
-    refs.end(rt);
-    Ok(())
-}
-
-#[test]
-fn audit(rt: HostRuntime) -> Result<(), Fail> {
+fn open_and_audit(rt: HostRuntime) -> Result<(), Fail> {
     audited_again::<Brand, _>(&rt, rt.alloc(), made(&rt, rt.alloc())?)
 }
 
@@ -117,9 +90,9 @@ fn audited_again<D: Domain, R: Wait + Abort + Eprint>(
 {
     let mut bench = opened::<D, _>(rt, alloc, blank)?;
     let mut refs = Held::nothing();
-    bench.follow(rt, alloc, &mut refs, "audit", COUNTED);
+    bench.follow(rt, &mut refs, "audit", COUNTED);
     let list = audited(rt, alloc, &mut bench, &mut refs);
-    bench.follow(rt, alloc, &mut refs, "audit, released", RELEASED);
+    bench.follow(rt, &mut refs, "audit, released", RELEASED);
     refs.end(rt);
     let list = list?;
     let [first, second] = list.as_slice() else {
@@ -158,7 +131,7 @@ fn audited<D: Domain, R: Wait + Abort + Eprint>(
     match bench.registry.audit(rt, alloc, &mut bench.cpus) {
         Err(Refusal::NoMemory) => {
             note(rt, "Registry::audit")?;
-            bench.follow(rt, alloc, refs, "audit, refused memory", AS_BEFORE);
+            bench.follow(rt, refs, "audit, refused memory", AS_BEFORE);
             Ok(bench.registry.audit(rt, alloc, &mut bench.cpus)?)
         }
         answer => Ok(answer?),

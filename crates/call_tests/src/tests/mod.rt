@@ -1,14 +1,13 @@
-//! Tests of what no contract says: worked rows on the bare words and on a registry, calls on threads, and want of memory.
+//! Tests of what no contract says: worked rows on the bare words and on a registry, calls on threads, and want of memory. Rows that a script can say are
+//! rows of `script_tests`.
 
 mod answers;
 mod bench;
-mod full_registry;
 mod keepers;
 mod memory_tests;
 mod readers;
 mod records;
 mod registry_rows;
-mod sections;
 mod table;
 mod threads;
 mod turns;

@@ -3,26 +3,22 @@
 ghost use Rattle.cpu_words.specs.Common.{AreWordsOf};
 
 use super::answers::{Answer, at, done};
-use super::records::{Wanted, record};
+use super::records::{WM, Wanted, record};
 use cpu_words::{Domain, Words};
 use local_count::{LocalRef, acquire_local};
-use passive_list::{Cpu, enter, exit, find, hear, tell};
+use passive_list::{Cpu, enter, exit, find, walk};
 use passive_ref::{Psref, acquire, copy, held, read, release};
-use registry_values::{Record, Refusal};
+use registry_values::{Entry, Record, Refusal};
 use std::process::Abort;
 
 /// A call on the words by a CPU.
 #[derive(Clone, Copy)]
 pub(crate) enum Reader {
-    /// The CPU's number.
-    Id,
-    /// How many enters are open.
-    Depth,
     Enter,
     Exit,
     Find(Wanted),
-    /// It hears a note of its own.
-    HearItself,
+    /// It walks over all entries, and meets these numbers with their records. The last found entry is then none.
+    Walk(&'static [(u64, Wanted)]),
     /// It acquires a local reference to what it found last.
     Count,
     /// It acquires a passive reference to what it found last.
@@ -124,12 +120,10 @@ pub(crate) fn by_reader<D: Domain, R: Abort>(
     requires words { AreWordsOf words.now D.table D.settings }
 {
     match call {
-        Reader::Id => Answer::Number(u64::from(cpu.id())),
-        Reader::Depth => depth(rt, cpu),
         Reader::Enter => done(enter(words, cpu)),
         Reader::Exit => exited(rt, words, cpu),
         Reader::Find(wanted) => found(rt, words, cpu, record(rt, wanted)),
-        Reader::HearItself => heard(words, cpu),
+        Reader::Walk(met) => meets(rt, words, cpu, met),
         Reader::Count => kept(rt, &mut refs.local, acquire_local(words, cpu)),
         Reader::Acquire => kept(rt, &mut refs.passive, acquire(words, cpu)),
         Reader::Copy => {
@@ -145,13 +139,6 @@ pub(crate) fn by_reader<D: Domain, R: Abort>(
         Reader::Release => released(rt, words, cpu, refs),
         Reader::Forget => forgotten(rt, refs),
     }
-}
-
-/// The CPU's depth, which is 0 exactly outside.
-fn depth<D: Domain, R: Abort>(rt: &R, cpu: &Cpu<D>) -> Answer {
-    let depth = cpu.depth();
-    assert_eq!(rt; cpu.inside(), depth > 0);
-    Answer::Number(u64::from(depth))
 }
 
 /// The CPU exits its section, or one nesting of it.
@@ -174,12 +161,45 @@ fn found<D: Domain, R: Abort>(rt: &R, words: &Words, cpu: &mut Cpu<D>, rec: Reco
     }
 }
 
-/// The CPU hears a note of its own.
-fn heard<D: Domain>(words: &Words, cpu: &mut Cpu<D>) -> Answer
+/// The CPU walks in its open section. The numbers fall, and past them the row is as it was.
+pub(crate) fn walked<D: Domain, R: Abort>(
+    rt: &R,
+    words: &Words,
+    cpu: &mut Cpu<D>,
+) -> (usize, [Entry; 32])
     requires words { AreWordsOf words.now D.table D.settings }
 {
-    let note = tell(words, cpu);
-    hear(words, cpu, note);
+    assert!(rt; cpu.inside());
+    let stale = Entry {
+        number: 77,
+        slot: 0,
+        rec: record(rt, WM),
+    };
+    let mut row = [stale; 32];
+    let count = walk(words, cpu, &mut row);
+    for place in 1..count {
+        assert!(rt; row[place].number < row[place - 1].number);
+    }
+    for entry in &row[count..] {
+        assert_eq!(rt; *entry, stale);
+    }
+    (count, row)
+}
+
+/// The CPU walks, and meets these numbers, each with its record.
+fn meets<D: Domain, R: Abort>(
+    rt: &R,
+    words: &Words,
+    cpu: &mut Cpu<D>,
+    met: &[(u64, Wanted)],
+) -> Answer
+    requires words { AreWordsOf words.now D.table D.settings }
+{
+    let (count, row) = walked(rt, words, cpu);
+    assert_eq!(rt; count, met.len());
+    for (entry, (number, wanted)) in row.iter().zip(met) {
+        assert_eq!(rt; (entry.number, entry.rec), (*number, record(rt, *wanted)));
+    }
     Answer::Done
 }
 

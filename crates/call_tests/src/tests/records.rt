@@ -33,43 +33,11 @@ pub(crate) const DRIVER_WM0: Wanted = Wanted {
     value: 1500,
 };
 
-/// Another driver with that name.
-pub(crate) const OTHER_WM0: Wanted = Wanted {
-    kind: Kind::Driver,
-    name: "wm0",
-    value: 1,
-};
-
 /// A driver that nobody attaches.
 pub(crate) const DRIVER_WM1: Wanted = Wanted {
     kind: Kind::Driver,
     name: "wm1",
     value: 1,
-};
-
-pub(crate) const WM0: Wanted = Wanted {
-    kind: Kind::Iface,
-    name: "wm0",
-    value: 1500,
-};
-
-pub(crate) const WM1: Wanted = Wanted {
-    kind: Kind::Iface,
-    name: "wm1",
-    value: 1,
-};
-
-/// Two names that differ in their second word alone.
-pub(crate) const FIRST_HALF: Wanted = Wanted {
-    kind: Kind::Driver,
-    name: "abcdefgh1",
-    value: 1,
-};
-
-pub(crate) const SECOND_HALF: Wanted = Wanted {
-    kind: Kind::Driver,
-    name: "abcdefgh2",
-    value: 2,
 };
 
 /// The record, with its name parsed.

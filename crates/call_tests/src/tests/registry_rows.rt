@@ -1,19 +1,17 @@
-//! Rows of calls on a registry, each on one of its own: sections, slots and turns, and local references.
+//! Calls on a registry that no script can make: an audit without all CPUs, what a walk meets, a reference of another registry, and a long history.
 
 ghost use Rattle.name_registry.specs.Common.{IsBlankOf};
 
-use super::answers::Answer::{self, At, Audited, Come, Done, Is, Names, Nothing, Number, Refused};
-use super::answers::Line;
-use super::bench::Call::{Attach, Destroy, Detach, Perform, Plug, Uncount};
-use super::bench::Step::{
-    self, Advance, Audit, AuditOfFirst, First, FirstReads, Second, SecondReads, Third, ThirdReads,
-};
+use super::answers::Answer::{self, At, Come, Done, Is, Names, Refused};
+use super::answers::come;
+use super::bench::Call::{Attach, Detach};
+use super::bench::Step::{self, By, Reads};
 use super::bench::{Bench, blank};
 use super::readers::Held;
 use super::readers::Reader::{
-    Acquire, Copy, Count, Enter, Exit, Find, Holds, Read, Reference, Release,
+    Acquire, Copy, Enter, Exit, Find, Holds, Read, Reference, Release, Walk,
 };
-use super::records::{DRIVER_WM0, DRIVER_WM1, OTHER_WM0, VGA, WM, WM0, WM1};
+use super::records::{DRIVER_WM1, VGA, WM};
 use cpu_words::Domain;
 use name_registry::Blank;
 use registry_values::{Refusal, Stage};
@@ -23,491 +21,78 @@ use std::process::Abort;
 use std::sync::Wait;
 use std::test::*;
 
-/// Calls on a registry of its own.
-struct Row {
-    name: &'static str,
-    slots: u8,
-    change_limit: u64,
-    /// The calls, each with its answer.
-    steps: &'static [(Step, Answer)],
-}
-
-const SECTIONS: [Row; 6] = [
-    Row {
-        name: "found",
-        slots: 2,
-        change_limit: 1000,
-        steps: &[
-            (First(Attach(DRIVER_WM0)), At(1, 0)),
-            (FirstReads(Enter), Done),
-            (FirstReads(Find(DRIVER_WM0)), At(1, 0)),
-        ],
-    },
-    Row {
-        name: "slot_pressure",
-        slots: 1,
-        change_limit: 1000,
-        steps: &[
-            (First(Attach(WM)), At(1, 0)),
-            (SecondReads(Enter), Done),
-            (First(Detach(WM)), At(1, 0)),
-            (First(Attach(VGA)), Refused(Refusal::NoSlot)),
-            (Advance(1), Come(Stage::Grace(1))),
-            (SecondReads(Exit), Done),
-            (Advance(1), Come(Stage::Freed(0))),
-            (First(Attach(VGA)), At(3, 0)),
-        ],
-    },
-    Row {
-        name: "room_for_detach",
-        slots: 2,
-        change_limit: 3,
-        steps: &[
-            (First(Attach(WM)), At(1, 0)),
-            (First(Attach(VGA)), Refused(Refusal::HistoryFull)),
-            (First(Detach(WM)), At(1, 0)),
-            (First(Attach(WM)), Refused(Refusal::HistoryFull)),
-        ],
-    },
-    Row {
-        name: "perform_and_destroy",
-        slots: 2,
-        change_limit: 1000,
-        steps: &[
-            (First(Attach(WM)), At(1, 0)),
-            (SecondReads(Enter), Done),
-            (First(Perform(3)), Refused(Refusal::Waiting(1))),
-            (First(Detach(WM)), At(1, 0)),
-            (
-                First(Destroy(1, 2)),
-                Refused(Refusal::StillHeld(Stage::Grace(1))),
-            ),
-            (SecondReads(Exit), Done),
-            (First(Perform(1)), Done),
-            (First(Destroy(1, 1)), Number(0)),
-            (Advance(1), Refused(Refusal::NotRetired)),
-            (Audit, Nothing),
-        ],
-    },
-    Row {
-        name: "refused_inside",
-        slots: 2,
-        change_limit: 1000,
-        steps: &[
-            (First(Attach(WM)), At(1, 0)),
-            (FirstReads(Enter), Done),
-            (First(Attach(WM)), Refused(Refusal::Inside)),
-            (First(Detach(WM)), Refused(Refusal::Inside)),
-            (First(Perform(1)), Refused(Refusal::Inside)),
-            (First(Destroy(1, 1)), Refused(Refusal::Inside)),
-            (FirstReads(Exit), Done),
-            (First(Attach(WM)), Refused(Refusal::NameTaken)),
-            (First(Detach(WM)), At(1, 0)),
-            (First(Detach(WM)), Refused(Refusal::NotFound)),
-        ],
-    },
-    Row {
-        name: "nested_section",
-        slots: 2,
-        change_limit: 1000,
-        steps: &[
-            (First(Attach(WM)), At(1, 0)),
-            (FirstReads(Enter), Done),
-            (FirstReads(Enter), Done),
-            (FirstReads(Find(WM)), At(1, 0)),
-            (FirstReads(Exit), Done),
-            (Second(Detach(WM)), At(1, 0)),
-            (Advance(1), Come(Stage::Grace(0))),
-            (FirstReads(Acquire), Done),
-            (FirstReads(Exit), Done),
-            (Advance(1), Come(Stage::Passive(0))),
-            (FirstReads(Release), Done),
-            (Advance(1), Come(Stage::Freed(0))),
-        ],
-    },
+/// CPU 0 walks several times in one section, while CPU 1 changes the list: the walk is over what stands there now. What comes back under its name
+/// is another entry, and after a walk no entry is the last that was found.
+const WALKS: &[(Step, Answer)] = &[
+    (Reads(0, Enter), Done),
+    (Reads(0, Walk(&[])), Done),
+    (By(1, Attach(WM)), At(1, 0)),
+    (Reads(0, Walk(&[(1, WM)])), Done),
+    (Reads(0, Acquire), Refused(Refusal::NothingFound)),
+    (By(1, Attach(VGA)), At(2, 1)),
+    (By(1, Attach(DRIVER_WM1)), At(3, 2)),
+    (Reads(0, Walk(&[(3, DRIVER_WM1), (2, VGA), (1, WM)])), Done),
+    (By(1, Detach(VGA)), At(2, 1)),
+    (Reads(0, Walk(&[(3, DRIVER_WM1), (1, WM)])), Done),
+    (By(1, Attach(VGA)), At(5, 3)),
+    (Reads(0, Walk(&[(5, VGA), (3, DRIVER_WM1), (1, WM)])), Done),
+    (Reads(0, Exit), Done),
+    (By(1, Detach(WM)), At(1, 0)),
+    (By(1, Detach(DRIVER_WM1)), At(3, 2)),
+    (By(1, Detach(VGA)), At(5, 3)),
+    (Reads(0, Enter), Done),
+    (Reads(0, Walk(&[])), Done),
+    (Reads(0, Exit), Done),
 ];
 
-const REFERENCES: [Row; 5] = [
-    Row {
-        name: "travelling_count",
-        slots: 2,
-        change_limit: 1000,
-        steps: &[
-            (First(Attach(WM)), At(1, 0)),
-            (FirstReads(Enter), Done),
-            (FirstReads(Find(WM)), At(1, 0)),
-            (FirstReads(Count), Done),
-            (FirstReads(Exit), Done),
-            (
-                Audit,
-                Audited(Line {
-                    number: 1,
-                    slot: 0,
-                    held: 1,
-                    locals: [1, 0, 0],
-                    total: 0,
-                }),
-            ),
-            (Second(Uncount), Done),
-            (
-                Audit,
-                Audited(Line {
-                    number: 1,
-                    slot: 0,
-                    held: 0,
-                    locals: [1, -1, 0],
-                    total: 0,
-                }),
-            ),
-        ],
-    },
-    Row {
-        name: "missing_cpu",
-        slots: 2,
-        change_limit: 1000,
-        steps: &[
-            (AuditOfFirst, Refused(Refusal::MissingCpu)),
-            (Audit, Nothing),
-        ],
-    },
-    Row {
-        name: "collected_release",
-        slots: 2,
-        change_limit: 1000,
-        steps: &[
-            (First(Attach(WM)), At(1, 0)),
-            (FirstReads(Enter), Done),
-            (FirstReads(Find(WM)), At(1, 0)),
-            (FirstReads(Count), Done),
-            (FirstReads(Exit), Done),
-            (First(Detach(WM)), At(1, 0)),
-            (Advance(1), Come(Stage::Local(1))),
-            (
-                Audit,
-                Audited(Line {
-                    number: 1,
-                    slot: 0,
-                    held: 1,
-                    locals: [0, 0, 0],
-                    total: 1,
-                }),
-            ),
-            (Second(Uncount), Done),
-            (Advance(1), Come(Stage::Freed(0))),
-        ],
-    },
-    Row {
-        name: "kept_driver",
-        slots: 2,
-        change_limit: 1000,
-        steps: &[
-            (First(Attach(WM)), At(1, 0)),
-            (FirstReads(Enter), Done),
-            (FirstReads(Find(WM)), At(1, 0)),
-            (FirstReads(Count), Done),
-            (FirstReads(Exit), Done),
-            (First(Plug(WM0)), At(2, 1)),
-            (First(Detach(WM)), At(1, 0)),
-            (Advance(1), Come(Stage::Local(1))),
-            (First(Detach(WM0)), At(2, 1)),
-            (Advance(2), Come(Stage::Freed(1))),
-            (Advance(1), Come(Stage::Freed(0))),
-        ],
-    },
-    Row {
-        name: "plugged",
-        slots: 3,
-        change_limit: 1000,
-        steps: &[
-            (First(Attach(WM0)), Refused(Refusal::NeedsDriver)),
-            (First(Attach(WM)), At(1, 0)),
-            (FirstReads(Enter), Done),
-            (FirstReads(Find(WM)), At(1, 0)),
-            (FirstReads(Count), Done),
-            (FirstReads(Exit), Done),
-            (First(Plug(WM0)), At(2, 1)),
-            (FirstReads(Enter), Done),
-            (FirstReads(Find(WM)), At(1, 0)),
-            (FirstReads(Count), Done),
-            (FirstReads(Exit), Done),
-            (First(Plug(WM0)), Refused(Refusal::NameTaken)),
-            (FirstReads(Enter), Done),
-            (FirstReads(Find(WM0)), At(2, 1)),
-            (FirstReads(Count), Done),
-            (First(Plug(WM1)), Refused(Refusal::Inside)),
-            (FirstReads(Exit), Done),
-            (FirstReads(Enter), Done),
-            (FirstReads(Find(WM0)), At(2, 1)),
-            (FirstReads(Count), Done),
-            (FirstReads(Exit), Done),
-            (First(Plug(WM1)), Refused(Refusal::NeedsDriver)),
-            (First(Attach(OTHER_WM0)), At(3, 2)),
-            (Advance(9), Refused(Refusal::NotRetired)),
-        ],
-    },
-];
-
-/// What a call behind the lock did to the registry, which its contract can't name: just what it answers, and nothing where it is refused.
-const LOCKED: [Row; 4] = [
-    Row {
-        name: "one_change_a_call",
-        slots: 4,
-        change_limit: 1000,
-        steps: &[
-            (First(Attach(WM)), At(1, 0)),
-            (First(Attach(VGA)), At(2, 1)),
-            (First(Detach(WM)), At(1, 0)),
-            (FirstReads(Enter), Done),
-            (FirstReads(Find(WM)), Nothing),
-            (FirstReads(Find(VGA)), At(2, 1)),
-            (FirstReads(Count), Done),
-            (FirstReads(Exit), Done),
-            (First(Attach(WM)), At(4, 2)),
-            (FirstReads(Enter), Done),
-            (FirstReads(Find(WM)), At(4, 2)),
-            (FirstReads(Exit), Done),
-            (First(Plug(WM0)), At(5, 3)),
-            (FirstReads(Enter), Done),
-            (FirstReads(Find(WM0)), At(5, 3)),
-            (FirstReads(Exit), Done),
-            (Second(Detach(VGA)), At(2, 1)),
-            (Advance(1), Come(Stage::Freed(0))),
-            (First(Attach(VGA)), At(7, 0)),
-        ],
-    },
-    Row {
-        name: "refusals_change_nothing",
-        slots: 3,
-        change_limit: 1000,
-        steps: &[
-            (First(Attach(WM)), At(1, 0)),
-            (First(Attach(VGA)), At(2, 1)),
-            (First(Attach(WM)), Refused(Refusal::NameTaken)),
-            (First(Detach(DRIVER_WM1)), Refused(Refusal::NotFound)),
-            (FirstReads(Enter), Done),
-            (FirstReads(Find(WM)), At(1, 0)),
-            (FirstReads(Find(VGA)), At(2, 1)),
-            (FirstReads(Count), Done),
-            (FirstReads(Exit), Done),
-            (First(Plug(WM0)), At(3, 2)),
-            (FirstReads(Enter), Done),
-            (FirstReads(Find(VGA)), At(2, 1)),
-            (FirstReads(Count), Done),
-            (FirstReads(Exit), Done),
-            (First(Plug(WM1)), Refused(Refusal::NoSlot)),
-            (FirstReads(Enter), Done),
-            (FirstReads(Find(WM)), At(1, 0)),
-            (FirstReads(Find(VGA)), At(2, 1)),
-            (FirstReads(Find(WM0)), At(3, 2)),
-            (FirstReads(Exit), Done),
-            (Advance(1), Refused(Refusal::NotRetired)),
-            (First(Destroy(2, 1)), Refused(Refusal::NotRetired)),
-            (First(Detach(WM)), At(1, 0)),
-            (First(Detach(WM)), Refused(Refusal::NotFound)),
-            (Advance(1), Come(Stage::Freed(0))),
-            (First(Attach(WM)), At(5, 0)),
-        ],
-    },
-    Row {
-        name: "each_number_by_itself",
-        slots: 3,
-        change_limit: 1000,
-        steps: &[
-            (First(Attach(WM)), At(1, 0)),
-            (First(Attach(VGA)), At(2, 1)),
-            (SecondReads(Enter), Done),
-            (SecondReads(Find(WM)), At(1, 0)),
-            (SecondReads(Acquire), Done),
-            (SecondReads(Exit), Done),
-            (First(Detach(WM)), At(1, 0)),
-            (First(Detach(VGA)), At(2, 1)),
-            (Advance(9), Refused(Refusal::NotRetired)),
-            (Advance(2), Come(Stage::Freed(1))),
-            (Advance(1), Come(Stage::Passive(1))),
-            (Advance(2), Refused(Refusal::NotRetired)),
-            (First(Attach(VGA)), At(5, 1)),
-            (First(Detach(VGA)), At(5, 1)),
-            (First(Destroy(5, 1)), Number(1)),
-            (
-                First(Destroy(1, 2)),
-                Refused(Refusal::StillHeld(Stage::Passive(1))),
-            ),
-            (First(Destroy(5, 1)), Refused(Refusal::NotRetired)),
-            (SecondReads(Release), Done),
-            (First(Destroy(1, 1)), Number(0)),
-            (First(Destroy(1, 1)), Refused(Refusal::NotRetired)),
-            (First(Attach(VGA)), At(7, 0)),
-        ],
-    },
-    Row {
-        name: "the_driver_of_the_reference",
-        slots: 4,
-        change_limit: 1000,
-        steps: &[
-            (First(Attach(WM)), At(1, 0)),
-            (First(Attach(VGA)), At(2, 1)),
-            (FirstReads(Enter), Done),
-            (FirstReads(Find(VGA)), At(2, 1)),
-            (FirstReads(Count), Done),
-            (FirstReads(Exit), Done),
-            (First(Plug(WM0)), At(3, 2)),
-            (First(Detach(WM)), At(1, 0)),
-            (First(Detach(VGA)), At(2, 1)),
-            (Advance(1), Come(Stage::Freed(0))),
-            (Advance(2), Come(Stage::Local(1))),
-            (First(Detach(WM0)), At(3, 2)),
-            (Advance(3), Come(Stage::Freed(2))),
-            (Advance(2), Come(Stage::Freed(1))),
-        ],
-    },
-];
-
-/// Three CPUs: who is told that waits, who is watched, and that an attach frees nothing.
-const WATCHED: [Row; 5] = [
-    Row {
-        name: "the_least_inside_is_told",
-        slots: 1,
-        change_limit: 1000,
-        steps: &[
-            (First(Perform(1)), Done),
-            (SecondReads(Enter), Done),
-            (First(Perform(2)), Refused(Refusal::Waiting(1))),
-            (ThirdReads(Enter), Done),
-            (First(Perform(3)), Refused(Refusal::Waiting(1))),
-            (Second(Perform(1)), Refused(Refusal::Inside)),
-            (SecondReads(Exit), Done),
-            (First(Perform(1)), Refused(Refusal::Waiting(2))),
-            (Second(Perform(2)), Refused(Refusal::Waiting(2))),
-            (FirstReads(Enter), Done),
-            (Second(Perform(2)), Refused(Refusal::Waiting(0))),
-            (ThirdReads(Exit), Done),
-            (Third(Perform(1)), Refused(Refusal::Waiting(0))),
-            (FirstReads(Exit), Done),
-            (First(Perform(3)), Done),
-        ],
-    },
-    Row {
-        name: "each_cpu_is_watched",
-        slots: 3,
-        change_limit: 1000,
-        steps: &[
-            (First(Attach(WM)), At(1, 0)),
-            (First(Attach(VGA)), At(2, 1)),
-            (First(Attach(DRIVER_WM1)), At(3, 2)),
-            (SecondReads(Enter), Done),
-            (First(Detach(VGA)), At(2, 1)),
-            (ThirdReads(Enter), Done),
-            (First(Detach(DRIVER_WM1)), At(3, 2)),
-            (Advance(3), Come(Stage::Grace(1))),
-            (
-                First(Destroy(2, 2)),
-                Refused(Refusal::StillHeld(Stage::Grace(1))),
-            ),
-            (
-                First(Destroy(3, 3)),
-                Refused(Refusal::StillHeld(Stage::Grace(1))),
-            ),
-            (SecondReads(Exit), Done),
-            (
-                First(Destroy(3, 1)),
-                Refused(Refusal::StillHeld(Stage::Grace(2))),
-            ),
-            (First(Destroy(2, 1)), Number(1)),
-            (Advance(3), Come(Stage::Grace(2))),
-            (SecondReads(Enter), Done),
-            (ThirdReads(Exit), Done),
-            (ThirdReads(Enter), Done),
-            (First(Destroy(3, 2)), Number(2)),
-            (First(Destroy(3, 1)), Refused(Refusal::NotRetired)),
-            (Advance(1), Refused(Refusal::NotRetired)),
-            (First(Attach(VGA)), At(6, 1)),
-        ],
-    },
-    Row {
-        name: "each_passive_word_is_watched",
-        slots: 2,
-        change_limit: 1000,
-        steps: &[
-            (First(Attach(WM)), At(1, 0)),
-            (First(Attach(VGA)), At(2, 1)),
-            (ThirdReads(Enter), Done),
-            (ThirdReads(Find(VGA)), At(2, 1)),
-            (ThirdReads(Acquire), Done),
-            (ThirdReads(Exit), Done),
-            (First(Detach(VGA)), At(2, 1)),
-            (Advance(2), Come(Stage::Passive(2))),
-            (
-                First(Destroy(2, 3)),
-                Refused(Refusal::StillHeld(Stage::Passive(2))),
-            ),
-            (ThirdReads(Release), Done),
-            (Second(Destroy(2, 3)), Number(1)),
-        ],
-    },
-    Row {
-        name: "each_count_is_watched",
-        slots: 2,
-        change_limit: 1000,
-        steps: &[
-            (First(Attach(WM)), At(1, 0)),
-            (First(Attach(VGA)), At(2, 1)),
-            (ThirdReads(Enter), Done),
-            (ThirdReads(Find(VGA)), At(2, 1)),
-            (ThirdReads(Count), Done),
-            (ThirdReads(Exit), Done),
-            (First(Detach(VGA)), At(2, 1)),
-            (
-                First(Destroy(2, 2)),
-                Refused(Refusal::StillHeld(Stage::Local(1))),
-            ),
-            (Second(Uncount), Done),
-            (Third(Destroy(2, 2)), Number(1)),
-        ],
-    },
-    Row {
-        name: "an_attach_frees_nothing",
-        slots: 2,
-        change_limit: 1000,
-        steps: &[
-            (First(Attach(WM)), At(1, 0)),
-            (First(Detach(WM)), At(1, 0)),
-            (First(Perform(1)), Done),
-            (First(Attach(VGA)), At(3, 1)),
-            (First(Attach(WM)), Refused(Refusal::NoSlot)),
-            (Third(Attach(WM)), Refused(Refusal::NoSlot)),
-            (Advance(1), Come(Stage::Freed(0))),
-            (Third(Attach(WM)), At(4, 0)),
-        ],
-    },
-];
+/// How often the driver vga comes and goes after that: the last is the 100,000th change.
+const ROUNDS: u64 = 49_996;
 
 #[test]
 fn registry_rows(rt: HostRuntime) -> Result<(), Fail> {
-    let rows = SECTIONS.iter().chain(&REFERENCES).chain(&LOCKED);
-    for row in rows.chain(&WATCHED) {
-        run(&rt, rt.alloc(), row)?;
-    }
-    Ok(())
+    walked_and_changed::<Brand, _>(&rt, rt.alloc(), blank(rt.alloc(), 4, 100_000)?)
 }
 
-/// Runs the row on a registry of its own.
-fn run<R: Wait + Abort>(rt: &R, alloc: Global, row: &Row) -> Result<(), Fail> {
-    follow::<Brand, _>(rt, alloc, blank(alloc, row.slots, row.change_limit)?, row)
-}
-
-fn follow<D: Domain, R: Wait + Abort>(
+/// An audit that is given CPU 0 alone; the walks; and changes until the history is full.
+fn walked_and_changed<D: Domain, R: Wait + Abort>(
     rt: &R,
     alloc: Global,
     blank: Blank,
-    row: &Row,
 ) -> Result<(), Fail>
     requires { IsBlankOf blank D.table D.settings D.name D.parts }
 {
     let mut bench = Bench::<D>::open(alloc, blank)?;
-    let mut refs = Held::nothing();
-    bench.follow(rt, alloc, &mut refs, row.name, row.steps);
-    refs.end(rt);
+    let missing = bench.registry.audit(rt, alloc, &mut bench.cpus[..1]);
+    assert!(rt; matches!(missing, Err(Refusal::MissingCpu)));
+    bench.run(rt, "walks", WALKS);
+    for number in [1, 3, 2, 5] {
+        assert!(rt; bench.registry.advance(rt, number).is_ok());
+    }
+    for round in 0..ROUNDS {
+        change(rt, &mut bench, 9 + 2 * round);
+    }
+    bench.run(
+        rt,
+        "full",
+        &[(By(0, Attach(VGA)), Refused(Refusal::HistoryFull))],
+    );
     Ok(())
+}
+
+/// The driver with this number is attached in slot 0, detached and freed.
+fn change<D: Domain, R: Wait + Abort>(rt: &R, bench: &mut Bench<D>, number: u64) {
+    bench.run(
+        rt,
+        "a change",
+        &[
+            (By(2, Attach(VGA)), At(number, 0)),
+            (By(1, Detach(VGA)), At(number, 0)),
+        ],
+    );
+    assert_eq!(rt;
+        come(bench.registry.advance(rt, number)),
+        Come(Stage::Freed(0))
+    );
 }
 
 #[test]
@@ -518,29 +103,29 @@ fn bad_settings(rt: HostRuntime) {
 }
 
 /// CPU 0 attaches the driver.
-const ATTACHED: &[(Step, Answer)] = &[(First(Attach(WM)), At(1, 0))];
+const ATTACHED: &[(Step, Answer)] = &[(By(0, Attach(WM)), At(1, 0))];
 
 /// CPU 0 attaches the driver, and acquires a passive reference to it.
 const ACQUIRED: &[(Step, Answer)] = &[
-    (First(Attach(WM)), At(1, 0)),
-    (FirstReads(Enter), Done),
-    (FirstReads(Find(WM)), At(1, 0)),
-    (FirstReads(Acquire), Done),
-    (FirstReads(Exit), Done),
+    (By(0, Attach(WM)), At(1, 0)),
+    (Reads(0, Enter), Done),
+    (Reads(0, Find(WM)), At(1, 0)),
+    (Reads(0, Acquire), Done),
+    (Reads(0, Exit), Done),
 ];
 
 /// CPU 0 of another registry, which holds nothing, is shown the reference, and hands it back.
 const SHOWN: &[(Step, Answer)] = &[
-    (FirstReads(Reference), Names(0, 1)),
-    (FirstReads(Read(WM)), Refused(Refusal::NotHeld)),
-    (FirstReads(Holds), Is(false)),
-    (FirstReads(Copy), Refused(Refusal::NotHeld)),
-    (FirstReads(Release), Refused(Refusal::NotHeld)),
-    (FirstReads(Reference), Names(0, 1)),
+    (Reads(0, Reference), Names(0, 1)),
+    (Reads(0, Read(WM)), Refused(Refusal::NotHeld)),
+    (Reads(0, Holds), Is(false)),
+    (Reads(0, Copy), Refused(Refusal::NotHeld)),
+    (Reads(0, Release), Refused(Refusal::NotHeld)),
+    (Reads(0, Reference), Names(0, 1)),
 ];
 
 /// Its own CPU reads and releases it.
-const READ: &[(Step, Answer)] = &[(FirstReads(Read(WM)), Done), (FirstReads(Release), Done)];
+const READ: &[(Step, Answer)] = &[(Reads(0, Read(WM)), Done), (Reads(0, Release), Done)];
 
 #[test]
 fn reference_of_another_registry(rt: HostRuntime) -> Result<(), Fail> {
@@ -562,12 +147,12 @@ fn shown_elsewhere<D: Domain, E: Domain, R: Wait + Abort>(
         Bench::<E>::open(alloc, there)?,
     );
     let (mut refs, mut others) = (Held::nothing(), Held::nothing());
-    here.follow(rt, alloc, &mut refs, "attached", ATTACHED);
-    there.follow(rt, alloc, &mut others, "acquired", ACQUIRED);
+    here.follow(rt, &mut refs, "attached", ATTACHED);
+    there.follow(rt, &mut others, "acquired", ACQUIRED);
     others.hand_passive(rt, &mut refs);
-    here.follow(rt, alloc, &mut refs, "shown elsewhere", SHOWN);
+    here.follow(rt, &mut refs, "shown elsewhere", SHOWN);
     refs.hand_passive(rt, &mut others);
-    there.follow(rt, alloc, &mut others, "read", READ);
+    there.follow(rt, &mut others, "read", READ);
     refs.end(rt);
     others.end(rt);
     Ok(())

@@ -8,10 +8,9 @@ use super::answers::Answer;
 use super::keepers::{Writer, by_keeper};
 use super::readers::{Held, Reader, by_reader};
 use cpu_words::{CpuSeat, Domain, KeeperSeat, Words};
-use passive_list::{Cpu, Keeper, Note, hear, hear_keeper, tell, tell_keeper};
+use passive_list::{Cpu, Keeper};
 use registry_values::Settings;
 use std::alloc::Global;
-use std::marker::PhantomData;
 use std::process::Abort;
 use std::sync::ledger;
 use std::test::Fail;
@@ -107,32 +106,15 @@ impl<D: Domain> Seats<D> {
         match step {
             Step::First(call) => by_reader(rt, words, &mut self.first, refs, call),
             Step::Second(call) => by_reader(rt, words, &mut self.second, refs, call),
-            Step::Keeper(call) => by_keeper(rt, words, &mut self.keeper, refs, call),
-            Step::Tell => {
-                let note = Note {
-                    seat: tell_keeper(words, &mut self.keeper),
-                    domain: PhantomData,
-                };
-                hear(words, &mut self.first, note);
-                Answer::Done
-            }
-            Step::Hear => {
-                let Note { seat, domain: _ } = tell(words, &mut self.first);
-                hear_keeper(words, &mut self.keeper, seat);
-                Answer::Done
-            }
+            Step::Keeper(call) => by_keeper(rt, words, &mut self.keeper, call),
         }
     }
 }
 
-/// A call on the words by CPU 0, by CPU 1 or by the keeper, or a note between the keeper and CPU 0.
+/// A call on the words by CPU 0, by CPU 1 or by the keeper.
 #[derive(Clone, Copy)]
 pub(crate) enum Step {
     First(Reader),
     Second(Reader),
     Keeper(Writer),
-    /// The keeper tells CPU 0.
-    Tell,
-    /// The keeper hears CPU 0.
-    Hear,
 }

@@ -114,7 +114,7 @@ fn publish_once_missed<R: Abort>(
     if !was_set(missed) {
         return None;
     }
-    Some(published(rt, words, &mut keeper, 0, driver).number)
+    Some(published(rt, words, &mut keeper, driver).number)
 }
 
 /// Waits until the flag is set: false where it gave up.
@@ -180,7 +180,7 @@ fn publish_and_tell<D: Domain, R: Abort>(
     requires named { keeper.words.table ≡ D.table }
     requires driver { IsTrue (is_lawful driver.name) }
 {
-    let entry = published(rt, words, &mut keeper, 0, driver);
+    let entry = published(rt, words, &mut keeper, driver);
     let seat = tell_keeper(words, &mut keeper);
     (
         entry.number,
@@ -224,7 +224,7 @@ fn one_reference<D: Domain + Send, R: Threads + Abort + Sync>(rt: &R, table: Tab
     } = Seats::<D>::of(table);
     let driver = record(rt, WM);
     let words = &words;
-    published(rt, words, &mut keeper, 0, driver);
+    published(rt, words, &mut keeper, driver);
     let mut held = acquired(words, &mut first, &driver.name);
     let lent = &mut held;
     let (read, _) = join(

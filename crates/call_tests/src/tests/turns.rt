@@ -5,10 +5,12 @@ ghost use Rattle.std.specs.Thread.{IsSync};
 
 use super::answers::Answer::{self, At, Come, Done, Number, Refused};
 use super::answers::come;
-use super::bench::Call::{Attach, Destroy, Perform};
-use super::bench::{Call, blank, by_cpu};
+use super::bench::Call::{self, Attach, Destroy, Detach, Perform};
+use super::bench::Step::{self, By, Reads};
+use super::bench::{Bench, blank, by_cpu};
 use super::readers::Held;
-use super::records::{DRIVER_WM1, VGA, WM, record};
+use super::readers::Reader::Enter;
+use super::records::{DRIVER_WM1, VGA, WM};
 use cpu_words::Domain;
 use name_registry::{Blank, Registry};
 use passive_list::{Cpu, enter, exit};
@@ -26,6 +28,14 @@ const TURNS: u32 = 100_000_000;
 
 /// How often CPU 1 lets others run before it leaves its section: long enough for the first turn.
 const YIELDS: u32 = 2_000;
+
+/// CPU 1 is inside as CPU 0 retires the entry 2, in slot 1.
+const RETIRED: &[(Step, Answer)] = &[
+    (By(0, Attach(WM)), At(1, 0)),
+    (By(0, Attach(VGA)), At(2, 1)),
+    (Reads(1, Enter), Done),
+    (By(0, Detach(VGA)), At(2, 1)),
+];
 
 /// What CPU 0 does while CPU 1 leaves the section that was open as the entry 2, in slot 1, was retired.
 struct Row {
@@ -93,18 +103,10 @@ fn ended_in_the_middle<D: Domain + Send + Sync, R: Threads + Wait + Abort + Sync
 ) -> Result<(), Fail>
     requires { IsBlankOf blank D.table D.settings D.name D.parts }
 {
-    let Ok((registry, mut cpus)) = blank.open::<D>(alloc) else {
-        return Err(Fail::from("an open registry"));
-    };
-    let (Some(_third), Some(mut second), Some(mut first)) = (cpus.pop(), cpus.pop(), cpus.pop())
-    else {
-        return Err(Fail::from("three CPUs"));
-    };
-    let (registry, gone) = (&registry, record(rt, VGA));
-    registry.attach(rt, &mut first, record(rt, WM))?;
-    registry.attach(rt, &mut first, gone)?;
-    enter(registry.words(), &mut second)?;
-    registry.detach(rt, &mut first, gone.kind, &gone.name)?;
+    let mut bench = Bench::<D>::open(alloc, blank)?;
+    bench.run(rt, row.name, RETIRED);
+    let (registry, first, second, _third) = bench.apart()?;
+    let registry = &registry;
     let (begun, call, frees) = (&AtomicBool::new(false), row.call, row.frees);
     let (answer, _) = join(
         rt,
@@ -158,18 +160,10 @@ fn attached_meanwhile<D: Domain + Send + Sync, R: Threads + Wait + Abort + Sync>
 ) -> Result<(Answer, Answer), Fail>
     requires { IsBlankOf blank D.table D.settings D.name D.parts }
 {
-    let Ok((registry, mut cpus)) = blank.open::<D>(alloc) else {
-        return Err(Fail::from("an open registry"));
-    };
-    let (Some(third), Some(mut second), Some(mut first)) = (cpus.pop(), cpus.pop(), cpus.pop())
-    else {
-        return Err(Fail::from("three CPUs"));
-    };
-    let (registry, gone) = (&registry, record(rt, VGA));
-    registry.attach(rt, &mut first, record(rt, WM))?;
-    registry.attach(rt, &mut first, gone)?;
-    enter(registry.words(), &mut second)?;
-    registry.detach(rt, &mut first, gone.kind, &gone.name)?;
+    let mut bench = Bench::<D>::open(alloc, blank)?;
+    bench.run(rt, "retired under a section", RETIRED);
+    let (registry, first, second, third) = bench.apart()?;
+    let registry = &registry;
     let begun = &AtomicBool::new(false);
     Ok(join(
         rt,
@@ -203,12 +197,7 @@ fn perform_beside<D: Domain + Send + Sync, R: Threads + Wait + Abort + Sync>(
 ) -> Result<(Answer, Answer), Fail>
     requires { IsBlankOf blank D.table D.settings D.name D.parts }
 {
-    let Ok((registry, mut cpus)) = blank.open::<D>(alloc) else {
-        return Err(Fail::from("an open registry"));
-    };
-    let (Some(_third), Some(second), Some(first)) = (cpus.pop(), cpus.pop(), cpus.pop()) else {
-        return Err(Fail::from("three CPUs"));
-    };
+    let (registry, first, second, _third) = Bench::<D>::open(alloc, blank)?.apart()?;
     let registry = &registry;
     let (inside, refused) = (&AtomicBool::new(false), &AtomicBool::new(false));
     let (answers, _) = join(

@@ -1,9 +1,161 @@
-//! Worked rows, event by event: a collection that overtakes a release, and marks that come in their order.
+//! Worked rows, event by event: a search over a frozen link, marks that come in their order, and a collection that overtakes a release.
 
-use super::bench::{Ask, Line, Row, Told, run, run_rows};
-use super::data::{FOUND_WM, USUAL, WM};
-use passive_core::{Core, Counted, Event, Reply, Settings, run_events};
+use super::bench::{Ask, Line, Rec, Row, Told, run, run_rows};
+use super::data::{A, ATTACH_WM, ENTER, EXIT, FIND_WM, USUAL, WM};
+use passive_core::{
+    Core, Counted, Event, Mark, RecordOf, Refusal, Reply, Settings, Stage, run_events,
+};
 use std::test::Fail;
+
+/// Drivers that follow one another in the list.
+const THIRD: Rec = Rec {
+    text: b"wm2",
+    value: 12,
+    ..WM
+};
+
+const SECOND: Rec = Rec {
+    text: b"wm1",
+    value: 11,
+    ..WM
+};
+
+const FIRST: Rec = Rec {
+    text: b"wm0",
+    value: 10,
+    ..WM
+};
+
+/// CPU 0's loads, by its search.
+const LINK: Ask = Ask::Step(Event::LoadLink(0));
+
+const WORD: Ask = Ask::Step(Event::LoadRecord(RecordOf::Search(0)));
+
+/// The mark of a CPU that was inside its first section as the entry was retired; nothing was seen of it since.
+const INSIDE: Mark = Mark {
+    snapshot: Some(1),
+    passed: false,
+    clear: false,
+    collected: false,
+};
+
+/// Of one that had begun none.
+const OUTSIDE: Mark = Mark {
+    snapshot: Some(0),
+    ..INSIDE
+};
+
+const ROWS: [Row; 5] = [
+    // A search that stands on an entry that is unlinked goes on over its link.
+    Row {
+        name: "frozen-link",
+        settings: Settings { slots: 3, ..USUAL },
+        lines: &[
+            (0, Ask::Step(Event::Seat(0)), Ok(Told::Done)),
+            (0, Ask::Step(Event::Seat(1)), Ok(Told::Done)),
+            (1, Ask::Attach(FIRST), Ok(Told::Entry(1, 0, 10))),
+            (1, Ask::Attach(SECOND), Ok(Told::Entry(2, 1, 11))),
+            (1, Ask::Attach(THIRD), Ok(Told::Entry(3, 2, 12))),
+            (0, Ask::Step(Event::Enter(0)), Ok(Told::Done)),
+            (0, Ask::Seek(FIRST), Ok(Told::Done)),
+            (0, LINK, Ok(Told::Word(3))),
+            (0, WORD, Ok(Told::Word(3))),
+            (0, WORD, Ok(Told::Word(2))),
+            (0, WORD, Ok(Told::Word(0x776d_3200_0000_0000))),
+            (0, WORD, Ok(Told::Word(0))),
+            (0, LINK, Ok(Told::Word(2))),
+            (0, WORD, Ok(Told::Word(2))),
+            (0, WORD, Ok(Told::Word(2))),
+            (1, Ask::Detach(SECOND), Ok(Told::Entry(2, 1, 11))),
+            (1, Ask::Detach(FIRST), Ok(Told::Entry(1, 0, 10))),
+            (1, Ask::Advance(2), Ok(Told::Stage(Stage::Grace(0)))),
+            (1, Ask::Advance(1), Ok(Told::Stage(Stage::Grace(0)))),
+            (0, WORD, Ok(Told::Word(0x776d_3100_0000_0000))),
+            (0, WORD, Ok(Told::Word(0))),
+            (0, LINK, Ok(Told::Word(1))),
+            (0, WORD, Ok(Told::Word(1))),
+            (0, WORD, Ok(Told::Word(2))),
+            (0, WORD, Ok(Told::Word(0x776d_3000_0000_0000))),
+            (0, WORD, Ok(Told::Word(0))),
+            (0, WORD, Ok(Told::Entry(1, 0, 10))),
+            (0, Ask::Step(Event::Exit(0)), Ok(Told::Done)),
+            (1, Ask::Advance(2), Ok(Told::Stage(Stage::Freed(1)))),
+            (1, Ask::Advance(1), Ok(Told::Stage(Stage::Freed(0)))),
+        ],
+    },
+    // The snapshots are of the section words after the unlinking, and nothing is looked at before all have passed.
+    Row {
+        name: "order-of-marks",
+        settings: USUAL,
+        lines: &[
+            ATTACH_WM,
+            ENTER,
+            FIND_WM,
+            (1, Ask::Detach(WM), Ok(Told::Entry(1, 0, 7))),
+            (0, Ask::Mark(0), Ok(Told::Mark(INSIDE))),
+            (1, Ask::Mark(0), Ok(Told::Mark(OUTSIDE))),
+            (0, Ask::Step(Event::PassiveLook(0, 0)), Ok(Told::NotAllowed)),
+            (0, Ask::Step(Event::Collect(0, 0)), Ok(Told::NotAllowed)),
+        ],
+    },
+    // What a perform sees counts for the entries that are retired.
+    Row {
+        name: "perform-and-destroy",
+        settings: USUAL,
+        lines: &[
+            ATTACH_WM,
+            (1, Ask::Enter, Ok(Told::Depth(1))),
+            (0, Ask::Perform(3), Err(Refusal::Waiting(1))),
+            (0, Ask::Detach(WM), Ok(Told::Entry(1, 0, 7))),
+            (
+                0,
+                Ask::Destroy(1, 2),
+                Err(Refusal::StillHeld(Stage::Grace(1))),
+            ),
+            (1, Ask::Exit, Ok(Told::Depth(0))),
+            (0, Ask::Step(Event::PassiveLook(0, 0)), Ok(Told::NotAllowed)),
+            (0, Ask::Perform(1), Ok(Told::Done)),
+            (0, Ask::Step(Event::PassiveLook(0, 0)), Ok(Told::Word(0))),
+            (0, Ask::Destroy(1, 1), Ok(Told::Slot(0))),
+            (0, Ask::Destroy(1, 1), Err(Refusal::NotRetired)),
+        ],
+    },
+    // A command seats the CPUs; an event of a CPU that has no seat isn't allowed.
+    Row {
+        name: "seats come with the first event",
+        settings: USUAL,
+        lines: &[
+            (0, Ask::Advance(1), Err(Refusal::NotRetired)),
+            (1, Ask::Destroy(1, 1), Err(Refusal::NotRetired)),
+            (1, Ask::Step(Event::Enter(1)), Ok(Told::NotAllowed)),
+            (1, Ask::Perform(1), Ok(Told::Done)),
+            (1, Ask::Step(Event::Enter(1)), Ok(Told::Done)),
+        ],
+    },
+    // In a script a label stands only for a reference that its CPU holds.
+    Row {
+        name: "a reference that isn't held",
+        settings: USUAL,
+        lines: &[
+            ATTACH_WM,
+            ENTER,
+            FIND_WM,
+            (0, Ask::Acquire, Ok(Told::Psref(A))),
+            (0, Ask::Held(A), Ok(Told::Is(true))),
+            (0, Ask::Read(A), Ok(Told::Record(7))),
+            (0, Ask::Release(A), Ok(Told::Done)),
+            (0, Ask::Release(A), Err(Refusal::NotHeld)),
+            (0, Ask::Read(A), Err(Refusal::NotHeld)),
+            (0, Ask::Copy(A), Err(Refusal::NotHeld)),
+            (0, Ask::Held(A), Ok(Told::Is(false))),
+        ],
+    },
+];
+
+#[test]
+fn rows_of_events(rt: HostRuntime) -> Result<(), Fail> {
+    run_rows(&rt, &ROWS)
+}
 
 /// The collection of the one count word comes between the joining of a reference and its release.
 const RACE: [Event; 11] = [
@@ -44,18 +196,18 @@ const ONE: Settings = Settings {
 
 /// The CPU holds a local reference to the driver wm, which is retired.
 const HELD: &[Line] = &[
-    (0, Ask::Attach(WM), Ok(Told::Entry(1, 0, WM))),
-    (0, Ask::Enter, Ok(Told::Depth(1))),
-    (0, Ask::Find(WM), Ok(Told::Found(1, 0, WM))),
-    (0, Ask::Count, Ok(Told::Local(0, 1))),
-    (0, Ask::Exit, Ok(Told::Depth(0))),
-    (0, Ask::Detach(WM), Ok(Told::Entry(1, 0, WM))),
+    ATTACH_WM,
+    ENTER,
+    FIND_WM,
+    (0, Ask::Count, Ok(Told::Ref(0))),
+    EXIT,
+    (0, Ask::Detach(WM), Ok(Told::Entry(1, 0, 7))),
 ];
 
 #[test]
 fn collect_race(rt: HostRuntime) -> Result<(), Fail> {
     let mut core = Core::new(rt.alloc(), ONE)?;
-    run(&rt, &mut core, "collect_race", HELD);
+    run(&rt, &mut core, "collect-race", HELD);
     let counted = run_events(&mut core, &RACE)?;
     let expected = Counted {
         taken: 10,
@@ -72,26 +224,10 @@ fn collect_race(rt: HostRuntime) -> Result<(), Fail> {
 #[test]
 fn collect_race_one_by_one(rt: HostRuntime) -> Result<(), Fail> {
     let mut core = Core::new(rt.alloc(), ONE)?;
-    run(&rt, &mut core, "collect_race_one_by_one", HELD);
+    run(&rt, &mut core, "collect-race", HELD);
     for (event, told) in RACE.iter().zip(&TOLD) {
         let line = (0, Ask::Step(*event), Ok(*told));
-        run(&rt, &mut core, "collect_race_one_by_one", &[line]);
+        run(&rt, &mut core, "collect-race, one by one", &[line]);
     }
     Ok(())
-}
-
-const MARKS: [Row; 1] = [Row {
-    name: "order_of_marks",
-    settings: USUAL,
-    first: FOUND_WM,
-    lines: &[
-        (1, Ask::Detach(WM), Ok(Told::Entry(1, 0, WM))),
-        (0, Ask::Step(Event::PassiveLook(0, 0)), Ok(Told::NotAllowed)),
-        (0, Ask::Step(Event::Collect(0, 0)), Ok(Told::NotAllowed)),
-    ],
-}];
-
-#[test]
-fn order_of_marks(rt: HostRuntime) -> Result<(), Fail> {
-    run_rows(&rt, &MARKS)
 }

@@ -3,10 +3,9 @@
 //! Where memory is ample these tests compare answers alone. `tools/refuse-memory.sh` refuses each of their allocations in
 //! turn; each refusal that is met is noted on standard error.
 
-use super::bench::{Ask, Line, Rec, Tally, Told, run};
-use super::data::{USUAL, VGA, WM0, WM0_IFACE};
+use super::bench::{Ask, Line, Rec, Told, run};
+use super::data::{ENTER, EXIT, USUAL, VGA, WM0, WM0_IFACE};
 use super::give::give;
-use super::made::Made;
 use passive_core::{
     BIAS, Core, Counted, Event, Kind, Name, RecordOf, Refusal, Reply, Settings, run_events,
 };
@@ -29,26 +28,16 @@ const FOUR_SLOTS: Settings = Settings { slots: 4, ..USUAL };
 
 /// Of four slots 0 and 2 have live drivers, 1 has a retired one, and 3 is vacant. The history is as long as its memory.
 const STOCK: [Line; 4] = [
-    (0, Ask::Attach(WM0), Ok(Told::Entry(1, 0, WM0))),
-    (0, Ask::Attach(VGA), Ok(Told::Entry(2, 1, VGA))),
-    (1, Ask::Detach(VGA), Ok(Told::Entry(2, 1, VGA))),
-    (0, Ask::Attach(TTY), Ok(Told::Entry(4, 2, TTY))),
+    (0, Ask::Attach(WM0), Ok(Told::Entry(1, 0, 1500))),
+    (0, Ask::Attach(VGA), Ok(Told::Entry(2, 1, 8))),
+    (1, Ask::Detach(VGA), Ok(Told::Entry(2, 1, 8))),
+    (0, Ask::Attach(TTY), Ok(Told::Entry(4, 2, 9))),
 ];
 
-/// CPU 0 has found the driver wm0, as entry 1 in slot 0.
-const FOUND: [Line; 2] = [ENTERS, FINDS];
+/// CPU 0 finds the driver wm0 in its section, as entry 1 in slot 0.
+const FIND: Line = (0, Ask::Find(WM0), Ok(Told::Entry(1, 0, 1500)));
 
-const ENTERS: Line = (0, Ask::Enter, Ok(Told::Depth(1)));
-
-const FINDS: Line = (0, Ask::Find(WM0), Ok(Told::Found(1, 0, WM0)));
-
-/// It holds a local reference to it, and is outside.
-const COUNTED: [Line; 4] = [
-    (0, Ask::Enter, Ok(Told::Depth(1))),
-    (0, Ask::Find(WM0), Ok(Told::Found(1, 0, WM0))),
-    (0, Ask::Count, Ok(Told::Local(0, 1))),
-    (0, Ask::Exit, Ok(Told::Depth(0))),
-];
+const COUNT: Line = (0, Ask::Count, Ok(Told::Ref(0)));
 
 fn note(rt: &impl Eprint, what: &str) -> Result<(), Fail> {
     eprintln!(rt; "refused memory: {what}")?;
@@ -93,7 +82,7 @@ fn stands(rt: &(impl Abort + AllocGlobal), core: &mut Core, more: &[Line]) -> Re
         (1, Ask::Audit, audit),
         (1, Ask::Attach(WM0), Err(Refusal::NameTaken)),
         (1, Ask::Enter, Ok(Told::Depth(1))),
-        (1, Ask::Find(WM0), Ok(Told::Found(1, 0, WM0))),
+        (1, Ask::Find(WM0), Ok(Told::Entry(1, 0, 1500))),
         (1, Ask::Exit, Ok(Told::Depth(0))),
         (1, Ask::Audit, audit),
     ];
@@ -140,19 +129,31 @@ fn new(rt: HostRuntime) -> Result<(), Fail> {
         answer = give(&rt, &mut core, c, ask);
     }
     assert!(rt; answer == wanted, "the first attach");
-    run(&rt, &mut core, "new", &FOUND);
+    run(&rt, &mut core, "new", &[ENTER, FIND]);
     Ok(())
 }
+
+/// The events by which the keeper writes what slot 3 is to show, the driver disk, which is to be linked before slot 2.
+const STORES: &[Line] = &[
+    (0, Ask::Step(Event::StoreSlot(3, 0, 5)), Ok(Told::Done)),
+    (0, Ask::Step(Event::StoreSlot(3, 1, 2)), Ok(Told::Done)),
+    (
+        0,
+        Ask::Step(Event::StoreSlot(3, 2, 0x6469_736b_0000_0000)),
+        Ok(Told::Done),
+    ),
+    (0, Ask::Step(Event::StoreSlot(3, 3, 0)), Ok(Told::Done)),
+    (0, Ask::Step(Event::StoreSlot(3, 4, 10)), Ok(Told::Done)),
+    (0, Ask::Step(Event::StoreSlot(3, 5, BIAS)), Ok(Told::Done)),
+    (0, Ask::Step(Event::StoreSlot(3, 6, BIAS)), Ok(Told::Done)),
+    (0, Ask::Step(Event::StoreNext(3, 3)), Ok(Told::Done)),
+];
 
 /// Calls that grow something: a name, the lines after those of the stock, and the line that may be refused memory.
 const GROWING: &[(&str, &[Line], Line)] = &[
     (
         "step_publish",
-        &[(
-            0,
-            Ask::Make(Made::Words(3, DISK)),
-            Ok(Told::Entry(5, 3, DISK)),
-        )],
+        STORES,
         (0, Ask::Step(Event::Publish(3)), Ok(Told::Done)),
     ),
     (
@@ -163,51 +164,34 @@ const GROWING: &[(&str, &[Line], Line)] = &[
     (
         "step_split_ref",
         &[
-            ENTERS,
-            FINDS,
-            (
-                0,
-                Ask::Make(Made::All(&[Event::CountAdd(0)])),
-                Ok(Told::Done),
-            ),
+            ENTER,
+            FIND,
+            (0, Ask::Step(Event::CountAdd(0)), Ok(Told::Word(BIAS))),
         ],
         (0, Ask::Step(Event::SplitRef(0)), Ok(Told::Ref(0))),
     ),
     (
         "attach",
         &[],
-        (0, Ask::Attach(DISK), Ok(Told::Entry(5, 3, DISK))),
+        (0, Ask::Attach(DISK), Ok(Told::Entry(5, 3, 10))),
     ),
     (
         "attach_iface",
-        &COUNTED,
-        (0, Ask::Plug(WM0_IFACE, 0), Ok(Told::Entry(5, 3, WM0_IFACE))),
+        &[ENTER, FIND, COUNT, EXIT],
+        (0, Ask::Plug(WM0_IFACE, 0), Ok(Told::Entry(5, 3, 1500))),
     ),
     (
         "detach",
         &[],
-        (0, Ask::Detach(WM0), Ok(Told::Entry(1, 0, WM0))),
+        (0, Ask::Detach(WM0), Ok(Told::Entry(1, 0, 1500))),
     ),
-    (
-        "acquire_local",
-        &FOUND,
-        (0, Ask::Count, Ok(Told::Local(0, 1))),
-    ),
+    ("acquire_local", &[ENTER, FIND], COUNT),
     (
         "audit",
-        &COUNTED,
-        (0, Ask::Audit, Ok(Told::Audit(3, Some(HELD)))),
+        &[ENTER, FIND, COUNT, EXIT],
+        (0, Ask::Audit, Ok(Told::Audit(3, 1))),
     ),
 ];
-
-/// The first of three balances.
-const HELD: Tally = Tally {
-    number: 1,
-    slot: 0,
-    held: 1,
-    locals: [1, 0],
-    total: 0,
-};
 
 #[test]
 fn growths(rt: HostRuntime) -> Result<(), Fail> {

@@ -1,14 +1,10 @@
-//! Tests of what no contract says: worked rows as tables, values, and want of memory.
+//! Tests of what no contract says: rows of single events, values, and want of memory.
+//!
+//! The rows of commands are scripts, which `script_tests` runs over a core too.
 
-mod attach_rows;
 mod bench;
 mod data;
 mod event_rows;
 mod give;
-mod keeper_rows;
-mod lookup_rows;
-mod made;
 mod memory_tests;
-mod reference_rows;
-mod rows;
 mod values;

@@ -1,6 +1,5 @@
 //! Names, records, settings, refusals and laws by their public calls.
 
-use super::data::USUAL;
 use passive_core::Core;
 use protocol::{
     balance_at_rest, every_run_keeps, grace_law, headline, invariant_suffices, lawful_answers,
@@ -119,12 +118,14 @@ fn with_each(base: Settings, sizes: (u8, u8, u64), limit: u64) -> [Settings; 6] 
 fn settings_have_ranges(rt: HostRuntime) {
     assert_eq!(rt; LEAST.check(), Ok(()));
     assert_eq!(rt; MOST.check(), Ok(()));
-    for settings in with_each(MOST, (0, 0, 0), 0) {
+    let below = with_each(MOST, (0, 0, 0), 0);
+    let above = with_each(LEAST, (9, 33, 1_000_001), 1_099_511_627_777);
+    for settings in below.iter().chain(&above) {
         assert_eq!(rt; settings.check(), Err(Refusal::BadSettings));
+        let made = Core::new(rt.alloc(), *settings);
+        assert!(rt; matches!(made, Err(Refusal::BadSettings)), "{settings:?}");
     }
-    for settings in with_each(LEAST, (9, 33, 1_000_001), 1_099_511_627_777) {
-        assert_eq!(rt; settings.check(), Err(Refusal::BadSettings));
-    }
+    assert!(rt; Core::new(rt.alloc(), MOST).is_ok());
 }
 
 /// The refusals in the order of their numbers, and what each says.
@@ -201,31 +202,4 @@ fn laws_end(_rt: HostRuntime) {
     grace_law();
     invariant_suffices();
     worked_run();
-}
-
-#[test]
-fn outer_settings(rt: HostRuntime) {
-    let most = 1_099_511_627_776;
-    let outside = [
-        Settings { cpus: 0, ..USUAL },
-        Settings { cpus: 9, ..USUAL },
-        Settings { slots: 33, ..USUAL },
-        Settings {
-            change_limit: 1_000_001,
-            ..USUAL
-        },
-        Settings {
-            section_limit: most + 1,
-            ..USUAL
-        },
-    ];
-    for settings in outside {
-        let made = Core::new(rt.alloc(), settings);
-        assert!(rt; matches!(made, Err(Refusal::BadSettings)), "{settings:?}");
-    }
-    let widest = Settings {
-        section_limit: most,
-        ..USUAL
-    };
-    assert!(rt; Core::new(rt.alloc(), widest).is_ok());
 }

@@ -152,11 +152,6 @@ const ROWS: &[Row] = &[
         "domain 2 2; attach 00000000000000000001 driver abcdefghijklmno 00000000000000000001; enter 1; find 1 driver abcdefghijklmno",
         "domain 2 2; attached 1 slot 0; inside; found 1 slot 0 value 1",
     ),
-    (
-        "outer-limits, all slots",
-        "domain 8 32; attach 7 driver d0 0; attach 7 driver d1 1; attach 7 driver d2 2; attach 7 driver d3 3; attach 7 driver d4 4; attach 7 driver d5 5; attach 7 driver d6 6; attach 7 driver d7 7; attach 7 driver d8 8; attach 7 driver d9 9; attach 7 driver d10 10; attach 7 driver d11 11; attach 7 driver d12 12; attach 7 driver d13 13; attach 7 driver d14 14; attach 7 driver d15 15; attach 7 driver d16 16; attach 7 driver d17 17; attach 7 driver d18 18; attach 7 driver d19 19; attach 7 driver d20 20; attach 7 driver d21 21; attach 7 driver d22 22; attach 7 driver d23 23; attach 7 driver d24 24; attach 7 driver d25 25; attach 7 driver d26 26; attach 7 driver d27 27; attach 7 driver d28 28; attach 7 driver d29 29; attach 7 driver d30 30; attach 7 driver d31 31; attach 7 driver d32 32",
-        "domain 8 32; attached 1 slot 0; attached 2 slot 1; attached 3 slot 2; attached 4 slot 3; attached 5 slot 4; attached 6 slot 5; attached 7 slot 6; attached 8 slot 7; attached 9 slot 8; attached 10 slot 9; attached 11 slot 10; attached 12 slot 11; attached 13 slot 12; attached 14 slot 13; attached 15 slot 14; attached 16 slot 15; attached 17 slot 16; attached 18 slot 17; attached 19 slot 18; attached 20 slot 19; attached 21 slot 20; attached 22 slot 21; attached 23 slot 22; attached 24 slot 23; attached 25 slot 24; attached 26 slot 25; attached 27 slot 26; attached 28 slot 27; attached 29 slot 28; attached 30 slot 29; attached 31 slot 30; attached 32 slot 31; refused NoSlot",
-    ),
     // Commands on CPUs of which each stands otherwise, and on labels that stand for references to different entries.
     (
         "named-cpus",
@@ -168,6 +163,64 @@ const ROWS: &[Row] = &[
         "three-cpus",
         "domain 3 3; attach 0 driver wm 7; attach 0 driver vga 8; enter 1; enter 2; find 2 driver vga; ref 2 a; count 2 x; detach 0 driver vga; advance 2; exit 1; enter 1; advance 2; destroy 0 2 3; exit 2; advance 2; destroy 0 2 1; drop 2 a; destroy 0 2 2; attach 0 driver em 9; attach 0 driver tty 1; uncount 1 x; attach 0 driver tty 1; advance 2; attach 0 driver tty 1; detach 0 driver tty; destroy 0 5 3; exit 1; destroy 0 5 1; audit",
         "domain 3 3; attached 1 slot 0; attached 2 slot 1; inside; inside; found 2 slot 1 value 8; ref a 2; count x 2; retired 2 slot 1; grace cpu 1; outside; inside; grace cpu 2; refused StillHeld grace cpu 2; outside; passive cpu 2; refused StillHeld passive cpu 2; dropped a 2; refused StillHeld local 1; attached 4 slot 2; refused NoSlot; uncounted x 2; refused NoSlot; freed slot 1; attached 5 slot 1; retired 5 slot 1; refused StillHeld grace cpu 1; outside; destroyed slot 1; slot 0 number 1 held 0 locals 0 0 0 total 0; slot 2 number 4 held 0 locals 0 0 0 total 0",
+    ),
+    // A second lookup in one section begins at the head again.
+    (
+        "resumed-search",
+        "domain 2 2; attach 0 driver wm 7; enter 0; find 0 driver wm; attach 1 driver vga 8; find 0 driver vga; find 0 driver wm",
+        "domain 2 2; attached 1 slot 0; inside; found 1 slot 0 value 7; attached 2 slot 1; found 2 slot 1 value 8; found 1 slot 0 value 7",
+    ),
+    (
+        "refused-inside",
+        "domain 3 2; attach 0 driver wm 7; enter 0; attach 0 driver wm 7; detach 0 driver wm; perform 0 1; destroy 0 1 1; exit 0; attach 0 driver wm 7; detach 0 driver wm; detach 0 driver wm",
+        "domain 3 2; attached 1 slot 0; inside; refused Inside; refused Inside; refused Inside; refused Inside; outside; refused NameTaken; retired 1 slot 0; refused NotFound",
+    ),
+    // What a call behind the lock did to the registry, which its contract can't name: just what it answers, and nothing where it is refused.
+    (
+        "one-change-a-call",
+        "domain 3 4; attach 0 driver wm 7; attach 0 driver vga 8; detach 0 driver wm; enter 0; find 0 driver wm; find 0 driver vga; count 0 x; exit 0; attach 0 driver wm 7; enter 0; find 0 driver wm; exit 0; plug 0 wm0 1500 x; enter 0; find 0 iface wm0; exit 0; detach 1 driver vga; advance 1; attach 0 driver vga 8",
+        "domain 3 4; attached 1 slot 0; attached 2 slot 1; retired 1 slot 0; inside; none; found 2 slot 1 value 8; count x 2; outside; attached 4 slot 2; inside; found 4 slot 2 value 7; outside; attached 5 slot 3; inside; found 5 slot 3 value 1500; outside; retired 2 slot 1; freed slot 0; attached 7 slot 0",
+    ),
+    (
+        "refusals-change-nothing",
+        "domain 3 3; attach 0 driver wm 7; attach 0 driver vga 8; attach 0 driver wm 7; detach 0 driver wm1; enter 0; find 0 driver wm; find 0 driver vga; count 0 x; exit 0; plug 0 wm0 1500 x; enter 0; find 0 driver vga; count 0 y; exit 0; plug 0 wm1 1 y; uncount 0 y; enter 0; find 0 driver wm; find 0 driver vga; find 0 iface wm0; exit 0; advance 1; destroy 0 2 1; detach 0 driver wm; detach 0 driver wm; advance 1; attach 0 driver wm 7",
+        "domain 3 3; attached 1 slot 0; attached 2 slot 1; refused NameTaken; refused NotFound; inside; found 1 slot 0 value 7; found 2 slot 1 value 8; count x 2; outside; attached 3 slot 2; inside; found 2 slot 1 value 8; count y 2; outside; refused NoSlot; uncounted y 2; inside; found 1 slot 0 value 7; found 2 slot 1 value 8; found 3 slot 2 value 1500; outside; refused NotRetired; refused NotRetired; retired 1 slot 0; refused NotFound; freed slot 0; attached 5 slot 0",
+    ),
+    (
+        "each-number-by-itself",
+        "domain 3 3; attach 0 driver wm 7; attach 0 driver vga 8; enter 1; find 1 driver wm; ref 1 a; exit 1; detach 0 driver wm; detach 0 driver vga; advance 9; advance 2; advance 1; advance 2; attach 0 driver vga 8; detach 0 driver vga; destroy 0 5 1; destroy 0 1 2; destroy 0 5 1; drop 1 a; destroy 0 1 1; destroy 0 1 1; attach 0 driver vga 8",
+        "domain 3 3; attached 1 slot 0; attached 2 slot 1; inside; found 1 slot 0 value 7; ref a 1; outside; retired 1 slot 0; retired 2 slot 1; refused NotRetired; freed slot 1; passive cpu 1; refused NotRetired; attached 5 slot 1; retired 5 slot 1; destroyed slot 1; refused StillHeld passive cpu 1; refused NotRetired; dropped a 1; destroyed slot 0; refused NotRetired; attached 7 slot 0",
+    ),
+    (
+        "the-driver-of-the-reference",
+        "domain 3 4; attach 0 driver wm 7; attach 0 driver vga 8; enter 0; find 0 driver vga; count 0 x; exit 0; plug 0 wm0 1500 x; detach 0 driver wm; detach 0 driver vga; advance 1; advance 2; detach 0 iface wm0; advance 3; advance 2",
+        "domain 3 4; attached 1 slot 0; attached 2 slot 1; inside; found 2 slot 1 value 8; count x 2; outside; attached 3 slot 2; retired 1 slot 0; retired 2 slot 1; freed slot 0; local 1; retired 3 slot 2; freed slot 2; freed slot 1",
+    ),
+    // Three CPUs: who is told that waits, who is watched, and that an attach frees nothing.
+    (
+        "the-least-inside-is-told",
+        "domain 3 1; perform 0 1; enter 1; perform 0 2; enter 2; perform 0 3; perform 1 1; exit 1; perform 0 1; perform 1 2; enter 0; perform 1 2; exit 2; perform 2 1; exit 0; perform 0 3",
+        "domain 3 1; performed; inside; refused Waiting cpu 1; inside; refused Waiting cpu 1; refused Inside; outside; refused Waiting cpu 2; refused Waiting cpu 2; inside; refused Waiting cpu 0; outside; refused Waiting cpu 0; outside; performed",
+    ),
+    (
+        "each-cpu-is-watched",
+        "domain 3 3; attach 0 driver wm 7; attach 0 driver vga 8; attach 0 driver wm1 1; enter 1; detach 0 driver vga; enter 2; detach 0 driver wm1; advance 3; destroy 0 2 2; destroy 0 3 3; exit 1; destroy 0 3 1; destroy 0 2 1; advance 3; enter 1; exit 2; enter 2; destroy 0 3 2; destroy 0 3 1; advance 1; attach 0 driver vga 8",
+        "domain 3 3; attached 1 slot 0; attached 2 slot 1; attached 3 slot 2; inside; retired 2 slot 1; inside; retired 3 slot 2; grace cpu 1; refused StillHeld grace cpu 1; refused StillHeld grace cpu 1; outside; refused StillHeld grace cpu 2; destroyed slot 1; grace cpu 2; inside; outside; inside; destroyed slot 2; refused NotRetired; refused NotRetired; attached 6 slot 1",
+    ),
+    (
+        "each-passive-word-is-watched",
+        "domain 3 2; attach 0 driver wm 7; attach 0 driver vga 8; enter 2; find 2 driver vga; ref 2 a; exit 2; detach 0 driver vga; advance 2; destroy 0 2 3; drop 2 a; destroy 1 2 3",
+        "domain 3 2; attached 1 slot 0; attached 2 slot 1; inside; found 2 slot 1 value 8; ref a 2; outside; retired 2 slot 1; passive cpu 2; refused StillHeld passive cpu 2; dropped a 2; destroyed slot 1",
+    ),
+    (
+        "each-count-is-watched",
+        "domain 3 2; attach 0 driver wm 7; attach 0 driver vga 8; enter 2; find 2 driver vga; count 2 x; exit 2; detach 0 driver vga; destroy 0 2 2; uncount 1 x; destroy 2 2 2",
+        "domain 3 2; attached 1 slot 0; attached 2 slot 1; inside; found 2 slot 1 value 8; count x 2; outside; retired 2 slot 1; refused StillHeld local 1; uncounted x 2; destroyed slot 1",
+    ),
+    (
+        "an-attach-frees-nothing",
+        "domain 3 2; attach 0 driver wm 7; detach 0 driver wm; perform 0 1; attach 0 driver vga 8; attach 0 driver wm 7; attach 2 driver wm 7; advance 1; attach 2 driver wm 7",
+        "domain 3 2; attached 1 slot 0; retired 1 slot 0; performed; attached 3 slot 1; refused NoSlot; refused NoSlot; freed slot 0; attached 4 slot 0",
     ),
 ];
 

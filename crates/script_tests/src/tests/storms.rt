@@ -38,9 +38,9 @@ fn small_storms(rt: HostRuntime) -> Result<(), Fail> {
 }
 
 #[test]
-fn the_greatest_storm(rt: HostRuntime) -> Result<(), Fail> {
-    let sum = storm(&rt, rt.alloc(), 8, 100_000, &OpenGate);
-    assert_eq!(rt; sum, Ok(calm(8, 100_000, 1_600_000, 800_000)));
+fn the_longest_storm(rt: HostRuntime) -> Result<(), Fail> {
+    let sum = storm(&rt, rt.alloc(), 1, 100_000, &OpenGate);
+    assert_eq!(rt; sum, Ok(calm(1, 100_000, 200_000, 100_000)));
     Ok(())
 }
 
