@@ -7,6 +7,7 @@
 #ifndef KUPALDIZ_NETBSD_SYS_TYPES_H
 #define KUPALDIZ_NETBSD_SYS_TYPES_H
 
+#include <pthread.h>
 #include <stdbool.h>
 #include <stddef.h>
 #include <stdint.h>

@@ -6,6 +6,8 @@
 
 #include "layer.h"
 
+enum { SWEPT = 64 };
+
 static pthread_mutex_t interlock = PTHREAD_MUTEX_INITIALIZER;
 static struct bank *banks[MOST_BANKS];	/* atomics; each is stored once, under the interlock */
 static unsigned bank_count;		/* an atomic, stored under the interlock */
@@ -113,29 +115,26 @@ void open_banks(struct thread *me)
 	exit_interlock();
 }
 
-/* How many banks are in no use any more. The caller has the interlock. */
-static unsigned count_spent(void)
+/* Some banks that are in no use any more. How many. */
+static unsigned find_spent(struct bank *found[SWEPT])
 {
-	unsigned spent = 0;
-	for (unsigned place = 0; place < bank_count && used_up > 0; place++)
-		spent += is_spent(banks[place]);
-	return spent;
-}
-
-/*
- * Opens anew the banks that are in no use any more. What is spent stays so until then, but a call on some CPU may still be about to return from
- * such a bank: each CPU is visited before.
- */
-void sweep_banks(struct thread *me)
-{
-	enter_interlock();
-	unsigned spent = count_spent();
-	struct bank *found[8];
 	unsigned count = 0;
-	for (unsigned place = 0; place < bank_count && count < spent && count < 8; place++)
+	enter_interlock();
+	for (unsigned place = 0; place < bank_count && used_up > 0 && count < SWEPT; place++)
 		if (is_spent(banks[place]))
 			found[count++] = banks[place];
 	exit_interlock();
+	return count;
+}
+
+/*
+ * Opens some of those anew. What is spent stays so until then, but a call on some CPU may still be about to return from such a bank: each CPU is visited
+ * before. The thread may sleep.
+ */
+void sweep_banks(struct thread *me)
+{
+	struct bank *found[SWEPT];
+	unsigned count = find_spent(found);
 	if (count == 0)
 		return;
 	visit_cpus(me);

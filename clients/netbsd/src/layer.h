@@ -153,6 +153,7 @@ struct thread {
 	struct thread *next;		/* in the list of those that are free, or in a wait */
 	const void *waits_for;		/* under the bucket's lock */
 	bool woken;
+	unsigned tries;			/* how often it waited for the lock that it waits for */
 	pthread_cond_t cond;
 	int id;				/* the system's */
 	unsigned rounds;		/* of destructors at its end */

@@ -8,7 +8,7 @@
 
 #include "layer.h"
 
-enum { BUCKETS = 64, WAITED = 1 };
+enum { BUCKETS = 64, WAITED = 1, PATIENT_TRIES = 2 };
 
 struct bucket {
 	_Alignas(LINE) pthread_mutex_t mutex;
@@ -112,12 +112,18 @@ void bucket_wake_all(struct bucket *bucket, const void *of)
 		;
 }
 
+/* The first that waits for something; NULL where nobody does. */
+static struct thread *first_for(struct bucket *bucket, const void *of)
+{
+	struct thread *at = bucket->first;
+	while (at != NULL && at->waits_for != of)
+		at = at->next;
+	return at;
+}
+
 bool bucket_has(struct bucket *bucket, const void *of)
 {
-	for (struct thread *at = bucket->first; at != NULL; at = at->next)
-		if (at->waits_for == of)
-			return true;
-	return false;
+	return first_for(bucket, of) != NULL;
 }
 
 /* ---- The lock. ---- */
@@ -167,7 +173,7 @@ void lock_take(uintptr_t *word, struct thread *me, tell_fn *tell)
 	bool told = tell == NULL;
 	int waits = begin_wait();
 	bucket_lock(bucket);
-	while (!take_or_mark(bucket, word, me)) {
+	for (me->tries = 0; !take_or_mark(bucket, word, me); me->tries++) {
 		if (bucket_wait(bucket, word, me, told ? NULL : &tells) || told)
 			continue;
 		told = true;
@@ -179,6 +185,18 @@ void lock_take(uintptr_t *word, struct thread *me, tell_fn *tell)
 	end_wait(waits);
 }
 
+/* Makes another thread the owner, whether it waits already or will. The caller has the bucket's lock. */
+static void pass(struct bucket *bucket, uintptr_t *word, struct thread *to)
+{
+	if (to->waits_for == word) {
+		leave_queue(bucket, to);
+		to->woken = true;
+	}
+	__atomic_store_n(word, (uintptr_t)to | (bucket_has(bucket, word) ? WAITED : 0), __ATOMIC_RELEASE);
+	pthread_cond_signal(&to->cond);
+}
+
+/* Whoever waits gets the lock when it is free next; one that others came before often enough gets it passed. */
 void lock_give(uintptr_t *word, struct thread *me)
 {
 	uintptr_t mine = (uintptr_t)me;
@@ -186,8 +204,13 @@ void lock_give(uintptr_t *word, struct thread *me)
 		return;
 	struct bucket *bucket = &lock_buckets[place_of(word)];
 	bucket_lock(bucket);
-	__atomic_store_n(word, 0, __ATOMIC_RELEASE);
-	bucket_wake(bucket, word);
+	struct thread *first = first_for(bucket, word);
+	if (first != NULL && first->tries >= PATIENT_TRIES) {
+		pass(bucket, word, first);
+	} else {
+		__atomic_store_n(word, 0, __ATOMIC_RELEASE);
+		bucket_wake(bucket, word);
+	}
 	bucket_unlock(bucket);
 }
 
@@ -196,15 +219,7 @@ void lock_pass(uintptr_t *word, struct thread *to)
 {
 	struct bucket *bucket = &lock_buckets[place_of(word)];
 	bucket_lock(bucket);
-	for (struct thread **at = &bucket->first; *at != NULL; at = &(*at)->next) {
-		if (*at == to && to->waits_for == word) {
-			*at = to->next;
-			to->woken = true;
-			break;
-		}
-	}
-	__atomic_store_n(word, (uintptr_t)to | (bucket_has(bucket, word) ? WAITED : 0), __ATOMIC_RELEASE);
-	pthread_cond_signal(&to->cond);
+	pass(bucket, word, to);
 	bucket_unlock(bucket);
 }
 

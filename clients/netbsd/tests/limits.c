@@ -1,6 +1,6 @@
 /*
- * limits - more than one registry takes: over a layer whose registries have four rows, forty changes, two hundred sections of a CPU and thirty
- * references. With `full` over the true limits: more than a million changes, and hundreds of live targets.
+ * limits - more than one registry takes: over a layer whose registries have four rows, forty changes, fifty thousand sections of a CPU and two
+ * thousand references. With `full` over the true limits: more than a million changes, and hundreds of live targets.
  */
 #include <sys/condvar.h>
 #include <sys/localcount.h>
@@ -10,7 +10,7 @@
 
 #include "test.h"
 
-enum { MOST_LIVE = 300, READERS = 4 };
+enum { MOST_LIVE = 300, READERS = 4, REFERENCES = 3501 };	/* no multiple of 7 */
 
 static struct psref_class *things;
 static pserialize_t psz;
@@ -67,8 +67,7 @@ static void test_changes(unsigned changes)
 /* More references of one CPU to one target than it counts. They are released in another order. */
 static void test_references(unsigned references)
 {
-	struct psref psrefs[100];
-	EXPECT(references <= 100);
+	static struct psref psrefs[REFERENCES];
 	psref_target_init(&targets[0], things);
 	for (unsigned i = 0; i < references; i++)
 		psref_acquire(&psrefs[i], &targets[0], things);
@@ -154,9 +153,9 @@ int main(int argc, char **argv)
 	kupaldiz_bind(1);
 	test_live(full ? MOST_LIVE : 40);
 	test_changes(full ? 1100000 : 2000);
-	test_references(full ? 100 : 55);
+	test_references(REFERENCES);
 	if (!full)
-		test_one_way(45);
+		test_one_way(3000);
 	test_sections(full ? 2000 : 400);
 	test_live(full ? MOST_LIVE : 40);
 	psref_class_destroy(things);
