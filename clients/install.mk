@@ -19,8 +19,10 @@ SHARED = libkupaldiz.so.$(VERSION)
 NETBSD_SONAME = libkupaldiz_netbsd.so.$(MAJOR)
 NETBSD_SHARED = libkupaldiz_netbsd.so.$(VERSION)
 
-# The headers of the pages' names: those that a program includes, and the folder that the pages write before them.
-NETBSD_HEADERS = $(patsubst netbsd/%,%,$(wildcard netbsd/*.h netbsd/sys/*.h))
+# The headers of the pages' names: those that a program includes, and the folders that the pages write before them. What they are built from.
+NETBSD_FOLDERS = sys net
+NETBSD_HEADERS = $(patsubst netbsd/%,%,$(wildcard netbsd/*.h $(NETBSD_FOLDERS:%=netbsd/%/*.h)))
+NETBSD_OBJECTS = $(patsubst netbsd/src/%.c,out/installed-netbsd/%.o,$(wildcard netbsd/src/*.c))
 
 # registry(3) and registry_waiting(3), and the calls that each names at its head, each of which gets a page that leads there.
 PAGES = registry registry_waiting
@@ -39,19 +41,21 @@ out/$(SHARED): out/libkupaldiz.a kupaldiz.map install.mk
 	$(CC) -shared -o $@ -Wl,-soname,$(SONAME) -Wl,--version-script=kupaldiz.map -Wl,-z,defs -Wl,-z,text \
 	    -Wl,--whole-archive out/libkupaldiz.a -Wl,--no-whole-archive -pthread
 
-out/installed-netbsd.o: netbsd/netbsd.c $(addprefix netbsd/,$(NETBSD_HEADERS)) $(HEADER)/registry.h
+$(NETBSD_OBJECTS): out/installed-netbsd/%.o: netbsd/src/%.c netbsd/src/layer.h $(addprefix netbsd/,$(NETBSD_HEADERS)) $(HEADER)/registry.h
+	mkdir -p out/installed-netbsd
 	$(CC) $(STRICT) $(CFLAGS) -fPIC -Inetbsd -I$(HEADER) -c -o $@ $<
 
-out/libkupaldiz_netbsd.a: out/installed-netbsd.o
+out/libkupaldiz_netbsd.a: $(NETBSD_OBJECTS)
 	rm -f $@
-	$(AR) rcs $@ $<
+	$(AR) rcs $@ $^
 
-out/$(NETBSD_SHARED): out/installed-netbsd.o out/$(SHARED) netbsd/netbsd.map install.mk
+# A thread that has called the layer runs code of it at its end: the library stays where it is.
+out/$(NETBSD_SHARED): $(NETBSD_OBJECTS) out/$(SHARED) netbsd/netbsd.map install.mk
 	$(CC) -shared -o $@ -Wl,-soname,$(NETBSD_SONAME) -Wl,--version-script=netbsd/netbsd.map -Wl,-z,defs -Wl,-z,text \
-	    out/installed-netbsd.o out/$(SHARED) -pthread
+	    -Wl,-z,nodelete $(NETBSD_OBJECTS) out/$(SHARED) -pthread
 
 install: library
-	$(INSTALL) -d $(DESTDIR)$(LIBDIR)/pkgconfig $(DESTDIR)$(INCLUDEDIR)/kupaldiz/netbsd/sys $(DESTDIR)$(MANDIR)/man3 $(DESTDIR)$(DOCDIR)
+	$(INSTALL) -d $(DESTDIR)$(LIBDIR)/pkgconfig $(NETBSD_FOLDERS:%=$(DESTDIR)$(INCLUDEDIR)/kupaldiz/netbsd/%) $(DESTDIR)$(MANDIR)/man3 $(DESTDIR)$(DOCDIR)
 	$(INSTALL) -m 644 out/libkupaldiz.a $(DESTDIR)$(LIBDIR)/libkupaldiz.a
 	$(INSTALL) -m 755 out/$(SHARED) $(DESTDIR)$(LIBDIR)/$(SHARED)
 	ln -sf $(SHARED) $(DESTDIR)$(LIBDIR)/$(SONAME)
@@ -85,6 +89,6 @@ uninstall:
 	rm -f $(addprefix $(DESTDIR)$(INCLUDEDIR)/kupaldiz/,registry.h registry_waiting.h)
 	rm -f $(addprefix $(DESTDIR)$(MANDIR)/man3/,$(foreach page,$(PAGES),$(page).3 $(addsuffix .3,$(call named_by,$(page)))))
 	rm -f $(DESTDIR)$(DOCDIR)/CHANGELOG.md
-	-rmdir $(DESTDIR)$(INCLUDEDIR)/kupaldiz/netbsd/sys $(DESTDIR)$(INCLUDEDIR)/kupaldiz/netbsd $(DESTDIR)$(INCLUDEDIR)/kupaldiz $(DESTDIR)$(DOCDIR)
+	-rmdir $(NETBSD_FOLDERS:%=$(DESTDIR)$(INCLUDEDIR)/kupaldiz/netbsd/%) $(DESTDIR)$(INCLUDEDIR)/kupaldiz/netbsd $(DESTDIR)$(INCLUDEDIR)/kupaldiz $(DESTDIR)$(DOCDIR)
 
 .PHONY: library install uninstall

@@ -10,7 +10,7 @@ cd "$(dirname "$0")/.."
 work=$PWD/clients/out/peers
 apt=$work/apt
 include=(-Iclients/peers -Iclients/netbsd -Icrates/registry_c/include)
-library=(clients/netbsd/netbsd.c clients/out/libregistry.a -pthread)
+library=(clients/netbsd/src/*.c clients/out/libregistry.a -pthread)
 # shellcheck source=tools/checks.sh
 . tools/checks.sh
 trap forget_log EXIT

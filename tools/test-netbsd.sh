@@ -1,7 +1,7 @@
 #!/usr/bin/env bash
-# Builds the manual pages' own names over the archive, clients/netbsd, and runs their tests: the pages' patterns on four threads, plain and with the
-# sanitizers of addresses and of undefined behaviour, and each misuse in a process of its own. clients/out/libregistry.a stands already.
-# The last line is 'N passed, M failed'.
+# Builds the manual pages' own names over the archive, clients/netbsd, and runs their tests: the pages' patterns and seven drivers on threads, plain, with
+# the sanitizers of addresses and undefined behaviour, and with that of races; each misuse in a process of its own; and what is beyond one
+# registry's limits. clients/out/libregistry.a stands already. The last line is 'N passed, M failed'.
 set -uo pipefail
 cd "$(dirname "$0")/.."
 folder=clients/netbsd
@@ -14,11 +14,11 @@ trap forget_log EXIT
 header_alone() {
     local standard
     for standard in c99 c11 c17 gnu17; do
-        echo "#include \"$1\"" |
+        printf '#include <%s>\nint one_thing;\n' "$1" |
             gcc -std=$standard -D_POSIX_C_SOURCE=200809L -Wall -Wextra -Wpedantic -Werror -I$folder -fsyntax-only -xc - || return 1
     done
     if command -v g++ >/dev/null; then
-        echo "#include \"$1\"" | g++ -std=c++11 -Wall -Wextra -Wpedantic -Werror -I$folder -fsyntax-only -xc++ -
+        printf '#include <%s>\nint one_thing;\n' "$1" | g++ -std=c++11 -Wall -Wextra -Wpedantic -Werror -I$folder -fsyntax-only -xc++ -
     fi
 }
 
@@ -40,15 +40,23 @@ count_cases() {
     fi
 }
 
-for header in cpu localcount pserialize psref sys_types; do
-    check "$header.h alone, in four C standards" header_alone "$header.h"
+# programs WAY: what the Makefile builds for a way, but for what counts its cases.
+programs() {
+    make -s -C $folder list-"$1" | tr ' ' '\n' | grep -vE '^(misuse|misuse_kernel|tells)$'
+}
+
+for header in $(cd $folder && ls ./*.h sys/*.h net/*.h); do
+    check "${header#./} alone, in four C standards" header_alone "${header#./}"
 done
-check "the names and their tests are built, no warning" make -C $folder all
-check "they are built with sanitizers" make -C $folder sanitized
-for test in bind serialize interfaces switch copies; do
-    check "$test" "$out/$test"
-    check "$test with sanitizers" "$out/sanitized-$test"
+for way in plain sanitized raced small; do
+    check "the layer and its tests are built, no warning: $way" make -s -C $folder $way
+    for test in $(programs $way); do
+        check "$test, $way" "$out/$way/$test"
+    done
 done
-count_cases "each misuse by its line" "$out/misuse"
-count_cases "each misuse by its line, with sanitizers" "$out/sanitized-misuse"
+for way in plain sanitized; do
+    count_cases "each misuse of the three pages by its line, $way" "$out/$way/misuse"
+    count_cases "each misuse of locks, memory and threads by its line, $way" "$out/$way/misuse_kernel"
+done
+count_cases "each wait that lasts by its line" "$out/small/tells"
 finish

@@ -1,13 +1,14 @@
 /*
- * cpu.h - which CPU a thread runs on
+ * cpu.h - threads, and the CPUs that they run on
  *
- * What differs from the kernel: a CPU is virtual, one of KUPALDIZ_CPUS, and belongs to the one thread that is bound to it; the others wait or
- * have none. Nothing moves a thread from its CPU, and nothing interrupts it. A thread that reads, or that refers to something, is bound
- * first, by kupaldiz_bind or curlwp_bind; one that makes, destroys or waits needn't be.
+ * A CPU is virtual, one of KUPALDIZ_CPUS. Any number of threads share them: a thread has its CPU for the length of a call, of a read section, of
+ * a spin lock, or of a raised level, and the other threads of that CPU wait meanwhile. Outside of these all threads run at once, on whatever
+ * processor.
  *
- * The registry beneath has one CPU more, the writers', on which all that changes it runs under one lock. No thread is bound to that one.
+ * A thread that isn't bound gets a CPU that is free whenever it needs one, and may get another the next time. One that is bound keeps its CPU.
+ * Whoever holds a passive reference is bound.
  *
- * Nothing here is called from a signal handler, or in the child of a fork whose parent has called anything here.
+ * Nothing of the layer is called from a signal handler. In the child of a fork whose parent had called the layer each call stops.
  */
 #ifndef KUPALDIZ_NETBSD_CPU_H
 #define KUPALDIZ_NETBSD_CPU_H
@@ -18,7 +19,7 @@
 extern "C" {
 #endif
 
-/* How many threads are bound at a time: one to each CPU, 0 to 6. */
+/* How many CPUs there are: 0 to 6. */
 #define KUPALDIZ_CPUS	7
 
 /* A CPU, as far as it is looked into. */
@@ -26,37 +27,60 @@ struct cpu_info {
 	unsigned ci_index;
 };
 
+/* A thread. Only l_pflag, l_name and l_cpu are looked into. */
+struct lwp {
+	int l_pflag;
+	const char *l_name;
+	struct cpu_info *l_cpu;		/* where it ran last, NULL where it never did */
+};
+typedef struct lwp lwp_t;
+
+/* Of l_pflag: the thread stays on its CPU; it runs soft interrupts. */
+#define LP_BOUND	0x00000080
+#define LP_INTR		0x00000040
+
+static const int ncpu = KUPALDIZ_CPUS;
+
+/* kupaldiz_curlwp - this thread: curlwp of the kernel. Stops where memory is refused. */
+struct lwp *kupaldiz_curlwp(void);
+#define curlwp	kupaldiz_curlwp()
+
+/* kupaldiz_cpu - the CPU with that number, for CPU_INFO_FOREACH; NULL past the last one. */
+struct cpu_info *kupaldiz_cpu(unsigned cpu);
+typedef unsigned CPU_INFO_ITERATOR;
+#define CPU_INFO_FOREACH(place, ci)	(place) = 0; ((ci) = kupaldiz_cpu(place)) != NULL; (place)++
+
 /*
- * kupaldiz_bind - bind this thread to the CPU with that number
+ * kupaldiz_bind - bind this thread to the CPU with that number, as a kernel thread that was created for a CPU
  *
- * It stays bound until kupaldiz_unbind, curlwp_bindx(0) or its end, as a kernel thread that was created for a CPU.
- * Stops where there is no such CPU, where this thread is bound, and where another thread is bound to that CPU.
+ * It stays bound until kupaldiz_unbind, curlwp_bindx(0) or its end. Other threads may be bound to that CPU as well.
+ * Stops where there is no such CPU, where this thread is bound, and inside a read section or with a spin lock.
  */
 void kupaldiz_bind(unsigned cpu);
 
 /*
- * kupaldiz_unbind - give this thread's CPU up
+ * kupaldiz_unbind - the thread isn't bound any more
  *
- * Stops where this thread isn't bound, is inside a read section, or has passive references. The end of a bound thread does the same.
+ * Stops where this thread isn't bound, is inside a read section, or has passive references. The end of a bound thread does the same, once the
+ * destructors of its keys have run.
  */
 void kupaldiz_unbind(void);
 
 /*
  * curlwp_bind - keep this thread on its CPU
  *
- * A thread that isn't bound is bound to the least CPU that nobody has, and waits for one where all are taken. The answer is for curlwp_bindx: 0
- * where this call bound the thread, 1 where it was bound before.
+ * It waits for nobody. The answer is for curlwp_bindx: 0 where this call bound the thread, 1 where it was bound before.
  */
 int curlwp_bind(void);
 
 /*
- * curlwp_bindx - undo a curlwp_bind: with 0 the thread gives its CPU up, with 1 it stays bound
+ * curlwp_bindx - undo a curlwp_bind: with 0 the thread is free to move, with 1 it stays bound
  *
- * Stops as kupaldiz_unbind does.
+ * Stops where the thread isn't bound, and with 0 where it has passive references.
  */
 void curlwp_bindx(int bound);
 
-/* curcpu - this thread's CPU. Stops where it isn't bound. */
+/* curcpu - this thread's CPU. Where the thread isn't bound it may be another one by the next call. */
 struct cpu_info *curcpu(void);
 
 /* cpu_index - the number of a CPU, from 0. */
@@ -65,11 +89,36 @@ static inline unsigned cpu_index(const struct cpu_info *cpu)
 	return cpu->ci_index;
 }
 
-/* cpu_number - the number of this thread's CPU. Stops where it isn't bound. */
+/* cpu_number - the number of this thread's CPU. */
 static inline unsigned cpu_number(void)
 {
 	return cpu_index(curcpu());
 }
+
+/* kpreempt_disable - have the CPU until kpreempt_enable: no other thread of it gets into a section meanwhile. It nests. */
+void kpreempt_disable(void);
+
+/* kpreempt_enable - undo one kpreempt_disable. Stops where there was none. */
+void kpreempt_enable(void);
+
+/* kpreempt_disabled - whether the thread has its CPU: by kpreempt_disable, a section, a spin lock or a raised level. */
+bool kpreempt_disabled(void);
+
+/* cpu_intr_p - whether this is a hard interrupt: never, since there are none. */
+static inline bool cpu_intr_p(void)
+{
+	return false;
+}
+
+/* cpu_softintr_p - whether this is a soft interrupt. */
+bool cpu_softintr_p(void);
+
+#ifndef KUPALDIZ_WITHOUT_PLACES
+#define kupaldiz_bind(cpu)	(kupaldiz_at(KUPALDIZ_HERE), kupaldiz_bind(cpu))
+#define kupaldiz_unbind()	(kupaldiz_at(KUPALDIZ_HERE), kupaldiz_unbind())
+#define curlwp_bindx(bound)	(kupaldiz_at(KUPALDIZ_HERE), curlwp_bindx(bound))
+#define kpreempt_enable()	(kupaldiz_at(KUPALDIZ_HERE), kpreempt_enable())
+#endif
 
 #ifdef __cplusplus
 }

@@ -5,10 +5,10 @@
  * pserialize_perform, and then no reader has it. Writers keep apart by a lock of their own.
  *
  * What differs from the page:
- * - A reader is bound to a CPU (cpu.h); there are 7. Its section raises no priority level and stops no interrupt, since there are none. Another
- *   thread may well run meanwhile, for a section belongs to the thread and its CPU alone.
- * - Sections nest 255 deep, and each CPU has 2^40 outermost ones in all.
- * - A wait looks at the section word of each CPU, again and again with ever longer pauses, up to a millisecond; no CPU runs anything for it.
+ * - A section keeps the thread on its CPU (cpu.h), and the other threads of that CPU out of theirs. It raises no level: soft interrupts run
+ *   inside it too, between two calls.
+ * - A wait looks at the section word of each CPU, again and again with ever longer pauses, up to a millisecond; no CPU runs anything for it. After
+ *   some seconds it says on standard error for whom it waits.
  * - What a reader loads and a writer stores in the list itself are atomics of the caller's: release on the writer's side, acquire or consume on
  *   the reader's, as the kernel's atomic_store_release(9) and atomic_load_consume(9) are.
  *
@@ -18,6 +18,7 @@
 #define KUPALDIZ_NETBSD_PSERIALIZE_H
 
 #include "cpu.h"
+#include "locks.h"
 
 #ifdef __cplusplus
 extern "C" {
@@ -34,31 +35,34 @@ void pserialize_destroy(pserialize_t psz);
 /*
  * pserialize_read_enter - enter a read section, or the open one once more
  *
- * The answer is for the pserialize_read_exit that belongs to it: how many sections were open before.
- * Stops where this thread isn't bound, and at the limits above.
+ * The answer is for the pserialize_read_exit that belongs to it: how many sections of this thread were open before. It waits where another
+ * thread of this CPU is inside a section.
  */
 int pserialize_read_enter(void);
 
-/*
- * pserialize_read_exit - exit the section that was entered last
- *
- * Stops where this thread isn't bound or is outside, and where `s` is what another enter answered.
- */
+/* pserialize_read_exit - exit the section that was entered last. Stops outside, and where `s` is what another enter answered. */
 void pserialize_read_exit(int s);
 
 /*
  * pserialize_perform - wait until each read section that is open now, on whatever CPU, has ended
  *
  * It may sleep. Nothing is said of sections that begin during the call.
- * Stops inside a read section, and while another thread performs with the same object.
+ * Stops where the thread mustn't sleep: inside a read section, with a spin lock or at a raised level, and in a soft interrupt.
  */
 void pserialize_perform(pserialize_t psz);
 
-/* pserialize_in_read_section - whether this thread is inside a read section, for assertions. One that isn't bound is outside. */
+/* pserialize_in_read_section - whether this thread is inside a read section, for assertions. */
 bool pserialize_in_read_section(void);
 
 /* pserialize_not_in_read_section - whether it is outside. */
 bool pserialize_not_in_read_section(void);
+
+#ifndef KUPALDIZ_WITHOUT_PLACES
+#define pserialize_destroy(psz)	(kupaldiz_at(KUPALDIZ_HERE), pserialize_destroy(psz))
+#define pserialize_read_enter()	(kupaldiz_at(KUPALDIZ_HERE), pserialize_read_enter())
+#define pserialize_read_exit(s)	(kupaldiz_at(KUPALDIZ_HERE), pserialize_read_exit(s))
+#define pserialize_perform(psz)	(kupaldiz_at(KUPALDIZ_HERE), pserialize_perform(psz))
+#endif
 
 #ifdef __cplusplus
 }

@@ -1,18 +1,15 @@
 /*
  * psref.h - the calls of psref(9), for threads of user space, over registry.h
  *
- * A passive reference keeps its target beyond the read section that found it, and its holder may sleep. It stays with the CPU that acquired it,
- * and its holder with that CPU. Whoever destroys a target has first made sure that no new reference is acquired, mostly by unlinking it and
+ * A passive reference keeps its target beyond the read section that found it, and its holder may sleep. It stays with the thread that acquired
+ * it, and that thread with its CPU. Whoever destroys a target has first made sure that no new reference is acquired, mostly by unlinking it and
  * calling pserialize_perform, and then waits for those that are held.
  *
  * What differs from the page:
- * - 32 targets and local counts are live at a time, together, and 1,000,000 changes are made in all: each init is one, each destroy or
- *   drain another. Each CPU has at most 2^40 references to a target.
- * - A holder is bound to a CPU (cpu.h); there are 7, and each has one thread at a time.
- * - psref_acquire wants proof that the target is live: an open read section, in which it looks the target up, or another reference of this
- *   CPU's to the same target. A lock of the caller's that keeps the target from being destroyed isn't seen: open a section under it.
- * - There are no interrupts. The priority level of a class is taken and means nothing.
- * - psref_target_destroy also waits for the read sections that were open when it was called. It waits as pserialize_perform does.
+ * - A class's level is kept and means nothing: a soft interrupt only runs between two calls.
+ * - psref_target_destroy looks at the words of all CPUs, as pserialize_perform does; no CPU runs anything for it. As in the kernel, the sections
+ *   that were open on any CPU as the last reference was released have ended when it returns.
+ * - Each CPU has at most 2^40 references to a target at a time.
  *
  * What the page forbids and a call sees ends the process by abort(3), after one line on standard error that begins with the call's name.
  */
@@ -20,6 +17,7 @@
 #define KUPALDIZ_NETBSD_PSREF_H
 
 #include "cpu.h"
+#include "locks.h"
 
 #ifdef __cplusplus
 extern "C" {
@@ -30,64 +28,72 @@ struct psref_class;
 /* What references are to. It lies in the object that it protects; only the calls look into it. */
 struct psref_target {
 	struct psref_class *prt_class;	/* NULL once destroyed */
-	uint64_t prt_number;
-	uint64_t prt_slot;
+	uint64_t prt_serial;
+	uint64_t prt_row;
 };
 
 /* A passive reference, in the storage of its holder. Only the calls look into it; it isn't copied but by psref_copy. */
 struct psref {
 	const struct psref_target *psref_target;	/* NULL once released */
-	uint64_t psref_number;
-	unsigned psref_cpu;
+	uint64_t psref_serial;
+	uint32_t psref_index;
+	uint32_t psref_cpu;
 };
 
-/* psref_class_create - a class of targets. Its name, which stands in messages, isn't copied. Stops where memory is refused. */
+/* psref_class_create - a class of targets. Its name, which stands in lines, isn't copied. Stops where memory is refused. */
 struct psref_class *psref_class_create(const char *name, ipl_cookie_t level);
 
-/* psref_class_destroy - end a class. Stops while a target of it is live. */
+/* psref_class_destroy - end a class. Stops while a target of it is live or is being destroyed. */
 void psref_class_destroy(struct psref_class *psref_class);
 
-/*
- * psref_target_init - make a target live
- *
- * Stops where it is live already, and at the limits above.
- */
+/* psref_target_init - make a target live. Stops where it is live already. */
 void psref_target_init(struct psref_target *target, struct psref_class *psref_class);
 
 /*
  * psref_target_destroy - wait until no reference to the target is held, on whatever CPU
  *
- * It may sleep. The target may be freed or initialised again after it.
- * Stops inside a read section; where the target isn't live, is of another class, or is being destroyed already; and where this CPU has a
- * reference to it, which nobody else could release.
+ * It may sleep. The sections that were open as the last reference was released have ended, too. The target may be freed or initialised again
+ * after it.
+ * Stops where the thread mustn't sleep; where the target isn't live, is of another class, or is being destroyed already; and where this thread
+ * has a reference to it, which nobody else could release.
  */
 void psref_target_destroy(struct psref_target *target, struct psref_class *psref_class);
 
 /*
  * psref_acquire - acquire a passive reference to the target
  *
- * Stops where this thread isn't bound; where the target isn't live, or is of another class; and where there is neither an open read section
- * nor another reference of this CPU's to the target.
+ * The caller is inside a read section in which it found the target, or keeps the target by a lock or a reference of its own.
+ * Stops where this thread isn't bound; where the target isn't live, is being destroyed, or is of another class; and where `psref` is held.
  */
 void psref_acquire(struct psref *psref, const struct psref_target *target, struct psref_class *psref_class);
 
 /*
  * psref_release - release a passive reference
  *
- * Stops where this thread isn't bound; where the reference isn't held, is to another target, or was acquired on another CPU; and where the
- * target is of another class.
+ * Stops where the reference isn't held, is to another target, was moved by its bytes, or was acquired by another thread; and where the target
+ * is of another class.
  */
 void psref_release(struct psref *psref, const struct psref_target *target, struct psref_class *psref_class);
 
 /*
  * psref_copy - acquire one more reference to what `from` is to; each of the two is released by itself
  *
- * It wants no read section. Stops as psref_release does, and where the two are one.
+ * It needs no read section, and the target may be being destroyed. Stops as psref_release does of `from`, and where `to` is held.
  */
 void psref_copy(struct psref *to, const struct psref *from, struct psref_class *psref_class);
 
 /* psref_held - whether this CPU has a reference to the target, for assertions. Stops where this thread isn't bound. */
 bool psref_held(const struct psref_target *target, struct psref_class *psref_class);
+
+#ifndef KUPALDIZ_WITHOUT_PLACES
+#define psref_class_destroy(psref_class)		(kupaldiz_at(KUPALDIZ_HERE), psref_class_destroy(psref_class))
+#define psref_target_init(target, psref_class)		(kupaldiz_at(KUPALDIZ_HERE), psref_target_init(target, psref_class))
+#define psref_target_destroy(target, psref_class)	(kupaldiz_at(KUPALDIZ_HERE), psref_target_destroy(target, psref_class))
+#define psref_acquire(psref, target, psref_class)	(kupaldiz_at(KUPALDIZ_HERE), psref_acquire(psref, target, psref_class))
+#define psref_release(psref, target, psref_class)	(kupaldiz_at(KUPALDIZ_HERE), psref_release(psref, target, psref_class))
+#define psref_copy(to, from, psref_class)		(kupaldiz_at(KUPALDIZ_HERE), psref_copy(to, from, psref_class))
+#define psref_held(target, psref_class)			(kupaldiz_at(KUPALDIZ_HERE), psref_held(target, psref_class))
+#endif
 
 #ifdef __cplusplus
 }

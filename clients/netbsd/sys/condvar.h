@@ -1,2 +1,2 @@
 /* sys/condvar.h - under the name that the pages give it */
-#include "../sys_types.h"
+#include "../locks.h"

@@ -1,37 +1,78 @@
 /*
- * bind - ten threads take turns on seven CPUs by curlwp_bind, and a thread that ends gives its CPU up
+ * bind - twenty threads share seven CPUs: none waits to be bound, those of one CPU keep out of each other's sections, and each has depth, sections and
+ * references of its own; threads that aren't bound read as well
  */
-#include "cpu.h"
+#include <sys/cpu.h>
+#include <sys/pserialize.h>
+#include <sys/psref.h>
+
 #include "test.h"
 
-enum { THREADS = 10, TURNS = 200, LIVES = 20 };
+enum { THREADS = 20, ROUNDS = 300, LIVES = 20 };
 
-static atomic_bool taken[KUPALDIZ_CPUS];
-static atomic_uint most, now;
+static atomic_bool inside[KUPALDIZ_CPUS];
+static atomic_uint bound, unbound_sections;
+static struct psref_class *things;
+static struct psref_target target;
 
-/* Notes how many threads are bound at once. */
-static void count_bound(void)
+/* In a section nobody else of this CPU is inside; it nests, and may last. */
+static void read_alone(unsigned round)
 {
-	unsigned bound = atomic_fetch_add(&now, 1) + 1, before = atomic_load(&most);
-	while (bound > before && !atomic_compare_exchange_weak(&most, &before, bound))
-		;
+	int s = pserialize_read_enter(), t = pserialize_read_enter();
+	unsigned cpu = cpu_number();
+	EXPECT(s == 0 && t == 1);
+	EXPECT(!atomic_exchange(&inside[cpu], true));
+	if (round % 16 == 0)
+		sleep_for(50);
+	EXPECT(cpu_number() == cpu && pserialize_in_read_section());
+	EXPECT(atomic_exchange(&inside[cpu], false));
+	pserialize_read_exit(t);
+	pserialize_read_exit(s);
+	EXPECT(pserialize_not_in_read_section());
 }
 
-static void *take_turns(void *arg)
+/* Two references of this thread's own, in another order each round. */
+static void refer(unsigned round)
 {
-	for (int turn = 0; turn < TURNS; turn++) {
-		int bound = curlwp_bind();
-		EXPECT(bound == 0 && cpu_number() < KUPALDIZ_CPUS && cpu_index(curcpu()) == cpu_number());
-		EXPECT(!atomic_exchange(&taken[cpu_number()], true));
-		count_bound();
-		int again = curlwp_bind();
+	struct psref first, second;
+	psref_acquire(&first, &target, things);
+	psref_acquire(&second, &target, things);
+	if (round % 32 == 0)
 		sleep_for(20);
-		EXPECT(again == 1);
+	EXPECT(psref_held(&target, things));
+	psref_release(round % 2 == 0 ? &first : &second, &target, things);
+	EXPECT(psref_held(&target, things));
+	psref_release(round % 2 == 0 ? &second : &first, &target, things);
+}
+
+/* Bound, once all are. */
+static void *work_bound(void *arg)
+{
+	int before = curlwp_bind();
+	unsigned cpu = cpu_number();
+	EXPECT(before == 0 && cpu < KUPALDIZ_CPUS && cpu_index(curcpu()) == cpu);
+	atomic_fetch_add(&bound, 1);
+	while (atomic_load(&bound) < THREADS)
+		sleep_for(100);
+	for (unsigned round = 0; round < ROUNDS; round++) {
+		int again = curlwp_bind();
+		EXPECT(again == 1 && cpu_number() == cpu);
+		read_alone(round);
+		refer(round);
 		curlwp_bindx(again);
-		atomic_fetch_sub(&now, 1);
-		EXPECT(atomic_exchange(&taken[cpu_number()], false));
-		curlwp_bindx(bound);
 	}
+	curlwp_bindx(before);
+	return arg;
+}
+
+/* Not bound: any CPU for each section, and the same one throughout it. */
+static void *work_unbound(void *arg)
+{
+	for (unsigned round = 0; round < ROUNDS; round++) {
+		read_alone(round);
+		atomic_fetch_add(&unbound_sections, 1);
+	}
+	EXPECT(cpu_number() < KUPALDIZ_CPUS && curlwp->l_cpu == curcpu());
 	return arg;
 }
 
@@ -39,21 +80,32 @@ static void *take_turns(void *arg)
 static void *end_bound(void *arg)
 {
 	kupaldiz_bind(3);
+	EXPECT((curlwp->l_pflag & LP_BOUND) != 0 && cpu_number() == 3);
 	return arg;
 }
 
 int main(void)
 {
-	pthread_t threads[THREADS];
-	for (int i = 0; i < THREADS; i++)
-		start_thread(&threads[i], take_turns, NULL);
-	for (int i = 0; i < THREADS; i++)
+	pthread_t threads[THREADS + 4];
+	struct cpu_info *cpu;
+	CPU_INFO_ITERATOR place;
+	unsigned count = 0;
+	for (CPU_INFO_FOREACH(place, cpu))
+		EXPECT(cpu_index(cpu) == count++);
+	EXPECT(count == KUPALDIZ_CPUS && (int)count == ncpu);
+	things = psref_class_create("thing", IPL_SOFTNET);
+	psref_target_init(&target, things);
+	for (int i = 0; i < THREADS + 4; i++)
+		start_thread(&threads[i], i < THREADS ? work_bound : work_unbound, NULL);
+	for (int i = 0; i < THREADS + 4; i++)
 		end_thread(threads[i]);
 	for (int life = 0; life < LIVES; life++) {
 		start_thread(&threads[0], end_bound, NULL);
 		end_thread(threads[0]);
 	}
-	EXPECT(atomic_load(&most) <= KUPALDIZ_CPUS);
-	printf("%d threads took turns, and no two had one CPU\n", THREADS);
+	psref_target_destroy(&target, things);
+	psref_class_destroy(things);
+	EXPECT(atomic_load(&unbound_sections) == 4 * ROUNDS);
+	printf("%d bound threads shared %d CPUs\n", THREADS, KUPALDIZ_CPUS);
 	return 0;
 }

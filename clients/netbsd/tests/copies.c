@@ -32,8 +32,8 @@ static void keep_by_copy(struct thing *thing, struct psref *first)
 	atomic_fetch_add(&waiting, 1);
 	sleep_for(300);
 	EXPECT(thing->round < ROUNDS);
-	/* Another one by the copy alone, without a section. */
-	psref_acquire(&third, &thing->target, things);
+	/* Another one by the copy alone, while the target may be being destroyed. */
+	psref_copy(&third, &copy, things);
 	psref_release(&copy, &thing->target, things);
 	EXPECT(psref_held(&thing->target, things));
 	sleep_for(50);
@@ -56,6 +56,8 @@ static void *hold_all(void *cpu)
 		pserialize_read_exit(s);
 		if (thing != NULL)
 			keep_by_copy(thing, &psref);
+		else
+			sleep_for(20);
 	}
 	return NULL;
 }

@@ -1,16 +1,13 @@
 /*
- * misuse - what the pages forbid and a call sees: each ends its process with its line
+ * misuse - what pserialize(9), psref(9) and localcount(9) forbid and a call sees: each ends its process with its line
  *
- * Each case runs in a child. It must end by abort(3), and all that it says on standard error is the line. The last line counts the cases.
+ * The last line counts the cases.
  */
-#include <signal.h>
-#include <sys/wait.h>
-#include <unistd.h>
-
 #include "localcount.h"
 #include "pserialize.h"
 #include "psref.h"
-#include "test.h"
+#include "softint.h"
+#include "stops.h"
 
 static struct psref_class *things;
 static struct psref_target target, other;
@@ -32,24 +29,6 @@ static void begin(void)
 	localcount_init(&count);
 }
 
-/* Runs a body on a thread of its own, which ends. */
-static void on_thread(void *(*body)(void *))
-{
-	pthread_t thread;
-	start_thread(&thread, body, NULL);
-	end_thread(thread);
-}
-
-/* Runs it on two threads at once, neither of which ends. */
-static void on_two_threads(void *(*body)(void *))
-{
-	pthread_t first, second;
-	start_thread(&first, body, NULL);
-	start_thread(&second, body, NULL);
-	end_thread(first);
-	end_thread(second);
-}
-
 static void acquire(void)
 {
 	int s = pserialize_read_enter();
@@ -66,12 +45,6 @@ static void count_in(void)
 
 /* ---- Threads that aren't bound, and bounds that don't go. ---- */
 
-static void enter_unbound(void)
-{
-	kupaldiz_unbind();
-	pserialize_read_enter();
-}
-
 static void exit_unbound(void)
 {
 	kupaldiz_unbind();
@@ -84,47 +57,10 @@ static void acquire_unbound(void)
 	psref_acquire(&psref, &target, things);
 }
 
-static void *release_it(void *arg)
-{
-	psref_release(&psref, &target, things);
-	return arg;
-}
-
-static void release_unbound(void)
-{
-	acquire();
-	on_thread(release_it);
-}
-
-static void *copy_it(void *arg)
-{
-	struct psref copy;
-	psref_copy(&copy, &psref, things);
-	return arg;
-}
-
-static void copy_unbound(void)
-{
-	acquire();
-	on_thread(copy_it);
-}
-
 static void held_unbound(void)
 {
 	kupaldiz_unbind();
 	psref_held(&target, things);
-}
-
-static void count_unbound(void)
-{
-	kupaldiz_unbind();
-	localcount_acquire(&count);
-}
-
-static void curcpu_unbound(void)
-{
-	kupaldiz_unbind();
-	curcpu();
 }
 
 static void unbind_twice(void)
@@ -149,17 +85,6 @@ static void bind_beyond(void)
 {
 	kupaldiz_unbind();
 	kupaldiz_bind(7);
-}
-
-static void *bind_0(void *arg)
-{
-	kupaldiz_bind(0);
-	return arg;
-}
-
-static void bind_taken(void)
-{
-	on_thread(bind_0);
 }
 
 static void unbind_inside(void)
@@ -192,6 +117,18 @@ static void thread_ends_inside(void)
 	on_thread(end_inside);
 }
 
+static void *end_holding(void *arg)
+{
+	kupaldiz_bind(1);
+	acquire();
+	return arg;
+}
+
+static void thread_ends_holding(void)
+{
+	on_thread(end_holding);
+}
+
 /* ---- pserialize(9). ---- */
 
 static void exit_outside(void)
@@ -206,12 +143,6 @@ static void exit_out_of_order(void)
 	pserialize_read_exit(outer);
 }
 
-static void enter_too_deep(void)
-{
-	for (int i = 0; i < 256; i++)
-		EXPECT(pserialize_read_enter() == i);
-}
-
 static void perform_inside(void)
 {
 	pserialize_read_enter();
@@ -224,17 +155,10 @@ static void *perform_it(void *arg)
 	return arg;
 }
 
-/* Two threads wait for this one's section. */
-static void perform_twice(void)
-{
-	pserialize_read_enter();
-	on_two_threads(perform_it);
-}
-
-/* A struct pserialize begins with this flag. No call tells it, and only once it is set is a destroy sure to be stopped. */
+/* A struct pserialize begins with this number. No call tells it, and only once it is set is a destroy sure to be stopped. */
 static bool is_performing(void)
 {
-	return atomic_load((atomic_bool *)psz);
+	return atomic_load((atomic_uint *)psz) != 0;
 }
 
 static void destroy_performing(void)
@@ -248,6 +172,43 @@ static void destroy_performing(void)
 }
 
 /* ---- psref(9). ---- */
+
+static void *release_it(void *arg)
+{
+	psref_release(&psref, &target, things);
+	return arg;
+}
+
+static void *copy_it(void *arg)
+{
+	struct psref copy = {0};
+	psref_copy(&copy, &psref, things);
+	return arg;
+}
+
+static void *release_on_0(void *arg)
+{
+	kupaldiz_bind(0);
+	return release_it(arg);
+}
+
+static void release_of_another(void)
+{
+	acquire();
+	on_thread(release_on_0);
+}
+
+static void *copy_on_0(void *arg)
+{
+	kupaldiz_bind(0);
+	return copy_it(arg);
+}
+
+static void copy_of_another(void)
+{
+	acquire();
+	on_thread(copy_on_0);
+}
 
 static void *release_on_1(void *arg)
 {
@@ -294,6 +255,51 @@ static void release_both_bytes(void)
 	psref_release(&bytes, &target, things);
 }
 
+/* While the first one is held, its bytes elsewhere are none. */
+static void release_moved(void)
+{
+	acquire();
+	struct psref bytes = psref;
+	psref_release(&bytes, &target, things);
+}
+
+static void copy_moved(void)
+{
+	struct psref copy = {0};
+	acquire();
+	struct psref bytes = psref;
+	psref_copy(&copy, &bytes, things);
+}
+
+static void acquire_into_held(void)
+{
+	acquire();
+	acquire();
+}
+
+/* The table of the CPU is asked, whatever the storage says. */
+static void acquire_into_wiped(void)
+{
+	acquire();
+	memset(&psref, 0, sizeof(psref));
+	acquire();
+}
+
+static void copy_into_held(void)
+{
+	static struct psref second;
+	acquire();
+	psref_copy(&second, &psref, things);
+	psref_copy(&second, &psref, things);
+}
+
+static void release_written_over(void)
+{
+	acquire();
+	psref.psref_target = &other;
+	psref_release(&psref, &other, things);
+}
+
 static void release_other_target(void)
 {
 	psref_target_init(&other, things);
@@ -303,7 +309,7 @@ static void release_other_target(void)
 
 static void copy_never_acquired(void)
 {
-	struct psref copy;
+	struct psref copy = {0};
 	psref_copy(&copy, &psref, things);
 }
 
@@ -322,16 +328,11 @@ static void copy_released(void)
 
 static void copy_released_bytes(void)
 {
-	struct psref copy;
+	struct psref copy = {0};
 	acquire();
 	struct psref bytes = psref;
 	psref_release(&psref, &target, things);
 	psref_copy(&copy, &bytes, things);
-}
-
-static void acquire_outside(void)
-{
-	psref_acquire(&psref, &target, things);
 }
 
 static void acquire_never_live(void)
@@ -356,12 +357,12 @@ static void *destroy_it(void *arg)
 static void acquire_while_destroyed(void)
 {
 	pthread_t destroyer;
+	struct psref second = {0};
 	acquire();
 	start_thread(&destroyer, destroy_it, NULL);
-	for (struct psref first = psref;;) {
-		acquire();
-		psref_release(&psref, &target, things);
-		psref = first;
+	for (;;) {
+		psref_acquire(&second, &target, things);
+		psref_release(&second, &target, things);
 	}
 }
 
@@ -406,16 +407,51 @@ static void class_in_use(void)
 	psref_class_destroy(things);
 }
 
+/* A thread destroys the last target, and waits. */
+static void class_with_target_destroyed(void)
+{
+	pthread_t destroyer;
+	struct psref second = {0};
+	acquire();
+	start_thread(&destroyer, destroy_it, NULL);
+	while (psref_held(&target, things)) {
+		/* As long as a reference is copied the target isn't gone; once it is retired the class still counts it. */
+		psref_copy(&second, &psref, things);
+		psref_release(&second, &target, things);
+		sleep_for(20000);
+		psref_class_destroy(things);
+	}
+}
+
+static void destroy_softly(void *arg)
+{
+	psref_target_destroy(arg, things);
+}
+
+static void destroy_in_softint(void)
+{
+	void *cookie = softint_establish(SOFTINT_NET, destroy_softly, &target);
+	softint_schedule(cookie);
+	sleep_for(20000000);
+}
+
+static void destroy_with_spin(void)
+{
+	kmutex_t spin;
+	mutex_init(&spin, MUTEX_DEFAULT, IPL_VM);
+	mutex_enter(&spin);
+	psref_target_destroy(&target, things);
+}
+
+static void destroy_at_level(void)
+{
+	splnet();
+	psref_target_destroy(&target, things);
+}
+
 static void init_twice(void)
 {
 	psref_target_init(&target, things);
-}
-
-static void init_too_many(void)
-{
-	static struct psref_target targets[32];
-	for (int i = 0; i < 32; i++)
-		psref_target_init(&targets[i], things);
 }
 
 /* ---- localcount(9). ---- */
@@ -493,11 +529,6 @@ static void fini_twice(void)
 	localcount_fini(&count);
 }
 
-static void count_outside(void)
-{
-	localcount_acquire(&count);
-}
-
 static void count_drained(void)
 {
 	drain_it(NULL);
@@ -529,8 +560,6 @@ static void release_drained(void)
 	localcount_release(&count, &cv, &lock);
 }
 
-/* Once a drain has collected the counts, a release wants the lock. The drain lets go of it only after a turn, and no section is open: that turn
- * collects. */
 static void release_locked(void)
 {
 	pthread_t drainer;
@@ -542,156 +571,138 @@ static void release_locked(void)
 	localcount_release(&count, &cv, &lock);
 }
 
+static kmutex_t wrong_lock;
+static kcondvar_t wrong_cv;
+
+static void make_wrong(void)
+{
+	mutex_init(&wrong_lock, MUTEX_DEFAULT, IPL_NONE);
+	cv_init(&wrong_cv, "wrong");
+}
+
+static void release_by_other_lock(void)
+{
+	make_wrong();
+	count_in();
+	count_in();
+	localcount_release(&count, &cv, &lock);
+	localcount_release(&count, &cv, &wrong_lock);
+}
+
+static void release_by_other_cv(void)
+{
+	make_wrong();
+	count_in();
+	count_in();
+	localcount_release(&count, &cv, &lock);
+	localcount_release(&count, &wrong_cv, &lock);
+}
+
+static void drain_by_other_lock(void)
+{
+	make_wrong();
+	count_in();
+	localcount_release(&count, &cv, &lock);
+	mutex_enter(&wrong_lock);
+	localcount_drain(&count, &cv, &wrong_lock);
+}
+
+static void drain_by_other_cv(void)
+{
+	make_wrong();
+	count_in();
+	localcount_release(&count, &cv, &lock);
+	mutex_enter(&lock);
+	localcount_drain(&count, &wrong_cv, &lock);
+}
+
+static void fini_while_drained(void)
+{
+	pthread_t drainer;
+	count_in();
+	start_thread(&drainer, drain_it, NULL);
+	while (!atomic_load(&locked))
+		sleep_for(100);
+	localcount_fini(&count);
+}
+
 static void init_count_twice(void)
 {
 	localcount_init(&count);
 }
 
-/* ---- mutex(9) and condvar(9). ---- */
-
-static void enter_lock_twice(void)
-{
-	mutex_enter(&lock);
-	mutex_enter(&lock);
-}
-
-static void exit_lock_free(void)
-{
-	mutex_exit(&lock);
-}
-
-static void destroy_lock_held(void)
-{
-	mutex_enter(&lock);
-	mutex_destroy(&lock);
-}
-
-static void wait_inside(void)
-{
-	mutex_enter(&lock);
-	pserialize_read_enter();
-	cv_wait(&cv, &lock);
-}
-
-static void wait_without_lock(void)
-{
-	cv_wait(&cv, &lock);
-}
-
-static const struct {
-	void (*body)(void);
-	const char *line;
-} cases[] = {
-    {enter_unbound, "pserialize_read_enter: the thread is not bound to a CPU"},
-    {exit_unbound, "pserialize_read_exit: the thread is not bound to a CPU"},
-    {acquire_unbound, "psref_acquire: the thread is not bound to a CPU"},
-    {release_unbound, "psref_release: the thread is not bound to a CPU"},
-    {copy_unbound, "psref_copy: the thread is not bound to a CPU"},
-    {held_unbound, "psref_held: the thread is not bound to a CPU"},
-    {count_unbound, "localcount_acquire: the thread is not bound to a CPU"},
-    {curcpu_unbound, "curcpu: the thread is not bound to a CPU"},
-    {unbind_twice, "kupaldiz_unbind: the thread is not bound to a CPU"},
-    {bindx_unbound, "curlwp_bindx: the thread is not bound to a CPU"},
-    {bind_twice, "kupaldiz_bind: the thread is bound to CPU 0"},
-    {bind_beyond, "kupaldiz_bind: there is no CPU 7"},
-    {bind_taken, "kupaldiz_bind: another thread is bound to CPU 0"},
-    {unbind_inside, "kupaldiz_unbind: inside a read section"},
-    {unbind_holding, "kupaldiz_unbind: the thread has passive references"},
-    {bindx_holding, "curlwp_bindx: the thread has passive references"},
-    {thread_ends_inside, "kupaldiz_unbind: inside a read section"},
-    {exit_outside, "pserialize_read_exit: outside any read section"},
-    {exit_out_of_order, "pserialize_read_exit: not the section that was entered last"},
-    {enter_too_deep, "pserialize_read_enter: this CPU's section is nested as deep as it may be"},
-    {perform_inside, "pserialize_perform: inside a read section"},
-    {perform_twice, "pserialize_perform: another thread performs with it"},
-    {destroy_performing, "pserialize_destroy: a thread performs with it"},
-    {release_elsewhere, "psref_release: the reference is of CPU 0, and this is CPU 1"},
-    {copy_elsewhere, "psref_copy: the reference is of CPU 0, and this is CPU 1"},
-    {release_never_acquired, "psref_release: the reference is not held"},
-    {release_twice, "psref_release: the reference is not held"},
-    {release_both_bytes, "psref_release: the reference is not held"},
-    {release_other_target, "psref_release: the reference is to another target"},
-    {copy_never_acquired, "psref_copy: the reference is not held"},
-    {copy_to_itself, "psref_copy: the two references are one"},
-    {copy_released, "psref_copy: the reference is not held"},
-    {copy_released_bytes, "psref_copy: the reference is not held"},
-    {acquire_outside, "psref_acquire: outside a read section, and this CPU has no reference to the target"},
-    {acquire_never_live, "psref_acquire: the target is not live"},
-    {acquire_destroyed, "psref_acquire: the target is not live"},
-    {acquire_while_destroyed, "psref_acquire: the target is not live"},
-    {destroy_twice_at_once, "psref_target_destroy: another thread waits for it already"},
-    {destroy_twice, "psref_target_destroy: the target is not live"},
-    {destroy_never_live, "psref_target_destroy: the target is not live"},
-    {destroy_inside, "psref_target_destroy: inside a read section"},
-    {destroy_holding, "psref_target_destroy: this CPU has a reference to the target"},
-    {other_class, "psref_acquire: the target is not of class other"},
-    {class_in_use, "psref_class_destroy: a target of class thing is live"},
-    {init_twice, "psref_target_init: it is live already"},
-    {init_too_many, "psref_target_init: no slot is vacant"},
-    {drain_never_live, "localcount_drain: the count is not live"},
-    {drain_twice, "localcount_drain: the count is not live"},
-    {drain_while_drained, "localcount_drain: another thread waits for it already"},
-    {drain_inside, "localcount_drain: inside a read section"},
-    {drain_without_lock, "localcount_drain: the interlock is not held"},
-    {drain_with_anothers_lock, "localcount_drain: the interlock is not held"},
-    {fini_undrained, "localcount_fini: the count is not drained"},
-    {fini_twice, "localcount_fini: the count is not drained"},
-    {count_outside, "localcount_acquire: outside a read section, and no reference to the count is held"},
-    {count_drained, "localcount_acquire: the count is not live"},
-    {count_while_drained, "localcount_acquire: the count is not live"},
-    {release_uncounted, "localcount_release: no reference to the count is held"},
-    {release_drained, "localcount_release: the count is not live"},
-    {release_locked, "localcount_release: the thread has the lock already"},
-    {init_count_twice, "localcount_init: it is live already"},
-    {enter_lock_twice, "mutex_enter: the thread has the lock already"},
-    {exit_lock_free, "mutex_exit: the thread does not have the lock"},
-    {destroy_lock_held, "mutex_destroy: the lock is held"},
-    {wait_inside, "cv_wait: inside a read section"},
-    {wait_without_lock, "cv_wait: the thread does not have the lock"},
+static const struct stop_case cases[] = {
+    {exit_unbound, "pserialize_read_exit: outside any read section, at PLACE"},
+    {acquire_unbound, "psref_acquire: the thread is not bound to a CPU, at PLACE"},
+    {held_unbound, "psref_held: the thread is not bound to a CPU, at PLACE"},
+    {unbind_twice, "kupaldiz_unbind: the thread is not bound to a CPU, at PLACE"},
+    {bindx_unbound, "curlwp_bindx: the thread is not bound to a CPU, at PLACE"},
+    {bind_twice, "kupaldiz_bind: the thread is bound to CPU 0, at PLACE"},
+    {bind_beyond, "kupaldiz_bind: there is no CPU 7, at PLACE"},
+    {unbind_inside, "kupaldiz_unbind: inside a read section, entered at PLACE, at PLACE"},
+    {unbind_holding, "kupaldiz_unbind: the thread has passive references, at PLACE"},
+    {bindx_holding, "curlwp_bindx: the thread has passive references, at PLACE"},
+    {thread_ends_inside, "pthread_exit: inside a read section"},
+    {thread_ends_holding, "pthread_exit: the thread has passive references"},
+    {exit_outside, "pserialize_read_exit: outside any read section, at PLACE"},
+    {exit_out_of_order, "pserialize_read_exit: not the section that was entered last, at PLACE"},
+    {perform_inside, "pserialize_perform: inside a read section, entered at PLACE, at PLACE"},
+    {destroy_performing, "pserialize_destroy: a thread performs with it, at PLACE"},
+    {release_of_another, "psref_release: the reference is of thread \"misuse\", acquired at PLACE, at PLACE"},
+    {copy_of_another, "psref_copy: the reference is of thread \"misuse\", acquired at PLACE, at PLACE"},
+    {release_elsewhere, "psref_release: the reference is of CPU 0, and this is CPU 1, at PLACE"},
+    {copy_elsewhere, "psref_copy: the reference is of CPU 0, and this is CPU 1, at PLACE"},
+    {release_never_acquired, "psref_release: the reference is not held, at PLACE"},
+    {release_twice, "psref_release: the reference is not held, at PLACE"},
+    {release_both_bytes, "psref_release: the reference is not held, at PLACE"},
+    {release_moved, "psref_release: the reference was moved by its bytes: it was acquired elsewhere at PLACE, at PLACE"},
+    {copy_moved, "psref_copy: the reference was moved by its bytes: it was acquired elsewhere at PLACE, at PLACE"},
+    {acquire_into_held, "psref_acquire: the reference is held already, at PLACE"},
+    {acquire_into_wiped, "psref_acquire: the reference is held already, at PLACE"},
+    {copy_into_held, "psref_copy: the reference is held already, at PLACE"},
+    {release_written_over, "psref_release: the reference was written over, at PLACE"},
+    {release_other_target, "psref_release: the reference is to another target, at PLACE"},
+    {copy_never_acquired, "psref_copy: the reference is not held, at PLACE"},
+    {copy_to_itself, "psref_copy: the reference is held already, at PLACE"},
+    {copy_released, "psref_copy: the reference is not held, at PLACE"},
+    {copy_released_bytes, "psref_copy: the reference is not held, at PLACE"},
+    {acquire_never_live, "psref_acquire: the target is not live, at PLACE"},
+    {acquire_destroyed, "psref_acquire: the target is not live, at PLACE"},
+    {acquire_while_destroyed, "psref_acquire: the target is being destroyed, at PLACE"},
+    {destroy_twice_at_once, "psref_target_destroy: another thread waits for it already, at PLACE"},
+    {destroy_twice, "psref_target_destroy: the target is not live, at PLACE"},
+    {destroy_never_live, "psref_target_destroy: the target is not live, at PLACE"},
+    {destroy_inside, "psref_target_destroy: inside a read section, entered at PLACE, at PLACE"},
+    {destroy_in_softint, "psref_target_destroy: in a soft interrupt, at PLACE"},
+    {destroy_with_spin, "psref_target_destroy: with a spin lock, at PLACE"},
+    {destroy_at_level, "psref_target_destroy: at a raised level, at PLACE"},
+    {destroy_holding, "psref_target_destroy: this thread has a reference to the target, acquired at PLACE, at PLACE"},
+    {other_class, "psref_acquire: the target is not of class other, at PLACE"},
+    {class_in_use, "psref_class_destroy: a target of class thing is live, at PLACE"},
+    {class_with_target_destroyed, "psref_class_destroy: a target of class thing is live, at PLACE"},
+    {init_twice, "psref_target_init: it is live already, at PLACE"},
+    {drain_never_live, "localcount_drain: the count is not live, at PLACE"},
+    {drain_twice, "localcount_drain: the count is not live, at PLACE"},
+    {drain_while_drained, "localcount_drain: another thread waits for it already, at PLACE"},
+    {drain_inside, "localcount_drain: inside a read section, entered at PLACE, at PLACE"},
+    {drain_without_lock, "localcount_drain: the thread does not have the interlock, at PLACE"},
+    {drain_with_anothers_lock, "localcount_drain: the thread does not have the interlock, at PLACE"},
+    {drain_by_other_lock, "localcount_drain: the interlock is another than before, at PLACE"},
+    {drain_by_other_cv, "localcount_drain: the condition variable is another than before, at PLACE"},
+    {fini_undrained, "localcount_fini: the count is not drained, at PLACE"},
+    {fini_while_drained, "localcount_fini: the count is not drained, at PLACE"},
+    {fini_twice, "localcount_fini: the count is not drained, at PLACE"},
+    {count_drained, "localcount_acquire: the count is not live, at PLACE"},
+    {count_while_drained, "localcount_acquire: the count is being drained, at PLACE"},
+    {release_uncounted, "localcount_release: no reference to the count is held, at PLACE"},
+    {release_drained, "localcount_release: the count is not live, at PLACE"},
+    {release_locked, "localcount_release: the thread has the interlock, at PLACE"},
+    {release_by_other_lock, "localcount_release: the interlock is another than before, at PLACE"},
+    {release_by_other_cv, "localcount_release: the condition variable is another than before, at PLACE"},
+    {init_count_twice, "localcount_init: it is live already, at PLACE"},
 };
-
-/* Runs a case in a child, and reads all that it says on standard error. Its status. */
-static int run(void (*body)(void), char *said, size_t room)
-{
-	int ends[2], status;
-	size_t length = 0;
-	ssize_t part;
-	EXPECT(pipe(ends) == 0);
-	pid_t child = fork();
-	EXPECT(child >= 0);
-	if (child == 0) {
-		close(ends[0]);
-		dup2(ends[1], STDERR_FILENO);
-		begin();
-		body();
-		_exit(0);
-	}
-	close(ends[1]);
-	while (length < room - 1 && (part = read(ends[0], said + length, room - 1 - length)) > 0)
-		length += (size_t)part;
-	said[length] = '\0';
-	close(ends[0]);
-	EXPECT(waitpid(child, &status, 0) == child);
-	return status;
-}
-
-/* Whether a case ended by abort with just its line. */
-static bool is_stopped(size_t place)
-{
-	char said[512], wanted[256];
-	int status = run(cases[place].body, said, sizeof(said));
-	snprintf(wanted, sizeof(wanted), "%s\n", cases[place].line);
-	bool right = WIFSIGNALED(status) && WTERMSIG(status) == SIGABRT && strcmp(said, wanted) == 0;
-	if (!right)
-		printf("wanted: %sstatus %d and said: %s\n", wanted, status, said);
-	return right;
-}
 
 int main(void)
 {
-	size_t count_of_cases = sizeof(cases) / sizeof(cases[0]), passed = 0;
-	for (size_t place = 0; place < count_of_cases; place++)
-		passed += is_stopped(place);
-	printf("%zu passed, %zu failed\n", passed, count_of_cases - passed);
-	return passed != count_of_cases;
+	return run_cases(begin, cases, sizeof(cases) / sizeof(cases[0]));
 }

@@ -4,6 +4,7 @@
 #ifndef NETBSD_TEST_H
 #define NETBSD_TEST_H
 
+#include <pthread.h>
 #include <stdatomic.h>
 #include <stdio.h>
 #include <stdlib.h>

@@ -1,0 +1,151 @@
+/*
+ * kernel.h - what kernel files use throughout: assertions, panic(9), kthread(9), kpause(9), copy(9), evcnt(9), module(9)
+ *
+ * What differs from the pages: an assertion is always compiled in. copyin and copyout copy within the one memory that there is; they fail with EFAULT
+ * where the user's address is NULL or below 4096. A module isn't loaded by anybody: its command is a function that a program finds by
+ * kupaldiz_modcmd.
+ */
+#ifndef KUPALDIZ_NETBSD_KERNEL_H
+#define KUPALDIZ_NETBSD_KERNEL_H
+
+#include "cpu.h"
+#include "locks.h"
+
+#ifdef __cplusplus
+extern "C" {
+#endif
+
+/* panic - end the process by abort(3), after one line on standard error. */
+void panic(const char *format, ...) __attribute__((noreturn, format(printf, 1, 2)));
+
+#ifndef KUPALDIZ_WITHOUT_PLACES
+#define panic(...)	(kupaldiz_at(KUPALDIZ_HERE), panic(__VA_ARGS__))
+#endif
+
+/* kupaldiz_failed - what an assertion ends with. */
+void kupaldiz_failed(const char *what, const char *text, const char *place) __attribute__((noreturn));
+void kupaldiz_failed_with(const char *place, const char *text, const char *format, ...) __attribute__((noreturn, format(printf, 3, 4)));
+
+#define KASSERT(condition) \
+	((condition) ? (void)0 : kupaldiz_failed("KASSERT", #condition, KUPALDIZ_HERE))
+#define KASSERTMSG(condition, ...) \
+	((condition) ? (void)0 : kupaldiz_failed_with(KUPALDIZ_HERE, #condition, __VA_ARGS__))
+#define KDASSERT(condition)		KASSERT(condition)
+#define KDASSERTMSG(condition, ...)	KASSERTMSG(condition, __VA_ARGS__)
+
+/* kupaldiz_assert_sleepable - stops where the thread mustn't sleep: in a read section or a soft interrupt, with a spin lock, at a raised level. */
+void kupaldiz_assert_sleepable(void);
+#define ASSERT_SLEEPABLE()	(kupaldiz_at(KUPALDIZ_HERE), kupaldiz_assert_sleepable())
+
+/* How many ticks a second has: 100. */
+static const int hz = 100;
+
+/* getticks - ticks since the first call of the layer, by the clock that nobody sets. */
+int getticks(void);
+
+/* delay, DELAY - wait for so many microseconds, without sleep as far as the kernel's assertions go. */
+void delay(unsigned microseconds);
+#define DELAY(microseconds)	delay(microseconds)
+
+/* kpause - sleep for so many ticks, without the lock meanwhile, which may be NULL. Answers EWOULDBLOCK. Stops where the thread mustn't sleep. */
+int kpause(const char *name, bool interruptible, int ticks, kmutex_t *mutex);
+
+/* ---- kthread(9) ---- */
+
+#define PRI_NONE	(-1)
+#define KTHREAD_IDLE	0x01
+#define KTHREAD_MPSAFE	0x02
+#define KTHREAD_INTR	0x04
+#define KTHREAD_TS	0x08
+#define KTHREAD_MUSTJOIN	0x10
+
+/* kthread_create - a thread that runs `body(arg)`, bound to `cpu` where that isn't NULL. Answers 0 or an errno; the thread is written to `made`. */
+int kthread_create(int priority, int flags, struct cpu_info *cpu, void (*body)(void *), void *arg, lwp_t **made, const char *format, ...) __attribute__((format(printf, 7, 8)));
+
+/* kthread_exit - end this thread. Stops where kthread_create didn't make it. */
+void kthread_exit(int code) __attribute__((noreturn));
+
+/* kthread_join - wait until a thread that was made with KTHREAD_MUSTJOIN has ended. */
+int kthread_join(lwp_t *thread);
+
+/* ---- copy(9) ---- */
+
+/* copyin, copyout - copy from or to the user's memory. Answer 0 or EFAULT. Stop where the thread mustn't sleep. */
+int copyin(const void *user, void *kernel, size_t length);
+int copyout(const void *kernel, void *user, size_t length);
+
+/* copyinstr, copyoutstr - the same of a text of at most `length` bytes with its zero; ENAMETOOLONG beyond. `copied` may be NULL. */
+int copyinstr(const void *user, void *kernel, size_t length, size_t *copied);
+int copyoutstr(const void *kernel, void *user, size_t length, size_t *copied);
+
+#ifndef KUPALDIZ_WITHOUT_PLACES
+#define kpause(name, interruptible, ticks, mutex)	(kupaldiz_at(KUPALDIZ_HERE), kpause(name, interruptible, ticks, mutex))
+#define kthread_exit(code)	(kupaldiz_at(KUPALDIZ_HERE), kthread_exit(code))
+#define kthread_join(thread)	(kupaldiz_at(KUPALDIZ_HERE), kthread_join(thread))
+#define copyin(user, kernel, length)	(kupaldiz_at(KUPALDIZ_HERE), copyin(user, kernel, length))
+#define copyout(kernel, user, length)	(kupaldiz_at(KUPALDIZ_HERE), copyout(kernel, user, length))
+#endif
+
+/* ---- evcnt(9): counters with names. They are attached by being used. ---- */
+
+#define EVCNT_TYPE_MISC	0
+#define EVCNT_TYPE_INTR	1
+#define EVCNT_TYPE_TRAP	2
+
+struct evcnt {
+	uint64_t ev_count;
+	unsigned char ev_type;
+	const struct evcnt *ev_parent;
+	const char *ev_group;
+	const char *ev_name;
+};
+
+#define EVCNT_INITIALIZER(type, parent, group, name)	{ 0, type, parent, group, name }
+#define EVCNT_ATTACH_STATIC(counter)
+
+static inline void evcnt_attach_dynamic(struct evcnt *counter, int type, const struct evcnt *parent, const char *group, const char *name)
+{
+	counter->ev_count = 0;
+	counter->ev_type = (unsigned char)type;
+	counter->ev_parent = parent;
+	counter->ev_group = group;
+	counter->ev_name = name;
+}
+
+static inline void evcnt_detach(struct evcnt *counter)
+{
+	counter->ev_name = NULL;
+}
+
+/* ---- module(9) ---- */
+
+typedef enum {
+	MODULE_CMD_INIT,
+	MODULE_CMD_FINI,
+	MODULE_CMD_STAT,
+	MODULE_CMD_AUTOUNLOAD
+} modcmd_t;
+
+typedef enum {
+	MODULE_CLASS_ANY,
+	MODULE_CLASS_MISC,
+	MODULE_CLASS_VFS,
+	MODULE_CLASS_DRIVER,
+	MODULE_CLASS_EXEC,
+	MODULE_CLASS_SECMODEL
+} modclass_t;
+
+/* MODULE - this file is the module `name`: its command, NAME_modcmd, is kupaldiz_NAME_modcmd for the program. */
+#define MODULE(class_of, name, required) \
+	static int name##_modcmd(modcmd_t, void *); \
+	int kupaldiz_##name##_modcmd(modcmd_t command, void *opaque); \
+	int kupaldiz_##name##_modcmd(modcmd_t command, void *opaque) \
+	{ \
+		return name##_modcmd(command, opaque); \
+	} \
+	extern int kupaldiz_##name##_modcmd(modcmd_t command, void *opaque)
+
+#ifdef __cplusplus
+}
+#endif
+#endif

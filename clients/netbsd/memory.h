@@ -1,0 +1,128 @@
+/*
+ * memory.h - kmem(9), pool(9), pool_cache(9) and percpu(9), over the heap
+ *
+ * Each block knows its size, and what is given back with another one stops. Memory with KM_SLEEP or PR_WAITOK is never refused: the call stops
+ * where the heap refuses it, and where the thread mustn't sleep.
+ */
+#ifndef KUPALDIZ_NETBSD_MEMORY_H
+#define KUPALDIZ_NETBSD_MEMORY_H
+
+#include "cpu.h"
+
+#ifdef __cplusplus
+extern "C" {
+#endif
+
+typedef unsigned km_flag_t;
+#define KM_SLEEP	0x01u
+#define KM_NOSLEEP	0x02u
+
+/* kmem_alloc - a block of that size. With KM_NOSLEEP it answers NULL where memory is refused. Stops with size 0 and in a soft interrupt. */
+void *kmem_alloc(size_t size, km_flag_t flags);
+
+/* kmem_zalloc - the same, of zeros. */
+void *kmem_zalloc(size_t size, km_flag_t flags);
+
+/* kmem_free - give a block back, with its size. Stops where it is NULL or no block, and where it has another size. */
+void kmem_free(void *block, size_t size);
+
+/* kmem_intr_alloc, kmem_intr_zalloc, kmem_intr_free - the same, in a soft interrupt too, where only KM_NOSLEEP is right. */
+void *kmem_intr_alloc(size_t size, km_flag_t flags);
+void *kmem_intr_zalloc(size_t size, km_flag_t flags);
+void kmem_intr_free(void *block, size_t size);
+
+/* kmem_strdupsize - a copy of a text; its size, with the zero, is written to `size` where that isn't NULL. */
+char *kmem_strdupsize(const char *text, size_t *size, km_flag_t flags);
+
+/* kmem_strfree - give such a copy back. */
+void kmem_strfree(char *text);
+
+/* ---- pool(9) and pool_cache(9): objects of one size. ---- */
+
+#define PR_WAITOK	0x01
+#define PR_NOWAIT	0x02
+#define PR_ZERO		0x04
+
+struct pool_allocator;
+
+/* A pool. Only the calls look into it. */
+struct pool {
+	const char *pr_name;
+	size_t pr_size;
+	size_t pr_out;	/* objects that are in use */
+	int pr_level;
+};
+
+typedef struct pool_cache *pool_cache_t;
+
+/* pool_init - a pool of objects of that size. The other words are taken and mean nothing. */
+void pool_init(struct pool *pool, size_t size, unsigned align, unsigned offset, int flags, const char *name, struct pool_allocator *from, int level);
+
+/* pool_destroy - end it. Stops where an object is in use. */
+void pool_destroy(struct pool *pool);
+
+/* pool_get - an object. With PR_NOWAIT it answers NULL where memory is refused. */
+void *pool_get(struct pool *pool, int flags);
+
+/* pool_put - give an object back. Stops where it is none of the pool's. */
+void pool_put(struct pool *pool, void *object);
+
+/* pool_cache_init - a cache of objects that `make` has made, and that `end` ends; both may be NULL. */
+pool_cache_t pool_cache_init(size_t size, unsigned align, unsigned offset, unsigned flags, const char *name, struct pool_allocator *from, int level, int (*make)(void *, void *, int), void (*end)(void *, void *), void *arg);
+
+/* pool_cache_destroy - end it. Stops where an object is in use. */
+void pool_cache_destroy(pool_cache_t cache);
+
+/* pool_cache_get - an object, made. NULL where memory is refused, or `make` fails. */
+void *pool_cache_get(pool_cache_t cache, int flags);
+
+/* pool_cache_put - give an object back, which is ended. */
+void pool_cache_put(pool_cache_t cache, void *object);
+
+/* ---- percpu(9): memory of which each CPU has its own. ---- */
+
+typedef struct percpu percpu_t;
+typedef void (*percpu_callback_t)(void *, void *, struct cpu_info *);
+
+/* percpu_alloc - zeros of that size for each CPU. */
+percpu_t *percpu_alloc(size_t size);
+
+/* percpu_create - the same, and `make(its own, arg, cpu)` for each CPU; `end` likewise at percpu_free. */
+percpu_t *percpu_create(size_t size, percpu_callback_t make, percpu_callback_t end, void *arg);
+
+/* percpu_free - end it, with its size. */
+void percpu_free(percpu_t *percpu, size_t size);
+
+/* percpu_getref - this CPU's own. The thread has the CPU until percpu_putref, and mustn't sleep. */
+void *percpu_getref(percpu_t *percpu);
+
+/* percpu_putref - undo a percpu_getref. */
+void percpu_putref(percpu_t *percpu);
+
+/* percpu_foreach - `look(its own, arg, cpu)` for each CPU, on this thread, while the CPUs go on. */
+void percpu_foreach(percpu_t *percpu, percpu_callback_t look, void *arg);
+
+/* percpu_foreach_xcall - the same, each on its CPU, as xc_broadcast does. */
+void percpu_foreach_xcall(percpu_t *percpu, unsigned flags, percpu_callback_t look, void *arg);
+
+#ifndef KUPALDIZ_WITHOUT_PLACES
+#define kmem_alloc(size, flags)		(kupaldiz_at(KUPALDIZ_HERE), kmem_alloc(size, flags))
+#define kmem_zalloc(size, flags)	(kupaldiz_at(KUPALDIZ_HERE), kmem_zalloc(size, flags))
+#define kmem_free(block, size)		(kupaldiz_at(KUPALDIZ_HERE), kmem_free(block, size))
+#define kmem_intr_alloc(size, flags)	(kupaldiz_at(KUPALDIZ_HERE), kmem_intr_alloc(size, flags))
+#define kmem_intr_zalloc(size, flags)	(kupaldiz_at(KUPALDIZ_HERE), kmem_intr_zalloc(size, flags))
+#define kmem_intr_free(block, size)	(kupaldiz_at(KUPALDIZ_HERE), kmem_intr_free(block, size))
+#define pool_destroy(pool)		(kupaldiz_at(KUPALDIZ_HERE), pool_destroy(pool))
+#define pool_get(pool, flags)		(kupaldiz_at(KUPALDIZ_HERE), pool_get(pool, flags))
+#define pool_put(pool, object)		(kupaldiz_at(KUPALDIZ_HERE), pool_put(pool, object))
+#define pool_cache_destroy(cache)	(kupaldiz_at(KUPALDIZ_HERE), pool_cache_destroy(cache))
+#define pool_cache_get(cache, flags)	(kupaldiz_at(KUPALDIZ_HERE), pool_cache_get(cache, flags))
+#define pool_cache_put(cache, object)	(kupaldiz_at(KUPALDIZ_HERE), pool_cache_put(cache, object))
+#define percpu_free(percpu, size)	(kupaldiz_at(KUPALDIZ_HERE), percpu_free(percpu, size))
+#define percpu_putref(percpu)		(kupaldiz_at(KUPALDIZ_HERE), percpu_putref(percpu))
+#endif
+
+#ifdef __cplusplus
+}
+#endif
+#endif

@@ -1,0 +1,143 @@
+/*
+ * softint.h - softint(9), spl(9), xcall(9) and callout(9), for threads of user space
+ *
+ * Each CPU has a thread for its soft interrupts. It runs a handler on the CPU where the handler was scheduled: at once, where no thread has that
+ * CPU; else between two calls of the thread that has it, inside that thread's section too, and that thread goes on when the handlers have ended or
+ * one of them waits for a lock. Handlers of one CPU run one after another, those of the highest level first.
+ *
+ * What differs from the page: a read section doesn't keep soft interrupts off. spl.. and spin locks do, up to their level.
+ */
+#ifndef KUPALDIZ_NETBSD_SOFTINT_H
+#define KUPALDIZ_NETBSD_SOFTINT_H
+
+#include "cpu.h"
+
+#ifdef __cplusplus
+extern "C" {
+#endif
+
+#define SOFTINT_CLOCK	0x0000u
+#define SOFTINT_BIO	0x0001u
+#define SOFTINT_NET	0x0002u
+#define SOFTINT_SERIAL	0x0003u
+#define SOFTINT_MPSAFE	0x0100u
+#define SOFTINT_LVLMASK	0x00ffu
+
+/* softint_establish - a soft interrupt of this level that runs `handler(arg)`. NULL where memory is refused. */
+void *softint_establish(unsigned flags, void (*handler)(void *), void *arg);
+
+/*
+ * softint_disestablish - end it: it is scheduled nowhere any more, and its handler doesn't run
+ *
+ * It waits for a handler that runs. Stops where the thread mustn't sleep.
+ */
+void softint_disestablish(void *cookie);
+
+/* softint_schedule - have its handler run once on this CPU. Where it is scheduled there already nothing changes. */
+void softint_schedule(void *cookie);
+
+/* kupaldiz_splraise - the CPU's level is at least this one until splx, and the thread keeps its CPU. Answers the level before. */
+int kupaldiz_splraise(int level);
+
+/* splx - the level before. Stops where a spin lock is held that keeps it higher. */
+void splx(int level);
+
+#define splsoftclock()	kupaldiz_splraise(IPL_SOFTCLOCK)
+#define splsoftbio()	kupaldiz_splraise(IPL_SOFTBIO)
+#define splsoftnet()	kupaldiz_splraise(IPL_SOFTNET)
+#define splsoftserial()	kupaldiz_splraise(IPL_SOFTSERIAL)
+#define splvm()		kupaldiz_splraise(IPL_VM)
+#define splnet()	kupaldiz_splraise(IPL_NET)
+#define splbio()	kupaldiz_splraise(IPL_BIO)
+#define spltty()	kupaldiz_splraise(IPL_TTY)
+#define splclock()	kupaldiz_splraise(IPL_CLOCK)
+#define splserial()	kupaldiz_splraise(IPL_SERIAL)
+#define splsched()	kupaldiz_splraise(IPL_SCHED)
+#define splhigh()	kupaldiz_splraise(IPL_HIGH)
+#define splraiseipl(cookie)	kupaldiz_splraise(cookie)
+
+/* ---- xcall(9): a function on other CPUs. ---- */
+
+typedef void (*xcfunc_t)(void *, void *);
+
+#define XC_HIGHPRI	0x01u
+#define XC_HIGHPRI_IPL(level)	(XC_HIGHPRI | (unsigned)(level) << 4)
+
+/*
+ * xc_broadcast - have each CPU run `body(arg1, arg2)` once
+ *
+ * This thread runs it, on each CPU in turn, once no other thread of that CPU is inside a section; it has ended when the call returns. With
+ * XC_HIGHPRI it mustn't sleep. The answer is for xc_wait. Stops where the thread mustn't sleep.
+ */
+uint64_t xc_broadcast(unsigned flags, xcfunc_t body, void *arg_a, void *arg_b);
+
+/* xc_unicast - the same on one CPU. */
+uint64_t xc_unicast(unsigned flags, xcfunc_t body, void *arg_a, void *arg_b, struct cpu_info *cpu);
+
+/* xc_wait - wait until it has run everywhere. */
+void xc_wait(uint64_t ticket);
+
+/* xc_barrier - wait until each CPU has been out of its sections once. */
+void xc_barrier(unsigned flags);
+
+/* ---- callout(9): a function after a time. ---- */
+
+#define CALLOUT_MPSAFE	0x0100u
+#define CALLOUT_FLAGMASK	0xff00u
+
+/* A callout. Only the calls look into it. */
+typedef struct callout {
+	struct callout *c_next;
+	void (*c_body)(void *);
+	void *c_arg;
+	int64_t c_due;		/* nanoseconds of the clock that nobody sets */
+	uint32_t c_made;
+	uint32_t c_state;
+	uint32_t c_cpu;
+} callout_t;
+
+/* callout_init - a callout that isn't pending. */
+void callout_init(callout_t *callout, unsigned flags);
+
+/* callout_destroy - end it. Stops where it is pending or runs. */
+void callout_destroy(callout_t *callout);
+
+/* callout_setfunc - what it runs. */
+void callout_setfunc(callout_t *callout, void (*body)(void *), void *arg);
+
+/* callout_reset - run `body(arg)` after so many ticks, as a soft interrupt of IPL_SOFTCLOCK of this CPU. What was pending isn't any more. */
+void callout_reset(callout_t *callout, int ticks, void (*body)(void *), void *arg);
+
+/* callout_schedule - the same with what it runs already. */
+void callout_schedule(callout_t *callout, int ticks);
+
+/* callout_stop - it isn't pending any more; it may run. Whether it had expired. */
+bool callout_stop(callout_t *callout);
+
+/* callout_halt - the same, and it doesn't run: the call waits for it, without the lock meanwhile, which may be NULL. Stops where the thread mustn't sleep. */
+bool callout_halt(callout_t *callout, void *interlock);
+
+/* callout_pending, callout_expired, callout_active, callout_invoking - for assertions: it waits for its time; its time came; either; it runs or is about to, until callout_ack. */
+bool callout_pending(callout_t *callout);
+bool callout_expired(callout_t *callout);
+bool callout_active(callout_t *callout);
+bool callout_invoking(callout_t *callout);
+
+/* callout_ack - in its body: it isn't invoking any more. */
+void callout_ack(callout_t *callout);
+
+#ifndef KUPALDIZ_WITHOUT_PLACES
+#define softint_disestablish(cookie)	(kupaldiz_at(KUPALDIZ_HERE), softint_disestablish(cookie))
+#define softint_schedule(cookie)	(kupaldiz_at(KUPALDIZ_HERE), softint_schedule(cookie))
+#define kupaldiz_splraise(level)	(kupaldiz_at(KUPALDIZ_HERE), kupaldiz_splraise(level))
+#define splx(level)			(kupaldiz_at(KUPALDIZ_HERE), splx(level))
+#define xc_broadcast(flags, body, arg_a, arg_b)	(kupaldiz_at(KUPALDIZ_HERE), xc_broadcast(flags, body, arg_a, arg_b))
+#define xc_barrier(flags)		(kupaldiz_at(KUPALDIZ_HERE), xc_barrier(flags))
+#define callout_destroy(callout)	(kupaldiz_at(KUPALDIZ_HERE), callout_destroy(callout))
+#define callout_halt(callout, interlock)	(kupaldiz_at(KUPALDIZ_HERE), callout_halt(callout, interlock))
+#endif
+
+#ifdef __cplusplus
+}
+#endif
+#endif

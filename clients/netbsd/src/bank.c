@@ -1,0 +1,363 @@
+/* bank.c - registries and their rows, and the sections and waits that go over all of them */
+#include <errno.h>
+#include <sched.h>
+#include <stdio.h>
+#include <stdlib.h>
+
+#include "layer.h"
+
+enum { SWEPT = 64 };
+
+static pthread_mutex_t interlock = PTHREAD_MUTEX_INITIALIZER;
+static struct bank *banks[MOST_BANKS];	/* atomics; each is stored once, under the interlock */
+static unsigned bank_count;		/* an atomic, stored under the interlock */
+static unsigned roomy;			/* where the next target is tried first; under the interlock, as the next is */
+static unsigned used_up;		/* banks that are */
+static uint64_t serials;
+
+void enter_interlock(void)
+{
+	pthread_mutex_lock(&interlock);
+}
+
+void exit_interlock(void)
+{
+	pthread_mutex_unlock(&interlock);
+}
+
+struct registry_cpu *writers(struct bank *bank)
+{
+	return &bank->cpus[WRITERS].cpu;
+}
+
+/* The handle of this thread's CPU in a bank. The thread has its CPU. */
+struct registry_cpu *handle_of(struct thread *me, struct bank *bank)
+{
+	return &bank->cpus[me->cpu->info.ci_index].cpu;
+}
+
+/* ---- Opening. ---- */
+
+/* Opens the registry of a bank. */
+static void open_registry(struct thread *me, struct bank *bank)
+{
+	const struct registry_settings settings = {
+	    ALL_CPUS, ROWS, KUPALDIZ_CHANGES, KUPALDIZ_SECTIONS, KUPALDIZ_REFERENCES, KUPALDIZ_REFERENCES};
+	struct registry_cpu handles[ALL_CPUS] = {{0}};
+	done(me, registry_open(&settings, &bank->keeper, handles, ALL_CPUS));
+	for (unsigned cpu = 0; cpu < ALL_CPUS; cpu++)
+		bank->cpus[cpu].cpu = handles[cpu];
+	bank->used_up = false;
+}
+
+/* It gets no more targets. The caller has the interlock. */
+static void retire_bank(struct bank *bank)
+{
+	used_up += !bank->used_up;
+	bank->used_up = true;
+}
+
+/* Opens it anew: nothing of it is in use. */
+static void reopen(struct thread *me, struct bank *bank)
+{
+	for (unsigned cpu = 0; cpu < ALL_CPUS; cpu++)
+		done(me, registry_close_cpu(&bank->cpus[cpu].cpu));
+	done(me, registry_close_keeper(&bank->keeper));
+	used_up--;
+	open_registry(me, bank);
+}
+
+static struct bank *new_bank(struct thread *me)
+{
+	struct bank *bank = NULL;
+	if (bank_count == MOST_BANKS)
+		stop(me, "%d targets and counts are live", MOST_BANKS * ROWS);
+	if (posix_memalign((void **)&bank, LINE, sizeof(*bank)) != 0)
+		stop(me, "out of memory");
+	*bank = (struct bank){.place = bank_count};
+	for (unsigned row = 0; row < ROWS; row++)
+		pthread_mutex_init(&bank->rows[row].lock, NULL);
+	open_registry(me, bank);
+	__atomic_store_n(&banks[bank_count], bank, __ATOMIC_RELEASE);
+	__atomic_store_n(&bank_count, bank_count + 1, __ATOMIC_RELEASE);
+	return bank;
+}
+
+/* Whether a bank that is used up is in no use any more. */
+static bool is_spent(const struct bank *bank)
+{
+	return bank->used_up && bank->live == 0 && bank->hosts == 0 && bank->waits == 0;
+}
+
+/* A bank with a free slot: one that there is, or a new one. The caller has the interlock. */
+static struct bank *roomy_bank(struct thread *me)
+{
+	for (unsigned turn = 0; turn < bank_count; turn++) {
+		struct bank *bank = banks[(roomy + turn) % bank_count];
+		if (!bank->used_up && bank->live < ROWS) {
+			roomy = bank->place;
+			return bank;
+		}
+	}
+	struct bank *bank = new_bank(me);
+	roomy = bank->place;
+	return bank;
+}
+
+/* The first bank, which all CPUs take for their sections. */
+void open_banks(struct thread *me)
+{
+	enter_interlock();
+	struct bank *bank = new_bank(me);
+	for (unsigned cpu = 0; cpu < KUPALDIZ_CPUS; cpu++)
+		cpus[cpu].bank = bank;
+	bank->hosts = KUPALDIZ_CPUS;
+	exit_interlock();
+}
+
+/* Some banks that are in no use any more. How many. */
+static unsigned find_spent(struct bank *found[SWEPT])
+{
+	unsigned count = 0;
+	enter_interlock();
+	for (unsigned place = 0; place < bank_count && used_up > 0 && count < SWEPT; place++)
+		if (is_spent(banks[place]))
+			found[count++] = banks[place];
+	exit_interlock();
+	return count;
+}
+
+/*
+ * Opens some of those anew. What is spent stays so until then, but a call on some CPU may still be about to return from such a bank: each CPU is visited
+ * before. The thread may sleep.
+ */
+void sweep_banks(struct thread *me)
+{
+	struct bank *found[SWEPT];
+	unsigned count = find_spent(found);
+	if (count == 0)
+		return;
+	visit_cpus(me);
+	enter_interlock();
+	for (unsigned place = 0; place < count; place++)
+		if (is_spent(found[place]))
+			reopen(me, found[place]);
+	exit_interlock();
+}
+
+/* ---- Rows. ---- */
+
+/* A name that no entry had before: a letter, and the digits of the serial. */
+static struct registry_name name_for(struct thread *me, uint64_t serial)
+{
+	char text[REGISTRY_NAME_BYTES + 8];
+	struct registry_name name;
+	int length = snprintf(text, sizeof(text), "t%llu", (unsigned long long)serial);
+	done(me, registry_name_parse((const uint8_t *)text, (size_t)length, &name, NULL));
+	return name;
+}
+
+/* The row of an owner by what it noted. Whether the owner is live. */
+bool find_row(const void *owner, uint64_t serial, uint64_t place, struct found_row *found)
+{
+	if (serial == 0 || place / ROWS >= __atomic_load_n(&bank_count, __ATOMIC_ACQUIRE))
+		return false;
+	struct bank *bank = __atomic_load_n(&banks[place / ROWS], __ATOMIC_ACQUIRE);
+	struct row *row = &bank->rows[place % ROWS];
+	if (__atomic_load_n(&bank->owners[place % ROWS], __ATOMIC_ACQUIRE) != owner)
+		return false;
+	*found = (struct found_row){bank, row};
+	return row->serial == serial;
+}
+
+/* Whether any row is the owner's, whatever the owner noted. The caller has the interlock. */
+static bool is_live(const void *owner)
+{
+	for (unsigned bank = 0; bank < bank_count; bank++)
+		for (unsigned slot = 0; slot < ROWS && banks[bank]->live > 0; slot++)
+			if (__atomic_load_n(&banks[bank]->owners[slot], __ATOMIC_RELAXED) == owner)
+				return true;
+	return false;
+}
+
+/* Attaches an entry in a bank that takes it; the others are used up. */
+static struct bank *attach_somewhere(struct thread *me, const struct registry_name *name, const void *owner, struct registry_entry *made)
+{
+	for (;;) {
+		struct bank *bank = roomy_bank(me);
+		uint32_t answer = registry_attach(&bank->keeper, writers(bank), name, (uint64_t)(uintptr_t)owner, made);
+		if (answer == REGISTRY_DONE)
+			return bank;
+		if (answer != REGISTRY_HISTORY_FULL)
+			done(me, answer);
+		retire_bank(bank);
+	}
+}
+
+/* Attaches an entry for an owner, whose serial and place are written to it. */
+void attach_row(struct thread *me, const void *owner, uint64_t *serial, uint64_t *place)
+{
+	struct registry_entry made;
+	enter_interlock();
+	if (is_live(owner))
+		stop(me, "it is live already");
+	const struct registry_name name = name_for(me, ++serials);
+	struct bank *bank = attach_somewhere(me, &name, owner, &made);
+	struct row *row = &bank->rows[made.slot];
+	row->serial = serials;
+	row->number = made.number;
+	row->name = name;
+	row->retired = false;
+	row->cv = NULL;
+	row->interlock = NULL;
+	bank->live++;
+	__atomic_store_n(&bank->owners[made.slot], owner, __ATOMIC_RELEASE);
+	*serial = serials;
+	*place = (uint64_t)bank->place * ROWS + made.slot;
+	exit_interlock();
+}
+
+/* Detaches the entry of an owner's row, once. */
+void retire_row(struct thread *me, struct found_row at, const void *owner)
+{
+	enter_interlock();
+	if (at.row->retired || at.bank->owners[at.row - at.bank->rows] != owner)
+		stop(me, "another thread waits for it already");
+	at.row->retired = true;
+	done(me, registry_detach(&at.bank->keeper, writers(at.bank), REGISTRY_DRIVER, &at.row->name, NULL));
+	exit_interlock();
+}
+
+/* One turn of destroying the entry of a row. Where nothing holds it any more, its slot is vacant and the row has no owner. */
+bool is_freed(struct thread *me, struct found_row at, struct registry_stage *met)
+{
+	enter_interlock();
+	uint32_t answer = registry_destroy(&at.bank->keeper, writers(at.bank), at.row->number, met);
+	if (answer != REGISTRY_STILL_HELD) {
+		done(me, answer);
+		COMES_AFTER(&at.row->gone);
+		free(at.row->held);
+		at.row->held = NULL;
+		at.row->count = at.row->room = 0;
+		__atomic_store_n(&at.bank->owners[at.row - at.bank->rows], NULL, __ATOMIC_RELEASE);
+		at.bank->live--;
+	}
+	exit_interlock();
+	return answer == REGISTRY_DONE;
+}
+
+/* ---- Sections. ---- */
+
+/* Takes another bank for the sections of this thread's CPU, since those of the one before are used up. */
+static void move_sections(struct thread *me)
+{
+	enter_interlock();
+	me->cpu->bank->hosts--;
+	retire_bank(me->cpu->bank);
+	me->cpu->bank = roomy_bank(me);
+	me->cpu->bank->hosts++;
+	exit_interlock();
+}
+
+/* Enters a section of this thread's CPU. The thread has the CPU. */
+void enter_section(struct thread *me)
+{
+	uint32_t answer;
+	while ((answer = registry_enter(handle_of(me, me->cpu->bank))) == REGISTRY_SECTIONS_SPENT)
+		move_sections(me);
+	done(me, answer);
+	__atomic_thread_fence(__ATOMIC_SEQ_CST);
+}
+
+void exit_section(struct thread *me)
+{
+	COMES_BEFORE(&me->cpu->edge);
+	done(me, registry_exit(handle_of(me, me->cpu->bank)));
+}
+
+/* ---- Waits. ---- */
+
+struct pauses begin_pauses(void)
+{
+	return (struct pauses){0, time_after(KUPALDIZ_PATIENCE * INT64_C(1000000))};
+}
+
+static bool is_past(const struct timespec *time)
+{
+	struct timespec now = time_after(0);
+	return now.tv_sec > time->tv_sec || (now.tv_sec == time->tv_sec && now.tv_nsec >= time->tv_nsec);
+}
+
+/* Whether it is time to say for whom: once. */
+bool pauses_are_over(struct pauses *pauses)
+{
+	if (pauses->tells.tv_sec == 0 || !is_past(&pauses->tells))
+		return false;
+	pauses->tells.tv_sec = 0;
+	return true;
+}
+
+/* Lets others run: at first at once, then for a time that doubles up to the longest pause. Whether it is time to say for whom. */
+bool pause_longer(struct pauses *pauses)
+{
+	const struct timespec pause = {0, pauses->nanoseconds};
+	if (pauses->nanoseconds < 1000)
+		sched_yield();
+	else
+		nanosleep(&pause, NULL);
+	if (pauses->nanoseconds < LONGEST_PAUSE / 2)
+		pauses->nanoseconds = pauses->nanoseconds * 2 + 1;
+	return pauses_are_over(pauses);
+}
+
+/* A wait for the sections of one bank. */
+struct bank_wait {
+	struct bank *bank;
+	struct registry_wait wait;
+};
+
+/* Begins a wait in each bank that a CPU takes for its sections. How many. */
+static unsigned begin_waits(struct thread *me, struct bank_wait *waits)
+{
+	unsigned count = 0;
+	enter_interlock();
+	__atomic_thread_fence(__ATOMIC_SEQ_CST);
+	for (unsigned place = 0; place < bank_count; place++) {
+		struct bank *bank = banks[place];
+		if (bank->hosts == 0)
+			continue;
+		bank->waits++;
+		waits[count].bank = bank;
+		done(me, registry_perform_begin(&bank->keeper, writers(bank), &waits[count++].wait));
+	}
+	exit_interlock();
+	return count;
+}
+
+/* One turn of a wait: whether all sections that were open as it began have ended. */
+static bool have_ended(struct thread *me, struct bank_wait *wait, uint64_t *waited)
+{
+	enter_interlock();
+	uint32_t answer = registry_perform_turn(&wait->bank->keeper, writers(wait->bank), &wait->wait, waited);
+	if (answer != REGISTRY_WAITING) {
+		done(me, answer);
+		wait->bank->waits--;
+	}
+	exit_interlock();
+	return answer == REGISTRY_DONE;
+}
+
+/* Waits until each section that is open on any CPU has ended. */
+void perform_all(struct thread *me)
+{
+	struct bank_wait waits[KUPALDIZ_CPUS];
+	struct pauses pauses = begin_pauses();
+	uint64_t waited = 0;
+	unsigned count = begin_waits(me, waits);
+	for (unsigned place = 0; place < count; place++)
+		while (!have_ended(me, &waits[place], &waited))
+			if (pause_longer(&pauses))
+				tell_of_section(me, waited);
+	for (unsigned cpu = 0; cpu < KUPALDIZ_CPUS; cpu++)
+		COMES_AFTER(&cpus[cpu].edge);
+}

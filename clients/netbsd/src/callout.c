@@ -1,0 +1,293 @@
+/*
+ * callout.c - callout(9)
+ *
+ * One thread waits for the next time, and then schedules a soft interrupt on the CPU of the callout. That runs what is due there.
+ */
+#include "layer.h"
+
+enum { PENDING = 1, FIRED = 2, INVOKING = 4, TOLD = 8 };
+
+/* Of all that follows, and of the words of each callout. */
+static pthread_mutex_t lock = PTHREAD_MUTEX_INITIALIZER;
+static pthread_cond_t changed;	/* by the clock that nobody sets */
+static callout_t *callouts;	/* that are pending */
+static const callout_t *running[KUPALDIZ_CPUS];
+static struct thread *runners[KUPALDIZ_CPUS];
+static void *softint;
+static pthread_once_t begun = PTHREAD_ONCE_INIT;
+
+static int64_t now(void)
+{
+	struct timespec time = time_after(0);
+	return (int64_t)time.tv_sec * 1000000000 + time.tv_nsec;
+}
+
+/* Takes it out of the list. The caller has the lock. */
+static void unlink_callout(callout_t *callout)
+{
+	callout_t **at = &callouts;
+	while (*at != NULL && *at != callout)
+		at = &(*at)->c_next;
+	if (*at != NULL)
+		*at = callout->c_next;
+	callout->c_state &= ~(uint32_t)(PENDING | TOLD);
+}
+
+/* One that is due on a CPU; NULL where there is none. The caller has the lock. */
+static callout_t *due_on(unsigned cpu)
+{
+	int64_t time = now();
+	for (callout_t *at = callouts; at != NULL; at = at->c_next)
+		if (at->c_cpu == cpu && at->c_due <= time)
+			return at;
+	return NULL;
+}
+
+/* The soft interrupt: runs what is due on this CPU. A callout isn't touched once its body runs, which may have freed it. */
+static void run_due(void *arg)
+{
+	unsigned cpu = cpu_number();
+	callout_t *callout;
+	(void)arg;
+	pthread_mutex_lock(&lock);
+	runners[cpu] = kupaldiz_self;
+	while ((callout = due_on(cpu)) != NULL) {
+		void (*body)(void *) = callout->c_body;
+		void *of = callout->c_arg;
+		unlink_callout(callout);
+		callout->c_state |= FIRED | INVOKING;
+		running[cpu] = callout;
+		pthread_mutex_unlock(&lock);
+		body(of);
+		pthread_mutex_lock(&lock);
+		running[cpu] = NULL;
+		pthread_cond_broadcast(&changed);
+	}
+	pthread_mutex_unlock(&lock);
+}
+
+/* Tells the CPUs of those that are due, once each. When the next one is. The caller has the lock. */
+static int64_t tell_cpus(struct thread *me)
+{
+	int64_t next = INT64_MAX, time = now();
+	for (callout_t *at = callouts; at != NULL; at = at->c_next) {
+		if ((at->c_state & TOLD) != 0)
+			continue;
+		if (at->c_due <= time) {
+			at->c_state |= TOLD;
+			schedule_on(me, softint, &cpus[at->c_cpu]);
+		} else if (at->c_due < next) {
+			next = at->c_due;
+		}
+	}
+	return next;
+}
+
+static _Noreturn void *run_clock(void *arg)
+{
+	struct thread *me = named_thread("callout", "callout");
+	(void)arg;
+	pthread_mutex_lock(&lock);
+	for (;;) {
+		int64_t next = tell_cpus(me);
+		const struct timespec until = {next / 1000000000, (long)(next % 1000000000)};
+		if (next == INT64_MAX)
+			pthread_cond_wait(&changed, &lock);
+		else
+			pthread_cond_timedwait(&changed, &lock, &until);
+	}
+}
+
+/* The soft interrupt and the clock's thread, at the first callout. */
+static void begin(void)
+{
+	pthread_t thread;
+	pthread_condattr_t monotonic;
+	pthread_condattr_init(&monotonic);
+	pthread_condattr_setclock(&monotonic, CLOCK_MONOTONIC);
+	pthread_cond_init(&changed, &monotonic);
+	pthread_condattr_destroy(&monotonic);
+	softint = softint_establish(SOFTINT_CLOCK | SOFTINT_MPSAFE, run_due, NULL);
+	if (softint == NULL || pthread_create(&thread, NULL, run_clock, NULL) != 0)
+		stop_at("callout_init", NULL, "out of memory");
+	pthread_detach(thread);
+}
+
+static void want_callout(const struct thread *me, const callout_t *callout)
+{
+	if (callout->c_made == ENDED)
+		stop(me, "the callout was destroyed");
+	if (callout->c_made != A_CALLOUT)
+		stop(me, "the callout was never initialised");
+}
+
+void callout_init(callout_t *callout, unsigned flags)
+{
+	(void)flags;
+	(void)begin_plain(__func__);
+	pthread_once(&begun, begin);
+	*callout = (callout_t){.c_made = A_CALLOUT};
+}
+
+/* The CPU that runs it; KUPALDIZ_CPUS where none does. The caller has the lock. */
+static unsigned runs_on(const callout_t *callout)
+{
+	unsigned cpu = 0;
+	while (cpu < KUPALDIZ_CPUS && running[cpu] != callout)
+		cpu++;
+	return cpu;
+}
+
+void callout_destroy(callout_t *callout)
+{
+	struct thread *me = begin_call(__func__);
+	want_callout(me, callout);
+	pthread_mutex_lock(&lock);
+	if ((callout->c_state & PENDING) != 0)
+		stop(me, "the callout is pending");
+	if (runs_on(callout) < KUPALDIZ_CPUS && runners[runs_on(callout)] != me)
+		stop(me, "the callout runs");
+	callout->c_made = ENDED;
+	pthread_mutex_unlock(&lock);
+}
+
+void callout_setfunc(callout_t *callout, void (*body)(void *), void *arg)
+{
+	struct thread *me = begin_plain(__func__);
+	want_callout(me, callout);
+	pthread_mutex_lock(&lock);
+	callout->c_body = body;
+	callout->c_arg = arg;
+	pthread_mutex_unlock(&lock);
+}
+
+/* Lets it wait for its time. The caller has the lock. */
+static void make_pending(struct thread *me, callout_t *callout, int ticks)
+{
+	if (callout->c_body == NULL)
+		stop(me, "the callout has no function");
+	if ((callout->c_state & PENDING) != 0)
+		unlink_callout(callout);
+	callout->c_state = (callout->c_state & ~(uint32_t)FIRED) | PENDING;
+	callout->c_due = now() + (int64_t)(ticks > 0 ? ticks : 1) * TICK;
+	callout->c_cpu = cpu_of(me)->info.ci_index;
+	callout->c_next = callouts;
+	callouts = callout;
+	pthread_cond_broadcast(&changed);
+}
+
+void callout_reset(callout_t *callout, int ticks, void (*body)(void *), void *arg)
+{
+	struct thread *me = begin_plain(__func__);
+	want_callout(me, callout);
+	pthread_mutex_lock(&lock);
+	callout->c_body = body;
+	callout->c_arg = arg;
+	make_pending(me, callout, ticks);
+	pthread_mutex_unlock(&lock);
+}
+
+void callout_schedule(callout_t *callout, int ticks)
+{
+	struct thread *me = begin_plain(__func__);
+	want_callout(me, callout);
+	pthread_mutex_lock(&lock);
+	make_pending(me, callout, ticks);
+	pthread_mutex_unlock(&lock);
+}
+
+/* It isn't pending any more. Whether it had expired. The caller has the lock. */
+static bool cancel(callout_t *callout)
+{
+	bool expired = (callout->c_state & FIRED) != 0;
+	if ((callout->c_state & PENDING) != 0)
+		unlink_callout(callout);
+	callout->c_state &= ~(uint32_t)FIRED;
+	return expired;
+}
+
+bool callout_stop(callout_t *callout)
+{
+	struct thread *me = begin_plain(__func__);
+	want_callout(me, callout);
+	pthread_mutex_lock(&lock);
+	bool expired = cancel(callout);
+	pthread_mutex_unlock(&lock);
+	return expired;
+}
+
+/* Waits until it doesn't run, and says after a while that it waits. The caller has the lock. */
+static void await_end(struct thread *me, const callout_t *callout)
+{
+	const struct timespec tells = time_after(KUPALDIZ_PATIENCE * INT64_C(1000000));
+	bool told = false;
+	int waits = begin_wait();
+	while (runs_on(callout) < KUPALDIZ_CPUS) {
+		if (told)
+			pthread_cond_wait(&changed, &lock);
+		else if (pthread_cond_timedwait(&changed, &lock, &tells) != 0 && (told = true))
+			say(me, "waits for CPU %u, which runs it", runs_on(callout));
+	}
+	end_wait(waits);
+}
+
+bool callout_halt(callout_t *callout, void *interlock)
+{
+	struct thread *me = begin_call(__func__);
+	want_callout(me, callout);
+	pthread_mutex_lock(&lock);
+	bool expired = cancel(callout);
+	unsigned cpu = runs_on(callout);
+	if (cpu == KUPALDIZ_CPUS || runners[cpu] == me) {
+		pthread_mutex_unlock(&lock);
+		return expired;
+	}
+	pthread_mutex_unlock(&lock);
+	if (interlock != NULL)
+		give_mutex(me, interlock);
+	want_sleepable(me);
+	pthread_mutex_lock(&lock);
+	await_end(me, callout);
+	pthread_mutex_unlock(&lock);
+	if (interlock != NULL)
+		take_mutex(me, interlock);
+	return expired;
+}
+
+/* Whether one of these holds of it. */
+static bool is(const char *call, callout_t *callout, uint32_t states)
+{
+	want_callout(begin_plain(call), callout);
+	pthread_mutex_lock(&lock);
+	bool holds = (callout->c_state & states) != 0;
+	pthread_mutex_unlock(&lock);
+	return holds;
+}
+
+bool callout_pending(callout_t *callout)
+{
+	return is(__func__, callout, PENDING);
+}
+
+bool callout_expired(callout_t *callout)
+{
+	return is(__func__, callout, FIRED);
+}
+
+bool callout_active(callout_t *callout)
+{
+	return is(__func__, callout, PENDING | FIRED);
+}
+
+bool callout_invoking(callout_t *callout)
+{
+	return is(__func__, callout, INVOKING);
+}
+
+void callout_ack(callout_t *callout)
+{
+	want_callout(begin_plain(__func__), callout);
+	pthread_mutex_lock(&lock);
+	callout->c_state &= ~(uint32_t)INVOKING;
+	pthread_mutex_unlock(&lock);
+}

@@ -1,0 +1,126 @@
+/* condvar.c - condvar(9) */
+#include <errno.h>
+
+#include "layer.h"
+
+void cv_init(kcondvar_t *cv, const char *name)
+{
+	*cv = (kcondvar_t){.cv_name = name, .cv_made = A_CV};
+}
+
+/* Stops where it isn't a condition variable. */
+static void want_cv(const struct thread *me, const kcondvar_t *cv)
+{
+	if (cv->cv_made == ENDED)
+		stop(me, "the condition variable was destroyed");
+	if (cv->cv_made != A_CV)
+		stop(me, "the condition variable was never initialised");
+}
+
+void cv_destroy(kcondvar_t *cv)
+{
+	struct thread *me = begin_call(__func__);
+	want_cv(me, cv);
+	if (cv_has_waiters(cv))
+		stop(me, "a thread waits for %s", cv->cv_name);
+	cv->cv_made = ENDED;
+}
+
+/* Stops where the thread mustn't sleep, but for this lock, which may spin. */
+static void want_sleepable_with(struct thread *me, const kmutex_t *mutex)
+{
+	if (!mutex->mtx_spins) {
+		want_sleepable(me);
+		return;
+	}
+	if (me->softint)
+		stop(me, "in a soft interrupt");
+	if (me->depth > 0 || me->spins > 1 || me->level_before > IPL_NONE || me->preemptions > 0)
+		stop(me, "the thread has more than this spin lock");
+}
+
+/* Waits to be woken, without the lock meanwhile, for so long at most; less than 0 is for ever. Whether it was woken. */
+bool wait_for(struct thread *me, kcondvar_t *cv, kmutex_t *mutex, int64_t nanoseconds)
+{
+	struct timespec deadline = time_after(nanoseconds < 0 ? 0 : nanoseconds);
+	struct bucket *bucket = bucket_of(cv);
+	want_cv(me, cv);
+	want_mutex(me, mutex);
+	if (!has_mutex(me, mutex))
+		stop(me, "the thread does not have the lock");
+	want_sleepable_with(me, mutex);
+	int waits = begin_wait();
+	bucket_lock(bucket);
+	give_mutex(me, mutex);
+	bool woken = bucket_wait(bucket, cv, me, nanoseconds < 0 ? NULL : &deadline);
+	bucket_unlock(bucket);
+	take_mutex(me, mutex);
+	end_wait(waits);
+	return woken;
+}
+
+void wake_cv(struct thread *me, kcondvar_t *cv, bool all)
+{
+	struct bucket *bucket = bucket_of(cv);
+	want_cv(me, cv);
+	bucket_lock(bucket);
+	if (all)
+		bucket_wake_all(bucket, cv);
+	else
+		bucket_wake(bucket, cv);
+	bucket_unlock(bucket);
+}
+
+static int timed(struct thread *me, kcondvar_t *cv, kmutex_t *mutex, int ticks)
+{
+	return wait_for(me, cv, mutex, ticks == 0 ? -1 : (int64_t)ticks * TICK) ? 0 : EWOULDBLOCK;
+}
+
+void cv_wait(kcondvar_t *cv, kmutex_t *mutex)
+{
+	wait_for(begin_call(__func__), cv, mutex, -1);
+}
+
+int cv_wait_sig(kcondvar_t *cv, kmutex_t *mutex)
+{
+	wait_for(begin_call(__func__), cv, mutex, -1);
+	return 0;
+}
+
+int cv_timedwait(kcondvar_t *cv, kmutex_t *mutex, int ticks)
+{
+	return timed(begin_call(__func__), cv, mutex, ticks);
+}
+
+int cv_timedwait_sig(kcondvar_t *cv, kmutex_t *mutex, int ticks)
+{
+	return timed(begin_call(__func__), cv, mutex, ticks);
+}
+
+void cv_signal(kcondvar_t *cv)
+{
+	struct thread *me = begin_call(__func__);
+	wake_cv(me, cv, false);
+	end_call(me);
+}
+
+void cv_broadcast(kcondvar_t *cv)
+{
+	struct thread *me = begin_call(__func__);
+	wake_cv(me, cv, true);
+	end_call(me);
+}
+
+bool cv_has_waiters(kcondvar_t *cv)
+{
+	struct bucket *bucket = bucket_of(cv);
+	bucket_lock(bucket);
+	bool waited = bucket_has(bucket, cv);
+	bucket_unlock(bucket);
+	return waited;
+}
+
+bool cv_is_valid(kcondvar_t *cv)
+{
+	return cv->cv_made == A_CV;
+}

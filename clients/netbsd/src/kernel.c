@@ -1,0 +1,239 @@
+/* kernel.c - assertions, panic(9), kpause(9), kthread(9) and copy(9) */
+#include <errno.h>
+#include <sched.h>
+#include <stdarg.h>
+#include <stdio.h>
+#include <stdlib.h>
+#include <string.h>
+
+#include "layer.h"
+
+/* ---- Assertions. ---- */
+
+void panic(const char *format, ...)
+{
+	char text[256];
+	va_list words;
+	va_start(words, format);
+	vsnprintf(text, sizeof(text), format, words);
+	va_end(words);
+	stop(begin_call(__func__), "%s", text);
+}
+
+void kupaldiz_failed(const char *what, const char *text, const char *place)
+{
+	stop_at(what, place, "not so: %s", text);
+}
+
+void kupaldiz_failed_with(const char *place, const char *text, const char *format, ...)
+{
+	char more[256];
+	va_list words;
+	va_start(words, format);
+	vsnprintf(more, sizeof(more), format, words);
+	va_end(words);
+	stop_at("KASSERTMSG", place, "not so: %s: %s", text, more);
+}
+
+void kupaldiz_assert_sleepable(void)
+{
+	want_sleepable(begin_call("ASSERT_SLEEPABLE"));
+}
+
+/* ---- Time. ---- */
+
+int getticks(void)
+{
+	struct timespec now = time_after(0);
+	return (int)((uint64_t)now.tv_sec * (1000000000 / TICK) + (uint64_t)now.tv_nsec / TICK);
+}
+
+void delay(unsigned microseconds)
+{
+	struct timespec end = time_after((int64_t)microseconds * 1000), now;
+	do {
+		sched_yield();
+		now = time_after(0);
+	} while (now.tv_sec < end.tv_sec || (now.tv_sec == end.tv_sec && now.tv_nsec < end.tv_nsec));
+}
+
+int kpause(const char *name, bool interruptible, int ticks, kmutex_t *mutex)
+{
+	struct thread *me = begin_call(__func__);
+	const struct timespec time = {ticks * (long)TICK / 1000000000, ticks * (long)TICK % 1000000000};
+	(void)name;
+	(void)interruptible;
+	if (mutex != NULL)
+		give_mutex(me, mutex);
+	want_sleepable(me);
+	if (ticks <= 0)
+		stop(me, "no time to sleep for");
+	int waits = begin_wait();
+	nanosleep(&time, NULL);
+	end_wait(waits);
+	if (mutex != NULL)
+		take_mutex(me, mutex);
+	return EWOULDBLOCK;
+}
+
+/* ---- kthread(9) ---- */
+
+/* A thread that kthread_create has made. */
+struct kthread {
+	pthread_t id;
+	struct thread *thread;		/* NULL until it has begun */
+	struct cpu_info *cpu;
+	void (*body)(void *);
+	void *arg;
+	bool joined;
+	char name[32];
+	struct kthread *next;
+};
+
+static pthread_mutex_t kthreads_lock = PTHREAD_MUTEX_INITIALIZER;
+static pthread_cond_t begun = PTHREAD_COND_INITIALIZER;
+static struct kthread *kthreads;	/* those that are joined at their end */
+static _Thread_local bool is_kthread;
+
+/* Runs what it was made for. */
+static void *run_kthread(void *of)
+{
+	struct kthread *kthread = of;
+	void (*body)(void *) = kthread->body;
+	void *arg = kthread->arg;
+	struct thread *me = named_thread("kthread_create", kthread->name);
+	is_kthread = true;
+	if (kthread->cpu != NULL)
+		bind_to(me, &cpus[kthread->cpu->ci_index]);
+	pthread_mutex_lock(&kthreads_lock);
+	kthread->thread = me;
+	pthread_cond_broadcast(&begun);
+	pthread_mutex_unlock(&kthreads_lock);
+	body(arg);
+	return NULL;
+}
+
+/* Starts it, and waits until it has begun. 0 or an errno. */
+static int start(struct kthread *kthread)
+{
+	int answer = pthread_create(&kthread->id, NULL, run_kthread, kthread);
+	if (answer != 0)
+		return answer;
+	pthread_mutex_lock(&kthreads_lock);
+	while (kthread->thread == NULL)
+		pthread_cond_wait(&begun, &kthreads_lock);
+	if (kthread->joined) {
+		kthread->next = kthreads;
+		kthreads = kthread;
+	}
+	pthread_mutex_unlock(&kthreads_lock);
+	if (!kthread->joined)
+		pthread_detach(kthread->id);
+	return 0;
+}
+
+int kthread_create(int priority, int flags, struct cpu_info *cpu, void (*body)(void *), void *arg, lwp_t **made, const char *format, ...)
+{
+	struct thread *me = begin_plain(__func__);
+	struct kthread *kthread = memory(me, sizeof(*kthread));
+	va_list words;
+	(void)priority;
+	va_start(words, format);
+	vsnprintf(kthread->name, sizeof(kthread->name), format, words);
+	va_end(words);
+	kthread->cpu = cpu;
+	kthread->body = body;
+	kthread->arg = arg;
+	kthread->joined = (flags & KTHREAD_MUSTJOIN) != 0;
+	int waits = begin_wait();
+	int answer = start(kthread);
+	end_wait(waits);
+	if (made != NULL && answer == 0)
+		*made = &kthread->thread->lwp;
+	if (answer != 0 || !kthread->joined)
+		free(kthread);
+	return answer;
+}
+
+void kthread_exit(int code)
+{
+	struct thread *me = begin_call(__func__);
+	(void)code;
+	if (!is_kthread)
+		stop(me, "kthread_create did not make this thread");
+	pthread_exit(NULL);
+}
+
+int kthread_join(lwp_t *thread)
+{
+	struct thread *me = begin_call(__func__);
+	struct kthread *found = NULL;
+	want_sleepable(me);
+	pthread_mutex_lock(&kthreads_lock);
+	for (struct kthread **at = &kthreads; *at != NULL; at = &(*at)->next) {
+		if (&(*at)->thread->lwp == thread) {
+			found = *at;
+			*at = found->next;
+			break;
+		}
+	}
+	pthread_mutex_unlock(&kthreads_lock);
+	if (found == NULL)
+		stop(me, "no thread that was made with KTHREAD_MUSTJOIN");
+	int waits = begin_wait();
+	pthread_join(found->id, NULL);
+	end_wait(waits);
+	free(found);
+	return 0;
+}
+
+/* ---- copy(9) ---- */
+
+/* Whether an address may be the user's. */
+static bool is_mapped(const void *user)
+{
+	return (uintptr_t)user >= 4096;
+}
+
+static int copy(struct thread *me, const void *from, void *to, const void *user, size_t length)
+{
+	want_sleepable(me);
+	if (length > 0 && !is_mapped(user))
+		return EFAULT;
+	if (length > 0)
+		memcpy(to, from, length);
+	return 0;
+}
+
+int copyin(const void *user, void *kernel, size_t length)
+{
+	return copy(begin_call(__func__), user, kernel, user, length);
+}
+
+int copyout(const void *kernel, void *user, size_t length)
+{
+	return copy(begin_call(__func__), kernel, user, user, length);
+}
+
+static int copy_text(struct thread *me, const char *from, char *to, const void *user, size_t length, size_t *copied)
+{
+	want_sleepable(me);
+	if (!is_mapped(user))
+		return EFAULT;
+	size_t all = strnlen(from, length);
+	size_t count = all < length ? all + 1 : length;
+	memcpy(to, from, count);
+	if (copied != NULL)
+		*copied = count;
+	return all < length ? 0 : ENAMETOOLONG;
+}
+
+int copyinstr(const void *user, void *kernel, size_t length, size_t *copied)
+{
+	return copy_text(begin_plain(__func__), user, kernel, user, length, copied);
+}
+
+int copyoutstr(const void *kernel, void *user, size_t length, size_t *copied)
+{
+	return copy_text(begin_plain(__func__), kernel, user, user, length, copied);
+}

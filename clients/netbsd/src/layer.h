@@ -1,0 +1,358 @@
+/*
+ * layer.h - what the parts of the layer share; no program includes it
+ *
+ * HOW THE PAGES ARE MAPPED
+ *
+ * A registry and its CPUs are a bank. A bank has eight CPUs: seven are those of cpu.h, and the eighth is the writers', on which whoever attaches,
+ * detaches, or makes a turn of a wait does it, under the one lock `interlock`, which is also the keepers'. There is one bank at first. Further ones
+ * are opened where all slots are taken; one whose changes are used up gets no new target, and is opened anew once it is empty.
+ *
+ * A thread has a CPU by taking the CPU's lock `hold`, for as long as it has a reason: a call, a section, a spin lock, a raised level. Whoever has
+ * the CPU alone uses its handles, its table of references, and its place among the banks. So each handle is used by one call at a time.
+ *
+ * A read section of pserialize(9) is a section of the thread's CPU in the bank that this CPU takes for its sections. Most often that is the first
+ * bank; a CPU whose sections are used up there goes on in another one. pserialize_perform is a wait for all open sections of each such bank, begun and
+ * turned on the writers' CPU. The caller's list isn't among the registry's words, so a full fence stands between its words and the section words:
+ * after an enter, and before a wait. A reader whose enter the wait doesn't see thus sees what the writer stored before it. A CPU that goes
+ * to another bank does so under the interlock: a wait that begins later sees it, and of one that began before, the reader sees all stores.
+ *
+ * Each psref_target and each localcount is a driver of a bank, with a generated name that no other ever has, and the address of its owner as its
+ * value. The slot that the registry gives it is also its row in the bank; the owner notes row and serial, and the row notes the owner. A call
+ * is right in what it is given where both notes agree.
+ *
+ * psref_acquire is registry_get: a section of its own, nested in the open one if that is of the same bank, in which the entry is found by its name and
+ * acquired. What isn't found is being destroyed. That a reader who met a target in the caller's list finds its entry, too, lies in the
+ * order of the atomic steps: the attach came before the list had the target. No contract says it, since the reader's CPU hasn't heard of the
+ * attach. Each reference is noted in a table of its CPU: whose it is, where it lies, and from which place it was acquired.
+ *
+ * localcount_acquire finds its entry in a section as well, and acquires a local reference to it. That is a handle, and localcount_release gets
+ * none: any release lets go of any reference. So the handles that are held lie on a stack in the row, under the row's lock.
+ *
+ * psref_target_destroy and localcount_drain detach the entry, and then make turns of destroying it until it is freed, without the interlock between
+ * two. psref_target_destroy then performs: the sections in which the last references were released have ended as well. A drain waits for the
+ * caller's condition variable between two turns. A release on a CPU whose count was collected is told so while its reference is still held: only
+ * then it takes the caller's lock, gives the reference up, and wakes the drain, which can't return before that lock is free. After any other
+ * release the count isn't touched again, for the drain may have returned.
+ *
+ * The order of locks: the caller's, then a CPU's hold, then the row's or the interlock, and a bucket of lock.c. No other lock is taken under the
+ * last three.
+ */
+#ifndef KUPALDIZ_NETBSD_LAYER_H
+#define KUPALDIZ_NETBSD_LAYER_H
+
+#define KUPALDIZ_WITHOUT_PLACES
+
+#include <limits.h>
+#include <pthread.h>
+#include <sys/types.h>
+#include <time.h>
+
+#include "../cpu.h"
+#include "../kernel.h"
+#include "../localcount.h"
+#include "../locks.h"
+#include "../memory.h"
+#include "../pserialize.h"
+#include "../psref.h"
+#include "../softint.h"
+#include "registry.h"
+
+/* The limits, which a test may lower: of a bank, and how many milliseconds a wait lasts before it says for whom. */
+#ifndef KUPALDIZ_ROWS
+#define KUPALDIZ_ROWS		REGISTRY_MOST_SLOTS
+#endif
+#ifndef KUPALDIZ_CHANGES
+#define KUPALDIZ_CHANGES	REGISTRY_MOST_CHANGES
+#endif
+#ifndef KUPALDIZ_SECTIONS
+#define KUPALDIZ_SECTIONS	REGISTRY_MOST_COUNT
+#endif
+#ifndef KUPALDIZ_REFERENCES
+#define KUPALDIZ_REFERENCES	REGISTRY_MOST_COUNT
+#endif
+#ifndef KUPALDIZ_PATIENCE
+#define KUPALDIZ_PATIENCE	5000
+#endif
+
+enum {
+	WRITERS = KUPALDIZ_CPUS,
+	ALL_CPUS = KUPALDIZ_CPUS + 1,
+	ROWS = KUPALDIZ_ROWS,
+	MOST_BANKS = 8192,
+	LINE = 64,
+	MOST_PLACES = 6,
+	LAST_ROUND = PTHREAD_DESTRUCTOR_ITERATIONS - 1,	/* of destructors: in the one after it the thread sanitizer is gone */
+	LONGEST_PAUSE = 1000000,	/* nanoseconds */
+	LEVELS = IPL_HIGH + 1,
+	TICK = 1000000000 / 100		/* nanoseconds: hz is 100 */
+};
+
+_Static_assert((int)ALL_CPUS <= (int)REGISTRY_MOST_CPUS, "each CPU of the registry is a thread's or the writers'");
+
+/* What the thread sanitizer is told of the order that the archive, which isn't compiled with it, makes. */
+#ifdef __SANITIZE_THREAD__
+void __tsan_acquire(void *address);
+void __tsan_release(void *address);
+#define COMES_AFTER(edge)	__tsan_acquire(edge)
+#define COMES_BEFORE(edge)	__tsan_release(edge)
+#pragma GCC diagnostic ignored "-Wtsan"
+#else
+#define COMES_AFTER(edge)	((void)(edge))
+#define COMES_BEFORE(edge)	((void)(edge))
+#endif
+
+struct thread;
+struct cpu;
+
+/* ---- lock.c: a lock that knows its owner. ---- */
+
+/* Its word is its owner; the lowest bit says that somebody waits. Whoever gives it back doesn't touch it afterwards. */
+struct lock {
+	uintptr_t word;
+};
+
+/* Says for whom a wait for the lock lasts. */
+typedef void tell_fn(struct thread *me, const uintptr_t *word);
+
+bool lock_try(uintptr_t *word, struct thread *me);
+void lock_take(uintptr_t *word, struct thread *me, tell_fn *tell);
+void lock_give(uintptr_t *word, struct thread *me);
+void lock_pass(uintptr_t *word, struct thread *to);
+void lock_await(uintptr_t *word, struct thread *me);
+struct thread *lock_owner(const uintptr_t *word);
+
+/* A place to wait in, for an address: many addresses share one. */
+struct bucket;
+struct bucket *bucket_of(const void *address);
+void bucket_lock(struct bucket *bucket);
+void bucket_unlock(struct bucket *bucket);
+bool bucket_wait(struct bucket *bucket, const void *of, struct thread *me, const struct timespec *deadline);
+bool bucket_wake(struct bucket *bucket, const void *of);
+void bucket_wake_all(struct bucket *bucket, const void *of);
+bool bucket_has(struct bucket *bucket, const void *of);
+
+struct timespec time_after(int64_t nanoseconds);
+
+/* ---- thread.c: threads and CPUs. ---- */
+
+/* A thread as the layer keeps it. Where others read it, it is read and written as an atomic. Its memory is never freed, but used again. */
+struct thread {
+	struct lwp lwp;			/* what the code looks into; first */
+	const char *call, *place;	/* the call that it is in */
+	struct cpu *cpu;		/* where it runs, or ran last; NULL at first */
+	unsigned holds;			/* reasons for which it has its CPU */
+	unsigned depth;			/* open sections */
+	const char *entered;		/* where the outermost one was entered */
+	unsigned references;		/* passive references */
+	unsigned locks;			/* locks that don't spin */
+	unsigned preemptions;		/* kpreempt_disable */
+	unsigned spins;			/* spin locks */
+	int level, level_before;	/* the CPU's level, and what it was before the first spin lock */
+	bool softint;
+	struct thread *lender;		/* of a soft interrupt: the thread whose CPU it has */
+	struct thread *next;		/* in the list of those that are free, or in a wait */
+	const void *waits_for;		/* under the bucket's lock */
+	bool woken;
+	unsigned tries;			/* how often it waited for the lock that it waits for */
+	pthread_cond_t cond;
+	int id;				/* the system's */
+	unsigned rounds;		/* of destructors at its end */
+	char name[32];
+};
+
+/* A reference in the table of its CPU. */
+struct reference {
+	const struct psref *psref;	/* where it lies, NULL where the place is free */
+	const struct psref_target *target;
+	const char *place;
+	struct thread *thread;
+	uint64_t serial;
+	uint32_t via;			/* the registry's CPU that counts it: this one, or the writers' */
+	uint32_t next_free;
+};
+
+/* Where the calls stand that are about to begin: one, or those of its arguments before it. */
+struct places {
+	unsigned count;
+	const char *at[MOST_PLACES];
+};
+
+struct cpu {
+	_Alignas(LINE) struct cpu_info info;	/* first */
+	uintptr_t hold;			/* the lock of who has the CPU; what follows is theirs */
+	struct bank *bank;		/* of its sections */
+	struct reference *references;
+	uint32_t room, first_free, counted_elsewhere;
+	uint64_t serial;
+	uint32_t pending;		/* an atomic: a bit for each level with a soft interrupt that waits */
+	uint32_t bound;			/* an atomic: threads that are bound to it */
+	char edge;			/* what comes before the end of a section */
+};
+
+extern struct cpu cpus[KUPALDIZ_CPUS];
+extern _Thread_local struct thread *kupaldiz_self __attribute__((tls_model("initial-exec"), visibility("hidden")));
+extern _Thread_local struct places kupaldiz_places __attribute__((tls_model("initial-exec"), visibility("hidden")));
+
+/* The place of the call that begins next; NULL where nothing noted one. */
+static inline const char *take_place(void)
+{
+	return kupaldiz_places.count == 0 ? NULL : kupaldiz_places.at[--kupaldiz_places.count];
+}
+
+struct thread *new_thread(const char *call);
+struct thread *named_thread(const char *call, const char *name);
+void end_of_thread(struct thread *me);
+void hold_cpu(struct thread *me);
+void unhold_cpu(struct thread *me);
+void bind_to(struct thread *me, struct cpu *cpu);
+void tell_of_cpu(struct thread *me, const uintptr_t *word);
+void visit_cpus(struct thread *me);
+struct cpu *cpu_of(struct thread *me);
+
+/* Where each call begins: the thread, with the call's name for its lines. No place is noted for a call that isn't a macro as well. */
+static inline struct thread *begin_plain(const char *call)
+{
+	struct thread *me = kupaldiz_self;
+	if (me == NULL)
+		me = new_thread(call);
+	me->call = call;
+	me->place = NULL;
+	return me;
+}
+
+/* The same of a call that is a macro as well. */
+static inline struct thread *begin_call(const char *call)
+{
+	struct thread *me = begin_plain(call);
+	me->place = take_place();
+	return me;
+}
+
+static inline bool is_bound(const struct thread *me)
+{
+	return (me->lwp.l_pflag & LP_BOUND) != 0;
+}
+
+/* A call that waits isn't cancelled meanwhile: what it has would stay taken. What end_wait needs. */
+static inline int begin_wait(void)
+{
+	int before;
+	pthread_setcancelstate(PTHREAD_CANCEL_DISABLE, &before);
+	return before;
+}
+
+static inline void end_wait(int before)
+{
+	pthread_setcancelstate(before, NULL);
+}
+
+/* ---- softint.c ---- */
+
+void offer_cpu(struct thread *me);
+void step_off(struct thread *me);
+void step_on(struct thread *me);
+void schedule_on(struct thread *me, void *cookie, struct cpu *cpu);
+int raise_level(struct thread *me, int level);
+void lower_level(struct thread *me, int level);
+
+/* Where a call ends that leaves the thread with its CPU: soft interrupts that wait get it now. */
+static inline void end_call(struct thread *me)
+{
+	if (me->holds != 0 && !me->softint && (__atomic_load_n(&me->cpu->pending, __ATOMIC_ACQUIRE) >> (me->level + 1)) != 0)
+		offer_cpu(me);
+}
+
+/* ---- report.c: lines on standard error. ---- */
+
+/* Ends the process after one line that names the call and its place. */
+_Noreturn void stop(const struct thread *me, const char *format, ...) __attribute__((format(printf, 2, 3)));
+_Noreturn void stop_at(const char *call, const char *place, const char *format, ...) __attribute__((format(printf, 3, 4)));
+void done(const struct thread *me, uint32_t answer);
+void say(const struct thread *me, const char *format, ...) __attribute__((format(printf, 2, 3)));
+const char *name_of(const struct thread *thread, char *text, size_t room);
+const char *at_place(const char *place, char *text, size_t room);
+void want_sleepable(const struct thread *me);
+void *memory(const struct thread *me, size_t size);
+
+/* ---- bank.c: registries. ---- */
+
+/* What is kept of the entry in one slot of a bank. */
+struct row {
+	_Alignas(LINE) uint64_t serial;	/* left alone while there is an owner, as are the next two */
+	uint64_t number;
+	struct registry_name name;
+	bool retired;			/* under the interlock */
+	char born, gone;		/* edges: what comes before the attach; before the last release */
+	pthread_mutex_t lock;		/* of what follows */
+	struct held *held;		/* a stack of the local references that are held */
+	size_t count, room;
+	const kcondvar_t *cv;		/* those of the count, once a release or a drain has named them */
+	const kmutex_t *interlock;
+};
+
+/* A local reference that is held. */
+struct held {
+	struct registry_local local;
+	const char *place;
+};
+
+struct bank {
+	struct registry_keeper keeper;	/* this and what follows up to the CPUs under the interlock */
+	unsigned place;
+	unsigned live;			/* slots that are taken */
+	unsigned hosts;			/* CPUs that take it for their sections */
+	unsigned waits;			/* performs under way */
+	bool used_up;			/* it gets no more targets, and no more CPUs' sections */
+	struct {
+		_Alignas(LINE) struct registry_cpu cpu;
+	} cpus[ALL_CPUS];
+	_Alignas(LINE) const void *owners[ROWS];	/* atomics: the target or the count, NULL where there is none */
+	struct row rows[ROWS];
+};
+
+/* A row and its bank. */
+struct found_row {
+	struct bank *bank;
+	struct row *row;
+};
+
+void open_banks(struct thread *me);
+void enter_interlock(void);
+void exit_interlock(void);
+struct registry_cpu *writers(struct bank *bank);
+struct registry_cpu *handle_of(struct thread *me, struct bank *bank);
+void attach_row(struct thread *me, const void *owner, uint64_t *serial, uint64_t *place);
+bool find_row(const void *owner, uint64_t serial, uint64_t place, struct found_row *found);
+void retire_row(struct thread *me, struct found_row at, const void *owner);
+bool is_freed(struct thread *me, struct found_row at, struct registry_stage *met);
+void enter_section(struct thread *me);
+void exit_section(struct thread *me);
+void perform_all(struct thread *me);
+void sweep_banks(struct thread *me);
+
+/* A wait's pauses: how long the next one is, and when it says for whom it waits. */
+struct pauses {
+	long nanoseconds;
+	struct timespec tells;
+};
+
+struct pauses begin_pauses(void);
+bool pause_longer(struct pauses *pauses);
+bool pauses_are_over(struct pauses *pauses);
+
+void tell_of_section(struct thread *me, uint64_t cpu);
+void tell_of_reference(struct thread *me, uint64_t cpu, const struct psref_target *target);
+
+/* ---- mutex.c and condvar.c, for other calls. ---- */
+
+void take_mutex(struct thread *me, kmutex_t *mutex);
+void give_mutex(struct thread *me, kmutex_t *mutex);
+bool has_mutex(const struct thread *me, const kmutex_t *mutex);
+void want_mutex(const struct thread *me, const kmutex_t *mutex);
+bool wait_for(struct thread *me, kcondvar_t *cv, kmutex_t *mutex, int64_t nanoseconds);
+void wake_cv(struct thread *me, kcondvar_t *cv, bool all);
+
+/* What each made thing has in its word, so that one that never was made, or has been ended, is told. */
+enum { A_MUTEX = 0x4d757478, A_CV = 0x436f6e64, A_RW = 0x52774c6b, A_CALLOUT = 0x43616c6c, ENDED = 0x456e6465 };
+
+#endif

@@ -1,0 +1,191 @@
+/* localcount.c - localcount(9) */
+#include <stdio.h>
+#include <stdlib.h>
+
+#include "layer.h"
+
+enum { DRAINED = 1, FINISHED, FIRST_ROOM = 8 };
+
+void localcount_init(struct localcount *lc)
+{
+	struct thread *me = begin_call(__func__);
+	attach_row(me, lc, &lc->lc_serial, &lc->lc_row);
+}
+
+void localcount_fini(struct localcount *lc)
+{
+	struct thread *me = begin_call(__func__);
+	if (lc->lc_serial != 0 || lc->lc_row != DRAINED)
+		stop(me, "the count is not drained");
+	lc->lc_row = FINISHED;
+}
+
+/* The row of a live count. */
+static struct found_row count_row(const struct thread *me, const struct localcount *lc)
+{
+	struct found_row found;
+	if (!find_row(lc, lc->lc_serial, lc->lc_row, &found))
+		stop(me, "the count is not live");
+	return found;
+}
+
+/* Stops where the condition variable or the interlock is another than before. The row is locked. */
+static void want_same(struct thread *me, struct row *row, const kcondvar_t *cv, const kmutex_t *interlock)
+{
+	if (row->interlock != NULL && row->interlock != interlock)
+		stop(me, "the interlock is another than before");
+	if (row->cv != NULL && row->cv != cv)
+		stop(me, "the condition variable is another than before");
+	row->interlock = interlock;
+	row->cv = cv;
+}
+
+/* ---- The stack of references. ---- */
+
+/* How many references of a row's are held. */
+static size_t held_count(struct row *row)
+{
+	pthread_mutex_lock(&row->lock);
+	size_t count = row->count;
+	pthread_mutex_unlock(&row->lock);
+	return count;
+}
+
+/* Lays a reference on the row's stack. Its handle is moved there. */
+static void push(struct thread *me, struct row *row, const struct registry_local *reference)
+{
+	pthread_mutex_lock(&row->lock);
+	if (row->count == row->room) {
+		size_t room = row->room == 0 ? FIRST_ROOM : row->room * 2;
+		struct held *held = realloc(row->held, room * sizeof(*held));
+		if (held == NULL)
+			stop(me, "out of memory");
+		row->held = held;
+		row->room = room;
+	}
+	row->held[row->count++] = (struct held){*reference, me->place};
+	pthread_mutex_unlock(&row->lock);
+}
+
+/* Takes a reference from the row's stack. */
+static void pop(struct thread *me, struct row *row, struct registry_local *reference, const kcondvar_t *cv, const kmutex_t *interlock)
+{
+	pthread_mutex_lock(&row->lock);
+	want_same(me, row, cv, interlock);
+	if (row->count == 0)
+		stop(me, "no reference to the count is held");
+	*reference = row->held[--row->count].local;
+	pthread_mutex_unlock(&row->lock);
+}
+
+/* ---- Acquiring and releasing. ---- */
+
+/* Acquires a reference on a CPU of the registry's, in a section of its own or in the one that is open. */
+static uint32_t acquire_on(struct thread *me, struct registry_cpu *handle, const struct row *row, struct registry_local *reference)
+{
+	uint32_t answer = registry_enter_find(handle, REGISTRY_DRIVER, &row->name, NULL);
+	if (answer != REGISTRY_DONE)
+		return answer;
+	answer = registry_local_acquire(handle, reference);
+	done(me, registry_exit(handle));
+	return answer;
+}
+
+void localcount_acquire(struct localcount *lc)
+{
+	struct thread *me = begin_call(__func__);
+	struct found_row at = count_row(me, lc);
+	struct registry_local reference = {0};
+	hold_cpu(me);
+	uint32_t answer = acquire_on(me, handle_of(me, at.bank), at.row, &reference);
+	if (answer == REGISTRY_SECTIONS_SPENT || answer == REGISTRY_LOCAL_FULL) {
+		enter_interlock();
+		answer = acquire_on(me, writers(at.bank), at.row, &reference);
+		exit_interlock();
+	}
+	if (answer == REGISTRY_NOT_FOUND)
+		stop(me, "the count is being drained");
+	done(me, answer);
+	push(me, at.row, &reference);
+	unhold_cpu(me);
+	end_call(me);
+}
+
+/* Gives up a reference that a drain waits for, and wakes the drain, which goes on once the caller's lock is free. */
+static void give_up(struct thread *me, struct bank *bank, struct registry_local *reference, kcondvar_t *cv, kmutex_t *interlock)
+{
+	take_mutex(me, interlock);
+	enter_interlock();
+	done(me, registry_local_give_up(&bank->keeper, reference));
+	exit_interlock();
+	wake_cv(me, cv, true);
+	give_mutex(me, interlock);
+}
+
+void localcount_release(struct localcount *lc, kcondvar_t *cv, kmutex_t *interlock)
+{
+	struct thread *me = begin_call(__func__);
+	struct registry_local reference = {0};
+	if (has_mutex(me, interlock))
+		stop(me, "the thread has the interlock");
+	struct found_row at = count_row(me, lc);
+	pop(me, at.row, &reference, cv, interlock);
+	hold_cpu(me);
+	COMES_BEFORE(&at.row->gone);
+	uint32_t answer = registry_local_release(handle_of(me, at.bank), &reference);
+	unhold_cpu(me);
+	if (answer == REGISTRY_COLLECTED)
+		give_up(me, at.bank, &reference, cv, interlock);
+	else
+		done(me, answer);
+	end_call(me);
+}
+
+/* ---- Draining. ---- */
+
+/* Says for whom a drain waits. */
+static void tell(struct thread *me, struct row *row, const struct registry_stage *met)
+{
+	char where[256];
+	if (met->stage == REGISTRY_GRACE) {
+		tell_of_section(me, met->what);
+		return;
+	}
+	pthread_mutex_lock(&row->lock);
+	size_t count = row->count;
+	const char *place = count > 0 ? row->held[count - 1].place : NULL;
+	pthread_mutex_unlock(&row->lock);
+	say(me, count == 1 ? "waits for %zu reference, acquired%s" : "waits for %zu references, one of them acquired%s", count,
+	    at_place(place, where, sizeof(where)));
+}
+
+void localcount_drain(struct localcount *lc, kcondvar_t *cv, kmutex_t *interlock)
+{
+	struct thread *me = begin_call(__func__);
+	struct pauses pauses = begin_pauses();
+	struct registry_stage met = {0, 0};
+	want_sleepable(me);
+	if (!has_mutex(me, interlock))
+		stop(me, "the thread does not have the interlock");
+	struct found_row at = count_row(me, lc);
+	pthread_mutex_lock(&at.row->lock);
+	want_same(me, at.row, cv, interlock);
+	pthread_mutex_unlock(&at.row->lock);
+	int waits = begin_wait();
+	retire_row(me, at, lc);
+	while (!is_freed(me, at, &met)) {
+		wait_for(me, cv, interlock, LONGEST_PAUSE);
+		if (pauses_are_over(&pauses))
+			tell(me, at.row, &met);
+	}
+	lc->lc_serial = 0;
+	lc->lc_row = DRAINED;
+	sweep_banks(me);
+	end_wait(waits);
+}
+
+uint32_t localcount_debug_refcnt(const struct localcount *lc)
+{
+	struct thread *me = begin_plain(__func__);
+	return (uint32_t)held_count(count_row(me, lc).row);
+}

@@ -1,0 +1,302 @@
+/* memory.c - kmem(9), pool(9), pool_cache(9) and percpu(9) */
+#include <stdlib.h>
+#include <string.h>
+
+#include "layer.h"
+
+/* What stands before each block. */
+struct head {
+	size_t size;
+	uint64_t mark;
+};
+
+static const uint64_t LIVE = 0x6b6d656d2d6c6976;
+
+struct pool_cache {
+	struct pool pool;
+	int (*make)(void *, void *, int);
+	void (*end)(void *, void *);
+	void *arg;
+};
+
+struct percpu {
+	size_t size, stride;
+	percpu_callback_t end;
+	void *arg;
+	char *blocks;	/* of all CPUs, each on lines of its own */
+};
+
+/* ---- kmem(9) ---- */
+
+static void *take_block(struct thread *me, size_t size, bool sleeps)
+{
+	if (size == 0)
+		stop(me, "a block of no bytes");
+	if (sleeps)
+		want_sleepable(me);
+	struct head *head = size > SIZE_MAX - sizeof(*head) ? NULL : malloc(sizeof(*head) + size);
+	if (head == NULL && sleeps)
+		stop(me, "out of memory");
+	if (head == NULL)
+		return NULL;
+	*head = (struct head){size, LIVE};
+	return head + 1;
+}
+
+static void *zeroed(void *block, size_t size)
+{
+	return block == NULL ? NULL : memset(block, 0, size);
+}
+
+static void give_block(struct thread *me, void *block, size_t size)
+{
+	if (block == NULL)
+		stop(me, "no block");
+	struct head *head = (struct head *)block - 1;
+	if (head->mark != LIVE)
+		stop(me, "no block of kmem's, or one that was given back");
+	if (head->size != size)
+		stop(me, "%zu bytes are given back of a block of %zu", size, head->size);
+	head->mark = 0;
+	free(head);
+}
+
+/* kmem_alloc and kmem_free aren't for interrupts. */
+static void want_no_interrupt(const struct thread *me)
+{
+	if (me->softint)
+		stop(me, "in a soft interrupt");
+}
+
+static bool sleeps(const struct thread *me, km_flag_t flags)
+{
+	if ((flags & (KM_SLEEP | KM_NOSLEEP)) == 0 || (flags & (KM_SLEEP | KM_NOSLEEP)) == (KM_SLEEP | KM_NOSLEEP))
+		stop(me, "neither KM_SLEEP nor KM_NOSLEEP alone");
+	return (flags & KM_SLEEP) != 0;
+}
+
+void *kmem_alloc(size_t size, km_flag_t flags)
+{
+	struct thread *me = begin_call(__func__);
+	want_no_interrupt(me);
+	return take_block(me, size, sleeps(me, flags));
+}
+
+void *kmem_zalloc(size_t size, km_flag_t flags)
+{
+	struct thread *me = begin_call(__func__);
+	want_no_interrupt(me);
+	return zeroed(take_block(me, size, sleeps(me, flags)), size);
+}
+
+void kmem_free(void *block, size_t size)
+{
+	struct thread *me = begin_call(__func__);
+	want_no_interrupt(me);
+	give_block(me, block, size);
+}
+
+void *kmem_intr_alloc(size_t size, km_flag_t flags)
+{
+	struct thread *me = begin_call(__func__);
+	return take_block(me, size, sleeps(me, flags));
+}
+
+void *kmem_intr_zalloc(size_t size, km_flag_t flags)
+{
+	struct thread *me = begin_call(__func__);
+	return zeroed(take_block(me, size, sleeps(me, flags)), size);
+}
+
+void kmem_intr_free(void *block, size_t size)
+{
+	give_block(begin_call(__func__), block, size);
+}
+
+char *kmem_strdupsize(const char *text, size_t *size, km_flag_t flags)
+{
+	struct thread *me = begin_plain(__func__);
+	size_t length = strlen(text) + 1;
+	char *copy = take_block(me, length, sleeps(me, flags));
+	if (copy != NULL)
+		memcpy(copy, text, length);
+	if (size != NULL)
+		*size = length;
+	return copy;
+}
+
+void kmem_strfree(char *text)
+{
+	struct thread *me = begin_plain(__func__);
+	if (text != NULL)
+		give_block(me, text, strlen(text) + 1);
+}
+
+/* ---- pool(9) ---- */
+
+void pool_init(struct pool *pool, size_t size, unsigned align, unsigned offset, int flags, const char *name, struct pool_allocator *from,
+    int level)
+{
+	(void)align;
+	(void)offset;
+	(void)flags;
+	(void)from;
+	*pool = (struct pool){.pr_name = name, .pr_size = size, .pr_level = level};
+}
+
+static void want_unused(struct thread *me, struct pool *pool)
+{
+	size_t out = __atomic_load_n(&pool->pr_out, __ATOMIC_ACQUIRE);
+	if (out != 0)
+		stop(me, "%zu objects of %s are in use", out, pool->pr_name);
+}
+
+static void *get(struct thread *me, struct pool *pool, int flags)
+{
+	void *object = take_block(me, pool->pr_size, (flags & PR_WAITOK) != 0);
+	if (object == NULL)
+		return NULL;
+	__atomic_fetch_add(&pool->pr_out, 1, __ATOMIC_RELAXED);
+	return (flags & PR_ZERO) != 0 ? memset(object, 0, pool->pr_size) : object;
+}
+
+static void put(struct thread *me, struct pool *pool, void *object)
+{
+	give_block(me, object, pool->pr_size);
+	__atomic_fetch_sub(&pool->pr_out, 1, __ATOMIC_RELEASE);
+}
+
+void pool_destroy(struct pool *pool)
+{
+	want_unused(begin_call(__func__), pool);
+}
+
+void *pool_get(struct pool *pool, int flags)
+{
+	return get(begin_call(__func__), pool, flags);
+}
+
+void pool_put(struct pool *pool, void *object)
+{
+	put(begin_call(__func__), pool, object);
+}
+
+/* ---- pool_cache(9) ---- */
+
+pool_cache_t pool_cache_init(size_t size, unsigned align, unsigned offset, unsigned flags, const char *name, struct pool_allocator *from,
+    int level, int (*make)(void *, void *, int), void (*end)(void *, void *), void *arg)
+{
+	struct pool_cache *cache = memory(begin_plain(__func__), sizeof(*cache));
+	pool_init(&cache->pool, size, align, offset, (int)flags, name, from, level);
+	cache->make = make;
+	cache->end = end;
+	cache->arg = arg;
+	return cache;
+}
+
+void pool_cache_destroy(pool_cache_t cache)
+{
+	want_unused(begin_call(__func__), &cache->pool);
+	free(cache);
+}
+
+void *pool_cache_get(pool_cache_t cache, int flags)
+{
+	struct thread *me = begin_call(__func__);
+	void *object = get(me, &cache->pool, flags);
+	if (object == NULL || cache->make == NULL || cache->make(cache->arg, object, flags) == 0)
+		return object;
+	put(me, &cache->pool, object);
+	return NULL;
+}
+
+void pool_cache_put(pool_cache_t cache, void *object)
+{
+	struct thread *me = begin_call(__func__);
+	if (cache->end != NULL)
+		cache->end(cache->arg, object);
+	put(me, &cache->pool, object);
+}
+
+/* ---- percpu(9) ---- */
+
+static void *own_of(const struct percpu *percpu, unsigned cpu)
+{
+	return percpu->blocks + cpu * percpu->stride;
+}
+
+percpu_t *percpu_create(size_t size, percpu_callback_t make, percpu_callback_t end, void *arg)
+{
+	struct thread *me = begin_plain("percpu_alloc");
+	want_sleepable(me);
+	struct percpu *percpu = memory(me, sizeof(*percpu));
+	size_t stride = (size + LINE - 1) / LINE * LINE;
+	*percpu = (struct percpu){.size = size, .stride = stride, .end = end, .arg = arg};
+	if (posix_memalign((void **)&percpu->blocks, LINE, stride * KUPALDIZ_CPUS) != 0)
+		stop(me, "out of memory");
+	memset(percpu->blocks, 0, stride * KUPALDIZ_CPUS);
+	for (unsigned cpu = 0; cpu < KUPALDIZ_CPUS && make != NULL; cpu++)
+		make(own_of(percpu, cpu), arg, &cpus[cpu].info);
+	return percpu;
+}
+
+percpu_t *percpu_alloc(size_t size)
+{
+	return percpu_create(size, NULL, NULL, NULL);
+}
+
+void percpu_free(percpu_t *percpu, size_t size)
+{
+	struct thread *me = begin_call(__func__);
+	want_sleepable(me);
+	if (percpu->size != size)
+		stop(me, "%zu bytes are given back of %zu", size, percpu->size);
+	for (unsigned cpu = 0; cpu < KUPALDIZ_CPUS && percpu->end != NULL; cpu++)
+		percpu->end(own_of(percpu, cpu), percpu->arg, &cpus[cpu].info);
+	free(percpu->blocks);
+	free(percpu);
+}
+
+void *percpu_getref(percpu_t *percpu)
+{
+	struct thread *me = begin_plain(__func__);
+	hold_cpu(me);
+	me->preemptions++;
+	return own_of(percpu, me->cpu->info.ci_index);
+}
+
+void percpu_putref(percpu_t *percpu)
+{
+	struct thread *me = begin_call(__func__);
+	(void)percpu;
+	if (me->preemptions == 0)
+		stop(me, "without a percpu_getref");
+	me->preemptions--;
+	unhold_cpu(me);
+	end_call(me);
+}
+
+void percpu_foreach(percpu_t *percpu, percpu_callback_t look, void *arg)
+{
+	for (unsigned cpu = 0; cpu < KUPALDIZ_CPUS; cpu++)
+		look(own_of(percpu, cpu), arg, &cpus[cpu].info);
+}
+
+/* What percpu_foreach_xcall has each CPU do. */
+struct visit {
+	percpu_t *percpu;
+	percpu_callback_t look;
+};
+
+static void visit(void *of, void *arg)
+{
+	struct visit *visit = of;
+	unsigned cpu = cpu_number();
+	visit->look(own_of(visit->percpu, cpu), arg, &cpus[cpu].info);
+}
+
+void percpu_foreach_xcall(percpu_t *percpu, unsigned flags, percpu_callback_t look, void *arg)
+{
+	struct visit each = {percpu, look};
+	xc_wait(xc_broadcast(flags, visit, &each, arg));
+}

@@ -1,0 +1,222 @@
+/* mutex.c - mutex(9) */
+#include <stdlib.h>
+
+#include "layer.h"
+
+/* A lock that mutex_obj_alloc made. */
+struct counted_mutex {
+	kmutex_t mutex;		/* first */
+	unsigned references;	/* an atomic */
+};
+
+void mutex_init(kmutex_t *mutex, kmutex_type_t type, int level)
+{
+	*mutex = (kmutex_t){.mtx_made = A_MUTEX, .mtx_level = (uint16_t)level, .mtx_spins = type == MUTEX_SPIN || level >= IPL_VM};
+}
+
+/* Stops where it isn't a lock. */
+void want_mutex(const struct thread *me, const kmutex_t *mutex)
+{
+	if (mutex->mtx_made == ENDED)
+		stop(me, "the lock was destroyed");
+	if (mutex->mtx_made != A_MUTEX)
+		stop(me, "the lock was never initialised");
+}
+
+static void destroy(struct thread *me, kmutex_t *mutex)
+{
+	char name[64], where[256];
+	want_mutex(me, mutex);
+	struct thread *owner = lock_owner(&mutex->mtx_word);
+	if (owner != NULL)
+		stop(me, "the lock is held: thread \"%s\" took it%s", name_of(owner, name, sizeof(name)),
+		    at_place(__atomic_load_n(&mutex->mtx_place, __ATOMIC_RELAXED), where, sizeof(where)));
+	mutex->mtx_made = ENDED;
+}
+
+void mutex_destroy(kmutex_t *mutex)
+{
+	destroy(begin_call(__func__), mutex);
+}
+
+/* Stops where the thread mustn't wait for a lock that doesn't spin. */
+static void want_blockable(const struct thread *me, const kmutex_t *mutex)
+{
+	char where[256];
+	if (me->depth > 0)
+		stop(me, "inside a read section, entered%s", at_place(me->entered, where, sizeof(where)));
+	if (me->spins > 0)
+		stop(me, "with a spin lock, and this lock does not spin");
+	if (me->preemptions > 0)
+		stop(me, "with preemption disabled");
+	if (me->softint && mutex->mtx_level == IPL_NONE)
+		stop(me, "in a soft interrupt, and the lock is of IPL_NONE");
+}
+
+/* Says who has the lock that this thread waits for. */
+static void tell(struct thread *me, const uintptr_t *word)
+{
+	char name[64], where[256];
+	const kmutex_t *mutex = (const kmutex_t *)word;
+	struct thread *owner = lock_owner(word);
+	if (owner != NULL)
+		say(me, "waits for the lock that thread \"%s\" took%s", name_of(owner, name, sizeof(name)),
+		    at_place(__atomic_load_n(&mutex->mtx_place, __ATOMIC_RELAXED), where, sizeof(where)));
+}
+
+_Static_assert(offsetof(kmutex_t, mtx_word) == 0, "a lock's word is at its head");
+
+static void note_taken(struct thread *me, kmutex_t *mutex)
+{
+	if (!mutex->mtx_spins)
+		me->locks++;
+	__atomic_store_n(&mutex->mtx_place, me->place, __ATOMIC_RELAXED);
+}
+
+/* Raises the CPU's level to that of a spin lock, which this thread takes then. */
+static void raise_for(struct thread *me, const kmutex_t *mutex)
+{
+	int before = raise_level(me, mutex->mtx_level > IPL_NONE ? mutex->mtx_level : IPL_VM);
+	if (me->spins++ == 0)
+		me->level_before = before;
+}
+
+/* The level before, once the last spin lock is given back. */
+static void lower_again(struct thread *me)
+{
+	if (--me->spins == 0)
+		lower_level(me, me->level_before);
+}
+
+/* Takes a lock that doesn't spin. Whoever has its CPU, as a soft interrupt has, gives it back while it waits. */
+static void take_slowly(struct thread *me, kmutex_t *mutex)
+{
+	bool steps = me->holds > 0;
+	want_blockable(me, mutex);
+	if (lock_try(&mutex->mtx_word, me))
+		return;
+	if (steps)
+		step_off(me);
+	lock_take(&mutex->mtx_word, me, tell);
+	if (steps)
+		step_on(me);
+}
+
+void take_mutex(struct thread *me, kmutex_t *mutex)
+{
+	char where[256];
+	want_mutex(me, mutex);
+	if (has_mutex(me, mutex))
+		stop(me, "the thread has the lock already, taken%s", at_place(mutex->mtx_place, where, sizeof(where)));
+	if (mutex->mtx_spins) {
+		raise_for(me, mutex);
+		lock_take(&mutex->mtx_word, me, tell);
+	} else {
+		take_slowly(me, mutex);
+	}
+	note_taken(me, mutex);
+}
+
+void give_mutex(struct thread *me, kmutex_t *mutex)
+{
+	want_mutex(me, mutex);
+	if (!has_mutex(me, mutex))
+		stop(me, "the thread does not have the lock");
+	bool spins = mutex->mtx_spins;
+	lock_give(&mutex->mtx_word, me);
+	if (spins)
+		lower_again(me);
+	else
+		me->locks--;
+}
+
+bool has_mutex(const struct thread *me, const kmutex_t *mutex)
+{
+	return lock_owner(&mutex->mtx_word) == me;
+}
+
+void mutex_enter(kmutex_t *mutex)
+{
+	take_mutex(begin_call(__func__), mutex);
+}
+
+void mutex_exit(kmutex_t *mutex)
+{
+	struct thread *me = begin_call(__func__);
+	give_mutex(me, mutex);
+	end_call(me);
+}
+
+int mutex_tryenter(kmutex_t *mutex)
+{
+	struct thread *me = begin_call(__func__);
+	want_mutex(me, mutex);
+	if (mutex->mtx_spins)
+		raise_for(me, mutex);
+	if (lock_try(&mutex->mtx_word, me)) {
+		note_taken(me, mutex);
+		return 1;
+	}
+	if (mutex->mtx_spins)
+		lower_again(me);
+	return 0;
+}
+
+static void want_spin(const struct thread *me, const kmutex_t *mutex)
+{
+	want_mutex(me, mutex);
+	if (!mutex->mtx_spins)
+		stop(me, "the lock does not spin");
+}
+
+void mutex_spin_enter(kmutex_t *mutex)
+{
+	struct thread *me = begin_call(__func__);
+	want_spin(me, mutex);
+	take_mutex(me, mutex);
+}
+
+void mutex_spin_exit(kmutex_t *mutex)
+{
+	struct thread *me = begin_call(__func__);
+	want_spin(me, mutex);
+	give_mutex(me, mutex);
+	end_call(me);
+}
+
+int mutex_owned(const kmutex_t *mutex)
+{
+	return has_mutex(begin_plain(__func__), mutex);
+}
+
+int mutex_ownable(const kmutex_t *mutex)
+{
+	struct thread *me = begin_plain(__func__);
+	want_mutex(me, mutex);
+	if (has_mutex(me, mutex))
+		stop(me, "the thread has the lock already");
+	return 1;
+}
+
+kmutex_t *mutex_obj_alloc(kmutex_type_t type, int level)
+{
+	struct counted_mutex *counted = memory(begin_plain(__func__), sizeof(*counted));
+	mutex_init(&counted->mutex, type, level);
+	counted->references = 1;
+	return &counted->mutex;
+}
+
+void mutex_obj_hold(kmutex_t *mutex)
+{
+	__atomic_fetch_add(&((struct counted_mutex *)mutex)->references, 1, __ATOMIC_RELAXED);
+}
+
+bool mutex_obj_free(kmutex_t *mutex)
+{
+	struct thread *me = begin_call(__func__);
+	if (__atomic_fetch_sub(&((struct counted_mutex *)mutex)->references, 1, __ATOMIC_ACQ_REL) != 1)
+		return false;
+	destroy(me, mutex);
+	free(mutex);
+	return true;
+}

@@ -1,0 +1,83 @@
+/* pserialize.c - pserialize(9) */
+#include <stdlib.h>
+
+#include "layer.h"
+
+struct pserialize {
+	unsigned performing;	/* an atomic */
+};
+
+pserialize_t pserialize_create(void)
+{
+	return memory(begin_plain(__func__), sizeof(struct pserialize));
+}
+
+void pserialize_destroy(pserialize_t psz)
+{
+	struct thread *me = begin_call(__func__);
+	if (__atomic_load_n(&psz->performing, __ATOMIC_ACQUIRE) != 0)
+		stop(me, "a thread performs with it");
+	free(psz);
+}
+
+int pserialize_read_enter(void)
+{
+	struct thread *me = begin_call(__func__);
+	if (me->depth == 0) {
+		hold_cpu(me);
+		enter_section(me);
+		__atomic_store_n(&me->entered, me->place == NULL ? "a place unknown" : me->place, __ATOMIC_RELAXED);
+	}
+	me->depth++;
+	end_call(me);
+	return (int)(me->depth - 1);
+}
+
+void pserialize_read_exit(int s)
+{
+	struct thread *me = begin_call(__func__);
+	if (me->depth == 0)
+		stop(me, "outside any read section");
+	if (s < 0 || (unsigned)s != me->depth - 1)
+		stop(me, "not the section that was entered last");
+	if (--me->depth == 0) {
+		__atomic_store_n(&me->entered, NULL, __ATOMIC_RELAXED);
+		exit_section(me);
+		unhold_cpu(me);
+	}
+	end_call(me);
+}
+
+void pserialize_perform(pserialize_t psz)
+{
+	struct thread *me = begin_call(__func__);
+	want_sleepable(me);
+	int waits = begin_wait();
+	__atomic_fetch_add(&psz->performing, 1, __ATOMIC_ACQ_REL);
+	perform_all(me);
+	__atomic_fetch_sub(&psz->performing, 1, __ATOMIC_ACQ_REL);
+	end_wait(waits);
+}
+
+bool pserialize_in_read_section(void)
+{
+	return begin_plain(__func__)->depth > 0;
+}
+
+bool pserialize_not_in_read_section(void)
+{
+	return begin_plain(__func__)->depth == 0;
+}
+
+/* Says of a CPU whose section lasts which thread is inside, and since where. */
+void tell_of_section(struct thread *me, uint64_t cpu)
+{
+	char text[64], where[256];
+	struct thread *owner = cpu < KUPALDIZ_CPUS ? lock_owner(&cpus[cpu].hold) : NULL;
+	const char *entered = owner == NULL ? NULL : __atomic_load_n(&owner->entered, __ATOMIC_RELAXED);
+	if (entered == NULL)
+		say(me, "waits for CPU %u", (unsigned)cpu);
+	else
+		say(me, "waits for CPU %u, whose thread \"%s\" is inside a read section, entered%s", (unsigned)cpu,
+		    name_of(owner, text, sizeof(text)), at_place(entered, where, sizeof(where)));
+}

@@ -1,0 +1,347 @@
+/* psref.c - psref(9) */
+#include <stdio.h>
+#include <stdlib.h>
+
+#include "layer.h"
+
+struct psref_class {
+	const char *name;
+	size_t targets;		/* an atomic: those that are live or are being destroyed */
+	ipl_cookie_t level;
+};
+
+enum { FIRST_ROOM = 16 };
+
+static const uint32_t NOTHING = UINT32_MAX;
+
+struct psref_class *psref_class_create(const char *name, ipl_cookie_t level)
+{
+	struct psref_class *psref_class = memory(begin_plain(__func__), sizeof(*psref_class));
+	psref_class->name = name;
+	psref_class->level = level;
+	return psref_class;
+}
+
+void psref_class_destroy(struct psref_class *psref_class)
+{
+	struct thread *me = begin_call(__func__);
+	if (__atomic_load_n(&psref_class->targets, __ATOMIC_ACQUIRE) != 0)
+		stop(me, "a target of class %s is live", psref_class->name);
+	free(psref_class);
+}
+
+void psref_target_init(struct psref_target *target, struct psref_class *psref_class)
+{
+	struct thread *me = begin_call(__func__);
+	attach_row(me, target, &target->prt_serial, &target->prt_row);
+	target->prt_class = psref_class;
+	__atomic_fetch_add(&psref_class->targets, 1, __ATOMIC_ACQ_REL);
+}
+
+/* The row of a live target of a class. */
+static struct found_row target_row(const struct thread *me, const struct psref_target *target, const struct psref_class *psref_class)
+{
+	struct found_row found;
+	if (!find_row(target, target->prt_serial, target->prt_row, &found))
+		stop(me, "the target is not live");
+	if (target->prt_class != psref_class)
+		stop(me, "the target is not of class %s", psref_class->name);
+	return found;
+}
+
+/* ---- The table of a CPU's references. The thread has the CPU. ---- */
+
+/* Stops where this storage has a reference of this CPU. What it says itself decides where the table is long. */
+static void want_unheld(const struct thread *me, const struct psref *psref)
+{
+	const struct cpu *cpu = me->cpu;
+	uint32_t longest = cpu->room <= 2 * FIRST_ROOM ? cpu->room : 0;
+	bool held = psref->psref_index < cpu->room && cpu->references[psref->psref_index].psref == psref;
+	for (uint32_t place = 0; place < longest && !held; place++)
+		held = cpu->references[place].psref == psref;
+	if (held)
+		stop(me, "the reference is held already");
+}
+
+/* Makes room for more references. */
+static void extend(struct thread *me)
+{
+	struct cpu *cpu = me->cpu;
+	uint32_t room = cpu->room == 0 ? FIRST_ROOM : cpu->room * 2;
+	struct reference *references = realloc(cpu->references, room * sizeof(*references));
+	if (references == NULL)
+		stop(me, "out of memory");
+	for (uint32_t place = cpu->room; place < room; place++)
+		references[place] = (struct reference){.next_free = place + 1 < room ? place + 1 : NOTHING};
+	cpu->references = references;
+	cpu->first_free = cpu->room;
+	cpu->room = room;
+}
+
+/* Notes a reference that the registry's CPU `via` counts, in the table and in its holder's storage. */
+static void note_reference(struct thread *me, struct psref *psref, const struct psref_target *target, uint32_t via)
+{
+	struct cpu *cpu = me->cpu;
+	if (cpu->room == 0 || cpu->first_free == NOTHING)
+		extend(me);
+	uint32_t place = cpu->first_free;
+	struct reference *reference = &cpu->references[place];
+	cpu->first_free = reference->next_free;
+	*reference = (struct reference){psref, target, me->place, me, ++cpu->serial, via, NOTHING};
+	cpu->counted_elsewhere += via == WRITERS;
+	*psref = (struct psref){target, cpu->serial, place, cpu->info.ci_index};
+	me->references++;
+}
+
+/* The reference that lies there, which is this thread's; stops where there is none. */
+static struct reference *judge_reference(const struct thread *me, const struct psref *psref)
+{
+	char text[64], where[256];
+	if (psref->psref_target == NULL || psref->psref_cpu >= KUPALDIZ_CPUS)
+		stop(me, "the reference is not held");
+	if (psref->psref_cpu != me->cpu->info.ci_index)
+		stop(me, "the reference is of CPU %u, and this is CPU %u", psref->psref_cpu, me->cpu->info.ci_index);
+	struct reference *found = psref->psref_index < me->cpu->room ? &me->cpu->references[psref->psref_index] : NULL;
+	if (found == NULL || found->psref == NULL || found->serial != psref->psref_serial)
+		stop(me, "the reference is not held");
+	if (found->psref != psref)
+		stop(me, "the reference was moved by its bytes: it was acquired elsewhere%s", at_place(found->place, where, sizeof(where)));
+	if (found->thread != me)
+		stop(me, "the reference is of thread \"%s\", acquired%s", name_of(found->thread, text, sizeof(text)),
+		    at_place(found->place, where, sizeof(where)));
+	if (found->target != psref->psref_target)
+		stop(me, "the reference was written over");
+	return found;
+}
+
+/* The place of a reference is free again. */
+static void forget_reference(struct thread *me, struct reference *reference)
+{
+	struct cpu *cpu = me->cpu;
+	cpu->counted_elsewhere -= reference->via == WRITERS;
+	*reference = (struct reference){.next_free = cpu->first_free};
+	cpu->first_free = (uint32_t)(reference - cpu->references);
+	me->references--;
+}
+
+/* ---- Acquiring and releasing. ---- */
+
+static void want_bound(const struct thread *me)
+{
+	if (!is_bound(me) && me->preemptions == 0)
+		stop(me, "the thread is not bound to a CPU");
+}
+
+/* Whether this CPU can count no more: what it asks for then is counted by the writers' CPU. */
+static bool is_full(uint32_t answer)
+{
+	return answer == REGISTRY_SECTIONS_SPENT || answer == REGISTRY_PASSIVE_FULL;
+}
+
+/* Acquires a reference to the entry of a row. The registry's CPU that counts it. */
+static uint32_t acquire(struct thread *me, struct found_row at)
+{
+	uint32_t via = me->cpu->info.ci_index;
+	uint32_t answer = registry_get(handle_of(me, at.bank), REGISTRY_DRIVER, &at.row->name, NULL);
+	if (is_full(answer)) {
+		via = WRITERS;
+		enter_interlock();
+		answer = registry_get(writers(at.bank), REGISTRY_DRIVER, &at.row->name, NULL);
+		exit_interlock();
+	}
+	if (answer == REGISTRY_NOT_FOUND)
+		stop(me, "the target is being destroyed");
+	done(me, answer);
+	COMES_AFTER(&at.row->born);
+	return via;
+}
+
+/* One more of those that this thread has. */
+static uint32_t copy(struct thread *me, struct found_row at, uint32_t via)
+{
+	if (via == WRITERS)
+		enter_interlock();
+	uint32_t answer = registry_copy(via == WRITERS ? writers(at.bank) : handle_of(me, at.bank), at.row->number);
+	if (via == WRITERS)
+		exit_interlock();
+	done(me, answer);
+	return via;
+}
+
+static void release(struct thread *me, struct found_row at, uint64_t number, uint32_t via)
+{
+	COMES_BEFORE(&at.row->gone);
+	if (via == WRITERS)
+		enter_interlock();
+	uint32_t answer = registry_release(via == WRITERS ? writers(at.bank) : handle_of(me, at.bank), number);
+	if (via == WRITERS)
+		exit_interlock();
+	done(me, answer);
+}
+
+void psref_acquire(struct psref *psref, const struct psref_target *target, struct psref_class *psref_class)
+{
+	struct thread *me = begin_call(__func__);
+	want_bound(me);
+	struct found_row at = target_row(me, target, psref_class);
+	hold_cpu(me);
+	want_unheld(me, psref);
+	note_reference(me, psref, target, acquire(me, at));
+	unhold_cpu(me);
+	end_call(me);
+}
+
+void psref_release(struct psref *psref, const struct psref_target *target, struct psref_class *psref_class)
+{
+	struct thread *me = begin_call(__func__);
+	hold_cpu(me);
+	struct reference *reference = judge_reference(me, psref);
+	if (psref->psref_target != target)
+		stop(me, "the reference is to another target");
+	struct found_row at = target_row(me, target, psref_class);
+	uint64_t number = at.row->number;
+	uint32_t via = reference->via;
+	/* Once it is released its target may be gone, and this row another's. */
+	psref->psref_target = NULL;
+	forget_reference(me, reference);
+	release(me, at, number, via);
+	unhold_cpu(me);
+	end_call(me);
+}
+
+void psref_copy(struct psref *to, const struct psref *from, struct psref_class *psref_class)
+{
+	struct thread *me = begin_call(__func__);
+	hold_cpu(me);
+	struct reference *reference = judge_reference(me, from);
+	want_unheld(me, to);
+	struct found_row at = target_row(me, from->psref_target, psref_class);
+	note_reference(me, to, from->psref_target, copy(me, at, reference->via));
+	unhold_cpu(me);
+	end_call(me);
+}
+
+/* The first reference of this CPU's to a target, of one thread or of all; NULL where there is none. */
+static const struct reference *find_reference(const struct cpu *cpu, const struct psref_target *target, const struct thread *of)
+{
+	for (uint32_t place = 0; place < cpu->room; place++) {
+		const struct reference *found = &cpu->references[place];
+		if (found->psref != NULL && found->target == target && (of == NULL || found->thread == of))
+			return found;
+	}
+	return NULL;
+}
+
+bool psref_held(const struct psref_target *target, struct psref_class *psref_class)
+{
+	struct thread *me = begin_call(__func__);
+	bool held = false;
+	want_bound(me);
+	struct found_row at = target_row(me, target, psref_class);
+	hold_cpu(me);
+	done(me, registry_held(handle_of(me, at.bank), at.row->number, &held));
+	if (!held && me->cpu->counted_elsewhere > 0)
+		held = find_reference(me->cpu, target, NULL) != NULL;
+	unhold_cpu(me);
+	end_call(me);
+	return held;
+}
+
+/* ---- The end of a target. ---- */
+
+/* Stops where this thread has a reference to the target: nobody else could release it. */
+static void want_none_of_own(struct thread *me, const struct psref_target *target)
+{
+	char where[256];
+	if (me->references == 0)
+		return;
+	hold_cpu(me);
+	const struct reference *found = find_reference(me->cpu, target, me);
+	if (found != NULL)
+		stop(me, "this thread has a reference to the target, acquired%s", at_place(found->place, where, sizeof(where)));
+	unhold_cpu(me);
+}
+
+/* Says for whom the end of a target waits. */
+static void tell_of_stage(struct thread *me, const struct registry_stage *met, const struct psref_target *target)
+{
+	if (met->stage == REGISTRY_GRACE)
+		tell_of_section(me, met->what);
+	else
+		tell_of_reference(me, met->what, target);
+}
+
+void psref_target_destroy(struct psref_target *target, struct psref_class *psref_class)
+{
+	struct thread *me = begin_call(__func__);
+	struct pauses pauses = begin_pauses();
+	struct registry_stage met = {0, 0};
+	want_sleepable(me);
+	struct found_row at = target_row(me, target, psref_class);
+	want_none_of_own(me, target);
+	int waits = begin_wait();
+	retire_row(me, at, target);
+	while (!is_freed(me, at, &met))
+		if (pause_longer(&pauses))
+			tell_of_stage(me, &met, target);
+	/* A section may have released the last reference and still follow the links of what the target lies in. */
+	perform_all(me);
+	target->prt_class = NULL;
+	target->prt_serial = 0;
+	__atomic_fetch_sub(&psref_class->targets, 1, __ATOMIC_ACQ_REL);
+	sweep_banks(me);
+	end_wait(waits);
+}
+
+/* ---- Lines. ---- */
+
+/* What a CPU's table says of a target. The caller has that CPU. */
+static void describe(const struct cpu *cpu, const struct psref_target *target, char *text, size_t room)
+{
+	char name[64], where[256];
+	unsigned count = 0;
+	const struct reference *first = find_reference(cpu, target, NULL);
+	if (first == NULL) {
+		snprintf(text, room, ", which holds a reference");
+		return;
+	}
+	for (uint32_t place = 0; place < cpu->room; place++)
+		count += cpu->references[place].psref != NULL && cpu->references[place].target == target && cpu->references[place].thread == first->thread;
+	if (count == 1)
+		snprintf(text, room, ", whose thread \"%s\" holds one reference, acquired%s", name_of(first->thread, name, sizeof(name)),
+		    at_place(first->place, where, sizeof(where)));
+	else
+		snprintf(text, room, ", whose thread \"%s\" holds %u references, one of them acquired%s",
+		    name_of(first->thread, name, sizeof(name)), count, at_place(first->place, where, sizeof(where)));
+}
+
+/* Takes a CPU for a look at it, if it is free before long. */
+static bool take_for_a_look(struct thread *me, struct cpu *cpu)
+{
+	const struct timespec moment = {0, 1000000};
+	for (unsigned turn = 0; turn < 100; turn++) {
+		if (lock_try(&cpu->hold, me))
+			return true;
+		nanosleep(&moment, NULL);
+	}
+	return false;
+}
+
+/* Says whose reference a wait waits for. That of the writers' CPU may be in any table. */
+void tell_of_reference(struct thread *me, uint64_t of, const struct psref_target *target)
+{
+	char text[400] = ", which holds a reference";
+	unsigned first = of == WRITERS ? 0 : (unsigned)of, last = of == WRITERS ? KUPALDIZ_CPUS - 1 : (unsigned)of;
+	for (unsigned cpu = first; cpu <= last; cpu++) {
+		if (!take_for_a_look(me, &cpus[cpu]))
+			continue;
+		bool found = find_reference(&cpus[cpu], target, NULL) != NULL;
+		describe(&cpus[cpu], target, text, sizeof(text));
+		lock_give(&cpus[cpu].hold, me);
+		if (found)
+			of = cpu;
+		if (found)
+			break;
+	}
+	say(me, "waits for CPU %u%s", (unsigned)of, text);
+}

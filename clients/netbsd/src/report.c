@@ -1,0 +1,113 @@
+/* report.c - lines on standard error: what stops the process, and for whom a wait lasts */
+#include <errno.h>
+#include <fcntl.h>
+#include <stdarg.h>
+#include <stdio.h>
+#include <stdlib.h>
+#include <string.h>
+#include <unistd.h>
+
+#include "layer.h"
+
+/* Writes one line at once, so that no other line mixes with it. */
+static void write_line(const char *call, const char *place, const char *format, va_list words)
+{
+	char reason[320], line[512];
+	vsnprintf(reason, sizeof(reason), format, words);
+	int length = place == NULL ? snprintf(line, sizeof(line), "%s: %s\n", call, reason)
+				   : snprintf(line, sizeof(line), "%s: %s, at %s\n", call, reason, place);
+	if (length >= (int)sizeof(line)) {
+		length = sizeof(line) - 1;
+		line[length - 1] = '\n';
+	}
+	if (write(STDERR_FILENO, line, (size_t)length) != length)
+		perror(call);
+}
+
+void stop(const struct thread *me, const char *format, ...)
+{
+	va_list words;
+	va_start(words, format);
+	write_line(me->call, me->place, format, words);
+	va_end(words);
+	abort();
+}
+
+void stop_at(const char *call, const char *place, const char *format, ...)
+{
+	va_list words;
+	va_start(words, format);
+	write_line(call, place, format, words);
+	va_end(words);
+	abort();
+}
+
+void say(const struct thread *me, const char *format, ...)
+{
+	va_list words;
+	va_start(words, format);
+	write_line(me->call, NULL, format, words);
+	va_end(words);
+}
+
+/* Stops where the registry refuses, as at a limit. */
+void done(const struct thread *me, uint32_t answer)
+{
+	uint8_t text[128];
+	if (answer == REGISTRY_DONE)
+		return;
+	registry_text(answer, text, sizeof(text));
+	stop(me, "%s", (const char *)text);
+}
+
+/* What a thread is called: the system's name of it, as it is now. */
+const char *name_of(const struct thread *thread, char *text, size_t room)
+{
+	char path[64];
+	if (thread->name[0] != '\0')
+		return thread->name;
+	snprintf(path, sizeof(path), "/proc/self/task/%d/comm", __atomic_load_n(&thread->id, __ATOMIC_RELAXED));
+	int file = open(path, O_RDONLY | O_CLOEXEC);
+	ssize_t length = file < 0 ? -1 : read(file, text, room - 1);
+	if (file >= 0)
+		close(file);
+	if (length <= 0)
+		return "?";
+	text[length] = '\0';
+	text[strcspn(text, "\n")] = '\0';
+	return text;
+}
+
+/* " at FILE:LINE" where the place is known, else nothing. */
+const char *at_place(const char *place, char *text, size_t room)
+{
+	if (place == NULL)
+		return "";
+	snprintf(text, room, " at %s", place);
+	return text;
+}
+
+/* Stops where the thread mustn't sleep. */
+void want_sleepable(const struct thread *me)
+{
+	char text[192];
+	if (me->depth > 0)
+		stop(me, "inside a read section, entered%s", at_place(me->entered, text, sizeof(text)));
+	if (me->softint)
+		stop(me, "in a soft interrupt");
+	if (me->spins > 0)
+		stop(me, "with a spin lock");
+	if (me->level > IPL_NONE)
+		stop(me, "at a raised level");
+	if (me->holds > 0)
+		stop(me, "with preemption disabled");
+}
+
+/* Memory of zeros. */
+void *memory(const struct thread *me, size_t size)
+{
+	void *block = calloc(1, size);
+	if (block == NULL)
+		stop(me, "out of memory");
+	return block;
+}

@@ -1,0 +1,312 @@
+/* thread.c - threads, their binding, and the CPUs that they share */
+#ifndef _GNU_SOURCE
+#define _GNU_SOURCE
+#endif
+#include <stdio.h>
+#include <stdlib.h>
+#include <string.h>
+#include <unistd.h>
+
+#include "layer.h"
+
+struct cpu cpus[KUPALDIZ_CPUS];
+_Thread_local struct thread *kupaldiz_self;
+_Thread_local struct places kupaldiz_places;
+
+static pthread_once_t opened = PTHREAD_ONCE_INIT;
+static pthread_key_t ending;
+static pthread_mutex_t free_lock = PTHREAD_MUTEX_INITIALIZER;
+static struct thread *free_threads;
+static unsigned next_cpu;	/* an atomic: where the next thread runs first */
+static bool forked;
+
+void kupaldiz_at(const char *place)
+{
+	if (kupaldiz_places.count == MOST_PLACES)
+		kupaldiz_places.count = 0;
+	kupaldiz_places.at[kupaldiz_places.count++] = place;
+}
+
+/* ---- The life of a thread. ---- */
+
+/* Each round of destructors may run some of the code's own that still gives something back: the thread ends in the last one. */
+static void end_thread(void *of)
+{
+	struct thread *me = of;
+	if (++me->rounds < LAST_ROUND)
+		pthread_setspecific(ending, me);
+	else
+		end_of_thread(me);
+}
+
+static void note_fork(void)
+{
+	forked = true;
+	kupaldiz_self = NULL;
+}
+
+static void open_layer(void)
+{
+	struct thread nobody = {.call = "registry_open"};
+	for (unsigned cpu = 0; cpu < KUPALDIZ_CPUS; cpu++)
+		cpus[cpu].info.ci_index = cpu;
+	if (pthread_key_create(&ending, end_thread) != 0)
+		stop(&nobody, "no key of a thread is left");
+	if (pthread_atfork(NULL, NULL, note_fork) != 0)
+		stop(&nobody, "out of memory");
+	open_banks(&nobody);
+}
+
+/* Memory for a thread: that of one which has ended, or new one. Its condition variable goes by the clock that nobody sets. */
+static struct thread *thread_memory(void)
+{
+	pthread_condattr_t monotonic;
+	pthread_mutex_lock(&free_lock);
+	struct thread *me = free_threads;
+	if (me != NULL)
+		free_threads = me->next;
+	pthread_mutex_unlock(&free_lock);
+	if (me != NULL || (me = calloc(1, sizeof(*me))) == NULL)
+		return me;
+	pthread_condattr_init(&monotonic);
+	pthread_condattr_setclock(&monotonic, CLOCK_MONOTONIC);
+	pthread_cond_init(&me->cond, &monotonic);
+	pthread_condattr_destroy(&monotonic);
+	return me;
+}
+
+/* This thread, at its first call. Its name is the system's, or the one that is given. */
+struct thread *named_thread(const char *call, const char *name)
+{
+	if (forked)
+		stop_at(call, take_place(), "in the child of a fork");
+	pthread_once(&opened, open_layer);
+	struct thread *me = thread_memory();
+	if (me == NULL || pthread_setspecific(ending, me) != 0)
+		stop_at(call, take_place(), "out of memory");
+	snprintf(me->name, sizeof(me->name), "%s", name);
+	me->lwp.l_name = me->name;
+	me->rounds = 0;
+	__atomic_store_n(&me->id, gettid(), __ATOMIC_RELAXED);
+	kupaldiz_self = me;
+	return me;
+}
+
+struct thread *new_thread(const char *call)
+{
+	return named_thread(call, "");
+}
+
+/* The thread isn't bound any more. */
+static void unbind(struct thread *me)
+{
+	if (me->references != 0)
+		stop(me, "the thread has passive references");
+	me->lwp.l_pflag &= ~LP_BOUND;
+	__atomic_fetch_sub(&me->cpu->bound, 1, __ATOMIC_RELAXED);
+}
+
+/* A thread has ended: what it still has nobody else can give back. */
+void end_of_thread(struct thread *me)
+{
+	me->call = "pthread_exit";
+	me->place = NULL;
+	if (me->depth > 0)
+		stop(me, "inside a read section");
+	if (me->spins > 0 || me->locks > 0)
+		stop(me, "with a lock");
+	if (me->holds > 0)
+		stop(me, "with its CPU");
+	if (is_bound(me))
+		unbind(me);
+	kupaldiz_self = NULL;
+	pthread_mutex_lock(&free_lock);
+	me->next = free_threads;
+	free_threads = me;
+	pthread_mutex_unlock(&free_lock);
+}
+
+/* ---- Having a CPU. ---- */
+
+/* The thread runs on this CPU from now on. */
+static void move_to(struct thread *me, struct cpu *cpu)
+{
+	me->cpu = cpu;
+	me->lwp.l_cpu = &cpu->info;
+}
+
+/* A CPU for a thread that never had one. */
+static struct cpu *first_cpu(void)
+{
+	return &cpus[__atomic_fetch_add(&next_cpu, 1, __ATOMIC_RELAXED) % KUPALDIZ_CPUS];
+}
+
+/* The CPU where the thread is, or was last. */
+struct cpu *cpu_of(struct thread *me)
+{
+	if (me->cpu == NULL)
+		move_to(me, first_cpu());
+	return me->cpu;
+}
+
+/* Takes a CPU that is free; where none is, waits for the one that this thread had last. */
+static void take_any(struct thread *me)
+{
+	unsigned last = cpu_of(me)->info.ci_index;
+	for (unsigned turn = 0; turn < KUPALDIZ_CPUS; turn++) {
+		struct cpu *cpu = &cpus[(last + turn) % KUPALDIZ_CPUS];
+		if (lock_try(&cpu->hold, me)) {
+			move_to(me, cpu);
+			return;
+		}
+	}
+	lock_take(&me->cpu->hold, me, tell_of_cpu);
+}
+
+/* Has the CPU, for one reason more. */
+void hold_cpu(struct thread *me)
+{
+	if (me->holds++ > 0)
+		return;
+	if (is_bound(me))
+		lock_take(&me->cpu->hold, me, tell_of_cpu);
+	else
+		take_any(me);
+}
+
+/* Has it for one reason less. */
+void unhold_cpu(struct thread *me)
+{
+	if (--me->holds == 0)
+		lock_give(&me->cpu->hold, me);
+}
+
+/* Has each CPU once: what other threads did there before is over then. The thread has none. */
+void visit_cpus(struct thread *me)
+{
+	for (unsigned cpu = 0; cpu < KUPALDIZ_CPUS; cpu++) {
+		lock_take(&cpus[cpu].hold, me, tell_of_cpu);
+		lock_give(&cpus[cpu].hold, me);
+	}
+}
+
+/* Says who has the CPU that this thread waits for. */
+void tell_of_cpu(struct thread *me, const uintptr_t *word)
+{
+	char text[64], where[256];
+	const struct cpu *cpu = (const struct cpu *)(const void *)((const char *)word - offsetof(struct cpu, hold));
+	struct thread *owner = lock_owner(word);
+	if (owner == NULL)
+		return;
+	const char *entered = __atomic_load_n(&owner->entered, __ATOMIC_RELAXED);
+	say(me, "waits for CPU %u, whose thread \"%s\" %s%s", cpu->info.ci_index, name_of(owner, text, sizeof(text)),
+	    entered == NULL ? "keeps it" : "is inside a read section, entered", at_place(entered, where, sizeof(where)));
+}
+
+/* ---- The calls. ---- */
+
+struct lwp *kupaldiz_curlwp(void)
+{
+	return &begin_plain("curlwp")->lwp;
+}
+
+struct cpu_info *kupaldiz_cpu(unsigned cpu)
+{
+	(void)begin_plain(__func__);
+	return cpu < KUPALDIZ_CPUS ? &cpus[cpu].info : NULL;
+}
+
+/* Binds the thread to a CPU. */
+void bind_to(struct thread *me, struct cpu *cpu)
+{
+	move_to(me, cpu);
+	me->lwp.l_pflag |= LP_BOUND;
+	__atomic_fetch_add(&cpu->bound, 1, __ATOMIC_RELAXED);
+}
+
+void kupaldiz_bind(unsigned cpu)
+{
+	struct thread *me = begin_call(__func__);
+	if (cpu >= KUPALDIZ_CPUS)
+		stop(me, "there is no CPU %u", cpu);
+	if (is_bound(me))
+		stop(me, "the thread is bound to CPU %u", me->cpu->info.ci_index);
+	want_sleepable(me);
+	bind_to(me, &cpus[cpu]);
+}
+
+static void want_bound(const struct thread *me)
+{
+	if (!is_bound(me))
+		stop(me, "the thread is not bound to a CPU");
+}
+
+void kupaldiz_unbind(void)
+{
+	struct thread *me = begin_call(__func__);
+	want_bound(me);
+	want_sleepable(me);
+	unbind(me);
+}
+
+/* The CPU to which the fewest threads are bound; of several the one at which the thread was last, or the next one. */
+static struct cpu *least_bound(struct thread *me)
+{
+	struct cpu *least = cpu_of(me);
+	unsigned first = least->info.ci_index;
+	for (unsigned turn = 1; turn < KUPALDIZ_CPUS; turn++) {
+		struct cpu *cpu = &cpus[(first + turn) % KUPALDIZ_CPUS];
+		if (__atomic_load_n(&cpu->bound, __ATOMIC_RELAXED) < __atomic_load_n(&least->bound, __ATOMIC_RELAXED))
+			least = cpu;
+	}
+	return least;
+}
+
+int curlwp_bind(void)
+{
+	struct thread *me = begin_plain(__func__);
+	if (is_bound(me))
+		return 1;
+	bind_to(me, me->holds > 0 ? me->cpu : least_bound(me));
+	return 0;
+}
+
+void curlwp_bindx(int bound)
+{
+	struct thread *me = begin_call(__func__);
+	want_bound(me);
+	if (!bound)
+		unbind(me);
+}
+
+struct cpu_info *curcpu(void)
+{
+	return &cpu_of(begin_plain(__func__))->info;
+}
+
+void kpreempt_disable(void)
+{
+	struct thread *me = begin_plain(__func__);
+	hold_cpu(me);
+	me->preemptions++;
+}
+
+void kpreempt_enable(void)
+{
+	struct thread *me = begin_call(__func__);
+	if (me->preemptions == 0)
+		stop(me, "preemption is not disabled");
+	me->preemptions--;
+	unhold_cpu(me);
+	end_call(me);
+}
+
+bool kpreempt_disabled(void)
+{
+	return begin_plain(__func__)->holds > 0;
+}
+
+bool cpu_softintr_p(void)
+{
+	return begin_plain(__func__)->softint;
+}

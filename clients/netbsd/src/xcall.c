@@ -1,0 +1,60 @@
+/* xcall.c - xcall(9): the caller's thread goes to each CPU in turn */
+#include "layer.h"
+
+static uint64_t tickets;	/* an atomic */
+
+/* Runs a function on a CPU. With high priority it has the CPU meanwhile, at the level of soft interrupts. */
+static void run_on(struct thread *me, struct cpu *cpu, unsigned flags, xcfunc_t body, void *arg_a, void *arg_b)
+{
+	struct cpu *before = me->cpu;
+	int flag = me->lwp.l_pflag & LP_BOUND;
+	me->cpu = cpu;
+	me->lwp.l_cpu = &cpu->info;
+	me->lwp.l_pflag |= LP_BOUND;
+	hold_cpu(me);
+	if ((flags & XC_HIGHPRI) != 0) {
+		int level = raise_level(me, IPL_SOFTSERIAL);
+		body(arg_a, arg_b);
+		lower_level(me, level);
+		unhold_cpu(me);
+	} else {
+		unhold_cpu(me);
+		body(arg_a, arg_b);
+	}
+	me->lwp.l_pflag = (me->lwp.l_pflag & ~LP_BOUND) | flag;
+	me->cpu = before;
+	me->lwp.l_cpu = before == NULL ? NULL : &before->info;
+}
+
+uint64_t xc_unicast(unsigned flags, xcfunc_t body, void *arg_a, void *arg_b, struct cpu_info *cpu)
+{
+	struct thread *me = begin_plain(__func__);
+	want_sleepable(me);
+	run_on(me, &cpus[cpu->ci_index], flags, body, arg_a, arg_b);
+	return __atomic_add_fetch(&tickets, 1, __ATOMIC_RELAXED);
+}
+
+uint64_t xc_broadcast(unsigned flags, xcfunc_t body, void *arg_a, void *arg_b)
+{
+	struct thread *me = begin_call(__func__);
+	want_sleepable(me);
+	for (unsigned cpu = 0; cpu < KUPALDIZ_CPUS; cpu++)
+		run_on(me, &cpus[cpu], flags, body, arg_a, arg_b);
+	return __atomic_add_fetch(&tickets, 1, __ATOMIC_RELAXED);
+}
+
+void xc_wait(uint64_t ticket)
+{
+	struct thread *me = begin_plain(__func__);
+	want_sleepable(me);
+	if (ticket == 0 || ticket > __atomic_load_n(&tickets, __ATOMIC_RELAXED))
+		stop(me, "no such call");
+}
+
+void xc_barrier(unsigned flags)
+{
+	struct thread *me = begin_call(__func__);
+	(void)flags;
+	want_sleepable(me);
+	visit_cpus(me);
+}

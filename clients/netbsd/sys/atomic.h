@@ -1,0 +1,158 @@
+/*
+ * sys/atomic.h - atomic_loadstore(9), atomic_ops(3) and membar_ops(3), over the compiler's own
+ *
+ * What differs from the pages: each operation that returns or changes a word is as strong as its name in the kernel or stronger: those of
+ * atomic_ops(3) order nothing there, and are sequentially consistent here.
+ */
+#ifndef KUPALDIZ_NETBSD_SYS_ATOMIC_H
+#define KUPALDIZ_NETBSD_SYS_ATOMIC_H
+
+#include "../sys_types.h"
+
+#ifdef __cplusplus
+extern "C" {
+#endif
+
+/* What a program hears of a fence that the thread sanitizer doesn't know. */
+#if defined(__SANITIZE_THREAD__) && !defined(__clang__)
+#pragma GCC diagnostic ignored "-Wtsan"
+#endif
+
+#define atomic_load_relaxed(at)	(__extension__({ KUPALDIZ_POINT(at); __atomic_load_n(at, __ATOMIC_RELAXED); }))
+#define atomic_load_acquire(at)	(__extension__({ KUPALDIZ_POINT(at); __atomic_load_n(at, __ATOMIC_ACQUIRE); }))
+#define atomic_load_consume(at)	(__extension__({ KUPALDIZ_POINT(at); __atomic_load_n(at, __ATOMIC_ACQUIRE); }))
+#define atomic_store_relaxed(at, value)	(__extension__({ KUPALDIZ_POINT(at); __atomic_store_n(at, value, __ATOMIC_RELAXED); }))
+#define atomic_store_release(at, value)	(__extension__({ KUPALDIZ_POINT(at); __atomic_store_n(at, value, __ATOMIC_RELEASE); }))
+
+static inline void membar_acquire(void)
+{
+	KUPALDIZ_POINT(NULL);
+	__atomic_thread_fence(__ATOMIC_ACQUIRE);
+}
+
+static inline void membar_release(void)
+{
+	KUPALDIZ_POINT(NULL);
+	__atomic_thread_fence(__ATOMIC_RELEASE);
+}
+
+static inline void membar_sync(void)
+{
+	KUPALDIZ_POINT(NULL);
+	__atomic_thread_fence(__ATOMIC_SEQ_CST);
+}
+
+#define membar_producer()	membar_release()
+#define membar_consumer()	membar_acquire()
+#define membar_enter()		membar_sync()
+#define membar_exit()		membar_release()
+#define membar_datadep_consumer()	membar_acquire()
+
+/* The operations on a word of one type: what its names end with, the type, and the type of what is added. */
+#define KUPALDIZ_ATOMICS(name, type, number) \
+	static inline void atomic_add_##name(volatile type *at, number value) \
+	{ \
+		KUPALDIZ_POINT(at); \
+		__atomic_fetch_add(at, value, __ATOMIC_SEQ_CST); \
+	} \
+	static inline type atomic_add_##name##_nv(volatile type *at, number value) \
+	{ \
+		KUPALDIZ_POINT(at); \
+		return (type)__atomic_add_fetch(at, value, __ATOMIC_SEQ_CST); \
+	}
+
+#define KUPALDIZ_COUNTS(name, type) \
+	static inline void atomic_inc_##name(volatile type *at) \
+	{ \
+		KUPALDIZ_POINT(at); \
+		__atomic_fetch_add(at, 1, __ATOMIC_SEQ_CST); \
+	} \
+	static inline type atomic_inc_##name##_nv(volatile type *at) \
+	{ \
+		KUPALDIZ_POINT(at); \
+		return (type)__atomic_add_fetch(at, 1, __ATOMIC_SEQ_CST); \
+	} \
+	static inline void atomic_dec_##name(volatile type *at) \
+	{ \
+		KUPALDIZ_POINT(at); \
+		__atomic_fetch_sub(at, 1, __ATOMIC_SEQ_CST); \
+	} \
+	static inline type atomic_dec_##name##_nv(volatile type *at) \
+	{ \
+		KUPALDIZ_POINT(at); \
+		return (type)__atomic_sub_fetch(at, 1, __ATOMIC_SEQ_CST); \
+	}
+
+#define KUPALDIZ_BITS(name, type) \
+	static inline void atomic_or_##name(volatile type *at, type bits) \
+	{ \
+		KUPALDIZ_POINT(at); \
+		__atomic_fetch_or(at, bits, __ATOMIC_SEQ_CST); \
+	} \
+	static inline type atomic_or_##name##_nv(volatile type *at, type bits) \
+	{ \
+		KUPALDIZ_POINT(at); \
+		return __atomic_or_fetch(at, bits, __ATOMIC_SEQ_CST); \
+	} \
+	static inline void atomic_and_##name(volatile type *at, type bits) \
+	{ \
+		KUPALDIZ_POINT(at); \
+		__atomic_fetch_and(at, bits, __ATOMIC_SEQ_CST); \
+	} \
+	static inline type atomic_and_##name##_nv(volatile type *at, type bits) \
+	{ \
+		KUPALDIZ_POINT(at); \
+		return __atomic_and_fetch(at, bits, __ATOMIC_SEQ_CST); \
+	}
+
+#define KUPALDIZ_SWAPS(name, type) \
+	static inline type atomic_swap_##name(volatile type *at, type value) \
+	{ \
+		KUPALDIZ_POINT(at); \
+		return __atomic_exchange_n(at, value, __ATOMIC_SEQ_CST); \
+	} \
+	static inline type atomic_cas_##name(volatile type *at, type expected, type value) \
+	{ \
+		KUPALDIZ_POINT(at); \
+		__atomic_compare_exchange_n(at, &expected, value, false, __ATOMIC_SEQ_CST, __ATOMIC_SEQ_CST); \
+		return expected; \
+	} \
+	static inline type atomic_cas_##name##_ni(volatile type *at, type expected, type value) \
+	{ \
+		return atomic_cas_##name(at, expected, value); \
+	}
+
+KUPALDIZ_ATOMICS(int, unsigned, int)
+KUPALDIZ_ATOMICS(long, unsigned long, long)
+KUPALDIZ_ATOMICS(32, uint32_t, int32_t)
+KUPALDIZ_ATOMICS(64, uint64_t, int64_t)
+KUPALDIZ_COUNTS(uint, unsigned)
+KUPALDIZ_COUNTS(ulong, unsigned long)
+KUPALDIZ_COUNTS(32, uint32_t)
+KUPALDIZ_COUNTS(64, uint64_t)
+KUPALDIZ_BITS(uint, unsigned)
+KUPALDIZ_BITS(ulong, unsigned long)
+KUPALDIZ_BITS(32, uint32_t)
+KUPALDIZ_BITS(64, uint64_t)
+KUPALDIZ_SWAPS(uint, unsigned)
+KUPALDIZ_SWAPS(ulong, unsigned long)
+KUPALDIZ_SWAPS(32, uint32_t)
+KUPALDIZ_SWAPS(64, uint64_t)
+
+static inline void *atomic_swap_ptr(volatile void *at, void *value)
+{
+	KUPALDIZ_POINT(at);
+	return __atomic_exchange_n((void *volatile *)at, value, __ATOMIC_SEQ_CST);
+}
+
+static inline void *atomic_cas_ptr(volatile void *at, void *expected, void *value)
+{
+	KUPALDIZ_POINT(at);
+	__atomic_compare_exchange_n((void *volatile *)at, &expected, value, false, __ATOMIC_SEQ_CST, __ATOMIC_SEQ_CST);
+	return expected;
+}
+
+#ifdef __cplusplus
+}
+#endif
+#endif

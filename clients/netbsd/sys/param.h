@@ -1,0 +1,22 @@
+/* sys/param.h - the system's, and what kernel files expect there besides */
+#pragma GCC system_header
+#include_next <sys/param.h>
+
+#ifndef KUPALDIZ_NETBSD_SYS_PARAM_H
+#define KUPALDIZ_NETBSD_SYS_PARAM_H
+
+#include <sys/cdefs.h>
+#include <sys/types.h>
+
+#include "../kernel.h"
+
+#ifndef CACHE_LINE_SIZE
+#define CACHE_LINE_SIZE	64
+#endif
+#define COHERENCY_UNIT	64
+#define MAXCPUS		KUPALDIZ_CPUS
+
+#define mstohz(milliseconds)	((int)(((milliseconds) + 9) / 10))
+#define hztoms(ticks)		((unsigned)(ticks) * 10)
+
+#endif

@@ -1,0 +1,167 @@
+/*
+ * limits - more than one registry takes: over a layer whose registries have four rows, forty changes, fifty thousand sections of a CPU and two
+ * thousand references. With `full` over the true limits: more than a million changes, and hundreds of live targets.
+ */
+#include <sys/condvar.h>
+#include <sys/localcount.h>
+#include <sys/mutex.h>
+#include <sys/pserialize.h>
+#include <sys/psref.h>
+
+#include "test.h"
+
+enum { MOST_LIVE = 300, READERS = 4, REFERENCES = 3501 };	/* no multiple of 7 */
+
+static struct psref_class *things;
+static pserialize_t psz;
+static kmutex_t lock;
+static kcondvar_t drained;
+static struct psref_target targets[MOST_LIVE];
+static struct localcount counts[MOST_LIVE];
+static atomic_bool over;
+static _Atomic(int *) shown;
+
+/* Many are live at once. Each can be referred to, and each ends. */
+static void test_live(unsigned live)
+{
+	struct psref psref;
+	for (unsigned i = 0; i < live; i++) {
+		psref_target_init(&targets[i], things);
+		localcount_init(&counts[i]);
+	}
+	for (unsigned i = 0; i < live; i++) {
+		psref_acquire(&psref, &targets[i], things);
+		EXPECT(psref_held(&targets[i], things) && !psref_held(&targets[(i + 1) % live], things));
+		psref_release(&psref, &targets[i], things);
+		localcount_acquire(&counts[i]);
+		EXPECT(localcount_debug_refcnt(&counts[i]) == 1);
+		localcount_release(&counts[i], &drained, &lock);
+	}
+	for (unsigned i = 0; i < live; i++) {
+		psref_target_destroy(&targets[i], things);
+		mutex_enter(&lock);
+		localcount_drain(&counts[i], &drained, &lock);
+		mutex_exit(&lock);
+		localcount_fini(&counts[i]);
+	}
+}
+
+/* One target after another, beside one that stays. */
+static void test_changes(unsigned changes)
+{
+	struct psref kept, psref;
+	struct psref_target stays, goes;
+	psref_target_init(&stays, things);
+	psref_acquire(&kept, &stays, things);
+	for (unsigned i = 0; i < changes; i += 2) {
+		psref_target_init(&goes, things);
+		psref_acquire(&psref, &goes, things);
+		psref_release(&psref, &goes, things);
+		psref_target_destroy(&goes, things);
+		EXPECT(psref_held(&stays, things));
+	}
+	psref_release(&kept, &stays, things);
+	psref_target_destroy(&stays, things);
+}
+
+/* More references of one CPU to one target than it counts. They are released in another order. */
+static void test_references(unsigned references)
+{
+	static struct psref psrefs[REFERENCES];
+	psref_target_init(&targets[0], things);
+	for (unsigned i = 0; i < references; i++)
+		psref_acquire(&psrefs[i], &targets[0], things);
+	for (unsigned i = 0; i < references; i++) {
+		EXPECT(psref_held(&targets[0], things));
+		psref_release(&psrefs[i * 7 % references], &targets[0], things);
+	}
+	EXPECT(!psref_held(&targets[0], things));
+	psref_target_destroy(&targets[0], things);
+}
+
+static void *release_all(void *of)
+{
+	kupaldiz_bind(5);
+	for (unsigned i = 0; i < *(unsigned *)of; i++)
+		localcount_release(&counts[0], &drained, &lock);
+	return NULL;
+}
+
+/* References that go one way: acquired on one CPU, and released on another. */
+static void test_one_way(unsigned references)
+{
+	pthread_t other;
+	localcount_init(&counts[0]);
+	for (unsigned i = 0; i < references; i++)
+		localcount_acquire(&counts[0]);
+	EXPECT(localcount_debug_refcnt(&counts[0]) == references);
+	start_thread(&other, release_all, &references);
+	end_thread(other);
+	EXPECT(localcount_debug_refcnt(&counts[0]) == 0);
+	mutex_enter(&lock);
+	localcount_drain(&counts[0], &drained, &lock);
+	mutex_exit(&lock);
+	localcount_fini(&counts[0]);
+}
+
+/* Reads what is shown, in more sections than a registry has. */
+static void *read_all(void *arg)
+{
+	while (!atomic_load(&over)) {
+		int s = pserialize_read_enter();
+		EXPECT(*atomic_load(&shown) == 77);
+		EXPECT(*atomic_load(&shown) == 77);
+		pserialize_read_exit(s);
+	}
+	return arg;
+}
+
+/* A perform waits for sections in whatever registry they are. */
+static void test_sections(unsigned rounds)
+{
+	pthread_t readers[READERS];
+	int *now = malloc(sizeof(*now));
+	EXPECT(now != NULL);
+	*now = 77;
+	atomic_store(&shown, now);
+	for (unsigned i = 0; i < READERS; i++)
+		start_thread(&readers[i], read_all, NULL);
+	for (unsigned i = 0; i < rounds; i++) {
+		int *next = malloc(sizeof(*next)), *before = atomic_load(&shown);
+		EXPECT(next != NULL);
+		*next = 77;
+		atomic_store(&shown, next);
+		pserialize_perform(psz);
+		*before = 0;
+		free(before);
+		psref_target_init(&targets[0], things);
+		psref_target_destroy(&targets[0], things);
+	}
+	atomic_store(&over, true);
+	for (unsigned i = 0; i < READERS; i++)
+		end_thread(readers[i]);
+	free(atomic_load(&shown));
+}
+
+int main(int argc, char **argv)
+{
+	bool full = argc == 2 && strcmp(argv[1], "full") == 0;
+	things = psref_class_create("thing", IPL_NONE);
+	psz = pserialize_create();
+	mutex_init(&lock, MUTEX_DEFAULT, IPL_NONE);
+	cv_init(&drained, "drained");
+	kupaldiz_bind(1);
+	test_live(full ? MOST_LIVE : 40);
+	test_changes(full ? 1100000 : 2000);
+	test_references(REFERENCES);
+	if (!full)
+		test_one_way(3000);
+	test_sections(full ? 2000 : 400);
+	test_live(full ? MOST_LIVE : 40);
+	psref_class_destroy(things);
+	pserialize_destroy(psz);
+	cv_destroy(&drained);
+	mutex_destroy(&lock);
+	puts(full ? "more than a million changes" : "more than each registry takes");
+	return 0;
+}

@@ -1,0 +1,555 @@
+/*
+ * misuse_kernel - what the pages of locks, memory, soft interrupts and threads forbid and a call sees: each ends its process with its line
+ *
+ * The last line counts the cases.
+ */
+#include <sys/callout.h>
+#include <sys/condvar.h>
+#include <sys/intr.h>
+#include <sys/kmem.h>
+#include <sys/kthread.h>
+#include <sys/mutex.h>
+#include <sys/percpu.h>
+#include <sys/pool.h>
+#include <sys/pserialize.h>
+#include <sys/rwlock.h>
+#include <sys/systm.h>
+#include <sys/xcall.h>
+
+#include "stops.h"
+
+static kmutex_t lock, softlock, spin;
+static kcondvar_t cv;
+static krwlock_t rw;
+static atomic_bool ready;
+
+static void begin(void)
+{
+	kupaldiz_bind(0);
+	mutex_init(&lock, MUTEX_DEFAULT, IPL_NONE);
+	mutex_init(&softlock, MUTEX_DEFAULT, IPL_SOFTNET);
+	mutex_init(&spin, MUTEX_DEFAULT, IPL_VM);
+	cv_init(&cv, "count");
+	rw_init(&rw);
+}
+
+/* Runs a handler as a soft interrupt, which stops. */
+static void as_softint(void (*handler)(void *))
+{
+	softint_schedule(softint_establish(SOFTINT_NET, handler, NULL));
+	sleep_for(20000000);
+}
+
+/* ---- mutex(9) ---- */
+
+static void enter_twice(void)
+{
+	mutex_enter(&lock);
+	mutex_enter(&lock);
+}
+
+static void spin_enter_twice(void)
+{
+	mutex_enter(&spin);
+	mutex_enter(&spin);
+}
+
+static void exit_free(void)
+{
+	mutex_exit(&lock);
+}
+
+static void *keep_lock(void *arg)
+{
+	mutex_enter(&lock);
+	atomic_store(&ready, true);
+	sleep_for(20000000);
+	return arg;
+}
+
+static void start_keeper(void)
+{
+	pthread_t keeper;
+	start_thread(&keeper, keep_lock, NULL);
+	while (!atomic_load(&ready))
+		sleep_for(100);
+}
+
+static void exit_anothers(void)
+{
+	start_keeper();
+	mutex_exit(&lock);
+}
+
+static void destroy_held(void)
+{
+	start_keeper();
+	mutex_destroy(&lock);
+}
+
+static void enter_inside(void)
+{
+	pserialize_read_enter();
+	mutex_enter(&lock);
+}
+
+static void enter_with_spin(void)
+{
+	mutex_enter(&spin);
+	mutex_enter(&lock);
+}
+
+static void enter_preempting(void)
+{
+	kpreempt_disable();
+	mutex_enter(&lock);
+}
+
+static void take_lock(void *arg)
+{
+	(void)arg;
+	mutex_enter(&lock);
+}
+
+static void enter_in_softint(void)
+{
+	as_softint(take_lock);
+}
+
+static void enter_never_made(void)
+{
+	static kmutex_t never;
+	mutex_enter(&never);
+}
+
+static void enter_destroyed(void)
+{
+	mutex_destroy(&lock);
+	mutex_enter(&lock);
+}
+
+static void spin_enter_adaptive(void)
+{
+	mutex_spin_enter(&lock);
+}
+
+static void splx_with_spin(void)
+{
+	int s = splsoftnet();
+	mutex_enter(&spin);
+	splx(s);
+}
+
+static void enable_preemption(void)
+{
+	kpreempt_enable();
+}
+
+/* ---- condvar(9) ---- */
+
+static void wait_inside(void)
+{
+	mutex_enter(&lock);
+	pserialize_read_enter();
+	cv_wait(&cv, &lock);
+}
+
+static void wait_unlocked(void)
+{
+	cv_wait(&cv, &lock);
+}
+
+static void wait_with_anothers(void)
+{
+	start_keeper();
+	cv_timedwait(&cv, &lock, 1);
+}
+
+static void wait_with_spin(void)
+{
+	mutex_enter(&lock);
+	mutex_enter(&spin);
+	cv_wait(&cv, &lock);
+}
+
+static void wait_softly(void *arg)
+{
+	(void)arg;
+	mutex_enter(&softlock);
+	cv_wait(&cv, &softlock);
+}
+
+static void wait_in_softint(void)
+{
+	as_softint(wait_softly);
+}
+
+static void *wait_for_it(void *arg)
+{
+	mutex_enter(&lock);
+	atomic_store(&ready, true);
+	cv_wait(&cv, &lock);
+	return arg;
+}
+
+static void cv_destroy_waited(void)
+{
+	pthread_t waiter;
+	start_thread(&waiter, wait_for_it, NULL);
+	while (!atomic_load(&ready))
+		sleep_for(100);
+	mutex_enter(&lock);
+	cv_destroy(&cv);
+}
+
+static void cv_never_made(void)
+{
+	static kcondvar_t never;
+	cv_broadcast(&never);
+}
+
+/* ---- rwlock(9) ---- */
+
+static void rw_exit_free(void)
+{
+	rw_exit(&rw);
+}
+
+static void *write_it(void *arg)
+{
+	rw_enter(&rw, RW_WRITER);
+	atomic_store(&ready, true);
+	sleep_for(20000000);
+	return arg;
+}
+
+static void rw_exit_anothers(void)
+{
+	pthread_t writer;
+	start_thread(&writer, write_it, NULL);
+	while (!atomic_load(&ready))
+		sleep_for(100);
+	rw_exit(&rw);
+}
+
+static void rw_enter_twice(void)
+{
+	rw_enter(&rw, RW_WRITER);
+	rw_enter(&rw, RW_WRITER);
+}
+
+static void rw_enter_inside(void)
+{
+	pserialize_read_enter();
+	rw_enter(&rw, RW_READER);
+}
+
+static void rw_destroy_held(void)
+{
+	rw_enter(&rw, RW_READER);
+	rw_destroy(&rw);
+}
+
+static void rw_downgrade_reader(void)
+{
+	rw_enter(&rw, RW_READER);
+	rw_downgrade(&rw);
+}
+
+/* ---- kmem(9), pool(9), percpu(9) ---- */
+
+static void alloc_inside(void)
+{
+	pserialize_read_enter();
+	kmem_alloc(8, KM_SLEEP);
+}
+
+static void alloc_softly(void *arg)
+{
+	(void)arg;
+	kmem_alloc(8, KM_NOSLEEP);
+}
+
+static void alloc_in_softint(void)
+{
+	as_softint(alloc_softly);
+}
+
+static void alloc_sleeping_softly(void *arg)
+{
+	(void)arg;
+	kmem_intr_alloc(8, KM_SLEEP);
+}
+
+static void intr_alloc_sleeping(void)
+{
+	as_softint(alloc_sleeping_softly);
+}
+
+static void alloc_nothing(void)
+{
+	kmem_zalloc(0, KM_SLEEP);
+}
+
+static void alloc_without_flag(void)
+{
+	kmem_alloc(8, 0);
+}
+
+static void free_other_size(void)
+{
+	kmem_free(kmem_alloc(32, KM_SLEEP), 64);
+}
+
+static void free_null(void)
+{
+	kmem_free(NULL, 8);
+}
+
+static void free_foreign(void)
+{
+	static uint64_t words[8];
+	kmem_free(&words[4], 8);
+}
+
+static void pool_in_use(void)
+{
+	struct pool pool;
+	pool_init(&pool, 24, 0, 0, 0, "thingpl", NULL, IPL_NONE);
+	(void)pool_get(&pool, PR_WAITOK);
+	pool_destroy(&pool);
+}
+
+static void cache_in_use(void)
+{
+	pool_cache_t cache = pool_cache_init(24, 0, 0, 0, "thingpl", NULL, IPL_NONE, NULL, NULL, NULL);
+	(void)pool_cache_get(cache, PR_WAITOK);
+	pool_cache_destroy(cache);
+}
+
+static void percpu_other_size(void)
+{
+	percpu_free(percpu_alloc(8), 16);
+}
+
+static void percpu_sleeping(void)
+{
+	(void)percpu_getref(percpu_alloc(8));
+	kmem_alloc(8, KM_SLEEP);
+}
+
+static void percpu_putref_alone(void)
+{
+	percpu_putref(percpu_alloc(8));
+}
+
+/* ---- softint(9), callout(9), xcall(9) ---- */
+
+static void nothing(void *arg)
+{
+	(void)arg;
+}
+
+static void schedule_ended(void)
+{
+	void *cookie = softint_establish(SOFTINT_NET, nothing, NULL);
+	softint_disestablish(cookie);
+	softint_schedule(cookie);
+}
+
+static void stay_inside(void *arg)
+{
+	(void)arg;
+	pserialize_read_enter();
+}
+
+static void handler_stays_inside(void)
+{
+	as_softint(stay_inside);
+}
+
+static void stay_locked(void *arg)
+{
+	(void)arg;
+	mutex_enter(&softlock);
+}
+
+static void handler_stays_locked(void)
+{
+	as_softint(stay_locked);
+}
+
+static void callout_destroy_pending(void)
+{
+	static callout_t callout;
+	callout_init(&callout, CALLOUT_MPSAFE);
+	callout_reset(&callout, 1000, nothing, NULL);
+	callout_destroy(&callout);
+}
+
+static void callout_without_function(void)
+{
+	static callout_t callout;
+	callout_init(&callout, 0);
+	callout_schedule(&callout, 1);
+}
+
+static void barrier_inside(void)
+{
+	pserialize_read_enter();
+	xc_barrier(0);
+}
+
+static void broadcast_with_spin(void)
+{
+	mutex_enter(&spin);
+	xc_broadcast(0, NULL, NULL, NULL);
+}
+
+/* ---- threads, assertions, copies ---- */
+
+static void *end_locked(void *arg)
+{
+	mutex_enter(&lock);
+	return arg;
+}
+
+static void thread_ends_locked(void)
+{
+	on_thread(end_locked);
+}
+
+static void *end_raised(void *arg)
+{
+	splnet();
+	return arg;
+}
+
+static void thread_ends_raised(void)
+{
+	on_thread(end_raised);
+}
+
+/* The layer isn't for the child of a fork whose parent has called it. */
+static void child_of_fork(void)
+{
+	int status;
+	pid_t child = fork();
+	EXPECT(child >= 0);
+	if (child == 0) {
+		pserialize_read_enter();
+		_exit(0);
+	}
+	EXPECT(waitpid(child, &status, 0) == child && WIFSIGNALED(status));
+	abort();
+}
+
+static void exit_of_main(void)
+{
+	kthread_exit(0);
+}
+
+static void join_nobody(void)
+{
+	kthread_join(curlwp);
+}
+
+static void assertion(void)
+{
+	KASSERT(1 + 1 == 3);
+}
+
+static void assertion_with_words(void)
+{
+	KASSERTMSG(1 + 1 == 3, "of %d", 7);
+}
+
+static void end_by_panic(void)
+{
+	panic("no %s", "way");
+}
+
+static void not_sleepable(void)
+{
+	pserialize_read_enter();
+	ASSERT_SLEEPABLE();
+}
+
+static void copy_inside(void)
+{
+	int here = 0, there = 0;
+	pserialize_read_enter();
+	copyin(&here, &there, sizeof(here));
+}
+
+static void pause_inside(void)
+{
+	pserialize_read_enter();
+	kpause("wait", false, 1, NULL);
+}
+
+static const struct stop_case cases[] = {
+    {enter_twice, "mutex_enter: the thread has the lock already, taken at PLACE, at PLACE"},
+    {spin_enter_twice, "mutex_enter: the thread has the lock already, taken at PLACE, at PLACE"},
+    {exit_free, "mutex_exit: the thread does not have the lock, at PLACE"},
+    {exit_anothers, "mutex_exit: the thread does not have the lock, at PLACE"},
+    {destroy_held, "mutex_destroy: the lock is held: thread \"misuse_kernel\" took it at PLACE, at PLACE"},
+    {enter_inside, "mutex_enter: inside a read section, entered at PLACE, at PLACE"},
+    {enter_with_spin, "mutex_enter: with a spin lock, and this lock does not spin, at PLACE"},
+    {enter_preempting, "mutex_enter: with preemption disabled, at PLACE"},
+    {enter_in_softint, "mutex_enter: in a soft interrupt, and the lock is of IPL_NONE, at PLACE"},
+    {enter_never_made, "mutex_enter: the lock was never initialised, at PLACE"},
+    {enter_destroyed, "mutex_enter: the lock was destroyed, at PLACE"},
+    {spin_enter_adaptive, "mutex_spin_enter: the lock does not spin, at PLACE"},
+    {splx_with_spin, "splx: with a spin lock, at PLACE"},
+    {enable_preemption, "kpreempt_enable: preemption is not disabled, at PLACE"},
+    {wait_inside, "cv_wait: inside a read section, entered at PLACE, at PLACE"},
+    {wait_unlocked, "cv_wait: the thread does not have the lock, at PLACE"},
+    {wait_with_anothers, "cv_timedwait: the thread does not have the lock, at PLACE"},
+    {wait_with_spin, "cv_wait: with a spin lock, at PLACE"},
+    {wait_in_softint, "cv_wait: in a soft interrupt, at PLACE"},
+    {cv_destroy_waited, "cv_destroy: a thread waits for count, at PLACE"},
+    {cv_never_made, "cv_broadcast: the condition variable was never initialised, at PLACE"},
+    {rw_exit_free, "rw_exit: nobody has the lock, at PLACE"},
+    {rw_exit_anothers, "rw_exit: another thread has the lock as its writer, at PLACE"},
+    {rw_enter_twice, "rw_enter: the thread has the lock already, at PLACE"},
+    {rw_enter_inside, "rw_enter: inside a read section, entered at PLACE, at PLACE"},
+    {rw_destroy_held, "rw_destroy: the lock is held, at PLACE"},
+    {rw_downgrade_reader, "rw_downgrade: the thread is not the lock's writer"},
+    {alloc_inside, "kmem_alloc: inside a read section, entered at PLACE, at PLACE"},
+    {alloc_in_softint, "kmem_alloc: in a soft interrupt, at PLACE"},
+    {intr_alloc_sleeping, "kmem_intr_alloc: in a soft interrupt, at PLACE"},
+    {alloc_nothing, "kmem_zalloc: a block of no bytes, at PLACE"},
+    {alloc_without_flag, "kmem_alloc: neither KM_SLEEP nor KM_NOSLEEP alone, at PLACE"},
+    {free_other_size, "kmem_free: 64 bytes are given back of a block of 32, at PLACE"},
+    {free_null, "kmem_free: no block, at PLACE"},
+    {free_foreign, "kmem_free: no block of kmem's, or one that was given back, at PLACE"},
+    {pool_in_use, "pool_destroy: 1 objects of thingpl are in use, at PLACE"},
+    {cache_in_use, "pool_cache_destroy: 1 objects of thingpl are in use, at PLACE"},
+    {percpu_other_size, "percpu_free: 16 bytes are given back of 8, at PLACE"},
+    {percpu_sleeping, "kmem_alloc: with preemption disabled, at PLACE"},
+    {percpu_putref_alone, "percpu_putref: without a percpu_getref, at PLACE"},
+    {schedule_ended, "softint_schedule: the soft interrupt is not established, at PLACE"},
+    {handler_stays_inside, "softint: the handler returned inside a read section"},
+    {handler_stays_locked, "softint: the handler returned with a lock"},
+    {callout_destroy_pending, "callout_destroy: the callout is pending, at PLACE"},
+    {callout_without_function, "callout_schedule: the callout has no function"},
+    {barrier_inside, "xc_barrier: inside a read section, entered at PLACE, at PLACE"},
+    {broadcast_with_spin, "xc_broadcast: with a spin lock, at PLACE"},
+    {thread_ends_locked, "pthread_exit: with a lock"},
+    {thread_ends_raised, "pthread_exit: with its CPU"},
+    {child_of_fork, "pserialize_read_enter: in the child of a fork, at PLACE"},
+    {exit_of_main, "kthread_exit: kthread_create did not make this thread, at PLACE"},
+    {join_nobody, "kthread_join: no thread that was made with KTHREAD_MUSTJOIN, at PLACE"},
+    {assertion, "KASSERT: not so: 1 + 1 == 3, at PLACE"},
+    {assertion_with_words, "KASSERTMSG: not so: 1 + 1 == 3: of 7, at PLACE"},
+    {end_by_panic, "panic: no way, at PLACE"},
+    {not_sleepable, "ASSERT_SLEEPABLE: inside a read section, entered at PLACE, at PLACE"},
+    {copy_inside, "copyin: inside a read section, entered at PLACE, at PLACE"},
+    {pause_inside, "kpause: inside a read section, entered at PLACE, at PLACE"},
+};
+
+int main(void)
+{
+	return run_cases(begin, cases, sizeof(cases) / sizeof(cases[0]));
+}

@@ -1,0 +1,218 @@
+/*
+ * softints - soft interrupts run on the CPU that scheduled them: between two calls of the thread that has it, inside its section too, and at once
+ * where nobody has it; levels keep them off; one that waits for a lock lets the thread go on
+ */
+#include <sys/intr.h>
+#include <sys/mutex.h>
+#include <sys/pserialize.h>
+#include <sys/psref.h>
+
+#include "test.h"
+
+static struct psref_class *things;
+static struct psref_target target;
+static kmutex_t lock;
+static atomic_uint runs, waits;
+static atomic_int ran_on;
+static unsigned order[4], ordered;
+
+/* Reads and refers, as a handler does, nested in whatever section is open. */
+static void handle(void *arg)
+{
+	struct psref psref;
+	EXPECT(cpu_softintr_p() && (curlwp->l_pflag & LP_INTR) != 0 && !pserialize_in_read_section());
+	atomic_store(&ran_on, (int)cpu_number());
+	int s = pserialize_read_enter();
+	EXPECT(s == 0);
+	psref_acquire(&psref, &target, things);
+	pserialize_read_exit(s);
+	EXPECT(psref_held(&target, things));
+	psref_release(&psref, &target, things);
+	atomic_fetch_add((atomic_uint *)arg, 1);
+}
+
+/* The thread has its CPU: the handler has run when the call that scheduled it returns. */
+static void test_inside(void)
+{
+	void *cookie = softint_establish(SOFTINT_NET | SOFTINT_MPSAFE, handle, &runs);
+	EXPECT(cookie != NULL);
+	for (unsigned round = 0; round < 50; round++) {
+		atomic_store(&ran_on, -1);
+		int s = pserialize_read_enter();
+		EXPECT(!cpu_softintr_p());
+		softint_schedule(cookie);
+		EXPECT(atomic_load(&runs) == round + 1 && atomic_load(&ran_on) == (int)cpu_number());
+		EXPECT(pserialize_in_read_section());
+		pserialize_read_exit(s);
+	}
+	softint_disestablish(cookie);
+}
+
+/* Nobody has the CPU: it runs soon. */
+static void test_alone(void)
+{
+	void *cookie = softint_establish(SOFTINT_NET | SOFTINT_MPSAFE, handle, &runs);
+	unsigned before = atomic_load(&runs);
+	for (unsigned round = 0; round < 50; round++) {
+		softint_schedule(cookie);
+		while (atomic_load(&runs) == before + round)
+			sleep_for(10);
+		EXPECT(atomic_load(&ran_on) == (int)cpu_number());
+	}
+	softint_disestablish(cookie);
+}
+
+static void note(void *arg)
+{
+	order[ordered++] = *(unsigned *)arg;
+}
+
+/* A level keeps off what isn't above it. What waits runs once the level is lower, the highest first. */
+static void test_levels(void)
+{
+	static unsigned clock = SOFTINT_CLOCK, net = SOFTINT_NET, serial = SOFTINT_SERIAL;
+	void *low = softint_establish(SOFTINT_CLOCK, note, &clock), *middle = softint_establish(SOFTINT_NET, note, &net);
+	void *high = softint_establish(SOFTINT_SERIAL, note, &serial);
+	int s = splsoftnet();
+	EXPECT(s == IPL_NONE);
+	softint_schedule(low);
+	softint_schedule(middle);
+	EXPECT(ordered == 0);
+	softint_schedule(high);
+	EXPECT(ordered == 1 && order[0] == SOFTINT_SERIAL);
+	softint_schedule(high);
+	EXPECT(ordered == 2 && order[1] == SOFTINT_SERIAL);
+	kpreempt_disable();
+	splx(s);
+	EXPECT(ordered == 4 && order[2] == SOFTINT_NET && order[3] == SOFTINT_CLOCK);
+	kpreempt_enable();
+	softint_disestablish(low);
+	softint_disestablish(middle);
+	softint_disestablish(high);
+}
+
+/* It is scheduled three times before it can run, and runs once. */
+static void test_once(void)
+{
+	void *cookie = softint_establish(SOFTINT_NET, handle, &runs);
+	unsigned before = atomic_load(&runs);
+	int s = splnet();
+	for (unsigned i = 0; i < 3; i++)
+		softint_schedule(cookie);
+	EXPECT(atomic_load(&runs) == before);
+	kpreempt_disable();
+	splx(s);
+	EXPECT(atomic_load(&runs) == before + 1);
+	kpreempt_enable();
+	softint_disestablish(cookie);
+}
+
+static void handle_locked(void *arg)
+{
+	atomic_fetch_add(&waits, 1);
+	mutex_enter(&lock);
+	atomic_fetch_add((atomic_uint *)arg, 1);
+	mutex_exit(&lock);
+}
+
+/* The thread that is interrupted has the lock that the handler wants: it goes on, and the handler runs on once it has given the lock back. */
+static void test_blocked(void)
+{
+	atomic_uint done = 0;
+	void *cookie = softint_establish(SOFTINT_NET, handle_locked, &done);
+	for (unsigned round = 0; round < 50; round++) {
+		mutex_enter(&lock);
+		int s = pserialize_read_enter();
+		softint_schedule(cookie);
+		EXPECT(atomic_load(&waits) == round + 1 && atomic_load(&done) == round);
+		pserialize_read_exit(s);
+		sleep_for(20);
+		EXPECT(atomic_load(&done) == round);
+		mutex_exit(&lock);
+		while (atomic_load(&done) == round)
+			sleep_for(10);
+	}
+	softint_disestablish(cookie);
+}
+
+/* A spin lock keeps off those up to its level. */
+static void test_spin(void)
+{
+	kmutex_t spin;
+	void *cookie = softint_establish(SOFTINT_SERIAL, handle, &runs);
+	unsigned before = atomic_load(&runs);
+	mutex_init(&spin, MUTEX_DEFAULT, IPL_NET);
+	mutex_enter(&spin);
+	softint_schedule(cookie);
+	EXPECT(atomic_load(&runs) == before && mutex_owned(&spin));
+	kpreempt_disable();
+	mutex_exit(&spin);
+	EXPECT(atomic_load(&runs) == before + 1);
+	kpreempt_enable();
+	mutex_destroy(&spin);
+	softint_disestablish(cookie);
+}
+
+enum { STORMERS = 12, STORM = 200 };
+
+static void *cookies[4];
+static atomic_uint stormed;
+
+static void storm_handler(void *arg)
+{
+	handle(arg);
+	mutex_enter(&lock);
+	atomic_fetch_add(&stormed, 1);
+	mutex_exit(&lock);
+}
+
+/* Threads of all CPUs read, lock, and schedule. */
+static void *storm(void *arg)
+{
+	int bound = curlwp_bind();
+	for (unsigned round = 0; round < STORM; round++) {
+		int s = pserialize_read_enter();
+		softint_schedule(cookies[round % 4]);
+		pserialize_read_exit(s);
+		mutex_enter(&lock);
+		softint_schedule(cookies[(round + 1) % 4]);
+		mutex_exit(&lock);
+	}
+	curlwp_bindx(bound);
+	return arg;
+}
+
+static void test_storm(void)
+{
+	pthread_t threads[STORMERS];
+	for (unsigned i = 0; i < 4; i++)
+		cookies[i] = softint_establish(i, storm_handler, &runs);
+	for (unsigned i = 0; i < STORMERS; i++)
+		start_thread(&threads[i], storm, NULL);
+	for (unsigned i = 0; i < STORMERS; i++)
+		end_thread(threads[i]);
+	sleep_for(2000);
+	for (unsigned i = 0; i < 4; i++)
+		softint_disestablish(cookies[i]);
+	EXPECT(atomic_load(&stormed) >= STORM);
+}
+
+int main(void)
+{
+	things = psref_class_create("thing", IPL_SOFTNET);
+	psref_target_init(&target, things);
+	mutex_init(&lock, MUTEX_DEFAULT, IPL_SOFTNET);
+	kupaldiz_bind(2);
+	test_inside();
+	test_alone();
+	test_levels();
+	test_once();
+	test_blocked();
+	test_spin();
+	test_storm();
+	psref_target_destroy(&target, things);
+	psref_class_destroy(things);
+	mutex_destroy(&lock);
+	puts("soft interrupts ran where and when they may");
+	return 0;
+}

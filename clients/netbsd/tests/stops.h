@@ -1,0 +1,102 @@
+/*
+ * What the tests of misuses share: each case runs in a child, which must end by abort(3), and say on standard error nothing but its line. What is a
+ * place there, FILE:NUMBER, is PLACE in the line that is wanted.
+ */
+#ifndef NETBSD_STOPS_H
+#define NETBSD_STOPS_H
+
+#include <ctype.h>
+#include <signal.h>
+#include <sys/wait.h>
+#include <unistd.h>
+
+#include "test.h"
+
+struct stop_case {
+	void (*body)(void);
+	const char *line;
+};
+
+/* Runs a body on a thread of its own, which ends. */
+static inline void on_thread(void *(*body)(void *))
+{
+	pthread_t thread;
+	start_thread(&thread, body, NULL);
+	end_thread(thread);
+}
+
+/* Runs it on two threads at once, neither of which ends. */
+static inline void on_two_threads(void *(*body)(void *))
+{
+	pthread_t first, second;
+	start_thread(&first, body, NULL);
+	start_thread(&second, body, NULL);
+	end_thread(first);
+	end_thread(second);
+}
+
+/* Writes PLACE for each word in which ".c:" and digits stand. */
+static inline void hide_places(char *text)
+{
+	char *colon;
+	while ((colon = strstr(text, ".c:")) != NULL && isdigit((unsigned char)colon[3])) {
+		char *from = colon, *to = colon + 3;
+		while (from > text && from[-1] != ' ' && from[-1] != '\n')
+			from--;
+		while (isdigit((unsigned char)*to))
+			to++;
+		EXPECT(to - from >= 5);
+		memcpy(from, "PLACE", 5);
+		memmove(from + 5, to, strlen(to) + 1);
+	}
+}
+
+/* Runs a case in a child, and reads all that it says on standard error. Its status. */
+static inline int run_case(void (*begin)(void), void (*body)(void), char *said, size_t room)
+{
+	int ends[2], status;
+	size_t length = 0;
+	ssize_t part;
+	EXPECT(pipe(ends) == 0);
+	pid_t child = fork();
+	EXPECT(child >= 0);
+	if (child == 0) {
+		close(ends[0]);
+		dup2(ends[1], STDERR_FILENO);
+		begin();
+		body();
+		_exit(0);
+	}
+	close(ends[1]);
+	while (length < room - 1 && (part = read(ends[0], said + length, room - 1 - length)) > 0)
+		length += (size_t)part;
+	said[length] = '\0';
+	close(ends[0]);
+	EXPECT(waitpid(child, &status, 0) == child);
+	hide_places(said);
+	return status;
+}
+
+/* Whether a case ended by abort with just its line. */
+static inline bool is_stopped(void (*begin)(void), const struct stop_case *the_case)
+{
+	char said[1024], wanted[512];
+	int status = run_case(begin, the_case->body, said, sizeof(said));
+	snprintf(wanted, sizeof(wanted), "%s\n", the_case->line);
+	bool right = WIFSIGNALED(status) && WTERMSIG(status) == SIGABRT && strcmp(said, wanted) == 0;
+	if (!right)
+		printf("wanted: %sstatus %d and said: %s\n", wanted, status, said);
+	return right;
+}
+
+/* Runs all cases, and prints how many passed. The program's status. */
+static inline int run_cases(void (*begin)(void), const struct stop_case *cases, size_t count)
+{
+	size_t passed = 0;
+	for (size_t place = 0; place < count; place++)
+		passed += is_stopped(begin, &cases[place]);
+	printf("%zu passed, %zu failed\n", passed, count - passed);
+	return passed != count;
+}
+
+#endif

@@ -1,0 +1,257 @@
+/*
+ * tells - a wait that lasts says for whom, once, by one line: over a layer whose patience is short
+ *
+ * Each case runs in a child, which ends well. The last line counts the cases.
+ */
+#include <sys/condvar.h>
+#include <sys/intr.h>
+#include <sys/localcount.h>
+#include <sys/mutex.h>
+#include <sys/prctl.h>
+#include <sys/pserialize.h>
+#include <sys/psref.h>
+#include <sys/rwlock.h>
+
+#include "stops.h"
+
+static struct psref_class *things;
+static struct psref_target target;
+static struct localcount count;
+static pserialize_t psz;
+static kmutex_t lock, countlock;
+static kcondvar_t cv;
+static krwlock_t rw;
+static atomic_bool ready;
+
+static void begin(void)
+{
+	things = psref_class_create("thing", IPL_SOFTNET);
+	psz = pserialize_create();
+	mutex_init(&lock, MUTEX_DEFAULT, IPL_SOFTNET);
+	mutex_init(&countlock, MUTEX_DEFAULT, IPL_NONE);
+	cv_init(&cv, "count");
+	rw_init(&rw);
+	psref_target_init(&target, things);
+	localcount_init(&count);
+}
+
+/* Runs a body on a thread with a name, on CPU 3, until it has what another thread will wait for. */
+static pthread_t hold(const char *name, void *(*body)(void *))
+{
+	static const char *given;
+	pthread_t thread;
+	given = name;
+	start_thread(&thread, body, &given);
+	while (!atomic_load(&ready))
+		sleep_for(100);
+	return thread;
+}
+
+static void name_it(void *of)
+{
+	prctl(PR_SET_NAME, *(const char **)of);
+	kupaldiz_bind(3);
+}
+
+/* It has it now, and keeps it for longer than the patience, of which the layer has 150 milliseconds. */
+static void keep(void)
+{
+	atomic_store(&ready, true);
+	sleep_for(400000);
+}
+
+static void *read_long(void *of)
+{
+	name_it(of);
+	int s = pserialize_read_enter();
+	keep();
+	pserialize_read_exit(s);
+	return of;
+}
+
+static void perform_for_reader(void)
+{
+	pthread_t reader = hold("reader", read_long);
+	pserialize_perform(psz);
+	end_thread(reader);
+}
+
+static void destroy_for_reader(void)
+{
+	pthread_t reader = hold("reader", read_long);
+	psref_target_destroy(&target, things);
+	end_thread(reader);
+}
+
+static void enter_after_reader(void)
+{
+	pthread_t reader = hold("reader", read_long);
+	kupaldiz_bind(3);
+	int s = pserialize_read_enter();
+	pserialize_read_exit(s);
+	end_thread(reader);
+}
+
+static void *refer_long(void *of)
+{
+	struct psref psref;
+	name_it(of);
+	psref_acquire(&psref, &target, things);
+	keep();
+	psref_release(&psref, &target, things);
+	return of;
+}
+
+static void destroy_for_one(void)
+{
+	pthread_t holder = hold("bridge_input", refer_long);
+	psref_target_destroy(&target, things);
+	end_thread(holder);
+}
+
+static void *refer_twice(void *of)
+{
+	struct psref first, second;
+	name_it(of);
+	psref_acquire(&first, &target, things);
+	psref_copy(&second, &first, things);
+	keep();
+	psref_release(&first, &target, things);
+	psref_release(&second, &target, things);
+	return of;
+}
+
+static void destroy_for_two(void)
+{
+	pthread_t holder = hold("bridge_output", refer_twice);
+	psref_target_destroy(&target, things);
+	end_thread(holder);
+}
+
+static void *count_long(void *of)
+{
+	name_it(of);
+	localcount_acquire(&count);
+	keep();
+	localcount_release(&count, &cv, &countlock);
+	return of;
+}
+
+static void drain_for_one(void)
+{
+	pthread_t holder = hold("open", count_long);
+	mutex_enter(&countlock);
+	localcount_drain(&count, &cv, &countlock);
+	mutex_exit(&countlock);
+	end_thread(holder);
+}
+
+static void drain_for_reader(void)
+{
+	pthread_t holder = hold("reader", read_long);
+	mutex_enter(&countlock);
+	localcount_drain(&count, &cv, &countlock);
+	mutex_exit(&countlock);
+	end_thread(holder);
+}
+
+static void *lock_long(void *of)
+{
+	name_it(of);
+	mutex_enter(&lock);
+	keep();
+	mutex_exit(&lock);
+	return of;
+}
+
+static void enter_for_owner(void)
+{
+	pthread_t owner = hold("detach", lock_long);
+	mutex_enter(&lock);
+	mutex_exit(&lock);
+	end_thread(owner);
+}
+
+static void *write_long(void *of)
+{
+	name_it(of);
+	rw_enter(&rw, RW_WRITER);
+	keep();
+	rw_exit(&rw);
+	return of;
+}
+
+static void read_for_writer(void)
+{
+	pthread_t writer = hold("writer", write_long);
+	rw_enter(&rw, RW_READER);
+	rw_exit(&rw);
+	end_thread(writer);
+}
+
+static void *share_long(void *of)
+{
+	name_it(of);
+	rw_enter(&rw, RW_READER);
+	keep();
+	rw_exit(&rw);
+	return of;
+}
+
+static void write_for_reader(void)
+{
+	pthread_t sharer = hold("sharer", share_long);
+	rw_enter(&rw, RW_WRITER);
+	rw_exit(&rw);
+	end_thread(sharer);
+}
+
+static void handle_long(void *arg)
+{
+	(void)arg;
+	keep();
+}
+
+static void disestablish_running(void)
+{
+	void *cookie = softint_establish(SOFTINT_NET, handle_long, NULL);
+	softint_schedule(cookie);
+	while (!atomic_load(&ready))
+		sleep_for(100);
+	softint_disestablish(cookie);
+}
+
+static const struct stop_case cases[] = {
+    {perform_for_reader, "pserialize_perform: waits for CPU 3, whose thread \"reader\" is inside a read section, entered at PLACE"},
+    {destroy_for_reader, "psref_target_destroy: waits for CPU 3, whose thread \"reader\" is inside a read section, entered at PLACE"},
+    {enter_after_reader, "pserialize_read_enter: waits for CPU 3, whose thread \"reader\" is inside a read section, entered at PLACE"},
+    {destroy_for_one, "psref_target_destroy: waits for CPU 3, whose thread \"bridge_input\" holds one reference, acquired at PLACE"},
+    {destroy_for_two, "psref_target_destroy: waits for CPU 3, whose thread \"bridge_output\" holds 2 references, one of them acquired at PLACE"},
+    {drain_for_one, "localcount_drain: waits for 1 reference, acquired at PLACE"},
+    {drain_for_reader, "localcount_drain: waits for CPU 3, whose thread \"reader\" is inside a read section, entered at PLACE"},
+    {enter_for_owner, "mutex_enter: waits for the lock that thread \"detach\" took at PLACE"},
+    {read_for_writer, "rw_enter: waits for the lock that thread \"writer\" took as a writer at PLACE"},
+    {write_for_reader, "rw_enter: waits for 1 readers, the last of which took the lock at PLACE"},
+    {disestablish_running, "softint_disestablish: waits for its handler"},
+};
+
+/* Whether a case ended well with just its line. */
+static bool is_told(const struct stop_case *the_case)
+{
+	char said[1024], wanted[512];
+	int status = run_case(begin, the_case->body, said, sizeof(said));
+	snprintf(wanted, sizeof(wanted), "%s\n", the_case->line);
+	bool right = WIFEXITED(status) && WEXITSTATUS(status) == 0 && strcmp(said, wanted) == 0;
+	if (!right)
+		printf("wanted: %sstatus %d and said: %s\n", wanted, status, said);
+	return right;
+}
+
+int main(void)
+{
+	size_t all = sizeof(cases) / sizeof(cases[0]), passed = 0;
+	for (size_t place = 0; place < all; place++)
+		passed += is_told(&cases[place]);
+	printf("%zu passed, %zu failed\n", passed, all - passed);
+	return passed != all;
+}
