@@ -86,7 +86,7 @@ impl<'cpu> Bench<'cpu> {
         inside
             .map(|cpu| Holder::Grace(cpu as u8))
             .or(passive.map(Holder::Passive))
-            .or((locals > 0).then(|| Holder::Local(locals)))
+            .or((locals > 0).then_some(Holder::Local(locals)))
     }
 
     fn locals_to(&self, number: u64) -> u64 {
@@ -325,7 +325,7 @@ impl<'cpu> Bench<'cpu> {
         };
         let number = token.entry().number;
         let holder = self.holder(number);
-        let own = cpu.holds(number).then(|| Holder::Passive(at as u8));
+        let own = cpu.holds(number).then_some(Holder::Passive(at as u8));
         let (done, expected) = match self.dice.below(3) {
             0 => (token.advance(), holder.map(Refusal::StillHeld)),
             1 if self.is_inside(at) => (token.destroy(cpu, Patience::Turns(1)), Some(Refusal::Inside)),

@@ -39,11 +39,11 @@ fn what_was_found_before_is_acquired() {
     let section = cpus[0].enter().unwrap();
     let wm = section.find(Kind::Driver, &WM).unwrap();
     for after in [VGA, PCI] {
-        drop(section.find(Kind::Driver, &after));
+        let _other = section.find(Kind::Driver, &after);
         let (passive, local) = (Found::acquire(&wm).unwrap(), Found::acquire_local(&wm).unwrap());
         assert_eq!((*passive, PassiveRef::entry(&passive)), (7, Found::entry(&wm)));
         assert_eq!((*local, LocalRef::entry(&local)), (7, Found::entry(&wm)));
-        drop(section.find(Kind::Driver, &after));
+        let _other = section.find(Kind::Driver, &after);
         let local = Found::acquire_local(&wm).unwrap();
         assert_eq!((*local, LocalRef::entry(&local)), (7, Found::entry(&wm)));
     }
@@ -89,7 +89,7 @@ fn what_was_detached_is_acquired_as_the_last_found_one_alone() {
     let wm = section.find(Kind::Driver, &WM).unwrap();
     let gone = detach(&registry, &cpus[1], "wm");
     assert_eq!((*Found::acquire(&wm).unwrap(), *Found::acquire_local(&wm).unwrap()), (7, 7));
-    drop(section.find(Kind::Driver, &VGA));
+    let _other = section.find(Kind::Driver, &VGA);
     assert_eq!(Found::acquire(&wm).unwrap_err(), Refusal::NotFound);
     assert_eq!(Found::acquire_local(&wm).unwrap_err(), Refusal::NotFound);
     // Nor is another entry with its name taken for it.
@@ -110,7 +110,7 @@ fn what_its_cpu_refers_to_is_acquired_though_it_was_detached() {
     let wm = section.find(Kind::Driver, &WM).unwrap();
     let first = Found::acquire(&wm).unwrap();
     let gone = detach(&registry, &cpus[1], "wm");
-    drop(section.find(Kind::Driver, &VGA));
+    let _other = section.find(Kind::Driver, &VGA);
     let second = Found::acquire(&wm).unwrap();
     section.exit();
     drop(first);
@@ -128,7 +128,7 @@ fn a_full_count_is_told_of_what_was_found_before() {
     let section = cpus[0].enter().unwrap();
     let wm = section.find(Kind::Driver, &WM).unwrap();
     let held = (Found::acquire(&wm).unwrap(), Found::acquire_local(&wm).unwrap());
-    drop(section.find(Kind::Driver, &VGA));
+    let _other = section.find(Kind::Driver, &VGA);
     assert_eq!(Found::acquire(&wm).unwrap_err(), Refusal::PassiveFull);
     assert_eq!(Found::acquire_local(&wm).unwrap_err(), Refusal::LocalFull);
     drop(held);
