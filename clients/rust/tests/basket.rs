@@ -2,7 +2,7 @@
 
 mod common;
 
-use common::{balance, balances, detach, local, name, with_driver};
+use common::{balance, balances, detach, local, name, patience, with_driver};
 use registry::{Cpu, Holder, Kind, LocalRef, Patience, Refusal, Registry, Settings};
 use std::thread;
 
@@ -174,7 +174,7 @@ fn a_destroy_gives_all_of_its_entry_up() {
     let held = many(&cpus[1], "wm", 5000);
     let retired = registry.detach(&cpus[0], Kind::Driver, &name("wm")).unwrap();
     drop(held);
-    assert_eq!(retired.destroy(&cpus[0], Patience::Forever).unwrap().value, 7);
+    assert_eq!(retired.destroy(&cpus[0], patience()).unwrap().value, 7);
     assert_eq!(registry.dropped(), 0);
 }
 

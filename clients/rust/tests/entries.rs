@@ -2,8 +2,8 @@
 
 mod common;
 
-use common::{detach, name, Drops, Stops, Tracked};
-use registry::{Cpu, Found, Kind, LocalRef, Patience, Refusal, Registry, Settings};
+use common::{detach, name, patience, Drops, Stops, Tracked};
+use registry::{Cpu, Found, Kind, LocalRef, Refusal, Registry, Settings};
 use std::collections::BTreeSet;
 use std::env;
 use std::sync::atomic::{AtomicBool, Ordering};
@@ -151,7 +151,7 @@ fn what_stays_is_in_each_walk() {
             let (old, new) = (name(&format!("d{}", (label - 3) % 3)), name(&format!("d{}", (label - 2) % 3)));
             registry.attach(&changer, &new, drops.make(label)).unwrap();
             let gone = registry.detach(&changer, Kind::Driver, &old).unwrap();
-            gone.destroy(&changer, Patience::Forever).unwrap().value.check();
+            gone.destroy(&changer, patience()).unwrap().value.check();
         }
         drop(stops);
         for walker in walkers {

@@ -2,7 +2,7 @@
 
 mod common;
 
-use common::{balance, balances, detach, detach_any, local, name, passive, with_driver};
+use common::{balance, balances, detach, detach_any, local, name, passive, patience, with_driver};
 use registry::{Cpu, Found, Holder, Kind, LocalRef, Name, NameFault, PassiveRef, Patience, Refusal, Refused, Registry, Settings};
 use std::collections::{BTreeSet, HashSet};
 use std::convert::TryFrom;
@@ -166,12 +166,12 @@ fn changes_inside_a_section_are_refused() {
     assert_eq!((refusal, LocalRef::entry(&given.0).number, given.1), (Refusal::Inside, 1, 1500));
     assert_eq!(registry.detach(cpu, Kind::Driver, &WM).unwrap_err(), Refusal::Inside);
     assert_eq!(registry.retire(cpu, Kind::Driver, &WM), Err(Refusal::Inside));
-    let refused = gone.token().destroy(cpu, Patience::Forever).unwrap_err();
+    let refused = gone.token().destroy(cpu, patience()).unwrap_err();
     assert_eq!(refused.refusal, Refusal::Inside);
-    assert_eq!(registry.perform(cpu, Patience::Forever), Err(Refusal::Inside));
+    assert_eq!(registry.perform(cpu, patience()), Err(Refusal::Inside));
     assert_eq!((registry.retired(), registry.dropped()), (1, 1));
     section.exit();
-    assert_eq!(refused.given.destroy(cpu, Patience::Forever).unwrap().value, 8);
+    assert_eq!(refused.given.destroy(cpu, patience()).unwrap().value, 8);
     LocalRef::release(given.0, cpu).unwrap();
     assert_eq!(registry.collect().len(), 1);
 }
@@ -325,7 +325,7 @@ fn perform_is_done_once_another_thread_has_left() {
             reader.enter().unwrap().exit();
         }
     });
-    registry.perform(&cpus[0], Patience::Forever).unwrap();
+    registry.perform(&cpus[0], patience()).unwrap();
     reading.join().unwrap();
 }
 

@@ -2,7 +2,7 @@
 
 mod common;
 
-use common::{balances, detach, local, name, passive, with_driver};
+use common::{balances, detach, local, name, passive, with_driver, LONG};
 use registry::{CpuPool, Kind, LocalRef};
 use std::mem;
 use std::panic::{catch_unwind, AssertUnwindSafe};
@@ -38,9 +38,6 @@ fn a_loan_waits_until_its_deadline() {
     drop(held);
     assert!(pool.lend_until(began).is_some());
 }
-
-/// Longer than it takes to wake a thread.
-const LONG: Duration = Duration::from_secs(20);
 
 /// What a thread answers that waits for a loan by this, or none where it waits too long.
 fn waiting(pool: &Arc<CpuPool<i32>>, lend: impl FnOnce(&CpuPool<i32>) -> Option<u8> + Send + 'static) -> Receiver<Option<u8>> {

@@ -2,7 +2,7 @@
 
 mod common;
 
-use common::{local, name, passive, with_driver, Drops};
+use common::{local, name, passive, patience, with_driver, Drops, LONG};
 use registry::{CpuPool, Holder, Kind, LocalGuard, LocalRef, Patience, Refusal, Registry, Retired, Settings};
 use std::mem;
 use std::rc::Rc;
@@ -64,11 +64,11 @@ fn a_destroy_ends_once_the_reader_has_left() {
     });
     is_inside.recv().unwrap();
     let retired = registry.detach(&cpus[0], Kind::Driver, &name("wm")).unwrap();
-    assert_eq!(retired.destroy(&cpus[0], Patience::Forever).unwrap().value, 7);
+    assert_eq!(retired.destroy(&cpus[0], patience()).unwrap().value, 7);
     assert_eq!(carried.join().unwrap(), 7);
 }
 
-/// Nobody can let that go meanwhile, so no patience helps.
+/// Nobody can let that go meanwhile, so no patience helps, nor one without an end.
 #[test]
 fn a_destroy_is_refused_at_once_where_its_own_cpu_holds_the_entry() {
     let began = Instant::now();
@@ -101,11 +101,8 @@ fn a_destroy_is_refused_at_once_where_its_own_cpu_holds_the_entry() {
     let refused = retired.destroy(&cpu, Patience::at_most(shortly)).unwrap_err();
     assert!(began.elapsed() >= shortly);
     drop(two);
-    assert_eq!(refused.given.destroy(&cpu, Patience::Forever).unwrap().value, 7);
+    assert_eq!(refused.given.destroy(&cpu, patience()).unwrap().value, 7);
 }
-
-/// Longer than a call takes that isn't to wait.
-const LONG: Duration = Duration::from_secs(20);
 
 /// A guard to another entry is in nobody's way, and a slot that is given again starts anew.
 #[test]
@@ -200,7 +197,7 @@ fn a_retired_entry_goes_to_another_thread() {
     let retired = registry.detach(&cpus[0], Kind::Driver, &name("wm")).unwrap();
     let pool = CpuPool::new(cpus).unwrap();
     thread::scope(|scope| {
-        let freed = scope.spawn(|| retired.destroy(&pool.lend(), Patience::Forever).unwrap().value);
+        let freed = scope.spawn(|| retired.destroy(&pool.lend(), patience()).unwrap().value);
         assert_eq!(freed.join().unwrap(), 7);
     });
 }

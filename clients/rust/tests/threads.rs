@@ -2,7 +2,7 @@
 
 mod common;
 
-use common::{name, Drops, Stops, Tracked};
+use common::{name, patience, Drops, Stops, Tracked};
 use registry::{Cpu, CpuPool, Found, Kind, LocalRef, Name, PassiveRef, Patience, Refusal, Registry, Settings};
 use std::env;
 use std::sync::atomic::{AtomicBool, AtomicU64, Ordering};
@@ -89,7 +89,7 @@ fn change(registry: &Registry<Tracked>, cpu: &Cpu<Tracked>, drops: &Drops, name:
         0 => drop(registry.retire(cpu, Kind::Driver, name).unwrap()),
         1 => {
             let gone = registry.detach(cpu, Kind::Driver, name).unwrap();
-            gone.destroy(cpu, Patience::Forever).unwrap().value.check();
+            gone.destroy(cpu, patience()).unwrap().value.check();
         }
         _ => {
             let mut gone = registry.detach(cpu, Kind::Driver, name).unwrap();

@@ -2,8 +2,8 @@
 
 mod common;
 
-use common::{balance, balances, detach, local, name, with_driver};
-use registry::{Cpu, CpuPool, Kind, LocalRef, PassiveRef, Patience, Refusal, Refused};
+use common::{balance, balances, detach, local, name, patience, with_driver};
+use registry::{Cpu, CpuPool, Kind, LocalRef, PassiveRef, Refusal, Refused};
 use std::rc::Rc;
 
 #[test]
@@ -48,9 +48,9 @@ fn work_by_a_cpu_of_another_registry_is_refused() {
     let (other, others) = with_driver(8);
     let (one, two) = (detach(&registry, &cpus[0], "wm"), detach(&other, &others[0], "wm"));
     assert_eq!(one.number, two.number);
-    let refused = one.token().destroy(&others[0], Patience::Forever).unwrap_err();
+    let refused = one.token().destroy(&others[0], patience()).unwrap_err();
     assert_eq!(refused.refusal, Refusal::OtherRegistry);
-    assert_eq!(registry.perform(&others[0], Patience::Forever), Err(Refusal::OtherRegistry));
+    assert_eq!(registry.perform(&others[0], patience()), Err(Refusal::OtherRegistry));
     assert_eq!((refused.given.advance().unwrap().value, two.freed().value), (7, 8));
 }
 

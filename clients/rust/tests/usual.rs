@@ -2,8 +2,8 @@
 
 mod common;
 
-use common::{detach, name, with_driver, Drops, Stops, Tracked};
-use registry::{Cpu, CpuPool, Found, Holder, Kind, LocalRef, Name, PassiveRef, Patience, ReadGuard, Refusal, Registry, Settings};
+use common::{detach, name, patience, with_driver, Drops, Stops, Tracked};
+use registry::{Cpu, CpuPool, Found, Holder, Kind, LocalRef, Name, PassiveRef, ReadGuard, Refusal, Registry, Settings};
 use std::mem;
 use std::panic::{catch_unwind, AssertUnwindSafe};
 use std::sync::atomic::{AtomicBool, Ordering};
@@ -141,7 +141,7 @@ fn a_lent_cpu_reads() {
     drop(cpu);
     let other = pool.lend();
     let gone = detach(&registry, &other, "wm");
-    assert_eq!(gone.token().destroy(&other, Patience::Forever).unwrap().value, 7);
+    assert_eq!(gone.token().destroy(&other, patience()).unwrap().value, 7);
 }
 
 #[test]

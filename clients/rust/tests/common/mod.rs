@@ -3,13 +3,22 @@
 
 pub mod watched;
 
-use registry::{Cpu, Entry, Freed, Holder, Kind, LocalRef, Name, PassiveRef, Refusal, Refused, Registry, Retired, Settings};
+use registry::{Cpu, Entry, Freed, Holder, Kind, LocalRef, Name, PassiveRef, Patience, Refusal, Refused, Registry, Retired, Settings};
 use std::cell::RefCell;
 use std::sync::atomic::{AtomicBool, AtomicU64, AtomicUsize, Ordering};
 use std::sync::Arc;
+use std::time::Duration;
 
 pub fn name(text: &str) -> Name {
     Name::parse(text).unwrap()
+}
+
+/// Longer than anything takes that these tests wait for.
+pub const LONG: Duration = Duration::from_secs(20);
+
+/// A patience that ends, so that a test fails where it would wait for ever.
+pub fn patience() -> Patience {
+    Patience::at_most(LONG)
 }
 
 /// So many steps; few where a tool watches each access.

@@ -15,13 +15,14 @@ import os
 import pathlib
 import re
 import shutil
+import signal
 import subprocess
 import sys
 
 HERE = pathlib.Path(__file__).resolve().parent
 CRATE = HERE.parent.parent
 # After so many seconds a program is taken to wait for ever, which is no refusal.
-MOST_SECONDS = 300
+MOST_SECONDS = 180
 FIELD = re.compile(r"(by|file|old|new):(?: (.*))?")
 
 
@@ -79,11 +80,14 @@ def run(crate, program):
     environment = dict(os.environ, CARGO_TARGET_DIR=str(crate / "target"), RUST_BACKTRACE="0")
     environment.setdefault("REGISTRY_LIB_DIR", str(CRATE.parent / "out"))
     command = ["cargo", "test", "--offline", "-q", *chosen]
-    try:
-        done = subprocess.run(command, cwd=crate, env=environment, capture_output=True, text=True, timeout=MOST_SECONDS)
-    except subprocess.TimeoutExpired:
-        return None, "it waits for ever"
-    return done.returncode, done.stdout + done.stderr
+    with subprocess.Popen(command, cwd=crate, env=environment, stdout=subprocess.PIPE, stderr=subprocess.STDOUT, text=True, start_new_session=True) as started:
+        try:
+            said, _ = started.communicate(timeout=MOST_SECONDS)
+        except subprocess.TimeoutExpired:
+            # Cargo and the program that it runs, which are in a session of their own.
+            os.killpg(started.pid, signal.SIGKILL)
+            return None, "it waits for ever"
+    return started.returncode, said
 
 
 def refused_by(said, test):
