@@ -119,16 +119,16 @@ guarded_rust() {
     RUST_BACKTRACE=0 watched --show-leak-kinds=definite,indirect --errors-for-leak-kinds=definite,indirect "$@"
 }
 
-# The programs of the crate's tests, but for the one that runs the compiler, as cargo names them where it isn't told to be quiet.
+# The programs of the crate's tests, as cargo names them where it isn't told to be quiet; but for those that run the compiler or themselves, or look at types.
 rust_tests() {
-    (cd clients/rust && CARGO_TERM_QUIET=false cargo test --offline --no-run --tests 2>&1) | grep -oE '/[^ ()]*/(carried|entries|face|pool|threads|two|usual)-[0-9a-f]+'
+    (cd clients/rust && CARGO_TERM_QUIET=false cargo test --offline --no-run --tests 2>&1) | grep -oE '/[^ ()]*/(basket|carried|entries|face|memory|model|owned|pool|retired|sections|threads|two|usual)-[0-9a-f]+'
 }
 
 # Each of them under valgrind, but for what forgets on purpose; the stress with fewer changes.
 guarded_tests() {
     local program programs
     programs=$(rust_tests)
-    [ "$(wc -w <<<"$programs")" -eq 7 ] || return 1
+    [ "$(wc -w <<<"$programs")" -eq 13 ] || return 1
     for program in $programs; do
         REGISTRY_CHANGES=60 guarded_rust "$program" --test-threads=1 --skip forgotten --skip had_again --skip static || return 1
     done
@@ -261,7 +261,8 @@ test_rust() {
     if cargo clippy --version >/dev/null 2>&1; then
         check "Rust: clippy says nothing" cargo clippy --offline --all-targets -- -D warnings
     fi
-    check "Rust: what a package of it has" cargo package --list --allow-dirty --offline
+    check "Rust: the documents, no warning" env RUSTDOCFLAGS="-D warnings" cargo doc --offline --no-deps
+    check "Rust: a package of it is verified" cargo package --allow-dirty --offline
     counted "Rust: tests" cargo test --offline --no-fail-fast --lib --tests
     counted "Rust: the docs' examples" cargo test --offline --doc
     check "Rust: the examples are built" cargo build --offline --release --examples

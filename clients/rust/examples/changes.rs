@@ -3,7 +3,7 @@
 //! The calls and their order are those of `registry_bench changes`; `bench/README.md` of the repository says what one is. It prints a line as that
 //! program does.
 
-use registry::{Cpu, Freed, Holder, Kind, Name, Patience, Refusal, Registry, Settings};
+use registry::{Cpu, Freed, Holder, Kind, LocalRef, Name, Patience, Refusal, Refused, Registry, Settings};
 use std::error::Error;
 use std::time::Instant;
 
@@ -44,17 +44,17 @@ fn attach_each(registry: &Registry<u64>, cpu: &Cpu<u64>, names: &[Name]) -> Resu
 /// Gives all slots that are left and frees them, so many times.
 fn replace_all(registry: &Registry<u64>, cpu: &Cpu<u64>, names: &[Name], count: u32) -> Result<Replaced, Refusal> {
     let mut replaced = Replaced::default();
-    let mut numbers = Vec::with_capacity(names.len());
+    let mut gone = Vec::with_capacity(names.len());
     for _ in 0..count {
         let began = Instant::now();
         attach_each(registry, cpu, names)?;
         let attached = Instant::now();
         for name in names {
-            numbers.push(registry.detach(cpu, Kind::Driver, name)?.number);
+            gone.push(registry.detach(cpu, Kind::Driver, name)?);
         }
         let detached = Instant::now();
-        for number in numbers.drain(..) {
-            let freed: Freed<u64> = registry.advance(number)?.freed().expect("nobody holds it");
+        for retired in gone.drain(..) {
+            let freed: Freed<u64> = retired.advance()?;
             assert!(freed.value < u64::from(SLOTS));
         }
         replaced.attach += nanoseconds(began, attached);
@@ -67,24 +67,25 @@ fn replace_all(registry: &Registry<u64>, cpu: &Cpu<u64>, names: &[Name], count: 
 /// The nanoseconds of so many turns on an entry that a section of the other CPU holds, and of as many while a local reference does.
 fn meet_all(registry: &Registry<u64>, cpus: &[Cpu<u64>], name: &Name, count: u32) -> Result<(f64, f64), Refusal> {
     registry.attach(&cpus[0], name, 0)?;
-    let mut section = cpus[1].enter()?;
-    let reference = section.find(Kind::Driver, name).ok_or(Refusal::NotFound)?.acquire_local()?;
-    let number = registry.detach(&cpus[0], Kind::Driver, name)?.number;
-    let turn = |met| {
-        let holder = registry.advance(number)?.holder();
-        assert_eq!(holder, Some(met));
+    let section = cpus[1].enter()?;
+    let reference = cpus[1].get_local(Kind::Driver, name)?;
+    let mut retired = Some(registry.detach(&cpus[0], Kind::Driver, name)?);
+    let mut turn = |met| {
+        let Refused { refusal, given } = retired.take().expect("it comes back").advance().expect_err("it is held");
+        assert_eq!(refusal, Refusal::StillHeld(met));
+        retired = Some(given);
         Ok(())
     };
     let grace = time(count, || turn(Holder::Grace(1)))?;
     section.exit();
     let local = time(count, || turn(Holder::Local(1)))?;
-    reference.release(&cpus[1])?;
-    registry.destroy(&cpus[0], number, Patience::Turns(1))?;
+    LocalRef::release(reference, &cpus[1])?;
+    retired.expect("it comes back").destroy(&cpus[0], Patience::Turns(1))?;
     Ok((grace, local))
 }
 
 fn run(count: u32) -> Result<(), Box<dyn Error>> {
-    let names: Vec<Name> = (0..SLOTS).map(|i| Name::parse(format!("d{i:02}"))).collect::<Result<_, _>>()?;
+    let names: Vec<Name> = (0..SLOTS).map(|i| Name::parse(&format!("d{i:02}"))).collect::<Result<_, _>>()?;
     let (registry, cpus) = Registry::open(Settings::new(2, SLOTS))?;
     let (staying, changing) = names.split_at(STAYING);
     attach_each(&registry, &cpus[0], staying)?;

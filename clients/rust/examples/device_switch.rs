@@ -9,7 +9,7 @@
 
 mod common;
 
-use registry::{CpuPool, Kind, LocalRef, Name, Patience, Refusal, Registry, Settings};
+use registry::{CpuPool, Kind, LocalRef, Name, Patience, Refusal, Refused, Registry, Settings};
 use std::error::Error;
 use std::sync::atomic::{AtomicBool, AtomicU64, Ordering};
 use std::sync::Mutex;
@@ -93,13 +93,11 @@ impl Tally {
 impl Switch {
     /// Opens a device: none where its driver isn't loaded.
     fn open(&self, unit: usize) -> Result<Option<LocalRef<Softc>>, Refusal> {
-        let cpu = self.pool.lend();
-        let mut section = cpu.enter()?;
-        let opened = match section.find(Kind::Driver, &self.names[unit]) {
-            Some(driver) => driver.acquire_local()?,
-            None => return Ok(None),
+        let opened = match self.pool.lend().get_local(Kind::Driver, &self.names[unit]) {
+            Ok(opened) => opened,
+            Err(Refusal::NotFound) => return Ok(None),
+            Err(refusal) => return Err(refusal),
         };
-        section.exit();
         opened.open.fetch_add(1, Ordering::Relaxed);
         self.opens.fetch_add(1, Ordering::Relaxed);
         Ok(Some(opened))
@@ -108,7 +106,7 @@ impl Switch {
     /// Closes it, on whatever CPU is there.
     fn close(&self, opened: LocalRef<Softc>) -> Result<(), Refusal> {
         opened.open.fetch_sub(1, Ordering::Relaxed);
-        opened.release(&self.pool.lend())?;
+        LocalRef::release(opened, &self.pool.lend())?;
         Ok(())
     }
 
@@ -158,15 +156,19 @@ impl Switch {
 
     /// Unloads a driver, waits until its opens are closed, and answers its state.
     fn unload(&self, unit: usize) -> Result<Softc, Refusal> {
-        let gone = self.registry.detach(&self.pool.lend(), Kind::Driver, &self.names[unit])?;
+        let mut retired = self.registry.detach(&self.pool.lend(), Kind::Driver, &self.names[unit])?;
         loop {
             let patience = Patience::at_most(Duration::from_micros(200));
-            match self.registry.destroy(&self.pool.lend(), gone.number, patience) {
+            retired = match retired.destroy(&self.pool.lend(), patience) {
                 Ok(freed) => return Ok(freed.value),
-                // Nobody uses the handed ones while it waits for them.
-                Err(Refusal::StillHeld(_)) => self.close_handed()?,
-                Err(refusal) => return Err(refusal),
-            }
+                Err(Refused {
+                    refusal: Refusal::StillHeld(_),
+                    given,
+                }) => given,
+                Err(refused) => return Err(refused.into_refusal()),
+            };
+            // Nobody uses the handed ones while it waits for them.
+            self.close_handed()?;
         }
     }
 
@@ -194,7 +196,7 @@ impl Switch {
 
 fn set_up() -> Result<Switch, Box<dyn Error>> {
     let (registry, cpus) = Registry::open(Settings::new(CPUS, 8))?;
-    let names: Vec<Name> = DRIVERS.iter().map(Name::parse).collect::<Result<_, _>>()?;
+    let names: Vec<Name> = DRIVERS.iter().map(|text| Name::parse(text)).collect::<Result<_, _>>()?;
     for (unit, name) in names.iter().enumerate() {
         registry.attach(&cpus[0], name, Softc::new(unit, 0))?;
     }

@@ -9,7 +9,7 @@
 
 mod common;
 
-use registry::{Cpu, Kind, LocalRef, Name, PassiveRef, Refusal, Refused, Registry, Settings};
+use registry::{Cpu, Found, Kind, Name, PassiveRef, Refusal, Refused, Registry, Settings};
 use std::error::Error;
 use std::sync::atomic::{AtomicBool, AtomicU64, Ordering};
 use std::sync::Arc;
@@ -100,12 +100,12 @@ fn forward_batch<'cpu>(
     first: u64,
     tally: &mut Tally,
 ) -> Result<Option<PassiveRef<'cpu, Port>>, Refusal> {
-    let mut section = cpu.enter()?;
+    let section = cpu.enter()?;
     for packet in first..first + BATCH {
         let place = (packet % PORTS as u64) as usize;
         match section.find(Kind::Iface, &ports[place]) {
             None => tally.missed += 1,
-            Some(port) if packet + 1 == first + BATCH => return port.acquire().map(Some),
+            Some(port) if packet + 1 == first + BATCH => return Found::acquire(&port).map(Some),
             Some(port) => {
                 tally.judge(port.send(packet) && port.label % PORTS as u64 == place as u64);
                 tally.sent += 1;
@@ -151,16 +151,9 @@ struct Changer<'yard> {
 }
 
 impl Changer<'_> {
-    /// A reference to the driver, for a port that is attached on it.
-    fn refer_to_driver(&self) -> Result<LocalRef<Port>, Refusal> {
-        let mut section = self.cpu.enter()?;
-        let driver = section.find(Kind::Driver, &self.em).ok_or(Refusal::NotFound)?;
-        driver.acquire_local()
-    }
-
     /// Puts a port in. Where all slots are taken by ports that somebody still holds, it tries again, but not for ever.
     fn put_in(&self, name: &Name, label: u64) -> Result<(), Refusal> {
-        let mut given = (self.refer_to_driver()?, Port::new(label, self.totals));
+        let mut given = (self.cpu.get_local(Kind::Driver, &self.em)?, Port::new(label, self.totals));
         let began = Instant::now();
         while began.elapsed() < PATIENCE {
             match self.registry.attach_iface(&self.cpu, name, given.0, given.1) {
@@ -197,7 +190,7 @@ impl Changer<'_> {
 /// Forwards while so many changes are made, and adds up what the forwarders counted.
 fn run(changes: u64, totals: &Arc<Totals>) -> Result<Tally, Box<dyn Error>> {
     let yard = Yard {
-        ports: (0..PORTS).map(|i| Name::parse(format!("em{i}"))).collect::<Result<_, _>>()?,
+        ports: (0..PORTS).map(|i| Name::parse(&format!("em{i}"))).collect::<Result<_, _>>()?,
         batches: AtomicU64::new(0),
         stop: AtomicBool::new(false),
     };

@@ -3,7 +3,7 @@
 //! A sender looks the interface up for each packet and keeps it while it sends, which may sleep. The fourth CPU detaches the interface and
 //! waits until nobody holds it: from then on nobody sends by it, though no sender took a lock.
 
-use registry::{Cpu, Kind, Name, Patience, Refusal, Registry, Settings};
+use registry::{Cpu, Found, Kind, Name, Patience, Refusal, Registry, Settings};
 use std::error::Error;
 use std::sync::atomic::{AtomicBool, AtomicU32, Ordering};
 use std::thread;
@@ -32,9 +32,9 @@ impl Wire {
 
 /// Looks the interface up, and keeps it beyond the section while it sends. Whether it was found.
 fn send_by(cpu: &Cpu<Port>, name: &Name, wire: &Wire) -> Result<bool, Refusal> {
-    let mut section = cpu.enter()?;
+    let section = cpu.enter()?;
     let port = match section.find(Kind::Iface, name) {
-        Some(found) => found.acquire()?,
+        Some(found) => Found::acquire(&found)?,
         None => return Ok(false),
     };
     section.exit();
@@ -45,16 +45,14 @@ fn send_by(cpu: &Cpu<Port>, name: &Name, wire: &Wire) -> Result<bool, Refusal> {
 /// Takes an interface out, waits until nobody holds it, and answers what it carried.
 fn take_out(registry: &Registry<Port>, cpu: &Cpu<Port>, name: &Name) -> Result<Port, Refusal> {
     let retired = registry.detach(cpu, Kind::Iface, name)?;
-    let freed = registry.destroy(cpu, retired.number, Patience::Forever)?;
+    let freed = retired.destroy(cpu, Patience::Forever)?;
     Ok(freed.value)
 }
 
 /// Attaches the driver, and the interface on it.
 fn attach_both(registry: &Registry<Port>, cpu: &Cpu<Port>, wm: &Name, wm0: &Name) -> Result<(), Refusal> {
     registry.attach(cpu, wm, Port { mtu: 0 })?;
-    let mut section = cpu.enter()?;
-    let driver = section.find(Kind::Driver, wm).ok_or(Refusal::NotFound)?.acquire_local()?;
-    section.exit();
+    let driver = cpu.get_local(Kind::Driver, wm)?;
     registry.attach_iface(cpu, wm0, driver, Port { mtu: 1500 })?;
     Ok(())
 }

@@ -3,7 +3,7 @@
 //! CPU 0 looks `wm` up inside a section; CPU 1 retires it meanwhile, and can't free it before CPU 0 has left. It prints what the script
 //! `examples/retire-under-section.txt` of the repository prints, in the same order: the threads hand the turn to each other.
 
-use registry::{Cpu, Kind, Name, Refusal, Registry, Settings};
+use registry::{Cpu, Found, Kind, Name, Refusal, Refused, Registry, Settings};
 use std::error::Error;
 use std::sync::mpsc::{channel, Receiver, Sender};
 use std::thread;
@@ -41,16 +41,17 @@ fn turns() -> (Turn, Turn) {
 
 /// CPU 0, which finds `wm` and is inside while it is retired.
 fn look_up(cpu: &Cpu<u64>, wm: &Name, turn: &Turn) -> Result<(), Refusal> {
-    let mut section = cpu.enter()?;
+    let section = cpu.enter()?;
     println!("inside");
     if let Some(found) = section.find(Kind::Driver, wm) {
-        println!("found {} slot {} value {}", found.entry().number, found.entry().slot, *found);
+        let entry = Found::entry(&found);
+        println!("found {} slot {} value {}", entry.number, entry.slot, *found);
     }
     turn.hand();
     turn.wait();
     section.exit();
     println!("outside");
-    let mut section = cpu.enter()?;
+    let section = cpu.enter()?;
     println!("inside");
     assert!(section.find(Kind::Driver, wm).is_none());
     turn.hand();
@@ -61,12 +62,21 @@ fn look_up(cpu: &Cpu<u64>, wm: &Name, turn: &Turn) -> Result<(), Refusal> {
 /// CPU 1, which retires it and waits.
 fn retire(registry: &Registry<u64>, cpu: &Cpu<u64>, wm: &Name, turn: &Turn) -> Result<(), Refusal> {
     turn.wait();
-    let gone = registry.detach(cpu, Kind::Driver, wm)?;
-    println!("retired {} slot {}", gone.number, gone.slot);
-    println!("{}", registry.advance(gone.number)?);
+    let retired = registry.detach(cpu, Kind::Driver, wm)?;
+    println!("retired {} slot {}", retired.entry().number, retired.entry().slot);
+    let retired = match retired.advance() {
+        Err(Refused {
+            refusal: Refusal::StillHeld(holder),
+            given,
+        }) => {
+            println!("{holder}");
+            given
+        }
+        other => panic!("{other:?}"),
+    };
     turn.hand();
     turn.wait();
-    println!("{}", registry.advance(gone.number)?);
+    println!("{}", retired.advance()?);
     turn.hand();
     Ok(())
 }

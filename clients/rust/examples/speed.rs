@@ -3,10 +3,10 @@
 //! `lookup` reads what the entry found carries, a number in a block of its own; `plain` is the same lookup that leaves it alone, and reads the
 //! entry's number. `read` is `lookup` by a guard, which is two calls; `look_up` is `plain` by one call; `get` gets a reference by one call,
 //! reads what the entry carries, and releases it. `local` releases each local reference on the CPU, `guarded` drops it bound to the CPU, and
-//! `dropped` drops it unbound and has the CPU release it then.
+//! `dropped` drops it unbound, and the next acquire releases it.
 //! The operations are those of `bench/` of the repository, whose README says what one is. It prints a line as the programs there do.
 
-use registry::{Cpu, Kind, Name, Refusal, Registry, Settings};
+use registry::{Cpu, Found, Kind, LocalRef, Name, PassiveRef, Refusal, Registry, Settings};
 use std::error::Error;
 use std::sync::Barrier;
 use std::thread;
@@ -19,7 +19,7 @@ fn lookups(cpu: &Cpu<u64>, names: &[Name], count: u64) -> Result<u64, Refusal> {
     let mut right = 0;
     let mut place = 0;
     for _ in 0..count {
-        let mut section = cpu.enter()?;
+        let section = cpu.enter()?;
         let found = section.find(Kind::Driver, &names[place]);
         right += u64::from(found.map_or(false, |found| *found == place as u64));
         drop(section);
@@ -32,10 +32,10 @@ fn plain_lookups(cpu: &Cpu<u64>, names: &[Name], count: u64) -> Result<u64, Refu
     let mut right = 0;
     let mut place = 0;
     for _ in 0..count {
-        let mut section = cpu.enter()?;
+        let section = cpu.enter()?;
         let found = section.find(Kind::Driver, &names[place]);
         place += 1;
-        right += u64::from(found.map_or(false, |found| found.entry().number == place as u64));
+        right += u64::from(found.map_or(false, |found| Found::entry(&found).number == place as u64));
         drop(section);
         place = if place < names.len() { place } else { 0 };
     }
@@ -70,45 +70,44 @@ fn gets(cpu: &Cpu<u64>, names: &[Name], count: u64) -> Result<u64, Refusal> {
     for _ in 0..count {
         let reference = cpu.get(Kind::Driver, &names[place])?;
         right += u64::from(*reference == place as u64);
-        reference.release();
+        PassiveRef::release(reference);
         place = if place + 1 < names.len() { place + 1 } else { 0 };
     }
     Ok(right)
 }
 
 fn passives(cpu: &Cpu<u64>, names: &[Name], count: u64) -> Result<u64, Refusal> {
-    let mut section = cpu.enter()?;
+    let section = cpu.enter()?;
     let found = section.find(Kind::Driver, &names[0]).ok_or(Refusal::NotFound)?;
     for _ in 0..count {
-        found.acquire()?.release();
+        PassiveRef::release(Found::acquire(&found)?);
     }
     Ok(count)
 }
 
 fn locals(cpu: &Cpu<u64>, names: &[Name], count: u64) -> Result<u64, Refusal> {
-    let mut section = cpu.enter()?;
+    let section = cpu.enter()?;
     let found = section.find(Kind::Driver, &names[0]).ok_or(Refusal::NotFound)?;
     for _ in 0..count {
-        found.acquire_local()?.release(cpu)?;
+        LocalRef::release(Found::acquire_local(&found)?, cpu)?;
     }
     Ok(count)
 }
 
 fn drops(cpu: &Cpu<u64>, names: &[Name], count: u64) -> Result<u64, Refusal> {
-    let mut section = cpu.enter()?;
+    let section = cpu.enter()?;
     let found = section.find(Kind::Driver, &names[0]).ok_or(Refusal::NotFound)?;
     for _ in 0..count {
-        drop(found.acquire_local()?);
-        cpu.release_dropped();
+        drop(Found::acquire_local(&found)?);
     }
     Ok(count)
 }
 
 fn guards(cpu: &Cpu<u64>, names: &[Name], count: u64) -> Result<u64, Refusal> {
-    let mut section = cpu.enter()?;
+    let section = cpu.enter()?;
     let found = section.find(Kind::Driver, &names[0]).ok_or(Refusal::NotFound)?;
     for _ in 0..count {
-        drop(found.acquire_local()?.guard(cpu)?);
+        drop(LocalRef::guard(Found::acquire_local(&found)?, cpu)?);
     }
     Ok(count)
 }
@@ -142,7 +141,7 @@ fn nanoseconds_each(cpus: &mut [Cpu<u64>], names: &[Name], make: Operations, cou
 }
 
 fn run(threads: u8, entries: u8, count: u64) -> Result<(), Box<dyn Error>> {
-    let names: Vec<Name> = (0..entries).map(|i| Name::parse(format!("d{i:02}"))).collect::<Result<_, _>>()?;
+    let names: Vec<Name> = (0..entries).map(|i| Name::parse(&format!("d{i:02}"))).collect::<Result<_, _>>()?;
     let (registry, mut cpus) = Registry::open(Settings::new(threads, 32))?;
     for (value, name) in (0..).zip(&names) {
         registry.attach(&cpus[0], name, value)?;

@@ -6,7 +6,7 @@
 //! released, audited and destroyed on CPU 0. It prints what `registry_run storm` prints; `wrong` counts each answer that wasn't the one
 //! expected.
 
-use registry::{Advance, Cpu, Entry, Holder, Kind, LocalRef, Name, Patience, Refusal, Refused, Registry, Settings};
+use registry::{Cpu, Entry, Found, Holder, Kind, LocalRef, Name, PassiveRef, Patience, Refusal, Refused, Registry, Retired, Settings};
 use std::sync::Mutex;
 use std::{env, process, thread};
 
@@ -34,7 +34,7 @@ struct Counts {
 #[derive(Default)]
 struct Churn {
     live: Option<Entry>,
-    retired: [Option<u64>; SLOTS as usize],
+    retired: [Option<Retired<u64>>; SLOTS as usize],
 }
 
 impl Counts {
@@ -58,7 +58,9 @@ impl Counts {
 impl Storm {
     /// Whether this is the driver, and what it carries.
     fn is_driver(&self, entry: Entry, value: u64) -> bool {
-        let Entry { number, slot, kind, name } = entry;
+        let Entry {
+            number, slot, kind, name, ..
+        } = entry;
         (number, slot, kind, name, value) == (1, 0, Kind::Driver, self.drv, DRIVER_VALUE)
     }
 
@@ -96,27 +98,28 @@ impl Storm {
             Ok(entry) => churn.live = Some(entry),
             Err(Refused { refusal, given }) => {
                 counts.judge(refusal == Refusal::NoSlot && given.1 == u64::from(turn));
-                counts.judge(given.0.release(cpu).is_ok());
+                counts.judge(LocalRef::release(given.0, cpu).is_ok());
             }
         }
     }
 
     /// A local reference to the driver, acquired in a section of its own.
     fn refer_to_driver(&self, cpu: &Cpu<u64>, counts: &mut Counts) -> Option<LocalRef<u64>> {
-        let mut section = counts.good(cpu.enter())?;
+        let section = counts.good(cpu.enter())?;
         let found = section.find(Kind::Driver, &self.drv);
-        counts.judge(found.as_ref().map_or(false, |found| self.is_driver(found.entry(), **found)));
-        counts.good(found?.acquire_local())
+        counts.judge(found.as_ref().map_or(false, |found| self.is_driver(Found::entry(found), **found)));
+        counts.good(Found::acquire_local(&found?))
     }
 
     fn detach(&self, cpu: &Cpu<u64>, churn: &mut Churn, counts: &mut Counts) {
         let gone = self.registry.detach(cpu, Kind::Iface, &self.wm0).ok();
-        let right = gone == churn.live && gone.map_or(false, |entry| entry.slot < SLOTS);
+        let entry = gone.as_ref().map(Retired::entry);
+        let right = entry == churn.live && entry.map_or(false, |entry| entry.slot < SLOTS);
         counts.judge(right);
-        if let (true, Some(entry)) = (right, gone) {
+        if let (true, Some(entry)) = (right, entry) {
             let place = &mut churn.retired[usize::from(entry.slot)];
             counts.judge(place.is_none());
-            *place = Some(entry.number);
+            *place = gone;
         }
         churn.live = None;
     }
@@ -124,20 +127,22 @@ impl Storm {
     /// One turn of the work on the interface that was retired in a slot. Nobody refers to it, so it waits for sections alone.
     fn advance(&self, slot: u8, churn: &mut Churn, counts: &mut Counts) {
         let place = &mut churn.retired[usize::from(slot)];
-        let number = match *place {
-            Some(number) => number,
+        let retired = match place.take() {
+            Some(retired) => retired,
             None => return,
         };
-        match self.registry.advance(number) {
-            Ok(Advance::Held(Holder::Grace(_))) => (),
-            Ok(Advance::Freed(freed)) if freed.entry.slot == slot && freed.value < u64::from(self.turns) => *place = None,
-            _ => counts.judge(false),
+        match retired.advance() {
+            Ok(freed) => counts.judge(freed.entry.slot == slot && freed.value < u64::from(self.turns)),
+            Err(Refused { refusal, given }) => {
+                counts.judge(matches!(refusal, Refusal::StillHeld(Holder::Grace(_))));
+                *place = Some(given);
+            }
         }
     }
 
     /// One turn of a CPU.
     fn make_turn(&self, cpu: &Cpu<u64>, counts: &mut Counts) {
-        let mut section = match counts.good(cpu.enter()) {
+        let section = match counts.good(cpu.enter()) {
             Some(section) => section,
             None => return,
         };
@@ -145,17 +150,17 @@ impl Storm {
         counts.judge(iface.map_or(true, |found| *found < u64::from(self.turns)));
         let driver = section.find(Kind::Driver, &self.drv);
         counts.lookups += 2;
-        counts.judge(driver.as_ref().map_or(false, |found| self.is_driver(found.entry(), **found)));
+        counts.judge(driver.as_ref().map_or(false, |found| self.is_driver(Found::entry(found), **found)));
         let (passive, local) = match driver {
-            Some(found) => (counts.good(found.acquire()), counts.good(found.acquire_local())),
+            Some(found) => (counts.good(Found::acquire(&found)), counts.good(Found::acquire_local(&found))),
             None => return,
         };
         section.exit();
         if let Some(passive) = passive {
-            counts.judge(self.is_driver(passive.entry(), *passive));
+            counts.judge(self.is_driver(PassiveRef::entry(&passive), *passive));
         }
         if let Some(local) = local {
-            counts.judge(self.is_driver(local.entry(), *local));
+            counts.judge(self.is_driver(LocalRef::entry(&local), *local));
             self.pass_on(cpu, local, counts);
         }
     }
@@ -167,7 +172,7 @@ impl Storm {
         let back = self.baskets[next].lock().unwrap().replace(local);
         let handed = self.baskets[own].lock().unwrap().take();
         for reference in back.into_iter().chain(handed) {
-            counts.judge(reference.release(cpu).is_ok());
+            counts.judge(LocalRef::release(reference, cpu).is_ok());
             counts.references += 1;
         }
     }
@@ -177,25 +182,25 @@ impl Storm {
         let cpu = &cpus[0];
         for basket in &self.baskets {
             if let Some(reference) = basket.lock().unwrap().take() {
-                counts.judge(reference.release(cpu).is_ok());
+                counts.judge(LocalRef::release(reference, cpu).is_ok());
                 counts.references += 1;
             }
         }
         if churn.live.is_some() {
             self.detach(cpu, &mut churn, counts);
         }
-        for (slot, number) in (0..SLOTS).zip(churn.retired) {
-            if let Some(number) = number {
-                let freed = self.registry.destroy(cpu, number, Patience::Turns(1));
+        for (slot, retired) in (0..SLOTS).zip(churn.retired) {
+            if let Some(retired) = retired {
+                let freed = retired.destroy(cpu, Patience::Turns(1));
                 counts.judge(freed.map_or(false, |freed| freed.entry.slot == slot));
             }
         }
         let balances = counts.good(self.registry.audit(cpus)).unwrap_or_default();
         counts.judge(balances.len() == 1 && balances[0].number == 1);
-        let gone = self.registry.detach(cpu, Kind::Driver, &self.drv);
-        counts.judge(gone.is_ok());
-        let freed = self.registry.destroy(cpu, 1, Patience::Turns(1));
-        counts.judge(freed.map_or(false, |freed| self.is_driver(freed.entry, freed.value)));
+        if let Some(gone) = counts.good(self.registry.detach(cpu, Kind::Driver, &self.drv)) {
+            let freed = gone.destroy(cpu, Patience::Turns(1));
+            counts.judge(freed.map_or(false, |freed| self.is_driver(freed.entry, freed.value)));
+        }
         balances.first().map_or(0, |balance| balance.held)
     }
 }
@@ -228,11 +233,7 @@ fn blow(storm: &Storm, cpus: Vec<Cpu<u64>>) -> (Vec<Cpu<u64>>, Counts, Churn) {
 }
 
 fn run(cpus: u8, turns: u32) -> Result<u64, Refusal> {
-    let settings = Settings {
-        passives: 4,
-        ..Settings::new(cpus, SLOTS)
-    };
-    let (registry, all) = Registry::open(settings)?;
+    let (registry, all) = Registry::open(Settings::new(cpus, SLOTS).passives(4))?;
     let storm = Storm {
         registry,
         baskets: all.iter().map(|_| Mutex::new(None)).collect(),

@@ -1,6 +1,10 @@
 //! What an entry carries: a value of the caller's in a box, whose address is the entry's `value` in C.
 
+use crate::ffi;
+use crate::name::Name;
+use crate::values::{Entry, Kind};
 use std::fmt;
+use std::mem::MaybeUninit;
 
 /// The address of a value that was attached. C keeps it in the entry; what is found and each reference has a copy.
 ///
@@ -32,7 +36,7 @@ impl<T> Carried<T> {
         }
     }
 
-    /// The address, as the `value` of an entry.
+    /// The address, as the `value` of an entry. The cast exposes it, so that `of_word` may have it back.
     #[inline]
     pub fn word(self) -> u64 {
         self.at as usize as u64
@@ -40,7 +44,7 @@ impl<T> Carried<T> {
 
     /// The address that an entry's `value` is.
     #[inline]
-    pub fn of_word(word: u64) -> Carried<T> {
+    fn of_word(word: u64) -> Carried<T> {
         Carried {
             at: word as usize as *mut T,
         }
@@ -53,8 +57,9 @@ impl<T> Carried<T> {
     /// It was attached with an entry, and something holds that entry for as long as the reference lives: an open section that found it, or a
     /// reference that was acquired to it.
     #[inline]
-    pub unsafe fn get<'a>(self) -> &'a T {
-        &*self.at
+    unsafe fn get<'a>(self) -> &'a T {
+        // SAFETY: the address is that of a box, which nobody takes nor writes as long as something holds the entry.
+        unsafe { &*self.at }
     }
 
     /// The value, out of its box, which is freed.
@@ -63,12 +68,98 @@ impl<T> Carried<T> {
     ///
     /// Nobody has a reference to it nor will get one, and it is taken once.
     pub unsafe fn take(self) -> T {
-        *Box::from_raw(self.at)
+        // SAFETY: the address is that of a box, and the caller is the last who uses it.
+        unsafe { *Box::from_raw(self.at) }
     }
 }
 
 impl<T> fmt::Debug for Carried<T> {
     fn fmt(&self, f: &mut fmt::Formatter<'_>) -> fmt::Result {
         write!(f, "Carried({:p})", self.at)
+    }
+}
+
+/// An entry as C wrote it, with the address of what it carries.
+pub struct Record<T> {
+    number: u64,
+    name: ffi::Name,
+    carried: Carried<T>,
+    slot: u8,
+    kind: Kind,
+}
+
+impl<T> Clone for Record<T> {
+    #[inline]
+    fn clone(&self) -> Record<T> {
+        *self
+    }
+}
+
+impl<T> Copy for Record<T> {}
+
+impl<T> Record<T> {
+    #[inline]
+    pub fn of(entry: &ffi::Entry) -> Record<T> {
+        Record {
+            number: entry.number,
+            name: entry.name,
+            carried: Carried::of_word(entry.value),
+            slot: entry.slot as u8,
+            kind: Kind::of(entry.kind),
+        }
+    }
+
+    /// The record that a call writes where it is done; or the call's answer.
+    #[inline]
+    pub fn written(call: impl FnOnce(*mut ffi::Entry) -> u32) -> Result<Record<T>, u32> {
+        let mut entry = MaybeUninit::uninit();
+        match call(entry.as_mut_ptr()) {
+            // SAFETY: registry.h says of each call that is given here that it writes the entry where it is done.
+            ffi::DONE => Ok(Record::of(unsafe { entry.assume_init_ref() })),
+            answer => Err(answer),
+        }
+    }
+
+    #[inline]
+    pub fn number(&self) -> u64 {
+        self.number
+    }
+
+    #[inline]
+    pub fn slot(&self) -> usize {
+        usize::from(self.slot)
+    }
+
+    #[inline]
+    pub fn entry(&self) -> Entry {
+        Entry {
+            number: self.number,
+            slot: self.slot,
+            kind: self.kind,
+            name: Name::of_words(self.name),
+        }
+    }
+
+    /// The kind and the name, as C has them.
+    #[inline]
+    pub fn key(&self) -> (u64, &ffi::Name) {
+        (self.kind.number(), &self.name)
+    }
+
+    /// What the entry carries.
+    ///
+    /// # Safety
+    ///
+    /// Something holds the entry for as long as the reference lives: an open section that found it, or a reference that was acquired to it.
+    #[inline]
+    pub unsafe fn value<'a>(&self) -> &'a T {
+        // SAFETY: the value of each entry of a registry whose entries carry a `T` is the address of one that was attached with it.
+        unsafe { self.carried.get() }
+    }
+}
+
+impl<T> fmt::Debug for Record<T> {
+    fn fmt(&self, f: &mut fmt::Formatter<'_>) -> fmt::Result {
+        self.entry().fmt(f)
     }
 }

@@ -1,10 +1,12 @@
 //! A CPU of a registry.
 
+use crate::basket::{BY_ACQUIRE, BY_CHANGE, BY_RELEASE};
 use crate::ffi;
 use crate::refusal::{checked, Refusal};
 use crate::registry::Registry;
 use crate::section::Section;
 use crate::shared::{Lease, Shared};
+use crate::values::{Entry, Holder};
 use std::cell::{Cell, UnsafeCell};
 use std::fmt;
 use std::mem;
@@ -13,8 +15,10 @@ use std::sync::Arc;
 /// One of the registry's CPUs, for the thread that has it. It owns a share of its registry: it may be stored, and go to another thread; one
 /// thread at a time uses it. Sections and passive references borrow it, so it can't go while one is there.
 ///
-/// A CPU that is dropped goes back to its registry, which gives it out again: [`Registry::cpu`]. A program with more threads than CPUs lends
-/// them from a [`CpuPool`](crate::CpuPool).
+/// A struct that owns its CPU and references acquired there has the CPU in an [`Rc`](std::rc::Rc), and a [`PassiveRc`](crate::PassiveRc) of each.
+///
+/// A CPU that is dropped goes back to its registry, which gives it out again: [`Registry::cpu`], [`Registry::any_cpu`]. A program with more
+/// threads than CPUs lends them from a [`CpuPool`](crate::CpuPool).
 ///
 /// ```
 /// use registry::{Kind, Name, Registry, Settings};
@@ -39,6 +43,10 @@ pub struct Cpu<T> {
     /// The share of a local reference that was released here, for the next one that is acquired.
     given_back: Cell<Option<Arc<Lease<T>>>>,
     id: u8,
+    /// How many guards of local references were bound here, by the slots of their entries: a guard's entry keeps its slot.
+    bound: [Cell<u32>; ffi::MOST_SLOTS],
+    /// How many of them are gone. Two counts, so that a bind needn't wait for the unbind before.
+    unbound: [Cell<u32>; ffi::MOST_SLOTS],
 }
 
 impl<T> Cpu<T> {
@@ -46,9 +54,11 @@ impl<T> Cpu<T> {
         Cpu {
             handle: UnsafeCell::new(handle),
             last: Cell::new(0),
-            lease: Arc::new(Lease { shared }),
+            lease: Arc::new(Lease { shared, id }),
             given_back: Cell::new(None),
             id,
+            bound: Default::default(),
+            unbound: Default::default(),
         }
     }
 
@@ -69,6 +79,7 @@ impl<T> Cpu<T> {
         unsafe { *self.handle.get() = handle };
     }
 
+    #[inline]
     pub(crate) fn shared(&self) -> &Arc<Shared<T>> {
         &self.lease.shared
     }
@@ -85,10 +96,35 @@ impl<T> Cpu<T> {
         self.given_back.take().unwrap_or_else(|| Arc::clone(&self.lease))
     }
 
-    /// Keeps the share of a local reference that was released here.
+    /// Keeps the share of a local reference that was released here, if this CPU acquired it.
     #[inline]
     pub(crate) fn keep_share(&self, lease: Arc<Lease<T>>) {
-        self.given_back.set(Some(lease));
+        if Arc::ptr_eq(&lease, &self.lease) {
+            self.given_back.set(Some(lease));
+        }
+    }
+
+    /// A guard is bound here to the entry in this slot.
+    #[inline]
+    pub(crate) fn bind(&self, slot: usize) {
+        self.bound[slot].set(self.bound[slot].get().wrapping_add(1));
+    }
+
+    /// One is bound here no more.
+    #[inline]
+    pub(crate) fn unbind(&self, slot: usize) {
+        self.unbound[slot].set(self.unbound[slot].get().wrapping_add(1));
+    }
+
+    /// What this CPU itself holds the entry by, which is retired: nobody can let that go while this thread waits.
+    pub(crate) fn holder_of(&self, entry: &Entry) -> Option<Holder> {
+        let slot = usize::from(entry.slot);
+        let guards = self.bound[slot].get().wrapping_sub(self.unbound[slot].get());
+        if self.holds(entry.number) {
+            Some(Holder::Passive(self.id))
+        } else {
+            (guards > 0).then(|| Holder::Local(u64::from(guards)))
+        }
     }
 
     /// Its number, from 0.
@@ -150,16 +186,65 @@ impl<T> Cpu<T> {
         unsafe { ffi::registry_held(self.handle(), number, &mut held) };
         held
     }
+}
 
-    /// Releases the local references that were dropped, on whatever thread. So does each release on a CPU and each call of a registry that
-    /// takes one. It waits for the interlock where a drain has collected this CPU's count.
-    #[inline]
+/// Local references that were dropped without a CPU.
+impl<T> Cpu<T> {
+    /// Releases all local references that were dropped without a CPU, on whatever thread, and waits for the interlock where a drain has
+    /// collected this CPU's count. No program needs it: [other calls](crate::LocalRef#dropped-without-a-cpu) release some each.
     pub fn release_dropped(&self) {
-        if self.shared().has_dropped() {
-            // SAFETY: this thread alone has the CPU, what lies in its registry's basket is of that registry, and no code of a caller ever
-            // holds the interlock.
-            unsafe { self.shared().release_dropped(self.handle()) };
+        while self.shared().baskets().total() > 0 {
+            self.release_some(BY_CHANGE);
         }
+    }
+
+    /// Releases some of those in all baskets, its own first.
+    pub(crate) fn release_some(&self, most: usize) {
+        // SAFETY: this thread alone has the CPU, and no code of a caller ever holds the interlock.
+        unsafe { self.shared().release_dropped(self.handle(), self.id, most) };
+    }
+
+    /// Releases some of those that this CPU acquired, before an acquire.
+    #[inline]
+    pub(crate) fn before_acquire(&self) {
+        if self.shared().baskets().count(self.id) > 0 {
+            self.release_of(self.id, BY_ACQUIRE);
+        }
+    }
+
+    /// Releases some of those that this CPU acquired, and of those in a heavy basket, after a release.
+    #[inline]
+    pub(crate) fn after_release(&self) {
+        if !self.shared().baskets().is_at_rest(self.id) {
+            self.release_own_and_heavy();
+        }
+    }
+
+    #[cold]
+    fn release_own_and_heavy(&self) {
+        self.release_of(self.id, BY_RELEASE);
+        if let Some(other) = self.shared().baskets().heavy() {
+            self.release_of(other, BY_RELEASE);
+        }
+    }
+
+    #[cold]
+    fn release_of(&self, of: u8, most: usize) {
+        // SAFETY: as for `release_some`.
+        unsafe { self.shared().release_of(self.handle(), of, most) };
+    }
+
+    /// Releases a dropped reference to the entry in this slot. Whether there was any.
+    #[cold]
+    pub(crate) fn release_one_to(&self, slot: usize) -> bool {
+        // SAFETY: as for `release_some`.
+        unsafe { self.shared().release_one_to(self.handle(), self.id, slot) }
+    }
+}
+
+impl<T> AsRef<Cpu<T>> for Cpu<T> {
+    fn as_ref(&self) -> &Cpu<T> {
+        self
     }
 }
 
@@ -167,6 +252,7 @@ impl<T> Drop for Cpu<T> {
     /// Leaves, and goes back to its registry. What it refers to passively by then was forgotten, and stays held.
     fn drop(&mut self) {
         self.leave();
+        self.release_of(self.id, BY_CHANGE);
         let handle = self.take_out();
         self.shared().put_cpu(self.id, handle);
     }

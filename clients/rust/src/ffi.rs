@@ -15,6 +15,8 @@ pub const NOT_FOUND: u32 = 6;
 pub const INSIDE: u32 = 7;
 pub const SECTIONS_SPENT: u32 = 8;
 pub const PASSIVE_FULL: u32 = 10;
+pub const WRONG_CPU: u32 = 11;
+pub const NOT_HELD: u32 = 12;
 pub const LOCAL_FULL: u32 = 13;
 pub const NOT_RETIRED: u32 = 14;
 pub const MISSING_CPU: u32 = 15;
@@ -22,8 +24,11 @@ pub const STILL_HELD: u32 = 16;
 pub const WAITING: u32 = 17;
 pub const TOO_DEEP: u32 = 18;
 pub const NEEDS_DRIVER: u32 = 19;
+#[cfg(test)]
 pub const NAME_EMPTY: u32 = 70;
+#[cfg(test)]
 pub const NAME_TOO_LONG: u32 = 71;
+#[cfg(test)]
 pub const NAME_BAD_BYTE: u32 = 72;
 
 pub const INTERFACE: u64 = 1;
@@ -85,7 +90,7 @@ impl Local {
 }
 
 #[repr(C)]
-#[derive(Clone, Copy, PartialEq, Eq, Hash, Default)]
+#[derive(Clone, Copy, Debug, PartialEq, Eq, Hash, PartialOrd, Ord, Default)]
 pub struct Name {
     pub high: u64,
     pub low: u64,
@@ -149,6 +154,7 @@ impl Wait {
 }
 
 extern "C" {
+    #[cfg(test)]
     pub fn registry_name_parse(bytes: *const u8, length: usize, name: *mut Name, place: *mut u64) -> u32;
     pub fn registry_text(answer: u32, text: *mut u8, room: usize) -> usize;
 
@@ -174,6 +180,8 @@ extern "C" {
     pub fn registry_local_acquire(cpu: *mut Cpu, local: *mut Local) -> u32;
     pub fn registry_local_release(cpu: *mut Cpu, local: *mut Local) -> u32;
     pub fn registry_local_give_up(keeper: *mut Keeper, local: *mut Local) -> u32;
+    pub fn registry_local_forget(local: *mut Local) -> u32;
+    pub fn registry_local_read(local: *mut Local, entry: *mut Entry) -> u32;
 
     pub fn registry_attach(keeper: *mut Keeper, cpu: *mut Cpu, name: *const Name, value: u64, made: *mut Entry) -> u32;
     pub fn registry_attach_iface(

@@ -21,8 +21,9 @@
 //! - A [`Cpu`] is a value that one thread at a time uses; a registry has 1 to 8. It needn't be a processor of the machine. A [`CpuPool`] lends
 //!   CPUs to more threads.
 //! - A [`Section`] is what a CPU is in while it looks entries up. What is [`Found`] in it keeps its slot while it is open.
-//! - A [`PassiveRef`] holds an entry beyond the section, on one CPU; it is cheap, and its holder may sleep. A [`LocalRef`] may go to other
-//!   threads, and be stored; a [`LocalGuard`] is one that a CPU releases as it is dropped.
+//! - A [`PassiveRef`] holds an entry beyond the section, on one CPU; it is cheap, and its holder may sleep. A [`PassiveRc`] owns a share of the
+//!   CPU in place of a borrow. A [`LocalRef`] may go to other threads, and be stored; a [`LocalGuard`] is one that a CPU releases as it is dropped.
+//! - A [`Retired`] is an entry that was detached and isn't freed yet.
 //! - The interlock is the lock of a [`Registry`], behind which changes are made, one turn at a time.
 //!
 //! # The calls
@@ -33,15 +34,17 @@
 //! | look up | [`Cpu::enter`], [`Section::find`], and drop the section |
 //! | go over all | [`Section::entries`] in a section |
 //! | hold longer | [`Found::acquire`] on this CPU, [`Found::acquire_local`] for any thread |
-//! | look up by one call | [`Cpu::read`] answers the entry with its section, [`Cpu::get`] a reference, [`Cpu::look_up`] the record alone |
+//! | look up by one call | [`Cpu::read`] answers the entry with its section, [`Cpu::get`], [`Cpu::get_rc`] and [`Cpu::get_local`] a reference, [`Cpu::look_up`] the record alone |
+//! | go on with a part | [`ReadGuard::map`], [`PassiveRef::map`], [`LocalRef::map`] |
 //! | change | [`Registry::attach`], [`Registry::attach_iface`], [`Registry::detach`] |
-//! | free | [`Registry::destroy`] waits, [`Registry::advance`] doesn't; after [`Registry::retire`] later changes do it, or [`Registry::collect`] |
+//! | free | [`Retired::destroy`] waits, [`Retired::advance`] doesn't; after [`Registry::retire`] or [`Retired::defer`] later changes do it, or [`Registry::collect`] |
 //! | wait for readers alone | [`Registry::perform`] |
 //! | see the counts | [`Registry::audit`] |
 //!
 //! ```
-//! use registry::{Advance, Holder, Kind, Name, Registry, Settings};
+//! use registry::{Found, Holder, Kind, Name, Refusal, Registry, Settings};
 //!
+//! #[derive(Debug)]
 //! struct Driver {
 //!     speed: u32,
 //! }
@@ -50,18 +53,20 @@
 //! let wm = Name::parse("wm").unwrap();
 //! registry.attach(&cpus[1], &wm, Driver { speed: 1000 }).unwrap();
 //!
-//! let mut section = cpus[0].enter().unwrap();
+//! let section = cpus[0].enter().unwrap();
 //! let found = section.find(Kind::Driver, &wm).unwrap();
-//! let gone = registry.detach(&cpus[1], Kind::Driver, &wm).unwrap();
-//! assert_eq!(registry.advance(gone.number).unwrap().holder(), Some(Holder::Grace(0)));
+//! let retired = registry.detach(&cpus[1], Kind::Driver, &wm).unwrap();
+//! let held = retired.advance().unwrap_err();
+//! assert_eq!(held.refusal, Refusal::StillHeld(Holder::Grace(0)));
 //! assert_eq!(found.speed, 1000);
-//! let reference = found.acquire().unwrap();
+//! let reference = Found::acquire(&found).unwrap();
 //! section.exit();
 //!
-//! assert_eq!(registry.advance(gone.number).unwrap().holder(), Some(Holder::Passive(0)));
+//! let held = held.given.advance().unwrap_err();
+//! assert_eq!(held.refusal, Refusal::StillHeld(Holder::Passive(0)));
 //! assert_eq!(reference.speed, 1000);
-//! reference.release();
-//! let driver: Driver = registry.advance(gone.number).unwrap().freed().unwrap().value;
+//! drop(reference);
+//! let driver: Driver = held.given.advance().unwrap().value;
 //! assert_eq!(driver.speed, 1000);
 //! ```
 //!
@@ -86,30 +91,43 @@
 //! calls themselves, and the way from the word that an entry carries to the `T`; each says which sentence of registry.h makes it sound.
 
 #![warn(missing_docs)]
+#![deny(unsafe_op_in_unsafe_fn)]
 
+#[cfg(not(all(target_os = "linux", target_arch = "x86_64", target_env = "gnu")))]
+compile_error!("the archive libregistry.a is built for Linux on x86-64 with glibc alone");
+
+mod basket;
 mod carried;
 mod cpu;
 mod entries;
 mod ffi;
 mod local;
+mod mapped;
+mod name;
 mod passive;
 mod patience;
 mod pool;
 mod refusal;
 mod registry;
+mod retired;
 mod section;
+mod settings;
 mod shared;
 mod usual;
 mod values;
 
 pub use cpu::Cpu;
-pub use entries::{Entries, Listed};
+pub use entries::Entries;
 pub use local::{LocalGuard, LocalRef};
-pub use passive::PassiveRef;
+pub use mapped::Mapped;
+pub use name::{Name, NameFault};
+pub use passive::{PassiveRc, PassiveRef};
 pub use patience::Patience;
 pub use pool::{CpuPool, Lent};
 pub use refusal::{Refusal, Refused};
 pub use registry::Registry;
+pub use retired::Retired;
 pub use section::{Found, Section};
+pub use settings::Settings;
 pub use usual::ReadGuard;
-pub use values::{Advance, Balance, Entry, Freed, Holder, Kind, Name, NameFault, Settings};
+pub use values::{Balance, Entry, Freed, Holder, Kind};

@@ -1,10 +1,12 @@
 //! Local references.
 
-use crate::carried::Carried;
+use crate::carried::Record;
 use crate::cpu::Cpu;
 use crate::ffi;
+use crate::mapped::Mapped;
 use crate::refusal::{Refusal, Refused};
 use crate::shared::{Lease, Shared};
+use crate::usual::ReadGuard;
 use crate::values::Entry;
 use std::fmt;
 use std::mem;
@@ -14,39 +16,54 @@ use std::sync::Arc;
 /// A local reference, of localcount(9): its entry keeps its slot, and what it carries, until it is released on any CPU of the registry. It
 /// derefs to what the entry carries. It owns a share of its registry: it may be stored, shared and sent to other threads.
 ///
-/// A release needs a CPU: [`guard`](LocalRef::guard) binds one to a CPU that is at hand. One that is dropped without goes into a basket of the
-/// registry instead, and is released by the next release on a CPU, the next call of the registry that takes a CPU, or, where only it and its like
-/// still hold a retired entry, the next turn of the work on that entry. One that is forgotten stays held, and keeps its registry open.
+/// All its functions are called by the type's name, so that none hides a method of `T`.
 ///
 /// ```
-/// use registry::{Kind, Name, Registry, Settings};
+/// use registry::{Kind, LocalRef, Name, Registry, Settings};
 /// use std::thread;
 ///
 /// let (registry, cpus) = Registry::open(Settings::new(1, 1)).unwrap();
 /// let wm = Name::parse("wm").unwrap();
 /// registry.attach(&cpus[0], &wm, 7).unwrap();
-/// let reference = cpus[0].enter().unwrap().find(Kind::Driver, &wm).unwrap().acquire_local().unwrap();
+/// let reference = cpus[0].get_local(Kind::Driver, &wm).unwrap();
 /// let reference = thread::spawn(move || {
 ///     assert_eq!(*reference, 7);
 ///     reference
 /// });
-/// reference.join().unwrap().release(&cpus[0]).unwrap();
+/// LocalRef::release(reference.join().unwrap(), &cpus[0]).unwrap();
 /// ```
+///
+/// # Dropped without a CPU
+///
+/// A release needs a CPU: [`guard`](LocalRef::guard) binds the reference to one that is at hand. One that is dropped without lies in a basket of
+/// the CPU that acquired it, and still holds its entry, until some call releases it. Each call takes a bounded number:
+///
+/// | Call | takes at most |
+/// |---|---|
+/// | an acquire of a local reference | 2, of its CPU's basket |
+/// | a release of a local reference on a CPU | 4, of its CPU's basket, and 4 of another's that has more than 64 |
+/// | a drop into a basket that has more than 64 | 4, of this basket, if there is a CPU that nobody has |
+/// | an attach, a detach, a destroy's turn, a perform | 64, of all baskets |
+/// | a CPU that is dropped | 64, of its own basket |
+/// | a turn of the work on a retired entry that nothing but local references holds | 256, of those to this entry |
+///
+/// So a basket never has more in it than references of its CPU were held at once, and a CPU's net count reaches `LocalFull` by such as are held
+/// alone, or were released elsewhere. [`Registry::dropped`](crate::Registry::dropped) says how many there are. One that is forgotten stays held,
+/// and keeps its registry open.
 #[must_use = "a reference that is dropped at once holds nothing"]
 pub struct LocalRef<T> {
-    carried: Carried<T>,
-    entry: Entry,
+    record: Record<T>,
     /// Empty, and `lease` with it, once it was spent.
     handle: ffi::Local,
+    /// Of the CPU that acquired it.
     lease: Option<Arc<Lease<T>>>,
 }
 
 impl<T> LocalRef<T> {
     #[inline]
-    pub(crate) fn new(lease: Arc<Lease<T>>, entry: Entry, carried: Carried<T>, handle: ffi::Local) -> LocalRef<T> {
+    pub(crate) fn new(lease: Arc<Lease<T>>, record: Record<T>, handle: ffi::Local) -> LocalRef<T> {
         LocalRef {
-            carried,
-            entry,
+            record,
             handle,
             lease: Some(lease),
         }
@@ -65,104 +82,115 @@ impl<T> LocalRef<T> {
 
     /// Its entry, as it was attached.
     #[inline]
-    pub fn entry(&self) -> Entry {
-        self.entry
+    pub fn entry(reference: &Self) -> Entry {
+        reference.record.entry()
     }
 
     /// Releases it on this CPU, which needn't be the one that acquired it: `localcount_release`. Where a drain has collected this CPU's count,
-    /// it waits for the interlock. References that were dropped are released with it.
+    /// it waits for the interlock. Some references that were dropped are released with it.
     ///
     /// # Errors
     ///
     /// `OtherRegistry` where the CPU is of another one; the reference comes back.
     // Inlined, it is never moved as a whole: a pair of an acquire and a release takes an eighth less.
     #[inline(always)]
-    pub fn release(mut self, cpu: &Cpu<T>) -> Result<(), Refused<LocalRef<T>>> {
-        if !self.is_of(cpu.shared()) {
+    pub fn release(mut reference: Self, cpu: &Cpu<T>) -> Result<(), Refused<Self>> {
+        if !reference.is_of(cpu.shared()) {
             let refusal = Refusal::OtherRegistry;
-            return Err(Refused { refusal, given: self });
+            return Err(Refused { refusal, given: reference });
         }
-        let (local, lease) = (mem::replace(&mut self.handle, ffi::Local::EMPTY), self.lease.take());
+        let slot = reference.record.slot();
+        let local = mem::replace(&mut reference.handle, ffi::Local::EMPTY);
+        let lease = reference.lease.take();
         // Nothing is left in it to drop. A drop would want its address, and so its fields in memory.
-        mem::forget(self);
-        // SAFETY: the CPU is this thread's and of the reference's registry, and no code of a caller holds the interlock.
-        unsafe { cpu.shared().release_local(cpu.handle(), local) };
-        if let Some(lease) = lease {
-            cpu.keep_share(lease);
-        }
-        cpu.release_dropped();
+        mem::forget(reference);
+        release_on(cpu, slot, local, lease);
         Ok(())
+    }
+
+    /// Acquires one more on this CPU, to the same entry, which it looks up. The archive has no call for it: a local reference is acquired to
+    /// what a section found.
+    ///
+    /// ```
+    /// use registry::{Kind, LocalRef, Name, Refusal, Registry, Settings};
+    ///
+    /// let (registry, cpus) = Registry::open(Settings::new(2, 1)).unwrap();
+    /// let wm = Name::parse("wm").unwrap();
+    /// registry.attach(&cpus[0], &wm, 7).unwrap();
+    /// let one = cpus[0].get_local(Kind::Driver, &wm).unwrap();
+    /// let two = LocalRef::try_clone(&one, &cpus[1]).unwrap();
+    /// registry.retire(&cpus[0], Kind::Driver, &wm).unwrap();
+    /// assert_eq!((*one, *two), (7, 7));
+    /// assert_eq!(LocalRef::try_clone(&one, &cpus[1]).unwrap_err(), Refusal::NotFound);
+    /// ```
+    ///
+    /// # Errors
+    ///
+    /// `OtherRegistry`, `TooDeep`, `SectionsSpent`, `NotFound` once the entry is detached, `LocalFull`, `NoMemory`.
+    pub fn try_clone(reference: &Self, cpu: &Cpu<T>) -> Result<LocalRef<T>, Refusal> {
+        if !reference.is_of(cpu.shared()) {
+            return Err(Refusal::OtherRegistry);
+        }
+        let Entry { number, kind, name, .. } = LocalRef::entry(reference);
+        let found = cpu.read(kind, &name)?;
+        if ReadGuard::entry(&found).number == number {
+            ReadGuard::acquire_local(&found)
+        } else {
+            Err(Refusal::NotFound)
+        }
     }
 
     /// Binds it to this CPU, which releases it as the guard is dropped: with the CPU at hand a drop is a release, and no basket is between.
     ///
     /// ```
-    /// use registry::{Kind, Name, Registry, Settings};
+    /// use registry::{Kind, LocalRef, Name, Registry, Settings};
     ///
     /// let (registry, cpus) = Registry::open(Settings::new(1, 1)).unwrap();
     /// let wm = Name::parse("wm").unwrap();
     /// registry.attach(&cpus[0], &wm, 7).unwrap();
-    /// let reference = cpus[0].enter().unwrap().find(Kind::Driver, &wm).unwrap().acquire_local().unwrap();
-    /// let guard = reference.guard(&cpus[0]).unwrap();
-    /// assert_eq!(**guard, 7);
+    /// let reference = cpus[0].get_local(Kind::Driver, &wm).unwrap();
+    /// let guard = LocalRef::guard(reference, &cpus[0]).unwrap();
+    /// assert_eq!(*guard, 7);
     /// ```
     ///
     /// # Errors
     ///
     /// `OtherRegistry` where the CPU is of another one; the reference comes back.
     #[inline]
-    pub fn guard(self, cpu: &Cpu<T>) -> Result<LocalGuard<'_, T>, Refused<LocalRef<T>>> {
-        if !self.is_of(cpu.shared()) {
+    pub fn guard(mut reference: Self, cpu: &Cpu<T>) -> Result<LocalGuard<'_, T>, Refused<Self>> {
+        if !reference.is_of(cpu.shared()) {
             let refusal = Refusal::OtherRegistry;
-            return Err(Refused { refusal, given: self });
+            return Err(Refused { refusal, given: reference });
         }
-        let reference = Some(self);
-        Ok(LocalGuard { reference, cpu })
+        let (record, handle) = (reference.record, mem::replace(&mut reference.handle, ffi::Local::EMPTY));
+        let lease = reference.lease.take();
+        // As of `release`.
+        mem::forget(reference);
+        cpu.bind(record.slot());
+        Ok(LocalGuard {
+            record,
+            handle,
+            lease,
+            cpu,
+        })
     }
-}
 
-/// A local reference that a CPU releases as it is dropped: [`LocalRef::guard`]. It stays on that CPU's thread.
-#[must_use = "a guard that is dropped at once holds nothing"]
-pub struct LocalGuard<'cpu, T> {
-    /// None once it was taken out.
-    reference: Option<LocalRef<T>>,
-    cpu: &'cpu Cpu<T>,
-}
-
-impl<T> LocalGuard<'_, T> {
-    /// The reference itself, which is bound to no CPU.
+    /// The reference to a part of what the entry carries.
     #[inline]
-    pub fn into_inner(mut self) -> LocalRef<T> {
-        self.reference.take().expect(BOUND)
+    pub fn map<U: ?Sized>(reference: Self, part: impl FnOnce(&T) -> &U) -> Mapped<Self, U> {
+        Mapped::new(reference, part)
     }
 }
 
-/// Why a guard has a reference.
-const BOUND: &str = "a guard has its reference until it goes";
-
-impl<T> Deref for LocalGuard<'_, T> {
-    type Target = LocalRef<T>;
-
-    #[inline]
-    fn deref(&self) -> &LocalRef<T> {
-        self.reference.as_ref().expect(BOUND)
+/// Releases a reference on a CPU of its registry.
+#[inline(always)]
+fn release_on<T>(cpu: &Cpu<T>, slot: usize, local: ffi::Local, lease: Option<Arc<Lease<T>>>) {
+    // SAFETY: the CPU is this thread's and of the reference's registry, and no code of a caller holds the interlock.
+    unsafe { cpu.shared().release_local(cpu.handle(), cpu.id(), slot, local) };
+    if let Some(lease) = lease {
+        cpu.keep_share(lease);
     }
-}
-
-impl<T> Drop for LocalGuard<'_, T> {
-    #[inline]
-    fn drop(&mut self) {
-        if let Some(reference) = self.reference.take() {
-            // Its CPU is of the same registry, so this isn't refused.
-            drop(reference.release(self.cpu));
-        }
-    }
-}
-
-impl<T> fmt::Debug for LocalGuard<'_, T> {
-    fn fmt(&self, f: &mut fmt::Formatter<'_>) -> fmt::Result {
-        f.debug_tuple("LocalGuard").field(&self.reference).finish()
-    }
+    cpu.after_release();
 }
 
 impl<T> Deref for LocalRef<T> {
@@ -172,7 +200,7 @@ impl<T> Deref for LocalRef<T> {
     fn deref(&self) -> &T {
         // SAFETY: registry.h says of a local reference that it outlives the section and keeps its entry until it is released; a release, an
         // attach on it and its drop take it away from whoever has it.
-        unsafe { self.carried.get() }
+        unsafe { self.record.value() }
     }
 }
 
@@ -181,13 +209,91 @@ impl<T> Drop for LocalRef<T> {
     fn drop(&mut self) {
         let handle = mem::replace(&mut self.handle, ffi::Local::EMPTY);
         if let (false, Some(lease)) = (handle.is_empty(), &self.lease) {
-            lease.shared.drop_local(handle);
+            lease.shared.drop_local(lease.id, self.record.slot(), handle);
         }
     }
 }
 
-impl<T> fmt::Debug for LocalRef<T> {
+impl<T: fmt::Debug> fmt::Debug for LocalRef<T> {
     fn fmt(&self, f: &mut fmt::Formatter<'_>) -> fmt::Result {
-        f.debug_struct("LocalRef").field("entry", &self.entry).finish_non_exhaustive()
+        f.debug_struct("LocalRef")
+            .field("entry", &self.record)
+            .field("value", &**self)
+            .finish()
+    }
+}
+
+/// A local reference that a CPU releases as it is dropped: [`LocalRef::guard`]. It derefs to what the entry carries, and stays on that CPU's
+/// thread.
+///
+/// All its functions are called by the type's name, so that none hides a method of `T`.
+#[must_use = "a guard that is dropped at once holds nothing"]
+pub struct LocalGuard<'cpu, T> {
+    record: Record<T>,
+    /// Empty once the reference was taken out.
+    handle: ffi::Local,
+    lease: Option<Arc<Lease<T>>>,
+    cpu: &'cpu Cpu<T>,
+}
+
+impl<'cpu, T> LocalGuard<'cpu, T> {
+    /// The entry, as it was attached.
+    #[inline]
+    pub fn entry(guard: &Self) -> Entry {
+        guard.record.entry()
+    }
+
+    /// The CPU that releases it.
+    #[inline]
+    pub fn cpu(guard: &Self) -> &'cpu Cpu<T> {
+        guard.cpu
+    }
+
+    /// The reference itself, which is bound to no CPU.
+    #[inline]
+    pub fn into_inner(mut guard: Self) -> LocalRef<T> {
+        guard.cpu.unbind(guard.record.slot());
+        LocalRef {
+            record: guard.record,
+            handle: mem::replace(&mut guard.handle, ffi::Local::EMPTY),
+            lease: guard.lease.take(),
+        }
+    }
+
+    /// The guard of a part of what the entry carries.
+    #[inline]
+    pub fn map<U: ?Sized>(guard: Self, part: impl FnOnce(&T) -> &U) -> Mapped<Self, U> {
+        Mapped::new(guard, part)
+    }
+}
+
+impl<T> Deref for LocalGuard<'_, T> {
+    type Target = T;
+
+    #[inline]
+    fn deref(&self) -> &T {
+        // SAFETY: as for a `LocalRef`; the guard's drop releases it, or `into_inner` takes it away from whoever has the guard.
+        unsafe { self.record.value() }
+    }
+}
+
+impl<T> Drop for LocalGuard<'_, T> {
+    #[inline]
+    fn drop(&mut self) {
+        let handle = mem::replace(&mut self.handle, ffi::Local::EMPTY);
+        if !handle.is_empty() {
+            self.cpu.unbind(self.record.slot());
+            release_on(self.cpu, self.record.slot(), handle, self.lease.take());
+        }
+    }
+}
+
+impl<T: fmt::Debug> fmt::Debug for LocalGuard<'_, T> {
+    fn fmt(&self, f: &mut fmt::Formatter<'_>) -> fmt::Result {
+        f.debug_struct("LocalGuard")
+            .field("cpu", &self.cpu.id())
+            .field("entry", &self.record)
+            .field("value", &**self)
+            .finish()
     }
 }

@@ -1,52 +1,73 @@
 //! Passive references.
 
-use crate::carried::Carried;
+use crate::carried::Record;
 use crate::cpu::Cpu;
 use crate::ffi;
-use crate::refusal::{checked, Refusal};
+use crate::mapped::Mapped;
+use crate::refusal::{checked, Refusal, Refused};
 use crate::values::Entry;
 use std::fmt;
+use std::mem;
 use std::ops::Deref;
+use std::ptr;
+use std::rc::Rc;
 
 /// A passive reference, of psref(9): its entry keeps its slot, and what it carries, until the reference is dropped. It outlives the section,
 /// and its holder may sleep; but it borrows its CPU, so neither can leave the thread. It derefs to what the entry carries.
 ///
 /// One that is forgotten stays held: its entry is never freed, and what it carries never dropped.
 ///
+/// All its functions are called by the type's name, so that none hides a method of `T`.
+///
 /// ```
-/// use registry::{Kind, Name, Registry, Settings};
+/// use registry::{Kind, Name, PassiveRef, Registry, Settings};
 ///
 /// let (registry, cpus) = Registry::open(Settings::new(1, 1)).unwrap();
 /// let wm = Name::parse("wm").unwrap();
 /// registry.attach(&cpus[0], &wm, 7).unwrap();
-/// let reference = cpus[0].enter().unwrap().find(Kind::Driver, &wm).unwrap().acquire().unwrap();
+/// let reference = cpus[0].get(Kind::Driver, &wm).unwrap();
 /// registry.retire(&cpus[0], Kind::Driver, &wm).unwrap();
 /// assert_eq!((*reference, registry.collect().len()), (7, 0));
-/// reference.release();
+/// PassiveRef::release(reference);
 /// assert_eq!(registry.collect().len(), 1);
 /// ```
 #[must_use = "a reference that is dropped at once holds nothing"]
 pub struct PassiveRef<'cpu, T> {
     cpu: &'cpu Cpu<T>,
-    entry: Entry,
-    carried: Carried<T>,
+    record: Record<T>,
+}
+
+/// Acquires one more on a CPU that has one: `psref_copy`.
+#[inline]
+fn copy<T>(cpu: &Cpu<T>, record: &Record<T>) -> Result<(), Refusal> {
+    // SAFETY: this thread alone has the CPU, whose handle isn't empty.
+    checked(unsafe { ffi::registry_copy(cpu.handle(), record.number()) })
+}
+
+/// Releases one.
+#[inline]
+fn release<T>(cpu: &Cpu<T>, record: &Record<T>) {
+    // SAFETY: as for `copy`. One release for the one acquire that made the reference.
+    let answer = unsafe { ffi::registry_release(cpu.handle(), record.number()) };
+    debug_assert_eq!(answer, ffi::DONE, "the CPU has the reference");
 }
 
 impl<'cpu, T> PassiveRef<'cpu, T> {
     #[inline]
-    pub(crate) fn new(cpu: &'cpu Cpu<T>, entry: Entry, carried: Carried<T>) -> PassiveRef<'cpu, T> {
-        PassiveRef { cpu, entry, carried }
+    pub(crate) fn new(cpu: &'cpu Cpu<T>, record: Record<T>) -> PassiveRef<'cpu, T> {
+        PassiveRef { cpu, record }
     }
 
     /// Its entry, as it was attached.
     #[inline]
-    pub fn entry(&self) -> Entry {
-        self.entry
+    pub fn entry(reference: &Self) -> Entry {
+        reference.record.entry()
     }
 
     /// Its CPU.
-    pub fn cpu(&self) -> &'cpu Cpu<T> {
-        self.cpu
+    #[inline]
+    pub fn cpu(reference: &Self) -> &'cpu Cpu<T> {
+        reference.cpu
     }
 
     /// Acquires one more, to the same entry: `psref_copy`.
@@ -55,15 +76,38 @@ impl<'cpu, T> PassiveRef<'cpu, T> {
     ///
     /// `PassiveFull`.
     #[inline]
-    pub fn try_clone(&self) -> Result<PassiveRef<'cpu, T>, Refusal> {
-        // SAFETY: this thread alone has the CPU, whose handle isn't empty.
-        checked(unsafe { ffi::registry_copy(self.cpu.handle(), self.entry.number) })?;
-        Ok(PassiveRef::new(self.cpu, self.entry, self.carried))
+    pub fn try_clone(reference: &Self) -> Result<PassiveRef<'cpu, T>, Refusal> {
+        copy(reference.cpu, &reference.record)?;
+        Ok(PassiveRef::new(reference.cpu, reference.record))
+    }
+
+    /// The same reference, which owns a share of its CPU in place of the borrow: a struct may own both.
+    ///
+    /// # Errors
+    ///
+    /// `WrongCpu` where it is of another CPU than this; the reference comes back.
+    pub fn into_rc(reference: Self, cpu: &Rc<Cpu<T>>) -> Result<PassiveRc<T>, Refused<Self>> {
+        if !ptr::eq(reference.cpu, &**cpu) {
+            let refusal = Refusal::WrongCpu;
+            return Err(Refused { refusal, given: reference });
+        }
+        let record = reference.record;
+        // The new one releases it.
+        mem::forget(reference);
+        Ok(PassiveRc::new(Rc::clone(cpu), record))
+    }
+
+    /// The reference to a part of what the entry carries.
+    #[inline]
+    pub fn map<U: ?Sized>(reference: Self, part: impl FnOnce(&T) -> &U) -> Mapped<Self, U> {
+        Mapped::new(reference, part)
     }
 
     /// Releases it, as dropping it does.
     #[inline]
-    pub fn release(self) {}
+    pub fn release(reference: Self) {
+        drop(reference);
+    }
 }
 
 impl<T> Deref for PassiveRef<'_, T> {
@@ -72,23 +116,105 @@ impl<T> Deref for PassiveRef<'_, T> {
     #[inline]
     fn deref(&self) -> &T {
         // SAFETY: registry.h says of a passive reference that the entry keeps its slot until it is released, which this one's drop does.
-        unsafe { self.carried.get() }
+        unsafe { self.record.value() }
     }
 }
 
 impl<T> Drop for PassiveRef<'_, T> {
     #[inline]
     fn drop(&mut self) {
-        // SAFETY: as for `try_clone`. One release for the one acquire that made it.
-        unsafe { ffi::registry_release(self.cpu.handle(), self.entry.number) };
+        release(self.cpu, &self.record);
     }
 }
 
-impl<T> fmt::Debug for PassiveRef<'_, T> {
+impl<T: fmt::Debug> fmt::Debug for PassiveRef<'_, T> {
     fn fmt(&self, f: &mut fmt::Formatter<'_>) -> fmt::Result {
         f.debug_struct("PassiveRef")
             .field("cpu", &self.cpu.id())
-            .field("entry", &self.entry)
-            .finish_non_exhaustive()
+            .field("entry", &self.record)
+            .field("value", &**self)
+            .finish()
+    }
+}
+
+/// A [`PassiveRef`] that owns a share of its CPU in place of a borrow: [`Cpu::get_rc`]. The CPU, which is in an [`Rc`], goes as the last share
+/// does; all stay on one thread.
+///
+/// ```compile_fail,E0277
+/// fn sent<S: Send>() {}
+/// sent::<registry::PassiveRc<u64>>();
+/// ```
+#[must_use = "a reference that is dropped at once holds nothing"]
+pub struct PassiveRc<T> {
+    cpu: Rc<Cpu<T>>,
+    record: Record<T>,
+}
+
+impl<T> PassiveRc<T> {
+    #[inline]
+    pub(crate) fn new(cpu: Rc<Cpu<T>>, record: Record<T>) -> PassiveRc<T> {
+        PassiveRc { cpu, record }
+    }
+
+    /// Its entry, as it was attached.
+    #[inline]
+    pub fn entry(reference: &Self) -> Entry {
+        reference.record.entry()
+    }
+
+    /// Its CPU.
+    #[inline]
+    pub fn cpu(reference: &Self) -> &Rc<Cpu<T>> {
+        &reference.cpu
+    }
+
+    /// Acquires one more, to the same entry: `psref_copy`.
+    ///
+    /// # Errors
+    ///
+    /// `PassiveFull`.
+    #[inline]
+    pub fn try_clone(reference: &Self) -> Result<PassiveRc<T>, Refusal> {
+        copy(&reference.cpu, &reference.record)?;
+        Ok(PassiveRc::new(Rc::clone(&reference.cpu), reference.record))
+    }
+
+    /// The reference to a part of what the entry carries.
+    #[inline]
+    pub fn map<U: ?Sized>(reference: Self, part: impl FnOnce(&T) -> &U) -> Mapped<Self, U> {
+        Mapped::new(reference, part)
+    }
+
+    /// Releases it, as dropping it does.
+    #[inline]
+    pub fn release(reference: Self) {
+        drop(reference);
+    }
+}
+
+impl<T> Deref for PassiveRc<T> {
+    type Target = T;
+
+    #[inline]
+    fn deref(&self) -> &T {
+        // SAFETY: as for a `PassiveRef`.
+        unsafe { self.record.value() }
+    }
+}
+
+impl<T> Drop for PassiveRc<T> {
+    #[inline]
+    fn drop(&mut self) {
+        release(&self.cpu, &self.record);
+    }
+}
+
+impl<T: fmt::Debug> fmt::Debug for PassiveRc<T> {
+    fn fmt(&self, f: &mut fmt::Formatter<'_>) -> fmt::Result {
+        f.debug_struct("PassiveRc")
+            .field("cpu", &self.cpu.id())
+            .field("entry", &self.record)
+            .field("value", &**self)
+            .finish()
     }
 }

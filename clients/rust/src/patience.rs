@@ -3,7 +3,7 @@
 use std::thread;
 use std::time::{Duration, Instant};
 
-/// How long [`Registry::destroy`](crate::Registry::destroy) and [`Registry::perform`](crate::Registry::perform) wait. Each makes one turn at
+/// How long [`Retired::destroy`](crate::Retired::destroy) and [`Registry::perform`](crate::Registry::perform) wait. Each makes one turn at
 /// least. Between two turns it holds no lock, and gives the processor up: first for an instant, then asleep, for twice as long each time, up
 /// to a millisecond.
 ///
@@ -14,16 +14,16 @@ use std::time::{Duration, Instant};
 /// let (registry, cpus) = Registry::open(Settings::new(2, 4)).unwrap();
 /// let wm = Name::parse("wm").unwrap();
 /// registry.attach(&cpus[0], &wm, 7).unwrap();
-/// let mut section = cpus[1].enter().unwrap();
+/// let section = cpus[1].enter().unwrap();
 /// let found = section.find(Kind::Driver, &wm).unwrap();
-/// let gone = registry.detach(&cpus[0], Kind::Driver, &wm).unwrap();
-/// let refused = registry.destroy(&cpus[0], gone.number, Patience::at_most(Duration::from_millis(1)));
-/// assert_eq!(refused.unwrap_err(), Refusal::StillHeld(Holder::Grace(1)));
+/// let retired = registry.detach(&cpus[0], Kind::Driver, &wm).unwrap();
+/// let refused = retired.destroy(&cpus[0], Patience::at_most(Duration::from_millis(1))).unwrap_err();
+/// assert_eq!(refused.refusal, Refusal::StillHeld(Holder::Grace(1)));
 /// assert_eq!(*found, 7);
 /// section.exit();
-/// assert_eq!(registry.destroy(&cpus[0], gone.number, Patience::Forever).unwrap().value, 7);
+/// assert_eq!(refused.given.destroy(&cpus[0], Patience::Forever).unwrap().value, 7);
 /// ```
-#[derive(Clone, Copy, Debug, PartialEq, Eq)]
+#[derive(Clone, Copy, Debug, PartialEq, Eq, Hash)]
 pub enum Patience {
     /// For so many turns; 0 is 1.
     Turns(u32),
@@ -35,6 +35,7 @@ pub enum Patience {
 
 impl Patience {
     /// Until a turn that was made when so much time has passed, from now on.
+    #[must_use]
     pub fn at_most(time: Duration) -> Patience {
         match Instant::now().checked_add(time) {
             Some(deadline) => Patience::Until(deadline),

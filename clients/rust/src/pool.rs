@@ -23,7 +23,7 @@ use std::time::Instant;
 ///     for _ in 0..8 {
 ///         scope.spawn(|| {
 ///             let cpu = pool.lend();
-///             let mut section = cpu.enter().unwrap();
+///             let section = cpu.enter().unwrap();
 ///             assert_eq!(section.find(Kind::Driver, &wm).map(|found| *found), Some(7));
 ///         });
 ///     }
@@ -93,7 +93,8 @@ impl<T> CpuPool<T> {
         Some(waited.unwrap_or_else(PoisonError::into_inner).0)
     }
 
-    /// The CPUs, in any order; but for those whose loan was forgotten.
+    /// The CPUs, in any order, except for those whose loan was forgotten.
+    #[must_use]
     pub fn into_cpus(self) -> Vec<Cpu<T>> {
         self.idle.into_inner().unwrap_or_else(PoisonError::into_inner)
     }
@@ -122,6 +123,32 @@ pub struct Lent<'pool, T> {
     pool: &'pool CpuPool<T>,
     /// There until it is dropped.
     cpu: Option<Cpu<T>>,
+}
+
+impl<T> Lent<'_, T> {
+    /// Exits whatever is still open, as [`Cpu::leave`] does: what the CPU has found in sections whose guards were forgotten.
+    ///
+    /// ```
+    /// use registry::{CpuPool, Registry, Settings};
+    ///
+    /// let (_, cpus) = Registry::<()>::open(Settings::new(1, 1)).unwrap();
+    /// let pool = CpuPool::new(cpus).unwrap();
+    /// let mut cpu = pool.lend();
+    /// std::mem::forget(cpu.enter().unwrap());
+    /// cpu.leave();
+    /// assert!(!cpu.is_inside());
+    /// ```
+    pub fn leave(&mut self) {
+        if let Some(cpu) = &mut self.cpu {
+            cpu.leave();
+        }
+    }
+}
+
+impl<T> AsRef<Cpu<T>> for Lent<'_, T> {
+    fn as_ref(&self) -> &Cpu<T> {
+        self
+    }
 }
 
 impl<T> Deref for Lent<'_, T> {

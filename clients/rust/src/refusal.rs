@@ -15,7 +15,7 @@ use std::fmt;
 /// assert_eq!((refusal, refusal.number()), (Refusal::BadSettings, 2));
 /// println!("{refusal}");
 /// ```
-#[derive(Clone, Copy, Debug, PartialEq, Eq)]
+#[derive(Clone, Copy, Debug, PartialEq, Eq, Hash)]
 #[non_exhaustive]
 pub enum Refusal {
     /// Memory was refused.
@@ -28,7 +28,7 @@ pub enum Refusal {
     NoSlot,
     /// The history has no room for this attach and the detaches to come.
     HistoryFull,
-    /// No live entry has this kind and name.
+    /// No live entry has this kind and name; or one has, and isn't the entry that is meant.
     NotFound,
     /// The CPU is inside a section.
     Inside,
@@ -36,13 +36,13 @@ pub enum Refusal {
     SectionsSpent,
     /// The CPU has as many passive references to the entry as it may.
     PassiveFull,
+    /// The reference is of another CPU.
+    WrongCpu,
     /// The CPU's net count of local references to the entry is at its limit.
     LocalFull,
-    /// No retired entry has this number.
-    NotRetired,
-    /// The CPUs aren't all CPUs of the registry, in their order.
+    /// The CPUs aren't all CPUs of the registry, each once; or there is none.
     MissingCpu,
-    /// The last turn met this obstacle.
+    /// This holds the entry.
     StillHeld(Holder),
     /// This CPU wasn't seen out of its section.
     Waiting(u8),
@@ -50,14 +50,13 @@ pub enum Refusal {
     TooDeep,
     /// An interface needs a reference to a driver.
     NeedsDriver,
-    /// The CPU has looked up something else since it found this entry.
-    Superseded,
     /// A CPU or a reference is of another registry.
     OtherRegistry,
 }
 
 impl Refusal {
-    /// The number of the refusal in registry.h; 0 for `Superseded` and `OtherRegistry`, which are this crate's own.
+    /// The number of the refusal in registry.h; 0 for `OtherRegistry`, which is this crate's own.
+    #[must_use]
     pub fn number(&self) -> u32 {
         match self {
             Refusal::NoMemory => ffi::NO_MEMORY,
@@ -69,14 +68,14 @@ impl Refusal {
             Refusal::Inside => ffi::INSIDE,
             Refusal::SectionsSpent => ffi::SECTIONS_SPENT,
             Refusal::PassiveFull => ffi::PASSIVE_FULL,
+            Refusal::WrongCpu => ffi::WRONG_CPU,
             Refusal::LocalFull => ffi::LOCAL_FULL,
-            Refusal::NotRetired => ffi::NOT_RETIRED,
             Refusal::MissingCpu => ffi::MISSING_CPU,
             Refusal::StillHeld(_) => ffi::STILL_HELD,
             Refusal::Waiting(_) => ffi::WAITING,
             Refusal::TooDeep => ffi::TOO_DEEP,
             Refusal::NeedsDriver => ffi::NEEDS_DRIVER,
-            Refusal::Superseded | Refusal::OtherRegistry => 0,
+            Refusal::OtherRegistry => 0,
         }
     }
 }
@@ -105,7 +104,6 @@ pub(crate) fn refusal_of(answer: u32) -> Refusal {
         ffi::SECTIONS_SPENT => Refusal::SectionsSpent,
         ffi::PASSIVE_FULL => Refusal::PassiveFull,
         ffi::LOCAL_FULL => Refusal::LocalFull,
-        ffi::NOT_RETIRED => Refusal::NotRetired,
         ffi::MISSING_CPU => Refusal::MissingCpu,
         ffi::TOO_DEEP => Refusal::TooDeep,
         ffi::NEEDS_DRIVER => Refusal::NeedsDriver,
@@ -124,7 +122,7 @@ fn text(answer: u32) -> String {
 impl fmt::Display for Refusal {
     fn fmt(&self, f: &mut fmt::Formatter<'_>) -> fmt::Result {
         match self {
-            Refusal::Superseded => f.write_str("this CPU has looked up something else since"),
+            Refusal::WrongCpu => f.write_str("the reference is of another CPU"),
             Refusal::OtherRegistry => f.write_str("a CPU or a reference is of another registry"),
             Refusal::StillHeld(holder) => write!(f, "{}: {holder}", text(self.number())),
             Refusal::Waiting(cpu) => write!(f, "{}: cpu {cpu}", text(self.number())),
@@ -137,22 +135,40 @@ impl Error for Refusal {}
 
 /// Why a call was refused to which something was given away, and what was given, which comes back as it was.
 ///
-/// Where the refusal alone is wanted, `?` makes it one, and drops what was given.
+/// In a function that answers a [`Refusal`], `?` makes it one, and drops what was given. In one that answers a boxed error, or the like, that
+/// has to be `Send` and `'static`, [`Refused::into_refusal`] does before.
 ///
 /// ```
-/// use registry::{Refusal, Refused, Registry, Settings};
+/// use registry::{Cpu, Name, Refusal, Refused, Registry, Settings};
+/// use std::error::Error;
+/// use std::rc::Rc;
 ///
 /// let (registry, cpus) = Registry::open(Settings::new(1, 2)).unwrap();
 /// let wm = "wm".parse().unwrap();
-/// registry.attach(&cpus[0], &wm, String::from("one")).unwrap();
-/// let Refused { refusal, given } = registry.attach(&cpus[0], &wm, String::from("two")).unwrap_err();
-/// assert_eq!((refusal, given.as_str()), (Refusal::NameTaken, "two"));
+/// registry.attach(&cpus[0], &wm, Rc::new(1)).unwrap();
+/// let Refused { refusal, given } = registry.attach(&cpus[0], &wm, Rc::new(2)).unwrap_err();
+/// assert_eq!((refusal, *given), (Refusal::NameTaken, 2));
+///
+/// fn attach(registry: &Registry<Rc<u8>>, cpu: &Cpu<Rc<u8>>, name: &Name) -> Result<(), Box<dyn Error + Send + Sync>> {
+///     registry.attach(cpu, name, Rc::new(3)).map_err(Refused::into_refusal)?;
+///     Ok(())
+/// }
+/// assert!(attach(&registry, &cpus[0], &wm).unwrap_err().is::<Refusal>());
 /// ```
+#[derive(Clone, Copy, PartialEq, Eq, Hash)]
 pub struct Refused<G> {
     /// Why it was refused.
     pub refusal: Refusal,
     /// What was given.
     pub given: G,
+}
+
+impl<G> Refused<G> {
+    /// The refusal alone: what was given is dropped.
+    #[must_use]
+    pub fn into_refusal(self) -> Refusal {
+        self.refusal
+    }
 }
 
 impl<G> fmt::Debug for Refused<G> {

@@ -1,22 +1,27 @@
 //! The registry: its opening, and the calls behind the interlock.
 
-use crate::carried::Carried;
+use crate::basket::BY_CHANGE;
+use crate::carried::{Carried, Record};
 use crate::cpu::Cpu;
 use crate::ffi;
 use crate::local::LocalRef;
 use crate::patience::{Patience, Pauses};
 use crate::refusal::{checked, refusal_of, Refusal, Refused};
+use crate::retired::Retired;
+use crate::settings::Settings;
 use crate::shared::{Shared, NO_CPUS};
-use crate::values::{Advance, Balance, Entry, Freed, Kind, Name, Settings};
+use crate::values::{Balance, Entry, Freed, Kind};
+use crate::Name;
 use std::fmt;
+use std::hash::{Hash, Hasher};
 use std::sync::Arc;
 
 /// An open registry, each entry of which carries a `T` of the caller's. A clone is one more handle of the same registry; threads share them,
 /// and a `static` may have one.
 ///
-/// The registry is open as long as somebody has a handle of it: a `Registry`, a [`Cpu`] or a [`LocalRef`]. As the last one goes it is closed,
-/// and what its entries still carry is dropped; a handle that is forgotten keeps it open for ever, and so does one that an entry of the same
-/// registry carries.
+/// The registry is open as long as somebody has a handle of it: a `Registry`, a [`Cpu`], a [`LocalRef`] or a [`Retired`]. As the last one goes
+/// it is closed, and what its entries still carry is dropped; a handle that is forgotten keeps it open for ever, and so does one that an entry of
+/// the same registry carries.
 ///
 /// The keeper is behind a lock, the interlock, which is held for one turn at a time, and never while a `T` is dropped: that may call the
 /// registry again.
@@ -69,6 +74,20 @@ impl<T> Registry<T> {
         Some(Cpu::new(Arc::clone(&self.shared), id, handle))
     }
 
+    /// The lowest-numbered CPU that nobody has.
+    ///
+    /// ```
+    /// use registry::{Registry, Settings};
+    ///
+    /// let (registry, cpus) = Registry::<()>::open(Settings::new(2, 4)).unwrap();
+    /// assert!(registry.any_cpu().is_none());
+    /// drop(cpus);
+    /// assert_eq!(registry.any_cpu().map(|cpu| cpu.id()), Some(0));
+    /// ```
+    pub fn any_cpu(&self) -> Option<Cpu<T>> {
+        (0..self.settings().cpus).find_map(|id| self.cpu(id))
+    }
+
     /// The CPU is of this registry, else `OtherRegistry`.
     #[inline]
     fn check(&self, cpu: &Cpu<T>) -> Result<(), Refusal> {
@@ -79,12 +98,12 @@ impl<T> Registry<T> {
         }
     }
 
-    /// What comes before a change: the CPU releases what was dropped, and what is deferred and free is dropped. A CPU that is inside does
+    /// What comes before a change: the CPU releases some of what was dropped, and what is deferred and free is dropped. A CPU that is inside does
     /// neither, since the change will be refused.
     fn tidy(&self, cpu: &Cpu<T>) -> Result<(), Refusal> {
         self.check(cpu)?;
         if !cpu.is_inside() {
-            cpu.release_dropped();
+            cpu.release_some(BY_CHANGE);
             drop(self.collect());
         }
         Ok(())
@@ -117,7 +136,7 @@ impl<T> Registry<T> {
     /// let (registry, cpus) = Registry::open(Settings::new(1, 4)).unwrap();
     /// let (wm, wm0) = (Name::parse("wm").unwrap(), Name::parse("wm0").unwrap());
     /// registry.attach(&cpus[0], &wm, 7).unwrap();
-    /// let driver = cpus[0].enter().unwrap().find(Kind::Driver, &wm).unwrap().acquire_local().unwrap();
+    /// let driver = cpus[0].get_local(Kind::Driver, &wm).unwrap();
     /// let made = registry.attach_iface(&cpus[0], &wm0, driver, 1500).unwrap();
     /// assert_eq!((made.number, made.kind), (2, Kind::Iface));
     /// ```
@@ -155,8 +174,9 @@ impl<T> Registry<T> {
     {
         let carried = Carried::new(value);
         let mut kept = self.shared.kept();
-        match Entry::written(|made| call(&mut kept.keeper, carried.word(), made)) {
-            Ok((entry, _)) => {
+        match Record::<T>::written(|made| call(&mut kept.keeper, carried.word(), made)) {
+            Ok(record) => {
+                let entry = record.entry();
                 kept.note(entry, carried);
                 Ok(entry)
             }
@@ -170,48 +190,58 @@ impl<T> Registry<T> {
         }
     }
 
-    /// Detaches the live entry with this kind and name. Lookups that begin afterwards don't find it; it is retired, and has its slot and what
-    /// it carries until [`Registry::destroy`] or [`Registry::advance`] has freed it.
+    /// Detaches the live entry with this kind and name. Lookups that begin afterwards don't find it; it has its slot and what it carries until
+    /// the [`Retired`] that is answered has freed it, or later changes have.
+    ///
+    /// ```
+    /// use registry::{Kind, Name, Patience, Registry, Settings};
+    ///
+    /// let (registry, cpus) = Registry::open(Settings::new(1, 4)).unwrap();
+    /// let wm = Name::parse("wm").unwrap();
+    /// registry.attach(&cpus[0], &wm, 7).unwrap();
+    /// let retired = registry.detach(&cpus[0], Kind::Driver, &wm).unwrap();
+    /// assert_eq!(retired.destroy(&cpus[0], Patience::Forever).unwrap().value, 7);
+    /// ```
     ///
     /// # Errors
     ///
     /// `OtherRegistry`, `Inside`, `NotFound`.
-    pub fn detach(&self, cpu: &Cpu<T>, kind: Kind, name: &Name) -> Result<Entry, Refusal> {
-        self.detach_then(cpu, kind, name, false)
+    pub fn detach(&self, cpu: &Cpu<T>, kind: Kind, name: &Name) -> Result<Retired<T>, Refusal> {
+        self.tidy(cpu)?;
+        let mut kept = self.shared.kept();
+        let keeper = &mut kept.keeper;
+        // SAFETY: as for `attach`.
+        let gone = Record::<T>::written(|gone| unsafe { ffi::registry_detach(keeper, cpu.handle(), kind.number(), &name.words, gone) });
+        let entry = gone.map_err(refusal_of)?.entry();
+        drop(kept);
+        Ok(Retired::new(Arc::clone(&self.shared), entry))
     }
 
-    /// Detaches the live entry with this kind and name, and leaves the rest to later changes: each of them, and [`Registry::collect`], frees
-    /// what nobody holds any more, the oldest first, and drops what it carried.
+    /// Detaches the live entry with this kind and name, and [defers](Retired::defer) it: later changes, and [`Registry::collect`], free it.
     ///
     /// # Errors
     ///
     /// `OtherRegistry`, `Inside`, `NotFound`.
     pub fn retire(&self, cpu: &Cpu<T>, kind: Kind, name: &Name) -> Result<Entry, Refusal> {
-        self.detach_then(cpu, kind, name, true)
-    }
-
-    fn detach_then(&self, cpu: &Cpu<T>, kind: Kind, name: &Name, deferred: bool) -> Result<Entry, Refusal> {
-        self.tidy(cpu)?;
-        let mut kept = self.shared.kept();
-        // SAFETY: as for `attach`.
-        let gone = Entry::written(|gone| unsafe { ffi::registry_detach(&mut kept.keeper, cpu.handle(), kind.number(), &name.words, gone) });
-        let (entry, _) = gone.map_err(refusal_of)?;
-        if deferred {
-            self.shared.defer(&mut kept, entry.number);
-        }
-        Ok(entry)
+        let retired = self.detach(cpu, kind, name)?;
+        Ok(retired.entry())
     }
 }
 
-/// The work on retired entries.
+/// The work on retired entries, and the counts.
 impl<T> Registry<T> {
-    /// How many entries that [`Registry::retire`] has detached wait to be freed.
+    /// How many entries that were [retired](Registry::retire) or [deferred](Retired::defer) wait to be freed.
     pub fn retired(&self) -> usize {
         self.shared.deferred()
     }
 
+    /// How many local references were [dropped without a CPU](LocalRef#dropped-without-a-cpu) and aren't released yet.
+    pub fn dropped(&self) -> usize {
+        self.shared.baskets().total()
+    }
+
     /// Frees what was [retired](Registry::retire) and nobody holds any more, the oldest first, and answers what was freed. It makes one turn
-    /// for each that waits, and waits for nobody but for the interlock.
+    /// for each that waits, and waits for nobody except for the interlock.
     ///
     /// ```
     /// use registry::{Kind, Name, Registry, Settings};
@@ -229,46 +259,10 @@ impl<T> Registry<T> {
         self.shared.collect()
     }
 
-    /// One turn of the work on the retired entry with this number: what holds it first, or that its slot is vacant from now on, and what it
-    /// carried. It waits for nobody but for the interlock.
-    ///
-    /// # Errors
-    ///
-    /// `NotRetired`.
-    pub fn advance(&self, number: u64) -> Result<Advance<T>, Refusal> {
-        // SAFETY: no CPU is given.
-        unsafe { self.shared.turn(None, number) }
-    }
-
-    /// Makes turns until the retired entry is freed: `psref_target_destroy`, `localcount_drain`. Nobody holds it then, now or later, and what
-    /// it carried comes back. After each turn the CPU has seen every change so far.
-    ///
-    /// # Errors
-    ///
-    /// `OtherRegistry`, `Inside`, `NotRetired`, and `StillHeld` with what the last turn met; the entry may be destroyed later then.
-    pub fn destroy(&self, cpu: &Cpu<T>, number: u64, patience: Patience) -> Result<Freed<T>, Refusal> {
-        self.check(cpu)?;
-        let mut pauses = Pauses::new(patience);
-        loop {
-            let holder = match self.destroy_turn(cpu, number)? {
-                Advance::Freed(freed) => return Ok(freed),
-                Advance::Held(holder) => holder,
-            };
-            if !pauses.another() {
-                return Err(Refusal::StillHeld(holder));
-            }
-        }
-    }
-
-    /// One turn of destroying, after what was dropped is released.
-    fn destroy_turn(&self, cpu: &Cpu<T>, number: u64) -> Result<Advance<T>, Refusal> {
-        cpu.release_dropped();
-        // SAFETY: the CPU is this thread's and of this registry, and its handle isn't empty.
-        unsafe { self.shared.turn(Some(cpu.handle()), number) }
-    }
-
     /// Waits until each section that is open now has ended: `pserialize_perform`. In each turn the keeper first hears what the CPU has seen,
     /// and after it the CPU has seen every change so far.
+    ///
+    /// Where this thread has a section open on another CPU, nobody ends that while it waits: with [`Patience::Forever`] it waits for ever.
     ///
     /// ```
     /// use registry::{Patience, Refusal, Registry, Settings};
@@ -282,13 +276,13 @@ impl<T> Registry<T> {
     ///
     /// # Errors
     ///
-    /// `OtherRegistry`, `Inside`, and `Waiting` with the least CPU that wasn't seen out of its section.
+    /// `OtherRegistry`, `Inside`, and `Waiting` with the lowest-numbered CPU that wasn't seen out of its section.
     pub fn perform(&self, cpu: &Cpu<T>, patience: Patience) -> Result<(), Refusal> {
         self.check(cpu)?;
-        cpu.release_dropped();
         let mut wait = ffi::Wait::EMPTY;
         // SAFETY: as for `attach`.
         checked(unsafe { ffi::registry_perform_begin(&mut self.shared.kept().keeper, cpu.handle(), &mut wait) })?;
+        cpu.release_some(BY_CHANGE);
         let mut pauses = Pauses::new(patience);
         loop {
             let ended = self.perform_turn(cpu, &mut wait);
@@ -309,37 +303,44 @@ impl<T> Registry<T> {
         }
     }
 
-    /// What the counts say of each live or retired entry, the least slot first. It wants all CPUs, in their order. Local references that
-    /// were dropped are released first.
+    /// What the counts say of each live or retired entry, the least slot first. It needs all CPUs, in any order: a `Cpu`, a [`Lent`](crate::Lent)
+    /// or a reference to either of each. All local references that were dropped are released first.
     ///
     /// ```
-    /// use registry::{Name, Registry, Settings};
+    /// use registry::{CpuPool, Name, Registry, Settings};
     ///
     /// let (registry, cpus) = Registry::open(Settings::new(2, 4)).unwrap();
     /// registry.attach(&cpus[0], &Name::parse("wm").unwrap(), 7).unwrap();
     /// let balances = registry.audit(&cpus).unwrap();
     /// assert_eq!((balances.len(), balances[0].held), (1, 0));
+    /// let pool = CpuPool::new(cpus).unwrap();
+    /// assert_eq!(registry.audit([pool.lend(), pool.lend()]), Ok(balances));
     /// ```
     ///
     /// # Errors
     ///
-    /// `OtherRegistry` of any of them, `MissingCpu`.
-    pub fn audit(&self, cpus: &[Cpu<T>]) -> Result<Vec<Balance>, Refusal> {
+    /// `OtherRegistry` of any of them; `MissingCpu` where they aren't all CPUs of the registry, each once.
+    pub fn audit<C>(&self, cpus: C) -> Result<Vec<Balance>, Refusal>
+    where
+        C: IntoIterator,
+        C::Item: AsRef<Cpu<T>>,
+    {
+        let given: Vec<C::Item> = cpus.into_iter().collect();
+        let mut cpus: Vec<&Cpu<T>> = given.iter().map(C::Item::as_ref).collect();
         cpus.iter().try_for_each(|cpu| self.check(cpu))?;
-        if cpus.len() > ffi::MOST_CPUS {
+        cpus.sort_by_key(|cpu| cpu.id());
+        if !cpus.iter().map(|cpu| cpu.id()).eq(0..self.settings().cpus) {
             return Err(Refusal::MissingCpu);
         }
-        if let Some(cpu) = cpus.first() {
-            cpu.release_dropped();
-        }
+        cpus[0].release_dropped();
         let mut list = [ffi::Balance::default(); ffi::MOST_SLOTS];
-        let length = self.audit_into(cpus, &mut list)?;
+        let length = self.audit_into(&cpus, &mut list)?;
         let count = self.settings().cpus;
         Ok(list[..length].iter().map(|balance| Balance::of(balance, count)).collect())
     }
 
-    /// Writes the balances, and answers how many. The CPUs are of this registry, and at most 8.
-    fn audit_into(&self, cpus: &[Cpu<T>], list: &mut [ffi::Balance]) -> Result<usize, Refusal> {
+    /// Writes the balances, and answers how many. The CPUs are all of this registry's, in their order.
+    fn audit_into(&self, cpus: &[&Cpu<T>], list: &mut [ffi::Balance]) -> Result<usize, Refusal> {
         let mut kept = self.shared.kept();
         let mut length = 0;
         let mut handles = NO_CPUS;
@@ -371,6 +372,12 @@ impl<T> PartialEq for Registry<T> {
 }
 
 impl<T> Eq for Registry<T> {}
+
+impl<T> Hash for Registry<T> {
+    fn hash<H: Hasher>(&self, state: &mut H) {
+        Arc::as_ptr(&self.shared).hash(state);
+    }
+}
 
 impl<T> fmt::Debug for Registry<T> {
     fn fmt(&self, f: &mut fmt::Formatter<'_>) -> fmt::Result {

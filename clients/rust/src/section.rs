@@ -1,13 +1,14 @@
 //! Sections on a CPU, and what is found in them.
 
-use crate::carried::Carried;
+use crate::carried::Record;
 use crate::cpu::Cpu;
 use crate::entries::Entries;
 use crate::ffi;
 use crate::local::LocalRef;
 use crate::passive::PassiveRef;
 use crate::refusal::{checked, Refusal};
-use crate::values::{Entry, Kind, Name};
+use crate::values::{Entry, Kind};
+use crate::Name;
 use std::fmt;
 use std::marker::PhantomData;
 use std::ops::Deref;
@@ -19,11 +20,15 @@ use std::ops::Deref;
 /// ```
 /// use registry::{Kind, Name, Registry, Settings};
 ///
-/// let (registry, cpus) = Registry::open(Settings::new(1, 1)).unwrap();
-/// let wm = Name::parse("wm").unwrap();
-/// registry.attach(&cpus[0], &wm, "a driver").unwrap();
-/// let mut section = cpus[0].enter().unwrap();
-/// assert_eq!(section.find(Kind::Driver, &wm).map(|found| found.len()), Some(8));
+/// let (registry, cpus) = Registry::open(Settings::new(1, 2)).unwrap();
+/// let (wm, bge) = (Name::parse("wm").unwrap(), Name::parse("bge").unwrap());
+/// registry.attach(&cpus[0], &wm, "gigabit").unwrap();
+/// registry.attach(&cpus[0], &bge, "fast").unwrap();
+/// let section = cpus[0].enter().unwrap();
+/// let both = (section.find(Kind::Driver, &wm).unwrap(), section.find(Kind::Driver, &bge).unwrap());
+/// assert_eq!((*both.0, *both.1), ("gigabit", "fast"));
+/// let either = section.find(Kind::Iface, &wm).or_else(|| section.find(Kind::Driver, &wm));
+/// assert_eq!(either.map(|found| found.len()), Some(7));
 /// section.exit();
 /// ```
 #[must_use = "a section that is dropped at once protects nothing"]
@@ -39,10 +44,10 @@ impl<'cpu, T> Section<'cpu, T> {
 
     /// Looks a live entry up. It takes no lock, waits for nobody, and writes no word that others write.
     ///
-    /// What was found can't be used past the section, nor past the next lookup in it, so that a reference is to the entry that was meant.
+    /// What was found can't be used past the section. Any number of entries may be in use at once.
     #[inline]
-    pub fn find(&mut self, kind: Kind, name: &Name) -> Option<Found<'_, 'cpu, T>> {
-        look_up(self.cpu, kind, name)
+    pub fn find(&self, kind: Kind, name: &Name) -> Option<Found<'_, 'cpu, T>> {
+        look_up(self.cpu, kind.number(), &name.words)
     }
 
     /// All live entries, the newest first. It takes no lock, waits for nobody, writes no word that others write, and takes no memory of the
@@ -52,20 +57,21 @@ impl<'cpu, T> Section<'cpu, T> {
     /// or not. What was met can't be used past the section.
     ///
     /// ```
-    /// use registry::{Name, Registry, Settings};
+    /// use registry::{Found, Name, Registry, Settings};
     ///
     /// let (registry, cpus) = Registry::open(Settings::new(1, 3)).unwrap();
     /// for (text, speed) in [("wm", 1000), ("bge", 100), ("ixl", 40_000)] {
     ///     registry.attach(&cpus[0], &Name::parse(text).unwrap(), speed).unwrap();
     /// }
-    /// let mut section = cpus[0].enter().unwrap();
-    /// let names: Vec<String> = section.entries().map(|listed| listed.entry().name.to_string()).collect();
+    /// let section = cpus[0].enter().unwrap();
+    /// let names: Vec<String> = section.entries().map(|found| Found::entry(&found).name.to_string()).collect();
     /// assert_eq!(names, ["ixl", "bge", "wm"]);
-    /// let fast = section.entries().find(|listed| **listed > 10_000).unwrap().acquire().unwrap();
+    /// let fast = section.entries().find(|found| **found > 10_000).unwrap();
+    /// let fast = Found::acquire(&fast).unwrap();
     /// section.exit();
     /// assert_eq!(*fast, 40_000);
     /// ```
-    pub fn entries(&mut self) -> Entries<'_, 'cpu, T> {
+    pub fn entries(&self) -> Entries<'_, 'cpu, T> {
         Entries::walk(self.cpu)
     }
 
@@ -81,13 +87,12 @@ impl<'cpu, T> Section<'cpu, T> {
 
 /// Looks a live entry up on the CPU, which is inside a section for as long as the answer lives. The answer is its last found entry.
 #[inline]
-pub(crate) fn look_up<'section, 'cpu, T>(cpu: &'cpu Cpu<T>, kind: Kind, name: &Name) -> Option<Found<'section, 'cpu, T>> {
+fn look_up<'section, 'cpu, T>(cpu: &'cpu Cpu<T>, kind: u64, name: &ffi::Name) -> Option<Found<'section, 'cpu, T>> {
     // SAFETY: this thread alone has the CPU, whose handle isn't empty.
-    let found = Entry::written(|found| unsafe { ffi::registry_find(cpu.handle(), kind.number(), &name.words, found) });
-    match found {
-        Ok((entry, word)) => {
-            cpu.last.set(entry.number);
-            Some(Found::new(cpu, entry, Carried::of_word(word)))
+    match Record::written(|found| unsafe { ffi::registry_find(cpu.handle(), kind, name, found) }) {
+        Ok(record) => {
+            cpu.last.set(record.number());
+            Some(Found::new(cpu, record))
         }
         Err(answer) => {
             assert_eq!(answer, ffi::NOT_FOUND, "a lookup in a section");
@@ -111,39 +116,37 @@ impl<T> fmt::Debug for Section<'_, T> {
     }
 }
 
-/// An entry that was found in a section, for as long as the section is open. It derefs to what the entry carries. Whoever needs it longer
-/// acquires a reference.
+/// An entry that was found in a section, by a lookup or a walk, for as long as the section is open. It derefs to what the entry carries. Whoever
+/// needs it longer acquires a reference.
 ///
-/// A method of `T` with a name that this type has too is called by `(*found)`.
+/// All its functions are called by the type's name, so that none hides a method of `T`.
 ///
 /// ```
-/// use registry::{Kind, Name, Registry, Settings};
+/// use registry::{Found, Kind, Name, Registry, Settings};
 ///
 /// let (registry, cpus) = Registry::open(Settings::new(1, 1)).unwrap();
 /// let wm = Name::parse("wm").unwrap();
 /// let made = registry.attach(&cpus[0], &wm, vec![1500, 9000]).unwrap();
-/// let mut section = cpus[0].enter().unwrap();
+/// let section = cpus[0].enter().unwrap();
 /// let found = section.find(Kind::Driver, &wm).unwrap();
-/// assert_eq!((found.entry(), found[1]), (made, 9000));
-/// let passive = found.acquire().unwrap();
-/// let local = found.acquire_local().unwrap();
+/// assert_eq!((Found::entry(&found), found[1]), (made, 9000));
+/// let passive = Found::acquire(&found).unwrap();
+/// let local = Found::acquire_local(&found).unwrap();
 /// section.exit();
 /// assert_eq!(passive.len() + local.len(), 4);
 /// ```
 pub struct Found<'section, 'cpu, T> {
-    entry: Entry,
-    carried: Carried<T>,
+    record: Record<T>,
     cpu: &'cpu Cpu<T>,
-    section: PhantomData<&'section mut ()>,
+    section: PhantomData<&'section Section<'cpu, T>>,
 }
 
-impl<'cpu, T> Found<'_, 'cpu, T> {
+impl<'section, 'cpu, T> Found<'section, 'cpu, T> {
     /// The CPU is inside a section for as long as it lives, in which it found the entry.
     #[inline]
-    pub(crate) fn new(cpu: &'cpu Cpu<T>, entry: Entry, carried: Carried<T>) -> Self {
+    pub(crate) fn new(cpu: &'cpu Cpu<T>, record: Record<T>) -> Self {
         Found {
-            entry,
-            carried,
+            record,
             cpu,
             section: PhantomData,
         }
@@ -151,50 +154,120 @@ impl<'cpu, T> Found<'_, 'cpu, T> {
 
     /// The entry, as it was attached.
     #[inline]
-    pub fn entry(&self) -> Entry {
-        self.entry
+    pub fn entry(found: &Self) -> Entry {
+        found.record.entry()
+    }
+
+    /// What the entry carries, for as long as the section is borrowed: it may outlive the `Found`.
+    #[inline]
+    pub fn value(found: &Self) -> &'section T {
+        // SAFETY: registry.h says of a find and of a walk that the entry keeps its slot until the section ends, and this borrows the section.
+        // The section's guard is there, so the outermost exit is still to come.
+        unsafe { found.record.value() }
     }
 
     /// Acquires a passive reference: the entry keeps its slot until it is released, and it can't leave the CPU. `psref_acquire`.
     ///
+    /// Where this CPU has looked up something else since it found the entry, it is looked up once more, unless the CPU has a reference to it.
+    ///
     /// # Errors
     ///
-    /// `Superseded` where this CPU has looked up something else since, which only a section within this one can, or a [`Cpu::get`],
-    /// [`Cpu::read`] or [`Cpu::look_up`]; `PassiveFull`.
+    /// `NotFound` where this CPU has looked up something else since and the entry was detached; `PassiveFull`.
     #[inline]
-    pub fn acquire(&self) -> Result<PassiveRef<'cpu, T>, Refusal> {
-        self.check_last()?;
-        let mut number = 0;
-        // SAFETY: this thread alone has the CPU, whose handle isn't empty.
-        checked(unsafe { ffi::registry_acquire(self.cpu.handle(), &mut number) })?;
-        Ok(PassiveRef::new(self.cpu, self.entry, self.carried))
+    pub fn acquire(found: &Self) -> Result<PassiveRef<'cpu, T>, Refusal> {
+        if found.is_last() {
+            let mut number = 0;
+            // SAFETY: this thread alone has the CPU, whose handle isn't empty.
+            checked(unsafe { ffi::registry_acquire(found.cpu.handle(), &mut number) })?;
+            debug_assert_eq!(number, found.record.number(), "the last found entry");
+        } else {
+            acquire_again(found.cpu, found.record)?;
+        }
+        Ok(PassiveRef::new(found.cpu, found.record))
     }
 
     /// Acquires a local reference: the entry keeps its slot until it is released, on any CPU of the registry. `localcount_acquire`. It takes
-    /// no lock.
+    /// no lock, unless references that were dropped are released by it.
+    ///
+    /// Where this CPU has looked up something else since it found the entry, it is looked up once more.
     ///
     /// # Errors
     ///
-    /// `Superseded` as of [`Found::acquire`]; `LocalFull`, `NoMemory`. A reference that was dropped counts until a call releases it:
-    /// [`Cpu::release_dropped`].
-    #[inline]
-    pub fn acquire_local(&self) -> Result<LocalRef<T>, Refusal> {
-        self.check_last()?;
+    /// `NotFound` where this CPU has looked up something else since and the entry was detached; `LocalFull`, `NoMemory`.
+    // Inlined, the reference is never moved as a whole.
+    #[inline(always)]
+    pub fn acquire_local(found: &Self) -> Result<LocalRef<T>, Refusal> {
+        if !found.is_last() {
+            find_again(found.cpu, found.record)?;
+        }
+        found.cpu.before_acquire();
         let mut local = ffi::Local::EMPTY;
         // SAFETY: as for `acquire`, and the local handle is empty.
-        checked(unsafe { ffi::registry_local_acquire(self.cpu.handle(), &mut local) })?;
-        Ok(LocalRef::new(self.cpu.share(), self.entry, self.carried, local))
+        let answer = unsafe { ffi::registry_local_acquire(found.cpu.handle(), &mut local) };
+        if answer != ffi::DONE {
+            local = make_room(found.cpu, found.record, answer)?;
+        }
+        debug_assert_eq!(number_of(&mut local), found.record.number(), "the last found entry");
+        Ok(LocalRef::new(found.cpu.share(), found.record, local))
     }
 
     /// The CPU's last found entry is this one.
     #[inline]
-    fn check_last(&self) -> Result<(), Refusal> {
-        if self.cpu.last.get() == self.entry.number {
-            Ok(())
-        } else {
-            Err(Refusal::Superseded)
-        }
+    fn is_last(&self) -> bool {
+        self.cpu.last.get() == self.record.number()
     }
+}
+
+// What follows is seldom done. It takes its record by value, so that the record of a `Found` needn't lie in memory.
+
+/// Acquires a passive reference where the CPU has looked up something else since: one more by the number if the CPU has any.
+#[cold]
+fn acquire_again<T>(cpu: &Cpu<T>, record: Record<T>) -> Result<(), Refusal> {
+    // SAFETY: this thread alone has the CPU, whose handle isn't empty.
+    match unsafe { ffi::registry_copy(cpu.handle(), record.number()) } {
+        ffi::NOT_HELD => {
+            find_again(cpu, record)?;
+            let mut number = 0;
+            // SAFETY: as above.
+            checked(unsafe { ffi::registry_acquire(cpu.handle(), &mut number) })?;
+            debug_assert_eq!(number, record.number(), "the last found entry");
+            Ok(())
+        }
+        answer => checked(answer),
+    }
+}
+
+/// Makes the entry the last one that the CPU found, by its kind and name, or is refused `NotFound`.
+#[cold]
+fn find_again<T>(cpu: &Cpu<T>, record: Record<T>) -> Result<(), Refusal> {
+    let (kind, name) = record.key();
+    let again = look_up(cpu, kind, name).map(|found: Found<'_, '_, T>| found.record.number());
+    if again == Some(record.number()) {
+        Ok(())
+    } else {
+        Err(Refusal::NotFound)
+    }
+}
+
+/// Acquires a local reference where that was refused: a full count is lowered by references to the entry that were dropped.
+#[cold]
+fn make_room<T>(cpu: &Cpu<T>, record: Record<T>, refused: u32) -> Result<ffi::Local, Refusal> {
+    let mut local = ffi::Local::EMPTY;
+    let mut answer = refused;
+    while answer == ffi::LOCAL_FULL && cpu.release_one_to(record.slot()) {
+        // SAFETY: this thread alone has the CPU, whose handle isn't empty, and the local handle is empty.
+        answer = unsafe { ffi::registry_local_acquire(cpu.handle(), &mut local) };
+    }
+    checked(answer)?;
+    Ok(local)
+}
+
+/// The number of the entry that a reference is to, as the archive says.
+fn number_of(local: &mut ffi::Local) -> u64 {
+    let mut entry = ffi::Entry::default();
+    // SAFETY: this is the only use of the reference's handle.
+    unsafe { ffi::registry_local_read(local, &mut entry) };
+    entry.number
 }
 
 impl<T> Deref for Found<'_, '_, T> {
@@ -202,14 +275,15 @@ impl<T> Deref for Found<'_, '_, T> {
 
     #[inline]
     fn deref(&self) -> &T {
-        // SAFETY: registry.h says of a find that the entry keeps its slot until the section ends, and this borrows the section. The section's
-        // guard is there, so the outermost exit is still to come.
-        unsafe { self.carried.get() }
+        Found::value(self)
     }
 }
 
-impl<T> fmt::Debug for Found<'_, '_, T> {
+impl<T: fmt::Debug> fmt::Debug for Found<'_, '_, T> {
     fn fmt(&self, f: &mut fmt::Formatter<'_>) -> fmt::Result {
-        f.debug_struct("Found").field("entry", &self.entry).finish_non_exhaustive()
+        f.debug_struct("Found")
+            .field("entry", &self.record)
+            .field("value", &**self)
+            .finish()
     }
 }

@@ -1,12 +1,13 @@
 //! What the handles of a registry share: what the interlock guards, the CPUs that nobody has, and the local references that were dropped.
 //!
-//! Locks are taken in the order interlock, basket; no code of a caller runs under one, so no `Drop` of a `T` does.
+//! Locks are taken in the order spare, interlock, basket; no code of a caller runs under one, so no `Drop` of a `T` does.
 
+use crate::basket::{Baskets, BY_CHANGE, BY_RELEASE, BY_TURN};
 use crate::carried::Carried;
 use crate::ffi;
 use crate::refusal::{checked, Refusal};
-use crate::values::{Advance, Entry, Freed, Holder, Met, Settings};
-use std::collections::VecDeque;
+use crate::settings::Settings;
+use crate::values::{Entry, Freed, Holder, Met};
 use std::mem;
 use std::sync::atomic::{AtomicUsize, Ordering};
 use std::sync::{Arc, Mutex, MutexGuard, PoisonError};
@@ -19,17 +20,8 @@ pub struct Kept<T> {
     pub keeper: ffi::Keeper,
     /// Each live or retired entry, and what it carries. Its row goes as its slot is freed.
     rows: Vec<(Entry, Carried<T>)>,
-    /// The numbers of the entries that are to be freed as soon as nobody holds them, the oldest first.
-    deferred: Vec<u64>,
-}
-
-/// Local references that were dropped where no CPU was at hand, on cache lines of their own: each release looks whether there are any.
-#[repr(align(128))]
-struct Basket {
-    /// The oldest first. It keeps its room when it is emptied.
-    locals: Mutex<VecDeque<ffi::Local>>,
-    /// How many lie in it, or a little while ago: to look before locking.
-    count: AtomicUsize,
+    /// The entries that are to be freed as soon as nobody holds them, the oldest first.
+    deferred: Vec<Entry>,
 }
 
 /// One registry. Its handles own it together: it is closed as the last of them goes.
@@ -40,7 +32,7 @@ pub struct Shared<T> {
     deferred: AtomicUsize,
     /// The handle of each CPU that nobody has; the others are empty.
     spare: Mutex<[ffi::Cpu; ffi::MOST_CPUS]>,
-    basket: Basket,
+    baskets: Baskets,
     settings: Settings,
 }
 
@@ -49,6 +41,16 @@ pub struct Shared<T> {
 #[repr(align(128))]
 pub struct Lease<T> {
     pub shared: Arc<Shared<T>>,
+    /// The CPU.
+    pub id: u8,
+}
+
+/// What a turn of the work on a retired entry came to.
+pub enum Turned<T> {
+    /// This holds it first.
+    Held(Holder),
+    /// Nothing: its slot is vacant from now on.
+    Freed(Freed<T>),
 }
 
 /// A lock's value. Nothing panics under our locks, and if it did, what they guard would be whole.
@@ -62,21 +64,25 @@ impl<T> Kept<T> {
         self.rows.push((entry, carried));
     }
 
-    /// One turn of C on the retired entry with this number. With a CPU it is a turn of a destroy, which the CPU hears.
+    /// One turn of C on the retired entry with this number; none where no retired entry has it. With a CPU it is a turn of a destroy, which the
+    /// CPU hears.
     ///
     /// # Safety
     ///
     /// The handle, where there is one, is of a CPU of this registry, which this thread runs on, and not in use.
-    unsafe fn turn(&mut self, cpu: Option<*mut ffi::Cpu>, number: u64) -> Result<Met, Refusal> {
+    unsafe fn turn(&mut self, cpu: Option<*mut ffi::Cpu>, number: u64) -> Result<Option<Met>, Refusal> {
         let mut met = ffi::Stage::default();
         let answer = match cpu {
-            Some(cpu) => ffi::registry_destroy(&mut self.keeper, cpu, number, &mut met),
-            None => ffi::registry_advance(&mut self.keeper, number, &mut met),
+            // SAFETY: the keeper is locked, the caller sees to the CPU, both are of one registry, and their handles aren't empty.
+            Some(cpu) => unsafe { ffi::registry_destroy(&mut self.keeper, cpu, number, &mut met) },
+            // SAFETY: as above, without a CPU.
+            None => unsafe { ffi::registry_advance(&mut self.keeper, number, &mut met) },
         };
-        if answer != ffi::STILL_HELD {
-            checked(answer)?;
+        match answer {
+            ffi::NOT_RETIRED => Ok(None),
+            ffi::STILL_HELD => Ok(Some(Met::of(met))),
+            other => checked(other).map(|()| Some(Met::of(met))),
         }
-        Ok(Met::of(met))
     }
 
     /// Takes the row of an entry out.
@@ -87,11 +93,11 @@ impl<T> Kept<T> {
     unsafe fn take(&mut self, number: u64) -> Freed<T> {
         let place = self.rows.iter().position(|row| row.0.number == number);
         let (entry, carried) = self.rows.swap_remove(place.expect("a row of each entry that isn't freed"));
-        self.deferred.retain(|other| *other != number);
+        self.deferred.retain(|other| other.number != number);
         // SAFETY: registry.h says of FREED and of a destroy that is done: "no section may hold it, no passive and no local reference to it is
         // held, and no slot keeps it, on whatever CPU, now or later". Each reference of Rust to the value lives as long as one of these. The
         // number is never given again, and its row is gone, so this is the only time.
-        let value = carried.take();
+        let value = unsafe { carried.take() };
         Freed { entry, value }
     }
 }
@@ -113,10 +119,7 @@ impl<T> Shared<T> {
             }),
             deferred: AtomicUsize::new(0),
             spare: Mutex::new(cpus),
-            basket: Basket {
-                locals: Mutex::new(VecDeque::new()),
-                count: AtomicUsize::new(0),
-            },
+            baskets: Baskets::default(),
             settings,
         })
     }
@@ -135,11 +138,7 @@ impl<T> Shared<T> {
         let mut spare = locked(&self.spare);
         let place = spare.get_mut(usize::from(id))?;
         let cpu = mem::replace(place, ffi::Cpu::EMPTY);
-        if cpu.is_empty() {
-            None
-        } else {
-            Some(cpu)
-        }
+        (!cpu.is_empty()).then_some(cpu)
     }
 
     /// Puts the handle of a CPU back.
@@ -150,32 +149,34 @@ impl<T> Shared<T> {
 
 /// The work on retired entries.
 impl<T> Shared<T> {
-    /// One turn of the work on the retired entry with this number, on a CPU or on none. Where local references hold it, those that were
-    /// dropped are given up, and the turn is made once more. Refused: `Inside` with a CPU, `NotRetired`.
+    /// One turn of the work on the retired entry, on a CPU or on none; none where it isn't retired. Where local references hold it, some of those
+    /// to it that were dropped are given up, and the turn is made once more. Refused: `Inside` with a CPU.
     ///
     /// # Safety
     ///
     /// As of `Kept::turn`.
-    pub unsafe fn turn(&self, cpu: Option<*mut ffi::Cpu>, number: u64) -> Result<Advance<T>, Refusal> {
+    pub unsafe fn turn(&self, cpu: Option<*mut ffi::Cpu>, entry: &Entry) -> Result<Option<Turned<T>>, Refusal> {
         let mut kept = self.kept();
-        let mut met = kept.turn(cpu, number)?;
-        if matches!(met, Met::Held(Holder::Local(_))) && self.has_dropped() && self.give_up_dropped(&mut kept.keeper) {
-            met = kept.turn(cpu, number)?;
+        // SAFETY: the caller sees to the CPU.
+        let mut met = unsafe { kept.turn(cpu, entry.number)? };
+        if matches!(met, Some(Met::Held(Holder::Local(_)))) && self.give_up_dropped(&mut kept.keeper, usize::from(entry.slot)) {
+            // SAFETY: as above.
+            met = unsafe { kept.turn(cpu, entry.number)? };
         }
-        match met {
-            Met::Held(holder) => Ok(Advance::Held(holder)),
+        Ok(met.map(|met| match met {
+            Met::Held(holder) => Turned::Held(holder),
             Met::Freed => {
                 // SAFETY: the turn just made met that it is freed.
-                let freed = unsafe { kept.take(number) };
+                let freed = unsafe { kept.take(entry.number) };
                 self.deferred.store(kept.deferred.len(), Ordering::Relaxed);
-                Ok(Advance::Freed(freed))
+                Turned::Freed(freed)
             }
-        }
+        }))
     }
 
     /// Leaves a retired entry to later changes, as the youngest.
-    pub fn defer(&self, kept: &mut Kept<T>, number: u64) {
-        kept.deferred.push(number);
+    pub fn defer(&self, kept: &mut Kept<T>, entry: Entry) {
+        kept.deferred.push(entry);
         self.deferred.store(kept.deferred.len(), Ordering::Relaxed);
     }
 
@@ -190,10 +191,10 @@ impl<T> Shared<T> {
         if self.deferred() == 0 {
             return freed;
         }
-        let numbers = self.kept().deferred.clone();
-        for number in numbers {
-            // SAFETY: no CPU is given. Where another thread has freed the entry meanwhile, the turn is refused.
-            if let Ok(Advance::Freed(one)) = unsafe { self.turn(None, number) } {
+        let entries = self.kept().deferred.clone();
+        for entry in &entries {
+            // SAFETY: no CPU is given. Where another thread has freed the entry meanwhile, there is no turn.
+            if let Ok(Some(Turned::Freed(one))) = unsafe { self.turn(None, entry) } {
                 freed.push(one);
             }
         }
@@ -201,84 +202,114 @@ impl<T> Shared<T> {
     }
 }
 
-/// The basket.
+/// Local references that were dropped.
 impl<T> Shared<T> {
-    /// Whether something may lie in the basket.
-    #[inline]
-    pub fn has_dropped(&self) -> bool {
-        self.dropped() != 0
+    pub fn baskets(&self) -> &Baskets {
+        &self.baskets
     }
 
-    /// Lays a reference into the basket. Where the basket can't grow, the reference stays held and its memory is lost: nobody is misled.
-    pub fn drop_local(&self, local: ffi::Local) {
-        let mut basket = locked(&self.basket.locals);
-        if basket.try_reserve(1).is_ok() {
-            basket.push_back(local);
-            self.basket.count.store(basket.len(), Ordering::Relaxed);
+    /// Takes a reference over that this CPU acquired. Where its basket is heavy, and there is a CPU that nobody has, that one lightens it.
+    pub fn drop_local(&self, cpu: u8, slot: usize, local: ffi::Local) {
+        self.baskets.lay(cpu, slot, local);
+        if !self.baskets.is_heavy(cpu) {
+            return;
+        }
+        if let Ok(mut spare) = self.spare.try_lock() {
+            if let Some(handle) = spare.iter_mut().find(|handle| !handle.is_empty()) {
+                // SAFETY: nobody has this CPU, and nobody gets it before the lock is let go. This thread holds no interlock: no handle is
+                // dropped under it.
+                unsafe { self.release_of(handle, cpu, BY_RELEASE) };
+            }
         }
     }
 
-    /// How many lie in the basket, or a little while ago: at least those that were dropped before, as this thread knows it.
-    fn dropped(&self) -> usize {
-        self.basket.count.load(Ordering::Relaxed)
-    }
-
-    /// Takes the oldest out of the basket.
-    fn take_dropped(&self) -> Option<ffi::Local> {
-        let mut basket = locked(&self.basket.locals);
-        let local = basket.pop_front();
-        self.basket.count.store(basket.len(), Ordering::Relaxed);
-        local
-    }
-
-    /// Releases a reference on a CPU, or under the interlock where that CPU's count was collected.
+    /// Releases a reference, which the CPU with this number acquired, on a CPU, or under the interlock where that CPU's count was collected.
     ///
     /// # Safety
     ///
     /// The handle is of a CPU of this registry, which this thread runs on, and not in use; the reference is of this registry; the caller
     /// doesn't hold the interlock.
     #[inline]
-    pub unsafe fn release_local(&self, cpu: *mut ffi::Cpu, mut local: ffi::Local) {
-        if ffi::registry_local_release(cpu, &mut local) != ffi::DONE {
-            ffi::registry_local_give_up(&mut self.kept().keeper, &mut local);
+    pub unsafe fn release_local(&self, handle: *mut ffi::Cpu, of: u8, slot: usize, mut local: ffi::Local) {
+        // SAFETY: the caller sees to both handles.
+        if unsafe { ffi::registry_local_release(handle, &mut local) } != ffi::DONE {
+            // SAFETY: the keeper is locked, and of the reference's registry.
+            unsafe { ffi::registry_local_give_up(&mut self.kept().keeper, &mut local) };
         }
         if !local.is_empty() {
-            self.drop_local(local);
+            self.baskets.lay(of, slot, local);
         }
     }
 
-    /// Releases on a CPU all that lies in the basket as it begins. What can't be released is laid in again, as the youngest.
+    /// Releases on a CPU some of what lies in the basket of the CPU with this number, and answers how many.
     ///
     /// # Safety
     ///
     /// As of `release_local`.
-    pub unsafe fn release_dropped(&self, cpu: *mut ffi::Cpu) {
-        for _ in 0..self.dropped() {
-            match self.take_dropped() {
-                Some(local) => self.release_local(cpu, local),
-                None => return,
+    pub unsafe fn release_of(&self, handle: *mut ffi::Cpu, of: u8, most: usize) -> usize {
+        let mut released = 0;
+        while released < most {
+            match self.baskets.take(of) {
+                // SAFETY: the caller sees to the CPU, and what lies in this registry's baskets is of it.
+                Some((slot, local)) => unsafe { self.release_local(handle, of, slot, local) },
+                None => break,
             }
+            released += 1;
+        }
+        released
+    }
+
+    /// Releases on a CPU some of what lies in all baskets, its own first.
+    ///
+    /// # Safety
+    ///
+    /// As of `release_local`.
+    pub unsafe fn release_dropped(&self, handle: *mut ffi::Cpu, own: u8, most: usize) {
+        let mut left = most;
+        for of in Baskets::cpus_from(own) {
+            // SAFETY: the caller sees to the CPU.
+            left -= unsafe { self.release_of(handle, of, left) };
         }
     }
 
-    /// Gives up, under the interlock, what lies in the basket and is to an entry whose counts were collected. Whether any was.
-    fn give_up_dropped(&self, keeper: &mut ffi::Keeper) -> bool {
-        let mut given = false;
-        for _ in 0..self.dropped() {
-            let mut local = match self.take_dropped() {
-                Some(local) => local,
-                None => break,
-            };
-            // SAFETY: the caller holds the interlock of this registry, of which all are that lie in its basket; this is the only use of the
-            // reference's handle.
-            unsafe { ffi::registry_local_give_up(keeper, &mut local) };
-            if local.is_empty() {
-                given = true;
-            } else {
-                self.drop_local(local);
+    /// Releases on a CPU one of the dropped references to the entry in this slot, the ones that this CPU acquired first. Whether there was any.
+    ///
+    /// # Safety
+    ///
+    /// As of `release_local`.
+    pub unsafe fn release_one_to(&self, handle: *mut ffi::Cpu, own: u8, slot: usize) -> bool {
+        let found = Baskets::cpus_from(own).find_map(|of| Some((of, self.baskets.take_of(of, slot)?)));
+        match found {
+            Some((of, local)) => {
+                // SAFETY: the caller sees to the CPU, and what lies in this registry's baskets is of it.
+                unsafe { self.release_local(handle, of, slot, local) };
+                true
+            }
+            None => false,
+        }
+    }
+
+    /// Gives up, under the interlock, some of what lies in the baskets and is to the entry in this slot, whose counts were collected. Whether
+    /// any was.
+    fn give_up_dropped(&self, keeper: &mut ffi::Keeper, slot: usize) -> bool {
+        let mut given = 0;
+        for of in Baskets::cpus_from(0) {
+            while given < BY_TURN {
+                let mut local = match self.baskets.take_of(of, slot) {
+                    Some(local) => local,
+                    None => break,
+                };
+                // SAFETY: the caller holds the interlock of this registry, of which all are that lie in its baskets; this is the only use of
+                // the reference's handle.
+                unsafe { ffi::registry_local_give_up(keeper, &mut local) };
+                if !local.is_empty() {
+                    self.baskets.lay(of, slot, local);
+                    break;
+                }
+                given += 1;
             }
         }
-        given
+        given > 0
     }
 }
 
@@ -290,8 +321,10 @@ impl<T> Drop for Shared<T> {
     fn drop(&mut self) {
         let mut spare = mem::replace(&mut *locked(&self.spare), NO_CPUS);
         if let Some(cpu) = spare.iter_mut().find(|cpu| !cpu.is_empty()) {
-            // SAFETY: nobody else has this CPU, and nobody holds the interlock.
-            unsafe { self.release_dropped(cpu) };
+            while self.baskets.total() > 0 {
+                // SAFETY: nobody else has this CPU, and nobody holds the interlock.
+                unsafe { self.release_dropped(cpu, 0, BY_CHANGE) };
+            }
         }
         let kept = self.kept.get_mut().unwrap_or_else(PoisonError::into_inner);
         let rows = mem::take(&mut kept.rows);

@@ -1,23 +1,26 @@
 //! The usual path in few calls: a reference to an entry, a section with the entry in it, or a copy of its record, by its kind and name.
 
-use crate::carried::Carried;
+use crate::carried::Record;
 use crate::cpu::Cpu;
 use crate::ffi;
 use crate::local::LocalRef;
-use crate::passive::PassiveRef;
+use crate::mapped::Mapped;
+use crate::passive::{PassiveRc, PassiveRef};
 use crate::refusal::{refusal_of, Refusal};
 use crate::section::{Found, Section};
-use crate::values::{Entry, Kind, Name};
+use crate::values::{Entry, Kind};
+use crate::Name;
 use std::fmt;
 use std::ops::Deref;
+use std::rc::Rc;
 
 impl<T> Cpu<T> {
     /// A passive reference to the live entry with this kind and name, by one call: what [`enter`](Cpu::enter),
     /// [`find`](crate::Section::find), [`acquire`](crate::Found::acquire) and [`exit`](crate::Section::exit) give together. In an open
-    /// section the call is nested in it, and supersedes what was found there before.
+    /// section the call is nested in it.
     ///
     /// ```
-    /// use registry::{Kind, Name, Refusal, Registry, Settings};
+    /// use registry::{Kind, Name, PassiveRef, Refusal, Registry, Settings};
     ///
     /// let (registry, cpus) = Registry::open(Settings::new(1, 1)).unwrap();
     /// let wm = Name::parse("wm").unwrap();
@@ -25,7 +28,7 @@ impl<T> Cpu<T> {
     /// let reference = cpus[0].get(Kind::Driver, &wm).unwrap();
     /// registry.retire(&cpus[0], Kind::Driver, &wm).unwrap();
     /// assert_eq!((*reference, registry.collect().len()), (7, 0));
-    /// reference.release();
+    /// PassiveRef::release(reference);
     /// assert_eq!(registry.collect().len(), 1);
     /// assert_eq!(cpus[0].get(Kind::Driver, &wm).unwrap_err(), Refusal::NotFound);
     /// ```
@@ -35,15 +38,60 @@ impl<T> Cpu<T> {
     /// `TooDeep`, `SectionsSpent`, `NotFound`, `PassiveFull`.
     #[inline]
     pub fn get(&self, kind: Kind, name: &Name) -> Result<PassiveRef<'_, T>, Refusal> {
-        // SAFETY: this thread alone has the CPU, whose handle isn't empty.
-        let got = Entry::written(|found| unsafe { ffi::registry_get(self.handle(), kind.number(), &name.words, found) });
-        let (entry, word) = self.found_by(got)?;
-        Ok(PassiveRef::new(self, entry, Carried::of_word(word)))
+        Ok(PassiveRef::new(self, self.get_record(kind, name)?))
     }
 
-    /// The live entry with this kind and name, together with a section, by one call: what [`enter`](Cpu::enter) and
-    /// [`find`](crate::Section::find) give together. The section ends as the guard is dropped. In an open section the guard's is nested in it,
-    /// and supersedes what was found there before.
+    /// The same reference, which owns a share of its CPU: a struct may own both.
+    ///
+    /// ```
+    /// use registry::{Cpu, Kind, Name, PassiveRc, Registry, Settings};
+    /// use std::rc::Rc;
+    ///
+    /// struct Worker {
+    ///     cpu: Rc<Cpu<u64>>,
+    ///     driver: PassiveRc<u64>,
+    /// }
+    ///
+    /// let (registry, mut cpus) = Registry::open(Settings::new(2, 1)).unwrap();
+    /// let wm = Name::parse("wm").unwrap();
+    /// registry.attach(&cpus[1], &wm, 7).unwrap();
+    /// let cpu = Rc::new(cpus.remove(0));
+    /// let worker = Worker { driver: cpu.get_rc(Kind::Driver, &wm).unwrap(), cpu };
+    /// assert_eq!((*worker.driver, worker.cpu.holds(1)), (7, true));
+    /// ```
+    ///
+    /// # Errors
+    ///
+    /// `TooDeep`, `SectionsSpent`, `NotFound`, `PassiveFull`.
+    #[inline]
+    pub fn get_rc(self: &Rc<Self>, kind: Kind, name: &Name) -> Result<PassiveRc<T>, Refusal> {
+        Ok(PassiveRc::new(Rc::clone(self), self.get_record(kind, name)?))
+    }
+
+    /// A local reference to the live entry with this kind and name: what [`enter`](Cpu::enter), [`find`](crate::Section::find),
+    /// [`acquire_local`](crate::Found::acquire_local) and [`exit`](crate::Section::exit) give together.
+    ///
+    /// ```
+    /// use registry::{Kind, LocalRef, Name, Registry, Settings};
+    ///
+    /// let (registry, cpus) = Registry::open(Settings::new(2, 1)).unwrap();
+    /// let wm = Name::parse("wm").unwrap();
+    /// registry.attach(&cpus[0], &wm, 7).unwrap();
+    /// let reference = cpus[0].get_local(Kind::Driver, &wm).unwrap();
+    /// assert_eq!(*reference, 7);
+    /// LocalRef::release(reference, &cpus[1]).unwrap();
+    /// ```
+    ///
+    /// # Errors
+    ///
+    /// `TooDeep`, `SectionsSpent`, `NotFound`, `LocalFull`, `NoMemory`.
+    #[inline]
+    pub fn get_local(&self, kind: Kind, name: &Name) -> Result<LocalRef<T>, Refusal> {
+        ReadGuard::acquire_local(&self.read(kind, name)?)
+    }
+
+    /// The live entry with this kind and name, and the section in which it was found, by one call: what [`enter`](Cpu::enter) and
+    /// [`find`](crate::Section::find) give together. In an open section the call is nested in it.
     ///
     /// ```
     /// use registry::{Kind, Name, Refusal, Registry, Settings};
@@ -61,18 +109,18 @@ impl<T> Cpu<T> {
     /// `TooDeep`, `SectionsSpent`, `NotFound`: the CPU is as deep inside then as before.
     #[inline]
     pub fn read(&self, kind: Kind, name: &Name) -> Result<ReadGuard<'_, T>, Refusal> {
-        // SAFETY: as for `get`.
-        let found = Entry::written(|found| unsafe { ffi::registry_enter_find(self.handle(), kind.number(), &name.words, found) });
-        let (entry, word) = self.found_by(found)?;
+        // SAFETY: this thread alone has the CPU, whose handle isn't empty.
+        let found = Record::written(|found| unsafe { ffi::registry_enter_find(self.handle(), kind.number(), &name.words, found) });
+        let record = self.found_by(found)?;
         Ok(ReadGuard {
-            found: Found::new(self, entry, Carried::of_word(word)),
+            found: Found::new(self, record),
             section: Section::new(self),
         })
     }
 
     /// The live entry with this kind and name, by one call: what [`enter`](Cpu::enter), [`find`](crate::Section::find) and
     /// [`exit`](crate::Section::exit) give together. The entry was live at some point during the call, and nothing holds it afterwards: so its
-    /// record is all that is answered, and not what it carries. In an open section the call supersedes what was found there before.
+    /// record is all that is answered, and not what it carries.
     ///
     /// ```
     /// use registry::{Kind, Name, Refusal, Registry, Settings};
@@ -89,19 +137,27 @@ impl<T> Cpu<T> {
     /// `TooDeep`, `SectionsSpent`, `NotFound`.
     #[inline]
     pub fn look_up(&self, kind: Kind, name: &Name) -> Result<Entry, Refusal> {
-        // SAFETY: as for `get`.
-        let looked = Entry::written(|found| unsafe { ffi::registry_look_up(self.handle(), kind.number(), &name.words, found) });
-        Ok(self.found_by(looked)?.0)
+        // SAFETY: as for `read`.
+        let looked = Record::written(|found| unsafe { ffi::registry_look_up(self.handle(), kind.number(), &name.words, found) });
+        Ok(self.found_by(looked)?.entry())
+    }
+
+    /// The record of an entry to which a passive reference is acquired.
+    #[inline]
+    fn get_record(&self, kind: Kind, name: &Name) -> Result<Record<T>, Refusal> {
+        // SAFETY: as for `read`.
+        let got = Record::written(|found| unsafe { ffi::registry_get(self.handle(), kind.number(), &name.words, found) });
+        self.found_by(got)
     }
 
     /// What such a call answered, whose find has changed the last found entry of an open section. Refused, the CPU may have found an entry that
     /// the answer doesn't tell, so none counts as found; but `TooDeep` comes before the find.
     #[inline]
-    fn found_by(&self, answer: Result<(Entry, u64), u32>) -> Result<(Entry, u64), Refusal> {
+    fn found_by(&self, answer: Result<Record<T>, u32>) -> Result<Record<T>, Refusal> {
         match answer {
-            Ok(found) => {
-                self.last.set(found.0.number);
-                Ok(found)
+            Ok(record) => {
+                self.last.set(record.number());
+                Ok(record)
             }
             Err(answer) => {
                 if answer != ffi::TOO_DEEP {
@@ -118,22 +174,22 @@ impl<T> Cpu<T> {
 ///
 /// It stays with its thread, as a [`Section`] does. One that is forgotten leaves its section open, as a forgotten [`Section`] does.
 ///
-/// A method of `T` with a name that this type has too is called by `(*guard)`.
+/// All its functions are called by the type's name, so that none hides a method of `T`.
 ///
 /// ```
-/// use registry::{Kind, Name, Registry, Settings};
+/// use registry::{Kind, LocalRef, Name, ReadGuard, Registry, Settings};
 ///
 /// let (registry, cpus) = Registry::open(Settings::new(2, 1)).unwrap();
 /// let wm = Name::parse("wm").unwrap();
 /// let made = registry.attach(&cpus[1], &wm, vec![1500, 9000]).unwrap();
 /// let driver = cpus[0].read(Kind::Driver, &wm).unwrap();
-/// assert_eq!((driver.entry(), driver[1]), (made, 9000));
+/// assert_eq!((ReadGuard::entry(&driver), driver[1]), (made, 9000));
 /// registry.retire(&cpus[1], Kind::Driver, &wm).unwrap();
 /// assert_eq!(registry.collect().len(), 0);
-/// let local = driver.acquire_local().unwrap();
+/// let local = ReadGuard::acquire_local(&driver).unwrap();
 /// drop(driver);
 /// assert_eq!((local.len(), registry.collect().len()), (2, 0));
-/// local.release(&cpus[0]).unwrap();
+/// LocalRef::release(local, &cpus[0]).unwrap();
 /// assert_eq!(registry.collect().len(), 1);
 /// ```
 #[must_use = "a section that is dropped at once protects nothing"]
@@ -146,38 +202,57 @@ pub struct ReadGuard<'cpu, T> {
 impl<'cpu, T> ReadGuard<'cpu, T> {
     /// The entry, as it was attached.
     #[inline]
-    pub fn entry(&self) -> Entry {
-        self.found.entry()
+    pub fn entry(guard: &Self) -> Entry {
+        Found::entry(&guard.found)
     }
 
-    /// The CPU that it is on.
-    pub fn cpu(&self) -> &'cpu Cpu<T> {
-        self.section.cpu()
+    /// The section, in which more may be found.
+    #[inline]
+    pub fn section(guard: &Self) -> &Section<'cpu, T> {
+        &guard.section
     }
 
     /// Acquires a passive reference, as [`Found::acquire`] does.
     ///
     /// # Errors
     ///
-    /// As of [`Found::acquire`]: `Superseded` where this CPU has looked up something else since, `PassiveFull`.
+    /// As of [`Found::acquire`]: `NotFound`, `PassiveFull`.
     #[inline]
-    pub fn acquire(&self) -> Result<PassiveRef<'cpu, T>, Refusal> {
-        self.found.acquire()
+    pub fn acquire(guard: &Self) -> Result<PassiveRef<'cpu, T>, Refusal> {
+        Found::acquire(&guard.found)
     }
 
     /// Acquires a local reference, as [`Found::acquire_local`] does.
     ///
     /// # Errors
     ///
-    /// As of [`Found::acquire_local`]: `Superseded`, `LocalFull`, `NoMemory`.
+    /// As of [`Found::acquire_local`]: `NotFound`, `LocalFull`, `NoMemory`.
     #[inline]
-    pub fn acquire_local(&self) -> Result<LocalRef<T>, Refusal> {
-        self.found.acquire_local()
+    pub fn acquire_local(guard: &Self) -> Result<LocalRef<T>, Refusal> {
+        Found::acquire_local(&guard.found)
+    }
+
+    /// The guard of a part of what the entry carries.
+    ///
+    /// ```
+    /// use registry::{Kind, Name, ReadGuard, Registry, Settings};
+    ///
+    /// let (registry, cpus) = Registry::open(Settings::new(1, 1)).unwrap();
+    /// let wm = Name::parse("wm").unwrap();
+    /// registry.attach(&cpus[0], &wm, (1000, String::from("gigabit"))).unwrap();
+    /// let text = ReadGuard::map(cpus[0].read(Kind::Driver, &wm).unwrap(), |driver| driver.1.as_str());
+    /// assert_eq!(&*text, "gigabit");
+    /// ```
+    #[inline]
+    pub fn map<U: ?Sized>(guard: Self, part: impl FnOnce(&T) -> &U) -> Mapped<Self, U> {
+        Mapped::new(guard, part)
     }
 
     /// Exits, as dropping it does.
     #[inline]
-    pub fn exit(self) {}
+    pub fn exit(guard: Self) {
+        drop(guard);
+    }
 }
 
 impl<T> Deref for ReadGuard<'_, T> {
@@ -189,8 +264,11 @@ impl<T> Deref for ReadGuard<'_, T> {
     }
 }
 
-impl<T> fmt::Debug for ReadGuard<'_, T> {
+impl<T: fmt::Debug> fmt::Debug for ReadGuard<'_, T> {
     fn fmt(&self, f: &mut fmt::Formatter<'_>) -> fmt::Result {
-        f.debug_struct("ReadGuard").field("entry", &self.entry()).finish_non_exhaustive()
+        f.debug_struct("ReadGuard")
+            .field("entry", &ReadGuard::entry(self))
+            .field("value", &**self)
+            .finish()
     }
 }

@@ -2,8 +2,8 @@
 
 mod common;
 
-use common::{balance, detach, freed, holder, local, name, passive, with_driver, Drops, Tracked};
-use registry::{Advance, Cpu, Holder, Kind, Patience, Refusal, Refused, Registry, Settings};
+use common::{balances, detach, local, name, passive, with_driver, Drops, Tracked};
+use registry::{Cpu, Holder, Kind, LocalRef, Patience, Refusal, Refused, Registry, Settings};
 use std::cell::{Cell, RefCell};
 use std::mem;
 use std::panic::{catch_unwind, AssertUnwindSafe};
@@ -16,8 +16,8 @@ use std::thread;
 fn a_value_comes_back_as_its_slot_is_freed() {
     let drops = Drops::default();
     let (registry, cpus) = with_driver(drops.make(5));
-    let number = detach(&registry, &cpus[0], "wm");
-    let back = freed(&registry, number);
+    let gone = detach(&registry, &cpus[0], "wm");
+    let back = gone.freed();
     back.value.check();
     assert_eq!((back.value.label, back.entry.number, drops.dropped()), (5, 1, 0));
     drop(back);
@@ -29,8 +29,8 @@ fn a_value_comes_back_as_its_slot_is_freed() {
 fn a_value_that_nobody_takes_is_dropped() {
     let drops = Drops::default();
     let (registry, cpus) = with_driver(drops.make(0));
-    let number = detach(&registry, &cpus[0], "wm");
-    assert!(registry.destroy(&cpus[0], number, Patience::Turns(1)).is_ok());
+    let retired = registry.detach(&cpus[0], Kind::Driver, &name("wm")).unwrap();
+    assert!(retired.destroy(&cpus[0], Patience::Turns(1)).is_ok());
     assert_eq!(drops.dropped(), 1);
 }
 
@@ -59,13 +59,13 @@ fn what_is_left_is_dropped_at_the_closing() {
     }
     registry.retire(&cpus[0], Kind::Driver, &name("d0")).unwrap();
     let section = cpus[1].enter().unwrap();
-    detach(&registry, &cpus[0], "d1");
+    let gone = detach(&registry, &cpus[0], "d1");
     registry.retire(&cpus[0], Kind::Driver, &name("d2")).unwrap();
     section.exit();
     assert_eq!((registry.retired(), drops.dropped()), (1, 1));
-    drop(cpus);
+    drop((cpus, registry));
     assert_eq!(drops.dropped(), 1);
-    drop(registry);
+    drop(gone);
     assert_eq!((drops.made(), drops.dropped()), (6, 6));
 }
 
@@ -91,14 +91,14 @@ fn references_keep_the_value_of_a_retired_entry() {
     let drops = Drops::default();
     let (registry, cpus) = with_driver(drops.make(0));
     let (one, two) = (passive(&cpus[0], "wm"), local(&cpus[0], "wm"));
-    let number = registry.retire(&cpus[1], Kind::Driver, &name("wm")).unwrap().number;
-    assert_eq!((registry.collect().len(), holder(&registry, number)), (0, Some(Holder::Passive(0))));
+    let gone = detach(&registry, &cpus[1], "wm");
+    assert_eq!(gone.holder(), Some(Holder::Passive(0)));
     one.check();
     drop(one);
-    assert_eq!(holder(&registry, number), Some(Holder::Local(1)));
+    assert_eq!(gone.holder(), Some(Holder::Local(1)));
     two.check();
-    two.release(&cpus[1]).unwrap();
-    assert_eq!(registry.collect().len(), 1);
+    LocalRef::release(two, &cpus[1]).unwrap();
+    gone.freed().value.check();
     assert_eq!((registry.retired(), drops.dropped()), (0, 1));
 }
 
@@ -123,14 +123,14 @@ fn what_nobody_holds_is_freed_by_later_changes() {
     let mut held = held.into_iter();
     let (zero, one, two) = (held.next(), held.next(), held.next());
     // The youngest and the middle one are free: the oldest, which is held, is in nobody's way.
-    one.unwrap().release(reader).unwrap();
-    two.unwrap().release(reader).unwrap();
+    LocalRef::release(one.unwrap(), reader).unwrap();
+    LocalRef::release(two.unwrap(), reader).unwrap();
     assert_eq!(registry.retired(), 3);
     assert!(registry.attach(cpu, &name("more"), drops.make(10)).is_ok());
     assert_eq!((registry.retired(), drops.dropped()), (1, 3));
-    zero.unwrap().release(reader).unwrap();
-    detach(&registry, cpu, "more");
-    assert_eq!((registry.retired(), drops.dropped()), (0, 4));
+    LocalRef::release(zero.unwrap(), reader).unwrap();
+    drop(detach(&registry, cpu, "more"));
+    assert_eq!((registry.retired(), drops.dropped()), (1, 4));
 }
 
 #[test]
@@ -143,75 +143,11 @@ fn a_collection_frees_the_oldest_first() {
     for i in [5, 1, 7, 3] {
         registry.retire(&cpus[0], Kind::Driver, &name(&format!("d{i}"))).unwrap();
     }
-    // A destroy by hand takes it off the list; so does an advance, and it stays there where it is still held.
-    assert_eq!(holder(&registry, 8), Some(Holder::Grace(1)));
     assert_eq!((registry.collect().len(), registry.retired()), (0, 4));
     section.exit();
-    assert_eq!(freed(&registry, 8).value, 7);
-    assert_eq!(registry.retired(), 3);
     let values: Vec<i32> = registry.collect().into_iter().map(|freed| freed.value).collect();
-    assert_eq!((values, registry.retired()), (vec![5, 1, 3], 0));
+    assert_eq!((values, registry.retired()), (vec![5, 1, 7, 3], 0));
     assert!(registry.collect().is_empty());
-}
-
-#[test]
-fn a_dropped_local_reference_of_a_live_entry_is_given_back() {
-    let (registry, cpus) = with_driver(7);
-    let (one, two) = (local(&cpus[0], "wm"), local(&cpus[1], "wm"));
-    thread::spawn(move || drop(one)).join().unwrap();
-    // An acquire leaves the basket alone; a release empties it on its CPU.
-    let three = local(&cpus[1], "wm");
-    two.release(&cpus[1]).unwrap();
-    assert_eq!(registry.audit(&cpus).unwrap(), [balance(1, &[1, 0], 0)]);
-    // So does each call behind the lock that has a CPU.
-    drop(three);
-    registry.attach(&cpus[1], &name("vga"), 8).unwrap();
-    assert_eq!(registry.audit(&cpus).unwrap()[0], balance(0, &[1, -1], 0));
-    drop(local(&cpus[0], "wm"));
-    registry.perform(&cpus[1], Patience::Turns(1)).unwrap();
-    assert_eq!(registry.audit(&cpus).unwrap()[0], balance(0, &[2, -2], 0));
-    drop(local(&cpus[1], "wm"));
-    assert_eq!(registry.audit(&cpus).unwrap()[0], balance(0, &[1, -1], 0));
-}
-
-#[test]
-fn a_dropped_local_reference_holds_up_no_drain() {
-    let (registry, cpus) = with_driver(7);
-    let (kept, dropped) = (local(&cpus[0], "wm"), local(&cpus[0], "wm"));
-    detach(&registry, &cpus[0], "wm");
-    drop(dropped);
-    // It is given up under the interlock once counts are collected: no CPU is needed.
-    assert_eq!(holder(&registry, 1), Some(Holder::Local(1)));
-    let refused = registry.destroy(&cpus[1], 1, Patience::Turns(3));
-    assert_eq!(refused.unwrap_err(), Refusal::StillHeld(Holder::Local(1)));
-    drop(kept);
-    assert_eq!(registry.destroy(&cpus[1], 1, Patience::Turns(1)).unwrap().value, 7);
-}
-
-#[test]
-fn a_drain_leaves_dropped_references_to_others_in_the_basket() {
-    let (registry, cpus) = with_driver(7);
-    registry.attach(&cpus[0], &name("vga"), 8).unwrap();
-    let (kept, dropped) = (local(&cpus[0], "vga"), local(&cpus[0], "wm"));
-    let number = detach(&registry, &cpus[0], "vga");
-    drop(dropped);
-    assert_eq!(holder(&registry, number), Some(Holder::Local(1)));
-    cpus[1].release_dropped();
-    assert_eq!(registry.audit(&cpus).unwrap()[0], balance(0, &[1, -1], 0));
-    drop(kept);
-    assert_eq!(freed(&registry, number).value, 8);
-}
-
-#[test]
-fn a_local_reference_may_outlive_all_cpus() {
-    let (registry, cpus) = with_driver(7);
-    let reference = local(&cpus[0], "wm");
-    drop(cpus);
-    assert_eq!(*reference, 7);
-    drop(reference);
-    let cpu = registry.cpu(1).unwrap();
-    detach(&registry, &cpu, "wm");
-    assert_eq!(freed(&registry, 1).value, 7);
 }
 
 #[test]
@@ -225,9 +161,9 @@ fn a_forgotten_reference_keeps_its_value() {
         mem::forget(reference);
         kept
     };
-    let number = detach(&registry, &cpus[0], "wm");
-    assert_eq!(holder(&registry, number), Some(Holder::Passive(1)));
-    drop((registry, cpus));
+    let gone = detach(&registry, &cpus[0], "wm");
+    assert_eq!(gone.holder(), Some(Holder::Passive(1)));
+    drop((registry, cpus, gone));
     // What the forgotten reference holds is still there; the other one was dropped.
     assert_eq!(drops.dropped(), 1);
     // SAFETY: the crate promises that what a forgotten reference holds is never dropped.
@@ -241,8 +177,8 @@ fn a_forgotten_section_lasts_as_long_as_its_cpu() {
     let (registry, mut cpus) = with_driver(7);
     mem::forget(cpus[1].enter().unwrap());
     mem::forget(cpus[1].enter().unwrap());
-    let number = detach(&registry, &cpus[0], "wm");
-    assert_eq!((cpus[1].depth(), holder(&registry, number)), (2, Some(Holder::Grace(1))));
+    let gone = detach(&registry, &cpus[0], "wm");
+    assert_eq!((cpus[1].depth(), gone.holder()), (2, Some(Holder::Grace(1))));
     // An enter is nested in it, and its CPU may go to another thread meanwhile.
     let reader = cpus.remove(1);
     let reader = thread::spawn(move || {
@@ -250,9 +186,9 @@ fn a_forgotten_section_lasts_as_long_as_its_cpu() {
         reader
     });
     let mut reader = reader.join().unwrap();
-    assert_eq!((reader.depth(), holder(&registry, number)), (2, Some(Holder::Grace(1))));
+    assert_eq!((reader.depth(), gone.holder()), (2, Some(Holder::Grace(1))));
     reader.leave();
-    assert_eq!((reader.depth(), freed(&registry, number).value), (0, 7));
+    assert_eq!((reader.depth(), gone.freed().value), (0, 7));
     mem::forget(reader.enter().unwrap());
     drop(reader);
     assert_eq!(registry.cpu(1).unwrap().depth(), 0);
@@ -285,9 +221,9 @@ fn a_panic_gives_all_back() {
         panic!("the body's own");
     }));
     assert!(ended.is_err() && !cpus[1].is_inside() && !cpus[1].holds(1));
-    assert_eq!(registry.audit(&cpus).unwrap()[0].held, 0);
-    let number = detach(&registry, &cpus[0], "wm");
-    drop(freed(&registry, number));
+    assert_eq!(balances(&registry, &cpus)[0].0, 0);
+    let gone = detach(&registry, &cpus[0], "wm");
+    drop(gone.freed());
     assert_eq!(drops.dropped(), 1);
 }
 
@@ -335,7 +271,7 @@ fn a_panic_of_a_drop_leaves_the_registry_whole() {
     section.exit();
     let held = local(&cpus[0], "d1");
     registry.retire(&cpus[0], Kind::Driver, &name("d1")).unwrap();
-    held.release(&cpus[0]).unwrap();
+    LocalRef::release(held, &cpus[0]).unwrap();
     // The change before which the value is dropped is not made.
     let ended = catch_unwind(AssertUnwindSafe(|| registry.retire(&cpus[0], Kind::Driver, &name("d0"))));
     assert!(ended.is_err());
@@ -372,13 +308,13 @@ impl Drop for Caller {
                 CALLS.with(|calls| calls.set(calls.get() + 1));
                 registry.perform(cpu, Patience::Turns(1)).unwrap();
                 drop(registry.collect());
-                assert_eq!(registry.advance(u64::MAX).unwrap_err(), Refusal::NotRetired);
                 if self.label > 0 {
                     let label = self.label - 1;
                     let text = name(&format!("c{label}"));
                     registry.attach(cpu, &text, Caller { label }).unwrap();
                     drop(local(cpu, &format!("c{label}")));
-                    registry.retire(cpu, Kind::Driver, &text).unwrap();
+                    let retired = registry.detach(cpu, Kind::Driver, &text).unwrap();
+                    retired.defer();
                 }
             }
         });
@@ -424,10 +360,10 @@ fn a_value_may_hold_a_reference_of_its_registry() {
     let (registry, cpus) = with_driver(port(None));
     registry.attach(&cpus[0], &name("wm0"), port(Some(local(&cpus[0], "wm")))).unwrap();
     let (driver, holding) = (detach(&registry, &cpus[0], "wm"), detach(&registry, &cpus[0], "wm0"));
-    assert_eq!(holder(&registry, driver), Some(Holder::Local(1)));
+    assert_eq!(driver.holder(), Some(Holder::Local(1)));
     // The value that comes back gives the reference up as it is dropped.
-    drop(freed(&registry, holding));
-    assert!(matches!(registry.advance(driver), Ok(Advance::Freed(_))));
+    drop(holding.freed());
+    assert_eq!(driver.holder(), None);
     assert_eq!(dropped.load(Ordering::SeqCst), 2);
 }
 
@@ -435,12 +371,10 @@ fn a_value_may_hold_a_reference_of_its_registry() {
 fn values_of_any_size_are_carried() {
     let (registry, cpus) = with_driver([7u8; 4096]);
     assert_eq!(local(&cpus[0], "wm")[4095], 7);
-    detach(&registry, &cpus[0], "wm");
-    assert_eq!(freed(&registry, 1).value, [7; 4096]);
+    assert_eq!(detach(&registry, &cpus[0], "wm").freed().value, [7; 4096]);
     let (registry, cpus) = with_driver(());
     assert_eq!(*passive(&cpus[0], "wm"), ());
-    detach(&registry, &cpus[0], "wm");
-    assert_eq!(freed(&registry, 1).value, ());
+    assert_eq!(detach(&registry, &cpus[0], "wm").freed().value, ());
 }
 
 #[test]

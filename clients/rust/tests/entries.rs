@@ -2,8 +2,8 @@
 
 mod common;
 
-use common::{detach, freed, name, Drops, Stops, Tracked};
-use registry::{Cpu, Kind, Patience, Refusal, Registry, Settings};
+use common::{detach, name, patience, Drops, Stops, Tracked};
+use registry::{Cpu, Found, Kind, LocalRef, Refusal, Registry, Settings};
 use std::collections::BTreeSet;
 use std::env;
 use std::sync::atomic::{AtomicBool, Ordering};
@@ -19,11 +19,11 @@ fn changes() -> u64 {
 
 /// What a walk in a section of its own meets: the number, the name and what each carries.
 fn met(cpu: &Cpu<u32>) -> Vec<(u64, String, u32)> {
-    let mut section = cpu.enter().unwrap();
+    let section = cpu.enter().unwrap();
     let entries = section.entries();
     let told = entries.len();
     let met: Vec<_> = entries
-        .map(|listed| (listed.entry().number, listed.entry().name.to_string(), *listed))
+        .map(|listed| (Found::entry(&listed).number, Found::entry(&listed).name.to_string(), *listed))
         .collect();
     assert_eq!(met.len(), told);
     met
@@ -40,7 +40,7 @@ fn the_live_entries_the_newest_first() {
     assert_eq!(met(&cpus[0]), [at(3, "ixl", 30), at(2, "bge", 20), at(1, "wm", 10)]);
     let gone = detach(&registry, &cpus[1], "bge");
     assert_eq!(met(&cpus[0]), [at(3, "ixl", 30), at(1, "wm", 10)]);
-    assert_eq!(freed(&registry, gone).value, 20);
+    assert_eq!(gone.freed().value, 20);
     registry.attach(&cpus[1], &name("bge"), 21).unwrap();
     assert_eq!(met(&cpus[0]), [at(5, "bge", 21), at(3, "ixl", 30), at(1, "wm", 10)]);
 }
@@ -61,14 +61,14 @@ fn each_of_them_is_acquired() {
     for (text, carried) in [("wm", 10), ("bge", 20)] {
         registry.attach(&cpus[0], &name(text), carried).unwrap();
     }
-    let mut section = cpus[0].enter().unwrap();
-    let passives: Vec<_> = section.entries().map(|listed| listed.acquire().unwrap()).collect();
-    let locals: Vec<_> = section.entries().map(|listed| listed.acquire_local().unwrap()).collect();
+    let section = cpus[0].enter().unwrap();
+    let passives: Vec<_> = section.entries().map(|listed| Found::acquire(&listed).unwrap()).collect();
+    let locals: Vec<_> = section.entries().map(|listed| Found::acquire_local(&listed).unwrap()).collect();
     section.exit();
     assert_eq!(passives.iter().map(|passive| **passive).collect::<Vec<u32>>(), [20, 10]);
     assert_eq!(locals.iter().map(|local| **local).collect::<Vec<u32>>(), [20, 10]);
     for local in locals {
-        local.release(&cpus[0]).unwrap();
+        LocalRef::release(local, &cpus[0]).unwrap();
     }
 }
 
@@ -78,7 +78,7 @@ fn what_was_detached_since_is_read_but_not_acquired() {
     let (registry, cpus) = Registry::open(Settings::new(2, 4)).unwrap();
     registry.attach(&cpus[1], &name("wm"), drops.make(1)).unwrap();
     registry.attach(&cpus[1], &name("bge"), drops.make(2)).unwrap();
-    let mut section = cpus[0].enter().unwrap();
+    let section = cpus[0].enter().unwrap();
     let listed: Vec<_> = section.entries().collect();
     let gone = detach(&registry, &cpus[1], "wm");
     let other = detach(&registry, &cpus[1], "bge");
@@ -86,38 +86,42 @@ fn what_was_detached_since_is_read_but_not_acquired() {
     for (listed, label) in listed.iter().zip([2, 1]) {
         listed.check();
         assert_eq!(listed.label, label);
-        assert_eq!(listed.acquire().err(), Some(Refusal::NotFound));
-        assert_eq!(listed.acquire_local().err(), Some(Refusal::NotFound));
-        assert!(registry.advance(listed.entry().number).unwrap().holder().is_some());
+        assert_eq!(Found::acquire(listed).err(), Some(Refusal::NotFound));
+        assert_eq!(Found::acquire_local(listed).err(), Some(Refusal::NotFound));
+        assert!(gone.holder().is_some() && other.holder().is_some());
     }
     section.exit();
-    assert_eq!((freed(&registry, gone).value.label, freed(&registry, other).value.label), (1, 2));
+    assert_eq!((gone.freed().value.label, other.freed().value.label), (1, 2));
 }
 
+/// A walk leaves no last found entry, and a lookup after it makes one of a listed entry.
 #[test]
-fn a_walk_supersedes_what_was_found() {
-    let (registry, cpus) = Registry::open(Settings::new(1, 4)).unwrap();
+fn what_was_found_before_a_walk_is_acquired_after_it() {
+    let (registry, cpus) = Registry::open(Settings::new(2, 4)).unwrap();
     registry.attach(&cpus[0], &name("wm"), 10).unwrap();
-    let mut outer = cpus[0].enter().unwrap();
-    let found = outer.find(Kind::Driver, &name("wm")).unwrap();
-    let mut inner = cpus[0].enter().unwrap();
-    assert_eq!(inner.entries().count(), 1);
-    inner.exit();
-    assert_eq!(found.acquire().err(), Some(Refusal::Superseded));
-    assert_eq!(*found, 10);
+    let section = cpus[0].enter().unwrap();
+    let found = section.find(Kind::Driver, &name("wm")).unwrap();
+    assert_eq!(section.entries().count(), 1);
+    assert_eq!(*Found::acquire(&found).unwrap(), 10);
+    let listed = section.entries().next().unwrap();
+    assert_eq!(section.find(Kind::Driver, &name("wm")).map(|found| *found), Some(10));
+    let gone = detach(&registry, &cpus[1], "wm");
+    assert_eq!((*Found::acquire_local(&listed).unwrap(), *found), (10, 10));
+    drop(section);
+    assert_eq!(gone.freed().value, 10);
 }
 
 /// Walks until it is told to stop, but once at least: what stays is there each time, none is there twice, and none was dropped.
 fn walk(cpu: Cpu<Tracked>, stop: &AtomicBool) -> u64 {
     let mut walks = 0;
     loop {
-        let mut section = cpu.enter().unwrap();
+        let section = cpu.enter().unwrap();
         let mut labels = BTreeSet::new();
         let mut last = u64::MAX;
         for listed in section.entries() {
             listed.check();
-            assert!(listed.entry().number < last);
-            last = listed.entry().number;
+            assert!(Found::entry(&listed).number < last);
+            last = Found::entry(&listed).number;
             assert!(labels.insert(listed.label));
             thread::yield_now();
             listed.check();
@@ -147,7 +151,7 @@ fn what_stays_is_in_each_walk() {
             let (old, new) = (name(&format!("d{}", (label - 3) % 3)), name(&format!("d{}", (label - 2) % 3)));
             registry.attach(&changer, &new, drops.make(label)).unwrap();
             let gone = registry.detach(&changer, Kind::Driver, &old).unwrap();
-            registry.destroy(&changer, gone.number, Patience::Forever).unwrap().value.check();
+            gone.destroy(&changer, patience()).unwrap().value.check();
         }
         drop(stops);
         for walker in walkers {

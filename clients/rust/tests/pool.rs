@@ -2,11 +2,13 @@
 
 mod common;
 
-use common::{detach, freed, local, name, passive, with_driver};
-use registry::{CpuPool, Kind};
+use common::{balances, detach, local, name, passive, with_driver, LONG};
+use registry::{CpuPool, Kind, LocalRef};
 use std::mem;
 use std::panic::{catch_unwind, AssertUnwindSafe};
 use std::sync::atomic::{AtomicBool, AtomicU32, Ordering};
+use std::sync::mpsc::{channel, Receiver};
+use std::sync::Arc;
 use std::thread;
 use std::time::{Duration, Instant};
 
@@ -37,18 +39,71 @@ fn a_loan_waits_until_its_deadline() {
     assert!(pool.lend_until(began).is_some());
 }
 
+/// What a thread answers that waits for a loan by this, or none where it waits too long.
+fn waiting(pool: &Arc<CpuPool<i32>>, lend: impl FnOnce(&CpuPool<i32>) -> Option<u8> + Send + 'static) -> Receiver<Option<u8>> {
+    let (pool, (to, from)) = (Arc::clone(pool), channel());
+    thread::spawn(move || to.send(lend(&pool)));
+    from
+}
+
 #[test]
 fn a_waiting_thread_gets_the_cpu_that_comes_back() {
     let (_registry, mut cpus) = with_driver(7);
-    let pool = CpuPool::new(cpus.drain(..1)).unwrap();
+    let pool = Arc::new(CpuPool::new(cpus.drain(..1)).unwrap());
     let held = pool.lend();
-    thread::scope(|scope| {
-        let waiting = scope.spawn(|| pool.lend().id());
-        let deadline = scope.spawn(|| pool.lend_until(Instant::now() + Duration::from_secs(60)).map(|cpu| cpu.id()));
-        thread::sleep(Duration::from_millis(5));
-        drop(held);
-        assert_eq!((waiting.join().unwrap(), deadline.join().unwrap()), (0, Some(0)));
-    });
+    let one = waiting(&pool, |pool| Some(pool.lend().id()));
+    let two = waiting(&pool, |pool| pool.lend_until(Instant::now() + 2 * LONG).map(|cpu| cpu.id()));
+    thread::sleep(Duration::from_millis(5));
+    drop(held);
+    assert_eq!((one.recv_timeout(LONG), two.recv_timeout(LONG)), (Ok(Some(0)), Ok(Some(0))));
+}
+
+#[test]
+fn a_panic_wakes_who_waits() {
+    let (_registry, mut cpus) = with_driver(7);
+    let pool = Arc::new(CpuPool::new(cpus.drain(..1)).unwrap());
+    let one = catch_unwind(AssertUnwindSafe(|| {
+        let _held = pool.lend();
+        std::panic::panic_any(waiting_for_a_while(&pool));
+    }));
+    let one = one.unwrap_err().downcast::<Receiver<Option<u8>>>().unwrap();
+    assert_eq!(one.recv_timeout(LONG), Ok(Some(0)));
+}
+
+/// A thread that waits already, most likely.
+fn waiting_for_a_while(pool: &Arc<CpuPool<i32>>) -> Receiver<Option<u8>> {
+    let waiting = waiting(pool, |pool| Some(pool.lend().id()));
+    thread::sleep(Duration::from_millis(20));
+    waiting
+}
+
+/// One way to wait for a loan: which CPU it is.
+type Way = fn(&CpuPool<i32>) -> Option<u8>;
+
+/// Until it has happened that another thread took the CPU before the one that was woken, by each way to wait.
+#[test]
+fn a_loan_waits_on_where_another_takes_the_cpu() {
+    let (_registry, mut cpus) = with_driver(7);
+    let pool = Arc::new(CpuPool::new(cpus.drain(..1)).unwrap());
+    let ways: [Way; 2] = [
+        |pool| Some(pool.lend().id()),
+        |pool| pool.lend_until(Instant::now() + 2 * LONG).map(|cpu| cpu.id()),
+    ];
+    for way in ways {
+        let stolen = (0..200).any(|_| {
+            let held = pool.lend();
+            let waiting = waiting(&pool, way);
+            thread::sleep(Duration::from_millis(2));
+            drop(held);
+            let stolen = pool.try_lend();
+            thread::sleep(Duration::from_millis(2));
+            let was_stolen = stolen.is_some();
+            drop(stolen);
+            assert_eq!(waiting.recv_timeout(LONG), Ok(Some(0)));
+            was_stolen
+        });
+        assert!(stolen, "nobody took the CPU before");
+    }
 }
 
 #[test]
@@ -66,7 +121,7 @@ fn more_threads_than_cpus_share_them() {
                     assert!(!mine.swap(true, Ordering::SeqCst), "one CPU, two threads");
                     let reference = local(&cpu, "wm");
                     found.fetch_add(*reference, Ordering::SeqCst);
-                    reference.release(&cpu).unwrap();
+                    LocalRef::release(reference, &cpu).unwrap();
                     mine.store(false, Ordering::SeqCst);
                 }
             })
@@ -79,7 +134,7 @@ fn more_threads_than_cpus_share_them() {
     assert_eq!(found.load(Ordering::SeqCst), 6 * 200 * 7);
     let mut cpus = pool.into_cpus();
     cpus.sort_by_key(|cpu| cpu.id());
-    assert_eq!(registry.audit(&cpus).unwrap()[0].held, 0);
+    assert_eq!(balances(&registry, &cpus)[0].0, 0);
 }
 
 #[test]
@@ -99,8 +154,7 @@ fn a_cpu_comes_back_outside() {
     }));
     let cpu = pool.lend();
     assert!(ended.is_err() && !cpu.is_inside() && !cpu.holds(1));
-    detach(&registry, &other, "wm");
-    assert_eq!(freed(&registry, 1).value, 7);
+    assert_eq!(detach(&registry, &other, "wm").freed().value, 7);
 }
 
 #[test]
@@ -117,6 +171,6 @@ fn a_lent_cpu_attaches_and_looks_up() {
     let pool = CpuPool::new(cpus).unwrap();
     registry.attach(&pool.lend(), &name("vga"), 8).unwrap();
     let cpu = pool.lend();
-    let mut section = cpu.enter().unwrap();
+    let section = cpu.enter().unwrap();
     assert_eq!(*section.find(Kind::Driver, &name("vga")).unwrap(), 8);
 }

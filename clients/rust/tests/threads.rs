@@ -2,8 +2,8 @@
 
 mod common;
 
-use common::{name, Drops, Stops, Tracked};
-use registry::{Advance, Cpu, CpuPool, Kind, LocalRef, Name, Patience, Refusal, Registry, Settings};
+use common::{name, patience, Drops, Stops, Tracked};
+use registry::{Cpu, CpuPool, Found, Kind, LocalRef, Name, PassiveRef, Patience, Refusal, Registry, Settings};
 use std::env;
 use std::sync::atomic::{AtomicBool, AtomicU64, Ordering};
 use std::sync::mpsc::{sync_channel, Receiver, SyncSender};
@@ -33,14 +33,14 @@ fn names() -> Vec<Name> {
 fn look_up(cpu: &Cpu<Tracked>, names: &[Name], to: &SyncSender<LocalRef<Tracked>>) -> u64 {
     let mut seen = 0;
     let (mut passive, mut local) = (None, None);
-    let mut section = cpu.enter().unwrap();
+    let section = cpu.enter().unwrap();
     for (label, name) in (0..).zip(names) {
         if let Some(found) = section.find(Kind::Driver, name) {
             found.check();
             assert_eq!(found.label % NAMES, label);
             seen += 1;
-            passive = Some(found.acquire().unwrap());
-            local = Some(found.acquire_local().unwrap());
+            passive = Some(Found::acquire(&found).unwrap());
+            local = Some(Found::acquire_local(&found).unwrap());
             thread::yield_now();
             found.check();
         }
@@ -49,7 +49,7 @@ fn look_up(cpu: &Cpu<Tracked>, names: &[Name], to: &SyncSender<LocalRef<Tracked>
     thread::yield_now();
     if let (Some(passive), Some(local)) = (passive, local) {
         passive.check();
-        assert_eq!(passive.entry(), local.entry());
+        assert_eq!(PassiveRef::entry(&passive), LocalRef::entry(&local));
         drop(passive);
         local.check();
         to.send(local).unwrap();
@@ -72,7 +72,7 @@ fn take_over(cpu: Cpu<Tracked>, from: Receiver<LocalRef<Tracked>>) -> Cpu<Tracke
     for (place, reference) in from.iter().enumerate() {
         reference.check();
         if place % 2 == 0 {
-            reference.release(&cpu).unwrap();
+            LocalRef::release(reference, &cpu).unwrap();
         }
     }
     cpu
@@ -89,15 +89,16 @@ fn change(registry: &Registry<Tracked>, cpu: &Cpu<Tracked>, drops: &Drops, name:
         0 => drop(registry.retire(cpu, Kind::Driver, name).unwrap()),
         1 => {
             let gone = registry.detach(cpu, Kind::Driver, name).unwrap();
-            registry.destroy(cpu, gone.number, Patience::Forever).unwrap().value.check();
+            gone.destroy(cpu, patience()).unwrap().value.check();
         }
         _ => {
-            let gone = registry.detach(cpu, Kind::Driver, name).unwrap();
+            let mut gone = registry.detach(cpu, Kind::Driver, name).unwrap();
             loop {
-                match registry.advance(gone.number).unwrap() {
-                    Advance::Freed(freed) => break freed.value.check(),
-                    Advance::Held(_) => rest(),
+                match gone.advance() {
+                    Ok(freed) => break freed.value.check(),
+                    Err(held) => gone = held.given,
                 }
+                rest();
             }
         }
     }
@@ -205,9 +206,9 @@ fn handles_of_a_static_serve_all_threads() {
     };
     let readers: Vec<_> = (0..8).map(reader).collect();
     let held: Vec<_> = readers.into_iter().map(|reader| reader.join().unwrap()).collect();
-    let number = common::detach(&stored(), &pool.lend(), "wm");
-    assert!(stored().destroy(&pool.lend(), number, Patience::Turns(2)).is_err());
+    let gone = stored().detach(&pool.lend(), Kind::Driver, &name("wm")).unwrap();
+    let gone = gone.destroy(&pool.lend(), Patience::Turns(2)).unwrap_err().given;
     drop(held);
-    stored().destroy(&pool.lend(), number, Patience::Turns(1)).unwrap().value.check();
+    gone.destroy(&pool.lend(), Patience::Turns(1)).unwrap().value.check();
     assert_eq!(drops.dropped(), 1);
 }

@@ -2,8 +2,9 @@
 
 mod common;
 
-use common::{balance, detach, freed, local, name, with_driver};
-use registry::{CpuPool, Kind, Patience, Refusal, Refused};
+use common::{balance, balances, detach, local, name, patience, with_driver};
+use registry::{Cpu, CpuPool, Kind, LocalRef, PassiveRef, Refusal, Refused};
+use std::rc::Rc;
 
 #[test]
 fn changes_by_a_cpu_of_another_registry_are_refused() {
@@ -12,10 +13,13 @@ fn changes_by_a_cpu_of_another_registry_are_refused() {
     let foreign = &others[0];
     let Refused { refusal, given } = registry.attach(foreign, &name("vga"), 9).unwrap_err();
     assert_eq!((refusal, given), (Refusal::OtherRegistry, 9));
-    assert_eq!(registry.detach(foreign, Kind::Driver, &name("wm")), Err(Refusal::OtherRegistry));
+    assert_eq!(
+        registry.detach(foreign, Kind::Driver, &name("wm")).unwrap_err(),
+        Refusal::OtherRegistry
+    );
     assert_eq!(registry.retire(foreign, Kind::Driver, &name("wm")), Err(Refusal::OtherRegistry));
-    for all in [registry.audit(&cpus), other.audit(&others)] {
-        assert_eq!(all.unwrap(), [balance(0, &[0, 0], 0)]);
+    for all in [balances(&registry, &cpus), balances(&other, &others)] {
+        assert_eq!(all, [balance(0, &[0, 0], 0)]);
     }
     assert!(registry != other && registry == registry.clone() && registry == cpus[0].registry());
 }
@@ -26,12 +30,15 @@ fn an_interface_on_handles_of_two_registries_is_refused() {
     let (_other, others) = with_driver(8);
     let own = local(&cpus[0], "wm");
     let Refused { refusal, given } = registry.attach_iface(&others[0], &name("wm0"), own, 1500).unwrap_err();
-    assert_eq!((refusal, given.0.entry().number, given.1), (Refusal::OtherRegistry, 1, 1500));
+    assert_eq!(
+        (refusal, LocalRef::entry(&given.0).number, given.1),
+        (Refusal::OtherRegistry, 1, 1500)
+    );
     let foreign = local(&others[0], "wm");
     let Refused { refusal, given: back } = registry.attach_iface(&cpus[0], &name("wm0"), foreign, 1500).unwrap_err();
     assert_eq!((refusal, *back.0), (Refusal::OtherRegistry, 8));
-    back.0.release(&others[0]).unwrap();
-    given.0.release(&cpus[0]).unwrap();
+    LocalRef::release(back.0, &others[0]).unwrap();
+    LocalRef::release(given.0, &cpus[0]).unwrap();
     assert_eq!(registry.audit(&cpus).unwrap().len(), 1);
 }
 
@@ -39,24 +46,51 @@ fn an_interface_on_handles_of_two_registries_is_refused() {
 fn work_by_a_cpu_of_another_registry_is_refused() {
     let (registry, cpus) = with_driver(7);
     let (other, others) = with_driver(8);
-    let number = detach(&registry, &cpus[0], "wm");
-    detach(&other, &others[0], "wm");
-    assert_eq!(registry.destroy(&others[0], number, Patience::Forever), Err(Refusal::OtherRegistry));
-    assert_eq!(registry.perform(&others[0], Patience::Forever), Err(Refusal::OtherRegistry));
-    assert_eq!((freed(&registry, number).value, freed(&other, number).value), (7, 8));
+    let (one, two) = (detach(&registry, &cpus[0], "wm"), detach(&other, &others[0], "wm"));
+    assert_eq!(one.number, two.number);
+    let refused = one.token().destroy(&others[0], patience()).unwrap_err();
+    assert_eq!(refused.refusal, Refusal::OtherRegistry);
+    assert_eq!(registry.perform(&others[0], patience()), Err(Refusal::OtherRegistry));
+    assert_eq!((refused.given.advance().unwrap().value, two.freed().value), (7, 8));
+}
+
+#[test]
+fn a_clone_by_a_cpu_of_another_registry_is_refused() {
+    let (_registry, cpus) = with_driver(7);
+    let (_other, others) = with_driver(8);
+    let reference = local(&cpus[0], "wm");
+    assert_eq!(LocalRef::try_clone(&reference, &others[0]).unwrap_err(), Refusal::OtherRegistry);
+}
+
+/// Nor does a passive reference take a share of another CPU, of whichever registry.
+#[test]
+fn a_passive_reference_stays_with_its_cpu() {
+    let (_registry, cpus) = with_driver(7);
+    let (_other, others) = with_driver(7);
+    let rcs: Vec<Rc<Cpu<i32>>> = cpus.into_iter().chain(others).map(Rc::new).collect();
+    let mut reference = rcs[0].get(Kind::Driver, &name("wm")).unwrap();
+    for wrong in &rcs[1..] {
+        let Refused { refusal, given } = PassiveRef::into_rc(reference, wrong).unwrap_err();
+        assert_eq!((refusal, *given), (Refusal::WrongCpu, 7));
+        reference = given;
+    }
+    let owned = PassiveRef::into_rc(reference, &rcs[0]).unwrap();
+    assert_eq!((*owned, rcs[0].holds(1), Rc::strong_count(&rcs[0])), (7, true, 2));
+    drop(owned);
+    assert!(!rcs[0].holds(1) && !rcs[1].holds(1));
 }
 
 #[test]
 fn a_release_at_another_registry_is_refused() {
     let (registry, cpus) = with_driver(7);
     let (other, others) = with_driver(8);
-    let Refused { refusal, given } = local(&cpus[0], "wm").release(&others[0]).unwrap_err();
+    let Refused { refusal, given } = LocalRef::release(local(&cpus[0], "wm"), &others[0]).unwrap_err();
     assert_eq!((refusal, *given), (Refusal::OtherRegistry, 7));
-    let Refused { refusal, given } = given.guard(&others[0]).unwrap_err();
+    let Refused { refusal, given } = LocalRef::guard(given, &others[0]).unwrap_err();
     assert_eq!((refusal, *given), (Refusal::OtherRegistry, 7));
-    assert_eq!(other.audit(&others).unwrap(), [balance(0, &[0, 0], 0)]);
-    drop(given.guard(&cpus[1]).unwrap());
-    assert_eq!(registry.audit(&cpus).unwrap(), [balance(0, &[1, -1], 0)]);
+    assert_eq!(balances(&other, &others), [balance(0, &[0, 0], 0)]);
+    drop(LocalRef::guard(given, &cpus[1]).unwrap());
+    assert_eq!(balances(&registry, &cpus), [balance(0, &[1, -1], 0)]);
 }
 
 #[test]
@@ -89,7 +123,7 @@ fn a_basket_is_of_one_registry() {
     drop(local(&cpus[0], "wm"));
     drop(local(&others[1], "wm"));
     others[0].release_dropped();
-    assert_eq!(other.audit(&others).unwrap(), [balance(0, &[-1, 1], 0)]);
+    assert_eq!(balances(&other, &others), [balance(0, &[-1, 1], 0)]);
     cpus[1].release_dropped();
-    assert_eq!(registry.audit(&cpus).unwrap(), [balance(0, &[1, -1], 0)]);
+    assert_eq!(balances(&registry, &cpus), [balance(0, &[1, -1], 0)]);
 }

@@ -2,8 +2,8 @@
 
 mod common;
 
-use common::{detach, freed, holder, name, with_driver, Drops, Stops, Tracked};
-use registry::{Cpu, CpuPool, Holder, Kind, Name, Patience, Refusal, Registry, Settings};
+use common::{detach, name, patience, with_driver, Drops, Stops, Tracked};
+use registry::{Cpu, CpuPool, Found, Holder, Kind, LocalRef, Name, PassiveRef, ReadGuard, Refusal, Registry, Settings};
 use std::mem;
 use std::panic::{catch_unwind, AssertUnwindSafe};
 use std::sync::atomic::{AtomicBool, Ordering};
@@ -14,15 +14,15 @@ fn a_get_holds_what_it_found() {
     let (registry, cpus) = with_driver(7);
     let wm = name("wm");
     let reference = cpus[0].get(Kind::Driver, &wm).unwrap();
-    assert_eq!((reference.entry().number, *reference, cpus[0].depth()), (1, 7, 0));
+    assert_eq!((PassiveRef::entry(&reference).number, *reference, cpus[0].depth()), (1, 7, 0));
     let second = cpus[0].get(Kind::Driver, &wm).unwrap();
-    assert_eq!(detach(&registry, &cpus[1], "wm"), 1);
-    assert_eq!(holder(&registry, 1), Some(Holder::Passive(0)));
-    reference.release();
-    assert_eq!((holder(&registry, 1), *second), (Some(Holder::Passive(0)), 7));
+    let gone = detach(&registry, &cpus[1], "wm");
+    assert_eq!(gone.holder(), Some(Holder::Passive(0)));
+    PassiveRef::release(reference);
+    assert_eq!((gone.holder(), *second), (Some(Holder::Passive(0)), 7));
     drop(second);
     assert!(!cpus[0].holds(1));
-    assert_eq!(freed(&registry, 1).value, 7);
+    assert_eq!(gone.freed().value, 7);
 }
 
 #[test]
@@ -31,36 +31,39 @@ fn a_look_up_holds_nothing() {
     let entry = cpus[0].look_up(Kind::Driver, &name("wm")).unwrap();
     assert_eq!((entry.number, entry.slot, entry.kind, entry.name), (1, 0, Kind::Driver, name("wm")));
     assert_eq!((cpus[0].depth(), cpus[0].holds(1)), (0, false));
-    assert_eq!(detach(&registry, &cpus[1], "wm"), 1);
-    assert_eq!(freed(&registry, 1).value, 7);
+    let gone = detach(&registry, &cpus[1], "wm");
+    assert_eq!(gone.freed().value, 7);
 }
 
 #[test]
 fn a_read_holds_until_its_guard_goes() {
     let (registry, cpus) = with_driver(vec![1500, 9000]);
     let guard = cpus[0].read(Kind::Driver, &name("wm")).unwrap();
-    assert_eq!((guard.entry().number, guard[1], guard.cpu().id(), cpus[0].depth()), (1, 9000, 0, 1));
-    assert_eq!(format!("{guard:?}"), format!("ReadGuard {{ entry: {:?}, .. }}", guard.entry()));
-    assert_eq!(detach(&registry, &cpus[1], "wm"), 1);
-    assert_eq!(holder(&registry, 1), Some(Holder::Grace(0)));
+    assert_eq!((ReadGuard::entry(&guard).number, guard[1], cpus[0].depth()), (1, 9000, 1));
+    assert_eq!(ReadGuard::section(&guard).cpu().id(), 0);
+    let told = format!("ReadGuard {{ entry: {:?}, value: [1500, 9000] }}", ReadGuard::entry(&guard));
+    assert_eq!(format!("{guard:?}"), told);
+    let gone = detach(&registry, &cpus[1], "wm");
+    assert_eq!(gone.holder(), Some(Holder::Grace(0)));
     assert_eq!(cpus[0].read(Kind::Driver, &name("wm")).unwrap_err(), Refusal::NotFound);
-    assert_eq!((guard.len(), holder(&registry, 1)), (2, Some(Holder::Grace(0))));
-    guard.exit();
-    assert_eq!((cpus[0].is_inside(), freed(&registry, 1).value), (false, vec![1500, 9000]));
+    assert_eq!((guard.len(), gone.holder()), (2, Some(Holder::Grace(0))));
+    ReadGuard::exit(guard);
+    assert_eq!((cpus[0].is_inside(), gone.freed().value), (false, vec![1500, 9000]));
 }
 
 #[test]
 fn a_read_is_held_longer_by_references() {
     let (registry, cpus) = with_driver(7);
     let guard = cpus[0].read(Kind::Driver, &name("wm")).unwrap();
-    let (passive, local) = (guard.acquire().unwrap(), guard.acquire_local().unwrap());
+    let (passive, local) = (ReadGuard::acquire(&guard).unwrap(), ReadGuard::acquire_local(&guard).unwrap());
     drop(guard);
-    assert_eq!((cpus[0].depth(), detach(&registry, &cpus[1], "wm")), (0, 1));
-    assert_eq!((holder(&registry, 1), *passive), (Some(Holder::Passive(0)), 7));
-    passive.release();
-    assert_eq!((holder(&registry, 1), *local), (Some(Holder::Local(1)), 7));
-    local.release(&cpus[1]).unwrap();
-    assert_eq!(freed(&registry, 1).value, 7);
+    let gone = detach(&registry, &cpus[1], "wm");
+    assert_eq!((cpus[0].depth(), gone.number), (0, 1));
+    assert_eq!((gone.holder(), *passive), (Some(Holder::Passive(0)), 7));
+    PassiveRef::release(passive);
+    assert_eq!((gone.holder(), *local), (Some(Holder::Local(1)), 7));
+    LocalRef::release(local, &cpus[1]).unwrap();
+    assert_eq!(gone.freed().value, 7);
 }
 
 /// The section lasts from the first guard to the last, in whichever order they go.
@@ -73,62 +76,44 @@ fn reads_are_nested_in_any_order() {
     let second = cpu.read(Kind::Driver, &vga).unwrap();
     let section = cpu.enter().unwrap();
     assert_eq!((*first, *second, cpu.depth()), (7, 8, 3));
-    assert_eq!((first.acquire().unwrap_err(), *second.acquire().unwrap()), (Refusal::Superseded, 8));
+    assert_eq!(
+        (*ReadGuard::acquire(&first).unwrap(), *ReadGuard::acquire(&second).unwrap()),
+        (7, 8)
+    );
     drop(first);
-    assert_eq!(detach(&registry, &cpus[1], "vga"), 2);
+    let gone = detach(&registry, &cpus[1], "vga");
     drop(section);
-    assert_eq!((cpu.depth(), *second, holder(&registry, 2)), (1, 8, Some(Holder::Grace(0))));
-    assert_eq!(*second.acquire_local().unwrap(), 8);
+    assert_eq!((cpu.depth(), *second, gone.holder()), (1, 8, Some(Holder::Grace(0))));
+    assert_eq!(*ReadGuard::acquire_local(&second).unwrap(), 8);
     cpu.release_dropped();
     drop(second);
-    assert_eq!((cpu.depth(), freed(&registry, 2).value), (0, 8));
-}
-
-/// A read in a section sets the last found entry there, also where it is refused, and leaves the section open.
-#[test]
-fn in_a_section_a_read_supersedes_what_was_found() {
-    let (registry, cpus) = with_driver(7);
-    let (cpu, wm, vga, pci) = (&cpus[0], name("wm"), name("vga"), name("pci"));
-    registry.attach(cpu, &vga, 8).unwrap();
-    let mut section = cpu.enter().unwrap();
-    let found = section.find(Kind::Driver, &wm).unwrap();
-    assert_eq!(*cpu.read(Kind::Driver, &vga).unwrap(), 8);
-    assert_eq!((found.acquire().unwrap_err(), cpu.depth()), (Refusal::Superseded, 1));
-    assert_eq!(*cpu.read(Kind::Driver, &wm).unwrap().acquire().unwrap(), 7);
-    assert_eq!(*found.acquire().unwrap(), 7);
-    assert_eq!(cpu.read(Kind::Driver, &pci).unwrap_err(), Refusal::NotFound);
-    assert_eq!((found.acquire_local().unwrap_err(), cpu.depth()), (Refusal::Superseded, 1));
-    let guard = cpu.read(Kind::Driver, &wm).unwrap();
-    assert_eq!(cpu.look_up(Kind::Driver, &vga).unwrap().number, 2);
-    assert_eq!(
-        (guard.acquire().unwrap_err(), guard.acquire_local().unwrap_err()),
-        (Refusal::Superseded, Refusal::Superseded)
-    );
-    assert_eq!((*guard, *found), (7, 7));
+    assert_eq!((cpu.depth(), gone.freed().value), (0, 8));
 }
 
 /// What a guard of an older section found isn't acquired in a newer one by its number.
 #[test]
 fn a_read_after_a_read_starts_anew() {
-    let (_registry, cpus) = with_driver(7);
+    let (registry, cpus) = with_driver(7);
     let wm = name("wm");
     drop(cpus[0].read(Kind::Driver, &wm).unwrap());
     let section = cpus[0].enter().unwrap();
     let guard = cpus[0].read(Kind::Driver, &wm).unwrap();
     assert_eq!(cpus[0].read(Kind::Iface, &wm).unwrap_err(), Refusal::NotFound);
-    assert_eq!(guard.acquire().unwrap_err(), Refusal::Superseded);
+    let gone = detach(&registry, &cpus[1], "wm");
+    assert_eq!(ReadGuard::acquire(&guard).unwrap_err(), Refusal::NotFound);
     section.exit();
-    assert_eq!((*guard, cpus[0].depth()), (7, 1));
+    assert_eq!((*guard, cpus[0].depth(), gone.holder()), (7, 1, Some(Holder::Grace(0))));
 }
 
 #[test]
 fn a_forgotten_read_stays_open() {
     let (registry, mut cpus) = with_driver(7);
     mem::forget(cpus[0].read(Kind::Driver, &name("wm")).unwrap());
-    assert_eq!((cpus[0].depth(), detach(&registry, &cpus[1], "wm")), (1, 1));
-    assert_eq!(holder(&registry, 1), Some(Holder::Grace(0)));
+    let gone = detach(&registry, &cpus[1], "wm");
+    assert_eq!((cpus[0].depth(), gone.number), (1, 1));
+    assert_eq!(gone.holder(), Some(Holder::Grace(0)));
     cpus[0].leave();
-    assert_eq!((cpus[0].depth(), freed(&registry, 1).value), (0, 7));
+    assert_eq!((cpus[0].depth(), gone.freed().value), (0, 7));
 }
 
 #[test]
@@ -137,13 +122,14 @@ fn a_panic_ends_a_read() {
     let cpu = &cpus[0];
     let body = AssertUnwindSafe(|| {
         let guard = cpu.read(Kind::Driver, &name("wm")).unwrap();
-        let _held = guard.acquire().unwrap();
+        let _held = ReadGuard::acquire(&guard).unwrap();
         let _inner = cpu.read(Kind::Driver, &name("wm")).unwrap();
         panic!("the body's own, of {}", *guard);
     });
     assert!(catch_unwind(body).is_err());
-    assert_eq!((cpu.depth(), cpu.holds(1), detach(&registry, &cpus[1], "wm")), (0, false, 1));
-    assert_eq!(freed(&registry, 1).value, 7);
+    let gone = detach(&registry, &cpus[1], "wm");
+    assert_eq!((cpu.depth(), cpu.holds(1), gone.number), (0, false, 1));
+    assert_eq!(gone.freed().value, 7);
 }
 
 #[test]
@@ -154,8 +140,8 @@ fn a_lent_cpu_reads() {
     assert_eq!(cpu.read(Kind::Driver, &name("wm")).map(|guard| *guard), Ok(7));
     drop(cpu);
     let other = pool.lend();
-    assert_eq!(detach(&registry, &other, "wm"), 1);
-    assert_eq!(registry.destroy(&other, 1, Patience::Forever).unwrap().value, 7);
+    let gone = detach(&registry, &other, "wm");
+    assert_eq!(gone.token().destroy(&other, patience()).unwrap().value, 7);
 }
 
 #[test]
@@ -164,53 +150,31 @@ fn in_a_section_what_is_found_keeps_its_slot() {
     let section = cpus[0].enter().unwrap();
     assert_eq!(cpus[0].look_up(Kind::Driver, &name("wm")).unwrap().number, 1);
     assert_eq!(cpus[0].depth(), 1);
-    assert_eq!(detach(&registry, &cpus[1], "wm"), 1);
-    assert_eq!(holder(&registry, 1), Some(Holder::Grace(0)));
+    let gone = detach(&registry, &cpus[1], "wm");
+    assert_eq!(gone.holder(), Some(Holder::Grace(0)));
     section.exit();
-    assert_eq!(freed(&registry, 1).value, 7);
-}
-
-/// A lookup by one call sets the last found entry of the open section, so what was found before isn't acquired by mistake.
-#[test]
-fn in_a_section_it_supersedes_what_was_found() {
-    let (registry, cpus) = with_driver(7);
-    let cpu = &cpus[0];
-    let (wm, vga, pci) = (name("wm"), name("vga"), name("pci"));
-    registry.attach(cpu, &vga, 8).unwrap();
-    let mut section = cpu.enter().unwrap();
-    let found = section.find(Kind::Driver, &wm).unwrap();
-    assert_eq!(*cpu.get(Kind::Driver, &vga).unwrap(), 8);
-    assert_eq!(found.acquire().unwrap_err(), Refusal::Superseded);
-    assert_eq!(*cpu.get(Kind::Driver, &wm).unwrap(), 7);
-    assert_eq!((*found.acquire().unwrap(), *found.acquire_local().unwrap()), (7, 7));
-    assert_eq!(cpu.look_up(Kind::Driver, &vga).unwrap().number, 2);
-    assert_eq!(found.acquire_local().unwrap_err(), Refusal::Superseded);
-    assert_eq!(cpu.look_up(Kind::Driver, &wm).unwrap().number, 1);
-    assert_eq!(*found.acquire().unwrap(), 7);
-    assert_eq!(cpu.get(Kind::Driver, &pci).unwrap_err(), Refusal::NotFound);
-    assert_eq!((found.acquire().unwrap_err(), *found), (Refusal::Superseded, 7));
+    assert_eq!(gone.freed().value, 7);
 }
 
 #[test]
 fn a_full_count_is_refused() {
-    let (registry, cpus) = Registry::open(Settings {
-        passives: 1,
-        ..Settings::new(1, 2)
-    })
-    .unwrap();
+    let (registry, cpus) = Registry::open(Settings::new(1, 2).passives(1)).unwrap();
     let cpu = &cpus[0];
     let (wm, vga) = (name("wm"), name("vga"));
     registry.attach(cpu, &wm, 7).unwrap();
     registry.attach(cpu, &vga, 8).unwrap();
     let reference = cpu.get(Kind::Driver, &vga).unwrap();
     assert_eq!(cpu.get(Kind::Driver, &vga).unwrap_err(), Refusal::PassiveFull);
-    let mut section = cpu.enter().unwrap();
+    let section = cpu.enter().unwrap();
     let found = section.find(Kind::Driver, &wm).unwrap();
     assert_eq!(cpu.get(Kind::Driver, &vga).unwrap_err(), Refusal::PassiveFull);
-    assert_eq!(found.acquire_local().unwrap_err(), Refusal::Superseded);
+    // The archive's last found entry is the other one, and isn't acquired in place of the one that is meant.
+    let local = Found::acquire_local(&found).unwrap();
+    assert_eq!((*local, LocalRef::entry(&local)), (7, Found::entry(&found)));
+    drop(local);
     section.exit();
     assert_eq!((cpu.depth(), *reference), (0, 8));
-    reference.release();
+    PassiveRef::release(reference);
     assert_eq!(*cpu.get(Kind::Driver, &vga).unwrap(), 8);
 }
 
@@ -235,7 +199,7 @@ fn a_call_is_nested_as_deep_as_a_section() {
     assert_eq!(cpu.get(Kind::Driver, &wm).unwrap_err(), Refusal::TooDeep);
     assert_eq!(cpu.look_up(Kind::Driver, &wm), Err(Refusal::TooDeep));
     assert_eq!(cpu.read(Kind::Driver, &wm).unwrap_err(), Refusal::TooDeep);
-    assert_eq!((*found.acquire().unwrap(), cpu.depth()), (7, 255));
+    assert_eq!((*Found::acquire(&found).unwrap(), cpu.depth()), (7, 255));
     guards.pop();
     assert_eq!((*cpu.read(Kind::Driver, &wm).unwrap(), cpu.depth()), (7, 255));
     assert_eq!(cpu.look_up(Kind::Driver, &wm).unwrap().number, 1);
@@ -244,11 +208,7 @@ fn a_call_is_nested_as_deep_as_a_section() {
 
 #[test]
 fn a_call_outside_counts_as_a_section() {
-    let (registry, cpus) = Registry::open(Settings {
-        sections: 4,
-        ..Settings::new(1, 1)
-    })
-    .unwrap();
+    let (registry, cpus) = Registry::open(Settings::new(1, 1).sections(4)).unwrap();
     let (cpu, wm) = (&cpus[0], name("wm"));
     registry.attach(cpu, &wm, 7).unwrap();
     let section = cpu.enter().unwrap();

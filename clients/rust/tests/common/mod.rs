@@ -1,27 +1,49 @@
 //! What the tests have in common.
 #![allow(dead_code)]
 
-use registry::{Advance, Balance, Cpu, Freed, Holder, Kind, LocalRef, Name, PassiveRef, Registry, Settings};
+pub mod watched;
+
+use registry::{Cpu, Entry, Freed, Holder, Kind, LocalRef, Name, PassiveRef, Patience, Refusal, Refused, Registry, Retired, Settings};
+use std::cell::RefCell;
 use std::sync::atomic::{AtomicBool, AtomicU64, AtomicUsize, Ordering};
 use std::sync::Arc;
+use std::time::Duration;
 
 pub fn name(text: &str) -> Name {
     Name::parse(text).unwrap()
 }
 
-/// A local reference to a driver, acquired in a section of its own.
+/// Longer than anything takes that these tests wait for.
+pub const LONG: Duration = Duration::from_secs(20);
+
+/// A patience that ends, so that a test fails where it would wait for ever.
+pub fn patience() -> Patience {
+    Patience::at_most(LONG)
+}
+
+/// So many steps; few where a tool watches each access.
+pub fn scaled(steps: usize) -> usize {
+    if std::env::var_os("REGISTRY_CHANGES").is_some() {
+        steps / 100
+    } else {
+        steps
+    }
+}
+
+/// A local reference to a driver.
 pub fn local<T>(cpu: &Cpu<T>, text: &str) -> LocalRef<T> {
-    cpu.enter()
-        .unwrap()
-        .find(Kind::Driver, &name(text))
-        .unwrap()
-        .acquire_local()
+    cpu.get_local(Kind::Driver, &name(text))
+        .map_err(|refusal| panic!("{refusal}"))
+        .ok()
         .unwrap()
 }
 
 /// A passive one.
 pub fn passive<'cpu, T>(cpu: &'cpu Cpu<T>, text: &str) -> PassiveRef<'cpu, T> {
-    cpu.enter().unwrap().find(Kind::Driver, &name(text)).unwrap().acquire().unwrap()
+    cpu.get(Kind::Driver, &name(text))
+        .map_err(|refusal| panic!("{refusal}"))
+        .ok()
+        .unwrap()
 }
 
 /// A registry with two CPUs and the driver `wm`, which is number 1 in slot 0 and carries this.
@@ -31,33 +53,65 @@ pub fn with_driver<T>(value: T) -> (Registry<T>, Vec<Cpu<T>>) {
     (registry, cpus)
 }
 
+/// A detached entry on which turns are made one by one.
+pub struct Gone<T> {
+    retired: RefCell<Option<Retired<T>>>,
+    pub entry: Entry,
+    pub number: u64,
+}
+
 /// Detaches the driver.
-pub fn detach<T>(registry: &Registry<T>, cpu: &Cpu<T>, text: &str) -> u64 {
-    registry.detach(cpu, Kind::Driver, &name(text)).unwrap().number
+pub fn detach<T>(registry: &Registry<T>, cpu: &Cpu<T>, text: &str) -> Gone<T> {
+    detach_any(registry, cpu, Kind::Driver, text)
 }
 
-/// What holds a retired entry, as one turn meets it.
-pub fn holder<T>(registry: &Registry<T>, number: u64) -> Option<Holder> {
-    registry.advance(number).unwrap().holder()
-}
-
-/// What one turn frees.
-pub fn freed<T>(registry: &Registry<T>, number: u64) -> Freed<T> {
-    match registry.advance(number).unwrap() {
-        Advance::Freed(freed) => freed,
-        Advance::Held(holder) => panic!("held: {holder}"),
+/// Detaches an entry.
+pub fn detach_any<T>(registry: &Registry<T>, cpu: &Cpu<T>, kind: Kind, text: &str) -> Gone<T> {
+    let retired = registry.detach(cpu, kind, &name(text)).unwrap();
+    let entry = retired.entry();
+    Gone {
+        retired: RefCell::new(Some(retired)),
+        entry,
+        number: entry.number,
     }
 }
 
-/// A balance of the driver `wm`.
-pub fn balance(held: i64, locals: &[i64], total: i64) -> Balance {
-    Balance {
-        number: 1,
-        slot: 0,
-        held,
-        locals: locals.to_vec(),
-        total,
+impl<T> Gone<T> {
+    /// Takes the token out.
+    pub fn token(&self) -> Retired<T> {
+        self.retired.take().expect("it isn't freed")
     }
+
+    /// What holds it, as one turn meets it; none where the turn freed it.
+    pub fn holder(&self) -> Option<Holder> {
+        match self.token().advance() {
+            Ok(_) => None,
+            Err(Refused {
+                refusal: Refusal::StillHeld(holder),
+                given,
+            }) => {
+                self.retired.replace(Some(given));
+                Some(holder)
+            }
+            Err(refused) => panic!("{refused}"),
+        }
+    }
+
+    /// What one turn frees.
+    pub fn freed(&self) -> Freed<T> {
+        self.token().advance().unwrap_or_else(|held| panic!("{held}"))
+    }
+}
+
+/// What an audit says of each entry: what is held, the count of each CPU, and the total.
+pub fn balances<T>(registry: &Registry<T>, cpus: &[Cpu<T>]) -> Vec<(i64, Vec<i64>, i64)> {
+    let all = registry.audit(cpus).unwrap();
+    all.into_iter().map(|one| (one.held, one.locals, one.total)).collect()
+}
+
+/// What an audit says where a driver alone is there.
+pub fn balance(held: i64, locals: &[i64], total: i64) -> (i64, Vec<i64>, i64) {
+    (held, locals.to_vec(), total)
 }
 
 /// Tells threads to stop as it is dropped, so also where the test fails: else a scope would wait for them for ever.
@@ -79,6 +133,7 @@ pub struct Drops {
 const ALIVE: u64 = 0x616c_6976_6561_6c69;
 
 /// A value in a block of its own, which is poisoned as it is dropped.
+#[derive(Debug)]
 pub struct Tracked {
     state: Box<AtomicU64>,
     dropped: Arc<AtomicUsize>,

@@ -4,7 +4,7 @@
 use registry::{Cpu, Kind, Name};
 
 pub fn refer(cpu: Cpu<u64>, wm: &Name) -> Option<u64> {
-    let reference = cpu.enter().ok()?.find(Kind::Driver, wm)?.acquire().ok()?;
+    let reference = cpu.get(Kind::Driver, wm).ok()?;
     let value = *reference;
     #[cfg(not(fails))]
     drop(reference);

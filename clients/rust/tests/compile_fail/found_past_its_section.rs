@@ -4,7 +4,7 @@
 use registry::{Cpu, Kind, Name};
 
 pub fn look(cpu: &Cpu<u64>, wm: &Name) -> Option<u64> {
-    let mut section = cpu.enter().ok()?;
+    let section = cpu.enter().ok()?;
     let found = section.find(Kind::Driver, wm)?;
     #[cfg(fails)]
     drop(section);

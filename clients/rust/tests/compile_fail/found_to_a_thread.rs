@@ -7,7 +7,7 @@ use registry::{Cpu, Kind, Name};
 fn sent<S: Send>(_: S) {}
 
 pub fn look(cpu: &Cpu<u64>, wm: &Name) -> Option<()> {
-    let mut section = cpu.enter().ok()?;
+    let section = cpu.enter().ok()?;
     let found = section.find(Kind::Driver, wm)?;
     #[cfg(fails)]
     sent(found);

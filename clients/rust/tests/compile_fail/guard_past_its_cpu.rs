@@ -4,7 +4,7 @@
 use registry::{Cpu, LocalRef};
 
 pub fn give_up(reference: LocalRef<u64>, cpu: Cpu<u64>) {
-    if let Ok(guard) = reference.guard(&cpu) {
+    if let Ok(guard) = LocalRef::guard(reference, &cpu) {
         #[cfg(fails)]
         drop(cpu);
         drop(guard);

@@ -5,7 +5,7 @@
 use registry::{Cpu, LocalRef};
 
 pub fn send(reference: LocalRef<u64>, cpu: &Cpu<u64>) {
-    if let Ok(guard) = reference.guard(cpu) {
+    if let Ok(guard) = LocalRef::guard(reference, cpu) {
         #[cfg(fails)]
         std::thread::scope(|scope| {
             scope.spawn(move || drop(guard));

@@ -4,7 +4,7 @@
 use registry::Cpu;
 
 pub fn first(cpu: &Cpu<String>) -> Option<usize> {
-    let mut section = cpu.enter().ok()?;
+    let section = cpu.enter().ok()?;
     let listed = section.entries().next()?;
     #[cfg(fails)]
     section.exit();

@@ -6,6 +6,6 @@ use registry::{Cpu, LocalRef};
 pub fn release(reference: LocalRef<String>, cpu: &Cpu<String>) -> usize {
     let value: &String = &reference;
     #[cfg(fails)]
-    let _ = reference.release(cpu);
+    let _ = LocalRef::release(reference, cpu);
     value.len()
 }

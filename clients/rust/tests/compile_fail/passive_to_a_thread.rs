@@ -5,7 +5,7 @@
 use registry::{Cpu, Kind, Name};
 
 pub fn refer(cpu: &Cpu<u64>, wm: &Name) -> Option<u64> {
-    let reference = cpu.enter().ok()?.find(Kind::Driver, wm)?.acquire().ok()?;
+    let reference = cpu.get(Kind::Driver, wm).ok()?;
     #[cfg(fails)]
     std::thread::scope(|scope| {
         scope.spawn(move || drop(reference));

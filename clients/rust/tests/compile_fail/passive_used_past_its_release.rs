@@ -6,6 +6,6 @@ use registry::PassiveRef;
 pub fn release(reference: PassiveRef<'_, String>) -> usize {
     let value: &String = &reference;
     #[cfg(fails)]
-    reference.release();
+    PassiveRef::release(reference);
     value.len()
 }

@@ -2,13 +2,13 @@
 // error: future cannot be sent between threads safely
 // says: has type `ReadGuard<'_, u64>` which is not `Send`
 
-use registry::{Cpu, Kind, Name};
+use registry::{Cpu, Kind, Name, ReadGuard};
 
 async fn carry(cpu: Cpu<u64>, wm: Name) -> Cpu<u64> {
     if let Ok(guard) = cpu.read(Kind::Driver, &wm) {
         #[cfg(fails)]
         std::future::ready(()).await;
-        guard.exit();
+        ReadGuard::exit(guard);
     }
     std::future::ready(()).await;
     cpu

@@ -4,7 +4,7 @@
 use registry::{Cpu, LocalRef};
 
 pub fn release(reference: LocalRef<u64>, cpu: &Cpu<u64>) {
-    let _ = reference.release(cpu);
+    let _ = LocalRef::release(reference, cpu);
     #[cfg(fails)]
-    let _ = reference.release(cpu);
+    let _ = LocalRef::release(reference, cpu);
 }

@@ -4,7 +4,7 @@
 use registry::PassiveRef;
 
 pub fn release(reference: PassiveRef<'_, u64>) {
-    reference.release();
+    PassiveRef::release(reference);
     #[cfg(fails)]
-    reference.release();
+    PassiveRef::release(reference);
 }

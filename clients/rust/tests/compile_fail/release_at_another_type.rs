@@ -6,5 +6,5 @@ use registry::{Cpu, LocalRef};
 pub fn release(reference: LocalRef<u64>, own: &Cpu<u64>, other: &Cpu<String>) {
     #[cfg(fails)]
     let own = other;
-    let _ = reference.release(own);
+    let _ = LocalRef::release(reference, own);
 }

@@ -1,12 +1,12 @@
 // What an entry carries isn't used past the guard that read it.
 // error: E0505
 
-use registry::{Cpu, Kind, Name};
+use registry::{Cpu, Kind, Name, ReadGuard};
 
 pub fn read(cpu: &Cpu<String>, wm: &Name) -> Option<usize> {
     let guard = cpu.read(Kind::Driver, wm).ok()?;
     let value: &String = &guard;
     #[cfg(fails)]
-    guard.exit();
+    ReadGuard::exit(guard);
     Some(value.len())
 }

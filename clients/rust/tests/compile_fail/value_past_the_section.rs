@@ -4,7 +4,7 @@
 use registry::{Cpu, Kind, Name};
 
 pub fn look(cpu: &Cpu<String>, wm: &Name) -> Option<usize> {
-    let mut section = cpu.enter().ok()?;
+    let section = cpu.enter().ok()?;
     let found = section.find(Kind::Driver, wm)?;
     let value: &String = &found;
     #[cfg(fails)]

@@ -1,13 +1,13 @@
-// A `Listed` isn't cloned, so it isn't copied either.
+// A `LocalGuard` isn't cloned.
 // error: E0277
 // says: : Clone` is not satisfied
 
-use registry::{Listed, Registry};
+use registry::{LocalGuard, Registry};
 
 fn cloned<C: Clone>() {}
 
 pub fn try_it() {
     cloned::<Registry<u64>>();
     #[cfg(fails)]
-    cloned::<Listed<'static, 'static, u64>>();
+    cloned::<LocalGuard<'static, u64>>();
 }

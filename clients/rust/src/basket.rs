@@ -1,0 +1,220 @@
+//! Local references that were dropped where no CPU was at hand.
+//!
+//! A CPU alone can release a reference to a live entry, and a drop has none. So what is dropped lies in the basket of the CPU that acquired it,
+//! by the slot of its entry, until a call with a CPU releases it there, or a turn of the work on the entry gives it up. Each such call takes a
+//! bounded number, and an acquire takes more than it adds: so no basket has ever more in it than references were held at once.
+
+use crate::ffi;
+use crate::shared::locked;
+use std::sync::atomic::{AtomicU32, AtomicUsize, Ordering};
+use std::sync::{Mutex, MutexGuard};
+
+/// How many references an acquire of a local reference releases before, of those that its CPU acquired.
+pub const BY_ACQUIRE: usize = 2;
+
+/// How many a release releases beside its own: so many of those that its CPU acquired, and so many of another CPU's if its basket is heavy.
+pub const BY_RELEASE: usize = 4;
+
+/// How many a change, a wait, or a CPU that goes releases.
+pub const BY_CHANGE: usize = 64;
+
+/// How many a turn of the work on a retired entry gives up, of those that are to this entry.
+pub const BY_TURN: usize = 256;
+
+/// A basket is heavy that has more in it: then each CPU's releases lighten it, and each drop by a CPU that nobody has.
+const HEAVY: usize = 64;
+
+/// What lies in the basket of a CPU, by the slots of the entries. While a reference lies there its entry keeps its slot.
+#[derive(Default)]
+struct Dropped {
+    of_slot: [Vec<ffi::Local>; ffi::MOST_SLOTS],
+    /// A bit for each slot of which something lies there.
+    filled: u32,
+    count: usize,
+}
+
+/// On cache lines of its own: each acquire and each release looks at its CPU's.
+#[derive(Default)]
+#[repr(align(128))]
+struct Basket {
+    dropped: Mutex<Dropped>,
+    /// How many lie in it, or a little while ago: to look before locking.
+    count: AtomicUsize,
+}
+
+/// On cache lines of its own, which are written seldom and read by each release.
+#[derive(Default)]
+#[repr(align(128))]
+struct Heavy {
+    /// A bit for each CPU whose basket is heavy, or was a little while ago.
+    cpus: AtomicU32,
+}
+
+/// The baskets of all CPUs.
+#[derive(Default)]
+pub struct Baskets {
+    of_cpu: [Basket; ffi::MOST_CPUS],
+    heavy: Heavy,
+}
+
+impl Dropped {
+    /// Lays a reference in. It comes back where there is no memory for it.
+    fn lay(&mut self, slot: usize, local: ffi::Local) -> Result<(), ffi::Local> {
+        let place = &mut self.of_slot[slot];
+        if place.try_reserve(1).is_err() {
+            return Err(local);
+        }
+        place.push(local);
+        self.filled |= 1 << slot;
+        self.count += 1;
+        Ok(())
+    }
+
+    /// Takes a reference out that is to the entry in this slot. The row's room shrinks with it.
+    fn take_of(&mut self, slot: usize) -> Option<ffi::Local> {
+        let place = &mut self.of_slot[slot];
+        let local = place.pop()?;
+        if place.is_empty() {
+            self.filled &= !(1 << slot);
+        }
+        self.count -= 1;
+        if place.capacity() > HEAVY && place.len() <= place.capacity() / 4 {
+            place.shrink_to(place.capacity() / 2);
+        }
+        Some(local)
+    }
+
+    /// Takes any out, with its slot.
+    fn take(&mut self) -> Option<(usize, ffi::Local)> {
+        if self.filled == 0 {
+            return None;
+        }
+        let slot = self.filled.trailing_zeros() as usize;
+        self.take_of(slot).map(|local| (slot, local))
+    }
+}
+
+impl Basket {
+    #[inline]
+    fn count(&self) -> usize {
+        self.count.load(Ordering::Relaxed)
+    }
+}
+
+impl Baskets {
+    /// Does something with the basket of a CPU, and notes then how many lie in it.
+    fn with<R>(&self, cpu: u8, change: impl FnOnce(&mut MutexGuard<'_, Dropped>) -> R) -> R {
+        let basket = &self.of_cpu[usize::from(cpu)];
+        let mut dropped = locked(&basket.dropped);
+        let done = change(&mut dropped);
+        basket.count.store(dropped.count, Ordering::Relaxed);
+        // The bit has no edge of its own: a little more and a little less than heavy is told by the same bit as before.
+        let (bit, heavy) = (1 << cpu, self.heavy.cpus.load(Ordering::Relaxed));
+        if dropped.count > HEAVY && heavy & bit == 0 {
+            self.heavy.cpus.fetch_or(bit, Ordering::Relaxed);
+        } else if dropped.count < HEAVY / 2 && heavy & bit != 0 {
+            self.heavy.cpus.fetch_and(!bit, Ordering::Relaxed);
+        }
+        done
+    }
+
+    /// Lays a reference, which this CPU acquired, into its basket. Where the basket can't grow, the reference is held for good: nobody is misled.
+    pub fn lay(&self, cpu: u8, slot: usize, local: ffi::Local) {
+        if let Err(mut local) = self.with(cpu, |dropped| dropped.lay(slot, local)) {
+            // SAFETY: this is the only use of the reference's handle. What it counts stays counted.
+            unsafe { ffi::registry_local_forget(&mut local) };
+        }
+    }
+
+    /// Takes a reference out of a CPU's basket, with its slot.
+    pub fn take(&self, cpu: u8) -> Option<(usize, ffi::Local)> {
+        if self.count(cpu) == 0 {
+            return None;
+        }
+        self.with(cpu, |dropped| dropped.take())
+    }
+
+    /// Takes a reference to the entry in this slot out of a CPU's basket.
+    pub fn take_of(&self, cpu: u8, slot: usize) -> Option<ffi::Local> {
+        if self.count(cpu) == 0 {
+            return None;
+        }
+        self.with(cpu, |dropped| dropped.take_of(slot))
+    }
+
+    /// How many lie in a CPU's basket, or a little while ago: at least those that were dropped before, as this thread knows it.
+    #[inline]
+    pub fn count(&self, cpu: u8) -> usize {
+        self.of_cpu[usize::from(cpu)].count()
+    }
+
+    /// How many lie in all baskets.
+    pub fn total(&self) -> usize {
+        self.of_cpu.iter().map(Basket::count).sum()
+    }
+
+    /// Whether a CPU has nothing to release: its own basket is empty, and no other is heavy.
+    #[inline]
+    pub fn is_at_rest(&self, cpu: u8) -> bool {
+        self.count(cpu) == 0 && self.heavy.cpus.load(Ordering::Relaxed) == 0
+    }
+
+    /// A CPU whose basket is heavy.
+    pub fn heavy(&self) -> Option<u8> {
+        let cpus = self.heavy.cpus.load(Ordering::Relaxed);
+        (cpus != 0).then(|| cpus.trailing_zeros() as u8)
+    }
+
+    /// Whether a CPU's basket is heavy.
+    pub fn is_heavy(&self, cpu: u8) -> bool {
+        self.count(cpu) > HEAVY
+    }
+
+    /// All CPUs, this one first.
+    pub fn cpus_from(first: u8) -> impl Iterator<Item = u8> {
+        let most = ffi::MOST_CPUS as u8;
+        (0..most).map(move |next| (first + next) % most)
+    }
+}
+
+#[cfg(test)]
+mod tests {
+    use super::{Baskets, Dropped, HEAVY};
+    use crate::ffi;
+
+    #[test]
+    fn a_basket_gives_its_room_back() {
+        let mut dropped = Dropped::default();
+        for slot in [0, 31] {
+            for _ in 0..100_000 {
+                assert!(dropped.lay(slot, ffi::Local::EMPTY).is_ok());
+            }
+        }
+        assert!(dropped.of_slot[31].capacity() >= 100_000);
+        while dropped.take().is_some() {}
+        assert_eq!(dropped.count, 0);
+        assert!(dropped.of_slot.iter().all(|place| place.capacity() <= 2 * HEAVY));
+    }
+
+    #[test]
+    fn a_basket_is_heavy_beyond_its_bound_and_light_below_half_of_it() {
+        let baskets = Baskets::default();
+        for count in 1..=HEAVY + 1 {
+            assert_eq!(baskets.heavy(), None);
+            baskets.lay(3, 5, ffi::Local::EMPTY);
+            assert_eq!((baskets.count(3), baskets.total()), (count, count));
+        }
+        assert!(baskets.heavy() == Some(3) && baskets.is_heavy(3) && !baskets.is_at_rest(0));
+        while baskets.count(3) >= HEAVY / 2 {
+            assert_eq!(baskets.heavy(), Some(3));
+            assert!(baskets.take_of(3, 5).is_some() && baskets.take_of(3, 4).is_none());
+        }
+        assert_eq!(baskets.heavy(), None);
+        assert!(baskets.is_at_rest(0) && !baskets.is_at_rest(3));
+    }
+
+    #[test]
+    fn all_cpus_are_gone_through_once() {
+        assert_eq!(Baskets::cpus_from(6).collect::<Vec<_>>(), [6, 7, 0, 1, 2, 3, 4, 5]);
+    }
+}

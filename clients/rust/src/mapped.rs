@@ -1,0 +1,58 @@
+//! Guards of a part of what an entry carries.
+
+use std::fmt;
+use std::ops::Deref;
+
+/// A reference or a guard together with a part of what its entry carries, to which it derefs: what `map` of [`ReadGuard`](crate::ReadGuard),
+/// [`PassiveRef`](crate::PassiveRef), [`PassiveRc`](crate::PassiveRc), [`LocalRef`](crate::LocalRef) and [`LocalGuard`](crate::LocalGuard)
+/// answers. Dropping it drops what it was made of.
+#[must_use = "what is dropped at once holds nothing"]
+pub struct Mapped<G, U: ?Sized> {
+    part: *const U,
+    guard: G,
+}
+
+// SAFETY: it gives a `&U`, and moves the guard. The part is of the guard's value, which may be used where the guard may.
+unsafe impl<G: Send, U: ?Sized + Sync> Send for Mapped<G, U> {}
+// SAFETY: a shared one gives a `&U`, and a `&G` to nobody but whoever owns it.
+unsafe impl<G: Sync, U: ?Sized + Sync> Sync for Mapped<G, U> {}
+
+impl<G: Deref, U: ?Sized> Mapped<G, U> {
+    /// The guard is one of this crate's: what it derefs to lies in a box of its own, and stays there as long as the guard is, wherever that goes.
+    #[inline]
+    pub(crate) fn new(guard: G, part: impl FnOnce(&G::Target) -> &U) -> Mapped<G, U> {
+        let part: *const U = part(&guard);
+        Mapped { part, guard }
+    }
+}
+
+impl<G, U: ?Sized> Mapped<G, U> {
+    /// What it was made of.
+    #[inline]
+    pub fn into_inner(mapped: Self) -> G {
+        mapped.guard
+    }
+}
+
+impl<G, U: ?Sized> Deref for Mapped<G, U> {
+    type Target = U;
+
+    #[inline]
+    fn deref(&self) -> &U {
+        // SAFETY: the part lies in what the guard derefs to, or lives longer, as the guard's reference to it was of any lifetime. The guard is
+        // there, and with it what it derefs to, which nobody writes.
+        unsafe { &*self.part }
+    }
+}
+
+impl<G, U: ?Sized + fmt::Debug> fmt::Debug for Mapped<G, U> {
+    fn fmt(&self, f: &mut fmt::Formatter<'_>) -> fmt::Result {
+        f.debug_tuple("Mapped").field(&&**self).finish()
+    }
+}
+
+impl<G, U: ?Sized + fmt::Display> fmt::Display for Mapped<G, U> {
+    fn fmt(&self, f: &mut fmt::Formatter<'_>) -> fmt::Result {
+        (**self).fmt(f)
+    }
+}

@@ -1,0 +1,231 @@
+//! Names of entries.
+
+use crate::ffi;
+use std::convert::TryFrom;
+use std::error::Error;
+use std::fmt;
+use std::str::{self, FromStr};
+
+/// The name of an entry: a lower-case ASCII letter, and then lower-case letters and digits, 15 bytes at most. It is parsed once, and used in
+/// any number of lookups. Names are ordered as their texts are.
+///
+/// ```
+/// use registry::{Name, NameFault};
+///
+/// const WM: Name = Name::from_static("wm");
+///
+/// let wm0 = Name::parse("wm0").unwrap();
+/// assert!(WM < wm0 && wm0.as_str() == "wm0" && wm0.to_string() == "wm0");
+/// assert_eq!(Name::parse(""), Err(NameFault::Empty));
+/// assert_eq!(Name::parse("wM0"), Err(NameFault::BadByte(1)));
+/// ```
+#[derive(Clone, Copy, PartialEq, Eq, Hash, PartialOrd, Ord)]
+pub struct Name {
+    /// As C has it: a lookup gives it away as it is.
+    pub(crate) words: ffi::Name,
+    /// The text, and zeros after it.
+    bytes: [u8; ROOM],
+}
+
+/// The bytes of the two words of C. A text has one less at most.
+const ROOM: usize = 16;
+
+impl Name {
+    /// The name that this text is.
+    ///
+    /// # Errors
+    ///
+    /// [`NameFault`], in the order `Empty`, `TooLong`, `BadByte`.
+    pub const fn parse(text: &str) -> Result<Name, NameFault> {
+        Name::from_bytes(text.as_bytes())
+    }
+
+    /// The name that these bytes are.
+    ///
+    /// # Errors
+    ///
+    /// [`NameFault`], in the order `Empty`, `TooLong`, `BadByte`.
+    pub const fn from_bytes(text: &[u8]) -> Result<Name, NameFault> {
+        if text.is_empty() {
+            return Err(NameFault::Empty);
+        }
+        if text.len() >= ROOM {
+            return Err(NameFault::TooLong);
+        }
+        let mut bytes = [0; ROOM];
+        let mut place = 0;
+        while place < text.len() {
+            let byte = text[place];
+            if !(byte.is_ascii_lowercase() || place > 0 && byte.is_ascii_digit()) {
+                return Err(NameFault::BadByte(place));
+            }
+            bytes[place] = byte;
+            place += 1;
+        }
+        let words = ffi::Name {
+            high: word(&bytes, 0),
+            low: word(&bytes, 8),
+        };
+        Ok(Name { words, bytes })
+    }
+
+    /// The name that this text is, for a constant: in one, a text that is no name is an error of the compiler.
+    ///
+    /// ```compile_fail,E0080
+    /// const WM: registry::Name = registry::Name::from_static("WM");
+    /// ```
+    ///
+    /// # Panics
+    ///
+    /// Where the text is no name.
+    #[must_use]
+    pub const fn from_static(text: &'static str) -> Name {
+        match Name::parse(text) {
+            Ok(name) => name,
+            Err(_) => panic!("the text is no name"),
+        }
+    }
+
+    /// The name that these words of the archive are.
+    #[inline]
+    pub(crate) fn of_words(words: ffi::Name) -> Name {
+        let mut bytes = [0; ROOM];
+        bytes[..8].copy_from_slice(&words.high.to_be_bytes());
+        bytes[8..].copy_from_slice(&words.low.to_be_bytes());
+        Name { words, bytes }
+    }
+
+    /// Its text.
+    #[must_use]
+    pub fn as_str(&self) -> &str {
+        let length = self.bytes.iter().position(|byte| *byte == 0).unwrap_or(ROOM);
+        str::from_utf8(&self.bytes[..length]).expect("letters and digits of ASCII")
+    }
+}
+
+/// Eight bytes from this place on, the first the highest of the word.
+const fn word(bytes: &[u8; ROOM], first: usize) -> u64 {
+    let mut word = 0;
+    let mut place = first;
+    while place < first + 8 {
+        word = word << 8 | bytes[place] as u64;
+        place += 1;
+    }
+    word
+}
+
+impl FromStr for Name {
+    type Err = NameFault;
+
+    fn from_str(text: &str) -> Result<Name, NameFault> {
+        Name::parse(text)
+    }
+}
+
+impl TryFrom<&str> for Name {
+    type Error = NameFault;
+
+    fn try_from(text: &str) -> Result<Name, NameFault> {
+        Name::parse(text)
+    }
+}
+
+impl TryFrom<&[u8]> for Name {
+    type Error = NameFault;
+
+    fn try_from(text: &[u8]) -> Result<Name, NameFault> {
+        Name::from_bytes(text)
+    }
+}
+
+impl AsRef<str> for Name {
+    fn as_ref(&self) -> &str {
+        self.as_str()
+    }
+}
+
+impl PartialEq<str> for Name {
+    fn eq(&self, text: &str) -> bool {
+        self.as_str() == text
+    }
+}
+
+impl PartialEq<&str> for Name {
+    fn eq(&self, text: &&str) -> bool {
+        self.as_str() == *text
+    }
+}
+
+impl fmt::Display for Name {
+    fn fmt(&self, f: &mut fmt::Formatter<'_>) -> fmt::Result {
+        f.pad(self.as_str())
+    }
+}
+
+impl fmt::Debug for Name {
+    fn fmt(&self, f: &mut fmt::Formatter<'_>) -> fmt::Result {
+        write!(f, "Name({self})")
+    }
+}
+
+/// Why a text is no name.
+#[derive(Clone, Copy, Debug, PartialEq, Eq, Hash)]
+#[non_exhaustive]
+pub enum NameFault {
+    /// There is no byte.
+    Empty,
+    /// There are more than 15 bytes.
+    TooLong,
+    /// The byte at this place, from 0, may not stand there, and it is the first such byte.
+    BadByte(usize),
+}
+
+impl fmt::Display for NameFault {
+    fn fmt(&self, f: &mut fmt::Formatter<'_>) -> fmt::Result {
+        match self {
+            NameFault::Empty => f.write_str("a name has at least one byte"),
+            NameFault::TooLong => f.write_str("a name has at most 15 bytes"),
+            NameFault::BadByte(place) => write!(f, "byte {place} of a name may not stand there"),
+        }
+    }
+}
+
+impl Error for NameFault {}
+
+#[cfg(test)]
+mod tests {
+    use super::{Name, NameFault};
+    use crate::ffi;
+
+    /// What the archive says of these bytes.
+    fn parsed_by_archive(bytes: &[u8]) -> Result<ffi::Name, NameFault> {
+        let (mut words, mut place) = (ffi::Name::default(), 0);
+        // SAFETY: the bytes are those of the slice, and each of the two places is a value of its own.
+        let answer = unsafe { ffi::registry_name_parse(bytes.as_ptr(), bytes.len(), &mut words, &mut place) };
+        match answer {
+            ffi::DONE => Ok(words),
+            ffi::NAME_EMPTY => Err(NameFault::Empty),
+            ffi::NAME_TOO_LONG => Err(NameFault::TooLong),
+            ffi::NAME_BAD_BYTE => Err(NameFault::BadByte(place as usize)),
+            other => panic!("{other}"),
+        }
+    }
+
+    #[test]
+    fn names_are_those_of_the_archive() {
+        let mut texts: Vec<Vec<u8>> = (0..=255)
+            .flat_map(|byte| [vec![byte], vec![b'a', byte], vec![b'z', b'9', byte, b'a']])
+            .collect();
+        for length in 0..40 {
+            texts.extend([b'a', b'z', b'0', b'9', b'A', b'_'].map(|byte| vec![byte; length]));
+            texts.push((0..length).map(|place| b'a' + (place % 26) as u8).collect());
+        }
+        for text in texts {
+            let name = Name::from_bytes(&text);
+            assert_eq!(name.map(|name| name.words), parsed_by_archive(&text), "{text:?}");
+            if let Ok(name) = name {
+                assert_eq!((name.as_str().as_bytes(), Name::of_words(name.words)), (&text[..], name));
+            }
+        }
+    }
+}

@@ -1,0 +1,155 @@
+//! Entries that were detached and aren't freed yet.
+
+use crate::basket::BY_CHANGE;
+use crate::cpu::Cpu;
+use crate::patience::{Patience, Pauses};
+use crate::refusal::{Refusal, Refused};
+use crate::registry::Registry;
+use crate::shared::{Shared, Turned};
+use crate::values::{Entry, Freed};
+use std::fmt;
+use std::sync::Arc;
+
+/// An entry that was detached: what [`Registry::detach`] answers. Lookups don't find it any more; it has its slot, and what it carries, until
+/// nothing holds it and it is freed: by [`destroy`](Retired::destroy), which waits, or [`advance`](Retired::advance), which doesn't. Whoever wants
+/// neither drops it or calls [`defer`](Retired::defer), which is the same: later changes free it.
+///
+/// It owns a share of its registry: it may be stored, and go to other threads.
+///
+/// ```
+/// use registry::{Holder, Kind, Name, Refusal, Registry, Settings};
+///
+/// let (registry, cpus) = Registry::open(Settings::new(2, 4)).unwrap();
+/// let wm = Name::parse("wm").unwrap();
+/// registry.attach(&cpus[0], &wm, 7).unwrap();
+/// let section = cpus[1].enter().unwrap();
+/// let retired = registry.detach(&cpus[0], Kind::Driver, &wm).unwrap();
+/// let held = retired.advance().unwrap_err();
+/// assert_eq!(held.refusal, Refusal::StillHeld(Holder::Grace(1)));
+/// section.exit();
+/// assert_eq!(held.given.advance().unwrap().value, 7);
+/// ```
+#[must_use = "an entry that nobody destroys or defers by name is deferred as this is dropped"]
+pub struct Retired<T> {
+    shared: Arc<Shared<T>>,
+    entry: Entry,
+    /// Whether its slot is vacant.
+    freed: bool,
+}
+
+impl<T> Retired<T> {
+    pub(crate) fn new(shared: Arc<Shared<T>>, entry: Entry) -> Retired<T> {
+        let freed = false;
+        Retired { shared, entry, freed }
+    }
+
+    /// The entry, as it was attached.
+    pub fn entry(&self) -> Entry {
+        self.entry
+    }
+
+    /// The registry that it is of.
+    pub fn registry(&self) -> Registry<T> {
+        Registry::of(Arc::clone(&self.shared))
+    }
+
+    /// One turn of the work on it: it is freed and what it carried comes back, or something holds it. It waits for nobody except for the
+    /// interlock.
+    ///
+    /// # Errors
+    ///
+    /// `StillHeld` with what holds it first; it comes back.
+    pub fn advance(self) -> Result<Freed<T>, Refused<Retired<T>>> {
+        // SAFETY: no CPU is given.
+        let turned = unsafe { self.shared.turn(None, &self.entry) };
+        let done = judged(turned);
+        self.after(done)
+    }
+
+    /// Makes turns until it is freed: `psref_target_destroy`, `localcount_drain`. Nobody holds it then, now or later, and what it carried comes
+    /// back. After each turn the CPU has seen every change so far.
+    ///
+    /// What this CPU itself holds the entry by, nobody can let go while this thread waits: then the call makes one turn and no more, whatever the
+    /// patience. It can't see a local reference that this thread keeps without a guard, nor a section of this thread on another CPU: with
+    /// [`Patience::Forever`] it waits for these for ever.
+    ///
+    /// ```
+    /// use registry::{Holder, Kind, Name, Patience, PassiveRef, Refusal, Registry, Settings};
+    ///
+    /// let (registry, cpus) = Registry::open(Settings::new(2, 4)).unwrap();
+    /// let wm = Name::parse("wm").unwrap();
+    /// registry.attach(&cpus[0], &wm, 7).unwrap();
+    /// let reference = cpus[0].get(Kind::Driver, &wm).unwrap();
+    /// let retired = registry.detach(&cpus[0], Kind::Driver, &wm).unwrap();
+    /// let refused = retired.destroy(&cpus[0], Patience::Forever).unwrap_err();
+    /// assert_eq!(refused.refusal, Refusal::StillHeld(Holder::Passive(0)));
+    /// PassiveRef::release(reference);
+    /// assert_eq!(refused.given.destroy(&cpus[0], Patience::Forever).unwrap().value, 7);
+    /// ```
+    ///
+    /// # Errors
+    ///
+    /// `OtherRegistry`; `Inside`; `StillHeld` with what this CPU itself holds the entry by, else with what the last turn met. It comes back.
+    pub fn destroy(self, cpu: &Cpu<T>, patience: Patience) -> Result<Freed<T>, Refused<Retired<T>>> {
+        let done = self.destroy_by(cpu, patience);
+        self.after(done)
+    }
+
+    fn destroy_by(&self, cpu: &Cpu<T>, patience: Patience) -> Result<Freed<T>, Refusal> {
+        if !cpu.is_of(&self.shared) {
+            return Err(Refusal::OtherRegistry);
+        }
+        let mut pauses = Pauses::new(patience);
+        loop {
+            // SAFETY: the CPU is this thread's and of this registry, and its handle isn't empty.
+            let turned = unsafe { self.shared.turn(Some(cpu.handle()), &self.entry) };
+            let refusal = match judged(turned) {
+                Err(Refusal::StillHeld(holder)) => Refusal::StillHeld(cpu.holder_of(&self.entry).unwrap_or(holder)),
+                done => return done,
+            };
+            if cpu.holder_of(&self.entry).is_some() || !pauses.another() {
+                return Err(refusal);
+            }
+            cpu.release_some(BY_CHANGE);
+        }
+    }
+
+    /// What a call answers that ended so.
+    fn after(mut self, done: Result<Freed<T>, Refusal>) -> Result<Freed<T>, Refused<Retired<T>>> {
+        match done {
+            Ok(freed) => {
+                self.freed = true;
+                Ok(freed)
+            }
+            Err(refusal) => Err(Refused { refusal, given: self }),
+        }
+    }
+
+    /// Leaves it to later changes, as dropping it does: each of them, and [`Registry::collect`], frees what nobody holds any more, the oldest
+    /// first, and drops what it carried.
+    pub fn defer(self) {}
+}
+
+/// What a turn on a retired entry came to, as a result.
+fn judged<T>(turned: Result<Option<Turned<T>>, Refusal>) -> Result<Freed<T>, Refusal> {
+    match turned? {
+        Some(Turned::Freed(freed)) => Ok(freed),
+        Some(Turned::Held(holder)) => Err(Refusal::StillHeld(holder)),
+        None => unreachable!("an entry whose token is there is retired"),
+    }
+}
+
+impl<T> Drop for Retired<T> {
+    /// Defers it, unless it was freed.
+    fn drop(&mut self) {
+        if !self.freed {
+            self.shared.defer(&mut self.shared.kept(), self.entry);
+        }
+    }
+}
+
+impl<T> fmt::Debug for Retired<T> {
+    fn fmt(&self, f: &mut fmt::Formatter<'_>) -> fmt::Result {
+        f.debug_struct("Retired").field("entry", &self.entry).finish_non_exhaustive()
+    }
+}

@@ -1,0 +1,90 @@
+//! How large a registry is.
+
+use crate::ffi;
+
+/// How large a registry is, and how far its counts may go. Each method sets one limit and answers the settings.
+///
+/// ```
+/// use registry::{Registry, Settings};
+///
+/// let settings = Settings::new(2, 4).changes(100);
+/// let (registry, cpus) = Registry::<()>::open(settings).unwrap();
+/// assert_eq!((registry.settings(), cpus.len(), settings.changes), (settings, 2, 100));
+/// ```
+#[derive(Clone, Copy, Debug, PartialEq, Eq, Hash)]
+#[non_exhaustive]
+pub struct Settings {
+    /// 1 to 8.
+    pub cpus: u8,
+    /// Entries at a time, live and retired: 1 to 32.
+    pub slots: u8,
+    /// Attaches and detaches in all: 1 to 1,000,000.
+    pub changes: u64,
+    /// Outermost sections of each CPU: 1 to 2^40.
+    pub sections: u64,
+    /// Passive references of each CPU to an entry: 1 to 2^40.
+    pub passives: u64,
+    /// Each CPU's net count of local references to an entry: 1 to 2^40.
+    pub locals: u64,
+}
+
+/// Says one limit.
+macro_rules! limit {
+    ($(#[$doc:meta])* $name:ident) => {
+        $(#[$doc])*
+        #[must_use]
+        pub const fn $name(self, most: u64) -> Settings {
+            Settings { $name: most, ..self }
+        }
+    };
+}
+
+impl Settings {
+    /// So many CPUs and slots, and all limits as far as they go. [`Registry::open`](crate::Registry::open) judges them.
+    #[must_use]
+    pub const fn new(cpus: u8, slots: u8) -> Settings {
+        Settings {
+            cpus,
+            slots,
+            changes: 1_000_000,
+            sections: 1 << 40,
+            passives: 1 << 40,
+            locals: 1 << 40,
+        }
+    }
+
+    limit! {
+        /// At most so many attaches and detaches in all.
+        changes
+    }
+    limit! {
+        /// At most so many outermost sections of each CPU.
+        sections
+    }
+    limit! {
+        /// At most so many passive references of each CPU to an entry.
+        passives
+    }
+    limit! {
+        /// At most this net count of each CPU's local references to an entry.
+        locals
+    }
+
+    pub(crate) fn to_c(self) -> ffi::Settings {
+        ffi::Settings {
+            cpus: u64::from(self.cpus),
+            slots: u64::from(self.slots),
+            change_limit: self.changes,
+            section_limit: self.sections,
+            passive_limit: self.passives,
+            count_limit: self.locals,
+        }
+    }
+}
+
+impl Default for Settings {
+    /// The largest registry: 8 CPUs, 32 slots, and all limits as far as they go.
+    fn default() -> Settings {
+        Settings::new(ffi::MOST_CPUS as u8, ffi::MOST_SLOTS as u8)
+    }
+}

@@ -1,0 +1,168 @@
+//! Which types may go to another thread, and which may be shared with one: a table of all public types, which a test walks.
+//!
+//! Each type is looked at with four kinds of `T`. What a column lists are the kinds for which the type has the trait: `b` a `T` that is both `Send`
+//! and `Sync`, `y` one that is `Sync` alone, `s` one that is `Send` alone, `n` one that is neither.
+
+use registry::{
+    Balance, Cpu, CpuPool, Entries, Entry, Found, Freed, Holder, Kind, Lent, LocalGuard, LocalRef, Mapped, Name, NameFault, PassiveRc,
+    PassiveRef, Patience, ReadGuard, Refusal, Refused, Registry, Retired, Section, Settings,
+};
+use std::collections::BTreeSet;
+use std::marker::PhantomData;
+use std::panic::{RefUnwindSafe, UnwindSafe};
+
+/// One row: what the compiler says of the type.
+struct Row {
+    name: &'static str,
+    text: &'static str,
+    send: String,
+    sync: String,
+    /// `Unpin`, `UnwindSafe` and `RefUnwindSafe` with a `T` that is a plain number: `p`, `u`, `r`.
+    others: String,
+}
+
+/// Whether a type has a trait: an inherent constant is found before one of a trait, where its bound holds.
+macro_rules! has {
+    ($type:ty, $trait:path) => {{
+        struct Probe<P: ?Sized>(PhantomData<P>);
+        #[allow(dead_code)]
+        trait Otherwise {
+            const HAS: bool = false;
+        }
+        impl<P: ?Sized> Otherwise for Probe<P> {}
+        #[allow(dead_code)]
+        impl<P: ?Sized + $trait> Probe<P> {
+            const HAS: bool = true;
+        }
+        <Probe<$type>>::HAS
+    }};
+}
+
+/// The letters of those that are so.
+fn letters(all: &[(char, bool)]) -> String {
+    all.iter().filter(|one| one.1).map(|one| one.0).collect()
+}
+
+/// The kinds of `T` for which a type has a trait.
+macro_rules! kinds {
+    ($type:ty, $trait:path) => {
+        letters(&[
+            ('b', {
+                #[allow(dead_code)]
+                type T = u64;
+                has!($type, $trait)
+            }),
+            ('y', {
+                #[allow(dead_code)]
+                type T = std::sync::MutexGuard<'static, u8>;
+                has!($type, $trait)
+            }),
+            ('s', {
+                #[allow(dead_code)]
+                type T = std::cell::Cell<u8>;
+                has!($type, $trait)
+            }),
+            ('n', {
+                #[allow(dead_code)]
+                type T = std::rc::Rc<u8>;
+                has!($type, $trait)
+            }),
+        ])
+    };
+}
+
+macro_rules! table {
+    ($($name:ident: $type:ty, $send:literal, $sync:literal, $others:literal;)*) => {
+        /// What the compiler says of each type, and what it should say.
+        fn table() -> Vec<(Row, [&'static str; 3])> {
+            vec![$((
+                Row {
+                    name: stringify!($name),
+                    text: stringify!($type),
+                    send: kinds!($type, Send),
+                    sync: kinds!($type, Sync),
+                    others: {
+                        #[allow(dead_code)]
+                        type T = u64;
+                        letters(&[
+                            ('p', has!($type, Unpin)),
+                            ('u', has!($type, UnwindSafe)),
+                            ('r', has!($type, RefUnwindSafe)),
+                        ])
+                    },
+                },
+                [$send, $sync, $others],
+            )),*]
+        }
+    };
+}
+
+table! {
+    // type                                              Send    Sync    others
+    Registry: Registry<T>,                               "b",    "b",    "pur";
+    Cpu: Cpu<T>,                                         "b",    "",     "pu";
+    CpuPool: CpuPool<T>,                                 "b",    "b",    "pur";
+    Lent: Lent<'static, T>,                              "b",    "",     "pu";
+    Section: Section<'static, T>,                        "",     "",     "p";
+    Found: Found<'static, 'static, T>,                   "",     "",     "p";
+    Entries: Entries<'static, 'static, T>,               "",     "",     "p";
+    ReadGuard: ReadGuard<'static, T>,                    "",     "",     "p";
+    PassiveRef: PassiveRef<'static, T>,                  "",     "",     "p";
+    PassiveRc: PassiveRc<T>,                             "",     "",     "p";
+    LocalRef: LocalRef<T>,                               "b",    "b",    "pur";
+    LocalGuard: LocalGuard<'static, T>,                  "",     "",     "p";
+    Retired: Retired<T>,                                 "b",    "b",    "pur";
+    Mapped: Mapped<LocalRef<T>, u8>,                     "b",    "b",    "pur";
+    Mapped: Mapped<LocalRef<u8>, T>,                     "by",   "by",   "pur";
+    Mapped: Mapped<ReadGuard<'static, T>, u8>,           "",     "",     "p";
+    Mapped: Mapped<PassiveRef<'static, T>, u8>,          "",     "",     "p";
+    Mapped: Mapped<PassiveRc<T>, u8>,                    "",     "",     "p";
+    Mapped: Mapped<LocalGuard<'static, T>, u8>,          "",     "",     "p";
+    Freed: Freed<T>,                                     "bs",   "by",   "pur";
+    Refused: Refused<T>,                                 "bs",   "by",   "pur";
+    Refused: Refused<Retired<T>>,                        "b",    "b",    "pur";
+    Balance: Balance,                                    "bysn", "bysn", "pur";
+    Entry: Entry,                                        "bysn", "bysn", "pur";
+    Holder: Holder,                                      "bysn", "bysn", "pur";
+    Kind: Kind,                                          "bysn", "bysn", "pur";
+    Name: Name,                                          "bysn", "bysn", "pur";
+    NameFault: NameFault,                                "bysn", "bysn", "pur";
+    Patience: Patience,                                  "bysn", "bysn", "pur";
+    Refusal: Refusal,                                    "bysn", "bysn", "pur";
+    Settings: Settings,                                  "bysn", "bysn", "pur";
+}
+
+#[test]
+fn each_type_has_the_auto_traits_that_the_table_says() {
+    let wrong: Vec<String> = table()
+        .iter()
+        .filter(|(row, should)| [&row.send[..], &row.sync, &row.others] != *should)
+        .map(|(row, should)| format!("{}: {:?}, {:?}, {:?} and not {should:?}", row.text, row.send, row.sync, row.others))
+        .collect();
+    assert!(wrong.is_empty(), "{}", wrong.join("\n"));
+}
+
+/// The names that `pub use` of the crate's root has.
+fn exported() -> BTreeSet<String> {
+    let root = include_str!("../src/lib.rs");
+    let lines = root.lines().filter_map(|line| line.strip_prefix("pub use "));
+    lines
+        .flat_map(|line| line.rsplit("::").next().unwrap().split(|c: char| !c.is_alphanumeric()))
+        .filter(|name| !name.is_empty())
+        .map(str::to_string)
+        .collect()
+}
+
+#[test]
+fn each_public_type_is_in_the_table() {
+    let listed: BTreeSet<String> = table().iter().map(|(row, _)| row.name.to_string()).collect();
+    assert_eq!(exported(), listed);
+    let root = include_str!("../src/lib.rs");
+    assert!(!root.contains("pub mod ") && !root.contains("pub struct ") && !root.contains("pub enum "));
+}
+
+/// The four kinds of `T` are what they are said to be.
+#[test]
+fn the_kinds_are_told_apart() {
+    assert_eq!((kinds!(T, Send), kinds!(T, Sync)), ("bs".to_string(), "by".to_string()));
+}

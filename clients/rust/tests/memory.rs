@@ -1,0 +1,117 @@
+//! What memory of the crate's own is left: none after a refusal or a closing, and little after many drops.
+
+mod common;
+
+use common::{local, name, watched, with_driver};
+use registry::{Found, Kind, LocalRef, Patience, Refused, Registry, Settings};
+use std::alloc::{GlobalAlloc, Layout, System};
+use std::cell::Cell;
+
+/// Counts what each thread has allocated and not freed.
+struct Counting;
+
+thread_local! {
+    static BYTES: Cell<isize> = const { Cell::new(0) };
+    static BLOCKS: Cell<isize> = const { Cell::new(0) };
+}
+
+fn count(bytes: isize, blocks: isize) {
+    let _ = BYTES.try_with(|all| all.set(all.get() + bytes));
+    let _ = BLOCKS.try_with(|all| all.set(all.get() + blocks));
+}
+
+// SAFETY: all is done by the system's allocator.
+#[deny(unsafe_op_in_unsafe_fn)]
+unsafe impl GlobalAlloc for Counting {
+    unsafe fn alloc(&self, layout: Layout) -> *mut u8 {
+        count(layout.size() as isize, 1);
+        // SAFETY: the caller sees to it.
+        unsafe { System.alloc(layout) }
+    }
+
+    unsafe fn dealloc(&self, at: *mut u8, layout: Layout) {
+        count(-(layout.size() as isize), -1);
+        // SAFETY: the caller sees to it.
+        unsafe { System.dealloc(at, layout) }
+    }
+}
+
+#[global_allocator]
+static ALLOCATOR: Counting = Counting;
+
+/// How many blocks this thread has more after it did this.
+fn left(deed: impl FnOnce()) -> isize {
+    let before = BLOCKS.with(Cell::get);
+    deed();
+    BLOCKS.with(Cell::get) - before
+}
+
+#[test]
+fn a_refused_attach_keeps_no_memory() {
+    let (registry, cpus) = with_driver(String::from("driver"));
+    let (_other, others) = with_driver(String::new());
+    let (wm, wm0) = (name("wm"), name("wm0"));
+    registry.attach_iface(&cpus[0], &wm0, local(&cpus[0], "wm"), String::new()).unwrap();
+    let refused = || {
+        let section = cpus[0].enter().unwrap();
+        drop(registry.attach(&cpus[0], &wm, "inside".to_string()).unwrap_err());
+        section.exit();
+        drop(registry.attach(&cpus[0], &wm, "taken".to_string()).unwrap_err());
+        drop(registry.attach(&others[0], &wm, "elsewhere".to_string()).unwrap_err());
+        let driver = local(&cpus[0], "wm");
+        let Refused { given, .. } = registry.attach_iface(&cpus[0], &wm0, driver, "taken".to_string()).unwrap_err();
+        LocalRef::release(given.0, &cpus[0]).unwrap();
+    };
+    refused();
+    assert_eq!(left(|| (0..100).for_each(|_| refused())), 0);
+}
+
+#[test]
+fn a_closing_keeps_no_memory_and_releases_what_was_dropped() {
+    let locals = watched::locals();
+    let closed = || {
+        let (registry, cpus) = with_driver(vec![1, 2, 3]);
+        registry.attach(&cpus[0], &name("vga"), Vec::new()).unwrap();
+        for count in [1, 70, 200] {
+            let held: Vec<_> = (0..count).map(|_| local(&cpus[1], "wm")).collect();
+            drop((held, local(&cpus[0], "vga")));
+        }
+        registry.retire(&cpus[0], Kind::Driver, &name("vga")).unwrap();
+        assert!(registry.dropped() > 100);
+    };
+    closed();
+    assert_eq!((left(closed), watched::locals()), (0, locals));
+}
+
+#[test]
+fn a_destroyed_value_keeps_no_memory() {
+    let (registry, cpus) = with_driver(String::from("driver"));
+    let (cpu, vga) = (&cpus[0], name("vga"));
+    let come_and_go = || {
+        registry.attach(cpu, &vga, "one".to_string()).unwrap();
+        let retired = registry.detach(cpu, Kind::Driver, &vga).unwrap();
+        drop(retired.destroy(cpu, Patience::Turns(1)).unwrap());
+        registry.attach(cpu, &vga, "two".to_string()).unwrap();
+        registry.retire(cpu, Kind::Driver, &vga).unwrap();
+        drop(registry.collect());
+    };
+    come_and_go();
+    assert_eq!(left(|| (0..100).for_each(|_| come_and_go())), 0);
+}
+
+/// Of 100,000 references that are dropped at once no room stays but for some.
+#[test]
+fn a_basket_gives_its_room_back() {
+    let (registry, cpus) = Registry::open(Settings::new(1, 1)).unwrap();
+    let wm = name("wm");
+    registry.attach(&cpus[0], &wm, 7).unwrap();
+    let section = cpus[0].enter().unwrap();
+    let found = section.find(Kind::Driver, &wm).unwrap();
+    let before = BYTES.with(Cell::get);
+    let many: Vec<_> = (0..100_000).map(|_| Found::acquire_local(&found).unwrap()).collect();
+    drop(many);
+    assert_eq!(registry.dropped(), 100_000);
+    assert!(BYTES.with(Cell::get) - before >= 100_000 * 8);
+    cpus[0].release_dropped();
+    assert!(BYTES.with(Cell::get) - before <= 2048);
+}

@@ -1,0 +1,75 @@
+//! The tests' own eyes: who watches the archive's calls names each that the crate makes, and sees two that are made at once.
+
+mod common;
+
+use common::{local, watched, with_driver};
+use std::collections::BTreeSet;
+use std::env;
+use std::process::Command;
+
+/// The calls that begin so, up to the bracket.
+fn calls(text: &str, before: &str) -> BTreeSet<String> {
+    let lines = text.lines().filter_map(|line| line.trim_start().strip_prefix(before));
+    lines.map(|line| line.split('(').next().unwrap().to_string()).collect()
+}
+
+#[test]
+fn each_call_with_a_handle_is_watched() {
+    let mut made = calls(include_str!("../src/ffi.rs"), "pub fn ");
+    for without in ["registry_name_parse", "registry_text", "registry_open"] {
+        assert!(made.remove(without), "{without}");
+    }
+    made.retain(|call| call.starts_with("registry_"));
+    assert_eq!(calls(include_str!("common/watched.rs"), "__wrap_"), made);
+    assert!(made.len() > 20);
+}
+
+#[test]
+fn the_calls_are_led_here() {
+    let (_registry, cpus) = with_driver(7);
+    let before = watched::locals();
+    let reference = local(&cpus[0], "wm");
+    assert_eq!(watched::locals(), before + 1);
+    registry::LocalRef::release(reference, &cpus[1]).unwrap();
+    assert_eq!(watched::locals(), before);
+}
+
+/// In a program of its own, since it ends that.
+#[test]
+fn two_calls_with_one_handle_are_seen() {
+    if env::var_os("REGISTRY_AT_ONCE").is_some() {
+        return meet();
+    }
+    let ended = Command::new(env::current_exe().unwrap())
+        .args(["--exact", "two_calls_with_one_handle_are_seen", "--nocapture"])
+        .env("REGISTRY_AT_ONCE", "1")
+        .output()
+        .unwrap();
+    let said = String::from_utf8_lossy(&ended.stderr);
+    assert!(
+        !ended.status.success() && said.contains("a handle is in use by another call"),
+        "{said}"
+    );
+}
+
+/// Takes one handle on two threads again and again, until they meet.
+fn meet() {
+    #[derive(Clone, Copy)]
+    struct Place(*mut *mut std::ffi::c_void);
+    // SAFETY: that two threads use it at once is what the test is about; nobody writes it.
+    unsafe impl Send for Place {}
+    impl Place {
+        fn count(self) {
+            for _ in 0..1_000_000 {
+                let _in_use = watched::InUse::take("count", &[self.0]);
+            }
+        }
+    }
+    let mut word = 8usize;
+    let place = Place(std::ptr::addr_of_mut!(word).cast());
+    std::thread::scope(|scope| {
+        for _ in 0..2 {
+            scope.spawn(move || place.count());
+        }
+    });
+}
