@@ -1,41 +1,21 @@
 -- The words of a slot, one after the other.
 use Rattle.std.proofs.Common.{refl}
-use Rattle.passive_list.specs.Types.{AtNumber, AtKind, AtHigh, AtLow}
 use Rattle.passive_list.specs.Common.{nobody}
 use Rattle.passive_list.proofs.Noting.{noted}
-use Rattle.passive_list.proofs.Walking.{goes_on, may_load}
+use Rattle.passive_list.proofs.Walking.{at_kind, at_high, at_low, may_load}
 use Rattle.passive_list.proofs.Searches.{four_loaded}
 use Rattle.passive_list.proofs.walks.note.Goals as goal
 
 pub load_searched-kind-requires-clause-may : goal.load_searched-kind-requires-clause-may
-load_searched-kind-requires-clause-may c =
-    let from = c.requires.may.0 in
-    let t = c.args.slot in
-    let n = c.load_searched-number.result in
-    let at = goes_on c.args.seat.now.view c.load_searched-number.new.seat.view nobody from (AtNumber t) (AtKind t n) n n c.requires.may.1 refl c.load_searched-number.ensures.change in
-    may_load _ nobody from t 1 (AtKind t n) at (refl, refl)
+load_searched-kind-requires-clause-may c = may_load _ nobody _ _ 1 _ (at_kind _ _ nobody _ _ _ c.requires.may.1 c.load_searched-number.ensures.change) (refl, refl)
 
 pub load_searched-high-requires-clause-may : goal.load_searched-high-requires-clause-may
-load_searched-high-requires-clause-may c =
-    let from = c.requires.may.0 in
-    let t = c.args.slot in
-    let n = c.load_searched-number.result in
-    let k = c.load_searched-kind.result in
-    let at1 = goes_on c.args.seat.now.view c.load_searched-number.new.seat.view nobody from (AtNumber t) (AtKind t n) n n c.requires.may.1 refl c.load_searched-number.ensures.change in
-    let at2 = goes_on c.load_searched-number.new.seat.view c.load_searched-kind.new.seat.view nobody from (AtKind t n) (AtHigh t n k) k k at1 refl c.load_searched-kind.ensures.change in
-    may_load _ nobody from t 2 (AtHigh t n k) at2 (refl, refl)
+load_searched-high-requires-clause-may c = may_load _ nobody _ _ 2 _ (at_high _ _ nobody _ _ _ _ (at_kind _ _ nobody _ _ _ c.requires.may.1 c.load_searched-number.ensures.change) c.load_searched-kind.ensures.change) (refl, refl)
 
 pub load_searched-low-requires-clause-may : goal.load_searched-low-requires-clause-may
 load_searched-low-requires-clause-may c =
-    let from = c.requires.may.0 in
-    let t = c.args.slot in
-    let n = c.load_searched-number.result in
-    let k = c.load_searched-kind.result in
-    let h = c.load_searched-high.result in
-    let at1 = goes_on c.args.seat.now.view c.load_searched-number.new.seat.view nobody from (AtNumber t) (AtKind t n) n n c.requires.may.1 refl c.load_searched-number.ensures.change in
-    let at2 = goes_on c.load_searched-number.new.seat.view c.load_searched-kind.new.seat.view nobody from (AtKind t n) (AtHigh t n k) k k at1 refl c.load_searched-kind.ensures.change in
-    let at3 = goes_on c.load_searched-kind.new.seat.view c.load_searched-high.new.seat.view nobody from (AtHigh t n k) (AtLow t n k h) h h at2 refl c.load_searched-high.ensures.change in
-    may_load _ nobody from t 3 (AtLow t n k h) at3 (refl, refl)
+    let high = at_high _ _ nobody _ _ _ _ (at_kind _ _ nobody _ _ _ c.requires.may.1 c.load_searched-number.ensures.change) c.load_searched-kind.ensures.change in
+    may_load _ nobody _ _ 3 _ (at_low _ _ nobody _ _ _ _ _ high c.load_searched-high.ensures.change) (refl, refl)
 
 pub returns-clause-change : goal.returns-clause-change
 returns-clause-change c =

@@ -1,10 +1,11 @@
 -- One slot on the list after the other.
-use Rattle.std.proofs.Common.{◌≡◌, ◌+◌, ◌-◌, ◌++◌, set, ap, ◌∙◌, subst, arith, length-set, append_assoc}
-use Rattle.passive_list.specs.Types.{Iface, Key, Seek, Done}
+use Rattle.std.proofs.Common.{◌≡◌, suc, ◌+◌, ◌-◌, ◌<◌, ◌++◌, set, ap, ◌∙◌, subst, arith, length-set, append_assoc}
+use Rattle.passive_list.specs.Types.{Iface, Key, Seek, Done, MOST_SLOTS}
 use Rattle.cpu_words.specs.Common.{did, HasFollowed, cpu_after_seek, search_for, key_with}
 use Rattle.passive_list.specs.Common.{nobody, HasSearchedFor, HasNotedSoFar}
 use Rattle.passive_list.proofs.Noting.{noting_begins, none_noted, on_slot, slot_within, may_note, may_go_on, has_room, one_more_noted, few_noted, noted_id, slot_id}
 use Rattle.passive_list.proofs.Searches.{search_begun, link_loaded, one_visited, search_missed}
+use Rattle.passive_list.proofs.walks.note_all.Goals.{After-note-entry}
 use Rattle.passive_list.proofs.walks.note_all.Goals as goal
 
 pub loop-link-init : goal.loop-link-init
@@ -30,64 +31,56 @@ pub note-entry-requires-clause-cpu : goal.note-entry-requires-clause-cpu
 note-entry-requires-clause-cpu c = (c.requires.cpu.0, c.loop-link.invariant.cpu)
 
 pub note-entry-requires-clause-slot : goal.note-entry-requires-clause-slot
-note-entry-requires-clause-slot c =
-    let so_far = on_slot c.args.seat.now.view c.loop-link.seat.view c.loop-link.noted c.loop-link.count c.loop-link.link c.loop-link-test.true c.loop-link.invariant.noted in
-    slot_within c.args.seat.now.view c.loop-link.seat.view c.loop-link.noted c.loop-link.count (c.loop-link.link - 1) so_far
+note-entry-requires-clause-slot c = slot_within _ _ _ _ _ (on_slot _ _ _ _ _ c.loop-link-test.true c.loop-link.invariant.noted)
 
 pub note-entry-requires-clause-may : goal.note-entry-requires-clause-may
-note-entry-requires-clause-may c =
-    let so_far = on_slot c.args.seat.now.view c.loop-link.seat.view c.loop-link.noted c.loop-link.count c.loop-link.link c.loop-link-test.true c.loop-link.invariant.noted in
-    may_note c.args.seat.now.view c.loop-link.seat.view c.loop-link.noted c.loop-link.count (c.loop-link.link - 1) so_far
+note-entry-requires-clause-may c = may_note _ _ _ _ _ (on_slot _ _ _ _ _ c.loop-link-test.true c.loop-link.invariant.noted)
+
+-- where the walk stood as it came to the slot
+on : (c : After-note-entry) → HasNotedSoFar c.args.seat.now.view c.loop-link.noted c.loop-link.count (suc (c.loop-link.link - 1)) c.loop-link.seat.view
+on c = on_slot _ _ _ _ _ c.loop-link-test.true c.loop-link.invariant.noted
+
+room : (c : After-note-entry) → c.loop-link.count < MOST_SLOTS
+room c = has_room _ _ _ _ _ _ _ (on c) c.note-entry.ensures.change
 
 pub bounds-noted-count : goal.bounds-noted-count
-bounds-noted-count c =
-    let so_far = on_slot c.args.seat.now.view c.loop-link.seat.view c.loop-link.noted c.loop-link.count c.loop-link.link c.loop-link-test.true c.loop-link.invariant.noted in
-    has_room c.args.seat.now.view c.loop-link.seat.view c.note-entry.new.seat.view c.loop-link.noted c.loop-link.count (c.loop-link.link - 1) c.note-entry.result so_far c.note-entry.ensures.change
+bounds-noted-count c = room (goal.at.bounds-noted-count c).After-note-entry
 
 pub load_link-link-requires-clause-cpu : goal.load_link-link-requires-clause-cpu
 load_link-link-requires-clause-cpu c =
-    let so_far = on_slot c.args.seat.now.view c.loop-link.seat.view c.loop-link.noted c.loop-link.count c.loop-link.link c.loop-link-test.true c.loop-link.invariant.noted in
-    (c.requires.cpu.0, slot_id c.args.seat.now.view c.loop-link.seat.view c.note-entry.new.seat.view c.loop-link.noted c.loop-link.count (c.loop-link.link - 1) c.note-entry.result so_far c.note-entry.ensures.change ∙ c.loop-link.invariant.cpu)
+    (c.requires.cpu.0, slot_id _ _ _ _ _ _ _ (on (goal.at.load_link-link-requires-clause-cpu c).After-note-entry) c.note-entry.ensures.change ∙ c.loop-link.invariant.cpu)
 
 pub load_link-link-requires-clause-slot : goal.load_link-link-requires-clause-slot
 load_link-link-requires-clause-slot c =
-    let so_far = on_slot c.args.seat.now.view c.loop-link.seat.view c.loop-link.noted c.loop-link.count c.loop-link.link c.loop-link-test.true c.loop-link.invariant.noted in
-    let within = slot_within c.args.seat.now.view c.loop-link.seat.view c.loop-link.noted c.loop-link.count (c.loop-link.link - 1) so_far in
+    let within = slot_within _ _ _ _ _ (on (goal.at.load_link-link-requires-clause-slot c).After-note-entry) in
     (omega (arith, c.loop-link-test.true), omega (arith, within))
 
 pub load_link-link-requires-clause-may : goal.load_link-link-requires-clause-may
-load_link-link-requires-clause-may c =
-    let so_far = on_slot c.args.seat.now.view c.loop-link.seat.view c.loop-link.noted c.loop-link.count c.loop-link.link c.loop-link-test.true c.loop-link.invariant.noted in
-    may_go_on c.args.seat.now.view c.loop-link.seat.view c.note-entry.new.seat.view c.loop-link.noted c.loop-link.count (c.loop-link.link - 1) c.note-entry.result so_far c.note-entry.ensures.change
+load_link-link-requires-clause-may c = may_go_on _ _ _ _ _ _ _ (on (goal.at.load_link-link-requires-clause-may c).After-note-entry) c.note-entry.ensures.change
 
 pub loop-link-smaller : goal.loop-link-smaller
 loop-link-smaller c =
-    let so_far = on_slot c.args.seat.now.view c.loop-link.seat.view c.loop-link.noted c.loop-link.count c.loop-link.link c.loop-link-test.true c.loop-link.invariant.noted in
-    let room = has_room c.args.seat.now.view c.loop-link.seat.view c.note-entry.new.seat.view c.loop-link.noted c.loop-link.count (c.loop-link.link - 1) c.note-entry.result so_far c.note-entry.ensures.change in
-    omega (arith, room)
+    let few = room (goal.at.loop-link-smaller c).After-note-entry in
+    omega (arith, few)
 
 pub loop-link-preserved : goal.loop-link-preserved
 loop-link-preserved c =
+    let v = (goal.at.loop-link-preserved c).After-note-entry in
     let x = c.args.seat.now.view in
-    let y = c.loop-link.seat.view in
-    let z = c.note-entry.new.seat.view in
     let w = c.load_link-link.new.seat.view in
     let row = c.loop-link.noted in
     let count = c.loop-link.count in
-    let t = c.loop-link.link - 1 in
     let m = c.load_link-link.result in
     let n = c.note-entry.result in
-    let so_far = on_slot x y row count c.loop-link.link c.loop-link-test.true c.loop-link.invariant.noted in
-    let had = c.note-entry.ensures.change in
-    let room = has_room x y z row count t n so_far had in
-    let more = one_more_noted x y z w row count t m n (omega (arith, room, c.loop-link.invariant.size)) so_far had c.load_link-link.ensures.change in
+    let few = room v in
+    let more = one_more_noted x _ _ w row count _ m n (omega (arith, few, c.loop-link.invariant.size)) (on v) c.note-entry.ensures.change c.load_link-link.ensures.change in
     record {
       table = c.load_link-link.ensures.step.table ∙ c.note-entry.ensures.table ∙ c.loop-link.invariant.table;
       cpu = noted_id x w (set row count n) (count + 1) m more ∙ c.requires.cpu.1;
       known_log = c.load_link-link.ensures.step.known_log ∙ c.note-entry.ensures.known_log ∙ c.loop-link.invariant.known_log;
       log = one_visited c.args.cpu nobody count _ _ _ _ c.loop-link.invariant.log c.note-entry.ensures.log (link_loaded c.args.cpu _ _ _ c.load_link-link.ensures.step.log);
       ends = (c.note-entry.new.seat.log, c.load_link-link.ensures.step.log);
-      few = omega (arith, room);
+      few = omega (arith, few);
       size = length-set row count n ∙ c.loop-link.invariant.size;
       noted = more;
     }
