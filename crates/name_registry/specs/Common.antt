@@ -3,7 +3,7 @@ pub use Rattle.name_registry.specs.Advancing.{ClearBelow, CollectedBelow, EndsIn
 pub use Rattle.name_registry.specs.Attaching.{HasAttachedFor, HasAttachedIfaceFor, attach_answer, attach_iface_answer, first_fit, given_entry, room_of}
 pub use Rattle.name_registry.specs.Auditing.{AreAlike, AreAllCpus, AreShown, HasListened, HaveHeardAndTold, HaveLearned, IsAuditBy, IsAuditOf, IsKeeperOf, IsShownOn, IsTallied, Listed, Occupies, acquired_of, audited, audited_at, audited_below, each_at, each_below, is_collected, listed_at, local_by, local_in, local_met, local_of, locals_met, locals_of, net_met, net_of, net_unless, place_of, places_below, released_of, tallies_below, tallies_met, tally, tally_by, tally_in, tally_met, tally_of, total_in}
 pub use Rattle.name_registry.specs.Changes.{HasMade, WeightsTell, number_of, unit, weigh, weight}
-pub use Rattle.name_registry.specs.Destroying.{Destroys, DestroysOutside, HasAdvancedFor, HasDestroyed, LastMeeting, SomeAdvanced, SomeAdvancedFor, TurnsMeeting}
+pub use Rattle.name_registry.specs.Destroying.{Destroys, DestroysOutside, HasAdvancedFor, HasDestroyed, LastMeeting, SomeAdvancedFor, TurnsMeeting}
 pub use Rattle.name_registry.specs.Detaching.{HasDetachedFor, IsDetachAnswer, IsDetachRefusal, IsLivePlace, IsLookupNow}
 pub use Rattle.name_registry.specs.Law.{Balanced, ExactAudit, FreeInterlock, counts_of}
 pub use Rattle.name_registry.specs.Locking.{IsAttachRefusal, IsDestroyRefusal, IsDetachRefusedTo, IsPerformRefusal, IsStageOf, MayAttach}
