@@ -13,22 +13,28 @@ use Rattle.registry_language.specs.declared.fault.Cause.{Cause}
 use Rattle.registry_language.specs.Program.{ProgramDraft, IsProgram, AreBefore, suits, is_of_run, may_follow, position_after, with_command}
 use Rattle.registry_language.specs.Grammar.{◌>>=◌, at_line, line_of, draft_of_lines}
 
-draft_cons : (n : ℕ) (p : ProgramDraft) (line : List ℕ) (lines : List (List ℕ)) → draft_of_lines n p (line ∷ lines) ≡ (at_line n (line_of p.place line) >>= λ said. draft_of_lines (n + 1) (with_command p said) lines)
+draft_cons : (n : ℕ) (p : ProgramDraft) (line : List ℕ) (lines : List (List ℕ))
+    → draft_of_lines n p (line ∷ lines) ≡ (at_line n (line_of p.place line) >>= λ said. draft_of_lines (n + 1) (with_command p said) lines)
 unfolding draft_of_lines
 draft_cons n p line lines = refl
 
-draft_at : {A : Type 0} (f : A → List ℕ) (ls : List A) (i : ℕ) (d : A) (n : ℕ) (p : ProgramDraft) → i < length ls → draft_of_lines n p (drop i (map f ls)) ≡ (at_line n (line_of p.place (f (get_or ls i d))) >>= λ said. draft_of_lines (n + 1) (with_command p said) (drop (i + 1) (map f ls)))
+draft_at : {A : Type 0} (f : A → List ℕ) (ls : List A) (i : ℕ) (d : A) (n : ℕ) (p : ProgramDraft) → i < length ls
+    → draft_of_lines n p (drop i (map f ls)) ≡
+    (at_line n (line_of p.place (f (get_or ls i d))) >>= λ said. draft_of_lines (n + 1) (with_command p said) (drop (i + 1) (map f ls)))
 draft_at f ls i d n p h =
     let below : i < length (map f ls) = rw length-map h in
     let here : get_or (map f ls) i [] ≡ f (get_or ls i d) = get_or-map f ls i d [] h in
     rw (add-one i, drop-cons (map f ls) i [], here) (draft_cons n p (f (get_or ls i d)) (drop (suc i) (map f ls)))
 
 -- a line that is taken
-pub draft_more : {A : Type 0} (f : A → List ℕ) (ls : List A) (i : ℕ) (d : A) (n : ℕ) (p : ProgramDraft) (said : Option Command) → i < length ls → line_of p.place (f (get_or ls i d)) ≡ Ok said → draft_of_lines n p (drop i (map f ls)) ≡ draft_of_lines (n + 1) (with_command p said) (drop (i + 1) (map f ls))
+pub draft_more : {A : Type 0} (f : A → List ℕ) (ls : List A) (i : ℕ) (d : A) (n : ℕ) (p : ProgramDraft) (said : Option Command) → i < length ls
+    → line_of p.place (f (get_or ls i d)) ≡ Ok said → draft_of_lines n p (drop i (map f ls)) ≡ draft_of_lines (n + 1) (with_command p said)
+    (drop (i + 1) (map f ls))
 draft_more f ls i d n p said h e = draft_at f ls i d n p h ∙ rw e refl
 
 -- a line with a fault
-pub draft_fault : {A : Type 0} (f : A → List ℕ) (ls : List A) (i : ℕ) (d : A) (n : ℕ) (p : ProgramDraft) (cause : Cause) → i < length ls → line_of p.place (f (get_or ls i d)) ≡ Err cause → draft_of_lines n p (drop i (map f ls)) ≡ Err (record { line = n; cause = cause })
+pub draft_fault : {A : Type 0} (f : A → List ℕ) (ls : List A) (i : ℕ) (d : A) (n : ℕ) (p : ProgramDraft) (cause : Cause) → i < length ls
+    → line_of p.place (f (get_or ls i d)) ≡ Err cause → draft_of_lines n p (drop i (map f ls)) ≡ Err (record { line = n; cause = cause })
 draft_fault f ls i d n p cause h e = draft_at f ls i d n p h ∙ rw e refl
 
 -- no line is left
@@ -43,7 +49,8 @@ of_run_suits s (Domain cpus slots) h = cc
 of_run_suits s (Limits changes sections passive count) h = cc
 of_run_suits s _ h = h
 
-one_more : (s : Settings) (commands : List Command) (command : Command) → IsProgram (record { settings = s; commands = commands }) → IsTrue (suits s command) → IsProgram (record { settings = s; commands = commands ++ command ∷ [] })
+one_more : (s : Settings) (commands : List Command) (command : Command) → IsProgram (record { settings = s; commands = commands })
+    → IsTrue (suits s command) → IsProgram (record { settings = s; commands = commands ++ command ∷ [] })
 one_more s commands command p h =
     let before : list_all (suits s) commands ≡ true = p.suited in
     record { fit = p.fit; suited = list_all-append (suits s) commands (command ∷ []) ∙ rw (before, h) refl }
@@ -53,7 +60,8 @@ or_false true h = refl
 or_false false h = h
 
 -- a command that may follow keeps the commands those of a program
-pub one_command_more : (place : Position) (commands : List Command) (command : Command) → AreBefore place commands → IsTrue (may_follow place command) → AreBefore (position_after place command) (commands ++ command ∷ [])
+pub one_command_more : (place : Position) (commands : List Command) (command : Command) → AreBefore place commands → IsTrue (may_follow place command)
+    → AreBefore (position_after place command) (commands ++ command ∷ [])
 one_command_more First commands (Domain cpus slots) e h = record { fit = h; suited = rw e refl }
 one_command_more First commands _ e h = cc
 one_command_more (Second s) commands (Limits changes sections passive count) p h =

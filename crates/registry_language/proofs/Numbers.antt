@@ -55,7 +55,8 @@ spent w i n h below e over =
     let step : digits_value 10 (take (i + 1) w) ≡ n * 10 + (get_or w i 0 - 48) = one_more w i n h below e in
     rw (h, large (digits_value 10 w) (omega arith)) refl
 
-pub gone_on : (w : List ℕ) (i n more : ℕ) → is_numeral w ≡ true → i < length w → n ≡ digits_value 10 (take i w) → Some more ≡ within_u64 (n * 10 + (get_or w i 0 - 48)) → more ≡ digits_value 10 (take (i + 1) w)
+pub gone_on : (w : List ℕ) (i n more : ℕ) → is_numeral w ≡ true → i < length w → n ≡ digits_value 10 (take i w)
+    → Some more ≡ within_u64 (n * 10 + (get_or w i 0 - 48)) → more ≡ digits_value 10 (take (i + 1) w)
 gone_on w i n more h below e some = is_small _ more some ∙ sym (one_more w i n h below e)
 
 pub all_read : (w : List ℕ) (i n : ℕ) → is_numeral w ≡ true → length w ≤ i → n ≡ digits_value 10 (take i w) → n < 2 ^ 64 → Some n ≡ number_of w

@@ -110,56 +110,6 @@ abbrev pub plug_of : Settings → List (List ℕ) → Result Command Cause
 plug_of s (cpu ∷ name ∷ value ∷ label ∷ []) = plug_words s cpu name value label
 plug_of s _ = Err WrongCount
 
-unfoldable pub detach_words : Settings → List ℕ → List ℕ → List ℕ → Result Command Cause
-detach_words s cpu kind name = do
-  c ← cpu_of s.cpus cpu
-  k ← kind_from_text kind
-  n ← name_if (name_of_bytes name)
-  Ok (Detach c k n)
-
-abbrev pub detach_of : Settings → List (List ℕ) → Result Command Cause
-detach_of s (cpu ∷ kind ∷ name ∷ []) = detach_words s cpu kind name
-detach_of s _ = Err WrongCount
-
-unfoldable pub enter_of : Settings → List (List ℕ) → Result Command Cause
-enter_of s (cpu ∷ []) = do
-  c ← cpu_of s.cpus cpu
-  Ok (Enter c)
-enter_of s _ = Err WrongCount
-
-unfoldable pub exit_of : Settings → List (List ℕ) → Result Command Cause
-exit_of s (cpu ∷ []) = do
-  c ← cpu_of s.cpus cpu
-  Ok (Exit c)
-exit_of s _ = Err WrongCount
-
-unfoldable pub find_words : Settings → List ℕ → List ℕ → List ℕ → Result Command Cause
-find_words s cpu kind name = do
-  c ← cpu_of s.cpus cpu
-  k ← kind_from_text kind
-  n ← name_if (name_of_bytes name)
-  Ok (Find c k n)
-
-abbrev pub find_of : Settings → List (List ℕ) → Result Command Cause
-find_of s (cpu ∷ kind ∷ name ∷ []) = find_words s cpu kind name
-find_of s _ = Err WrongCount
-
-unfoldable pub cpu_label_words : Settings → List ℕ → List ℕ → Result (ℕ × Label) Cause
-cpu_label_words s cpu label = do
-  c ← cpu_of s.cpus cpu
-  x ← label_of label
-  Ok (c, x)
-
--- a CPU and then a label
-abbrev pub cpu_label_of : Settings → List (List ℕ) → Result (ℕ × Label) Cause
-cpu_label_of s (cpu ∷ label ∷ []) = cpu_label_words s cpu label
-cpu_label_of s _ = Err WrongCount
-
-unfoldable pub reference_of : Settings → List (List ℕ) → Result Command Cause
-reference_of s words = do
-  p ← cpu_label_of s words
-  Ok (Reference p.0 p.1)
-
 unfoldable pub copy_words : Settings → List ℕ → List ℕ → List ℕ → Result Command Cause
 copy_words s cpu source target = do
   c ← cpu_of s.cpus cpu
@@ -171,36 +121,11 @@ abbrev pub copy_of : Settings → List (List ℕ) → Result Command Cause
 copy_of s (cpu ∷ source ∷ target ∷ []) = copy_words s cpu source target
 copy_of s _ = Err WrongCount
 
-unfoldable pub held_of : Settings → List (List ℕ) → Result Command Cause
-held_of s words = do
-  p ← cpu_label_of s words
-  Ok (Held p.0 p.1)
-
-unfoldable pub read_of : Settings → List (List ℕ) → Result Command Cause
-read_of s words = do
-  p ← cpu_label_of s words
-  Ok (Read p.0 p.1)
-
-unfoldable pub release_of : Settings → List (List ℕ) → Result Command Cause
-release_of s words = do
-  p ← cpu_label_of s words
-  Ok (Release p.0 p.1)
-
-unfoldable pub count_of : Settings → List (List ℕ) → Result Command Cause
-count_of s words = do
-  p ← cpu_label_of s words
-  Ok (Count p.0 p.1)
-
 unfoldable pub peek_of : List (List ℕ) → Result Command Cause
 peek_of (label ∷ []) = do
   x ← label_of label
   Ok (Peek x)
 peek_of _ = Err WrongCount
-
-unfoldable pub uncount_of : Settings → List (List ℕ) → Result Command Cause
-uncount_of s words = do
-  p ← cpu_label_of s words
-  Ok (Uncount p.0 p.1)
 
 unfoldable pub advance_of : List (List ℕ) → Result Command Cause
 advance_of (number ∷ []) = do
@@ -233,6 +158,42 @@ abbrev pub audit_of : List (List ℕ) → Result Command Cause
 audit_of [] = Ok Audit
 audit_of _ = Err WrongCount
 
+-- The shapes that several commands have: of each its words, and the command that they make
+
+unfoldable pub cpu_alone_of : Settings → List (List ℕ) → Result ℕ Cause
+cpu_alone_of s (cpu ∷ []) = cpu_of s.cpus cpu
+cpu_alone_of s _ = Err WrongCount
+
+unfoldable pub cpu_key_words : Settings → List ℕ → List ℕ → List ℕ → Result (ℕ × Kind × Name) Cause
+cpu_key_words s cpu kind name = do
+  c ← cpu_of s.cpus cpu
+  k ← kind_from_text kind
+  n ← name_if (name_of_bytes name)
+  Ok (c, k, n)
+
+abbrev pub cpu_key_of : Settings → List (List ℕ) → Result (ℕ × Kind × Name) Cause
+cpu_key_of s (cpu ∷ kind ∷ name ∷ []) = cpu_key_words s cpu kind name
+cpu_key_of s _ = Err WrongCount
+
+unfoldable pub cpu_label_words : Settings → List ℕ → List ℕ → Result (ℕ × Label) Cause
+cpu_label_words s cpu label = do
+  c ← cpu_of s.cpus cpu
+  x ← label_of label
+  Ok (c, x)
+
+abbrev pub cpu_label_of : Settings → List (List ℕ) → Result (ℕ × Label) Cause
+cpu_label_of s (cpu ∷ label ∷ []) = cpu_label_words s cpu label
+cpu_label_of s _ = Err WrongCount
+
+abbrev pub by_cpu : (ℕ → Command) → Settings → List (List ℕ) → Result Command Cause
+by_cpu made s words = cpu_alone_of s words >>= λ c. Ok (made c)
+
+abbrev pub by_key : (ℕ → Kind → Name → Command) → Settings → List (List ℕ) → Result Command Cause
+by_key made s words = cpu_key_of s words >>= λ p. Ok (made p.0 p.1 p.2)
+
+abbrev pub by_label : (ℕ → Label → Command) → Settings → List (List ℕ) → Result Command Cause
+by_label made s words = cpu_label_of s words >>= λ p. Ok (made p.0 p.1)
+
 -- domain comes first
 abbrev pub first_of : Verb → List (List ℕ) → Result Command Cause
 first_of verbs.Domain words = domain_of words
@@ -244,18 +205,18 @@ later_of s verbs.Domain words = Err Misplaced
 later_of s verbs.Limits words = Err Misplaced
 later_of s verbs.Attach words = attach_of s words
 later_of s verbs.Plug words = plug_of s words
-later_of s verbs.Detach words = detach_of s words
-later_of s verbs.Enter words = enter_of s words
-later_of s verbs.Exit words = exit_of s words
-later_of s verbs.Find words = find_of s words
-later_of s verbs.Reference words = reference_of s words
+later_of s verbs.Detach words = by_key Detach s words
+later_of s verbs.Enter words = by_cpu Enter s words
+later_of s verbs.Exit words = by_cpu Exit s words
+later_of s verbs.Find words = by_key Find s words
+later_of s verbs.Reference words = by_label Reference s words
 later_of s verbs.Copy words = copy_of s words
-later_of s verbs.Held words = held_of s words
-later_of s verbs.Read words = read_of s words
-later_of s verbs.Release words = release_of s words
-later_of s verbs.Count words = count_of s words
+later_of s verbs.Held words = by_label Held s words
+later_of s verbs.Read words = by_label Read s words
+later_of s verbs.Release words = by_label Release s words
+later_of s verbs.Count words = by_label Count s words
 later_of s verbs.Peek words = peek_of words
-later_of s verbs.Uncount words = uncount_of s words
+later_of s verbs.Uncount words = by_label Uncount s words
 later_of s verbs.Advance words = advance_of words
 later_of s verbs.Destroy words = destroy_of s words
 later_of s verbs.Perform words = perform_of s words

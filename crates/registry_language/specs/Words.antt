@@ -25,19 +25,26 @@ within_u64 n = if nat_lt n (2 ^ 64) then Some n else None
 abbrev pub number_of : List ℕ → Option ℕ
 number_of w = if is_numeral w then within_u64 (digits_value 10 w) else None
 
--- the commands that act on no reference, each with the word that names it
-abbrev pub registry_verbs : List (List ℕ × Verb)
-registry_verbs =
+-- the commands that give the settings and those on entries, each with the word that names it
+abbrev pub entry_verbs : List (List ℕ × Verb)
+entry_verbs =
     (codes "domain", Domain) ∷ (codes "limits", Limits) ∷
     (codes "attach", Attach) ∷ (codes "plug", Plug) ∷ (codes "detach", Detach) ∷
-    (codes "enter", Enter) ∷ (codes "exit", Exit) ∷ (codes "find", Find) ∷
-    (codes "advance", Advance) ∷ (codes "destroy", Destroy) ∷ (codes "perform", Perform) ∷ (codes "audit", Audit) ∷ []
+    (codes "advance", Advance) ∷ (codes "destroy", Destroy) ∷ []
 
--- those on passive and on local references
-abbrev pub reference_verbs : List (List ℕ × Verb)
-reference_verbs =
-    (codes "ref", Reference) ∷ (codes "copy", Copy) ∷ (codes "held", Held) ∷ (codes "read", Read) ∷ (codes "drop", Release) ∷
-    (codes "count", Count) ∷ (codes "peek", Peek) ∷ (codes "uncount", Uncount) ∷ []
+-- those on sections, and on the registry as a whole
+abbrev pub section_verbs : List (List ℕ × Verb)
+section_verbs =
+    (codes "enter", Enter) ∷ (codes "exit", Exit) ∷ (codes "find", Find) ∷ (codes "perform", Perform) ∷ (codes "audit", Audit) ∷ []
+
+-- those on passive references
+abbrev pub passive_verbs : List (List ℕ × Verb)
+passive_verbs =
+    (codes "ref", Reference) ∷ (codes "copy", Copy) ∷ (codes "held", Held) ∷ (codes "read", Read) ∷ (codes "drop", Release) ∷ []
+
+-- those on local references
+abbrev pub local_verbs : List (List ℕ × Verb)
+local_verbs = (codes "count", Count) ∷ (codes "peek", Peek) ∷ (codes "uncount", Uncount) ∷ []
 
 -- the first command of the list that a word names
 abbrev pub verb_among : List (List ℕ × Verb) → List ℕ → Option Verb
@@ -50,4 +57,4 @@ or_else (Some x) other = Some x
 
 -- the command that a word names
 abbrev pub verb_of : List ℕ → Option Verb
-verb_of w = or_else (verb_among registry_verbs w) (verb_among reference_verbs w)
+verb_of w = or_else (verb_among entry_verbs w) (or_else (verb_among section_verbs w) (or_else (verb_among passive_verbs w) (verb_among local_verbs w)))

@@ -1,7 +1,7 @@
 //! Lines, words and numbers.
 
 ghost use Rattle.std.specs.Prelude.{◌≡◌, ◌+◌, ◌*◌, ◌<◌, ◌≤◌, IfOk, map, length, vec_len};
-ghost use Rattle.registry_language.specs.Words.{lines_of, words_in_line, is_numeral, within_u64, number_of, registry_verbs, reference_verbs, verb_among, verb_of};
+ghost use Rattle.registry_language.specs.Words.{lines_of, words_in_line, is_numeral, within_u64, number_of, entry_verbs, section_verbs, passive_verbs, local_verbs, verb_among, verb_of};
 ghost use Rattle.std.specs.List.{list_all};
 ghost use Rattle.std.specs.Char.{is_ascii_digit};
 
@@ -68,68 +68,80 @@ pub fn number(word: &[u8]) -> Option<u64>
     Some(n)
 }
 
+/// The verb that the word names, if it is one of these.
+macro_rules! verb_among {
+    ($word:ident:) => {
+        None
+    };
+    ($word:ident: $name:literal => $verb:ident, $($rest:tt)*) => {
+        if $word == $name.as_slice() {
+            Some(Verb::$verb)
+        } else {
+            verb_among!($word: $($rest)*)
+        }
+    };
+}
+
 /// The command that a word names.
 pub fn verb(word: &[u8]) -> Option<Verb>
     ensures { result ≡ verb_of word.now }
 {
-    match registry_verb(word) {
-        Some(verb) => Some(verb),
-        None => reference_verb(word),
+    if let Some(verb) = entry_verb(word) {
+        return Some(verb);
     }
+    if let Some(verb) = section_verb(word) {
+        return Some(verb);
+    }
+    if let Some(verb) = passive_verb(word) {
+        return Some(verb);
+    }
+    local_verb(word)
 }
 
-fn registry_verb(word: &[u8]) -> Option<Verb>
-    ensures { result ≡ verb_among registry_verbs word.now }
+fn entry_verb(word: &[u8]) -> Option<Verb>
+    ensures { result ≡ verb_among entry_verbs word.now }
 {
-    if word == b"domain".as_slice() {
-        Some(Verb::Domain)
-    } else if word == b"limits".as_slice() {
-        Some(Verb::Limits)
-    } else if word == b"attach".as_slice() {
-        Some(Verb::Attach)
-    } else if word == b"plug".as_slice() {
-        Some(Verb::Plug)
-    } else if word == b"detach".as_slice() {
-        Some(Verb::Detach)
-    } else if word == b"enter".as_slice() {
-        Some(Verb::Enter)
-    } else if word == b"exit".as_slice() {
-        Some(Verb::Exit)
-    } else if word == b"find".as_slice() {
-        Some(Verb::Find)
-    } else if word == b"advance".as_slice() {
-        Some(Verb::Advance)
-    } else if word == b"destroy".as_slice() {
-        Some(Verb::Destroy)
-    } else if word == b"perform".as_slice() {
-        Some(Verb::Perform)
-    } else if word == b"audit".as_slice() {
-        Some(Verb::Audit)
-    } else {
-        None
-    }
+    verb_among!(word:
+        b"domain" => Domain,
+        b"limits" => Limits,
+        b"attach" => Attach,
+        b"plug" => Plug,
+        b"detach" => Detach,
+        b"advance" => Advance,
+        b"destroy" => Destroy,
+    )
 }
 
-fn reference_verb(word: &[u8]) -> Option<Verb>
-    ensures { result ≡ verb_among reference_verbs word.now }
+fn section_verb(word: &[u8]) -> Option<Verb>
+    ensures { result ≡ verb_among section_verbs word.now }
 {
-    if word == b"ref".as_slice() {
-        Some(Verb::Reference)
-    } else if word == b"copy".as_slice() {
-        Some(Verb::Copy)
-    } else if word == b"held".as_slice() {
-        Some(Verb::Held)
-    } else if word == b"read".as_slice() {
-        Some(Verb::Read)
-    } else if word == b"drop".as_slice() {
-        Some(Verb::Release)
-    } else if word == b"count".as_slice() {
-        Some(Verb::Count)
-    } else if word == b"peek".as_slice() {
-        Some(Verb::Peek)
-    } else if word == b"uncount".as_slice() {
-        Some(Verb::Uncount)
-    } else {
-        None
-    }
+    verb_among!(word:
+        b"enter" => Enter,
+        b"exit" => Exit,
+        b"find" => Find,
+        b"perform" => Perform,
+        b"audit" => Audit,
+    )
+}
+
+fn passive_verb(word: &[u8]) -> Option<Verb>
+    ensures { result ≡ verb_among passive_verbs word.now }
+{
+    verb_among!(word:
+        b"ref" => Reference,
+        b"copy" => Copy,
+        b"held" => Held,
+        b"read" => Read,
+        b"drop" => Release,
+    )
+}
+
+fn local_verb(word: &[u8]) -> Option<Verb>
+    ensures { result ≡ verb_among local_verbs word.now }
+{
+    verb_among!(word:
+        b"count" => Count,
+        b"peek" => Peek,
+        b"uncount" => Uncount,
+    )
 }

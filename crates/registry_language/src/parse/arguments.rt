@@ -1,7 +1,7 @@
 //! The words after a command's first: CPUs, kinds, names, labels and turns.
 
 ghost use Rattle.std.specs.Prelude.{◌≡◌, IfOk, IsTrue, map, ◌<◌, ◌≤◌};
-ghost use Rattle.registry_language.specs.Grammar.{cpu_of, kind_from_text, name_if, turns_of, label_of, cpu_label_of, cpu_label_words};
+ghost use Rattle.registry_language.specs.Grammar.{cpu_of, kind_from_text, name_if, turns_of, label_of, cpu_alone_of, cpu_key_of, cpu_key_words, cpu_label_of, cpu_label_words};
 ghost use Rattle.registry_language.specs.Program.{is_label, are_turns};
 ghost use Rattle.registry_values.specs.Common.{name_of_bytes, is_lawful};
 
@@ -71,7 +71,47 @@ pub fn turns(word: &[u8]) -> Result<u32, Cause>
     }
 }
 
-/// A CPU and a label.
+/// A CPU alone. Refused: `BadCpu`; `WrongCount` where this isn't one word.
+#[tactic(auto, unfolding(crate::specs::Grammar::cpu_alone_of))]
+pub fn cpu_alone(settings: Settings, arguments: &[&[u8]]) -> Result<u8, Cause>
+    ensures said { result ≡ cpu_alone_of settings (map (λ x. x.now) arguments.now) }
+    ensures below { IfOk result (λ n. n < settings.cpus) }
+{
+    let [word] = arguments else {
+        return Err(Cause::WrongCount);
+    };
+    cpu(settings, word)
+}
+
+/// A CPU, a kind and a name. Refused by the first word that is none: `BadCpu`, `BadKind`, `BadName`; `WrongCount` where these aren't
+/// three words.
+pub fn cpu_and_key(settings: Settings, arguments: &[&[u8]]) -> Result<(u8, Kind, Name), Cause>
+    ensures said { result ≡ cpu_key_of settings (map (λ x. x.now) arguments.now) }
+    ensures below { IfOk result (λ p. p.0 < settings.cpus) }
+{
+    match arguments {
+        [cpu, kind, name] => cpu_key_words(settings, cpu, kind, name),
+        _ => Err(Cause::WrongCount),
+    }
+}
+
+#[tactic(auto, unfolding(crate::specs::Grammar::cpu_key_words))]
+fn cpu_key_words(
+    settings: Settings,
+    first: &[u8],
+    second: &[u8],
+    third: &[u8],
+) -> Result<(u8, Kind, Name), Cause>
+    ensures said { result ≡ cpu_key_words settings first.now second.now third.now }
+    ensures below { IfOk result (λ p. p.0 < settings.cpus) }
+{
+    let cpu = cpu(settings, first)?;
+    let kind = kind(second)?;
+    let name = name(third)?;
+    Ok((cpu, kind, name))
+}
+
+/// A CPU and a label. Refused by the first word that is none: `BadCpu`, `BadLabel`; `WrongCount` where these aren't two words.
 pub fn cpu_and_label(settings: Settings, arguments: &[&[u8]]) -> Result<(u8, Label), Cause>
     ensures said { result ≡ cpu_label_of settings (map (λ x. x.now) arguments.now) }
     ensures below { IfOk result (λ p. p.0 < settings.cpus) }

@@ -7,21 +7,30 @@ ghost use Rattle.registry_language.specs.Parsing.{LineGives};
 ghost use Rattle.std.specs.List.{list_any};
 
 mod arguments;
-mod entries;
-mod references;
-mod sections;
+mod commands;
 mod settings;
 
 use super::command::{Command, Verb};
 use super::fault::{Cause, LineFault};
 use super::position::Position;
 use super::words::{verb, words};
-use entries::{advance, attach, destroy, detach, find, plug};
-use references::{audit, copy, count, held, peek, read, reference, release, uncount};
+use arguments::{cpu_alone, cpu_and_key, cpu_and_label};
+use commands::{advance, attach, audit, copy, destroy, peek, perform, plug};
 use registry_values::Settings;
-use sections::{enter, exit, perform};
 use settings::{domain, limits};
 use std::alloc::Global;
+
+/// The command with the fields that the words give, or why they give none.
+macro_rules! command {
+    ($name:ident { $field:ident } of $words:expr) => {{
+        let $field = $words?;
+        Ok(Command::$name { $field })
+    }};
+    ($name:ident { $($field:ident),+ } of $words:expr) => {{
+        let ($($field),+) = $words?;
+        Ok(Command::$name { $($field),+ })
+    }};
+}
 
 /// What the first command says.
 fn first(verb: Verb, arguments: &[&[u8]]) -> Result<Command, Cause>
@@ -54,18 +63,18 @@ fn later(settings: Settings, verb: Verb, arguments: &[&[u8]]) -> Result<Command,
         Verb::Domain | Verb::Limits => Err(Cause::Misplaced),
         Verb::Attach => attach(settings, arguments),
         Verb::Plug => plug(settings, arguments),
-        Verb::Detach => detach(settings, arguments),
-        Verb::Enter => enter(settings, arguments),
-        Verb::Exit => exit(settings, arguments),
-        Verb::Find => find(settings, arguments),
-        Verb::Reference => reference(settings, arguments),
+        Verb::Detach => command!(Detach { cpu, kind, name } of cpu_and_key(settings, arguments)),
+        Verb::Enter => command!(Enter { cpu } of cpu_alone(settings, arguments)),
+        Verb::Exit => command!(Exit { cpu } of cpu_alone(settings, arguments)),
+        Verb::Find => command!(Find { cpu, kind, name } of cpu_and_key(settings, arguments)),
+        Verb::Reference => command!(Reference { cpu, label } of cpu_and_label(settings, arguments)),
         Verb::Copy => copy(settings, arguments),
-        Verb::Held => held(settings, arguments),
-        Verb::Read => read(settings, arguments),
-        Verb::Release => release(settings, arguments),
-        Verb::Count => count(settings, arguments),
+        Verb::Held => command!(Held { cpu, label } of cpu_and_label(settings, arguments)),
+        Verb::Read => command!(Read { cpu, label } of cpu_and_label(settings, arguments)),
+        Verb::Release => command!(Release { cpu, label } of cpu_and_label(settings, arguments)),
+        Verb::Count => command!(Count { cpu, label } of cpu_and_label(settings, arguments)),
         Verb::Peek => peek(settings, arguments),
-        Verb::Uncount => uncount(settings, arguments),
+        Verb::Uncount => command!(Uncount { cpu, label } of cpu_and_label(settings, arguments)),
         Verb::Advance => advance(settings, arguments),
         Verb::Destroy => destroy(settings, arguments),
         Verb::Perform => perform(settings, arguments),

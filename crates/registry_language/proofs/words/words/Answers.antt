@@ -10,5 +10,6 @@ pub returns : goal.returns
 returns c =
     let from = c.filter.ensures.source in
     map_from_collect _ c.collect.ensures.ran (YieldsList-from_filter _ _
-    (YieldsList-from_slice_split _ _ c.args.line.now (ap split_rest from ∙ c.split.ensures.rest) (ap split_done from ∙ c.split.ensures.done) (ap split_callee from ∙ c.split.ensures.closure) (λ x r q k. search (rules, tests)))
+    (YieldsList-from_slice_split _ _ c.args.line.now (ap split_rest from ∙ c.split.ensures.rest) (ap split_done from ∙ c.split.ensures.done)
+    (ap split_callee from ∙ c.split.ensures.closure) (λ x r q k. search (rules, tests)))
     c.filter.ensures.closure (λ x r q k. search (rules, tests)))
