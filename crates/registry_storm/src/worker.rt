@@ -204,6 +204,7 @@ impl<'a, D: Domain, G: Gate> Shared<'a, D, G> {
 fn next_basket(cpu: u8, cpus: u8) -> u8
     requires { 1 ≤ cpus }
     ensures next { cpu + 1 < cpus → result ≡ cpu + 1 }
+    ensures first { cpus ≤ cpu + 1 → result ≡ 0 }
 {
     if cpu < cpus - 1 { cpu + 1 } else { 0 }
 }

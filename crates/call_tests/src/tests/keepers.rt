@@ -38,6 +38,7 @@ pub(crate) fn by_keeper<R: Abort>(
     call: Writer,
 ) -> Answer
     requires words { AreWordsOf words.now keeper.old.words.table keeper.old.words.settings }
+    ensures words { keeper.new.words ≡ keeper.old.words }
 {
     match call {
         Writer::Publish(wanted) => {
