@@ -45,6 +45,10 @@ programs() {
     make -s -C $folder list-"$1" | tr ' ' '\n' | grep -vE '^(misuse|misuse_kernel|tells)$'
 }
 
+lints() {
+    [ -z "$(mandoc -T lint clients/man/kupaldiz_*.[37] 2>&1 | tee /dev/stderr)" ]
+}
+
 # valgrind runs one thread at a time: in turn, where it can. The layer keeps what a thread may use again.
 watched() {
     limited valgrind -q --fair-sched=try --error-exitcode=99 --leak-check=full --show-leak-kinds=definite --errors-for-leak-kinds=definite "$@"
@@ -59,6 +63,10 @@ for way in plain sanitized raced small late; do
         check "$test, $way" "$out/$way/$test"
     done
 done
+check "the manual pages are as the headers say, and each call has one" $folder/pages.py check
+if command -v mandoc >/dev/null; then
+    check "mandoc finds no fault in them" lints
+fi
 check "the layer is built into a shared object that is closed" make -s -C $folder unloaded
 check "a thread ends after its layer was closed" "$out/unloaded" "$out/plugin.so"
 if command -v valgrind >/dev/null; then

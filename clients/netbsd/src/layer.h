@@ -91,7 +91,7 @@ enum {
 	TICK = 1000000000 / 100		/* nanoseconds: hz is 100 */
 };
 
-_Static_assert((int)ALL_CPUS <= (int)REGISTRY_MOST_CPUS, "each CPU of the registry is a thread's or the writers'");
+_Static_assert((int)ALL_CPUS == (int)REGISTRY_MOST_CPUS, "each CPU of the registry is a thread's or the writers'");
 
 /* What the thread sanitizer is told of the order that the archive, which isn't compiled with it, makes. */
 #ifdef __SANITIZE_THREAD__

@@ -1,7 +1,8 @@
 /*
  * drained - how a drain ends: woken by the last release, and not before that has let go of the lock, which is freed with the object at once
  *
- * Over a layer whose drains look again only after ten seconds, a drain that nobody wakes is too late.
+ * Over a layer whose drains look again only after ten seconds, a drain that nobody wakes is too late. The linker leads pthread_mutex_lock here (--wrap): some
+ * releases lose their processor before each lock of the layer's that they take, so that whatever they touch too late is gone by then.
  */
 #include <sys/condvar.h>
 #include <sys/localcount.h>
@@ -10,7 +11,19 @@
 
 #include "test.h"
 
+int __real_pthread_mutex_lock(pthread_mutex_t *mutex);
+int __wrap_pthread_mutex_lock(pthread_mutex_t *mutex);
+
 enum { ROUNDS = 300, HOLDERS = 3 };
+
+static _Thread_local bool is_slow;
+
+int __wrap_pthread_mutex_lock(pthread_mutex_t *mutex)
+{
+	if (is_slow)
+		sleep_for(3000);
+	return __real_pthread_mutex_lock(mutex);
+}
 
 /* The lock and the condition variable lie in the object, and go with it. */
 struct object {
@@ -49,7 +62,9 @@ static void *hold_all(void *arg)
 		unsigned before = atomic_fetch_add(&holds, 1);
 		for (unsigned turn = 0; turn < before % 8 && atomic_load(&draining) % 2 == 0; turn++)
 			sleep_for(50);
+		is_slow = before % 40 == 0;
 		localcount_release(&object->count, &object->cv, &object->lock);
+		is_slow = false;
 	}
 	return arg;
 }
