@@ -28,6 +28,10 @@ NETBSD_OBJECTS = $(patsubst netbsd/src/%.c,out/installed-netbsd/%.o,$(wildcard n
 PAGES = registry registry_waiting
 named_by = $(filter-out $(1),$(shell sed -n 's/^\.Nm \(registry_[a-z_]*\).*/\1/p' man/$(1).3 | sort -u))
 
+# The pages of the pages' names: each call that one of them names gets a page that leads there.
+NETBSD_PAGES = $(patsubst man/%.3,%,$(wildcard man/kupaldiz_*.3))
+netbsd_named_by = $(shell sed -n 's/^\.Nm \([a-z_]*\).*/\1/p' man/$(1).3 | sort -u)
+
 library: out/libkupaldiz.a out/$(SHARED) out/libkupaldiz_netbsd.a out/$(NETBSD_SHARED)
 
 out/waiting.o: c/waiting.c c/waiting.h $(HEADER)/registry.h
@@ -55,7 +59,7 @@ out/$(NETBSD_SHARED): $(NETBSD_OBJECTS) out/$(SHARED) netbsd/netbsd.map install.
 	    -Wl,-z,nodelete $(NETBSD_OBJECTS) out/$(SHARED) -pthread
 
 install: library
-	$(INSTALL) -d $(DESTDIR)$(LIBDIR)/pkgconfig $(NETBSD_FOLDERS:%=$(DESTDIR)$(INCLUDEDIR)/kupaldiz/netbsd/%) $(DESTDIR)$(MANDIR)/man3 $(DESTDIR)$(DOCDIR)
+	$(INSTALL) -d $(DESTDIR)$(LIBDIR)/pkgconfig $(NETBSD_FOLDERS:%=$(DESTDIR)$(INCLUDEDIR)/kupaldiz/netbsd/%) $(DESTDIR)$(MANDIR)/man3 $(DESTDIR)$(MANDIR)/man7 $(DESTDIR)$(DOCDIR)
 	$(INSTALL) -m 644 out/libkupaldiz.a $(DESTDIR)$(LIBDIR)/libkupaldiz.a
 	$(INSTALL) -m 755 out/$(SHARED) $(DESTDIR)$(LIBDIR)/$(SHARED)
 	ln -sf $(SHARED) $(DESTDIR)$(LIBDIR)/$(SONAME)
@@ -69,15 +73,17 @@ install: library
 	for header in $(NETBSD_HEADERS); do $(INSTALL) -m 644 netbsd/$$header $(DESTDIR)$(INCLUDEDIR)/kupaldiz/netbsd/$$header; done
 	$(filled) kupaldiz.pc.in >$(DESTDIR)$(LIBDIR)/pkgconfig/kupaldiz.pc
 	$(filled) netbsd/kupaldiz-netbsd.pc.in >$(DESTDIR)$(LIBDIR)/pkgconfig/kupaldiz-netbsd.pc
-	$(foreach page,$(PAGES),$(call install_page,$(page)))
+	$(foreach page,$(PAGES),$(call install_page,$(page),$(call named_by,$(page))))
+	$(foreach page,$(NETBSD_PAGES),$(call install_page,$(page),$(call netbsd_named_by,$(page))))
+	$(INSTALL) -m 644 man/kupaldiz_netbsd.7 $(DESTDIR)$(MANDIR)/man7/kupaldiz_netbsd.7
 	$(INSTALL) -m 644 CHANGELOG.md $(DESTDIR)$(DOCDIR)/CHANGELOG.md
 
 filled = sed -e 's|@PREFIX@|$(PREFIX)|' -e 's|@LIBDIR@|$(LIBDIR)|' -e 's|@INCLUDEDIR@|$(INCLUDEDIR)|' -e 's|@VERSION@|$(VERSION)|'
 
-# A page, and for each call that it names a page of one line that leads to it.
+# install_page PAGE,CALLS: a page, and for each call that it names a page of one line that leads to it.
 define install_page
 $(INSTALL) -m 644 man/$(1).3 $(DESTDIR)$(MANDIR)/man3/$(1).3
-for call in $(call named_by,$(1)); do echo ".so man3/$(1).3" >$(DESTDIR)$(MANDIR)/man3/$$call.3; done
+for call in $(2); do echo ".so man3/$(1).3" >$(DESTDIR)$(MANDIR)/man3/$$call.3; done
 
 endef
 
@@ -88,6 +94,8 @@ uninstall:
 	rm -f $(addprefix $(DESTDIR)$(INCLUDEDIR)/kupaldiz/netbsd/,$(NETBSD_HEADERS))
 	rm -f $(addprefix $(DESTDIR)$(INCLUDEDIR)/kupaldiz/,registry.h registry_waiting.h)
 	rm -f $(addprefix $(DESTDIR)$(MANDIR)/man3/,$(foreach page,$(PAGES),$(page).3 $(addsuffix .3,$(call named_by,$(page)))))
+	rm -f $(addprefix $(DESTDIR)$(MANDIR)/man3/,$(foreach page,$(NETBSD_PAGES),$(page).3 $(addsuffix .3,$(call netbsd_named_by,$(page)))))
+	rm -f $(DESTDIR)$(MANDIR)/man7/kupaldiz_netbsd.7
 	rm -f $(DESTDIR)$(DOCDIR)/CHANGELOG.md
 	-rmdir $(NETBSD_FOLDERS:%=$(DESTDIR)$(INCLUDEDIR)/kupaldiz/netbsd/%) $(DESTDIR)$(INCLUDEDIR)/kupaldiz/netbsd $(DESTDIR)$(INCLUDEDIR)/kupaldiz $(DESTDIR)$(DOCDIR)
 

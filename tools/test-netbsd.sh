@@ -1,7 +1,7 @@
 #!/usr/bin/env bash
 # Builds the manual pages' own names over the archive, clients/netbsd, and runs their tests: the pages' patterns and seven drivers on threads, plain, with
-# the sanitizers of addresses and undefined behaviour, and with that of races; each misuse in a process of its own; and what is beyond one
-# registry's limits. clients/out/libregistry.a stands already. The last line is 'N passed, M failed'.
+# the sanitizers of addresses and undefined behaviour, with that of races, and some under valgrind; each misuse in a process of its own; what is beyond
+# one registry's limits; random programs against a model. clients/out/libregistry.a stands already. The last line is 'N passed, M failed'.
 set -uo pipefail
 cd "$(dirname "$0")/.."
 folder=clients/netbsd
@@ -45,15 +45,36 @@ programs() {
     make -s -C $folder list-"$1" | tr ' ' '\n' | grep -vE '^(misuse|misuse_kernel|tells)$'
 }
 
+lints() {
+    [ -z "$(mandoc -T lint clients/man/kupaldiz_*.[37] 2>&1 | tee /dev/stderr)" ]
+}
+
+# valgrind runs one thread at a time: in turn, where it can. The layer keeps what a thread may use again.
+watched() {
+    limited valgrind -q --fair-sched=try --error-exitcode=99 --leak-check=full --show-leak-kinds=definite --errors-for-leak-kinds=definite "$@"
+}
+
 for header in $(cd $folder && ls ./*.h sys/*.h net/*.h); do
     check "${header#./} alone, in four C standards" header_alone "${header#./}"
 done
-for way in plain sanitized raced small; do
+for way in plain sanitized raced small late; do
     check "the layer and its tests are built, no warning: $way" make -s -C $folder $way
     for test in $(programs $way); do
         check "$test, $way" "$out/$way/$test"
     done
 done
+check "the manual pages are as the headers say, and each call has one" $folder/pages.py check
+if command -v mandoc >/dev/null; then
+    check "mandoc finds no fault in them" lints
+fi
+check "the layer is built into a shared object that is closed" make -s -C $folder unloaded
+check "a thread ends after its layer was closed" "$out/unloaded" "$out/plugin.so"
+if command -v valgrind >/dev/null; then
+    for test in destroyed drained "model 1 300"; do
+        # shellcheck disable=SC2086
+        check "$test, under valgrind" watched "$out"/plain/$test
+    done
+fi
 for way in plain sanitized; do
     count_cases "each misuse of the three pages by its line, $way" "$out/$way/misuse"
     count_cases "each misuse of locks, memory and threads by its line, $way" "$out/$way/misuse_kernel"

@@ -103,6 +103,7 @@ struct evcnt {
 #define EVCNT_INITIALIZER(type, parent, group, name)	{ 0, type, parent, group, name }
 #define EVCNT_ATTACH_STATIC(counter)
 
+/* evcnt_attach_dynamic - a counter of 0 with its names, which aren't copied. */
 static inline void evcnt_attach_dynamic(struct evcnt *counter, int type, const struct evcnt *parent, const char *group, const char *name)
 {
 	counter->ev_count = 0;
@@ -112,6 +113,7 @@ static inline void evcnt_attach_dynamic(struct evcnt *counter, int type, const s
 	counter->ev_name = name;
 }
 
+/* evcnt_detach - it has no name any more. */
 static inline void evcnt_detach(struct evcnt *counter)
 {
 	counter->ev_name = NULL;

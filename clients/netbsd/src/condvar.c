@@ -62,8 +62,8 @@ bool wait_for(struct thread *me, kcondvar_t *cv, kmutex_t *mutex, int64_t nanose
 void wake_cv(struct thread *me, kcondvar_t *cv, bool all)
 {
 	struct bucket *bucket = bucket_of(cv);
-	want_cv(me, cv);
 	bucket_lock(bucket);
+	want_cv(me, cv);
 	if (all)
 		bucket_wake_all(bucket, cv);
 	else

@@ -30,7 +30,7 @@
  *
  * psref_target_destroy and localcount_drain detach the entry, and then make turns of destroying it until it is freed, without the interlock between
  * two. psref_target_destroy then performs: the sections in which the last references were released have ended as well. A drain waits for the
- * caller's condition variable between two turns. A release on a CPU whose count was collected is told so while its reference is still held: only
+ * caller's condition variable between two turns once the counts are collected. A release on a CPU whose count was collected is told so while its reference is still held: only
  * then it takes the caller's lock, gives the reference up, and wakes the drain, which can't return before that lock is free. After any other
  * release the count isn't touched again, for the drain may have returned.
  *
@@ -57,7 +57,7 @@
 #include "../softint.h"
 #include "registry.h"
 
-/* The limits, which a test may lower: of a bank, and how many milliseconds a wait lasts before it says for whom. */
+/* The limits, which a test may change: of a bank; after how many nanoseconds a drain looks again; after how many milliseconds a wait says for whom. */
 #ifndef KUPALDIZ_ROWS
 #define KUPALDIZ_ROWS		REGISTRY_MOST_SLOTS
 #endif
@@ -70,6 +70,9 @@
 #ifndef KUPALDIZ_REFERENCES
 #define KUPALDIZ_REFERENCES	REGISTRY_MOST_COUNT
 #endif
+#ifndef KUPALDIZ_LOOKS
+#define KUPALDIZ_LOOKS		1000000
+#endif
 #ifndef KUPALDIZ_PATIENCE
 #define KUPALDIZ_PATIENCE	5000
 #endif
@@ -81,13 +84,14 @@ enum {
 	MOST_BANKS = 8192,
 	LINE = 64,
 	MOST_PLACES = 6,
+	CHAINS = 128,
 	LAST_ROUND = PTHREAD_DESTRUCTOR_ITERATIONS - 1,	/* of destructors: in the one after it the thread sanitizer is gone */
 	LONGEST_PAUSE = 1000000,	/* nanoseconds */
 	LEVELS = IPL_HIGH + 1,
 	TICK = 1000000000 / 100		/* nanoseconds: hz is 100 */
 };
 
-_Static_assert((int)ALL_CPUS <= (int)REGISTRY_MOST_CPUS, "each CPU of the registry is a thread's or the writers'");
+_Static_assert((int)ALL_CPUS == (int)REGISTRY_MOST_CPUS, "each CPU of the registry is a thread's or the writers'");
 
 /* What the thread sanitizer is told of the order that the archive, which isn't compiled with it, makes. */
 #ifdef __SANITIZE_THREAD__
@@ -168,7 +172,7 @@ struct reference {
 	struct thread *thread;
 	uint64_t serial;
 	uint32_t via;			/* the registry's CPU that counts it: this one, or the writers' */
-	uint32_t next_free;
+	uint32_t next;			/* of those that are free, or in the chain of its storage's address */
 };
 
 /* Where the calls stand that are about to begin: one, or those of its arguments before it. */
@@ -183,11 +187,14 @@ struct cpu {
 	struct bank *bank;		/* of its sections */
 	struct reference *references;
 	uint32_t room, first_free, counted_elsewhere;
+	uint32_t chains[CHAINS];	/* the first reference of each, by the address of its storage; NOTHING at first */
 	uint64_t serial;
 	uint32_t pending;		/* an atomic: a bit for each level with a soft interrupt that waits */
 	uint32_t bound;			/* an atomic: threads that are bound to it */
 	char edge;			/* what comes before the end of a section */
 };
+
+#define NOTHING	UINT32_MAX
 
 extern struct cpu cpus[KUPALDIZ_CPUS];
 extern _Thread_local struct thread *kupaldiz_self __attribute__((tls_model("initial-exec"), visibility("hidden")));

@@ -159,6 +159,20 @@ static void tell(struct thread *me, struct row *row, const struct registry_stage
 	    at_place(place, where, sizeof(where)));
 }
 
+/* Lets others run, without the interlock: until the last release wakes it, or for a while where a section is waited for, whose end wakes nobody. Whether it
+ * is time to say for whom. */
+static bool wait_once(struct thread *me, const struct registry_stage *met, kcondvar_t *cv, kmutex_t *interlock, struct pauses *pauses)
+{
+	if (met->stage == REGISTRY_LOCAL) {
+		wait_for(me, cv, interlock, KUPALDIZ_LOOKS);
+		return pauses_are_over(pauses);
+	}
+	give_mutex(me, interlock);
+	bool over = pause_longer(pauses);
+	take_mutex(me, interlock);
+	return over;
+}
+
 void localcount_drain(struct localcount *lc, kcondvar_t *cv, kmutex_t *interlock)
 {
 	struct thread *me = begin_call(__func__);
@@ -173,11 +187,9 @@ void localcount_drain(struct localcount *lc, kcondvar_t *cv, kmutex_t *interlock
 	pthread_mutex_unlock(&at.row->lock);
 	int waits = begin_wait();
 	retire_row(me, at, lc);
-	while (!is_freed(me, at, &met)) {
-		wait_for(me, cv, interlock, LONGEST_PAUSE);
-		if (pauses_are_over(&pauses))
+	while (!is_freed(me, at, &met))
+		if (wait_once(me, &met, cv, interlock, &pauses))
 			tell(me, at.row, &met);
-	}
 	lc->lc_serial = 0;
 	lc->lc_row = DRAINED;
 	sweep_banks(me);

@@ -12,8 +12,6 @@ struct psref_class {
 
 enum { FIRST_ROOM = 16 };
 
-static const uint32_t NOTHING = UINT32_MAX;
-
 struct psref_class *psref_class_create(const char *name, ipl_cookie_t level)
 {
 	struct psref_class *psref_class = memory(begin_plain(__func__), sizeof(*psref_class));
@@ -51,15 +49,26 @@ static struct found_row target_row(const struct thread *me, const struct psref_t
 
 /* ---- The table of a CPU's references. The thread has the CPU. ---- */
 
-/* Stops where this storage has a reference of this CPU. What it says itself decides where the table is long. */
+/* The chain of those whose storage lies there, or at other addresses of the same remainder. */
+static uint32_t *chain_of(struct cpu *cpu, const struct psref *psref)
+{
+	uintptr_t address = (uintptr_t)psref;
+	return &cpu->chains[(address >> 3 ^ address >> 10) % CHAINS];
+}
+
+/* The reference that lies in this storage, whatever the storage says, which may never have been written; NULL where none does. */
+static struct reference *reference_at(struct cpu *cpu, const struct psref *psref)
+{
+	for (uint32_t place = *chain_of(cpu, psref); place != NOTHING; place = cpu->references[place].next)
+		if (cpu->references[place].psref == psref)
+			return &cpu->references[place];
+	return NULL;
+}
+
+/* Stops where this storage has a reference of this CPU. */
 static void want_unheld(const struct thread *me, const struct psref *psref)
 {
-	const struct cpu *cpu = me->cpu;
-	uint32_t longest = cpu->room <= 2 * FIRST_ROOM ? cpu->room : 0;
-	bool held = psref->psref_index < cpu->room && cpu->references[psref->psref_index].psref == psref;
-	for (uint32_t place = 0; place < longest && !held; place++)
-		held = cpu->references[place].psref == psref;
-	if (held)
+	if (reference_at(me->cpu, psref) != NULL)
 		stop(me, "the reference is held already");
 }
 
@@ -72,7 +81,7 @@ static void extend(struct thread *me)
 	if (references == NULL)
 		stop(me, "out of memory");
 	for (uint32_t place = cpu->room; place < room; place++)
-		references[place] = (struct reference){.next_free = place + 1 < room ? place + 1 : NOTHING};
+		references[place] = (struct reference){.next = place + 1 < room ? place + 1 : NOTHING};
 	cpu->references = references;
 	cpu->first_free = cpu->room;
 	cpu->room = room;
@@ -86,8 +95,10 @@ static void note_reference(struct thread *me, struct psref *psref, const struct 
 		extend(me);
 	uint32_t place = cpu->first_free;
 	struct reference *reference = &cpu->references[place];
-	cpu->first_free = reference->next_free;
-	*reference = (struct reference){psref, target, me->place, me, ++cpu->serial, via, NOTHING};
+	uint32_t *chain = chain_of(cpu, psref);
+	cpu->first_free = reference->next;
+	*reference = (struct reference){psref, target, me->place, me, ++cpu->serial, via, *chain};
+	*chain = place;
 	cpu->counted_elsewhere += via == WRITERS;
 	*psref = (struct psref){target, cpu->serial, place, cpu->info.ci_index};
 	me->references++;
@@ -119,8 +130,12 @@ static void forget_reference(struct thread *me, struct reference *reference)
 {
 	struct cpu *cpu = me->cpu;
 	cpu->counted_elsewhere -= reference->via == WRITERS;
-	*reference = (struct reference){.next_free = cpu->first_free};
-	cpu->first_free = (uint32_t)(reference - cpu->references);
+	uint32_t place = (uint32_t)(reference - cpu->references), *link = chain_of(cpu, reference->psref);
+	while (*link != place)
+		link = &cpu->references[*link].next;
+	*link = reference->next;
+	*reference = (struct reference){.next = cpu->first_free};
+	cpu->first_free = place;
 	me->references--;
 }
 

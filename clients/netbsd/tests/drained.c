@@ -1,0 +1,108 @@
+/*
+ * drained - how a drain ends: woken by the last release, and not before that has let go of the lock, which is freed with the object at once
+ *
+ * Over a layer whose drains look again only after ten seconds, a drain that nobody wakes is too late. The linker leads pthread_mutex_lock here (--wrap): some
+ * releases lose their processor before each lock of the layer's that they take, so that whatever they touch too late is gone by then.
+ */
+#include <sys/condvar.h>
+#include <sys/localcount.h>
+#include <sys/mutex.h>
+#include <sys/pserialize.h>
+
+#include "test.h"
+
+int __real_pthread_mutex_lock(pthread_mutex_t *mutex);
+int __wrap_pthread_mutex_lock(pthread_mutex_t *mutex);
+
+enum { ROUNDS = 300, HOLDERS = 3 };
+
+static _Thread_local bool is_slow;
+
+int __wrap_pthread_mutex_lock(pthread_mutex_t *mutex)
+{
+	if (is_slow)
+		sleep_for(3000);
+	return __real_pthread_mutex_lock(mutex);
+}
+
+/* The lock and the condition variable lie in the object, and go with it. */
+struct object {
+	struct localcount count;
+	kmutex_t lock;
+	kcondvar_t cv;
+};
+
+static _Atomic(struct object *) shown;
+static pserialize_t psz;
+static atomic_bool over;
+static atomic_uint holds, draining;
+
+static struct object *new_object(void)
+{
+	struct object *object = calloc(1, sizeof(*object));
+	EXPECT(object != NULL);
+	mutex_init(&object->lock, MUTEX_DEFAULT, IPL_NONE);
+	cv_init(&object->cv, "drain");
+	localcount_init(&object->count);
+	return object;
+}
+
+/* Holds the object until its drain has begun. */
+static void *hold_all(void *arg)
+{
+	while (!atomic_load(&over)) {
+		int s = pserialize_read_enter();
+		struct object *object = atomic_load(&shown);
+		if (object != NULL)
+			localcount_acquire(&object->count);
+		pserialize_read_exit(s);
+		if (object == NULL)
+			continue;
+		sleep_for(20);
+		unsigned before = atomic_fetch_add(&holds, 1);
+		for (unsigned turn = 0; turn < before % 8 && atomic_load(&draining) % 2 == 0; turn++)
+			sleep_for(50);
+		is_slow = before % 40 == 0;
+		localcount_release(&object->count, &object->cv, &object->lock);
+		is_slow = false;
+	}
+	return arg;
+}
+
+static void replace(void)
+{
+	struct object *object = atomic_exchange(&shown, new_object());
+	unsigned before = atomic_load(&holds);
+	pserialize_perform(psz);
+	atomic_fetch_add(&draining, 1);
+	mutex_enter(&object->lock);
+	localcount_drain(&object->count, &object->cv, &object->lock);
+	mutex_exit(&object->lock);
+	atomic_fetch_add(&draining, 1);
+	localcount_fini(&object->count);
+	cv_destroy(&object->cv);
+	mutex_destroy(&object->lock);
+	memset(object, 0xdb, sizeof(*object));
+	free(object);
+	while (atomic_load(&holds) == before)
+		sleep_for(10);
+}
+
+int main(void)
+{
+	pthread_t holders[HOLDERS];
+	time_t begin = time(NULL);
+	psz = pserialize_create();
+	atomic_store(&shown, new_object());
+	for (unsigned i = 0; i < HOLDERS; i++)
+		start_thread(&holders[i], hold_all, NULL);
+	for (unsigned round = 0; round < ROUNDS; round++)
+		replace();
+	atomic_store(&over, true);
+	for (unsigned i = 0; i < HOLDERS; i++)
+		end_thread(holders[i]);
+	pserialize_destroy(psz);
+	EXPECT(time(NULL) - begin < 60);
+	printf("%d objects were drained, and freed with their locks at once\n", ROUNDS);
+	return 0;
+}

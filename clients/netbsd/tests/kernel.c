@@ -1,0 +1,413 @@
+/*
+ * kernel - the calls beside the three pages: locks, memory, counters of each CPU, cross-calls, callouts, threads, lists, atomics, copies
+ */
+#include <sys/param.h>
+#include <sys/systm.h>
+#include <sys/atomic.h>
+#include <sys/callout.h>
+#include <sys/condvar.h>
+#include <sys/evcnt.h>
+#include <sys/intr.h>
+#include <sys/kmem.h>
+#include <sys/kthread.h>
+#include <sys/localcount.h>
+#include <sys/mutex.h>
+#include <sys/percpu.h>
+#include <sys/pool.h>
+#include <sys/proc.h>
+#include <sys/pserialize.h>
+#include <sys/pslist.h>
+#include <sys/queue.h>
+#include <sys/rwlock.h>
+#include <sys/xcall.h>
+
+#include "test.h"
+
+enum { THREADS = 6, TURNS = 2000 };
+
+static kmutex_t lock, spin;
+static kcondvar_t cv;
+static krwlock_t rw;
+static unsigned plain, pair[2];	/* under a lock each */
+static atomic_uint waiting;
+
+static void run_all(void *(*body)(void *))
+{
+	pthread_t threads[THREADS];
+	for (unsigned i = 0; i < THREADS; i++)
+		start_thread(&threads[i], body, NULL);
+	for (unsigned i = 0; i < THREADS; i++)
+		end_thread(threads[i]);
+}
+
+/* ---- Locks. ---- */
+
+static void *add_locked(void *arg)
+{
+	for (unsigned turn = 0; turn < TURNS; turn++) {
+		kmutex_t *mutex = turn % 2 == 0 ? &lock : &spin;
+		if (turn % 8 != 7 || !mutex_tryenter(mutex))
+			mutex_enter(mutex);
+		EXPECT(mutex_owned(mutex));
+		if (turn % 2 == 0)
+			plain++;
+		else
+			pair[0]++;
+		mutex_exit(mutex);
+		EXPECT(!mutex_owned(mutex) && mutex_ownable(mutex));
+	}
+	return arg;
+}
+
+static void test_mutexes(void)
+{
+	plain = pair[0] = 0;
+	run_all(add_locked);
+	EXPECT(plain == THREADS * TURNS / 2 && pair[0] == THREADS * TURNS / 2);
+	mutex_spin_enter(&spin);
+	EXPECT(kpreempt_disabled() && !mutex_tryenter(&spin));
+	mutex_spin_exit(&spin);
+	EXPECT(!kpreempt_disabled());
+	kmutex_t *counted = mutex_obj_alloc(MUTEX_DEFAULT, IPL_NONE);
+	mutex_obj_hold(counted);
+	EXPECT(!mutex_obj_free(counted));
+	mutex_enter(counted);
+	mutex_exit(counted);
+	EXPECT(mutex_obj_free(counted));
+}
+
+/* Both words are the same to whoever reads, and are changed by one alone. */
+static void *read_and_write(void *arg)
+{
+	for (unsigned turn = 0; turn < TURNS; turn++) {
+		if (turn % 8 == 0) {
+			rw_enter(&rw, RW_WRITER);
+			EXPECT(rw_write_held(&rw) && !rw_tryenter(&rw, RW_READER));
+			pair[0]++;
+			if (turn % 64 == 0)
+				rw_downgrade(&rw);
+			else
+				pair[1]++;
+			EXPECT(rw_lock_held(&rw));
+			rw_exit(&rw);
+		} else if (turn % 8 != 3 || !rw_tryenter(&rw, RW_READER)) {
+			rw_enter(&rw, RW_READER);
+			EXPECT(rw_read_held(&rw) && pair[0] - pair[1] <= THREADS * TURNS);
+			rw_exit(&rw);
+		} else {
+			rw_exit(&rw);
+		}
+	}
+	return arg;
+}
+
+static void test_rwlocks(void)
+{
+	pair[0] = pair[1] = 0;
+	run_all(read_and_write);
+	EXPECT(pair[0] == THREADS * TURNS / 8 && !rw_lock_held(&rw));
+	rw_enter(&rw, RW_READER);
+	EXPECT(!rw_tryenter(&rw, RW_WRITER) && rw_tryenter(&rw, RW_READER) && !rw_tryupgrade(&rw));
+	rw_exit(&rw);
+	EXPECT(rw_tryupgrade(&rw) && rw_write_held(&rw));
+	rw_exit(&rw);
+}
+
+static void *wait_and_count(void *arg)
+{
+	mutex_enter(&lock);
+	waiting++;
+	cv_wait(&cv, &lock);
+	plain++;
+	mutex_exit(&lock);
+	return arg;
+}
+
+/* A signal wakes one, in the order of arrival; a broadcast wakes all. */
+static void test_condvars(void)
+{
+	pthread_t threads[THREADS];
+	plain = 0;
+	for (unsigned i = 0; i < THREADS; i++)
+		start_thread(&threads[i], wait_and_count, NULL);
+	while (atomic_load(&waiting) < THREADS)
+		sleep_for(50);
+	mutex_enter(&lock);
+	EXPECT(cv_has_waiters(&cv) && cv_is_valid(&cv));
+	cv_signal(&cv);
+	EXPECT(cv_timedwait(&cv, &lock, 2) == EWOULDBLOCK && plain == 1);
+	cv_broadcast(&cv);
+	while (plain < THREADS)
+		EXPECT(cv_timedwait_sig(&cv, &lock, 1) == EWOULDBLOCK);
+	EXPECT(!cv_has_waiters(&cv));
+	mutex_exit(&lock);
+	for (unsigned i = 0; i < THREADS; i++)
+		end_thread(threads[i]);
+}
+
+/* ---- Memory. ---- */
+
+static int made, ended;
+
+static int make(void *arg, void *object, int flags)
+{
+	EXPECT(arg == &made && (flags & PR_WAITOK) != 0);
+	made++;
+	*(int *)object = 5;
+	return made == 3 ? ENOMEM : 0;
+}
+
+static void end(void *arg, void *object)
+{
+	EXPECT(arg == &made && *(int *)object == 5);
+	ended++;
+}
+
+static void test_memory(void)
+{
+	size_t size = 0;
+	struct pool pool;
+	unsigned char *zeros = kmem_zalloc(100, KM_SLEEP);
+	for (unsigned i = 0; i < 100; i++)
+		EXPECT(zeros[i] == 0);
+	kmem_free(zeros, 100);
+	char *text = kmem_strdupsize("bridge", &size, KM_SLEEP);
+	EXPECT(size == 7 && strcmp(text, "bridge") == 0);
+	kmem_strfree(text);
+	EXPECT(kmem_intr_alloc(SIZE_MAX, KM_NOSLEEP) == NULL);
+	pool_init(&pool, 24, 8, 0, 0, "thingpl", NULL, IPL_NONE);
+	char *object = pool_get(&pool, PR_WAITOK | PR_ZERO);
+	EXPECT(object[23] == 0);
+	pool_put(&pool, object);
+	pool_destroy(&pool);
+	pool_cache_t cache = pool_cache_init(sizeof(int), 0, 0, 0, "intpl", NULL, IPL_NONE, make, end, &made);
+	void *first = pool_cache_get(cache, PR_WAITOK), *second = pool_cache_get(cache, PR_WAITOK);
+	EXPECT(first != NULL && second != NULL && pool_cache_get(cache, PR_WAITOK) == NULL);
+	pool_cache_put(cache, first);
+	pool_cache_put(cache, second);
+	EXPECT(made == 3 && ended == 2);
+	pool_cache_destroy(cache);
+}
+
+/* ---- CPUs. ---- */
+
+static void add_one(void *own, void *arg, struct cpu_info *cpu)
+{
+	EXPECT(arg == &plain && cpu_index(cpu) < KUPALDIZ_CPUS);
+	plain += *(unsigned *)own;
+}
+
+static void set_number(void *own, void *arg, struct cpu_info *cpu)
+{
+	*(unsigned *)own = arg == NULL ? cpu_index(cpu) : *(unsigned *)own;
+}
+
+static void visit(void *arg, void *other)
+{
+	EXPECT(arg == &pair && other == NULL && (curlwp->l_pflag & LP_BOUND) != 0);
+	pair[0]++;
+	pair[1] |= 1u << cpu_number();
+}
+
+static void test_cpus(void)
+{
+	percpu_t *numbers = percpu_create(sizeof(unsigned), set_number, set_number, NULL);
+	unsigned *own = percpu_getref(numbers);
+	EXPECT(*own == cpu_number() && kpreempt_disabled());
+	percpu_putref(numbers);
+	plain = 0;
+	percpu_foreach(numbers, add_one, &plain);
+	percpu_foreach_xcall(numbers, XC_HIGHPRI, add_one, &plain);
+	EXPECT(plain == KUPALDIZ_CPUS * (KUPALDIZ_CPUS - 1));
+	percpu_free(numbers, sizeof(unsigned));
+	pair[0] = pair[1] = 0;
+	xc_wait(xc_broadcast(0, visit, &pair, NULL));
+	xc_wait(xc_broadcast(XC_HIGHPRI, visit, &pair, NULL));
+	EXPECT(pair[0] == 2 * KUPALDIZ_CPUS && pair[1] == (1u << KUPALDIZ_CPUS) - 1);
+	xc_wait(xc_unicast(0, visit, &pair, NULL, kupaldiz_cpu(4)));
+	EXPECT(pair[0] == 2 * KUPALDIZ_CPUS + 1);
+	xc_barrier(0);
+	int s = splnet(), t = splsoftnet();
+	EXPECT(s == IPL_NONE && t == IPL_VM);
+	splx(t);
+	splx(s);
+}
+
+/* Sections nest as deep as anybody likes, and counts and references are acquired in the deepest. */
+static void test_depth(void)
+{
+	enum { DEEP = 1000 };
+	struct localcount count;
+	static int levels[DEEP];
+	localcount_init(&count);
+	for (int i = 0; i < DEEP; i++)
+		EXPECT((levels[i] = pserialize_read_enter()) == i);
+	localcount_acquire(&count);
+	for (int i = DEEP - 1; i >= 0; i--)
+		pserialize_read_exit(levels[i]);
+	localcount_release(&count, &cv, &lock);
+	mutex_enter(&lock);
+	localcount_drain(&count, &cv, &lock);
+	mutex_exit(&lock);
+	localcount_fini(&count);
+}
+
+/* ---- Callouts and threads. ---- */
+
+static callout_t callout;
+static atomic_uint fired, in_body;
+
+static void fire(void *arg)
+{
+	EXPECT(arg == &fired && cpu_softintr_p() && callout_invoking(&callout));
+	callout_ack(&callout);
+	atomic_fetch_add(&in_body, 1);
+	mutex_enter(&lock);
+	mutex_exit(&lock);
+	atomic_fetch_add(&fired, 1);
+}
+
+static void test_callouts(void)
+{
+	callout_init(&callout, CALLOUT_MPSAFE);
+	callout_reset(&callout, 1, fire, &fired);
+	EXPECT(callout_pending(&callout) && callout_active(&callout));
+	while (atomic_load(&fired) == 0)
+		sleep_for(100);
+	EXPECT(callout_expired(&callout) && !callout_pending(&callout) && !callout_invoking(&callout));
+	EXPECT(callout_stop(&callout) && !callout_expired(&callout));
+	callout_schedule(&callout, 1000);
+	EXPECT(!callout_stop(&callout) && !callout_pending(&callout));
+	/* It runs, and waits for the lock that the halt lets go of. */
+	mutex_enter(&lock);
+	callout_schedule(&callout, 1);
+	while (atomic_load(&in_body) == 1)
+		sleep_for(100);
+	EXPECT(atomic_load(&fired) == 1 && callout_halt(&callout, &lock) && atomic_load(&fired) == 2 && mutex_owned(&lock));
+	mutex_exit(&lock);
+	callout_destroy(&callout);
+}
+
+static void exit_at_once(void *arg)
+{
+	EXPECT(curlwp->l_name != NULL && strcmp(curlwp->l_name, "worker7") == 0 && cpu_number() == 4);
+	EXPECT((curlwp->l_pflag & LP_BOUND) != 0);
+	atomic_fetch_add((atomic_uint *)arg, 1);
+	kthread_exit(0);
+}
+
+static void test_threads(void)
+{
+	atomic_uint ran = 0;
+	lwp_t *worker;
+	int before = getticks();
+	EXPECT(kthread_create(PRI_NONE, KTHREAD_MUSTJOIN | KTHREAD_MPSAFE, kupaldiz_cpu(4), exit_at_once, &ran, &worker, "worker%d", 7) == 0);
+	EXPECT(kthread_join(worker) == 0 && atomic_load(&ran) == 1);
+	EXPECT(kpause("wait", true, mstohz(20), NULL) == EWOULDBLOCK);
+	delay(100);
+	DELAY(1);
+	EXPECT(getticks() - before >= 1 && hz == 100);
+}
+
+/* ---- Lists, atomics, copies. ---- */
+
+struct item {
+	struct pslist_entry link;
+	TAILQ_ENTRY(item) queue;
+	unsigned value;
+};
+
+static void test_lists(void)
+{
+	struct pslist_head head = PSLIST_INITIALIZER;
+	TAILQ_HEAD(items, item) queue = TAILQ_HEAD_INITIALIZER(queue);
+	struct item items[4], *at, *after;
+	unsigned order = 0;
+	for (unsigned i = 0; i < 4; i++) {
+		items[i].value = i + 1;
+		PSLIST_ENTRY_INIT(&items[i], link);
+		TAILQ_INSERT_TAIL(&queue, &items[i], queue);
+	}
+	EXPECT(PSLIST_READER_EMPTY(&head) && PSLIST_WRITER_EMPTY(&head) && PSLIST_READER_FIRST(&head, struct item, link) == NULL);
+	PSLIST_WRITER_INSERT_HEAD(&head, &items[1], link);
+	PSLIST_WRITER_INSERT_BEFORE(&items[1], &items[0], link);
+	PSLIST_WRITER_INSERT_AFTER(&items[1], &items[3], link);
+	PSLIST_WRITER_INSERT_AFTER(&items[1], &items[2], link);
+	PSLIST_READER_FOREACH(at, &head, struct item, link)
+		order = order * 10 + at->value;
+	EXPECT(order == 1234 && PSLIST_READER_NEXT(&items[3], struct item, link) == NULL);
+	/* Whoever has reached an entry goes on from it when it was removed. */
+	PSLIST_WRITER_REMOVE(&items[1], link);
+	EXPECT(PSLIST_READER_NEXT(&items[1], struct item, link) == &items[2]);
+	PSLIST_WRITER_FOREACH(at, &head, struct item, link)
+		order = order * 10 + at->value;
+	EXPECT(order == 1234134 && PSLIST_WRITER_NEXT(&items[0], struct item, link) == &items[2]);
+	PSLIST_ENTRY_DESTROY(&items[1], link);
+	while ((at = PSLIST_WRITER_FIRST(&head, struct item, link)) != NULL)
+		PSLIST_WRITER_REMOVE(at, link);
+	PSLIST_DESTROY(&head);
+	TAILQ_FOREACH_SAFE(at, &queue, queue, after)
+		TAILQ_REMOVE(&queue, at, queue);
+	EXPECT(TAILQ_EMPTY(&queue));
+}
+
+static void test_atomics(void)
+{
+	unsigned number = 5;
+	uint64_t wide = 1;
+	void *pointer = &number;
+	struct evcnt counter = EVCNT_INITIALIZER(EVCNT_TYPE_MISC, NULL, "group", "name");
+	EXPECT(atomic_inc_uint_nv(&number) == 6 && atomic_dec_uint_nv(&number) == 5 && atomic_add_int_nv(&number, -2) == 3);
+	atomic_or_uint(&number, 12);
+	atomic_and_uint(&number, 6);
+	EXPECT(number == 6 && atomic_cas_uint(&number, 5, 9) == 6 && atomic_cas_uint(&number, 6, 9) == 6 && number == 9);
+	EXPECT(atomic_swap_uint(&number, 4) == 9 && atomic_cas_ptr(&pointer, &number, NULL) == &number && pointer == NULL);
+	EXPECT(atomic_swap_ptr(&pointer, &wide) == NULL && atomic_load_consume(&pointer) == &wide);
+	atomic_add_64(&wide, 41);
+	EXPECT(atomic_load_relaxed(&wide) == 42 && atomic_load_acquire(&wide) == 42 && atomic_or_64_nv(&wide, 1) == 43);
+	atomic_store_relaxed(&wide, 1);
+	atomic_store_release(&number, 7);
+	membar_producer();
+	membar_consumer();
+	membar_sync();
+	evcnt_attach_dynamic(&counter, EVCNT_TYPE_INTR, NULL, "group", "other");
+	counter.ev_count++;
+	EXPECT(wide == 1 && number == 7 && counter.ev_count == 1);
+	evcnt_detach(&counter);
+}
+
+static void test_copies(void)
+{
+	char user[8] = "abcdefg", there[8] = "";
+	size_t copied = 0;
+	EXPECT(copyin(user, there, sizeof(there)) == 0 && strcmp(there, "abcdefg") == 0);
+	EXPECT(copyin(NULL, there, 1) == EFAULT && copyout(there, (void *)8, 1) == EFAULT && copyout(there, NULL, 0) == 0);
+	EXPECT(copyinstr(user, there, sizeof(there), &copied) == 0 && copied == 8);
+	EXPECT(copyinstr(user, there, 3, &copied) == ENAMETOOLONG && copied == 3);
+	EXPECT(copyoutstr("xy", user, sizeof(user), NULL) == 0 && strcmp(user, "xy") == 0 && copyoutstr("xy", NULL, 3, NULL) == EFAULT);
+}
+
+int main(void)
+{
+	mutex_init(&lock, MUTEX_DEFAULT, IPL_SOFTCLOCK);
+	mutex_init(&spin, MUTEX_DEFAULT, IPL_VM);
+	cv_init(&cv, "kernel");
+	rw_init(&rw);
+	test_mutexes();
+	test_rwlocks();
+	test_condvars();
+	test_memory();
+	test_cpus();
+	test_depth();
+	test_callouts();
+	test_threads();
+	test_lists();
+	test_atomics();
+	test_copies();
+	cv_destroy(&cv);
+	rw_destroy(&rw);
+	mutex_destroy(&spin);
+	mutex_destroy(&lock);
+	puts("the calls beside the three pages did as they say");
+	return 0;
+}
