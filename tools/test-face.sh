@@ -141,14 +141,14 @@ guarded_rust() {
 
 # The programs of the crate's tests, as cargo names them where it isn't told to be quiet; but for those that run the compiler or themselves, or look at types.
 rust_tests() {
-    (cd clients/rust && CARGO_TERM_QUIET=false cargo test --offline --no-run --tests 2>&1) | grep -oE '/[^ ()]*/(basket|carried|entries|face|memory|model|owned|pool|retired|sections|threads|two|usual)-[0-9a-f]+'
+    (cd clients/rust && CARGO_TERM_QUIET=false cargo test --offline --no-run --tests 2>&1) | grep -oE '/[^ ()]*/(basket|carried|entries|face|memory|model|owned|pool|retired|sections|threads|together|two|usual)-[0-9a-f]+'
 }
 
 # Each of them under valgrind, but for what forgets on purpose; the stress with fewer changes.
 guarded_tests() {
     local program programs
     programs=$(rust_tests)
-    [ "$(wc -w <<<"$programs")" -eq 13 ] || return 1
+    [ "$(wc -w <<<"$programs")" -eq 14 ] || return 1
     for program in $programs; do
         REGISTRY_CHANGES=60 guarded_rust "$program" --test-threads=1 --skip forgotten --skip had_again --skip static || return 1
     done
@@ -276,6 +276,10 @@ test_rust() {
     done
     check "Rust: forwarder" changes_say 2000 "$target/release/examples/forwarder"
     check "Rust: device_switch" changes_say 600 "$target/release/examples/device_switch"
+    check "Rust: routing" changes_say 100 "$target/release/examples/routing"
+    check "Rust: handles" changes_say 200 "$target/release/examples/handles"
+    check "Rust: routing under valgrind" changes_say 10 guarded_rust "$target/release/examples/routing"
+    check "Rust: handles under valgrind" changes_say 20 guarded_rust "$target/release/examples/handles"
     check "Rust: forwarder under valgrind" changes_say 20 guarded_rust "$target/release/examples/forwarder"
     check "Rust: device_switch under valgrind" changes_say 20 guarded_rust "$target/release/examples/device_switch"
     check "Rust: packet under valgrind" guarded_rust "$target/release/examples/packet"
