@@ -121,14 +121,14 @@ guarded_rust() {
 
 # The programs of the crate's tests, as cargo names them where it isn't told to be quiet; but for those that run the compiler or themselves, or look at types.
 rust_tests() {
-    (cd clients/rust && CARGO_TERM_QUIET=false cargo test --offline --no-run --tests 2>&1) | grep -oE '/[^ ()]*/(basket|carried|entries|face|memory|model|owned|pool|retired|sections|threads|two|usual)-[0-9a-f]+'
+    (cd clients/rust && CARGO_TERM_QUIET=false cargo test --offline --no-run --tests 2>&1) | grep -oE '/[^ ()]*/(basket|carried|entries|face|memory|model|owned|pool|retired|sections|threads|together|two|usual)-[0-9a-f]+'
 }
 
 # Each of them under valgrind, but for what forgets on purpose; the stress with fewer changes.
 guarded_tests() {
     local program programs
     programs=$(rust_tests)
-    [ "$(wc -w <<<"$programs")" -eq 13 ] || return 1
+    [ "$(wc -w <<<"$programs")" -eq 14 ] || return 1
     for program in $programs; do
         REGISTRY_CHANGES=60 guarded_rust "$program" --test-threads=1 --skip forgotten --skip had_again --skip static || return 1
     done
@@ -275,6 +275,8 @@ test_rust() {
     done
     check "Rust: forwarder" changes_say 2000 "$examples/forwarder"
     check "Rust: device_switch" changes_say 600 "$examples/device_switch"
+    check "Rust: routing" changes_say 100 "$examples/routing"
+    check "Rust: handles" changes_say 200 "$examples/handles"
     check "Rust: speed, briefly" "$examples/speed" 2 8 1000
     check "Rust: changes, briefly" "$examples/changes" 20
     check "Rust: the stress where a yield does nothing" ends_without_yields
@@ -284,6 +286,8 @@ test_rust_watched() {
     (cd clients/rust && cargo build --offline --release --examples) >"$log" 2>&1 || judge "Rust: the examples are built" 1
     check "Rust: forwarder under valgrind" changes_say 20 guarded_rust "$examples/forwarder"
     check "Rust: device_switch under valgrind" changes_say 20 guarded_rust "$examples/device_switch"
+    check "Rust: routing under valgrind" changes_say 10 guarded_rust "$examples/routing"
+    check "Rust: handles under valgrind" changes_say 20 guarded_rust "$examples/handles"
     check "Rust: packet under valgrind" guarded_rust "$examples/packet"
     check "Rust: row under valgrind" row_says guarded_rust "$examples/row"
     check "Rust: storm 4 100 under valgrind" storm_says 4 100 guarded_rust "$examples/storm"

@@ -190,12 +190,10 @@ impl<T> Cpu<T> {
 
 /// Local references that were dropped without a CPU.
 impl<T> Cpu<T> {
-    /// Releases all local references that were dropped without a CPU, on whatever thread, and waits for the interlock where a drain has
+    /// Releases all local references that were dropped without a CPU before the call, on whatever thread, and waits for the interlock where a drain has
     /// collected this CPU's count. No program needs it: [other calls](crate::LocalRef#dropped-without-a-cpu) release some each.
     pub fn release_dropped(&self) {
-        while self.shared().baskets().total() > 0 {
-            self.release_some(BY_CHANGE);
-        }
+        self.release_some(self.shared().baskets().total());
     }
 
     /// Releases some of those in all baskets, its own first.

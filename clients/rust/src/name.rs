@@ -99,7 +99,8 @@ impl Name {
     #[must_use]
     pub fn as_str(&self) -> &str {
         let length = self.bytes.iter().position(|byte| *byte == 0).unwrap_or(ROOM);
-        str::from_utf8(&self.bytes[..length]).expect("letters and digits of ASCII")
+        // Letters and digits of ASCII, so it is a text.
+        str::from_utf8(&self.bytes[..length]).unwrap_or_default()
     }
 }
 

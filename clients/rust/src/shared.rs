@@ -2,7 +2,7 @@
 //!
 //! Locks are taken in the order spare, interlock, basket; no code of a caller runs under one, so no `Drop` of a `T` does.
 
-use crate::basket::{Baskets, BY_CHANGE, BY_RELEASE, BY_TURN};
+use crate::basket::{Baskets, BY_RELEASE, BY_TURN};
 use crate::carried::Carried;
 use crate::ffi;
 use crate::refusal::{checked, Refusal};
@@ -321,10 +321,8 @@ impl<T> Drop for Shared<T> {
     fn drop(&mut self) {
         let mut spare = mem::replace(&mut *locked(&self.spare), NO_CPUS);
         if let Some(cpu) = spare.iter_mut().find(|cpu| !cpu.is_empty()) {
-            while self.baskets.total() > 0 {
-                // SAFETY: nobody else has this CPU, and nobody holds the interlock.
-                unsafe { self.release_dropped(cpu, 0, BY_CHANGE) };
-            }
+            // SAFETY: nobody else has this CPU, and nobody holds the interlock.
+            unsafe { self.release_dropped(cpu, 0, self.baskets.total()) };
         }
         let kept = self.kept.get_mut().unwrap_or_else(PoisonError::into_inner);
         let rows = mem::take(&mut kept.rows);

@@ -103,15 +103,17 @@ fn a_cpu_that_goes_releases_some_of_its_own() {
 #[test]
 fn a_full_count_makes_room_by_what_was_dropped() {
     let (registry, cpus) = Registry::open(Settings::new(2, 4).locals(3)).unwrap();
-    registry.attach(&cpus[0], &name("wm"), 7).unwrap();
     registry.attach(&cpus[0], &name("vga"), 8).unwrap();
+    registry.attach(&cpus[0], &name("wm"), 7).unwrap();
     let mut held = many(&cpus[0], "wm", 3);
     assert_eq!(cpus[0].get_local(Kind::Driver, &name("wm")).unwrap_err(), Refusal::LocalFull);
-    // Of its own CPU, and of any other, to this entry alone.
     lay(&cpus[0], "vga", 3);
     held.pop();
-    assert_eq!(*local(&cpus[0], "wm"), 7);
-    held.clear();
+    // Two go as with each acquire, and one makes room: the one that is to the entry.
+    let third = local(&cpus[0], "wm");
+    assert_eq!((*third, registry.dropped()), (7, 1));
+    drop((third, held));
+    // Another CPU's do as well.
     lay(&cpus[1], "wm", 3);
     let _all = many(&cpus[0], "wm", 3);
     assert_eq!(cpus[0].get_local(Kind::Driver, &name("wm")).map(|local| *local), Ok(7));

@@ -2,7 +2,7 @@
 
 mod common;
 
-use common::{name, Drops, Tracked};
+use common::{name, scaled, Dice, Drops, Tracked};
 use registry::{
     Cpu, Entry, Found, Holder, Kind, LocalRef, Name, PassiveRef, Patience, Refusal, Refused, Registry, Retired, Section, Settings,
 };
@@ -11,24 +11,6 @@ const CPUS: usize = 3;
 const SLOTS: usize = 5;
 const NAMES: usize = 3;
 const DEEPEST: usize = 4;
-
-/// Numbers from a seed.
-struct Dice(u64);
-
-impl Dice {
-    fn below(&mut self, most: usize) -> usize {
-        self.0 ^= self.0 << 13;
-        self.0 ^= self.0 >> 7;
-        self.0 ^= self.0 << 17;
-        (self.0 >> 11) as usize % most
-    }
-
-    /// Takes one of them out, if there is any.
-    fn take<X>(&mut self, from: &mut Vec<X>) -> Option<X> {
-        let place = self.below(from.len().max(1));
-        (place < from.len()).then(|| from.swap_remove(place))
-    }
-}
 
 /// An entry whose slot isn't free, as the model knows it.
 struct Known {
@@ -404,7 +386,7 @@ fn run(seed: u64, steps: usize) {
         registry: &registry,
         cpus: &cpus,
         drops: &drops,
-        dice: Dice(seed),
+        dice: Dice::of(seed),
         sections: (0..CPUS).map(|_| Vec::new()).collect(),
         begun: [0; CPUS],
         passives: Vec::new(),
@@ -426,7 +408,7 @@ fn run(seed: u64, steps: usize) {
 #[test]
 fn each_answer_is_the_models() {
     for seed in 1..=20u64 {
-        run(seed.wrapping_mul(0x9e37_79b9_7f4a_7c15), common::scaled(3000));
+        run(seed, scaled(3000));
     }
 }
 
@@ -435,7 +417,7 @@ fn each_answer_is_the_models() {
 fn each_answer_is_the_models_on_threads() {
     std::thread::scope(|scope| {
         for seed in 101..=104u64 {
-            scope.spawn(move || run(seed.wrapping_mul(0x9e37_79b9_7f4a_7c15), common::scaled(6000)));
+            scope.spawn(move || run(seed, scaled(6000)));
         }
     });
 }

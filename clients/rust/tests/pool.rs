@@ -80,7 +80,7 @@ fn waiting_for_a_while(pool: &Arc<CpuPool<i32>>) -> Receiver<Option<u8>> {
 /// One way to wait for a loan: which CPU it is.
 type Way = fn(&CpuPool<i32>) -> Option<u8>;
 
-/// Until it has happened that another thread took the CPU before the one that was woken, by each way to wait.
+/// Until it has happened often that another thread took the CPU before the one that waits, by each way to wait.
 #[test]
 fn a_loan_waits_on_where_another_takes_the_cpu() {
     let (_registry, mut cpus) = with_driver(7);
@@ -90,19 +90,22 @@ fn a_loan_waits_on_where_another_takes_the_cpu() {
         |pool| pool.lend_until(Instant::now() + 2 * LONG).map(|cpu| cpu.id()),
     ];
     for way in ways {
-        let stolen = (0..200).any(|_| {
+        let mut stolen = 0;
+        for _ in 0..1000 {
             let held = pool.lend();
             let waiting = waiting(&pool, way);
             thread::sleep(Duration::from_millis(2));
             drop(held);
-            let stolen = pool.try_lend();
+            let taken = pool.try_lend();
             thread::sleep(Duration::from_millis(2));
-            let was_stolen = stolen.is_some();
-            drop(stolen);
+            stolen += u32::from(taken.is_some());
+            drop(taken);
             assert_eq!(waiting.recv_timeout(LONG), Ok(Some(0)));
-            was_stolen
-        });
-        assert!(stolen, "nobody took the CPU before");
+            if stolen == 20 {
+                break;
+            }
+        }
+        assert_eq!(stolen, 20, "nobody took the CPU before");
     }
 }
 
@@ -116,7 +119,7 @@ fn more_threads_than_cpus_share_them() {
         let share = || {
             scope.spawn(|| {
                 for _ in 0..200 {
-                    let cpu = pool.lend();
+                    let cpu = pool.lend_until(Instant::now() + LONG).expect("a CPU that comes back");
                     let mine = &in_use[usize::from(cpu.id())];
                     assert!(!mine.swap(true, Ordering::SeqCst), "one CPU, two threads");
                     let reference = local(&cpu, "wm");

@@ -104,25 +104,25 @@ fn a_destroy_is_refused_at_once_where_its_own_cpu_holds_the_entry() {
     assert_eq!(refused.given.destroy(&cpu, patience()).unwrap().value, 7);
 }
 
-/// A guard to another entry is in nobody's way, and a slot that is given again starts anew.
+/// A guard to another entry, or of another CPU, is waited for as anything is, and a slot that is given again starts anew.
 #[test]
 fn guards_are_counted_by_their_entries() {
     let (registry, cpus) = with_driver(7);
     registry.attach(&cpus[0], &name("vga"), 8).unwrap();
+    let shortly = Duration::from_millis(5);
     for value in 9..12 {
-        let guard = LocalRef::guard(local(&cpus[0], "vga"), &cpus[0]).unwrap();
-        let retired = registry.detach(&cpus[0], Kind::Driver, &name("wm")).unwrap();
-        assert!(retired.destroy(&cpus[0], Patience::Turns(1)).is_ok());
-        assert_eq!(registry.attach(&cpus[0], &name("wm"), value).unwrap().slot, 0);
-        drop(guard);
-        let own = LocalRef::guard(local(&cpus[1], "vga"), &cpus[1]).unwrap();
-        let retired = registry.detach(&cpus[0], Kind::Driver, &name("vga")).unwrap();
-        // Another CPU's guard is waited for.
-        let refused = retired.destroy(&cpus[0], Patience::Turns(2)).unwrap_err();
-        assert_eq!(refused.refusal, Refusal::StillHeld(Holder::Local(1)));
-        drop(own);
-        assert!(refused.given.destroy(&cpus[0], Patience::Turns(1)).is_ok());
-        assert_eq!(registry.attach(&cpus[0], &name("vga"), value).unwrap().slot, 1);
+        for (slot, (text, other)) in (0..).zip([("wm", "vga"), ("vga", "wm")]) {
+            let to_other = LocalRef::guard(local(&cpus[0], other), &cpus[0]).unwrap();
+            let elsewhere = LocalRef::guard(local(&cpus[1], text), &cpus[1]).unwrap();
+            let retired = registry.detach(&cpus[0], Kind::Driver, &name(text)).unwrap();
+            let began = Instant::now();
+            let refused = retired.destroy(&cpus[0], Patience::at_most(shortly)).unwrap_err();
+            assert_eq!(refused.refusal, Refusal::StillHeld(Holder::Local(1)));
+            assert!(began.elapsed() >= shortly, "it didn't wait");
+            drop((to_other, elsewhere));
+            assert!(refused.given.destroy(&cpus[0], Patience::Turns(1)).is_ok());
+            assert_eq!(registry.attach(&cpus[0], &name(text), value).unwrap().slot, slot);
+        }
     }
 }
 

@@ -30,6 +30,28 @@ pub fn scaled(steps: usize) -> usize {
     }
 }
 
+/// Numbers from a seed.
+pub struct Dice(u64);
+
+impl Dice {
+    pub fn of(seed: u64) -> Dice {
+        Dice((seed + 1).wrapping_mul(0x9e37_79b9_7f4a_7c15))
+    }
+
+    pub fn below(&mut self, most: usize) -> usize {
+        self.0 ^= self.0 << 13;
+        self.0 ^= self.0 >> 7;
+        self.0 ^= self.0 << 17;
+        (self.0 >> 11) as usize % most
+    }
+
+    /// Takes one of them out, if there is any.
+    pub fn take<X>(&mut self, from: &mut Vec<X>) -> Option<X> {
+        let place = self.below(from.len().max(1));
+        (place < from.len()).then(|| from.swap_remove(place))
+    }
+}
+
 /// A local reference to a driver.
 pub fn local<T>(cpu: &Cpu<T>, text: &str) -> LocalRef<T> {
     cpu.get_local(Kind::Driver, &name(text))

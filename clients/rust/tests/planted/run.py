@@ -38,7 +38,7 @@ def fields(path):
         elif line.startswith("|") and found:
             found[-1][1] += "\n" + line[1:]
         else:
-            sys.exit(f"{path.name}: {line}")
+            raise ValueError(f"what is this: {line}")
     return found
 
 
@@ -55,7 +55,7 @@ def planted(path, crate):
         else:
             before = file.read_text()
             if before.count(old) != 1:
-                sys.exit(f"{path.name}: {file.name} has {before.count(old)} times: {old}")
+                raise ValueError(f"it doesn't fit: {file.name} has {before.count(old)} times: {old}")
             file.write_text(before.replace(old, text))
     return by
 
@@ -91,14 +91,18 @@ def run(crate, program):
 
 
 def refused_by(said, test):
-    """Whether the test failed, or the program ended in the middle."""
-    return re.search(rf"^(test )?\S*{re.escape(test)}\b.*(FAILED|panicked)|^---- \S*{re.escape(test)} ", said, re.M) or "a handle is in use" in said
+    """Whether the test failed, or the program ended in the middle of it, or because a handle was in use."""
+    name = re.escape(test)
+    return re.search(rf"^(test )?\S*{name}\b.*FAILED|^---- \S*{name} |^thread '\S*{name}' .*panicked|a handle is in use", said, re.M)
 
 
 def judge(path, scratch, whole):
     """What is wrong with an edit; None where it is refused."""
     fresh(scratch)
-    program, test = planted(path, scratch)
+    try:
+        program, test = planted(path, scratch)
+    except ValueError as fault:
+        return str(fault)
     status, said = run(scratch, None if whole else program)
     if "could not compile" in said:
         return "it isn't compiled\n" + said[-2000:]

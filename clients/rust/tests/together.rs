@@ -1,0 +1,217 @@
+//! Random calls of threads that share a registry. Each thread alone changes its own names, so of these each answer is known; of the others' what
+//! is found is whole and has the name that was asked for.
+
+mod common;
+
+use common::{name, scaled, Dice, Drops, Tracked};
+use registry::{Cpu, Found, Holder, Kind, LocalRef, Name, PassiveRef, Patience, ReadGuard, Refusal, Refused, Registry, Retired, Settings};
+use std::sync::Mutex;
+use std::thread;
+
+const CPUS: usize = 4;
+/// Names of each thread.
+const OWN: usize = 2;
+const NAMES: usize = CPUS * OWN;
+
+/// What one thread has.
+struct Worker<'all> {
+    registry: &'all Registry<Tracked>,
+    cpu: &'all Cpu<Tracked>,
+    drops: &'all Drops,
+    names: &'all [Name],
+    /// References that any thread may take.
+    handed: &'all Mutex<Vec<LocalRef<Tracked>>>,
+    id: usize,
+    dice: Dice,
+    /// The number and the label of each of its own entries that is live.
+    live: [Option<(u64, u64)>; OWN],
+    passives: Vec<PassiveRef<'all, Tracked>>,
+    tokens: Vec<(Retired<Tracked>, u64)>,
+    labels: u64,
+}
+
+/// Whose name a label is of: each label has its name in it.
+fn name_of(label: u64) -> usize {
+    label as usize % NAMES
+}
+
+impl<'all> Worker<'all> {
+    fn own(&mut self) -> (usize, usize) {
+        let own = self.dice.below(OWN);
+        (own, self.id * OWN + own)
+    }
+
+    fn change(&mut self) {
+        let (own, place) = self.own();
+        let name = &self.names[place];
+        match self.live[own] {
+            None => {
+                self.labels += 1;
+                let label = self.labels * NAMES as u64 + place as u64;
+                match self.registry.attach(self.cpu, name, self.drops.make(label)) {
+                    Ok(entry) => self.live[own] = Some((entry.number, label)),
+                    Err(refused) => assert_eq!((refused.refusal, refused.given.label), (Refusal::NoSlot, label)),
+                }
+            }
+            Some((number, label)) => {
+                let retired = self.registry.detach(self.cpu, Kind::Driver, name).unwrap();
+                assert_eq!(retired.entry().number, number);
+                self.live[own] = None;
+                match self.dice.below(2) {
+                    0 => self.tokens.push((retired, label)),
+                    _ => retired.defer(),
+                }
+            }
+        }
+    }
+
+    /// Finds one of its own and any other in one section, and acquires both.
+    fn find_two(&mut self) {
+        let ((own, place), other) = (self.own(), self.dice.below(NAMES));
+        let section = self.cpu.enter().unwrap();
+        let [mine, others] = [place, other].map(|place| section.find(Kind::Driver, &self.names[place]));
+        let known = mine.as_ref().map(|found| (Found::entry(found).number, found.label));
+        assert_eq!(known, self.live[own]);
+        if let Some(mine) = &mine {
+            let passive = Found::acquire(mine).unwrap();
+            assert_eq!(PassiveRef::entry(&passive), Found::entry(mine));
+            self.passives.push(passive);
+        }
+        if let Some(others) = &others {
+            others.check();
+            assert_eq!(name_of(others.label), other);
+            match Found::acquire_local(others) {
+                Ok(local) => self.handed.lock().unwrap().push(local),
+                Err(refusal) => assert!(refusal == Refusal::NotFound && other / OWN != self.id),
+            }
+            others.check();
+        }
+    }
+
+    fn use_any(&mut self) {
+        let place = self.dice.below(NAMES);
+        let name = &self.names[place];
+        match self.dice.below(3) {
+            0 => drop(self.cpu.get(Kind::Driver, name).map(|held| assert!(name_of(held.label) == place))),
+            1 => drop(self.cpu.read(Kind::Driver, name).map(|guard| {
+                guard.check();
+                assert_eq!((name_of(guard.label), ReadGuard::entry(&guard).name), (place, *name));
+            })),
+            _ => {
+                let section = self.cpu.enter().unwrap();
+                let entries: Vec<_> = section.entries().collect();
+                assert!(entries
+                    .windows(2)
+                    .all(|pair| Found::entry(&pair[0]).number > Found::entry(&pair[1]).number));
+                assert!(entries
+                    .iter()
+                    .all(|found| self.names[name_of(found.label)] == Found::entry(found).name));
+            }
+        }
+    }
+
+    fn let_go(&mut self) {
+        if self.passives.len() > 3 || self.dice.below(2) == 0 {
+            if let Some(passive) = self.dice.take(&mut self.passives) {
+                passive.check();
+            }
+        }
+        let handed = self.handed.lock().unwrap().pop();
+        if let Some(local) = handed {
+            local.check();
+            match self.dice.below(4) {
+                0 => LocalRef::release(local, self.cpu).unwrap(),
+                1 => drop(LocalRef::guard(local, self.cpu).unwrap()),
+                2 => match LocalRef::try_clone(&local, self.cpu) {
+                    Ok(more) => assert_eq!(more.label, local.label),
+                    Err(refusal) => assert_eq!(refusal, Refusal::NotFound),
+                },
+                _ => drop(local),
+            }
+        }
+    }
+
+    fn work(&mut self) {
+        let (retired, label) = match self.dice.take(&mut self.tokens) {
+            Some(token) => token,
+            None => return,
+        };
+        let number = retired.entry().number;
+        let held = self.cpu.holds(number);
+        let (done, own) = match self.dice.below(2) {
+            0 => (retired.advance(), false),
+            _ => (retired.destroy(self.cpu, Patience::Turns(2)), held),
+        };
+        match done {
+            Ok(freed) => {
+                freed.value.check();
+                assert_eq!((freed.entry.number, freed.value.label, held), (number, label, false));
+            }
+            Err(Refused { refusal, given }) => {
+                let passive = Refusal::StillHeld(Holder::Passive(self.cpu.id()));
+                assert!(matches!(refusal, Refusal::StillHeld(_)) && (!own || refusal == passive));
+                self.tokens.push((given, label));
+            }
+        }
+    }
+
+    fn collect_or_perform(&mut self) {
+        match self.dice.below(2) {
+            0 => self.registry.collect().iter().for_each(|freed| freed.value.check()),
+            _ => match self.registry.perform(self.cpu, Patience::Turns(1)) {
+                Ok(()) => (),
+                Err(refusal) => assert!(matches!(refusal, Refusal::Waiting(other) if other != self.cpu.id())),
+            },
+        }
+    }
+
+    fn step(&mut self) {
+        match self.dice.below(8) {
+            0 | 1 => self.change(),
+            2 | 3 => self.find_two(),
+            4 => self.use_any(),
+            5 => self.let_go(),
+            6 => self.work(),
+            _ => self.collect_or_perform(),
+        }
+    }
+}
+
+/// So many random calls of each thread.
+fn run(seed: u64, steps: usize) {
+    let (drops, handed) = (Drops::default(), Mutex::new(Vec::new()));
+    let names: Vec<Name> = (0..NAMES).map(|place| name(&format!("d{place}"))).collect();
+    let (registry, cpus) = Registry::open(Settings::new(CPUS as u8, 12)).unwrap();
+    thread::scope(|scope| {
+        for cpu in cpus {
+            let (registry, drops, names, handed) = (&registry, &drops, &names, &handed);
+            scope.spawn(move || {
+                let id = usize::from(cpu.id());
+                let mut worker = Worker {
+                    registry,
+                    cpu: &cpu,
+                    drops,
+                    names,
+                    handed,
+                    id,
+                    dice: Dice::of(seed + id as u64),
+                    live: [None; OWN],
+                    passives: Vec::new(),
+                    tokens: Vec::new(),
+                    labels: 0,
+                };
+                (0..steps).for_each(|_| worker.step());
+            });
+        }
+    });
+    drop(handed);
+    drop(registry);
+    assert_eq!(drops.made(), drops.dropped());
+}
+
+#[test]
+fn threads_that_share_a_registry_find_what_is_there() {
+    for seed in 1..=5 {
+        run(seed * 100, scaled(4000));
+    }
+}
