@@ -3,7 +3,7 @@ import collections
 import pathlib
 
 ROOT = pathlib.Path(__file__).resolve().parent.parent
-FOLDERS = ("must-fail", "must-fail-by-hand", "must-fail-tests")
+FOLDERS = ("must-fail-gate", "must-fail-by-hand", "must-fail-tests")
 Change = collections.namedtuple("Change", "path old new")
 
 
