@@ -64,4 +64,5 @@ pub record IsBalanced (cpus : ℕ) (words : List ℕ) (views : List View) (k : K
 
 -- so it is of each live or retired entry, between any two steps
 abbrev pub SeatsBalance : Type 0
-SeatsBalance = (z : Settings) (s : Table ℕ View) (i t : ℕ) (k : KeeperView) (e : Entry) → Ruled z s → get_elem? s.views i ≡ some (Keeper k) → IsIn e (slot_at k.slots t) → IsBalanced z.cpus s.words s.views k t e.number
+SeatsBalance = (z : Settings) (s : Table ℕ View) (i t : ℕ) (k : KeeperView) (e : Entry) → Ruled z s → get_elem? s.views i ≡ some (Keeper k) → IsIn e (slot_at k.slots t)
+    → IsBalanced z.cpus s.words s.views k t e.number

@@ -1,4 +1,5 @@
--- The laws of the protocol on the words: whatever threads did, a list of events leads to a state that the words and all views show, and that state obeys all laws. So what a seat holds has its slot, and marks are honest.
+-- The laws of the protocol on the words: whatever threads did, a list of events leads to a state that the words and all views show, and that state obeys all laws. So what a seat holds has its slot,
+-- and marks are honest.
 use Rattle.std.specs.Prelude.{◌≡◌, ◌⊎◌, ℕ, ◌<◌, List, length, Some, true, slice_index}
 use mathlib.Core.Option.{some}
 use lib.ListN.{get_elem?}

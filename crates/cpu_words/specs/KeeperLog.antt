@@ -1,7 +1,8 @@
 -- What the keeper's log says, and each prefix of it that a seat has heard. Since a log only grows, what follows from such a prefix stays so.
 use Rattle.std.specs.Prelude.{◌≡◌, ◌⊎◌, ℕ, zero, suc, ◌+◌, ◌*◌, ◌==◌, ◌&&◌, ◌%◌, ◌<◌, ◌≤◌, Bool, true, false, if◌then◌else◌, List, [], ◌∷◌, ◌++◌, length, Option, Some, None}
 use mathlib.Core.List.{IsPrefix}
-use Rattle.cpu_words.specs.Types.{Event, Hear, Publish, Unpublish, Snapshot, Look, PassiveLook, Collect, JoinKeeper, Keep, KeptSub, Vacate, Reply, Done, Word, MOST_CPUS, Change, Entry, Mark, Slot, Vacant, Live, Retired}
+use Rattle.cpu_words.specs.Types.{Event, Hear, Publish, Unpublish, Snapshot, Look, PassiveLook, Collect, JoinKeeper, Keep, KeptSub, Vacate, Reply, Done, Word, MOST_CPUS, Change, Entry, Mark, Slot}
+use Rattle.cpu_words.specs.Types.{Vacant, Live, Retired}
 use Rattle.registry_values.specs.Common.{bias, is_retired, slot_at}
 use Rattle.protocol.specs.Common.{addition_due_at, is_adding_at, subtraction_due_at, State, count_at, kept_at, mark_at, total_at, HasMoved, destroyed_slot}
 use Rattle.cpu_words.specs.declared.view.KeeperView.{KeeperView}
@@ -106,7 +107,8 @@ pub record AreMarksOf (log : List LogItem) (marks : List (List Mark)) : Type 0 w
   pub marked : (t c w : ℕ) → IsSnapped t c w log → (mark_at marks t c).snapshot ≡ Some w
   pub passed : (t c : ℕ) → (mark_at marks t c).passed ≡ true → HasPassedOn t c log
 
--- What a slot has by a log: no entry was attached there yet, or the number of the one that was attached last, and whether it was detached since. It has that number until the next attach there, though the slot may be vacant.
+-- What a slot has by a log: no entry was attached there yet, or the number of the one that was attached last, and whether it was detached since. It has that number until the next attach there, though
+-- the slot may be vacant.
 
 pub data Standing : Type 0 where
   nothing : Standing

@@ -4,7 +4,8 @@ use mathlib.Core.Option.{some}
 use mathlib.Core.List.{IsPrefix}
 use lib.ListN.{get_elem?}
 use Rattle.atomic_table.specs.Table.{State as Table, Step, Me}
-use Rattle.cpu_words.specs.Types.{Settings, Event, Seat, Enter, Exit, Seek, LoadLink, LoadRecord, StoreSlot, StoreNext, Publish, Unpublish, Tell, Hear, Snapshot, Look, PassiveAdd, PassiveSub, PassiveLook, CountAdd, SplitRef, JoinRef, CountDown, SplitBack, Collect, TotalAdd, JoinKeeper, TotalSub, Keep, KeptSub, Vacate, Passive, Local, Done, Ref}
+use Rattle.cpu_words.specs.Types.{Settings, Event, Seat, Enter, Exit, Seek, LoadLink, LoadRecord, StoreSlot, StoreNext, Publish, Unpublish, Tell, Hear, Snapshot, Look, PassiveAdd, PassiveSub}
+use Rattle.cpu_words.specs.Types.{PassiveLook, CountAdd, SplitRef, JoinRef, CountDown, SplitBack, Collect, TotalAdd, JoinKeeper, TotalSub, Keep, KeptSub, Vacate, Passive, Local, Done, Ref}
 use Rattle.protocol.specs.declared.event.RecordOf.TheVariants.{Search as OfSearch}
 use Rattle.cpu_words.specs.declared.view.InHand.{InHand}
 use Rattle.cpu_words.specs.declared.view.InHand.TheVariants.{Empty as NoEntry, Taking as TakingEntry, Giving as GivingEntry, Back as BackEntry}
@@ -161,17 +162,22 @@ first_logged z = record { view = first_view z; log = []; known_log = []; noted_l
 -- What a step is told: the seat stays of its kind, takes no slots, its log goes on with just these events, its known log stays, and the tale holds
 
 abbrev pub IsToldByCpu : (CpuView → ℕ → List LogItem) → (CpuView → ℕ → CpuView → Type 0) → Step ℕ → Me ℕ Logged → ℕ → Me ℕ Logged → Type 0
-IsToldByCpu does tells st m n l = (l ≡ (record m.0 { view = Cpu (cpu_of l.0.view); log = l.0.log }, m.1)) × (l.0.log ≡ m.0.log ++ does (cpu_of m.0.view) n) × tells (cpu_of m.0.view) n (cpu_of l.0.view)
+IsToldByCpu does tells st m n l =
+    (l ≡ (record m.0 { view = Cpu (cpu_of l.0.view); log = l.0.log }, m.1)) × (l.0.log ≡ m.0.log ++ does (cpu_of m.0.view) n) × tells (cpu_of m.0.view) n (cpu_of l.0.view)
 
 abbrev pub IsToldByKeeper : (KeeperView → ℕ → List LogItem) → (KeeperView → ℕ → KeeperView → Type 0) → Step ℕ → Me ℕ Logged → ℕ → Me ℕ Logged → Type 0
-IsToldByKeeper does tells st m n l = (l ≡ (record m.0 { view = Keeper (keeper_of l.0.view); log = l.0.log }, m.1)) × (l.0.log ≡ m.0.log ++ does (keeper_of m.0.view) n) × tells (keeper_of m.0.view) n (keeper_of l.0.view)
+IsToldByKeeper does tells st m n l =
+    (l ≡ (record m.0 { view = Keeper (keeper_of l.0.view); log = l.0.log }, m.1)) × (l.0.log ≡ m.0.log ++ does (keeper_of m.0.view) n) × tells (keeper_of m.0.view) n (keeper_of l.0.view)
 
 abbrev pub IsToldByReference : (ReferenceView → ℕ → List LogItem) → (ReferenceView → ℕ → Type 0) → Step ℕ → Me ℕ Logged → ℕ → Me ℕ Logged → Type 0
 IsToldByReference does tells st m n l = (l ≡ (record m.0 { log = l.0.log }, m.1)) × (l.0.log ≡ m.0.log ++ does (reference_of m.0.view) n) × tells (reference_of m.0.view) n
 
--- A load that hears. A CPU's seat has heard then what the keeper did: what it had heard, and what the note told, are prefixes of that, and some state shows its view in which the keeper had done just this
+-- A load that hears. A CPU's seat has heard then what the keeper did: what it had heard, and what the note told, are prefixes of that, and some state shows its view in which the keeper had done just
+-- this
 abbrev pub heard_by_cpu : (CpuView → CpuView → Type 0) → Step ℕ → Me ℕ Logged → ℕ → Me ℕ Logged → Type 0
-heard_by_cpu tells st m n l = (l ≡ (record m.0 { view = Cpu (cpu_of l.0.view); log = l.0.log; known_log = l.0.known_log }, m.1)) × (l.0.log ≡ m.0.log ++ heard_from (Some (cpu_of m.0.view).id) m.0.teller) × tells (cpu_of m.0.view) (cpu_of l.0.view) × KnownLogGrows m.0.known_log m.0.noted_log l.0.known_log × IsShownAfter l.0.known_log (Cpu (cpu_of m.0.view))
+heard_by_cpu tells st m n l = (l ≡ (record m.0 { view = Cpu (cpu_of l.0.view); log = l.0.log; known_log = l.0.known_log }, m.1))
+    × (l.0.log ≡ m.0.log ++ heard_from (Some (cpu_of m.0.view).id) m.0.teller) × tells (cpu_of m.0.view) (cpu_of l.0.view) × KnownLogGrows m.0.known_log m.0.noted_log l.0.known_log
+    × IsShownAfter l.0.known_log (Cpu (cpu_of m.0.view))
 
 -- the keeper finds what the note told in its own log, and its history as long as that says
 abbrev pub heard_by_keeper : (KeeperView → ℕ → List LogItem) → (KeeperView → ℕ → KeeperView → Type 0) → Step ℕ → Me ℕ Logged → ℕ → Me ℕ Logged → Type 0
@@ -180,7 +186,8 @@ heard_by_keeper does tells st m n l = IsToldByKeeper does tells st m n l × IsOw
 -- The keeper's load that hears a note: its log says who told it
 
 abbrev pub hears_note : (KeeperView → KeeperView → Type 0) → Step ℕ → Me ℕ Logged → ℕ → Me ℕ Logged → Type 0
-hears_note tells st m n l = (l ≡ (record m.0 { view = Keeper (keeper_of l.0.view); log = l.0.log }, m.1)) × (l.0.log ≡ m.0.log ++ heard_from None m.0.teller) × tells (keeper_of m.0.view) (keeper_of l.0.view) × IsOwnLog m.0.log m.0.noted_log (keeper_of m.0.view)
+hears_note tells st m n l = (l ≡ (record m.0 { view = Keeper (keeper_of l.0.view); log = l.0.log }, m.1)) × (l.0.log ≡ m.0.log ++ heard_from None m.0.teller)
+    × tells (keeper_of m.0.view) (keeper_of l.0.view) × IsOwnLog m.0.log m.0.noted_log (keeper_of m.0.view)
 
 -- How seats are cut and joined: the log goes on, and a new seat's is empty
 

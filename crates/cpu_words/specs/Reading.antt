@@ -14,4 +14,5 @@ loads_by e v = e
 
 -- What the inner step is told. Which id the core gives the reference is in no view, so the event names any.
 abbrev pub tells_local : Event → ReferenceView → ℕ → Type 0
-tells_local event v m = (id k : ℕ) → event ≡ LoadRecord (Local id k) → ((o : ℕ) × Makes (LoadRecord (Local o k)) (Word m) (Reference v) (Reference v)) × (m ≡ word (words_of v.entry) k) × IsTrue (is_lawful v.entry.rec.name)
+tells_local event v m = (id k : ℕ) → event ≡ LoadRecord (Local id k)
+    → ((o : ℕ) × Makes (LoadRecord (Local o k)) (Word m) (Reference v) (Reference v)) × (m ≡ word (words_of v.entry) k) × IsTrue (is_lawful v.entry.rec.name)

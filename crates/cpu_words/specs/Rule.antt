@@ -4,7 +4,8 @@ use mathlib.Core.Option.{some}
 use lib.ListN.{get_elem?}
 use Rattle.atomic_table.specs.Table.{State as Table}
 use Rattle.cpu_words.specs.Types.{Entry, Settings, Event, LoadRecord, JoinRef, JoinKeeper, Keep, RecordOf, Local, Reply, Ref}
-use Rattle.protocol.specs.Common.{Outcome, number_standing, step, Run, empty_run, run_with_event, State, opening, section_at, depth_at, seen_at, passive_at, count_at, local_at, IsIn, one_if, standing_of, Holds, after}
+use Rattle.protocol.specs.Common.{Outcome, number_standing, step, Run, empty_run, run_with_event, State, opening, section_at, depth_at, seen_at, passive_at, count_at, local_at, IsIn, one_if}
+use Rattle.protocol.specs.Common.{standing_of, Holds, after}
 use Rattle.registry_values.specs.Common.{bias, slot_at}
 use Rattle.cpu_words.specs.Spots.{Spot, index, IsSpot, word_at}
 use Rattle.cpu_words.specs.Views.{Shown, is_to}

@@ -1,7 +1,8 @@
 -- Searches by a CPU's seat: from the head along the links, and in each slot over its record words.
 use Rattle.std.specs.Prelude.{◌≡◌, ℕ, zero, suc, ◌<◌, ◌≤◌, List, [], ◌++◌, length, Option, Some, None, true}
 use mathlib.Core.List.{IsPrefix}
-use Rattle.cpu_words.specs.Types.{Name, Kind, Entry, Change, Settings, MOST_SLOTS, Event, Seek, LoadLink, Reply, Done, Word, Found, Missed, Key, SearchPlace, AtHead, AtNext, AtNumber, AtKind, AtHigh, AtLow, AtValue, RecordWords, Search, Loaded, On, Over}
+use Rattle.cpu_words.specs.Types.{Name, Kind, Entry, Change, Settings, MOST_SLOTS, Event, Seek, LoadLink, Reply, Done, Word, Found, Missed, Key, SearchPlace, AtHead, AtNext, AtNumber, AtKind, AtHigh}
+use Rattle.cpu_words.specs.Types.{AtLow, AtValue, RecordWords, Search, Loaded, On, Over}
 use Rattle.registry_values.specs.Names.{are_name_words}
 use Rattle.protocol.specs.Common.{word, words_of, IsAttached, IsLiveAt, IsLegal, IsLawful, StandsOn, loaded_at}
 use Rattle.cpu_words.specs.declared.view.CpuView.{CpuView}

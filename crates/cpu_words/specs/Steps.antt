@@ -82,7 +82,8 @@ JoinsBy e v u both = (g : State) → Good g → Shown g v → Shown g u → ((n 
 -- A seat is cut in two, or takes in another: the run goes on with just these events.
 
 abbrev pub SplitsOn : Settings → ℕ → View → View → View → List LogItem → Type 0
-SplitsOn z i v left right ds = (s : Table ℕ View) (r : Ruled z s) → get_elem? s.views i ≡ some v → GoesOn z s r ds (record { words = s.words; homes = s.homes; views = slice_set s.views i left ++ right ∷ [] })
+SplitsOn z i v left right ds =
+    (s : Table ℕ View) (r : Ruled z s) → get_elem? s.views i ≡ some v → GoesOn z s r ds (record { words = s.words; homes = s.homes; views = slice_set s.views i left ++ right ∷ [] })
 
 abbrev pub JoinsOn : Settings → ℕ → View → ℕ → View → View → View → List LogItem → Type 0
 JoinsOn z i v o w both spent ds = (s : Table ℕ View) (r : Ruled z s) → get_elem? s.views i ≡ some v → ¬ (o ≡ i) → get_elem? (slice_set s.views i both) o ≡ some w

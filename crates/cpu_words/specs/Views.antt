@@ -1,10 +1,12 @@
 -- What a view shows of a state of the core.
-use Rattle.std.specs.Prelude.{◌≡◌, ◌≢◌, ℕ, suc, ◌+◌, ◌*◌, ◌<◌, ◌≤◌, ◌==◌, Bool, true, false, if◌then◌else◌, List, [], ◌∷◌, ◌++◌, length, take, replicate, count_by, sum_by, slice_index_or, slice_set, Option, Some, None}
+use Rattle.std.specs.Prelude.{◌≡◌, ◌≢◌, ℕ, suc, ◌+◌, ◌*◌, ◌<◌, ◌≤◌, ◌==◌, Bool, true, false, if◌then◌else◌, List, [], ◌∷◌, ◌++◌, length, take, replicate, count_by, sum_by, slice_index_or, slice_set}
+use Rattle.std.specs.Prelude.{Option, Some, None}
 use Rattle.std.specs.List.{Contains, zip}
 use mathlib.Core.List.{IsPrefix}
 use Rattle.atomic_table.specs.Seated.{TableId}
 use Rattle.cpu_words.specs.Types.{Entry, Driver, Change, Settings, MOST_CPUS, Slot, Vacant, Live, Retired, Mark, Hand, Empty, Taking, Giving, Back, Rest}
-use Rattle.protocol.specs.Common.{IsAttached, State, no_words, section_at, begin_at, depth_at, seen_at, search_at, found_at, hand_at, mark_at, passive_at, count_at, total_at, AreRows, IsIn, Occupies, subtraction_due_at, addition_due_at, is_adding_at}
+use Rattle.protocol.specs.Common.{IsAttached, State, no_words, section_at, begin_at, depth_at, seen_at, search_at, found_at, hand_at, mark_at, passive_at, count_at, total_at, AreRows, IsIn, Occupies}
+use Rattle.protocol.specs.Common.{subtraction_due_at, addition_due_at, is_adding_at}
 use Rattle.registry_values.specs.Common.{bias, no_mark, slot_at}
 use Rattle.cpu_words.specs.declared.view.InHand.{InHand}
 use Rattle.cpu_words.specs.declared.view.InHand.TheVariants.{Empty as NoEntry, Taking as TakingEntry, Giving as GivingEntry, Back as BackEntry}
@@ -174,7 +176,8 @@ collected_net p = if p.0.collected then p.1 else 0
 abbrev pub collected_one : Mark × ℕ → ℕ
 collected_one p = if p.0.collected then 1 else 0
 
--- the total of a retired entry's slot is the net counts collected into it, less the references given up under the interlock: one that is given up as the keeper joins it is subtracted by the step after
+-- the total of a retired entry's slot is the net counts collected into it, less the references given up under the interlock: one that is given up as the keeper joins it is subtracted by the step
+-- after
 abbrev pub GivesUp : State → List ℕ → ℕ → ℕ → Type 0
 GivesUp g given_up t n = let row = zip (slice_index_or g.marks t []) (slice_index_or g.nets t []) in
     total_at g.totals t + addition_due_at t g.due + number_at given_up n + bias * sum_by collected_one row ≡ bias * (1 + is_adding_at t g.due) + sum_by collected_net row + subtraction_due_at t g.due

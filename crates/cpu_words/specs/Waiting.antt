@@ -63,7 +63,8 @@ pub record HaveEnded (z : Settings) (s : Table ℕ Logged) (before looks : List 
   -- and where the keeper had heard a note by then, so has each section that was open at any moment before that was told, such as the begin of a call that told it
   pub told : (h : Teller) (first rest : List Event) → HasHeardFrom None h before → run.run.events ≡ first ++ rest → IsBeforeTelling run h first → HasEndedSince z first rest (changes_in before)
   -- and before any note was told that the teller had heard by then: so what the teller knew of by notes is among it
-  pub heard : (h k : Teller) (first rest : List Event) → HasHeardFrom None h before → HadHeard run h k → run.run.events ≡ first ++ rest → IsBeforeTelling run k first → HasEndedSince z first rest (changes_in before)
+  pub heard : (h k : Teller) (first rest : List Event) → HasHeardFrom None h before → HadHeard run h k → run.run.events ≡ first ++ rest → IsBeforeTelling run k first
+      → HasEndedSince z first rest (changes_in before)
   -- so a section that is open now began later
   pub begun : (c b : ℕ) → begin_at (after (opening z) run.run.events) c ≡ Some b → changes_in before ≤ b
   -- and no open section may hold an entry that was detached by then
@@ -72,4 +73,5 @@ pub record HaveEnded (z : Settings) (s : Table ℕ Logged) (before looks : List 
 
 -- a seat that has heard that the keeper saw each CPU out of a section, after it had done `before`, knows this of the table, whatever it is now
 abbrev pub WaitingEnds : Type 0
-WaitingEnds = (z : Settings) (s : Table ℕ Logged) (i : ℕ) (l : Logged) (before since : List LogItem) → LoggedRuled z s → get_elem? s.views i ≡ some l → l.known_log ≡ before ++ since → HasWaited since z.cpus → HaveEnded z s before since
+WaitingEnds = (z : Settings) (s : Table ℕ Logged) (i : ℕ) (l : Logged) (before since : List LogItem) → LoggedRuled z s → get_elem? s.views i ≡ some l → l.known_log ≡ before ++ since
+    → HasWaited since z.cpus → HaveEnded z s before since

@@ -98,10 +98,13 @@ module _ (u : Width) (P Q : Owning) (at : Word P.D) (num : Q.D → ℕ) where
     pub answered : (f : P.D → ℕ → Q.D) → ((d : P.D) (n : ℕ) → n ≡ num (f d n)) → ((d : P.D) (n : ℕ) → P.heap d ≡ Q.heap (f d n)) → (c : Clauses 𝓤 En)
         → ((y : (walk_of 𝓛 En hs c).Ghost) → ent 𝓤 (emp 𝓤) ((c y.0.0 y.0.3).ensures y.1 (f y.0.3.0 y.0.3.1.0) (at_exit En y.0.0 y.0.3 (tt, (tt, tt)))))
         → (k : Callee) → Closed 𝓤 𝓛.H 𝓣.C 𝓣.Λ k (answers u P.name Q.name) → Meets 𝓛 En.signature (𝓣.C k) (closing 𝓛 En c)
-    answered f nums heaps c says k closed = proved_at 𝓛 En hs c 𝓜 𝓡 (Goes-blank 𝓛 0 (plain (λ _. A)) yes (λ κs x w. tt), (Goes-dropped 𝓛 0 (plain (λ _. UInt u)) yes (λ κs x w. refl), tt)) k (answers u P.name Q.name) closed (λ z are.
-        let d : P.D = z.0.3.0 in let n : ℕ = z.0.3.1.0 in let p : Ptr = (at d).0 in let fn = answers u P.name Q.name in let Post : Val → SProp 𝓤 = (walk_of 𝓛 En hs c).post z in let Run : List Val → SProp 𝓤 = λ us. WpFn 𝓤 𝓛.H 𝓣.C 𝓣.Λ fn us Post in
+    answered f nums heaps c says k closed =
+        proved_at 𝓛 En hs c 𝓜 𝓡 (Goes-blank 𝓛 0 (plain (λ _. A)) yes (λ κs x w. tt), (Goes-dropped 𝓛 0 (plain (λ _. UInt u)) yes (λ κs x w. refl), tt)) k (answers u P.name Q.name) closed (λ z are.
+        let d : P.D = z.0.3.0 in let n : ℕ = z.0.3.1.0 in
+        let p : Ptr = (at d).0 in let fn = answers u P.name Q.name in let Post : Val → SProp 𝓤 = (walk_of 𝓛 En hs c).post z in let Run : List Val → SProp 𝓤 = λ us. WpFn 𝓤 𝓛.H 𝓣.C 𝓣.Λ fn us Post in
         let w : Val = vstruct (vcons (ptr_val p) vnil) in let v : Val = vint u n in let out : Val = count_val u n in let is : z.0.4.1.0 ≡ v ∷ [] = are.1.0.0 in let low : n < 2 ^ bits u = are.1.0.1 in
-        qed 𝓛 ((‵ ftrue ⊛ ‵ (owns (types_at En.signature.params tt) z.0.3 z.0.4)) ∷ raw ((c tt z.0.3).requires z.1) ∷ []) ∵ split ! $ drop ! $ fsplit ! $ fsplit ! $ fpick ! (λ vss. fsplit ! $ feq_l ! (λ ev. fsplit ! $ feq_l ! (λ ep. drop ! $
+        qed 𝓛 ((‵ ftrue ⊛ ‵ (owns (types_at En.signature.params tt) z.0.3 z.0.4)) ∷ raw ((c tt z.0.3).requires z.1) ∷ []) ∵ split ! $ drop ! $ fsplit ! $ fsplit ! $ fpick !
+        (λ vss. fsplit ! $ feq_l ! (λ ev. fsplit ! $ feq_l ! (λ ep. drop ! $
         -- [what it owns]
         keep ! (0 ∷ []) $ let ws : z.0.4.0 ≡ w ∷ [] = subst (λ (ps : List Val). z.0.4.0 ≡ vstruct (of_list (ps ++ [])) ∷ []) ep ev in
         suffices ! (Run (w ∷ v ∷ [])) (subst (λ (us : List Val). ent 𝓤 (Run (w ∷ v ∷ [])) (Run us)) (sym (λ i. ws i ++ (is i ++ []))) (id⊢ 𝓤 (Run (w ∷ v ∷ [])))) $
@@ -109,8 +112,10 @@ module _ (u : Width) (P Q : Owning) (at : Word P.D) (num : Q.D → ℕ) where
         sets ! (agg ! (and_then ! (get ! refl) (no_more !))) refl (counts_in u n Q.name low) $
         nothing ! $ owned ! (UInt u) (Is (UInt u)) (uint_Makes 𝓛 u) n (v ∷ []) (refl, low) $ fjoin ! $ feq_i ! (List Val) (out ∷ []) (out ∷ []) refl $ fjoin ! $
         fpack ! (Valss (UInt u ∷ [])) (within (shape (counted u Q num)) (n, tt) (out ∷ [])) (v ∷ [], tt) $ fjoin ! $
-        let same : fsep ((Struct (shape (counted u Q num))).own_val (n, tt) (out ∷ [])) (P.heap d) ≡ B.own_val (f d n) (out ∷ []) = λ i. fsep ((Struct (shape (counted u Q num))).own_val (nums d n i, tt) (out ∷ [])) (heaps d n i) in
-        rewrite ! 0 (λ (F : Fml). ‵ F) same refl $ use0 𝓛 (raw ((c z.0.0 z.0.3).ensures z.1 (f d n) (at_exit En z.0.0 z.0.3 (tt, (tt, tt))))) (says z) $ nothing ! $ nothing ! $ fjoin ! $ nothing ! $ fjoin ! $ nothing ! $
+        let same : fsep ((Struct (shape (counted u Q num))).own_val (n, tt) (out ∷ [])) (P.heap d) ≡ B.own_val (f d n) (out ∷ []) =
+        λ i. fsep ((Struct (shape (counted u Q num))).own_val (nums d n i, tt) (out ∷ [])) (heaps d n i) in
+        rewrite ! 0 (λ (F : Fml). ‵ F) same refl $ use0 𝓛 (raw ((c z.0.0 z.0.3).ensures z.1 (f d n) (at_exit En z.0.0 z.0.3 (tt, (tt, tt)))))
+        (says z) $ nothing ! $ nothing ! $ fjoin ! $ nothing ! $ fjoin ! $ nothing ! $
         returns ! (look_at ! 0 refl) $ free_all ! refl $ keep ! (0 ∷ 1 ∷ 3 ∷ 2 ∷ []) $ by ! (leaves 𝓛 En hs c z out (f d n) (tt, (tt, tt)) (tt, (tt, tt))))))))
 
 -- the number goes on, and what another struct of one pointer owned goes along too
@@ -121,7 +126,8 @@ joins from other into = record {
   ty_params = [];
   givens = 0;
   params = 2;
-  locals = local (ty_struct into (tcons (ty_int w32) tnil)) value_local ∷ local (ty_struct from (tcons (ty_int w32) tnil)) value_local ∷ local (ty_struct other (tcons ty_ptr tnil)) value_local ∷ local (ty_int w32) value_local ∷ [];
+  locals = local (ty_struct into (tcons (ty_int w32) tnil)) value_local ∷ local (ty_struct from (tcons (ty_int w32) tnil)) value_local ∷ local (ty_struct other (tcons ty_ptr tnil)) value_local
+      ∷ local (ty_int w32) value_local ∷ [];
   body = seq (assign (place 3 []) (rv_opd (copy (place 1 (field 0 ∷ []))))) (seq (assign (place 0 []) (aggregate (copy (place 3 []) ∷ []))) return);
 }
 
@@ -151,19 +157,26 @@ module _ (P N Q : Owning) (number : P.D → ℕ) (at : Word N.D) (num : Q.D → 
     pub joined : (f : P.D → N.D → Q.D) → ((d : P.D) (e : N.D) → number d ≡ num (f d e)) → ((d : P.D) (e : N.D) → fsep (P.heap d) (N.heap e) ≡ Q.heap (f d e)) → (c : Clauses 𝓤 JEn)
         → ((y : (walk_of 𝓛 JEn jhs c).Ghost) → ent 𝓤 (emp 𝓤) ((c y.0.0 y.0.3).ensures y.1 (f y.0.3.0 y.0.3.1.0) (at_exit JEn y.0.0 y.0.3 (tt, (tt, tt)))))
         → (k : Callee) → Closed 𝓤 𝓛.H 𝓙.C 𝓙.Λ k (joins P.name N.name Q.name) → Meets 𝓛 JEn.signature (𝓙.C k) (closing 𝓛 JEn c)
-    joined f nums heaps c says k closed = proved_at 𝓛 JEn jhs c 𝓜 𝓡 (Goes-blank 𝓛 0 (plain (λ _. F₁)) yes (λ κs x w. tt), (Goes-blank 𝓛 0 (plain (λ _. F₂)) yes (λ κs x w. tt), tt)) k (joins P.name N.name Q.name) closed (λ z are.
-        let d : P.D = z.0.3.0 in let e : N.D = z.0.3.1.0 in let n : ℕ = number d in let p : Ptr = (at e).0 in let fn = joins P.name N.name Q.name in let Post : Val → SProp 𝓤 = (walk_of 𝓛 JEn jhs c).post z in let Run : List Val → SProp 𝓤 = λ us. WpFn 𝓤 𝓛.H 𝓙.C 𝓙.Λ fn us Post in
+    joined f nums heaps c says k closed =
+        proved_at 𝓛 JEn jhs c 𝓜 𝓡 (Goes-blank 𝓛 0 (plain (λ _. F₁)) yes (λ κs x w. tt), (Goes-blank 𝓛 0 (plain (λ _. F₂)) yes (λ κs x w. tt), tt)) k (joins P.name N.name Q.name) closed (λ z are.
+        let d : P.D = z.0.3.0 in let e : N.D = z.0.3.1.0 in let n : ℕ = number d in let p : Ptr =
+        (at e).0 in let fn = joins P.name N.name Q.name in let Post : Val → SProp 𝓤 = (walk_of 𝓛 JEn jhs c).post z in let Run : List Val → SProp 𝓤 = λ us. WpFn 𝓤 𝓛.H 𝓙.C 𝓙.Λ fn us Post in
         let w : Val = count_val w32 n in let v : Val = vstruct (vcons (ptr_val p) vnil) in
-        qed 𝓛 ((‵ ftrue ⊛ ‵ (owns (types_at JEn.signature.params tt) z.0.3 z.0.4)) ∷ raw ((c tt z.0.3).requires z.1) ∷ []) ∵ split ! $ drop ! $ fsplit ! $ fsplit ! $ fpick ! (λ vss. fsplit ! $ feq_l ! (λ ev. fsplit ! $
+        qed 𝓛 ((‵ ftrue ⊛ ‵ (owns (types_at JEn.signature.params tt) z.0.3 z.0.4)) ∷ raw ((c tt z.0.3).requires z.1) ∷ []) ∵ split ! $ drop ! $ fsplit ! $ fsplit ! $ fpick !
+        (λ vss. fsplit ! $ feq_l ! (λ ev. fsplit ! $
         peeks ! u32 (Is u32) (shows 𝓛 u32) n vss.0 (λ is. drop ! $ drop ! $ let low : n < 2 ^ 32 = is.1 in
         -- [what the first owns; the other; what is required]
         move ! (1 ∷ []) $ fsplit ! $ fsplit ! $ fpick ! (λ uss. fsplit ! $ feq_l ! (λ eu. fsplit ! $ feq_l ! (λ ep. drop ! $ move ! (2 ∷ 0 ∷ []) $ fjoin ! $ keep ! (0 ∷ []) $
-        let ws : z.0.4.0 ≡ w ∷ [] = subst (λ (ps : List Val). z.0.4.0 ≡ vstruct (of_list (ps ++ [])) ∷ []) is.0 ev in let vs : z.0.4.1.0 ≡ v ∷ [] = subst (λ (ps : List Val). z.0.4.1.0 ≡ vstruct (of_list (ps ++ [])) ∷ []) ep eu in
+        let ws : z.0.4.0 ≡ w ∷ [] = subst (λ (ps : List Val). z.0.4.0 ≡ vstruct (of_list (ps ++ [])) ∷ []) is.0 ev in
+        let vs : z.0.4.1.0 ≡ v ∷ [] = subst (λ (ps : List Val). z.0.4.1.0 ≡ vstruct (of_list (ps ++ [])) ∷ []) ep eu in
         suffices ! (Run (w ∷ v ∷ [])) (subst (λ (us : List Val). ent 𝓤 (Run (w ∷ v ∷ [])) (Run us)) (sym (λ i. ws i ++ (vs i ++ []))) (id⊢ 𝓤 (Run (w ∷ v ∷ [])))) $
         enter ! 𝓙.C 𝓙.Λ fn (w ∷ v ∷ []) Post $ alloc_all ! (λ l. pass_all ! refl (counts_in w32 n P.name low, (fits_in p N.name, tt)) $
-        sets ! (of_opd ! (get_in ! (fld ! refl (stop !)) (sub ! 0 refl (whole !)))) refl (tt, record { fits = low }) $ sets ! (agg ! (and_then ! (get ! refl) (no_more !))) refl (counts_in w32 n Q.name low) $
+        sets ! (of_opd ! (get_in ! (fld ! refl (stop !)) (sub ! 0 refl (whole !)))) refl (tt, record { fits = low }) $ sets ! (agg ! (and_then ! (get ! refl) (no_more !))) refl
+        (counts_in w32 n Q.name low) $
         nothing ! $ owned ! u32 (Is u32) (uint_Makes 𝓛 w32) n (vint w32 n ∷ []) (refl, low) $ fjoin ! $ feq_i ! (List Val) (w ∷ []) (w ∷ []) refl $ fjoin ! $
         fpack ! (Valss (u32 ∷ [])) (within (shape (counted w32 Q num)) (n, tt) (w ∷ [])) (vint w32 n ∷ [], tt) $ fjoin ! $
-        let same : fsep ((Struct (shape (counted w32 Q num))).own_val (n, tt) (w ∷ [])) (fsep (P.heap d) (N.heap e)) ≡ J.own_val (f d e) (w ∷ []) = λ i. fsep ((Struct (shape (counted w32 Q num))).own_val (nums d e i, tt) (w ∷ [])) (heaps d e i) in
-        rewrite ! 0 (λ (F : Fml). ‵ F) same refl $ use0 𝓛 (raw ((c z.0.0 z.0.3).ensures z.1 (f d e) (at_exit JEn z.0.0 z.0.3 (tt, (tt, tt))))) (says z) $ nothing ! $ nothing ! $ fjoin ! $ nothing ! $ fjoin ! $ nothing ! $
+        let same : fsep ((Struct (shape (counted w32 Q num))).own_val (n, tt) (w ∷ [])) (fsep (P.heap d) (N.heap e)) ≡ J.own_val (f d e) (w ∷ []) =
+        λ i. fsep ((Struct (shape (counted w32 Q num))).own_val (nums d e i, tt) (w ∷ [])) (heaps d e i) in
+        rewrite ! 0 (λ (F : Fml). ‵ F) same refl $ use0 𝓛 (raw ((c z.0.0 z.0.3).ensures z.1 (f d e) (at_exit JEn z.0.0 z.0.3 (tt, (tt, tt)))))
+        (says z) $ nothing ! $ nothing ! $ fjoin ! $ nothing ! $ fjoin ! $ nothing ! $
         returns ! (look_at ! 0 refl) $ free_all ! refl $ keep ! (0 ∷ 1 ∷ 3 ∷ 2 ∷ []) $ by ! (leaves 𝓛 JEn jhs c z w (f d e) (tt, (tt, tt)) (tt, (tt, tt)))))))))))

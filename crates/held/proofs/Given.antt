@@ -2,7 +2,8 @@
 use Rattle.std.proofs.Common.{◌≡◌, List, [], ◌∷◌, ◌++◌, refl, sym, ap, ◌∙◌, subst, lit<, Option, Some, None}
 use lib.Dec.{T}
 use seplogic.Ra.Ura.{Ura}
-use mir.Syntax.{Fn, Callee, Ty, named, mut, local, value_local, ty_ptr, ty_ref, ty_bool, ty_enum, tcons, tnil, ttcons, ttnil, place, deref, field, assign, rv_opd, op2, ptr_eq, copy, int, w8, w64, aggregate, cond, skip, block, seq, return}
+use mir.Syntax.{Fn, Callee, Ty, named, mut, local, value_local, ty_ptr, ty_ref, ty_bool, ty_enum, tcons, tnil, ttcons, ttnil, place, deref, field, assign, rv_opd, op2, ptr_eq, copy, int, w8, w64}
+use mir.Syntax.{aggregate, cond, skip, block, seq, return}
 use mir.Val.{Val, vptr, vstruct, vcons, vnil, of_list, has_ty, WT}
 use base.Fraction.{full_share}
 use base.Logic.{SProp, ent, sep, emp}
@@ -11,7 +12,8 @@ use prog.Model.{Model}
 use prog.Wp.{Closed}
 use types.Logic.{Logic, sem}
 use types.SemTy.{Body}
-use types.Kit.{Step, step, Item, Goal, ‵, raw, ◌⊛◌, some, at_ret, ◌$◌, ◌∵◌, !, qed, by, move, keep, drop, use0, use1, use2, split, join, pick, rewrite, fsplit, fsplit3, fjoin, fjoin3, fpick, fpack, feq_i, feq_l}
+use types.Kit.{Step, step, Item, Goal, ‵, raw, ◌⊛◌, some, at_ret, ◌$◌, ◌∵◌, !, qed, by, move, keep, drop, use0, use1, use2, split, join, pick, rewrite, fsplit, fsplit3, fjoin, fjoin3, fpick, fpack}
+use types.Kit.{feq_i, feq_l}
 use types.Run.{stop, fld, load, look, lit, of_opd, bin, no_more, and_then, first, branches, skips, blocks, exec, returns, returns_within, enter}
 use types.ByLocal.{alloc_all, pass_all, free_all, look_at, get, through, sets, sets_last, env}
 use types.Part.{agg, sub, whole, look_in}
@@ -63,7 +65,8 @@ module _ (P : Owning) (at : Word P.D) (R : RattleType) where
     ty_params = [];
     givens = 0;
     params = 1;
-    locals = local (ty_enum (OP.the_type RawPtr).name (ttcons tnil (ttcons (tcons τ tnil) ttnil))) value_local ∷ local (ty_ref (named 0) mut (by_name (layout A))) value_local ∷ local ty_ptr value_local ∷ local τ value_local
+    locals = local (ty_enum (OP.the_type RawPtr).name (ttcons tnil (ttcons (tcons τ tnil) ttnil))) value_local ∷ local (ty_ref (named 0) mut (by_name (layout A))) value_local
+        ∷ local ty_ptr value_local ∷ local τ value_local
         ∷ local ty_bool value_local ∷ local τ value_local ∷ local ty_ptr value_local ∷ [];
     body = seq (assign (place 2 []) (rv_opd (copy (place 1 (deref (layout A) ∷ field 0 ∷ []))))) (seq (assign (place 4 []) (op2 ptr_eq (copy (place 2 [])) (int w64 0)))
         (seq (cond (copy (place 4 [])) (seq (assign (place 0 []) (aggregate (int w8 0 ∷ []))) return) skip)
@@ -96,8 +99,10 @@ module _ (P : Owning) (at : Word P.D) (R : RattleType) where
       pub given : (k : Callee) → Closed 𝓤 𝓛.H 𝓣.C 𝓣.Λ k copies → Meets 𝓛 En.signature (𝓣.C k) (closing 𝓛 En c)
       given k closed = proved 𝓛 En hs c 𝓜 𝓡 (Goes-ref 𝓛 1 0 tt (plain (λ _. A)), tt) k copies closed (λ κs. (mut_vals, tt)) (λ κs. (mut_Tells (named 0) κs.0 A, tt)) (λ κs qs bounds a g are.
           let κ = κs.0 in let q = qs.0 in let r = a.0 in let d : P.D = r.now in let rb = r.ref_ptr.0 in let ro = r.ref_ptr.1 in let γ = r.ghost_name in let vs = mut_vals r in
-          let y : (walk_of 𝓛 En hs c).Ghost = ((κs, qs, bounds, a, (vs, tt)), g) in let Q : Val → SProp 𝓤 = (walk_of 𝓛 En hs c).post y in let Cell : List Val → Fml = λ us. cell_at full_share A.mir us rb ro in
-          let ends : (v : Val) → ent 𝓤 (sep 𝓤 (sem 𝓛 (fobs γ (A.coded.code d))) (sep 𝓤 (sem 𝓛 (fbor κ (Body (mem A) rb ro γ))) (sep 𝓤 (sem 𝓛 (flft κ q)) (sem 𝓛 (Out.own_val (body d) (v ∷ [])))))) (Q v) = λ v.
+          let y : (walk_of 𝓛 En hs c).Ghost =
+          ((κs, qs, bounds, a, (vs, tt)), g) in let Q : Val → SProp 𝓤 = (walk_of 𝓛 En hs c).post y in let Cell : List Val → Fml = λ us. cell_at full_share A.mir us rb ro in
+          let ends : (v : Val) → ent 𝓤 (sep 𝓤 (sem 𝓛 (fobs γ (A.coded.code d))) (sep 𝓤 (sem 𝓛 (fbor κ (Body (mem A) rb ro γ))) (sep 𝓤 (sem 𝓛 (flft κ q)) (sem 𝓛 (Out.own_val (body d) (v ∷ []))))))
+          (Q v) = λ v.
           qed 𝓛 (‵ (fobs γ (A.coded.code d)) ∷ ‵ (fbor κ (Body (mem A) rb ro γ)) ∷ ‵ (flft κ q) ∷ ‵ (Out.own_val (body d) (v ∷ [])) ∷ []) ∵
           feq_i ! (List Val) (vptr rb ro ∷ []) (vptr rb ro ∷ []) refl $ fjoin3 ! $ nothing ! $ move ! (1 ∷ 0 ∷ []) $ fjoin ! $ nothing ! $ move ! (2 ∷ 0 ∷ []) $ join ! $
           use0 𝓛 (raw ((c κs a).ensures g (body d) (at_exit En κs a (d, tt)))) (says y) $ move ! (1 ∷ 2 ∷ 3 ∷ 0 ∷ []) $ by ! (leaves 𝓛 En hs c y v (body d) (d, tt) (tt, tt)) in
@@ -114,7 +119,8 @@ module _ (P : Owning) (at : Word P.D) (R : RattleType) where
           sets ! (agg ! (and_then ! (lit ! tt) (no_more !))) refl (tt, (record { fits = lit< tt }, tt)) $
           nothing ! $ fpack ! ((at d).0 ≡ null_ptr) (λ _. ftrue) is $ rewrite ! 0 (λ (F : Fml). ‵ F) heap refl $ pointing ! d null_ptr is $ fjoin ! $ move ! (1 ∷ []) $ closes ! tt A d (w ∷ []) rb ro $
           returns_within ! Q refl (look_at ! 0 refl) $ free_all ! refl $ keep ! (0 ∷ 1 ∷ 2 ∷ []) $ use0 𝓛 (‵ (Out.own_val None (live 0 (of_list []) ∷ []))) (none_of 𝓛 R) $
-          rewrite ! 0 (λ (o : Option R.Denot). ‵ (Out.own_val o (live 0 (of_list []) ∷ []))) (sym is_none) refl $ move ! (1 ∷ 2 ∷ 3 ∷ 0 ∷ []) $ by ! (ends (live 0 (of_list [])))) (λ wrong. absurd wrong))
+          rewrite ! 0 (λ (o : Option R.Denot). ‵ (Out.own_val o (live 0 (of_list []) ∷ []))) (sym is_none) refl $ move ! (1 ∷ 2 ∷ 3 ∷ 0 ∷ []) $ by ! (ends (live 0 (of_list []))))
+          (λ wrong. absurd wrong))
           (λ b o x is_some e test.
           let w : Val = word_of (block_ptr b o) in let ws : us ≡ w ∷ [] = subst (λ (ps : List Val). us ≡ vstruct (of_list (ps ++ [])) ∷ []) (ep ∙ ap (λ (p : Ptr). ptr_val p ∷ []) e) ev in
           let heap : may_lie_at is_testable R (share d) (block_ptr b o) (Some x) ≡ P.heap d = ap (λ (p : Ptr). may_lie_at is_testable R (share d) p (Some x)) (sym e)

@@ -1,7 +1,8 @@
 -- A struct of one pointer lends what lies behind it: that leaves as a `&mut`, and the struct follows it.
 use Rattle.std.proofs.Common.{◌≡◌, ℕ, List, [], ◌∷◌, ◌++◌, refl, sym, ap, ◌∙◌, subst, lit<, Option, Some, None, MutBor}
 use seplogic.Ra.Ura.{Ura}
-use mir.Syntax.{Fn, Callee, Lifetime, Ty, named, erased, mut, local, value_local, ty_ptr, ty_ref, ty_bool, ty_enum, ty_named, ty_struct, tcons, tnil, ttcons, ttnil, place, deref, field, assign, rv_opd, op2, ptr_eq, copy, int, w8, w64, aggregate, addr_of, cond, skip, block, seq, return}
+use mir.Syntax.{Fn, Callee, Lifetime, Ty, named, erased, mut, local, value_local, ty_ptr, ty_ref, ty_bool, ty_enum, ty_named, ty_struct, tcons, tnil, ttcons, ttnil, place, deref, field, assign}
+use mir.Syntax.{rv_opd, op2, ptr_eq, copy, int, w8, w64, aggregate, addr_of, cond, skip, block, seq, return}
 use mir.Val.{Val, vptr, vstruct, vcons, vnil, of_list}
 use base.Fraction.{full_share}
 use base.Logic.{SProp, ent, sep, emp}
@@ -9,7 +10,8 @@ use base.Fml.{Lft, GName, Share, Fml, ftrue, fsep, flft, fobs, fres}
 use prog.Model.{Model}
 use prog.Wp.{Closed}
 use types.Logic.{Logic, sem}
-use types.Kit.{Step, step, Item, Goal, ‵, raw, ◌⊛◌, some, later, at_ret, ◌$◌, ◌∵◌, !, qed, by, move, keep, drop, use0, use1, split, join, pick, await, group, rewrite, fsplit, fsplit3, fjoin, fpick, fpack, feq_i, feq_l, suffices, frame, done}
+use types.Kit.{Step, step, Item, Goal, ‵, raw, ◌⊛◌, some, later, at_ret, ◌$◌, ◌∵◌, !, qed, by, move, keep, drop, use0, use1, split, join, pick, await, group, rewrite, fsplit, fsplit3, fjoin, fpick}
+use types.Kit.{fpack, feq_i, feq_l, suffices, frame, done}
 use types.Run.{stop, fld, load, lit, of_opd, bin, addr, no_more, and_then, first, branches, skips, blocks, exec, returns, returns_within, enter}
 use types.ByLocal.{alloc_all, pass_all, free_all, look_at, get, through, sets, sets_last, env}
 use types.Part.{agg, sub, whole, look_in}
@@ -72,14 +74,18 @@ module _ (more : Ptr → Fml) (tests : Tests more) (P : Owning) (at : Word P.D) 
     params = 1;
     locals = local (loan (named 0) τ) value_local ∷ local (ty_ref (named 0) mut σ) value_local ∷ local ty_ptr value_local ∷ local ty_ptr value_local ∷ local ty_bool value_local
         ∷ local (ty_ref erased mut τ) value_local ∷ local (ty_ref erased mut τ) value_local ∷ local ty_ptr value_local ∷ local ty_ptr value_local ∷ [];
-    body = seq (assign (place 2 []) (rv_opd (copy (place 1 (deref (layout A) ∷ field 0 ∷ []))))) (seq (assign (place 3 []) (rv_opd (copy (place 2 [])))) (seq (assign (place 4 []) (op2 ptr_eq (copy (place 3 [])) (int w64 0)))
+    body = seq (assign (place 2 []) (rv_opd (copy (place 1 (deref (layout A) ∷ field 0 ∷ [])))))
+        (seq (assign (place 3 []) (rv_opd (copy (place 2 [])))) (seq (assign (place 4 []) (op2 ptr_eq (copy (place 3 [])) (int w64 0)))
         (seq (cond (copy (place 4 [])) (seq (assign (place 0 []) (aggregate (int w8 0 ∷ []))) return) skip)
         (seq (block (seq (assign (place 7 []) (rv_opd (copy (place 2 [])))) (seq (assign (place 8 []) (rv_opd (copy (place 7 [])))) (assign (place 6 []) (addr_of (place 8 (deref (layout R) ∷ [])))))))
         (seq (assign (place 5 []) (rv_opd (copy (place 6 [])))) (seq (assign (place 0 []) (aggregate (int w8 1 ∷ copy (place 5 []) ∷ []))) return))))));
   }
 
   abbrev pub En : Ended
-  En = record { signature = record { lifetimes = 1; outlives = []; params = RefMutOf (0 ∷ []) tt (plain (λ _. A)) (λ _. tt) ∷ []; result = plain (λ κs. OP.the_row (MutRef (named 0) κs.0 R)) }; kept = (no, tt) }
+  En = record {
+    signature = record { lifetimes = 1; outlives = []; params = RefMutOf (0 ∷ []) tt (plain (λ _. A)) (λ _. tt) ∷ []; result = plain (λ κs. OP.the_row (MutRef (named 0) κs.0 R)) };
+    kept = (no, tt);
+  }
 
   abbrev hs : Stays En.signature.params En.kept
   hs = (stay_dropped (mut_ref_to (0 ∷ []) tt (plain (λ _. A))) no, tt)
@@ -95,9 +101,14 @@ module _ (more : Ptr → Fml) (tests : Tests more) (P : Owning) (at : Word P.D) 
 
   module _ (body : P.D → Option R.Denot) (filled : P.D → R.Denot → P.D) where
     abbrev pub spec : {M : Type 1} {𝓤 : Ura M} (𝓛 : Logic 𝓤) → Clauses 𝓤 En
-    spec {𝓤 = 𝓤} 𝓛 κs a = record { ghost = Unit {0}; requires = λ _. emp 𝓤; ensures = λ _ r _. sep 𝓤 (sem 𝓛 (follows_if A R a.0.ghost_name (ghost_name_of r) (filled a.0.now) a.0.now)) (fact 𝓤 (IsLent (body a.0.now) r)) }
+    spec {𝓤 = 𝓤} 𝓛 κs a = record {
+      ghost = Unit {0};
+      requires = λ _. emp 𝓤;
+      ensures = λ _ r _. sep 𝓤 (sem 𝓛 (follows_if A R a.0.ghost_name (ghost_name_of r) (filled a.0.now) a.0.now)) (fact 𝓤 (IsLent (body a.0.now) r));
+    }
 
-    module _ (owns : (d : P.D) → P.heap d ≡ may_lie_at more R full_share (at d).0 (body d)) (keeps : (d : P.D) (x : R.Denot) → at (filled d x) ≡ at d) (fills : (d : P.D) (x : R.Denot) → P.heap (filled d x) ≡ may_lie_at more R full_share (at d).0 (Some x)) {M : Type 1} {𝓤 : Ura M} (𝓛 : Logic 𝓤) where
+    module _ (owns : (d : P.D) → P.heap d ≡ may_lie_at more R full_share (at d).0 (body d)) (keeps : (d : P.D) (x : R.Denot) → at (filled d x) ≡ at d)
+        (fills : (d : P.D) (x : R.Denot) → P.heap (filled d x) ≡ may_lie_at more R full_share (at d).0 (Some x)) {M : Type 1} {𝓤 : Ura M} (𝓛 : Logic 𝓤) where
       open 𝓛 use {H, A as 𝓐}
 
       module _ (κ : Lft) (q : Share) (rb ro : ℕ) (γ : GName) (d : P.D) where
@@ -125,7 +136,8 @@ module _ (more : Ptr → Fml) (tests : Tests more) (P : Owning) (at : Word P.D) 
               fpack ! (List Val) (λ us. fsep (cell_at full_share A.mir us rb ro) (A.own_val (filled d x) us)) (w ∷ []) $ done !
 
           exits : (x : R.Denot) → body d ≡ Some x → (δ : GName)
-              → ent 𝓤 (sep 𝓤 (sem 𝓛 ((MutRef (named 0) κ R).own_val (record { ref_ptr = (b, o); ghost_name = δ; now = x }) (vptr b o ∷ []))) (sep 𝓤 (𝓐.lft κ q) (sem 𝓛 (follows A R γ δ (filled d))))) (Post (live 1 (of_list (vptr b o ∷ []))))
+              → ent 𝓤 (sep 𝓤 (sem 𝓛 ((MutRef (named 0) κ R).own_val (record { ref_ptr = (b, o); ghost_name = δ; now = x }) (vptr b o ∷ []))) (sep 𝓤 (𝓐.lft κ q) (sem 𝓛 (follows A R γ δ (filled d)))))
+              (Post (live 1 (of_list (vptr b o ∷ []))))
           unfolding follows_by
           exits x is δ =
               let r : MutBor R.Denot = record { ref_ptr = (b, o); ghost_name = δ; now = x } in let L : RattleType = MutRef (named 0) κ R in let v : Val = vptr b o in
@@ -148,7 +160,8 @@ module _ (more : Ptr → Fml) (tests : Tests more) (P : Owning) (at : Word P.D) 
         𝓣 = tables 𝓤 H 𝓜 𝓡 𝓡.env
 
         pub lent : (k : Callee) → Closed 𝓤 H 𝓣.C 𝓣.Λ k lends → Meets 𝓛 En.signature (𝓣.C k) (closing 𝓛 En (spec 𝓛))
-        lent k closed = proved 𝓛 En hs (spec 𝓛) 𝓜 𝓡 (Goes-spent_ref 𝓛 1 (0 ∷ []) tt (plain (λ _. A)), tt) k lends closed (λ κs. (mut_vals, tt)) (λ κs. (mut_Tells (named 0) κs.0 A, tt)) (λ κs qs bounds a _ are.
+        lent k closed =
+            proved 𝓛 En hs (spec 𝓛) 𝓜 𝓡 (Goes-spent_ref 𝓛 1 (0 ∷ []) tt (plain (λ _. A)), tt) k lends closed (λ κs. (mut_vals, tt)) (λ κs. (mut_Tells (named 0) κs.0 A, tt)) (λ κs qs bounds a _ are.
             let κ = κs.0 in let q = qs.0 in let r = a.0 in let d : P.D = r.now in let rb = r.ref_ptr.0 in let ro = r.ref_ptr.1 in let γ = r.ghost_name in let vs = mut_vals r in
             let Q : Val → SProp 𝓤 = Post κ q rb ro γ d in let Cell : List Val → Fml = λ us. cell_at full_share A.mir us rb ro in
             qed 𝓛 (((‵ (flft κ q) ⊛ ‵ ftrue) ⊛ ‵ ((MutRef (named 0) κ A).own_val r vs) ⊛ ‵ ftrue) ∷ ‵ ftrue ∷ []) ∵
@@ -162,18 +175,21 @@ module _ (more : Ptr → Fml) (tests : Tests more) (P : Owning) (at : Word P.D) 
             rewrite ! 0 (λ (xs : List Val). ‵ (Cell xs)) ws refl $ sets ! (of_opd ! (load ! (through ! refl (fld ! refl (stop !))) (look_in ! 0 (sub ! 0 refl (whole !))))) refl (fits null_ptr) $
             sets ! (of_opd ! (get ! refl)) refl (fits null_ptr) $ sets ! (bin ! (get ! refl) (lit ! tt) tt) refl (tt, tt) $ first ! $ branches ! (get ! refl) (λ _.
             sets ! (agg ! (and_then ! (lit ! tt) (no_more !))) refl (tt, (record { fits = lit< tt }, tt)) $
-            nothing ! $ fpack ! ((at d).0 ≡ null_ptr) (λ _. ftrue) is $ rewrite ! 0 (λ (F : Fml). ‵ F) heap refl $ pointing ! d null_ptr is $ fjoin ! $ move ! (1 ∷ []) $ closes ! tt A d (w ∷ []) rb ro $
+            nothing ! $ fpack ! ((at d).0 ≡ null_ptr) (λ _. ftrue) is $ rewrite ! 0 (λ (F : Fml). ‵ F) heap refl $ pointing ! d null_ptr is $ fjoin ! $ move ! (1 ∷ []) $ closes ! tt A d
+            (w ∷ []) rb ro $
             returns_within ! Q refl (look_at ! 0 refl) $ free_all ! refl $ keep ! (0 ∷ 2 ∷ []) $ by ! (leaves κ q rb ro γ d is_none)) (λ wrong. absurd wrong))
             (λ b o x is_some e test.
             let w : Val = word_of (block_ptr b o) in let ws : us ≡ w ∷ [] = subst (λ (ps : List Val). us ≡ vstruct (of_list (ps ++ [])) ∷ []) (ep ∙ ap (λ (p : Ptr). ptr_val p ∷ []) e) ev in
             let rest : SProp 𝓤 = sem 𝓛 (Rest κ q rb ro γ d b o) in let way = back κ q rb ro γ d b o e in let code = A.coded.code d in
             -- [the value; what is had beside it; the handle's cell; the open borrow, in three entries]
             fsplit ! $ rewrite ! 2 (λ (xs : List Val). ‵ (Cell xs)) ws refl $ sets ! (of_opd ! (load ! (through ! refl (fld ! refl (stop !))) (look_in ! 2 (sub ! 0 refl (whole !))))) refl (tt, tt) $
-            sets ! (of_opd ! (get ! refl)) refl (tt, tt) $ sets ! (bin ! (get ! refl) (lit ! tt) (tests_null (block_ptr b o) test)) refl (tt, tt) $ first ! $ branches ! (get ! refl) (λ wrong. absurd wrong) (λ _.
+            sets ! (of_opd ! (get ! refl)) refl (tt, tt) $ sets ! (bin ! (get ! refl) (lit ! tt) (tests_null (block_ptr b o) test)) refl (tt, tt) $ first ! $ branches ! (get ! refl)
+            (λ wrong. absurd wrong) (λ _.
             skips ! $ exec ! 𝓣.C 𝓣.Λ Ev (after 4 lends.body) (at_ret Ev Q) $
             first ! $ blocks ! $ sets ! (of_opd ! (get ! refl)) refl (tt, tt) $ sets ! (of_opd ! (get ! refl)) refl (tt, tt) $ sets_last ! (addr ! (through ! refl (stop !))) refl (tt, tt) $
             exec ! 𝓣.C 𝓣.Λ Ev (after 5 lends.body) (at_ret Ev Q) $ sets ! (of_opd ! (get ! refl)) refl (tt, tt) $
             sets ! (agg ! (and_then ! (lit ! tt) (and_then ! (get ! refl) (no_more !)))) refl (tt, (record { fits = lit< tt }, (tt, tt))) $
             move ! (1 ∷ 2 ∷ []) $ fjoin ! $ move ! (2 ∷ 3 ∷ 4 ∷ 1 ∷ 0 ∷ []) $ group ! 5 $
-            use1 𝓛 (later (some (λ (δ : GName). raw (Part 𝓛 A R (filled d) (named 0) κ q rb ro b o γ rest way x δ)))) (lends_Part 𝓛 A R (filled d) (named 0) κ q rb ro b o γ rest way code code x) $ await ! tt $ pick ! (λ δ.
+            use1 𝓛 (later (some (λ (δ : GName). raw (Part 𝓛 A R (filled d) (named 0) κ q rb ro b o γ rest way x δ))))
+            (lends_Part 𝓛 A R (filled d) (named 0) κ q rb ro b o γ rest way code code x) $ await ! tt $ pick ! (λ δ.
             returns ! (look_at ! 0 refl) $ free_all ! refl $ keep ! (0 ∷ []) $ by ! (exits κ q rb ro γ d b o x is_some δ))))))))))

@@ -1,7 +1,8 @@
 -- A struct of one pointer to a row, whose length stands beside it: whether it is null is told, and the row leaves as a `&mut [T]`, which the struct follows.
 use Rattle.std.proofs.Common.{◌≡◌, ℕ, ◌<◌, ◌^◌, List, [], ◌∷◌, ◌++◌, length, refl, sym, ap, ◌∙◌, subst, Bool, Option, Some, None, MutBor}
 use seplogic.Ra.Ura.{Ura}
-use mir.Syntax.{Fn, Callee, Ty, named, erased, mut, local, value_local, ty_ptr, ty_ref, ty_bool, ty_int, place, deref, field, assign, rv_opd, op2, ptr_eq, copy, int, w64, aggregate, block, seq, return}
+use mir.Syntax.{Fn, Callee, Ty, named, erased, mut, local, value_local, ty_ptr, ty_ref, ty_bool, ty_int, place, deref, field, assign, rv_opd, op2, ptr_eq, copy, int, w64, aggregate, block, seq}
+use mir.Syntax.{return}
 use mir.Val.{Val, vptr, vint, vbool, vstruct, vcons, vnil, of_list}
 use base.Fraction.{full_share}
 use base.Logic.{SProp, ent, sep, emp, never, fst∗}
@@ -9,7 +10,8 @@ use base.Fml.{Lft, GName, Share, Fml, ftrue, fsep, flft, fobs, fbor}
 use prog.Model.{Model}
 use prog.Wp.{Closed, WpFn}
 use types.Logic.{Logic, sem}
-use types.Kit.{Step, step, Item, Goal, Seq, ‵, raw, given, ◌⊛◌, some, later, at_ret, ◌$◌, ◌∵◌, !, qed, by, move, keep, drop, learn, use0, use1, split, join, pick, await, group, rewrite, fsplit, fsplit3, fjoin, fjoin3, fpick, fpack, feq_i, feq_l, suffices, frame, done}
+use types.Kit.{Step, step, Item, Goal, Seq, ‵, raw, given, ◌⊛◌, some, later, at_ret, ◌$◌, ◌∵◌, !, qed, by, move, keep, drop, learn, use0, use1, split, join, pick, await, group, rewrite, fsplit}
+use types.Kit.{fsplit3, fjoin, fjoin3, fpick, fpack, feq_i, feq_l, suffices, frame, done}
 use types.Run.{stop, fld, load, lit, of_opd, bin, no_more, and_then, first, blocks, exec, returns, enter}
 use types.ByLocal.{alloc_all, pass_all, free_all, look_at, get, through, sets, sets_last, env}
 use types.Part.{agg, sub, whole, look_in}
@@ -101,13 +103,15 @@ module _ (P : Owning) (at : Word P.D) where
       pub asked : (k : Callee) → Closed 𝓤 𝓛.H 𝓠.C 𝓠.Λ k asks → Meets 𝓛 Asked.signature (𝓠.C k) (closing 𝓛 Asked c)
       asked k closed = proved 𝓛 Asked stays c 𝓜 𝓡 (Goes-ref 𝓛 1 0 tt (plain (λ _. A)), tt) k asks closed (λ κs. (mut_vals, tt)) (λ κs. (mut_Tells (named 0) κs.0 A, tt)) (λ κs qs bounds a g are.
           let κ = κs.0 in let q = qs.0 in let r = a.0 in let d : P.D = r.now in let rb = r.ref_ptr.0 in let ro = r.ref_ptr.1 in let γ = r.ghost_name in let vs = mut_vals r in
-          let y : (walk_of 𝓛 Asked stays c).Ghost = ((κs, qs, bounds, a, (vs, tt)), g) in let Q : Val → SProp 𝓤 = (walk_of 𝓛 Asked stays c).post y in let Cell : List Val → Fml = λ us. cell_at full_share A.mir us rb ro in
+          let y : (walk_of 𝓛 Asked stays c).Ghost =
+          ((κs, qs, bounds, a, (vs, tt)), g) in let Q : Val → SProp 𝓤 = (walk_of 𝓛 Asked stays c).post y in let Cell : List Val → Fml = λ us. cell_at full_share A.mir us rb ro in
           let Had : SProp 𝓤 = sep 𝓤 (sem 𝓛 (fobs γ (A.coded.code d))) (sep 𝓤 (sem 𝓛 (fbor κ (Body (mem A) rb ro γ))) (sem 𝓛 (flft κ q))) in
           let ends : ent 𝓤 Had (Q (vbool (is_nothing (body d)))) =
           qed 𝓛 (‵ (fobs γ (A.coded.code d)) ∷ ‵ (fbor κ (Body (mem A) rb ro γ)) ∷ ‵ (flft κ q) ∷ []) ∵
           feq_i ! (List Val) (vbool (is_nothing (body d)) ∷ []) (vbool (is_nothing (body d)) ∷ []) refl $ move ! (1 ∷ 2 ∷ 3 ∷ 0 ∷ []) $
           feq_i ! (List Val) (vptr rb ro ∷ []) (vptr rb ro ∷ []) refl $ fjoin3 ! $ nothing ! $ move ! (1 ∷ 0 ∷ []) $ fjoin ! $ nothing ! $ move ! (2 ∷ 0 ∷ []) $ join ! $
-          use0 𝓛 (raw ((c κs a).ensures g (is_nothing (body d)) (at_exit Asked κs a (d, tt)))) (tells y) $ move ! (1 ∷ 2 ∷ 3 ∷ 0 ∷ []) $ by ! (leaves 𝓛 Asked stays c y (vbool (is_nothing (body d))) (is_nothing (body d)) (d, tt) (tt, tt)) in
+          use0 𝓛 (raw ((c κs a).ensures g (is_nothing (body d)) (at_exit Asked κs a (d, tt)))) (tells y) $ move ! (1 ∷ 2 ∷ 3 ∷ 0 ∷ []) $ by !
+          (leaves 𝓛 Asked stays c y (vbool (is_nothing (body d))) (is_nothing (body d)) (d, tt) (tt, tt)) in
           qed 𝓛 (((‵ (flft κ q) ⊛ ‵ ftrue) ⊛ ‵ ((MutRef (named 0) κ A).own_val r vs) ⊛ ‵ ftrue) ∷ raw ((c κs a).requires g) ∷ []) ∵
           split ! $ split ! $ move ! (2 ∷ []) $ split ! $ keep ! (0 ∷ 2 ∷ []) $
           enter ! 𝓠.C 𝓠.Λ asks vs Q $ alloc_all ! (λ l. pass_all ! refl ((tt, tt), tt) $
@@ -151,16 +155,29 @@ module _ (P : Owning) (at : Word P.D) where
     }
 
     abbrev pub En : Ended
-    En = record { signature = record { lifetimes = 1; outlives = []; params = RefMutOf (0 ∷ []) tt (plain (λ _. A)) (λ _. tt) ∷ plain (λ _. usize) ∷ []; result = SliceRefMutOf (0 ∷ []) tt (plain (λ _. R)) (λ _. one) }; kept = (no, (yes, tt)) }
+    En = record {
+      signature = record {
+        lifetimes = 1;
+        outlives = [];
+        params = RefMutOf (0 ∷ []) tt (plain (λ _. A)) (λ _. tt) ∷ plain (λ _. usize) ∷ [];
+        result = SliceRefMutOf (0 ∷ []) tt (plain (λ _. R)) (λ _. one);
+      };
+      kept = (no, (yes, tt));
+    }
 
     abbrev hs : Stays En.signature.params En.kept
     hs = (stay_dropped (mut_ref_to (0 ∷ []) tt (plain (λ _. A))) no, (stay_dropped (plain (λ _. usize)) yes, tt))
 
     module _ (body : P.D → Option (List R.Denot)) (filled : P.D → List R.Denot → P.D) where
       abbrev pub spec : {M : Type 1} {𝓤 : Ura M} (𝓛 : Logic 𝓤) → Clauses 𝓤 En
-      spec {𝓤 = 𝓤} 𝓛 κs a = record { ghost = Unit {0}; requires = λ _. fact 𝓤 (IsThere (body a.0.now) a.1.0); ensures = λ _ r _. sep 𝓤 (sem 𝓛 (follows A (Array R 0) a.0.ghost_name r.ghost_name (filled a.0.now))) (fact 𝓤 (body a.0.now ≡ Some r.now)) }
+      spec {𝓤 = 𝓤} 𝓛 κs a = record {
+        ghost = Unit {0};
+        requires = λ _. fact 𝓤 (IsThere (body a.0.now) a.1.0);
+        ensures = λ _ r _. sep 𝓤 (sem 𝓛 (follows A (Array R 0) a.0.ghost_name r.ghost_name (filled a.0.now))) (fact 𝓤 (body a.0.now ≡ Some r.now));
+      }
 
-      module _ (owned : (d : P.D) → P.heap d ≡ lends_row R full_share (at d).0 (body d)) (keeps : (d : P.D) (xs : List R.Denot) → at (filled d xs) ≡ at d) (fills : (d : P.D) (xs : List R.Denot) → P.heap (filled d xs) ≡ lends_row R full_share (at d).0 (Some xs)) {M : Type 1} {𝓤 : Ura M} (𝓛 : Logic 𝓤) where
+      module _ (owned : (d : P.D) → P.heap d ≡ lends_row R full_share (at d).0 (body d)) (keeps : (d : P.D) (xs : List R.Denot) → at (filled d xs) ≡ at d)
+          (fills : (d : P.D) (xs : List R.Denot) → P.heap (filled d xs) ≡ lends_row R full_share (at d).0 (Some xs)) {M : Type 1} {𝓤 : Ura M} (𝓛 : Logic 𝓤) where
         open 𝓛 use {H, A as 𝓐}
 
         module _ (κ : Lft) (q : Share) (rb ro : ℕ) (γ : GName) (d : P.D) (n : ℕ) where
@@ -183,12 +200,14 @@ module _ (P : Owning) (at : Word P.D) where
               let w : Val = word_of (block_ptr b o) in
               let heap : lends_row R full_share (block_ptr b o) (Some ws) ≡ P.heap (filled d ws) = ap (λ (p : Ptr). lends_row R full_share p (Some ws)) (sym e) ∙ sym (fills d ws) in
               qed 𝓛 (‵ (cells (mem R) ws b o) ∷ ‵ (Cell (w ∷ [])) ∷ []) ∵ use1 𝓛 (‵ (row_of R full_share ws b o)) (whole_out 𝓛 R ws b o) $
-              nothing ! $ fpack ! (Testable (block_ptr b o)) (λ _. ftrue) test $ nothing ! $ fpack ! (Room R (length ws)) (λ _. ftrue) (subst (Room R) (sym same) room) $ fjoin ! $ move ! (1 ∷ 0 ∷ []) $ fjoin ! $
+              nothing ! $ fpack ! (Testable (block_ptr b o)) (λ _. ftrue) test $ nothing ! $ fpack ! (Room R (length ws)) (λ _. ftrue) (subst (Room R) (sym same) room) $ fjoin ! $ move !
+              (1 ∷ 0 ∷ []) $ fjoin ! $
               rewrite ! 0 (λ (F : Fml). ‵ F) heap refl $ pointing ! (filled d ws) (block_ptr b o) ((λ i. (keeps d ws i).0) ∙ e) $ fjoin ! $ move ! (1 ∷ 0 ∷ []) $ fjoin ! $
               fpack ! (List Val) (λ us. fsep (Cell us) (A.own_val (filled d ws) us)) (w ∷ []) $ done !
 
           exits : (b o : ℕ) (xs : List R.Denot) → body d ≡ Some xs → (v : Val) (δ : GName)
-              → ent 𝓤 (sep 𝓤 (sem 𝓛 ((MutSlice (named 0) κ R).own_val (record { ref_ptr = (b, o); ghost_name = δ; now = xs }) (v ∷ []))) (sep 𝓤 (𝓐.lft κ q) (sem 𝓛 (follows A (Array R 0) γ δ (filled d))))) (Post v)
+              → ent 𝓤 (sep 𝓤 (sem 𝓛 ((MutSlice (named 0) κ R).own_val (record { ref_ptr = (b, o); ghost_name = δ; now = xs }) (v ∷ [])))
+              (sep 𝓤 (𝓐.lft κ q) (sem 𝓛 (follows A (Array R 0) γ δ (filled d))))) (Post v)
           exits b o xs is v δ =
               let r : MutBor (List R.Denot) = record { ref_ptr = (b, o); ghost_name = δ; now = xs } in
               qed 𝓛 (‵ ((MutSlice (named 0) κ R).own_val r (v ∷ [])) ∷ ‵ (flft κ q) ∷ ‵ (follows A (Array R 0) γ δ (filled d)) ∷ []) ∵
@@ -200,7 +219,8 @@ module _ (P : Owning) (at : Word P.D) where
           𝓣 = tables 𝓤 H 𝓜 𝓡 𝓡.env
 
           walk : (κ : Lft) (q : Share) (rb ro : ℕ) (γ : GName) (d : P.D) (n : ℕ) → IsThere (body d) n → n < 2 ^ 64
-              → ent 𝓤 (sep 𝓤 (sem 𝓛 ((MutRef (named 0) κ A).own_val (self κ q rb ro γ d n) (vptr rb ro ∷ []))) (𝓐.lft κ q)) (WpFn 𝓤 H 𝓣.C 𝓣.Λ lends (vptr rb ro ∷ vint w64 n ∷ []) (Post κ q rb ro γ d n))
+              → ent 𝓤 (sep 𝓤 (sem 𝓛 ((MutRef (named 0) κ A).own_val (self κ q rb ro γ d n) (vptr rb ro ∷ []))) (𝓐.lft κ q))
+              (WpFn 𝓤 H 𝓣.C 𝓣.Λ lends (vptr rb ro ∷ vint w64 n ∷ []) (Post κ q rb ro γ d n))
           walk κ q rb ro γ d n long low =
               let vs = vptr rb ro ∷ vint w64 n ∷ [] in let Q : Val → SProp 𝓤 = Post κ q rb ro γ d n in let C : List Val → Fml = λ us. cell_at full_share A.mir us rb ro in
               qed 𝓛 (‵ ((MutRef (named 0) κ A).own_val (self κ q rb ro γ d n) (vptr rb ro ∷ [])) ∷ ‵ (flft κ q) ∷ []) ∵
@@ -218,9 +238,11 @@ module _ (P : Owning) (at : Word P.D) where
               sets_last ! (agg ! (and_then ! (get ! refl) (and_then ! (get ! refl) (no_more !)))) refl (tt, (tt, (record { fits = low }, tt))) $
               exec ! 𝓣.C 𝓣.Λ Ev (after 2 lends.body) (at_ret Ev Q) $ sets ! (of_opd ! (get ! refl)) refl (tt, (tt, (record { fits = low }, tt))) $
               use1 𝓛 (‵ (cells (mem R) xs b o)) (whole_in 𝓛 R xs b o) $ move ! (2 ∷ 3 ∷ 4 ∷ 0 ∷ 1 ∷ []) $ group ! 5 $
-              use1 𝓛 (later (some (λ (δ : GName). raw (Elements 𝓛 A R (filled d) (named 0) κ q rb ro b o γ xs room rest way δ)))) (lends_Elements 𝓛 A R (filled d) (named 0) κ q rb ro b o γ xs room rest way code code) $ await ! tt $ pick ! (λ δ.
+              use1 𝓛 (later (some (λ (δ : GName). raw (Elements 𝓛 A R (filled d) (named 0) κ q rb ro b o γ xs room rest way δ))))
+              (lends_Elements 𝓛 A R (filled d) (named 0) κ q rb ro b o γ xs room rest way code code) $ await ! tt $ pick ! (λ δ.
               returns ! (look_at ! 0 refl) $ free_all ! refl $ keep ! (0 ∷ []) $
-              by ! (subst (λ (k : ℕ). ent 𝓤 (Elements 𝓛 A R (filled d) (named 0) κ q rb ro b o γ xs room rest way δ) (Q (slice_val (b, o) k))) count (exits κ q rb ro γ d n b o xs is_some (slice_val (b, o) (length xs)) δ)))))))))
+              by ! (subst (λ (k : ℕ). ent 𝓤 (Elements 𝓛 A R (filled d) (named 0) κ q rb ro b o γ xs room rest way δ) (Q (slice_val (b, o) k))) count
+              (exits κ q rb ro γ d n b o xs is_some (slice_val (b, o) (length xs)) δ)))))))))
 
           pub lent : (k : Callee) → Closed 𝓤 H 𝓣.C 𝓣.Λ k lends → Meets 𝓛 En.signature (𝓣.C k) (closing 𝓛 En (spec 𝓛))
           lent k closed = proved 𝓛 En hs (spec 𝓛) 𝓜 𝓡 (Goes-spent_ref 𝓛 1 (0 ∷ []) tt (plain (λ _. A)), (Goes-dropped 𝓛 1 (plain (λ _. usize)) yes (λ κs x f. refl), tt)) k lends closed

@@ -55,14 +55,18 @@ module _ (P : Owning) (at : Word P.D) where
     ty_params = [];
     givens = 0;
     params = 2;
-    locals = local (ty_int w8) value_local ∷ local (ty_ref (named 0) mut (by_name (layout A))) value_local ∷ local (ty_int w64) value_local ∷ local ty_ptr value_local ∷ local (ty_int w8) value_local ∷ local ty_ptr value_local ∷ [];
+    locals = local (ty_int w8) value_local ∷ local (ty_ref (named 0) mut (by_name (layout A))) value_local ∷ local (ty_int w64) value_local ∷ local ty_ptr value_local ∷ local (ty_int w8) value_local
+        ∷ local ty_ptr value_local ∷ [];
     body = seq (assign (place 3 []) (rv_opd (copy (place 1 (deref (layout A) ∷ field 0 ∷ [])))))
         (seq (block (seq (assign (place 5 []) (op2 offset (copy (place 3 [])) (copy (place 2 [])))) (assign (place 4 []) (rv_opd (copy (place 5 (deref (ty_int w8) ∷ [])))))))
         (seq (assign (place 0 []) (rv_opd (copy (place 4 [])))) return));
   }
 
   abbrev pub Read : Ended
-  Read = record { signature = record { lifetimes = 1; outlives = []; params = RefMutOf (0 ∷ []) tt (plain (λ _. A)) (λ _. tt) ∷ plain (λ _. usize) ∷ []; result = plain (λ κs. u8) }; kept = (yes, (yes, tt)) }
+  Read = record {
+    signature = record { lifetimes = 1; outlives = []; params = RefMutOf (0 ∷ []) tt (plain (λ _. A)) (λ _. tt) ∷ plain (λ _. usize) ∷ []; result = plain (λ κs. u8) };
+    kept = (yes, (yes, tt));
+  }
 
   abbrev stays : Stays Read.signature.params Read.kept
   stays = (stay_ref (0 ∷ []) tt (plain (λ _. A)), (stay_dropped (plain (λ _. usize)) yes, tt))
@@ -79,7 +83,8 @@ module _ (P : Owning) (at : Word P.D) where
       read k closed = proved 𝓛 Read stays c 𝓜 𝓡 (Goes-ref 𝓛 1 0 tt (plain (λ _. A)), (Goes-dropped 𝓛 1 (plain (λ _. usize)) yes (λ κs x f. refl), tt)) k reads closed
           (λ κs. (mut_vals, (uint_vals w64, tt))) (λ κs. (mut_Tells (named 0) κs.0 A, (uint_Tells w64, tt))) (λ κs qs bounds a g are.
           let κ = κs.0 in let q = qs.0 in let r = a.0 in let i : ℕ = a.1.0 in let d : P.D = r.now in let rb = r.ref_ptr.0 in let ro = r.ref_ptr.1 in let γ = r.ghost_name in let vs = mut_vals r in
-          let y : (walk_of 𝓛 Read stays c).Ghost = ((κs, qs, bounds, a, (vs, (vint w64 i ∷ [], tt))), g) in let Q : Val → SProp 𝓤 = (walk_of 𝓛 Read stays c).post y in let Cell : List Val → Fml = λ us. cell_at full_share A.mir us rb ro in
+          let y : (walk_of 𝓛 Read stays c).Ghost =
+          ((κs, qs, bounds, a, (vs, (vint w64 i ∷ [], tt))), g) in let Q : Val → SProp 𝓤 = (walk_of 𝓛 Read stays c).post y in let Cell : List Val → Fml = λ us. cell_at full_share A.mir us rb ro in
           let n : ℕ = number_at (bytes d) i in let low : i < 2 ^ 64 = are.1.0.1 in
           let Had : SProp 𝓤 = sep 𝓤 (sem 𝓛 (fobs γ (A.coded.code d))) (sep 𝓤 (sem 𝓛 (fbor κ (Body (mem A) rb ro γ))) (sem 𝓛 (flft κ q))) in
           let ends : n < 2 ^ 8 → ent 𝓤 Had (Q (vint w8 n)) = λ few.
@@ -109,4 +114,5 @@ module _ (P : Owning) (at : Word P.D) where
           nothing ! $ fpack ! (Testable (block_ptr b o)) (λ _. ftrue) test $ nothing ! $ fpack ! (Room u8 (length xs)) (λ _. ftrue) room $ fjoin ! $ move ! (1 ∷ 0 ∷ []) $ fjoin ! $
           rewrite ! 0 (λ (F : Fml). ‵ F) heap refl $ pointing P at ! d (block_ptr b o) e $ fjoin ! $ move ! (1 ∷ []) $ closes ! tt A d (w ∷ []) rb ro $
           returns ! (look_at ! 0 refl) $ free_all ! refl $ keep ! (0 ∷ 1 ∷ 2 ∷ []) $
-          by ! (subst (λ (held : Option (List ℕ)). ent 𝓤 Had (Q (vint w8 (number_at held i)))) is_some (ends (subst (λ (held : Option (List ℕ)). number_at held i < 2 ^ 8) (sym is_some) has.1))))))))))))
+          by ! (subst (λ (held : Option (List ℕ)). ent 𝓤 Had (Q (vint w8 (number_at held i)))) is_some
+          (ends (subst (λ (held : Option (List ℕ)). number_at held i < 2 ^ 8) (sym is_some) has.1))))))))))))

@@ -33,7 +33,8 @@ room_keyless τ null_ptr = tt
 
 pub vacant_send : (R : RattleType) → IsSend (Vacant.the_row R heap.the_row ghosts)
 vacant_send R = let O = Vacant.the_type R heap.the_row ghosts in let all : AllSend (fields O) = (search sendable, (search sendable, tt)) in
-    owning_send O all (λ d. (room_keyless (raw (lone R.mir)) d.ptr, the_frees.frees d.alloc (raw (lone R.mir)) d.ptr)) (λ k. quiet (to O) (exits_of k (fields O)) ((struct_send (shape O) all).leaving k))
+    owning_send O all (λ d. (room_keyless (raw (lone R.mir)) d.ptr, the_frees.frees d.alloc (raw (lone R.mir)) d.ptr))
+    (λ k. quiet (to O) (exits_of k (fields O)) ((struct_send (shape O) all).leaving k))
 
 -- and so may what keeps one
 pub spare_send : (R : RattleType) → IsSend (Spare.the_row R)

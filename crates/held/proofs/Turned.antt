@@ -39,7 +39,8 @@ turns from into = record {
   givens = 0;
   params = 1;
   locals = local (ty_struct into (tcons ty_ptr tnil)) value_local ∷ local (ty_struct from (tcons ty_ptr tnil)) value_local ∷ local ty_ptr value_local ∷ local ty_ptr value_local ∷ [];
-  body = seq (assign (place 2 []) (rv_opd (copy (place 1 (field 0 ∷ []))))) (seq (assign (place 3 []) (rv_opd (copy (place 2 [])))) (seq (assign (place 0 []) (aggregate (copy (place 3 []) ∷ []))) return));
+  body = seq (assign (place 2 []) (rv_opd (copy (place 1 (field 0 ∷ [])))))
+      (seq (assign (place 3 []) (rv_opd (copy (place 2 [])))) (seq (assign (place 0 []) (aggregate (copy (place 3 []) ∷ []))) return));
 }
 
 -- a struct whose one field is a pointer
@@ -92,14 +93,17 @@ module _ (P Q : Owning) (at : Word P.D) (bt : Word Q.D) where
         → ((y : (walk_of 𝓛 En hs c).Ghost) → ent 𝓤 (emp 𝓤) ((c y.0.0 y.0.3).ensures y.1 (f y.0.3.0) (at_exit En y.0.0 y.0.3 (tt, tt))))
         → (k : Callee) → Closed 𝓤 𝓛.H 𝓣.C 𝓣.Λ k (turns P.name Q.name) → Meets 𝓛 En.signature (𝓣.C k) (closing 𝓛 En c)
     turned f ats heaps c says k closed = proved_at 𝓛 En hs c 𝓜 𝓡 (Goes-blank 𝓛 0 (plain (λ _. A)) yes (λ κs x w. tt), tt) k (turns P.name Q.name) closed (λ z are.
-        let d : P.D = z.0.3.0 in let p : Ptr = (at d).0 in let fn = turns P.name Q.name in let Post : Val → SProp 𝓤 = (walk_of 𝓛 En hs c).post z in let Run : List Val → SProp 𝓤 = λ us. WpFn 𝓤 𝓛.H 𝓣.C 𝓣.Λ fn us Post in
+        let d : P.D = z.0.3.0 in
+        let p : Ptr = (at d).0 in let fn = turns P.name Q.name in let Post : Val → SProp 𝓤 = (walk_of 𝓛 En hs c).post z in let Run : List Val → SProp 𝓤 = λ us. WpFn 𝓤 𝓛.H 𝓣.C 𝓣.Λ fn us Post in
         let w : Val = vstruct (vcons (ptr_val p) vnil) in
-        qed 𝓛 ((‵ ftrue ⊛ ‵ (owns (types_at En.signature.params tt) z.0.3 z.0.4)) ∷ raw ((c tt z.0.3).requires z.1) ∷ []) ∵ split ! $ drop ! $ fsplit ! $ fsplit ! $ fpick ! (λ vss. fsplit ! $ feq_l ! (λ ev. fsplit ! $ feq_l ! (λ ep. drop ! $
+        qed 𝓛 ((‵ ftrue ⊛ ‵ (owns (types_at En.signature.params tt) z.0.3 z.0.4)) ∷ raw ((c tt z.0.3).requires z.1) ∷ []) ∵ split ! $ drop ! $ fsplit ! $ fsplit ! $ fpick !
+        (λ vss. fsplit ! $ feq_l ! (λ ev. fsplit ! $ feq_l ! (λ ep. drop ! $
         -- [what it owns]
         keep ! (0 ∷ []) $ let ws : z.0.4.0 ≡ w ∷ [] = subst (λ (ps : List Val). z.0.4.0 ≡ vstruct (of_list (ps ++ [])) ∷ []) ep ev in
         suffices ! (Run (w ∷ [])) (subst (λ (us : List Val). ent 𝓤 (Run (w ∷ [])) (Run us)) (sym (λ i. ws i ++ [])) (id⊢ 𝓤 (Run (w ∷ [])))) $
         enter ! 𝓣.C 𝓣.Λ fn (w ∷ []) Post $ alloc_all ! (λ l. pass_all ! refl (fits_in p P.name, tt) $
-        sets ! (of_opd ! (get_in ! (fld ! refl (stop !)) (sub ! 0 refl (whole !)))) refl (fits p) $ sets ! (of_opd ! (get ! refl)) refl (fits p) $ sets ! (agg ! (and_then ! (get ! refl) (no_more !))) refl (fits_in p Q.name) $
+        sets ! (of_opd ! (get_in ! (fld ! refl (stop !)) (sub ! 0 refl (whole !)))) refl (fits p) $ sets ! (of_opd ! (get ! refl)) refl (fits p) $ sets !
+        (agg ! (and_then ! (get ! refl) (no_more !))) refl (fits_in p Q.name) $
         nothing ! $ feq_i ! (List Val) (ptr_val p ∷ []) (ptr_val p ∷ []) refl $ fjoin ! $ feq_i ! (List Val) (w ∷ []) (w ∷ []) refl $ fjoin ! $
         fpack ! (Valss (RawPtr ∷ [])) (within (shape (word P at)) (p, tt) (w ∷ [])) (ptr_val p ∷ [], tt) $ fjoin ! $
         let same : A.own_val d (w ∷ []) ≡ B.own_val (f d) (w ∷ []) = λ i. fsep ((Struct (shape (word Q bt))).own_val (intos (RawPtr-field ∷ []) (ats d i)) (w ∷ [])) (heaps d i) in

@@ -35,7 +35,8 @@ pub record MayAcquire (x : CpuView) (k : Found) : Type 0 where
   pub kept : IsFoundAs x k
 
 -- by the answer that was given of the CPU, which is y to a contract
-pub may_acquire : (x y : CpuView) (k : Found) (why : Option Refusal) → IsShownCpu x → IsKept k x.found → x ≡ y → why ≡ why_not_acquired_local y y.found → ((f : Refusal) → why ≡ Some f → ⊥) → MayAcquire x k
+pub may_acquire : (x y : CpuView) (k : Found) (why : Option Refusal) → IsShownCpu x → IsKept k x.found → x ≡ y → why ≡ why_not_acquired_local y y.found → ((f : Refusal) → why ≡ Some f → ⊥)
+    → MayAcquire x k
 may_acquire x y k (Some f) shown kept view told off = absurd (off f refl)
 may_acquire x y k None shown kept view told off =
     let none = ap (λ (v : CpuView). why_not_acquired_local v v.found) view ∙ sym told in
@@ -57,7 +58,8 @@ net_of_found : (z : TableId) (a : Settings) (t : TableId) (x : CpuView) (c w d :
 net_of_found z a t x c w d k ps ns n kept our count =
     let e = kept.entry in
     let s = our.is_shown in
-    let place : IsPlaceCount x e.slot e.number n = subst (λ (p : ℕ × ℕ). IsPlaceCount x p.0 p.1 n) (λ i. (kept.slot i, kept.number i)) (place_count x ns k.slot k.number n our.net (begun_of x k kept) count) in
+    let place : IsPlaceCount x e.slot e.number n =
+    subst (λ (p : ℕ × ℕ). IsPlaceCount x p.0 p.1 n) (λ i. (kept.slot i, kept.number i)) (place_count x ns k.slot k.number n our.net (begun_of x k kept) count) in
     place_is s.g x e.slot e n s.shown (found_is_in x e s kept.found).1 place
 
 -- so the acquire is refused as that count is
@@ -97,7 +99,8 @@ acquired_of x y w v e found empty counted cut =
     let hand : TakingEntry cut.0 ≡ TakingEntry counted.0 = sym cut.1 ∙ ap (λ (k : CpuView). k.hand) counted.4 in
     let one : cut.0 ≡ e = same_taking cut.0 counted.0 hand ∙ same_some counted.0 e (sym counted.1 ∙ found) in record {
       is = cut.3 ∙ (λ k. record { entry = one k; collected = None });
-      view = cut.2 ∙ ap (λ (k : CpuView). record k { hand = NoEntry }) counted.4 ∙ (λ k. record x { hand = sym empty k; acquired = one_more x.acquired e.number; met = with_number x.met e.slot e.number });
+      view = cut.2 ∙ ap (λ (k : CpuView). record k { hand = NoEntry }) counted.4
+          ∙ (λ k. record x { hand = sym empty k; acquired = one_more x.acquired e.number; met = with_number x.met e.slot e.number });
     }
   where
     same_taking : (f g : Entry) → TakingEntry f ≡ TakingEntry g → f ≡ g
@@ -119,7 +122,8 @@ acquired_reference z a t x c w d k ps ns y l v our kept counted cut =
     subst (λ (r : ReferenceView). IsOurReference r k.number k.slot k.kind) (sym left.is) there
 
 pub acquired_agrees : (z : TableId) (a : Settings) (t u : TableId) (x : CpuView) (c w d : ℕ) (k : Found) (ps ns : List NumberedCount) (y l : CpuView) (v : ReferenceView) (n : ℕ)
-    → IsOurCpu z a t x c w d k ps ns → IsShownCpu l → IsFoundAs x k → u ≡ t → HasCounted x k.slot k.number y → HasSplit y l v → IsNetCount x k.number n → n < bias + x.settings.count_limit → IsMetAlone x k.slot k.number
+    → IsOurCpu z a t x c w d k ps ns → IsShownCpu l → IsFoundAs x k → u ≡ t → HasCounted x k.slot k.number y → HasSplit y l v → IsNetCount x k.number n → n < bias + x.settings.count_limit
+    → IsMetAlone x k.slot k.number
     → IsOurCpu z a u l c w d k ps (set ns k.slot (record { number = k.number; count = n + 1 }))
 acquired_agrees z a t u x c w d k ps ns y l v n our is_shown kept same counted cut net room alone =
     let left = acquired_of x y l v kept.entry kept.found our.idle.hand (counted_it x y k kept counted) cut in
@@ -129,4 +133,5 @@ acquired_agrees z a t u x c w d k ps ns y l v n our is_shown kept same counted c
     let count : n + 1 + number_at x.released k.number ≡ bias + number_at (one_more x.acquired k.number) k.number = omega (arith, net, one) in
     let limit : x.settings.count_limit ≤ greatest_limit = subst (λ (b : Settings). b.count_limit ≤ greatest_limit) (sym our.settings) (ranges a our.fit).counts in
     subst (λ (q : CpuView). IsOurCpu z a u q c w d k ps (set ns k.slot (record { number = k.number; count = n + 1 }))) (sym view)
-    (counted_agrees z a t u x c w d k ps ns (one_more x.acquired k.number) x.released k.slot k.number (n + 1) our (subst IsShownCpu view is_shown) same kept.few alone count (omega (arith, room, limit)) (λ m off. (one_more_other x.acquired k.number m off, refl)))
+    (counted_agrees z a t u x c w d k ps ns (one_more x.acquired k.number) x.released k.slot k.number (n + 1) our (subst IsShownCpu view is_shown) same kept.few alone count
+    (omega (arith, room, limit)) (λ m off. (one_more_other x.acquired k.number m off, refl)))

@@ -28,7 +28,8 @@ place_other x l t n agree off = record { met = λ same. absurd (off (agree.met t
 -- so it is by `net_by`
 pub place_count : (x : CpuView) (l : List NumberedCount) (t n w : ℕ) → NetAgree x l → 0 < n → w ≡ net_by (place_at l t) n → IsPlaceCount x t n w
 place_count x l t n w agree begun is = dite (ℕ_discrete (place_at l t).number n)
-    (λ (same : (place_at l t).number ≡ n). subst (IsPlaceCount x t n) (sym (is ∙ ap (λ b. cond b (place_at l t).count bias) (eq-eqb (place_at l t).number n same))) (place_here x l t n agree begun same))
+    (λ (same : (place_at l t).number ≡ n). subst (IsPlaceCount x t n) (sym (is ∙ ap (λ b. cond b (place_at l t).count bias) (eq-eqb (place_at l t).number n same)))
+    (place_here x l t n agree begun same))
     (λ (off : (place_at l t).number ≢ n). subst (IsPlaceCount x t n) (sym (is ∙ ap (λ b. cond b (place_at l t).count bias) (ne_eqb (place_at l t).number n off))) (place_other x l t n agree off))
 
 -- and within the greatest limit
@@ -41,7 +42,8 @@ net_most x l t n w agree is = subst (λ k. k ≤ bias + greatest_limit) (sym is)
 
 -- The place of a slot is set to a number that was met in no other slot, and its net count
 
-pub net_set : (x y : CpuView) (l : List NumberedCount) (t n v : ℕ) → NetAgree x l → t < MOST_SLOTS → IsMetAlone x t n → y.met ≡ with_number x.met t n → v + number_at y.released n ≡ bias + number_at y.acquired n → v ≤ bias + greatest_limit
+pub net_set : (x y : CpuView) (l : List NumberedCount) (t n v : ℕ) → NetAgree x l → t < MOST_SLOTS → IsMetAlone x t n → y.met ≡ with_number x.met t n
+    → v + number_at y.released n ≡ bias + number_at y.acquired n → v ≤ bias + greatest_limit
     → ((m : ℕ) → m ≢ n → (number_at y.acquired m ≡ number_at x.acquired m) × (number_at y.released m ≡ number_at x.released m)) → NetAgree y (set l t (record { number = n; count = v }))
 net_set x y l t n v agree lt alone met count most same = record { size = length-set l t place ∙ agree.size; met = λ u. found u; counts = λ u some. counted u some; most = λ u. below u }
   where
@@ -59,7 +61,8 @@ net_set x y l t n v agree lt alone met count most same = record { size = length-
 
     found : (u : ℕ) → (place_at (set l t place) u).number ≡ number_at y.met u
     found u = dite (ℕ_discrete u t)
-        (λ (on : u ≡ t). ap (λ k. (place_at (set l t place) k).number) on ∙ ap (λ (p : NumberedCount). p.number) here ∙ sym (ap (λ k. number_at y.met k) on ∙ ap (λ m. number_at m t) met ∙ with_number_same x.met t n))
+        (λ (on : u ≡ t). ap (λ k. (place_at (set l t place) k).number) on ∙ ap (λ (p : NumberedCount). p.number) here
+        ∙ sym (ap (λ k. number_at y.met k) on ∙ ap (λ m. number_at m t) met ∙ with_number_same x.met t n))
         (λ (off : u ≢ t). ap (λ (p : NumberedCount). p.number) (other u off) ∙ agree.met u ∙ sym (ap (λ m. number_at m u) met ∙ with_number_other x.met t n u off))
 
     Counts : NumberedCount → Type 0
@@ -86,7 +89,8 @@ net_set x y l t n v agree lt alone met count most same = record { size = length-
 -- The data agree with the view after a count, up or down
 
 pub counted_agrees : (z : TableId) (a : Settings) (t u : TableId) (x : CpuView) (c w d : ℕ) (o : Found) (ps ns : List NumberedCount) (acquired released : List ℕ) (s n v : ℕ)
-    → IsOurCpu z a t x c w d o ps ns → IsShownCpu (record x { acquired = acquired; released = released; met = with_number x.met s n }) → u ≡ t → s < MOST_SLOTS → IsMetAlone x s n → v + number_at released n ≡ bias + number_at acquired n → v ≤ bias + greatest_limit
+    → IsOurCpu z a t x c w d o ps ns → IsShownCpu (record x { acquired = acquired; released = released; met = with_number x.met s n }) → u ≡ t → s < MOST_SLOTS → IsMetAlone x s n
+    → v + number_at released n ≡ bias + number_at acquired n → v ≤ bias + greatest_limit
     → ((m : ℕ) → m ≢ n → (number_at acquired m ≡ number_at x.acquired m) × (number_at released m ≡ number_at x.released m))
     → IsOurCpu z a u (record x { acquired = acquired; released = released; met = with_number x.met s n }) c w d o ps (set ns s (record { number = n; count = v }))
 counted_agrees z a t u x c w d o ps ns acquired released s n v our is_shown same lt alone count most others = record {
@@ -99,15 +103,22 @@ counted_agrees z a t u x c w d o ps ns acquired released s n v our is_shown same
   idle = record { search = our.idle.search; hand = our.idle.hand };
   depth = our.depth;
   found = our.found;
-  passive = record { size = our.passive.size; counts = our.passive.counts; placed = λ k some. let old = our.passive.placed k some in record { entry = old.entry; attached = old.attached; slot = old.slot; number = old.number }; each = our.passive.each };
+  passive = record {
+    size = our.passive.size;
+    counts = our.passive.counts;
+    placed = λ k some. let old = our.passive.placed k some in record { entry = old.entry; attached = old.attached; slot = old.slot; number = old.number };
+    each = our.passive.each;
+  };
   net = net_set x (record x { acquired = acquired; released = released; met = with_number x.met s n }) ns s n v our.net lt alone refl count most others;
   is_shown = is_shown;
 }
 
 -- the seat's table and view are as they were
-pub same_agrees : (z : TableId) (a : Settings) (t u : TableId) (x y : CpuView) (c w d : ℕ) (o : Found) (ps ns : List NumberedCount) → IsOurCpu z a t x c w d o ps ns → u ≡ t → y ≡ x → IsOurCpu z a u y c w d o ps ns
+pub same_agrees : (z : TableId) (a : Settings) (t u : TableId) (x y : CpuView) (c w d : ℕ) (o : Found) (ps ns : List NumberedCount) → IsOurCpu z a t x c w d o ps ns → u ≡ t → y ≡ x
+    → IsOurCpu z a u y c w d o ps ns
 same_agrees z a t u x y c w d o ps ns our same view = subst (λ (p : TableId × CpuView). IsOurCpu z a p.0 p.1 c w d o ps ns) (λ k. (sym same k, sym view k)) our
 
 -- a place that is told by an equation is this one
-pub stored_agrees : (z : TableId) (a : Settings) (t : TableId) (x : CpuView) (c w d : ℕ) (o : Found) (ps ns : List NumberedCount) (s : ℕ) (p q : NumberedCount) → q ≡ p → IsOurCpu z a t x c w d o ps (set ns s p) → IsOurCpu z a t x c w d o ps (set ns s q)
+pub stored_agrees : (z : TableId) (a : Settings) (t : TableId) (x : CpuView) (c w d : ℕ) (o : Found) (ps ns : List NumberedCount) (s : ℕ) (p q : NumberedCount) → q ≡ p
+    → IsOurCpu z a t x c w d o ps (set ns s p) → IsOurCpu z a t x c w d o ps (set ns s q)
 stored_agrees z a t x c w d o ps ns s p q is = subst (λ (r : NumberedCount). IsOurCpu z a t x c w d o ps (set ns s r)) (sym is)

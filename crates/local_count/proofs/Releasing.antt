@@ -13,12 +13,14 @@ use Rattle.local_count.specs.References.{IsOurReference, net_by}
 use Rattle.local_count.proofs.Agreeing.{net_most, counted_agrees}
 
 -- what the count leaves
-pub released_of : (x y w : CpuView) (e : Entry) (s n : ℕ) → x.hand ≡ NoEntry → y ≡ with_hand x (GivingEntry e) → HasCountedDown y s n w → w ≡ record x { released = one_more x.released n; met = with_number x.met s n }
+pub released_of : (x y w : CpuView) (e : Entry) (s n : ℕ) → x.hand ≡ NoEntry → y ≡ with_hand x (GivingEntry e) → HasCountedDown y s n w
+    → w ≡ record x { released = one_more x.released n; met = with_number x.met s n }
 released_of x y w e s n empty joined counted = counted.4 ∙ ap (λ (k : CpuView). record k { hand = NoEntry; released = one_more k.released n; met = with_number k.met s n }) joined
     ∙ (λ k. record x { hand = sym empty k; released = one_more x.released n; met = with_number x.met s n })
 
 pub released_agrees : (z : TableId) (a : Settings) (t u : TableId) (x : CpuView) (c w d : ℕ) (o : Found) (ps ns : List NumberedCount) (v : ReferenceView) (n s count : ℕ) (kind : Kind) (y k : CpuView)
-    → IsOurCpu z a t x c w d o ps ns → IsShownCpu k → IsOurReference v n s kind → u ≡ t → y ≡ with_hand x (GivingEntry v.entry) → HasCountedDown y s n k → 0 < count → count ≡ net_by (place_at ns s) n → IsNetCount y n count → IsMetAlone y s n
+    → IsOurCpu z a t x c w d o ps ns → IsShownCpu k → IsOurReference v n s kind → u ≡ t → y ≡ with_hand x (GivingEntry v.entry) → HasCountedDown y s n k → 0 < count → count ≡ net_by (place_at ns s) n
+    → IsNetCount y n count → IsMetAlone y s n
     → IsOurCpu z a u k c w d o ps (set ns s (record { number = n; count = count - 1 }))
 released_agrees z a t u x c w d o ps ns v n s count kind y k our is_shown its same joined counted floor is net alone =
     let was : count + number_at x.released n ≡ bias + number_at x.acquired n = subst (λ (q : CpuView). IsNetCount q n count) joined net in
@@ -28,7 +30,8 @@ released_agrees z a t u x c w d o ps ns v n s count kind y k our is_shown its sa
     let most = net_most x ns s n count our.net is in
     let view = released_of x y k v.entry s n our.idle.hand joined counted in
     subst (λ (q : CpuView). IsOurCpu z a u q c w d o ps (set ns s (record { number = n; count = count - 1 }))) (sym view)
-    (counted_agrees z a t u x c w d o ps ns x.acquired (one_more x.released n) s n (count - 1) our (subst IsShownCpu view is_shown) same its.few here after (omega (arith, most)) (λ m off. (refl, one_more_other x.released n m off)))
+    (counted_agrees z a t u x c w d o ps ns x.acquired (one_more x.released n) s n (count - 1) our (subst IsShownCpu view is_shown) same its.few here after (omega (arith, most))
+    (λ m off. (refl, one_more_other x.released n m off)))
 
 -- What a collected word leaves: the CPU as it was, and the reference again
 

@@ -74,7 +74,8 @@ inside_is false (Some n) test = test.1 (λ none. none-some n (sym none))
 -- What it leaves
 
 -- The keeper m heard the CPU x, an entry was published, and the CPU heard the history that the keeper b has then.
-pub attach_met : (a : OnKeeper) (x : OnCpu) (m : OnKeeper) (n : OnCpu) (e : Entry) (b : OnKeeper) (y : OnCpu) → m ≡ keeper_after_hear a x → n ≡ cpu_after_tell x → IsPrefix x.view.pass m.view.history → e.number ≡ suc (length m.view.history)
+pub attach_met : (a : OnKeeper) (x : OnCpu) (m : OnKeeper) (n : OnCpu) (e : Entry) (b : OnKeeper) (y : OnCpu) → m ≡ keeper_after_hear a x → n ≡ cpu_after_tell x → IsPrefix x.view.pass m.view.history
+    → e.number ≡ suc (length m.view.history)
     → b.view.history ≡ after_change m.view.history (Attach e) → HasHeardOn b.view.history n y → y.log ≡ n.log ++ has_heard n None
     → IsPrefix x.view.pass a.view.history × HasHeardOn b.view.history x y × HasSeenAttach x y e
 attach_met a x m n e b y heard same seen number after hears log = (
@@ -98,7 +99,11 @@ keeping_more t n d log later pre is = record {
 }
 
 pub keeping_told : (a : OnKeeper) (v : ReferenceView) (e : Entry) (b : OnKeeper) → HasAttachedKeeping a v e b → HasAttachedKeeping a v e (keeper_after_tell b)
-keeping_told a v e b has = record { kept = has.kept; attached = attached_told _ e b has.attached; keeping = keeping_more e.slot e.number v.entry.number b.log (b.log ++ did (Tell None) Done) (did (Tell None) Done, refl) has.keeping }
+keeping_told a v e b has = record {
+  kept = has.kept;
+  attached = attached_told _ e b has.attached;
+  keeping = keeping_more e.slot e.number v.entry.number b.log (b.log ++ did (Tell None) Done) (did (Tell None) Done, refl) has.keeping;
+}
 
 -- what the keeper did before it told its log is in what the CPU knows
 pub log_told : (b told : OnKeeper) (y : OnCpu) → told ≡ keeper_after_tell b → IsPrefix told.log y.known_log → IsPrefix b.log y.known_log

@@ -1,5 +1,6 @@
 -- What the code of an audit makes, whatever state the views are of.
-use Rattle.std.proofs.Common.{◌≡◌, ◌≢◌, inl, inr, ⊎_elim, ℕ, zero, suc, ◌+◌, ◌*◌, ◌<◌, ◌≤◌, ℤ, pos, ◌+ℤ◌, List, [], ◌∷◌, ◌++◌, length, get_or, map, take, cond, false, refl, sym, ap, ◌∙◌, subst, arith, add-one}
+use Rattle.std.proofs.Common.{◌≡◌, ◌≢◌, inl, inr, ⊎_elim, ℕ, zero, suc, ◌+◌, ◌*◌, ◌<◌, ◌≤◌, ℤ, pos, ◌+ℤ◌, List, [], ◌∷◌, ◌++◌, length, get_or, map, take, cond, false, refl, sym, ap, ◌∙◌, subst, arith}
+use Rattle.std.proofs.Common.{add-one}
 use Rattle.std.specs.List.{All}
 use Rattle.std.proofs.lemmas.Bool.{eq-eqb, ne_eqb}
 use Rattle.std.proofs.lemmas.Int.{ints}
@@ -55,7 +56,8 @@ in_view a k rows n t e our is = ⊎_elim
     (λ (gone : slot_at (states_of rows) t ≡ Retired e). let here = retired_in a k rows t e our.rows gone in (here.0, inr here.1))
     is
 
-pub has : {log : List LogItem} (a : Settings) (k : KeeperView) (rows : List KeptSlot) (n : ℕ) (x : OnKeeper) (t m : ℕ) → IsOurKeeper a k rows n → record { view = k; slots = states_of rows; log = log } ≡ x → Occupies x t m → Has a x rows t m
+pub has : {log : List LogItem} (a : Settings) (k : KeeperView) (rows : List KeptSlot) (n : ℕ) (x : OnKeeper) (t m : ℕ) → IsOurKeeper a k rows n
+    → record { view = k; slots = states_of rows; log = log } ≡ x → Occupies x t m → Has a x rows t m
 has a k rows n x t m our is there =
     let e = there.0 in
     let here = in_view a k rows n t e our (subst (λ (y : OnKeeper). IsIn e (slot_at y.slots t)) (sym is) there.1) in
@@ -81,7 +83,8 @@ has a k rows n x t m our is there =
 -- Of one CPU
 
 -- what its place says of a number is its net count, where it met it there last
-pub net_is : (x : CpuView) (depth made : ℕ) (known_log log : List LogItem) (places : List NumberedCount) (t n w : ℕ) → NetAgree x places → 0 < n → w ≡ net_by (place_at places t) n → less_bias w ≡ net_met t n (record { view = x; depth = depth; made = made; known_log = known_log; log = log })
+pub net_is : (x : CpuView) (depth made : ℕ) (known_log log : List LogItem) (places : List NumberedCount) (t n w : ℕ) → NetAgree x places → 0 < n → w ≡ net_by (place_at places t) n
+    → less_bias w ≡ net_met t n (record { view = x; depth = depth; made = made; known_log = known_log; log = log })
 net_is x depth made known_log log places t n w agree begun is =
     let place = place_count x places t n w agree begun is in
     let net = net_of n (record { view = x; depth = depth; made = made; known_log = known_log; log = log }) in
@@ -95,17 +98,20 @@ local_is k x t n c z id counting is = is ∙ sym (ap (λ b. cond b (pos 0) (net_
 -- Of each occupied slot below a number
 
 pub each_none : {X : Type 0} (f : ℕ → ℕ → X) (slots : List Slot) (t : ℕ) (x : Slot) (ys : List X) → x ≡ slot_at slots t → x ≡ Vacant → ys ≡ each_below f slots t → ys ≡ each_below f slots (t + 1)
-each_none {X} f slots t x ys at is so_far = so_far ∙ (sym (append-nil (each_below f slots t)) ∙ (ap (λ (y : Slot). each_below f slots t ++ each_at f t y) (sym is ∙ at) ∙ ap (each_below f slots) (sym (add-one t))))
+each_none {X} f slots t x ys at is so_far =
+    so_far ∙ (sym (append-nil (each_below f slots t)) ∙ (ap (λ (y : Slot). each_below f slots t ++ each_at f t y) (sym is ∙ at) ∙ ap (each_below f slots) (sym (add-one t))))
 
 each_one : {X : Type 0} (f : ℕ → ℕ → X) (t : ℕ) (x : Slot) (e : Entry) → IsIn e x → each_at f t x ≡ f e.number t ∷ []
 each_one f t x e is = ⊎_elim (λ (live : x ≡ Live e). ap (each_at f t) live) (λ (gone : x ≡ Retired e). ap (each_at f t) gone) is
 
-pub each_more : {X : Type 0} (f : ℕ → ℕ → X) (slots : List Slot) (t : ℕ) (x : Slot) (e : Entry) (ys : List X) (y : X) → x ≡ slot_at slots t → IsIn e x → ys ≡ each_below f slots t → y ≡ f e.number t → ys ++ y ∷ [] ≡ each_below f slots (t + 1)
+pub each_more : {X : Type 0} (f : ℕ → ℕ → X) (slots : List Slot) (t : ℕ) (x : Slot) (e : Entry) (ys : List X) (y : X) → x ≡ slot_at slots t → IsIn e x → ys ≡ each_below f slots t → y ≡ f e.number t
+    → ys ++ y ∷ [] ≡ each_below f slots (t + 1)
 each_more {X} f slots t x e ys y at is so_far one =
     (λ i. so_far i ++ one i ∷ []) ∙ (ap (λ (zs : List X). each_below f slots t ++ zs) (sym (each_one f t x e is) ∙ ap (each_at f t) at) ∙ ap (each_below f slots) (sym (add-one t)))
 
 -- what is alike of each is alike of all
-pub each_same : {X : Type 0} (f h : ℕ → ℕ → X) (slots : List Slot) (n : ℕ) → ((t : ℕ) (e : Entry) → IsIn e (slot_at slots t) → f e.number t ≡ h e.number t) → each_below f slots n ≡ each_below h slots n
+pub each_same : {X : Type 0} (f h : ℕ → ℕ → X) (slots : List Slot) (n : ℕ) → ((t : ℕ) (e : Entry) → IsIn e (slot_at slots t) → f e.number t ≡ h e.number t)
+    → each_below f slots n ≡ each_below h slots n
 each_same f h slots zero same = refl
 each_same {X} f h slots (suc t) same = let before = each_same f h slots t same in let here = at (slot_at slots t) refl in λ i. before i ++ here i
   where
@@ -125,7 +131,8 @@ each_all P f slots (suc t) each = All-append P (each_below f slots t) (each_at f
 
 pub each_map : {X Y : Type 0} (v : X → Y) (f : ℕ → ℕ → X) (slots : List Slot) (n : ℕ) → map v (each_below f slots n) ≡ each_below (λ m t. v (f m t)) slots n
 each_map v f slots zero = refl
-each_map {X} {Y} v f slots (suc t) = map-append v (each_below f slots t) (each_at f t (slot_at slots t)) ∙ (let before = each_map v f slots t in let here = at (slot_at slots t) in λ i. before i ++ here i)
+each_map {X} {Y} v f slots (suc t) =
+    map-append v (each_below f slots t) (each_at f t (slot_at slots t)) ∙ (let before = each_map v f slots t in let here = at (slot_at slots t) in λ i. before i ++ here i)
   where
     at : (x : Slot) → map v (each_at f t x) ≡ each_at (λ m u. v (f m u)) t x
     at Vacant = refl
@@ -136,10 +143,12 @@ each_map {X} {Y} v f slots (suc t) = map-append v (each_below f slots t) (each_a
 
 all_shown : (P : Tally → Type 0) (list : List Balance) → All P (map tally_shown list) → All (λ (b : Balance). P (tally_shown b)) list
 all_shown P [] all = All-nil (λ (b : Balance). P (tally_shown b))
-all_shown P (b ∷ list) all = All-cons (λ (b : Balance). P (tally_shown b)) b list (All-head P (tally_shown b) (map tally_shown list) all) (all_shown P list (All-tail P (tally_shown b) (map tally_shown list) all))
+all_shown P (b ∷ list) all =
+    All-cons (λ (b : Balance). P (tally_shown b)) b list (All-head P (tally_shown b) (map tally_shown list) all) (all_shown P list (All-tail P (tally_shown b) (map tally_shown list) all))
 
 -- what is so of each entry's tally is so of each balance
-pub all_met : (P : Tally → Type 0) (k : OnKeeper) (xs : List OnCpu) (slots : ℕ) (list : List Balance) → map tally_shown list ≡ tallies_met k xs slots → ((t : ℕ) (e : Entry) → IsIn e (slot_at k.slots t) → P (tally_met k xs e.number t))
+pub all_met : (P : Tally → Type 0) (k : OnKeeper) (xs : List OnCpu) (slots : ℕ) (list : List Balance) → map tally_shown list ≡ tallies_met k xs slots
+    → ((t : ℕ) (e : Entry) → IsIn e (slot_at k.slots t) → P (tally_met k xs e.number t))
     → All (λ (b : Balance). P (tally_shown b)) list
 all_met P k xs slots list is each = all_shown P list (subst (All P) (sym is) (each_all P (tally_met k xs) k.slots slots each))
 
@@ -149,19 +158,23 @@ places_met k xs slots list is = sym (map-map listed tally_shown list) ∙ (ap (m
     listed : Tally → Listed
     listed y = record { number = y.number; slot = y.slot; total = y.total }
 
-pub sums_met : (k : OnKeeper) (xs : List OnCpu) (slots : ℕ) (list : List Balance) → map tally_shown list ≡ tallies_met k xs slots → All (λ (b : Balance). b.held ≡ sum_of b.locals.items +ℤ b.total) list
+pub sums_met : (k : OnKeeper) (xs : List OnCpu) (slots : ℕ) (list : List Balance) → map tally_shown list ≡ tallies_met k xs slots
+    → All (λ (b : Balance). b.held ≡ sum_of b.locals.items +ℤ b.total) list
 sums_met k xs slots list is = all_met (λ (y : Tally). y.held ≡ sum_of y.locals +ℤ y.total) k xs slots list is (λ t e there. refl)
 
-pub counts_met : (k : OnKeeper) (xs : List OnCpu) (cpus slots : ℕ) (list : List Balance) → AreAllCpus cpus xs → map tally_shown list ≡ tallies_met k xs slots → All (λ (b : Balance). length b.locals.items ≡ cpus) list
+pub counts_met : (k : OnKeeper) (xs : List OnCpu) (cpus slots : ℕ) (list : List Balance) → AreAllCpus cpus xs → map tally_shown list ≡ tallies_met k xs slots
+    → All (λ (b : Balance). length b.locals.items ≡ cpus) list
 counts_met k xs cpus slots list all is = all_met (λ (y : Tally). length y.locals ≡ cpus) k xs slots list is (λ t e there. length-map xs (local_met k t e.number) ∙ all.count)
 
 -- How the code goes over CPUs and slots
 
 -- a slot without an entry, and one with an entry
-pub tallies_none : (k : OnKeeper) (xs : List OnCpu) (t : ℕ) (x : Slot) (old new : List Balance) → x ≡ slot_at k.slots t → x ≡ Vacant → new ≡ old → map tally_shown old ≡ tallies_met k xs t → map tally_shown new ≡ tallies_met k xs (t + 1)
+pub tallies_none : (k : OnKeeper) (xs : List OnCpu) (t : ℕ) (x : Slot) (old new : List Balance) → x ≡ slot_at k.slots t → x ≡ Vacant → new ≡ old → map tally_shown old ≡ tallies_met k xs t
+    → map tally_shown new ≡ tallies_met k xs (t + 1)
 tallies_none k xs t x old new at is same so_far = each_none (tally_met k xs) k.slots t x (map tally_shown new) at is (ap (map tally_shown) same ∙ so_far)
 
-pub tallies_more : (k : OnKeeper) (xs : List OnCpu) (t : ℕ) (x : Slot) (e : Entry) (old pushed new : List Balance) (b : Balance) → x ≡ slot_at k.slots t → IsIn e x → new ≡ pushed → pushed ≡ old ++ b ∷ [] → map tally_shown old ≡ tallies_met k xs t → tally_shown b ≡ tally_met k xs e.number t
+pub tallies_more : (k : OnKeeper) (xs : List OnCpu) (t : ℕ) (x : Slot) (e : Entry) (old pushed new : List Balance) (b : Balance) → x ≡ slot_at k.slots t → IsIn e x → new ≡ pushed
+    → pushed ≡ old ++ b ∷ [] → map tally_shown old ≡ tallies_met k xs t → tally_shown b ≡ tally_met k xs e.number t
     → map tally_shown new ≡ tallies_met k xs (t + 1)
 tallies_more k xs t x e old pushed new b at is same more so_far one =
     ap (map tally_shown) (same ∙ more) ∙ (map-append tally_shown old (b ∷ []) ∙ each_more (tally_met k xs) k.slots t x e (map tally_shown old) (tally_shown b) at is so_far one)
@@ -173,9 +186,11 @@ ids_more xs c y before here own k x lt at = dite (ℕ_discrete k c)
     (λ (is : k ≡ c). ap (λ (z : OnCpu). z.view.id) (sym (cpu_at xs k x y at).1 ∙ (ap (λ i. get_or xs i y) is ∙ sym here)) ∙ (own ∙ sym is))
     (λ (off : k ≢ c). before k x (omega (arith, lt, off)) at)
 
-pub locals_more : (f : OnCpu → ℤ) (xs : List OnCpu) (c : ℕ) (y : OnCpu) (z : ℤ) (items : List ℤ) → c < length xs → items ≡ map f (take c xs) → y ≡ get_or xs c y → z ≡ f y → items ++ z ∷ [] ≡ map f (take (c + 1) xs)
+pub locals_more : (f : OnCpu → ℤ) (xs : List OnCpu) (c : ℕ) (y : OnCpu) (z : ℤ) (items : List ℤ) → c < length xs → items ≡ map f (take c xs) → y ≡ get_or xs c y → z ≡ f y
+    → items ++ z ∷ [] ≡ map f (take (c + 1) xs)
 locals_more f xs c y z items lt so_far here is = (λ i. so_far i ++ (is ∙ ap f here) i ∷ []) ∙ sym (map_more f xs c y lt)
 
-pub tally_is : (k : OnKeeper) (xs : List OnCpu) (n t : ℕ) (held total : ℤ) (locals : List ℤ) → locals ≡ locals_met k xs t n → total ≡ less_bias (total_at k.view.totals t) → held ≡ sum_of locals +ℤ total
+pub tally_is : (k : OnKeeper) (xs : List OnCpu) (n t : ℕ) (held total : ℤ) (locals : List ℤ) → locals ≡ locals_met k xs t n → total ≡ less_bias (total_at k.view.totals t)
+    → held ≡ sum_of locals +ℤ total
     → record { number = n; slot = t; held = held; locals = locals; total = total } ≡ tally_met k xs n t
 tally_is k xs n t held total locals l d h = λ i. record { number = n; slot = t; held = (h ∙ (λ j. sum_of (l j) +ℤ d j)) i; locals = l i; total = d i }

@@ -13,7 +13,8 @@ at_rest_balanced : (g : State) → Good g → g.due ≡ Rest → Balanced g
 at_rest_balanced g good rest t e is =
     let row = counts_of g t in
     let held = held_at g.locals g.hands g.keeps g.due e.number t in
-    let even = subst (λ (d : Due). sum_by itself row + total_at g.totals t + addition_due_at t d ≡ held + bias * (1 + sum_by one_if_used row + is_adding_at t d)) rest (good.holds.balance.balance t e is).even in
+    let even = subst (λ (d : Due). sum_by itself row + total_at g.totals t + addition_due_at t d ≡ held + bias * (1 + sum_by one_if_used row + is_adding_at t d)) rest
+    (good.holds.balance.balance t e is).even in
     omega (arith, even)
 
 pub free_law : (a : Settings) (x : OnKeeper) → x.view.due ≡ Rest → FreeInterlock a x

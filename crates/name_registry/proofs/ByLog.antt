@@ -1,5 +1,6 @@
 -- What an audit answers is said by the keeper's log and the CPUs alone.
-use Rattle.std.proofs.Common.{◌≡◌, ◌∙◌, ⊎_elim, inl, inr, ℕ, zero, suc, ◌+◌, ◌*◌, ℤ, pos, ◌+ℤ◌, ◌-ℤ◌, Bool, true, false, ◌&&◌, if◌then◌else◌, List, [], ◌∷◌, ◌++◌, sum_by, Option, Some, refl, sym, ap, arith}
+use Rattle.std.proofs.Common.{◌≡◌, ◌∙◌, ⊎_elim, inl, inr, ℕ, zero, suc, ◌+◌, ◌*◌, ℤ, pos, ◌+ℤ◌, ◌-ℤ◌, Bool, true, false, ◌&&◌, if◌then◌else◌, List, [], ◌∷◌, ◌++◌, sum_by, Option, Some, refl, sym, ap}
+use Rattle.std.proofs.Common.{arith}
 use Rattle.std.proofs.lemmas.Int.{ints}
 use lib.ListN.{get_elem?}
 use Rattle.name_registry.specs.Types.{Balance, Entry, Settings, Slot, Vacant, Live, Retired, Rest, LogItem}
@@ -9,7 +10,8 @@ use Rattle.cpu_words.specs.Common.{given_up, is_drawn, occupant, occupant_of, wo
 use Rattle.cpu_words.proofs.by_keeper.KeeperSees.{SeenByKeeper, seen_by_keeper}
 use Rattle.cpu_words.proofs.logs.Totalled.{given_by_log}
 use Rattle.passive_list.specs.Common.{OnCpu, OnKeeper}
-use Rattle.name_registry.specs.Common.{AreAllCpus, AreAlike, IsAuditBy, IsAuditOf, IsKeeperOf, acquired_of, audited, audited_at, audited_below, each_at, is_collected, local_in, local_of, net_of, net_unless, released_of, tallies_below, tally_in, tally_of, total_in}
+use Rattle.name_registry.specs.Common.{AreAllCpus, AreAlike, IsAuditBy, IsAuditOf, IsKeeperOf, acquired_of, audited, audited_at, audited_below, each_at, is_collected, local_in, local_of, net_of}
+use Rattle.name_registry.specs.Common.{net_unless, released_of, tallies_below, tally_in, tally_of, total_in}
 use Rattle.name_registry.proofs.Tallies.{alike_held, in_occupant, locals_same}
 
 -- a count word adds its CPU's net count, unless it was collected
@@ -56,7 +58,9 @@ module _ (a : Settings) (k : OnKeeper) (xs ys : List OnCpu) (known : IsKeeperOf 
   pub audited_is : (t : ℕ) (e : Entry) → IsIn e (slot_at k.slots t) → audited log xs e.number t ≡ tally_of k xs e.number t
   audited_is t e is =
       let has : occupant t log ≡ Some e.number = by_log t ∙ in_occupant e (slot_at k.slots t) is in
-      let given : number_at k.view.given_up e.number ≡ given_up e.number log = given_by_log log g (keeper_with_note k.view alike.keeper.0) t e.number alike.keeper.1.good alike.keeper.1.shown alike.keeper.1.counts alike.keeper.1.totals (sym seen.due ∙ known.view.rest) has in
+      let given : number_at k.view.given_up e.number ≡ given_up e.number log =
+      given_by_log log g (keeper_with_note k.view alike.keeper.0) t e.number alike.keeper.1.good alike.keeper.1.shown alike.keeper.1.counts alike.keeper.1.totals
+      (sym seen.due ∙ known.view.rest) has in
       let locals = locals_same (local_in log t e.number) (local_of k t e.number) xs (λ c x at. local t e.number x) in
       let held : tally_in log xs e.number ≡ (tally_of k xs e.number t).held =
       ap (λ (m : ℕ). pos (sum_by (acquired_of e.number) xs) -ℤ pos (sum_by (released_of e.number) xs + m)) (sym given) ∙ sym (alike_held a k xs ys known all alike t e is) in

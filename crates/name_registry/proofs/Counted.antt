@@ -6,7 +6,9 @@ use Rattle.registry_values.specs.Common.{is_iface, is_retired_as, slot_at}
 use Rattle.registry_values.proofs.Answers.{attach_tells}
 use Rattle.registry_values.proofs.Fit.{ranges}
 use Rattle.passive_list.specs.Common.{OnCpu, IsOurKeeper, OnKeeper, HasHeardOn, HasFreed}
-use Rattle.name_registry.specs.Common.{HasAdvanced, HasEnded, HasWorkedFor, Meets, attach_answer, attach_iface_answer, given_entry, HasMade, number_of, weigh, weight, HasAdvancedFor, IsDetachAnswer, HasLearned, HasSeenAttach, HasSeenDetach, keeper_after_hear, is_inside, GlancesBelow, HasBegun, HasGlanced, HasPassedAll, Hold, Looking, PassesBelow, PassesIf, PassesNumber, SnapshotsBelow}
+use Rattle.name_registry.specs.Common.{HasAdvanced, HasEnded, HasWorkedFor, Meets, attach_answer, attach_iface_answer, given_entry, HasMade, number_of, weigh, weight, HasAdvancedFor, IsDetachAnswer}
+use Rattle.name_registry.specs.Common.{HasLearned, HasSeenAttach, HasSeenDetach, keeper_after_hear, is_inside, GlancesBelow, HasBegun, HasGlanced, HasPassedAll, Hold, Looking, PassesBelow, PassesIf}
+use Rattle.name_registry.specs.Common.{PassesNumber, SnapshotsBelow}
 use Rattle.name_registry.proofs.Glanced.{OnlyLooked, snapshots_look, glances_look}
 use Rattle.name_registry.proofs.Attached.{given_takes}
 
@@ -30,7 +32,8 @@ one_made note x y z c le hears is = record { number = le; made = ap (λ (o : OnC
 -- The numbers
 
 -- an attach is within the limit on changes
-attach_within : (z : Settings) (k : OnKeeper) (rec : Record) (inside unfit : Bool) (e : Entry) → z.change_limit ≤ 1000000 → answers.attach_answer inside unfit (given_entry z k rec) ≡ Ok e → e.number ≤ 1000000
+attach_within : (z : Settings) (k : OnKeeper) (rec : Record) (inside unfit : Bool) (e : Entry) → z.change_limit ≤ 1000000 → answers.attach_answer inside unfit (given_entry z k rec) ≡ Ok e
+    → e.number ≤ 1000000
 attach_within z k rec inside unfit e most is =
     let takes = given_takes z k rec e (attach_tells inside unfit (given_entry z k rec) e is).2 in
     let number = ap (λ (x : Entry). x.number) takes.entry in
@@ -89,7 +92,8 @@ hold_same looks a x b y only has = ap (λ (k : KeeperView). k.history) has.view 
 pub begun_same : (z : Settings) (a : OnKeeper) (x : OnCpu) (snapshots : List ℕ) (retired : List (Option ℕ)) (b : OnKeeper) (y : OnCpu) → HasBegun z a x snapshots retired b y → Unchanged a b
 begun_same z a x snapshots retired b y has = hold_same (SnapshotsBelow snapshots z.cpus) a x b y (λ k l is. snapshots_look snapshots z.cpus k l is) has.hold
 
-pub glanced_same : (z : Settings) (snapshots : List ℕ) (a : OnKeeper) (x : OnCpu) (seen : List Bool) (told : Option ℕ) (after : List Bool) (b : OnKeeper) (y : OnCpu) → HasGlanced z snapshots a x seen told after b y → Unchanged a b
+pub glanced_same : (z : Settings) (snapshots : List ℕ) (a : OnKeeper) (x : OnCpu) (seen : List Bool) (told : Option ℕ) (after : List Bool) (b : OnKeeper) (y : OnCpu)
+    → HasGlanced z snapshots a x seen told after b y → Unchanged a b
 glanced_same z snapshots a x seen told after b y has = hold_same (GlancesBelow snapshots seen after z.cpus) a x b y (λ k l is. glances_look snapshots seen after z.cpus k l is) has.hold
 
 passes_if_same : (still : Bool) (z : Settings) (a : OnKeeper) (t : ℕ) (b : OnKeeper) → PassesIf still z a t b → Unchanged a b

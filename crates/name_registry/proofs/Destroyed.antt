@@ -54,17 +54,20 @@ met_refused : (z : Settings) (number : ℕ) (x y : OnCpu) (met : Result Stage Re
 met_refused z number x y (Ok stage) is = stage_refused z stage is.1
 met_refused z number x y (Err refusal) is = subst (λ (f : Refusal). IsDestroyRefusal z false f) (sym is.0.2.made.0) refl
 
-pub destroyed_small : (z : Settings) (number turns : ℕ) (inside : Bool) (x y : OnCpu) (answer : Result ℕ Refusal) → inside ≡ false → HasDestroyed z number turns x answer y → IfOk answer (λ t. (inside ≡ false) × (t < z.slots))
+pub destroyed_small : (z : Settings) (number turns : ℕ) (inside : Bool) (x y : OnCpu) (answer : Result ℕ Refusal) → inside ≡ false → HasDestroyed z number turns x answer y
+    → IfOk answer (λ t. (inside ≡ false) × (t < z.slots))
 destroyed_small z number turns inside x y (Ok t) out is =
     let small = subst (λ (r : Result ℕ Refusal). IfOk r (λ u. u < z.slots)) (sym is.told) (met_freed z number is.last.0 y is.met is.last.2) in (out, small)
 destroyed_small z number turns inside x y (Err refusal) out is = tt
 
-pub destroyed_refused : (z : Settings) (number turns : ℕ) (inside : Bool) (x y : OnCpu) (answer : Result ℕ Refusal) → inside ≡ false → HasDestroyed z number turns x answer y → IfErr answer (λ f. IsDestroyRefusal z inside f)
+pub destroyed_refused : (z : Settings) (number turns : ℕ) (inside : Bool) (x y : OnCpu) (answer : Result ℕ Refusal) → inside ≡ false → HasDestroyed z number turns x answer y
+    → IfErr answer (λ f. IsDestroyRefusal z inside f)
 destroyed_refused z number turns inside x y answer out is =
     subst (λ (b : Bool). IfErr answer (λ f. IsDestroyRefusal z b f)) (sym out)
     (subst (λ (r : Result ℕ Refusal). IfErr r (λ f. IsDestroyRefusal z false f)) (sym is.told) (met_refused z number is.last.0 y is.met is.last.2))
 
-pub destroys_outside : (z : Settings) (number turns : ℕ) (inside : Bool) (x y : OnCpu) (answer : Result ℕ Refusal) → inside ≡ false → HasDestroyed z number turns x answer y → DestroysOutside z number turns inside x answer y
+pub destroys_outside : (z : Settings) (number turns : ℕ) (inside : Bool) (x y : OnCpu) (answer : Result ℕ Refusal) → inside ≡ false → HasDestroyed z number turns x answer y
+    → DestroysOutside z number turns inside x answer y
 destroys_outside z number turns inside x y answer out is = subst (λ (b : Bool). DestroysOutside z number turns b x answer y) (sym out) is
 
 pub destroys_inside : (z : Settings) (number turns : ℕ) (inside : Bool) (x : OnCpu) → inside ≡ true → DestroysOutside z number turns inside x (Err Inside) x

@@ -23,13 +23,15 @@ pub record ShowsLive (x : OnKeeper) : Type 0 where
   pub placed : (e : Entry) → IsLiveAt x.view.history (length x.view.history) e → slot_at x.slots e.slot ≡ Live e
 
 -- by any state of the core that shows its view
-pub keeper_shows : {log : List LogItem} (a : Settings) (k : KeeperView) (rows : List KeptSlot) (n : ℕ) (x : OnKeeper) → IsOurKeeper a k rows n → record { view = k; slots = states_of rows; log = log } ≡ x → ShowsLive x
+pub keeper_shows : {log : List LogItem} (a : Settings) (k : KeeperView) (rows : List KeptSlot) (n : ℕ) (x : OnKeeper) → IsOurKeeper a k rows n
+    → record { view = k; slots = states_of rows; log = log } ≡ x → ShowsLive x
 keeper_shows a k rows n x our is =
     let p = our.is_shown in
     let seen = seen_by_keeper p.g k p.good p.shown in
     let shown = p.good.holds.slots in
     subst ShowsLive is record {
-      live = λ t e live. subst (λ (h : List Change). IsLiveAt h (length h) e × (e.slot ≡ t)) (sym seen.history) (shown.live t e (sym (ap (λ (xs : List Slot). slot_at xs t) seen.slots) ∙ rows_live a k rows our.rows t e live));
+      live = λ t e live. subst (λ (h : List Change). IsLiveAt h (length h) e × (e.slot ≡ t)) (sym seen.history)
+          (shown.live t e (sym (ap (λ (xs : List Slot). slot_at xs t) seen.slots) ∙ rows_live a k rows our.rows t e live));
       placed = λ e live. live_rows a k rows our.view our.rows e.slot e
           (ap (λ (xs : List Slot). slot_at xs e.slot) seen.slots ∙ shown.placed e (subst (λ (h : List Change). IsLiveAt h (length h) e) seen.history live));
     }
@@ -49,7 +51,8 @@ no_place x key shows none e live same =
     position_fails (is_live_as key) x.slots e.slot Slot.Vacant none (in_within x.slots e.slot e (inl placed)) (ap (is_live_as key) placed ∙ (ap (λ (k : Key). same_key k key) same ∙ key_same key))
 
 -- the keeper m heard the CPU x, and answers the entry e of that place
-pub place_is : (a : OnKeeper) (x : OnCpu) (m : OnKeeper) (key : Key) (t : ℕ) (e : Entry) → m ≡ keeper_after_hear a x → IsLivePlace a key (Some t) → slot_at m.slots t ≡ Live e → IsLookupNow a key (Some e) × (slot_at a.slots e.slot ≡ Live e) × (e.slot ≡ t)
+pub place_is : (a : OnKeeper) (x : OnCpu) (m : OnKeeper) (key : Key) (t : ℕ) (e : Entry) → m ≡ keeper_after_hear a x → IsLivePlace a key (Some t) → slot_at m.slots t ≡ Live e
+    → IsLookupNow a key (Some e) × (slot_at a.slots e.slot ≡ Live e) × (e.slot ≡ t)
 place_is a x m key t e heard found is =
     let live : slot_at a.slots t ≡ Live e = subst (λ (k : OnKeeper). slot_at k.slots t ≡ Live e) heard is in
     let one : found.0 ≡ e = live_one found.0 e (slot_at a.slots t) live (inl found.1) in
@@ -73,7 +76,8 @@ detached_told a t e b has = record {
 }
 
 -- The keeper m heard the CPU x, the entry e in the slot t was retired, and the CPU heard the history that the keeper b has then.
-pub detached_for : (a : OnKeeper) (x : OnCpu) (m : OnKeeper) (n : OnCpu) (t : ℕ) (e : Entry) (b : OnKeeper) (y : OnCpu) → m ≡ keeper_after_hear a x → n ≡ cpu_after_tell x → IsPrefix x.view.pass m.view.history → IsAttached a.view.history e → e.slot ≡ t
+pub detached_for : (a : OnKeeper) (x : OnCpu) (m : OnKeeper) (n : OnCpu) (t : ℕ) (e : Entry) (b : OnKeeper) (y : OnCpu) → m ≡ keeper_after_hear a x → n ≡ cpu_after_tell x
+    → IsPrefix x.view.pass m.view.history → IsAttached a.view.history e → e.slot ≡ t
     → HasDetached m t e b → HasHeardOn b.view.history n y → y.log ≡ n.log ++ has_heard n None → HasDetachedFor a x e (keeper_after_tell b) y
 detached_for a x m n t e b y heard same seen attached slot has hears log =
     let before = subst (λ (k : OnKeeper). IsPrefix x.view.pass k.view.history) heard seen in
@@ -89,7 +93,8 @@ same_refusal : (f g : Refusal) → ◌≡◌ {A = Result ℕ Refusal} (Err f) (E
 same_refusal f g q = cc
 
 -- a detach is refused inside a section, or where the lookup finds nothing
-pub refused_rightly : (k : OnKeeper) (x : OnCpu) (key : Key) (inside : Bool) (found : Option ℕ) (f : Refusal) → inside ≡ is_inside x → IsLivePlace k key found → ◌≡◌ {A = Result ℕ Refusal} (Err f) (detach_answer inside found) → IsDetachRefusal k x key f
+pub refused_rightly : (k : OnKeeper) (x : OnCpu) (key : Key) (inside : Bool) (found : Option ℕ) (f : Refusal) → inside ≡ is_inside x → IsLivePlace k key found
+    → ◌≡◌ {A = Result ℕ Refusal} (Err f) (detach_answer inside found) → IsDetachRefusal k x key f
 refused_rightly k x key true found f in_section lookup is = subst (IsDetachRefusal k x key) (same_refusal Inside f (sym is)) (sym in_section)
 refused_rightly k x key false None f outside lookup is = subst (IsDetachRefusal k x key) (same_refusal NotFound f (sym is)) (sym outside, lookup)
 refused_rightly k x key false (Some t) f outside lookup is = absurd (let q : ◌≡◌ {A = Result ℕ Refusal} (Err f) (Ok t) = is in cc)

@@ -28,7 +28,8 @@ prefix_both a b first second = by first.0 first.1
   where
     by : (more : List LogItem) → a ++ more ≡ b → a ≡ b
     by [] is = sym (append-nil a) ∙ is
-    by (d ∷ more) is = absurd (let long = ap (λ (l : List LogItem). length l) (sym is) ∙ length-append a (d ∷ more) in let short = ap (λ (l : List LogItem). length l) (sym second.1) ∙ length-append b second.0 in omega (arith, long, short))
+    by (d ∷ more) is = absurd (let long = ap (λ (l : List LogItem). length l) (sym is) ∙ length-append a (d ∷ more) in
+        let short = ap (λ (l : List LogItem). length l) (sym second.1) ∙ length-append b second.0 in omega (arith, long, short))
 
 -- CPU by CPU
 
@@ -47,7 +48,12 @@ learned_of note x y heard log = (
   record {
     pass = heard.pass;
     known_log = heard.known_log;
-    is = heard.is ∙ (λ j. record x { view = record x.view { pass = y.view.pass; noted_pass = sym (ap (λ (z : OnCpu). z.view.noted_pass) heard.is) j }; made = sym (ap (λ (z : OnCpu). z.made) heard.is) j; known_log = y.known_log; log = y.log });
+    is = heard.is ∙ (λ j. record x {
+      view = record x.view { pass = y.view.pass; noted_pass = sym (ap (λ (z : OnCpu). z.view.noted_pass) heard.is) j };
+      made = sym (ap (λ (z : OnCpu). z.made) heard.is) j;
+      known_log = y.known_log;
+      log = y.log;
+    });
     log = by_passing x y log;
   },
   ap (λ (z : OnCpu). z.made) heard.is,
@@ -60,7 +66,8 @@ past_set (x ∷ xs) zero (suc c) y off = refl
 past_set (x ∷ xs) (suc n) zero y off = refl
 past_set (x ∷ xs) (suc n) (suc c) y off = past_set xs n c y (λ same. off (ap suc same))
 
-pub gathered_more : (xs ys : List OnCpu) (n : ℕ) (log note told : List LogItem) (h : List Change) (x y : OnCpu) → Gathered xs ys n log note → get_elem? ys n ≡ some x → HasHeardOn h x y → IsPrefix note y.known_log → WasShown h x y → told ≡ y.known_log → HeardAndTold x y
+pub gathered_more : (xs ys : List OnCpu) (n : ℕ) (log note told : List LogItem) (h : List Change) (x y : OnCpu) → Gathered xs ys n log note → get_elem? ys n ≡ some x → HasHeardOn h x y
+    → IsPrefix note y.known_log → WasShown h x y → told ≡ y.known_log → HeardAndTold x y
     → Gathered xs (set ys n y) (n + 1) log told
 gathered_more xs ys n log note told h x y so_far at heard knows shown is own =
     let next : IsPrefix note told = subst (IsPrefix note) (sym is) knows in
@@ -89,14 +96,16 @@ gathered_more xs ys n log note told h x y so_far at heard knows shown is own =
           (p.0, p.1, prefix_on _ _ _ p.2 next, p.3))
           (cases_eq c n);
       knows = λ c v lt now. ⊎_elim
-          (λ (p : (c ≡ n) × (y ≡ v)). subst (λ (z : OnCpu). IsPrefix log z.known_log × IsPrefix z.known_log told) p.1 (prefix_on _ _ _ so_far.told knows, subst (IsPrefix y.known_log) (sym is) ([], append-nil y.known_log)))
+          (λ (p : (c ≡ n) × (y ≡ v)). subst (λ (z : OnCpu). IsPrefix log z.known_log × IsPrefix z.known_log told) p.1
+          (prefix_on _ _ _ so_far.told knows, subst (IsPrefix y.known_log) (sym is) ([], append-nil y.known_log)))
           (λ (p : (c ≢ n) × (get_elem? ys c ≡ some v)). let had = so_far.knows c v (let off = p.0 in omega (arith, lt, off)) p.1 in (had.0, prefix_on _ _ _ had.1 next))
           (at_set ys n c y v now);
       rest = λ c le. past_set ys n c y (λ same. omega (arith, le, same)) ∙ so_far.rest c (omega (arith, le));
     }
 
 -- all have heard, and the keeper has heard the last one
-pub gathered_alike : (z : Settings) (a k : OnKeeper) (xs ys : List OnCpu) (n : ℕ) (log note : List LogItem) → Gathered xs ys n k.log note → length ys ≤ n → k ≡ record a { log = log } → IsPrefix note k.log → HasOwnLog z k → AreAlike a xs ys
+pub gathered_alike : (z : Settings) (a k : OnKeeper) (xs ys : List OnCpu) (n : ℕ) (log note : List LogItem) → Gathered xs ys n k.log note → length ys ≤ n → k ≡ record a { log = log }
+    → IsPrefix note k.log → HasOwnLog z k → AreAlike a xs ys
 gathered_alike z a k xs ys n log note all done is back own =
     record {
       log = k.log;
@@ -129,7 +138,8 @@ learned_none xs = record {
   size = refl;
   each = λ c x y was now.
       let same : x ≡ y = some-injective x y (sym was ∙ now) in
-      subst (λ (z : OnCpu). HasLearned x z × (z.made ≡ x.made)) same (record { pass = ([], append-nil x.view.pass); known_log = ([], append-nil x.known_log); is = refl; log = no_more (IsNote x.view.id) x.log x.log refl }, refl);
+      subst (λ (z : OnCpu). HasLearned x z × (z.made ≡ x.made)) same
+      (record { pass = ([], append-nil x.view.pass); known_log = ([], append-nil x.known_log); is = refl; log = no_more (IsNote x.view.id) x.log x.log refl }, refl);
 }
 
 there : (xs : List OnCpu) (c : ℕ) → c < length xs → (x : OnCpu) × (get_elem? xs c ≡ some x)

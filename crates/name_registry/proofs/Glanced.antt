@@ -5,7 +5,8 @@ use mathlib.Core.List.{IsPrefix}
 use Rattle.name_registry.specs.Types.{Event, Look, Snapshot, Word, Refusal, Settings, Inside, KeeperView}
 use Rattle.registry_values.specs.Common.{wait_answer}
 use Rattle.passive_list.specs.Common.{OnCpu, OnKeeper, HasOwnLog, HasHeardOn, cpu_after_tell, has_heard}
-use Rattle.name_registry.specs.Common.{keeper_after_hear, keeper_after_tell, GlancesBelow, GlancesOnce, HasPerformed, Hold, Looking, LooksOnce, PerformsOutside, SnapshotsBelow, is_seen, looking, word_of}
+use Rattle.name_registry.specs.Common.{keeper_after_hear, keeper_after_tell, GlancesBelow, GlancesOnce, HasPerformed, Hold, Looking, LooksOnce, PerformsOutside, SnapshotsBelow, is_seen, looking}
+use Rattle.name_registry.specs.Common.{word_of}
 use Rattle.name_registry.proofs.Heard.{prefix_short}
 use Rattle.name_registry.proofs.Noted.{heard_told, met}
 use Rattle.name_registry.proofs.Owned.{least_small}
@@ -31,7 +32,8 @@ pub snapshots_more : (n w : ℕ) (words : List ℕ) (k m l : Looking) → n < le
 snapshots_more n w words k m l lt is look = subst (λ (j : ℕ). SnapshotsBelow (set words n w) j k l) (let e : suc n ≡ n + 1 = omega arith in e)
     (m, snapshots_by n words (set words n w) k m (agree_set 0 n words w) is, subst (λ (v : ℕ). LooksOnce m (Snapshot None n) v l) (sym (get_or-set_same words n w 0 lt)) look)
 
-pub glances_by : (n : ℕ) (snapshots : List ℕ) (seen after others : List Bool) (k l : Looking) → Agree false n after others → GlancesBelow snapshots seen after n k l → GlancesBelow snapshots seen others n k l
+pub glances_by : (n : ℕ) (snapshots : List ℕ) (seen after others : List Bool) (k l : Looking) → Agree false n after others → GlancesBelow snapshots seen after n k l
+    → GlancesBelow snapshots seen others n k l
 glances_by zero snapshots seen after others k l agree is = is
 glances_by (suc n) snapshots seen after others k l agree is =
     let next : GlancesOnce (word_of snapshots n) n (is_seen seen n) is.0 (is_seen others n) l =
@@ -57,7 +59,11 @@ looked_none : (k l : Looking) → l ≡ k → OnlyLooked k.view l.view
 looked_none k l is = ap (λ (x : Looking). x.view) is ∙ both l.view k.view (ap (λ (x : Looking). x.view) is)
   where
     both : (a b : KeeperView) → a ≡ b → b ≡ record b { looks = a.looks; last_look = a.last_look; noted_pass = a.noted_pass }
-    both a b same = λ j. record b { looks = sym (ap (λ (x : KeeperView). x.looks) same) j; last_look = sym (ap (λ (x : KeeperView). x.last_look) same) j; noted_pass = sym (ap (λ (x : KeeperView). x.noted_pass) same) j }
+    both a b same = λ j. record b {
+      looks = sym (ap (λ (x : KeeperView). x.looks) same) j;
+      last_look = sym (ap (λ (x : KeeperView). x.last_look) same) j;
+      noted_pass = sym (ap (λ (x : KeeperView). x.noted_pass) same) j;
+    }
 
 looked_once : (k m l : Looking) (e : Event) (w : ℕ) → OnlyLooked k.view m.view → LooksOnce m e w l → OnlyLooked k.view l.view
 looked_once k m l e w had once =
@@ -78,8 +84,10 @@ glances_look snapshots seen after zero k l is = looked_none k l is
 glances_look snapshots seen after (suc n) k l is = glance_looks (word_of snapshots n) n (is_seen seen n) (is_seen after n) k is.0 l (glances_look snapshots seen after n k is.0 is.1) is.2
 
 -- a hold, from what its three parts leave: the hearing, which leaves the CPU, the looks, and the telling
-pub made_hold : (looks : Looking → Looking → Type 0) (z : Settings) (a h l b : OnKeeper) (x same y : OnCpu) → h ≡ keeper_after_hear a x → IsPrefix x.view.pass h.view.history → IsPrefix x.known_log a.log → HasOwnLog z a → same ≡ cpu_after_tell x
-    → looks (looking h) (looking l) → l.slots ≡ h.slots → b ≡ keeper_after_tell l → HasHeardOn l.view.history same y → IsPrefix b.log y.known_log → y.log ≡ same.log ++ has_heard same None → Hold looks a x b y
+pub made_hold : (looks : Looking → Looking → Type 0) (z : Settings) (a h l b : OnKeeper) (x same y : OnCpu) → h ≡ keeper_after_hear a x → IsPrefix x.view.pass h.view.history
+    → IsPrefix x.known_log a.log → HasOwnLog z a → same ≡ cpu_after_tell x
+    → looks (looking h) (looking l) → l.slots ≡ h.slots → b ≡ keeper_after_tell l → HasHeardOn l.view.history same y → IsPrefix b.log y.known_log → y.log ≡ same.log ++ has_heard same None
+    → Hold looks a x b y
 made_hold looks z a h l b x same y heard pass known own is made slots tells hears told log =
     let short = prefix_short x.view.pass h.view.history pass in
     let long : length h.view.history ≡ length a.view.history = ap (λ (k : OnKeeper). length k.view.history) heard in
@@ -105,7 +113,8 @@ told_small z turns x y told is =
     let least = is.waits.last.3.2.least in
     subst (λ (o : Option ℕ). IfSome o (λ c. c < z.cpus)) (sym least) (least_small _ z.cpus)
 
-pub performs_outside : (z : Settings) (turns : ℕ) (inside : Bool) (x y : OnCpu) (told : Option ℕ) (result : Result (Unit {0}) Refusal) → inside ≡ false → result ≡ wait_answer told → HasPerformed z turns x told y → PerformsOutside z turns inside x result y
+pub performs_outside : (z : Settings) (turns : ℕ) (inside : Bool) (x y : OnCpu) (told : Option ℕ) (result : Result (Unit {0}) Refusal) → inside ≡ false → result ≡ wait_answer told
+    → HasPerformed z turns x told y → PerformsOutside z turns inside x result y
 performs_outside z turns inside x y told result outside is made = subst (λ (b : Bool). PerformsOutside z turns b x result y) (sym outside) (told, is, made)
 
 pub performs_inside : (z : Settings) (turns : ℕ) (inside : Bool) (x : OnCpu) → inside ≡ true → PerformsOutside z turns inside x (Err Inside) x

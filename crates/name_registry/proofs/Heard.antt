@@ -17,7 +17,8 @@ prefix_short p h pre = let long = ap (λ (l : List Change). length l) (sym pre.1
 change_on : (h p : List Change) (k : ℕ) (x : Change) → IsPrefix h p → change_at h k ≡ Some x → change_at p k ≡ Some x
 change_on h p k x pre at = ap (λ (l : List Change). change_at l k) (sym pre.1) ∙ (at_prefix h pre.0 k (at_within h k x at).1 ∙ at)
 
-pub seen_attach : (h : List Change) (x y : OnCpu) (e : Entry) → IsPrefix x.view.pass h → e.number ≡ suc (length h) → IsPrefix (after_change h (Attach e)) y.view.pass → y.log ≡ x.log ++ tells_and_hears x → HasSeenAttach x y e
+pub seen_attach : (h : List Change) (x y : OnCpu) (e : Entry) → IsPrefix x.view.pass h → e.number ≡ suc (length h) → IsPrefix (after_change h (Attach e)) y.view.pass
+    → y.log ≡ x.log ++ tells_and_hears x → HasSeenAttach x y e
 seen_attach h x y e before number told log =
     let short = prefix_short x.view.pass h before in
     record {
@@ -26,7 +27,8 @@ seen_attach h x y e before number told log =
       log = log;
     }
 
-pub seen_detach : (h : List Change) (x y : OnCpu) (e : Entry) → IsPrefix x.view.pass h → IsAttached h e → IsPrefix (after_change h (Detach e.number)) y.view.pass → y.log ≡ x.log ++ tells_and_hears x → HasSeenDetach x y e
+pub seen_detach : (h : List Change) (x y : OnCpu) (e : Entry) → IsPrefix x.view.pass h → IsAttached h e → IsPrefix (after_change h (Detach e.number)) y.view.pass → y.log ≡ x.log ++ tells_and_hears x
+    → HasSeenDetach x y e
 seen_detach h x y e before attached told log =
     let after = after_change h (Detach e.number) in
     let short = prefix_short x.view.pass h before in

@@ -1,5 +1,6 @@
 -- What an audit says is held of an entry are the local references held to it, by the balance of its slot in the state that shows the views.
-use Rattle.std.proofs.Common.{◌≡◌, inl, inr, ⊎_elim, ℕ, zero, suc, ◌+◌, ◌*◌, ◌<◌, ◌≤◌, ◌&&◌, ℤ, pos, ◌+ℤ◌, List, [], ◌∷◌, Some, length, get_or, fold, cond, sum_by, Bool, true, false, refl, sym, ap, ◌∙◌, subst, arith}
+use Rattle.std.proofs.Common.{◌≡◌, inl, inr, ⊎_elim, ℕ, zero, suc, ◌+◌, ◌*◌, ◌<◌, ◌≤◌, ◌&&◌, ℤ, pos, ◌+ℤ◌, List, [], ◌∷◌, Some, length, get_or, fold, cond, sum_by, Bool, true, false, refl, sym, ap}
+use Rattle.std.proofs.Common.{◌∙◌, subst, arith}
 use Rattle.std.proofs.lemmas.Int.{ints}
 use Rattle.std.proofs.lemmas.List.Sums.{sum_by-cons}
 use mathlib.Core.Option.{some}
@@ -51,7 +52,8 @@ sums k t n (w ∷ ws) (x ∷ xs) a each past =
 -- in a state that shows the views, each CPU's word says its local count
 
 module _ (a : Settings) (k : OnKeeper) (xs : List OnCpu) (g : State) (t : ℕ) (e : Entry) (shown : AreShown g k xs) (rest : BalancesAtRest g) where
-  counting : (c : ℕ) (x : OnCpu) → get_elem? xs c ≡ some x → x.view.id ≡ c → IsIn e (slot_at g.slots t) → IsCounting g.slots g.marks c t → is_collected k t x.view.id ≡ false → Says k t e.number (count_at g.counts c t) x
+  counting : (c : ℕ) (x : OnCpu) → get_elem? xs c ≡ some x → x.view.id ≡ c → IsIn e (slot_at g.slots t) → IsCounting g.slots g.marks c t → is_collected k t x.view.id ≡ false
+      → Says k t e.number (count_at g.counts c t) x
   counting c x at id here counts kept =
       let cpus : c < g.settings.cpus = omega (arith, (shown.cpus c x at).seated, shown.good.holds.seats.within, id) in
       let word = rest.counted c t cpus counts in
@@ -82,7 +84,8 @@ module _ (a : Settings) (k : OnKeeper) (xs : List OnCpu) (g : State) (t : ℕ) (
       omega (arith, ints, sum, balanced, total)
 
 -- what is held of an entry of the keeper's are the references held to it
-pub references_held : (a : Settings) (k : OnKeeper) (xs : List OnCpu) (g : State) (t : ℕ) (e : Entry) → IsKeeperOf a k → AreAllCpus a.cpus xs → AreShown g k xs → BalancesAtRest g → IsIn e (slot_at k.slots t)
+pub references_held : (a : Settings) (k : OnKeeper) (xs : List OnCpu) (g : State) (t : ℕ) (e : Entry) → IsKeeperOf a k → AreAllCpus a.cpus xs → AreShown g k xs → BalancesAtRest g
+    → IsIn e (slot_at k.slots t)
     → (tally_of k xs e.number t).held ≡ pos (held_of g e.number)
 references_held a k xs g t e known all shown rest is =
     let seen = seen_by_keeper g k.view shown.good shown.keeper in

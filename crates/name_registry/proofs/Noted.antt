@@ -33,7 +33,8 @@ pub by_meeting : (x y : OnCpu) → y.log ≡ x.log ++ tells_and_hears x → Goes
 by_meeting x y is = record { since = tells_and_hears x; are = is; only = heard_last x None }
 
 pub by_meeting_again : (x y : OnCpu) → y.log ≡ x.log ++ tells_twice_and_hears x → GoesOnBy (IsNote x.view.id) x.log y.log
-by_meeting_again x y is = record { since = tells_twice_and_hears x; are = is; only = All-cons (IsNote x.view.id) (log_item (Tell (Some x.view.id)) Done) (has_told x ++ has_heard x None) (inl refl) (heard_last x None) }
+by_meeting_again x y is =
+    record { since = tells_twice_and_hears x; are = is; only = All-cons (IsNote x.view.id) (log_item (Tell (Some x.view.id)) Done) (has_told x ++ has_heard x None) (inl refl) (heard_last x None) }
 
 -- a note was passed on: heard and told
 pub by_passing : (x y : OnCpu) → HeardAndTold x y → GoesOnBy (IsNote x.view.id) x.log y.log

@@ -14,14 +14,16 @@ at_seam [] a ys = refl
 at_seam (x ∷ xs) a ys = at_seam xs a ys
 
 -- the seat that comes after n others is the CPU n's
-pub seat_after : (table : TableId) (z : Settings) (all before after : List (Seated CpuView)) (s : Seated CpuView) → AreSeats table z z.cpus all → all ≡ before ++ s ∷ after → (length before < z.cpus) × (s ≡ record { table = table; view = new_cpu z (length before); log = []; known_log = []; noted_log = []; teller = None })
+pub seat_after : (table : TableId) (z : Settings) (all before after : List (Seated CpuView)) (s : Seated CpuView) → AreSeats table z z.cpus all → all ≡ before ++ s ∷ after
+    → (length before < z.cpus) × (s ≡ record { table = table; view = new_cpu z (length before); log = []; known_log = []; noted_log = []; teller = None })
 seat_after table z all before after s are is =
     let n = length before in
     let long : n < z.cpus = omega (arith, are.count, ap (λ (l : List (Seated CpuView)). length l) is ∙ length-append before (s ∷ after)) in
     let there = ap (λ (l : List (Seated CpuView)). get_elem? l n) is ∙ at_seam before s after in
     (long, some-injective _ _ (sym there ∙ are.each n long))
 
-pub more_cpus : (z : Settings) (n : ℕ) (xs : List OnCpu) (x : OnCpu) → AreNewCpus z n xs → x ≡ record { view = new_cpu z n; depth = 0; made = 0; known_log = []; log = [] } → AreNewCpus z (n + 1) (xs ++ x ∷ [])
+pub more_cpus : (z : Settings) (n : ℕ) (xs : List OnCpu) (x : OnCpu) → AreNewCpus z n xs → x ≡ record { view = new_cpu z n; depth = 0; made = 0; known_log = []; log = [] }
+    → AreNewCpus z (n + 1) (xs ++ x ∷ [])
 more_cpus z n xs x are is =
     let size : length xs ≡ n = are.count in record {
       count = length-append xs (x ∷ []) ∙ ap (λ k. k + 1) size;

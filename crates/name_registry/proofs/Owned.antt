@@ -1,18 +1,21 @@
 -- What a caller keeps of a call through the lock, whatever is known of the keeper.
-use Rattle.std.proofs.Common.{◌≡◌, ◌⊎◌, ⊎_elim, inl, inr, ℕ, zero, suc, ◌<◌, Bool, true, false, if◌then◌else◌, List, Option, Some, None, Result, Ok, Err, IfOk, IfErr, IfSome, refl, sym, ap, subst, arith}
+use Rattle.std.proofs.Common.{◌≡◌, ◌⊎◌, ⊎_elim, inl, inr, ℕ, zero, suc, ◌<◌, Bool, true, false, if◌then◌else◌, List, Option, Some, None, Result, Ok, Err, IfOk, IfErr, IfSome, refl, sym, ap, subst}
+use Rattle.std.proofs.Common.{arith}
 use Rattle.name_registry.specs.Types.{Room, Change, Entry, Record, Refusal, NameTaken, NoSlot, HistoryFull, Inside, NeedsDriver, Settings, Key, ReferenceView}
 use Rattle.registry_values.specs.Answers as answers
 use Rattle.registry_values.specs.Common.{entry_in, has_room, next_entry, wait_answer, least_below, or_next, key_of_record, is_iface, is_taken}
 use Rattle.registry_values.proofs.Answers.{attach_tells, given_tells}
 use Rattle.passive_list.specs.Common.{OnCpu, OnKeeper, HasHeardOn, GoesOnBy}
-use Rattle.name_registry.specs.Common.{attach_answer, attach_iface_answer, given_entry, first_fit, room_of, HasAttachedFor, HasAttachedIfaceFor, IsDetachAnswer, HasDetachedFor, MayAttach, IsAttachRefusal, IsPerformRefusal, is_inside, HasLearned, IsNote, HasSeenAttach, HasSeenDetach}
+use Rattle.name_registry.specs.Common.{attach_answer, attach_iface_answer, given_entry, first_fit, room_of, HasAttachedFor, HasAttachedIfaceFor, IsDetachAnswer, HasDetachedFor, MayAttach}
+use Rattle.name_registry.specs.Common.{IsAttachRefusal, IsPerformRefusal, is_inside, HasLearned, IsNote, HasSeenAttach, HasSeenDetach}
 use Rattle.name_registry.proofs.Noted.{by_meeting}
 
 pub learned : (note : List Change) (x y : OnCpu) → HasHeardOn note x y → GoesOnBy (IsNote x.view.id) x.log y.log → HasLearned x y
 learned note x y has log =
     let note_is = ap (λ (o : OnCpu). o.view.noted_pass) has.is in
     let made_is = ap (λ (o : OnCpu). o.made) has.is in
-    let heard : y ≡ record x { view = record x.view { pass = y.view.pass; noted_pass = y.view.noted_pass }; known_log = y.known_log; log = y.log } = subst (λ (l : List Change). y ≡ record x { view = record x.view { pass = y.view.pass; noted_pass = l }; known_log = y.known_log; log = y.log }) (sym note_is) has.is in record {
+    let heard : y ≡ record x { view = record x.view { pass = y.view.pass; noted_pass = y.view.noted_pass }; known_log = y.known_log; log = y.log } =
+    subst (λ (l : List Change). y ≡ record x { view = record x.view { pass = y.view.pass; noted_pass = l }; known_log = y.known_log; log = y.log }) (sym note_is) has.is in record {
       pass = has.pass;
       known_log = has.known_log;
       is = subst (λ n. y ≡ record x { view = record x.view { pass = y.view.pass; noted_pass = y.view.noted_pass }; made = n; known_log = y.known_log; log = y.log }) (sym made_is) heard;
@@ -47,9 +50,11 @@ given_refusal f is = ⊎_elim
     (λ e. subst (λ (r : Refusal). IsAttachRefusal false false r) (sym e) (refl, refl))
     (λ e. subst (λ (r : Refusal). IsAttachRefusal false false r) (sym e) (refl, refl)) or) is
 
-entry_refusal : (inside unfit : Bool) (given : Result Entry Refusal) (f : Refusal) → ((r : Refusal) → given ≡ Err r → IsGivenRefusal r) → answers.attach_answer inside unfit given ≡ Err f → IsAttachRefusal inside unfit f
+entry_refusal : (inside unfit : Bool) (given : Result Entry Refusal) (f : Refusal) → ((r : Refusal) → given ≡ Err r → IsGivenRefusal r) → answers.attach_answer inside unfit given ≡ Err f
+    → IsAttachRefusal inside unfit f
 entry_refusal true unfit given f by is = let q : ◌≡◌ {A = Result Entry Refusal} (Err Inside) (Err f) = is in let e : Inside ≡ f = cc in subst (λ (r : Refusal). IsAttachRefusal true unfit r) e refl
-entry_refusal false true given f by is = let q : ◌≡◌ {A = Result Entry Refusal} (Err NeedsDriver) (Err f) = is in let e : NeedsDriver ≡ f = cc in subst (λ (r : Refusal). IsAttachRefusal false true r) e (refl, refl)
+entry_refusal false true given f by is =
+    let q : ◌≡◌ {A = Result Entry Refusal} (Err NeedsDriver) (Err f) = is in let e : NeedsDriver ≡ f = cc in subst (λ (r : Refusal). IsAttachRefusal false true r) e (refl, refl)
 entry_refusal false false given f by is = given_refusal f (by f is)
 
 entry_may : (inside unfit : Bool) (given : Result Entry Refusal) (e : Entry) → answers.attach_answer inside unfit given ≡ Ok e → MayAttach inside unfit
@@ -65,19 +70,24 @@ pub attach_may : (z : Settings) (k : OnKeeper) (x : OnCpu) (rec : Record) (r : R
 attach_may z k x rec (Ok e) is = entry_may (is_inside x) (is_iface rec.kind) (given_entry z k rec) e (sym is)
 attach_may z k x rec (Err f) is = tt
 
-pub attach_owned : (z : Settings) (k b : OnKeeper) (x y : OnCpu) (rec : Record) (r : Result Entry Refusal) → r ≡ attach_answer z k x rec → IfOk r (λ e. HasAttachedFor k x e b y) → IfOk r (λ e. (e.rec ≡ rec) × HasLearned x y × HasSeenAttach x y e)
+pub attach_owned : (z : Settings) (k b : OnKeeper) (x y : OnCpu) (rec : Record) (r : Result Entry Refusal) → r ≡ attach_answer z k x rec → IfOk r (λ e. HasAttachedFor k x e b y)
+    → IfOk r (λ e. (e.rec ≡ rec) × HasLearned x y × HasSeenAttach x y e)
 attach_owned z k b x y rec (Ok e) is has = (entry_rec z k rec (is_inside x) (is_iface rec.kind) e (sym is), learned b.view.history x y has.cpu (by_meeting x y has.own.log), has.own)
 attach_owned z k b x y rec (Err f) is has = tt
 
-pub iface_may : (z : Settings) (k : OnKeeper) (x : OnCpu) (rec : Record) (v : ReferenceView) (r : Result Entry (Refusal × ReferenceView)) → IfOk r (λ e. attach_iface_answer z k x rec v ≡ Ok e) → IfOk r (λ _. MayAttach (is_inside x) (is_iface v.entry.rec.kind))
+pub iface_may : (z : Settings) (k : OnKeeper) (x : OnCpu) (rec : Record) (v : ReferenceView) (r : Result Entry (Refusal × ReferenceView)) → IfOk r (λ e. attach_iface_answer z k x rec v ≡ Ok e)
+    → IfOk r (λ _. MayAttach (is_inside x) (is_iface v.entry.rec.kind))
 iface_may z k x rec v (Ok e) is = entry_may (is_inside x) (is_iface v.entry.rec.kind) (given_entry z k rec) e is
 iface_may z k x rec v (Err back) is = tt
 
-pub iface_owned : (z : Settings) (k b : OnKeeper) (x y : OnCpu) (rec : Record) (v : ReferenceView) (r : Result Entry (Refusal × ReferenceView)) → IfOk r (λ e. attach_iface_answer z k x rec v ≡ Ok e) → IfOk r (λ e. HasAttachedIfaceFor k x v e b y) → IfOk r (λ e. (e.rec ≡ rec) × HasLearned x y × HasSeenAttach x y e)
+pub iface_owned : (z : Settings) (k b : OnKeeper) (x y : OnCpu) (rec : Record) (v : ReferenceView) (r : Result Entry (Refusal × ReferenceView)) → IfOk r (λ e. attach_iface_answer z k x rec v ≡ Ok e)
+    → IfOk r (λ e. HasAttachedIfaceFor k x v e b y) → IfOk r (λ e. (e.rec ≡ rec) × HasLearned x y × HasSeenAttach x y e)
 iface_owned z k b x y rec v (Ok e) is has = (entry_rec z k rec (is_inside x) (is_iface v.entry.rec.kind) e is, learned b.view.history x y has.cpu (by_meeting x y has.own.log), has.own)
 iface_owned z k b x y rec v (Err back) is has = tt
 
-pub iface_refused : (z : Settings) (k b : OnKeeper) (x y : OnCpu) (rec : Record) (v : ReferenceView) (r : Result Entry (Refusal × ReferenceView)) → IfErr r (λ back. (attach_iface_answer z k x rec v ≡ Err back.0) × (back.1 ≡ v) × (b ≡ k) × (y ≡ x)) → IfErr r (λ back. IsAttachRefusal (is_inside x) (is_iface v.entry.rec.kind) back.0 × (back.1 ≡ v) × (y ≡ x))
+pub iface_refused : (z : Settings) (k b : OnKeeper) (x y : OnCpu) (rec : Record) (v : ReferenceView) (r : Result Entry (Refusal × ReferenceView))
+    → IfErr r (λ back. (attach_iface_answer z k x rec v ≡ Err back.0) × (back.1 ≡ v) × (b ≡ k) × (y ≡ x))
+    → IfErr r (λ back. IsAttachRefusal (is_inside x) (is_iface v.entry.rec.kind) back.0 × (back.1 ≡ v) × (y ≡ x))
 iface_refused z k b x y rec v (Ok e) is = tt
 iface_refused z k b x y rec v (Err back) is = (entry_refusal (is_inside x) (is_iface v.entry.rec.kind) (given_entry z k rec) back.0 (given_refused z k rec) is.0, is.1, is.3)
 
@@ -87,7 +97,8 @@ pub detach_may : (k : OnKeeper) (x : OnCpu) (key : Key) (r : Result Entry Refusa
 detach_may k x key (Ok e) is = is.0
 detach_may k x key (Err f) is = tt
 
-pub detach_owned : (k b : OnKeeper) (x y : OnCpu) (key : Key) (r : Result Entry Refusal) → IsDetachAnswer k x key r → IfOk r (λ e. HasDetachedFor k x e b y) → IfOk r (λ e. (e.rec.kind ≡ key.kind) × (e.rec.name ≡ key.name) × HasLearned x y × HasSeenDetach x y e)
+pub detach_owned : (k b : OnKeeper) (x y : OnCpu) (key : Key) (r : Result Entry Refusal) → IsDetachAnswer k x key r → IfOk r (λ e. HasDetachedFor k x e b y)
+    → IfOk r (λ e. (e.rec.kind ≡ key.kind) × (e.rec.name ≡ key.name) × HasLearned x y × HasSeenDetach x y e)
 detach_owned k b x y key (Ok e) is has = (ap (λ (q : Key). q.kind) is.1.1, ap (λ (q : Key). q.name) is.1.1, learned b.view.history x y has.cpu (by_meeting x y has.own.log), has.own)
 detach_owned k b x y key (Err f) is has = tt
 

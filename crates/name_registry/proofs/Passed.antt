@@ -1,5 +1,6 @@
 -- The end of a perform: its looks find no section open that was open before the wait, so all CPUs have passed for what was retired.
-use Rattle.std.proofs.Common.{◌≡◌, ◌⊎◌, inl, inr, ⊎_elim, ℕ, zero, suc, ◌<◌, ◌≤◌, Bool, true, false, List, [], ◌∷◌, ◌++◌, get_or, Option, Some, None, eq-eqb, refl, sym, ap, ◌∙◌, subst, append_assoc, arith}
+use Rattle.std.proofs.Common.{◌≡◌, ◌⊎◌, inl, inr, ⊎_elim, ℕ, zero, suc, ◌<◌, ◌≤◌, Bool, true, false, List, [], ◌∷◌, ◌++◌, get_or, Option, Some, None, eq-eqb, refl, sym, ap, ◌∙◌, subst, append_assoc}
+use Rattle.std.proofs.Common.{arith}
 use Rattle.std.proofs.lemmas.Bool.{cases_eq, cases_lt}
 use Rattle.std.proofs.lemmas.List.{append-nil}
 use Rattle.std.proofs.lemmas.Option.{same_Some}
@@ -73,7 +74,8 @@ still_there z a t n b e at same is =
     let still : is_retired_as n (slot_at a.slots t) ≡ true = ap (is_retired_as n) at ∙ eq-eqb e.number n same in
     subst (λ (s : Bool). PassesIf s z a t b) still is
 
-passed_at : (z : Settings) (numbers : List (Option ℕ)) (n : ℕ) (a b : OnKeeper) → PassesBelow z numbers n a b → (t k : ℕ) (e : Entry) → t < n → get_or numbers t None ≡ Some k → slot_at a.slots t ≡ Retired e → e.number ≡ k → PassedAt z a t b
+passed_at : (z : Settings) (numbers : List (Option ℕ)) (n : ℕ) (a b : OnKeeper) → PassesBelow z numbers n a b → (t k : ℕ) (e : Entry) → t < n → get_or numbers t None ≡ Some k
+    → slot_at a.slots t ≡ Retired e → e.number ≡ k → PassedAt z a t b
 passed_at z numbers zero a b is t k e lt number at same = absurd (omega (arith, lt))
 passed_at z numbers (suc n) a b is t k e lt number at same = ⊎_elim
     (λ (below : t < n).
@@ -96,7 +98,8 @@ pub record Passing (z : Settings) (numbers : List (Option ℕ)) (h end : OnKeepe
   pub waited : HasWaited since z.cpus
 
 -- no look met a section of a snapshot that was taken before
-met_none : (z : Settings) (numbers : List (Option ℕ)) (h end : OnKeeper) (before since gap more : List LogItem) (t j : ℕ) → Passing z numbers h end before since gap → (p : PassedAt z h t end) → ((c : ℕ) → c < z.cpus → (w : ℕ) × IsSnapped t c w before)
+met_none : (z : Settings) (numbers : List (Option ℕ)) (h end : OnKeeper) (before since gap more : List LogItem) (t j : ℕ) → Passing z numbers h end before since gap → (p : PassedAt z h t end)
+    → ((c : ℕ) → c < z.cpus → (w : ℕ) × IsSnapped t c w before)
     → end.log ≡ before ++ more → KeepsSlot t more → MeetsGrace p.before t j p.after → ⊥
 met_none z numbers h end before since gap more t j on p snapped all keeps meets =
     let sees = meets.sees in
@@ -106,7 +109,8 @@ met_none z numbers h end before since gap more t j on p snapped all keeps meets 
     let low : j < z.cpus = subst (λ (s : Settings). j < s.cpus) settings meets.cpu in
     let now : (mark_at end.view.marks t j).snapshot ≡ Some w = (p.last.marks t j).snapshot ∙ sees.snapshot in
     let old = snapped j low in
-    let by_log : (mark_at end.view.marks t j).snapshot ≡ Some old.0 = on.own.marks.marked t j old.0 (subst (IsSnapped t j old.0) (sym all) (snapped_on t j old.0 before more (kept_entry t more keeps) old.1)) in
+    let by_log : (mark_at end.view.marks t j).snapshot ≡ Some old.0 =
+    on.own.marks.marked t j old.0 (subst (IsSnapped t j old.0) (sym all) (snapped_on t j old.0 before more (kept_entry t more keeps) old.1)) in
     let same : w ≡ old.0 = same_Some w old.0 (sym now ∙ by_log) in
     let first : List LogItem = p.first.log.0 in
     let last : List LogItem = p.last.log.0 in
@@ -117,10 +121,12 @@ met_none z numbers h end before since gap more t j on p snapped all keeps meets 
     let whole : end.log ≡ before ++ (since ++ rest) =
     sym p.last.log.1 ∙ (ap (λ (l : List LogItem). l ++ last) to_looks ∙ (append_assoc (((before ++ since) ++ gap) ++ first) looks last
     ∙ (append_assoc ((before ++ since) ++ gap) first (looks ++ last) ∙ (append_assoc (before ++ since) gap (first ++ (looks ++ last)) ∙ append_assoc before since rest)))) in
-    let there : StandsIn d rest = stands_past d gap (first ++ (looks ++ last)) (stands_past d first (looks ++ last) (stands_more d looks last (record { before = sees.log.0; after = []; are = refl }))) in
+    let there : StandsIn d rest =
+    stands_past d gap (first ++ (looks ++ last)) (stands_past d first (looks ++ last) (stands_more d looks last (record { before = sees.log.0; after = []; are = refl }))) in
     no_open t j old.0 w end.log before since rest on.own.grow whole old.1 (on.waited j low) there same sees.odd
 
-by_slot : (z : Settings) (numbers : List (Option ℕ)) (h end : OnKeeper) (before since gap more : List LogItem) (t n c : ℕ) (x : Slot) → slot_at end.slots t ≡ x → Passing z numbers h end before since gap → c < z.cpus → get_or numbers t None ≡ Some n
+by_slot : (z : Settings) (numbers : List (Option ℕ)) (h end : OnKeeper) (before since gap more : List LogItem) (t n c : ℕ) (x : Slot) → slot_at end.slots t ≡ x
+    → Passing z numbers h end before since gap → c < z.cpus → get_or numbers t None ≡ Some n
     → ((j : ℕ) → j < z.cpus → (w : ℕ) × IsSnapped t j w before) → IsDetachedFrom t n end.log → end.log ≡ before ++ more → KeepsSlot t more → HasPassedOn t c end.log
 by_slot z numbers h end before since gap more t n c Vacant at on low number snapped gone all keeps = on.own.slots.vacant t n c at gone low
 by_slot z numbers h end before since gap more t n c (Live e) at on low number snapped gone all keeps = absurd (not_attached t n e.number end.log gone (on.own.slots.live t e at))
@@ -135,7 +141,8 @@ by_slot z numbers h end before since gap more t n c (Retired e) at on low number
     p.passes.met
 
 -- so the entry that had been detached by then has passed, if its slot wasn't given again
-pub passed_end : (z : Settings) (numbers : List (Option ℕ)) (h end : OnKeeper) (before since gap more : List LogItem) (t n c : ℕ) → Passing z numbers h end before since gap → c < z.cpus → IsDetachedFrom t n before → get_or numbers t None ≡ Some n
+pub passed_end : (z : Settings) (numbers : List (Option ℕ)) (h end : OnKeeper) (before since gap more : List LogItem) (t n c : ℕ) → Passing z numbers h end before since gap → c < z.cpus
+    → IsDetachedFrom t n before → get_or numbers t None ≡ Some n
     → ((j : ℕ) → j < z.cpus → (w : ℕ) × IsSnapped t j w before) → end.log ≡ before ++ more → KeepsSlot t more → HasPassedOn t c end.log
 passed_end z numbers h end before since gap more t n c on low gone number snapped all keeps =
     by_slot z numbers h end before since gap more t n c (slot_at end.slots t) refl on low number snapped (ap (standing t) all ∙ (kept_standing t before more keeps ∙ gone)) all keeps
@@ -146,7 +153,8 @@ passed_end z numbers h end before since gap more t n c on low gone number snappe
 abbrev pub IsReady : ℕ → List (Option ℕ) → List LogItem → ℕ → ℕ → Type 0
 IsReady cpus numbers before t n = ((c : ℕ) → c < cpus → HasPassedOn t c before) ⊎ ((get_or numbers t None ≡ Some n) × ((j : ℕ) → j < cpus → (w : ℕ) × IsSnapped t j w before))
 
-ready_by : (z : Settings) (a : OnKeeper) (numbers : List (Option ℕ)) (t n : ℕ) (x : Slot) → slot_at a.slots t ≡ x → HasOwnLog z a → ((u : ℕ) → u < MOST_SLOTS → get_or numbers u None ≡ retired_number (slot_at a.slots u)) → IsDetachedFrom t n a.log → IsReady z.cpus numbers a.log t n
+ready_by : (z : Settings) (a : OnKeeper) (numbers : List (Option ℕ)) (t n : ℕ) (x : Slot) → slot_at a.slots t ≡ x → HasOwnLog z a
+    → ((u : ℕ) → u < MOST_SLOTS → get_or numbers u None ≡ retired_number (slot_at a.slots u)) → IsDetachedFrom t n a.log → IsReady z.cpus numbers a.log t n
 ready_by z a numbers t n Vacant at own are gone = inl (λ c low. own.slots.vacant t n c at gone low)
 ready_by z a numbers t n (Live e) at own are gone = absurd (not_attached t n e.number a.log gone (own.slots.live t e at))
 ready_by z a numbers t n (Retired e) at own are gone =
@@ -154,20 +162,24 @@ ready_by z a numbers t n (Retired e) at own are gone =
     let lt : t < MOST_SLOTS = omega (arith, in_within a.slots t e (inr at), own.size) in
     inr (are t lt ∙ (ap retired_number at ∙ ap (λ (k : ℕ). Some k) same), λ j low. own.snapped t j e at low)
 
-pub ready : (z : Settings) (a : OnKeeper) (numbers : List (Option ℕ)) → HasOwnLog z a → ((u : ℕ) → u < MOST_SLOTS → get_or numbers u None ≡ retired_number (slot_at a.slots u)) → (t n : ℕ) → IsDetachedFrom t n a.log → IsReady z.cpus numbers a.log t n
+pub ready : (z : Settings) (a : OnKeeper) (numbers : List (Option ℕ)) → HasOwnLog z a → ((u : ℕ) → u < MOST_SLOTS → get_or numbers u None ≡ retired_number (slot_at a.slots u)) → (t n : ℕ)
+    → IsDetachedFrom t n a.log → IsReady z.cpus numbers a.log t n
 ready z a numbers own are t n gone = ready_by z a numbers t n (slot_at a.slots t) refl own are gone
 
 -- The hold, from what its parts say
 
-pub made_passes : (z : Settings) (numbers : List (Option ℕ)) (a h end k b : OnKeeper) (x same after y : OnCpu) → IsPrefix x.known_log a.log → h ≡ keeper_after_hear a x → same ≡ cpu_after_tell x → PassesBelow z numbers MOST_SLOTS h end → HasOwnLog z end
-    → k ≡ keeper_after_hear end same → after ≡ cpu_after_tell same → b ≡ keeper_after_tell k → HasHeardOn k.view.history after y → IsPrefix b.log y.known_log → y.log ≡ after.log ++ has_heard after None → HasPassedAll z a x numbers b y
+pub made_passes : (z : Settings) (numbers : List (Option ℕ)) (a h end k b : OnKeeper) (x same after y : OnCpu) → IsPrefix x.known_log a.log → h ≡ keeper_after_hear a x → same ≡ cpu_after_tell x
+    → PassesBelow z numbers MOST_SLOTS h end → HasOwnLog z end
+    → k ≡ keeper_after_hear end same → after ≡ cpu_after_tell same → b ≡ keeper_after_tell k → HasHeardOn k.view.history after y → IsPrefix b.log y.known_log
+    → y.log ≡ after.log ++ has_heard after None → HasPassedAll z a x numbers b y
 made_passes z numbers a h end k b x same after y known heard first passes own again second is hears told log = record {
   known = known;
   end = end;
   passes = subst (λ (m : OnKeeper). PassesBelow z numbers MOST_SLOTS m end) heard passes;
   own = own;
   is = is ∙ ap keeper_after_tell (again ∙ ap (keeper_after_hear end) first);
-  hears = heard_told_again b.view.history x y (subst (λ (o : OnCpu). HasHeardOn b.view.history o y) (second ∙ ap cpu_after_tell first) (subst (λ (h : List Change). HasHeardOn h after y) (sym (ap (λ (o : OnKeeper). o.view.history) is)) hears));
+  hears = heard_told_again b.view.history x y (subst (λ (o : OnCpu). HasHeardOn b.view.history o y) (second ∙ ap cpu_after_tell first)
+      (subst (λ (h : List Change). HasHeardOn h after y) (sym (ap (λ (o : OnKeeper). o.view.history) is)) hears));
   told = told;
   cpu_log = met_again x same after y first second log;
 }

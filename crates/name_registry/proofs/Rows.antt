@@ -26,7 +26,8 @@ live_in_rows key rows = position_map (is_live_as key) state_of rows
 abbrev pair_of : KeptSlot → Slot × Option ℕ
 pair_of r = (r.state, r.keeps)
 
-pairs : (rows : List KeptSlot) (keeps : List (Option ℕ)) → length keeps ≤ length rows → ((t : ℕ) → t < length keeps → (row_at rows t).keeps ≡ kept_at keeps t) → zip (states_of rows) keeps ≡ map pair_of (take (length keeps) rows)
+pairs : (rows : List KeptSlot) (keeps : List (Option ℕ)) → length keeps ≤ length rows → ((t : ℕ) → t < length keeps → (row_at rows t).keeps ≡ kept_at keeps t)
+    → zip (states_of rows) keeps ≡ map pair_of (take (length keeps) rows)
 pairs [] [] le each = refl
 pairs [] (x ∷ keeps) le each = absurd (omega (arith, le))
 pairs (r ∷ rows) [] le each = refl
@@ -35,7 +36,8 @@ pairs (r ∷ rows) (x ∷ keeps) le each =
     let rest = pairs rows keeps (omega (arith, le)) (λ t lt. each (suc t) (omega (arith, lt))) in
     rw (rest, first) refl
 
-pub first_fit_in_rows : {log : List LogItem} (a : Settings) (k : KeeperView) (rows : List KeptSlot) (n : ℕ) (x : OnKeeper) → IsOurKeeper a k rows n → record { view = k; slots = states_of rows; log = log } ≡ x → position is_available_row (take a.slots rows) ≡ first_fit x
+pub first_fit_in_rows : {log : List LogItem} (a : Settings) (k : KeeperView) (rows : List KeptSlot) (n : ℕ) (x : OnKeeper) → IsOurKeeper a k rows n
+    → record { view = k; slots = states_of rows; log = log } ≡ x → position is_available_row (take a.slots rows) ≡ first_fit x
 first_fit_in_rows a k rows n x our is =
     let size : length k.keeps ≡ a.slots = our.view.sized.keeps in
     let most = (ranges a our.view.fit).slots in

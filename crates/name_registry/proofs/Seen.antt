@@ -9,7 +9,8 @@ use Rattle.protocol.proofs.slots.MarkRows.{snapshot_stands}
 use Rattle.cpu_words.specs.Common.{has_looked, has_looked_passive, HasLookedPassive, HasLooked, did, Makes}
 use Rattle.cpu_words.proofs.by_keeper.KeeperSees.{seen_by_keeper}
 use Rattle.passive_list.specs.Common.{OnKeeper}
-use Rattle.name_registry.specs.Common.{MayWork, HasWorkedFor, HasLookedFor, HasLookedLast, EndsIn, SeesSection, SeesPassive, Meets, MeetsGrace, MeetsLocal, MeetsPassive, PassedBelow, ClearBelow, CollectedBelow, Settles}
+use Rattle.name_registry.specs.Common.{MayWork, HasWorkedFor, HasLookedFor, HasLookedLast, EndsIn, SeesSection, SeesPassive, Meets, MeetsGrace, MeetsLocal, MeetsPassive, PassedBelow, ClearBelow}
+use Rattle.name_registry.specs.Common.{CollectedBelow, Settles}
 use Rattle.name_registry.proofs.Worked.{mark_put, looked_more, still_passed, still_clear}
 
 odd_if : (w : ℕ) → is_even w ≡ false → w % 2 ≡ 1
@@ -30,7 +31,8 @@ looked_tells m x w some unset =
     (odd_if w word.0, unchanged m.snapshot x w some word.1)
 
 -- the snapshot of a retired entry stands
-snapshot_at : (z : Settings) (a : OnKeeper) (l : KeeperView) (t c w : ℕ) → MayWork z a t → c < z.cpus → Makes (Look (Some t) c) (Word w) (Keeper a.view) (Keeper l) → (x : ℕ) × ((mark_at a.view.marks t c).snapshot ≡ Some x)
+snapshot_at : (z : Settings) (a : OnKeeper) (l : KeeperView) (t c w : ℕ) → MayWork z a t → c < z.cpus → Makes (Look (Some t) c) (Word w) (Keeper a.view) (Keeper l)
+    → (x : ℕ) × ((mark_at a.view.marks t c).snapshot ≡ Some x)
 snapshot_at z a l t c w may cpu made =
     let seen = seen_by_keeper made.g a.view made.good made.before in
     let rest : at_rest made.g.due ≡ true = ap at_rest (sym seen.due ∙ may.rest) in
@@ -39,7 +41,8 @@ snapshot_at z a l t c w may cpu made =
     let x = snapshot_stands made.g t c made.good.holds rest gone lt in
     (x.0, ap (λ (ms : List (List Mark)). (mark_at ms t c).snapshot) seen.marks ∙ x.1)
 
-pub sees_section : (z : Settings) (a b : OnKeeper) (t c w : ℕ) → MayWork z a t → c < z.cpus → HasLooked a.view (Look (Some t) c) (Word w) t c w b.view → Makes (Look (Some t) c) (Word w) (Keeper a.view) (Keeper b.view)
+pub sees_section : (z : Settings) (a b : OnKeeper) (t c w : ℕ) → MayWork z a t → c < z.cpus → HasLooked a.view (Look (Some t) c) (Word w) t c w b.view
+    → Makes (Look (Some t) c) (Word w) (Keeper a.view) (Keeper b.view)
     → b.log ≡ a.log ++ did (Look (Some t) c) (Word w) → (mark_at b.view.marks t c).passed ≡ false → SeesSection a t c b
 sees_section z a b t c w may cpu change made log unset =
     let m = mark_at a.view.marks t c in
@@ -90,7 +93,13 @@ section_since a b d t c worked sees = record {
 }
 
 passive_since : (a b d : OnKeeper) (t c : ℕ) → HasWorkedFor a t b → SeesPassive b t c d → SeesPassive a t c d
-passive_since a b d t c worked sees = record { word = sees.word; look = looked_since a b d t sees.word _ worked sees.look; log = ends_since a.log b.log d.log (has_looked_passive t c sees.word) worked.log sees.log; some = sees.some; unclear = sees.unclear }
+passive_since a b d t c worked sees = record {
+  word = sees.word;
+  look = looked_since a b d t sees.word _ worked sees.look;
+  log = ends_since a.log b.log d.log (has_looked_passive t c sees.word) worked.log sees.log;
+  some = sees.some;
+  unclear = sees.unclear;
+}
 
 -- The first CPU of all that a look stops at
 
@@ -102,7 +111,8 @@ grace_met z a b d t c may cpu before passed looked_ sees = record {
   leaves = looked_more a b d t before looked_;
 }
 
-pub passive_met : (z : Settings) (a b d : OnKeeper) (t c : ℕ) → MayWork z a t → c < z.cpus → PassedBelow a.view t z.cpus → HasLookedFor a t b → ClearBelow b.view t c → HasLookedFor b t d → SeesPassive b t c d → MeetsPassive a t c d
+pub passive_met : (z : Settings) (a b d : OnKeeper) (t c : ℕ) → MayWork z a t → c < z.cpus → PassedBelow a.view t z.cpus → HasLookedFor a t b → ClearBelow b.view t c → HasLookedFor b t d
+    → SeesPassive b t c d → MeetsPassive a t c d
 passive_met z a b d t c may cpu passed before clear looked_ sees =
     let leaves = looked_more a b d t before looked_ in
     let settings : d.view.settings ≡ z = ap (λ (k : KeeperView). k.settings) leaves.worked.only ∙ may.settings in
@@ -126,7 +136,8 @@ passive_after a b d t c before meets = record {
 
 -- The end of the work, at a slot with all marks
 
-pub settles_after : (z : Settings) (a m d : OnKeeper) (t : ℕ) (stage : Stage) → MayWork z a t → HasWorkedFor a t m → PassedBelow m.view t z.cpus → ClearBelow m.view t z.cpus → CollectedBelow m.view t z.cpus → Settles m t stage d → Meets a t stage d
+pub settles_after : (z : Settings) (a m d : OnKeeper) (t : ℕ) (stage : Stage) → MayWork z a t → HasWorkedFor a t m → PassedBelow m.view t z.cpus → ClearBelow m.view t z.cpus
+    → CollectedBelow m.view t z.cpus → Settles m t stage d → Meets a t stage d
 settles_after z a m d t (Grace c) may worked passed clear collected ends = absurd ends
 settles_after z a m d t (Passive c) may worked passed clear collected ends = absurd ends
 settles_after z a m d t (Local n) may worked passed clear collected ends =

@@ -1,5 +1,6 @@
 -- In whatever state shows the views, what an audit says is held of an entry is its tally.
-use Rattle.std.proofs.Common.{◌≡◌, ◌≢◌, inl, inr, ⊎_elim, ℕ, zero, suc, ◌+◌, ◌*◌, ◌<◌, ◌≤◌, ◌&&◌, ℤ, pos, ◌+ℤ◌, List, [], ◌∷◌, length, get_or, map, fold, cond, sum_by, Bool, true, false, Some, refl, sym, ap, ◌∙◌, subst, arith}
+use Rattle.std.proofs.Common.{◌≡◌, ◌≢◌, inl, inr, ⊎_elim, ℕ, zero, suc, ◌+◌, ◌*◌, ◌<◌, ◌≤◌, ◌&&◌, ℤ, pos, ◌+ℤ◌, List, [], ◌∷◌, length, get_or, map, fold, cond, sum_by, Bool, true, false, Some, refl}
+use Rattle.std.proofs.Common.{sym, ap, ◌∙◌, subst, arith}
 use Rattle.std.specs.List.{zip}
 use Rattle.std.proofs.lemmas.Bool.{eq-eqb, ne_eqb, false≢true}
 use Rattle.std.proofs.lemmas.Int.{ints}
@@ -14,12 +15,14 @@ use Rattle.name_registry.specs.Types.{Balance, Entry, Settings, Rest, Mark, Slot
 use Rattle.registry_values.specs.Common.{Tally, tally_shown, bias, is_retired, slot_at, no_mark}
 use Rattle.protocol.specs.Common.{IsIn, addition_due_at, is_adding_at, subtraction_due_at, State, mark_at, count_at, total_at}
 use Rattle.protocol.proofs.slots.Occupied.{in_within}
-use Rattle.cpu_words.specs.Common.{IsPlaceCount, number_at, collected_net, collected_one, CpuShown, KeeperShown, Good, with_note, keeper_with_note, AreCountsOf, is_drawn, occupant_of, word_if, word_in}
+use Rattle.cpu_words.specs.Common.{IsPlaceCount, number_at, collected_net, collected_one, CpuShown, KeeperShown, Good, with_note, keeper_with_note, AreCountsOf, is_drawn, occupant_of, word_if}
+use Rattle.cpu_words.specs.Common.{word_in}
 use Rattle.cpu_words.proofs.by_cpu.Counting.{place_is}
 use Rattle.cpu_words.proofs.by_keeper.KeeperSees.{seen_by_keeper}
 use Rattle.passive_list.specs.Common.{OnCpu, IsOurKeeper, OnKeeper, OnPlainKeeper, on_keeper}
 use Rattle.passive_list.proofs.Rows.{slots_agree}
-use Rattle.name_registry.specs.Common.{AreAllCpus, AreAlike, AreShown, IsAuditOf, IsKeeperOf, IsTallied, acquired_of, is_collected, local_by, local_met, local_of, locals_of, net_met, net_of, released_of, tallies_met, tally, tally_by, tally_met, tally_of}
+use Rattle.name_registry.specs.Common.{AreAllCpus, AreAlike, AreShown, IsAuditOf, IsKeeperOf, IsTallied, acquired_of, is_collected, local_by, local_met, local_of, locals_of, net_met, net_of}
+use Rattle.name_registry.specs.Common.{released_of, tallies_met, tally, tally_by, tally_met, tally_of}
 use Rattle.name_registry.proofs.Audits.{all_met, each_same}
 
 -- The sum over the CPUs
@@ -58,7 +61,8 @@ none_past (p ∷ row) none =
     let one : collected_one p ≡ 0 = ap (λ b. cond b 1 0) (none 0) in
     (omega (arith, sum_by-cons collected_net p row, net, rest.0), omega (arith, sum_by-cons collected_one p row, one, rest.1))
 
-sums : (k : OnKeeper) (t n : ℕ) (row : List (Mark × ℕ)) (xs : List OnCpu) (a : ℤ) → ((c : ℕ) (x : OnCpu) → get_elem? xs c ≡ some x → IsDrawn k t n (get_or row c nothing) x) → ((c : ℕ) → length xs ≤ c → (get_or row c nothing).0.collected ≡ false)
+sums : (k : OnKeeper) (t n : ℕ) (row : List (Mark × ℕ)) (xs : List OnCpu) (a : ℤ) → ((c : ℕ) (x : OnCpu) → get_elem? xs c ≡ some x → IsDrawn k t n (get_or row c nothing) x)
+    → ((c : ℕ) → length xs ≤ c → (get_or row c nothing).0.collected ≡ false)
     → fold ◌+ℤ◌ a (locals_of k xs t n) +ℤ pos (sum_by collected_net row + sum_by (released_of n) xs) ≡ a +ℤ pos (sum_by (acquired_of n) xs + bias * sum_by collected_one row)
 sums k t n row [] a each past = let none = none_past row (λ c. past c (omega arith)) in omega (arith, ints, none.0, none.1)
 sums k t n [] (x ∷ xs) a each past =
@@ -72,7 +76,8 @@ sums k t n (p ∷ row) (x ∷ xs) a each past =
 
 -- Of a slot in such a state
 
-pub known_keeper : {table : TableId} {log : List LogItem} (a : Settings) (k : KeeperView) (rows : List KeptSlot) (n : ℕ) (x : OnPlainKeeper) → IsOurKeeper a k rows n → on_keeper table a k rows log ≡ x → IsKeeperOf x.words.settings x.keeper
+pub known_keeper : {table : TableId} {log : List LogItem} (a : Settings) (k : KeeperView) (rows : List KeptSlot) (n : ℕ) (x : OnPlainKeeper) → IsOurKeeper a k rows n → on_keeper table a k rows log ≡ x
+    → IsKeeperOf x.words.settings x.keeper
 known_keeper a k rows n x our is = subst (λ (y : OnPlainKeeper). IsKeeperOf y.words.settings y.keeper) is record {
   view = our.view;
   is_shown = our.is_shown;
@@ -100,17 +105,20 @@ abbrev AreNets : State → List OnCpu → ℕ → ℕ → Type 0
 AreNets g xs t n = (c : ℕ) (x : OnCpu) → get_elem? xs c ≡ some x → is_drawn g t c ≡ true → count_at g.nets c t + released_of n x ≡ bias + acquired_of n x
 
 -- a live entry: no word was collected, and the total is the bias less what was given up
-held_live : (k : OnKeeper) (xs : List OnCpu) (g : State) (h : List Change) (t : ℕ) (e : Entry) → IsOfKeeper g k h → slot_at k.slots t ≡ Live e → slot_at k.view.slots t ≡ Live e → (tally_of k xs e.number t).held ≡ tally k xs e.number
+held_live : (k : OnKeeper) (xs : List OnCpu) (g : State) (h : List Change) (t : ℕ) (e : Entry) → IsOfKeeper g k h → slot_at k.slots t ≡ Live e → slot_at k.view.slots t ≡ Live e
+    → (tally_of k xs e.number t).held ≡ tally k xs e.number
 held_live k xs g h t e shown live there =
     let seen = seen_by_keeper g (keeper_with_note k.view h) shown.good shown.keeper in
-    let each : (c : ℕ) (x : OnCpu) → get_elem? xs c ≡ some x → IsDrawn k t e.number nothing x = λ c x at. record { mark = ap (λ (y : Slot). is_retired y && (mark_at k.view.marks t x.view.id).collected) live; net = λ never. absurd (false≢true never) } in
+    let each : (c : ℕ) (x : OnCpu) → get_elem? xs c ≡ some x → IsDrawn k t e.number nothing x =
+    λ c x at. record { mark = ap (λ (y : Slot). is_retired y && (mark_at k.view.marks t x.view.id).collected) live; net = λ never. absurd (false≢true never) } in
     let sum = sums k t e.number [] xs (pos 0) each (λ c le. refl) in
     let total = shown.keeper.live_total t e (ap (λ (y : List Slot). slot_at y t) (sym seen.slots) ∙ there) in
     let same = ap (λ (y : List ℕ). total_at y t) seen.totals in
     omega (arith, ints, sum, total, same)
 
 -- a retired one: the total is what was collected, less what was given up
-held_retired : (a : Settings) (k : OnKeeper) (xs : List OnCpu) (g : State) (h : List Change) (t : ℕ) (e : Entry) → IsKeeperOf a k → AreAllCpus a.cpus xs → IsOfKeeper g k h → AreNets g xs t e.number → slot_at k.slots t ≡ Retired e → slot_at k.view.slots t ≡ Retired e
+held_retired : (a : Settings) (k : OnKeeper) (xs : List OnCpu) (g : State) (h : List Change) (t : ℕ) (e : Entry) → IsKeeperOf a k → AreAllCpus a.cpus xs → IsOfKeeper g k h → AreNets g xs t e.number
+    → slot_at k.slots t ≡ Retired e → slot_at k.view.slots t ≡ Retired e
     → (tally_of k xs e.number t).held ≡ tally k xs e.number
 held_retired a k xs g h t e known all shown nets gone there =
     let seen = seen_by_keeper g (keeper_with_note k.view h) shown.good shown.keeper in
@@ -124,7 +132,8 @@ held_retired a k xs g h t e known all shown nets gone there =
     let each : (c : ℕ) (x : OnCpu) → get_elem? xs c ≡ some x → IsDrawn k t e.number (get_or (zip ms ns) c nothing) x = λ c x is.
     let id = all.each c x is in
     subst (λ (p : Mark × ℕ). IsDrawn k t e.number p x) (sym (at c)) (record {
-      mark = ap (λ (y : Slot). is_retired y && (mark_at k.view.marks t x.view.id).collected) gone ∙ (ap (λ i. (mark_at k.view.marks t i).collected) id ∙ ap (λ (y : List (List Mark)). (mark_at y t c).collected) seen.marks);
+      mark = ap (λ (y : Slot). is_retired y && (mark_at k.view.marks t x.view.id).collected) gone
+          ∙ (ap (λ i. (mark_at k.view.marks t i).collected) id ∙ ap (λ (y : List (List Mark)). (mark_at y t c).collected) seen.marks);
       net = λ on. nets c x is (λ j. is_retired (here j) && on j);
     }) in
     let cpus : a.cpus ≡ g.settings.cpus = ap (λ (z : Settings). z.cpus) (sym known.view.settings ∙ seen.settings) in
@@ -137,7 +146,8 @@ held_retired a k xs g h t e known all shown nets gone there =
     let same = ap (λ (y : List ℕ). total_at y t) seen.totals in
     omega (arith, ints, sum, total, same, adding, is_adding, subtracting)
 
-held_by : (a : Settings) (k : OnKeeper) (xs : List OnCpu) (g : State) (h : List Change) (t : ℕ) (e : Entry) → IsKeeperOf a k → AreAllCpus a.cpus xs → IsOfKeeper g k h → AreNets g xs t e.number → IsIn e (slot_at k.slots t) → (tally_of k xs e.number t).held ≡ tally k xs e.number
+held_by : (a : Settings) (k : OnKeeper) (xs : List OnCpu) (g : State) (h : List Change) (t : ℕ) (e : Entry) → IsKeeperOf a k → AreAllCpus a.cpus xs → IsOfKeeper g k h → AreNets g xs t e.number
+    → IsIn e (slot_at k.slots t) → (tally_of k xs e.number t).held ≡ tally k xs e.number
 held_by a k xs g h t e known all shown nets is = ⊎_elim
     (λ (live : slot_at k.slots t ≡ Live e). held_live k xs g h t e shown live (known.slots t ∙ live))
     (λ (gone : slot_at k.slots t ≡ Retired e). held_retired a k xs g h t e known all shown nets gone (known.slots t ∙ gone))
@@ -157,7 +167,8 @@ pub locals_same : (f h : OnCpu → ℤ) (xs : List OnCpu) → ((c : ℕ) (x : On
 locals_same f h [] each = refl
 locals_same f h (x ∷ xs) each = let one = each 0 x refl in let rest = locals_same f h xs (λ c y at. each (suc c) y at) in λ i. one i ∷ rest i
 
-pub own_tally : (a : Settings) (k : OnKeeper) (xs : List OnCpu) (g : State) (t : ℕ) (e : Entry) → IsKeeperOf a k → AreShown g k xs → IsIn e (slot_at k.slots t) → tally_met k xs e.number t ≡ tally_of k xs e.number t
+pub own_tally : (a : Settings) (k : OnKeeper) (xs : List OnCpu) (g : State) (t : ℕ) (e : Entry) → IsKeeperOf a k → AreShown g k xs → IsIn e (slot_at k.slots t)
+    → tally_met k xs e.number t ≡ tally_of k xs e.number t
 own_tally a k xs g t e known shown is =
     let seen = seen_by_keeper g k.view shown.good shown.keeper in
     let there = there_too a k t e known is in
@@ -176,7 +187,8 @@ occupant_in n (Live d) is = (d, inl refl, same_Some d.number n is)
 occupant_in n (Retired d) is = (d, inr refl, same_Some d.number n is)
 
 -- an entry of a slot is there in the other state
-occupied_too : (log : List LogItem) (g f : State) (t : ℕ) (e : Entry) → AreCountsOf log g → AreCountsOf log f → IsIn e (slot_at g.slots t) → (d : Entry) × IsIn d (slot_at f.slots t) × (d.number ≡ e.number)
+occupied_too : (log : List LogItem) (g f : State) (t : ℕ) (e : Entry) → AreCountsOf log g → AreCountsOf log f → IsIn e (slot_at g.slots t)
+    → (d : Entry) × IsIn d (slot_at f.slots t) × (d.number ≡ e.number)
 occupied_too log g f t e own other is = occupant_in e.number (slot_at f.slots t) (sym (other.occupants t) ∙ (own.occupants t ∙ in_occupant e (slot_at g.slots t) is))
 
 word_some : (b : Bool) (w v : ℕ) → word_if b w ≡ Some v → (b ≡ true) × (w ≡ v)
@@ -220,7 +232,8 @@ module _ (a : Settings) (k : OnKeeper) (xs ys : List OnCpu) (known : IsKeeperOf 
 
 -- What is shown of the list
 
-pub audit_right : (a : Settings) (k : OnKeeper) (xs ys : List OnCpu) (list : List Balance) → IsKeeperOf a k → AreAllCpus a.cpus xs → AreAlike k xs ys → map tally_shown list ≡ tallies_met k xs a.slots → IsAuditOf a k xs list
+pub audit_right : (a : Settings) (k : OnKeeper) (xs ys : List OnCpu) (list : List Balance) → IsKeeperOf a k → AreAllCpus a.cpus xs → AreAlike k xs ys → map tally_shown list ≡ tallies_met k xs a.slots
+    → IsAuditOf a k xs list
 audit_right a k xs ys list known all alike met = record {
   keeper = known;
   met = met;

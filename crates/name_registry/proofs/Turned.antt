@@ -13,7 +13,8 @@ use Rattle.cpu_words.specs.Common.{has_looked, has_looked_passive, is_drawn, occ
 use Rattle.cpu_words.proofs.by_keeper.KeeperSees.{seen_by_keeper}
 use Rattle.cpu_words.proofs.logs.Standings.{not_attached}
 use Rattle.passive_list.specs.Common.{OnCpu, OnKeeper, HasOwnLog, HasHeardOn, cpu_after_tell, has_heard, HasFreed}
-use Rattle.name_registry.specs.Common.{EndsIn, HasAdvanced, HasEnded, Meets, MeetsGrace, MeetsLocal, MeetsPassive, HasAdvancedFor, hears_cpu, keeper_after_hear, keeper_after_tell, AnswersBy, HasMet, IsNotRetired, IsRetiredIn, IsTurn, MetLocals, MetReference, MetSection}
+use Rattle.name_registry.specs.Common.{EndsIn, HasAdvanced, HasEnded, Meets, MeetsGrace, MeetsLocal, MeetsPassive, HasAdvancedFor, hears_cpu, keeper_after_hear, keeper_after_tell, AnswersBy, HasMet}
+use Rattle.name_registry.specs.Common.{IsNotRetired, IsRetiredIn, IsTurn, MetLocals, MetReference, MetSection}
 use Rattle.name_registry.proofs.Noted.{heard_told_again, met_again}
 use Rattle.name_registry.proofs.Worked.{prefix_on}
 
@@ -86,7 +87,8 @@ met_locals z a b t n k e own at same meets =
 pub ended_freed : (m : OnKeeper) (t : ℕ) (b : OnKeeper) (e : Entry) → HasEnded m t b → slot_at m.slots t ≡ Retired e → IsFreedFrom t e.number b.log
 ended_freed m t b e ended at = ⊎_elim (λ v. v.1.freed e at) (λ (f : HasFreed m t b). f.freed e at) ended
 
-has_met : (z : Settings) (a b : OnKeeper) (t n : ℕ) (e : Entry) (begin : List LogItem) (stage : Stage) → HasOwnLog z b → IsPrefix begin a.log → slot_at a.slots t ≡ Retired e → e.number ≡ n → Meets a t stage b → HasMet z.cpus t n stage begin b.log
+has_met : (z : Settings) (a b : OnKeeper) (t n : ℕ) (e : Entry) (begin : List LogItem) (stage : Stage) → HasOwnLog z b → IsPrefix begin a.log → slot_at a.slots t ≡ Retired e → e.number ≡ n
+    → Meets a t stage b → HasMet z.cpus t n stage begin b.log
 has_met z a b t n e begin (Grace c) own from at same meets = met_section z a b t c begin own from meets
 has_met z a b t n e begin (Passive c) own from at same meets = met_reference z a b t c begin own from meets
 has_met z a b t n e begin (Local k) own from at same meets = met_locals z a b t n k e own at same meets
@@ -114,7 +116,8 @@ advanced_on a n (Err refusal) b has = ([], append-nil a.log ∙ ap (λ (k : OnKe
 
 -- The turn
 
-answers_by : (z : Settings) (a h b : OnKeeper) (n : ℕ) (answer : Result Stage Refusal) → HasOwnLog z a → HasOwnLog z b → h.slots ≡ a.slots → IsPrefix a.log h.log → HasAdvanced h n answer b → AnswersBy z.cpus n answer a.log b.log
+answers_by : (z : Settings) (a h b : OnKeeper) (n : ℕ) (answer : Result Stage Refusal) → HasOwnLog z a → HasOwnLog z b → h.slots ≡ a.slots → IsPrefix a.log h.log → HasAdvanced h n answer b
+    → AnswersBy z.cpus n answer a.log b.log
 answers_by z a h b n (Ok stage) own end slots from has =
     let told = (retired_slot_tells h.slots n has.0 has.1).1 in
     let at : slot_at a.slots has.0 ≡ Retired told.0 = ap (λ (l : List Slot). slot_at l has.0) (sym slots) ∙ told.1 in
@@ -140,8 +143,10 @@ told_turn z a x n answer b y has = record {
 }
 
 -- the steps of one, put together
-pub made_turn : (z : Settings) (a h end k b : OnKeeper) (x same after y : OnCpu) (n : ℕ) (answer : Result Stage Refusal) → IsPrefix x.known_log a.log → IsPrefix x.view.pass h.view.history → HasOwnLog z a → h ≡ keeper_after_hear a x → same ≡ cpu_after_tell x
-    → HasAdvanced h n answer end → HasOwnLog z end → k ≡ keeper_after_hear end same → after ≡ cpu_after_tell same → b ≡ keeper_after_tell k → HasHeardOn k.view.history after y → IsPrefix b.log y.known_log → y.log ≡ after.log ++ has_heard after None → HasAdvancedFor z a x n answer b y
+pub made_turn : (z : Settings) (a h end k b : OnKeeper) (x same after y : OnCpu) (n : ℕ) (answer : Result Stage Refusal) → IsPrefix x.known_log a.log → IsPrefix x.view.pass h.view.history
+    → HasOwnLog z a → h ≡ keeper_after_hear a x → same ≡ cpu_after_tell x
+    → HasAdvanced h n answer end → HasOwnLog z end → k ≡ keeper_after_hear end same → after ≡ cpu_after_tell same → b ≡ keeper_after_tell k → HasHeardOn k.view.history after y
+    → IsPrefix b.log y.known_log → y.log ≡ after.log ++ has_heard after None → HasAdvancedFor z a x n answer b y
 made_turn z a h end k b x same after y n answer known seen own heard first made own_end again second is hears told log = record {
   known = known;
   seen =
@@ -153,7 +158,8 @@ made_turn z a h end k b x same after y n answer known seen own heard first made 
   made = subst (λ (o : OnKeeper). HasAdvanced o n answer end) heard made;
   own_end = own_end;
   is = is ∙ ap keeper_after_tell (again ∙ ap (keeper_after_hear end) first);
-  hears = heard_told_again end.view.history x y (subst (λ (o : OnCpu). HasHeardOn end.view.history o y) (second ∙ ap cpu_after_tell first) (subst (λ (l : List Change). HasHeardOn l after y) (ap (λ (o : OnKeeper). o.view.history) again) hears));
+  hears = heard_told_again end.view.history x y (subst (λ (o : OnCpu). HasHeardOn end.view.history o y) (second ∙ ap cpu_after_tell first)
+      (subst (λ (l : List Change). HasHeardOn l after y) (ap (λ (o : OnKeeper). o.view.history) again) hears));
   told = told;
   cpu_log = met_again x same after y first second log;
 }

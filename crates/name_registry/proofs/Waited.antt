@@ -1,5 +1,6 @@
 -- What the caller's CPU knows once a perform is done: the keeper saw each CPU out of a section, after it had heard the caller, and what had been detached by then has passed.
-use Rattle.std.proofs.Common.{◌≡◌, ◌⊎◌, inl, inr, ⊎_elim, ℕ, zero, suc, ◌<◌, ◌≤◌, Bool, true, false, not, ◌==◌, List, [], ◌∷◌, ◌++◌, length, get_or, Option, Some, None, Result, IfOk, refl, sym, ap, ◌∙◌, subst, append_assoc, arith}
+use Rattle.std.proofs.Common.{◌≡◌, ◌⊎◌, inl, inr, ⊎_elim, ℕ, zero, suc, ◌<◌, ◌≤◌, Bool, true, false, not, ◌==◌, List, [], ◌∷◌, ◌++◌, length, get_or, Option, Some, None, Result, IfOk, refl, sym, ap}
+use Rattle.std.proofs.Common.{◌∙◌, subst, append_assoc, arith}
 use Rattle.std.proofs.lemmas.Bool.{or_cases, not-true, false≢true, eqb-true, eqb-false, cases_lt, not-false}
 use Rattle.std.proofs.lemmas.List.{append-nil}
 use mathlib.Core.List.{IsPrefix}
@@ -13,7 +14,8 @@ use Rattle.cpu_words.proofs.logs.Growing.{passed_on, snapped_on}
 use Rattle.cpu_words.proofs.logs.Standings.{changes_last, kept_entry, kept_parts, standing_last}
 use Rattle.passive_list.specs.Common.{OnCpu, as_teller, cpu_after_tell, OnKeeper, GoesOnBy}
 use Rattle.passive_list.proofs.Walking.{prefix_trans}
-use Rattle.name_registry.specs.Common.{HasLearned, IsNote, hears_cpu, keeper_after_hear, Finishes, GlancesBelow, GlancesOnce, HasPerformed, HasSeenAllOut, Hold, Looking, SnapshotsBelow, SomeBegan, SomeGlanced, SomePassed, TurnsWaiting, is_seen, none_seen, word_of}
+use Rattle.name_registry.specs.Common.{HasLearned, IsNote, hears_cpu, keeper_after_hear, Finishes, GlancesBelow, GlancesOnce, HasPerformed, HasSeenAllOut, Hold, Looking, SnapshotsBelow, SomeBegan}
+use Rattle.name_registry.specs.Common.{SomeGlanced, SomePassed, TurnsWaiting, is_seen, none_seen, word_of}
 use Rattle.name_registry.proofs.Owned.{learned}
 use Rattle.name_registry.proofs.Passed.{IsReady, Passing, onward_below, passed_end, ready}
 use Rattle.name_registry.proofs.Worked.{prefix_on}
@@ -40,13 +42,21 @@ taken_more : (c w : ℕ) (log more : List LogItem) → IsTaken c w log → IsTak
 taken_more c w log more is = record { before = is.before; after = is.after ++ more; are = ap (λ (l : List LogItem). l ++ more) is.are ∙ append_assoc is.before (has_taken c w ∷ is.after) more }
 
 taken_past : (c w : ℕ) (first log : List LogItem) → IsTaken c w log → IsTaken c w (first ++ log)
-taken_past c w first log is = record { before = first ++ is.before; after = is.after; are = ap (λ (l : List LogItem). first ++ l) is.are ∙ sym (append_assoc first is.before (has_taken c w ∷ is.after)) }
+taken_past c w first log is =
+    record { before = first ++ is.before; after = is.after; are = ap (λ (l : List LogItem). first ++ l) is.are ∙ sym (append_assoc first is.before (has_taken c w ∷ is.after)) }
 
 found_more : (c old : ℕ) (log more : List LogItem) → IsFound c old log → IsFound c old (log ++ more)
-found_more c old log more is = record { new = is.new; before = is.before; after = is.after ++ more; are = ap (λ (l : List LogItem). l ++ more) is.are ∙ append_assoc is.before (has_found c is.new ∷ is.after) more; out = is.out }
+found_more c old log more is =
+    record { new = is.new; before = is.before; after = is.after ++ more; are = ap (λ (l : List LogItem). l ++ more) is.are ∙ append_assoc is.before (has_found c is.new ∷ is.after) more; out = is.out }
 
 found_past : (c old : ℕ) (first log : List LogItem) → IsFound c old log → IsFound c old (first ++ log)
-found_past c old first log is = record { new = is.new; before = first ++ is.before; after = is.after; are = ap (λ (l : List LogItem). first ++ l) is.are ∙ sym (append_assoc first is.before (has_found c is.new ∷ is.after)); out = is.out }
+found_past c old first log is = record {
+  new = is.new;
+  before = first ++ is.before;
+  after = is.after;
+  are = ap (λ (l : List LogItem). first ++ l) is.are ∙ sym (append_assoc first is.before (has_found c is.new ∷ is.after));
+  out = is.out;
+}
 
 seen_more : (c : ℕ) (log more : List LogItem) → IsSeenOut c log → IsSeenOut c (log ++ more)
 seen_more c log more is = record {
@@ -95,7 +105,8 @@ snapped words (suc n) k l is =
       are = ap (λ (x : Looking). x.log) is.2.change ∙ (ap (λ (x : List LogItem). x ++ d) p.are ∙ append_assoc k.log p.more d);
       taken = λ c lt. ⊎_elim
           (λ (below : c < n). taken_more c (word_of words c) p.more d (p.taken c below))
-          (λ (le : n ≤ c). let same : n ≡ c = omega (arith, lt, le) in subst (λ (m : ℕ). IsTaken m (word_of words m) (p.more ++ d)) same (taken_past n (word_of words n) p.more d (record { before = []; after = []; are = refl })))
+          (λ (le : n ≤ c). let same : n ≡ c = omega (arith, lt, le) in
+          subst (λ (m : ℕ). IsTaken m (word_of words m) (p.more ++ d)) same (taken_past n (word_of words n) p.more d (record { before = []; after = []; are = refl })))
           (cases_lt c n);
     }
 
@@ -126,7 +137,8 @@ glanced words seen after (suc n) k l is =
 
 -- From hold to hold
 
--- so far: the keeper had done `before` as it heard the caller, and what was detached by then had passed or was retired, with these numbers; since then it took the words of all CPUs, and saw out of their sections those that are seen
+-- so far: the keeper had done `before` as it heard the caller, and what was detached by then had passed or was retired, with these numbers; since then it took the words of all CPUs, and saw out of
+-- their sections those that are seen
 pub record SoFar (cpus : ℕ) (x : OnCpu) (words : List ℕ) (numbers : List (Option ℕ)) (seen : List Bool) (m : OnCpu) : Type 0 where
   pub before : List LogItem
   pub since : List LogItem
@@ -139,7 +151,8 @@ pub record SoFar (cpus : ℕ) (x : OnCpu) (words : List ℕ) (numbers : List (Op
   pub out : (c : ℕ) → c < cpus → is_seen seen c ≡ true → IsSeenOut c since
 
 -- it stays so of whoever knows more
-pub so_far_on : (cpus : ℕ) (x : OnCpu) (words : List ℕ) (numbers : List (Option ℕ)) (seen : List Bool) (m y : OnCpu) → IsPrefix m.known_log y.known_log → SoFar cpus x words numbers seen m → SoFar cpus x words numbers seen y
+pub so_far_on : (cpus : ℕ) (x : OnCpu) (words : List ℕ) (numbers : List (Option ℕ)) (seen : List Bool) (m y : OnCpu) → IsPrefix m.known_log y.known_log → SoFar cpus x words numbers seen m
+    → SoFar cpus x words numbers seen y
 so_far_on cpus x words numbers seen m y more had = record {
   before = had.before;
   since = had.since ++ more.0;
@@ -153,7 +166,8 @@ so_far_on cpus x words numbers seen m y more had = record {
 }
 
 -- and of other numbers, where each entry that was retired has its own among them
-pub so_far_by : (cpus : ℕ) (x : OnCpu) (words : List ℕ) (numbers others : List (Option ℕ)) (seen : List Bool) (m : OnCpu) → ((t n : ℕ) → get_or numbers t None ≡ Some n → get_or others t None ≡ Some n) → SoFar cpus x words numbers seen m → SoFar cpus x words others seen m
+pub so_far_by : (cpus : ℕ) (x : OnCpu) (words : List ℕ) (numbers others : List (Option ℕ)) (seen : List Bool) (m : OnCpu) → ((t n : ℕ) → get_or numbers t None ≡ Some n → get_or others t None ≡ Some n)
+    → SoFar cpus x words numbers seen m → SoFar cpus x words others seen m
 so_far_by cpus x words numbers others seen m same had = record {
   before = had.before;
   since = had.since;
@@ -174,7 +188,8 @@ record After (log more : List LogItem) (y : OnCpu) : Type 0 where
   tail : List LogItem
   are : y.known_log ≡ log ++ (more ++ tail)
 
-after_hold : (looks : Looking → Looking → Type 0) (a : OnKeeper) (x : OnCpu) (b : OnKeeper) (y : OnCpu) (hold : Hold looks a x b y) (more : List LogItem) → hold.end.log ≡ (a.log ++ hears_cpu x) ++ more → After (a.log ++ hears_cpu x) more y
+after_hold : (looks : Looking → Looking → Type 0) (a : OnKeeper) (x : OnCpu) (b : OnKeeper) (y : OnCpu) (hold : Hold looks a x b y) (more : List LogItem)
+    → hold.end.log ≡ (a.log ++ hears_cpu x) ++ more → After (a.log ++ hears_cpu x) more y
 after_hold looks a x b y hold more are =
     let t : List LogItem = did (Tell None) Done ++ hold.told.0 in record {
       tail = t;
@@ -186,10 +201,12 @@ after_hold looks a x b y hold more are =
 heard_changes : (log : List LogItem) (h : Option Teller) → changes_in (log ++ heard_from None h) ≡ changes_in log
 heard_changes log h = changes_last log (has_heard_from None h)
 
-heard_ready : (cpus : ℕ) (numbers : List (Option ℕ)) (log : List LogItem) (h : Option Teller) → ((t n : ℕ) → IsDetachedFrom t n log → IsReady cpus numbers log t n) → (t n : ℕ) → IsDetachedFrom t n (log ++ heard_from None h) → IsReady cpus numbers (log ++ heard_from None h) t n
+heard_ready : (cpus : ℕ) (numbers : List (Option ℕ)) (log : List LogItem) (h : Option Teller) → ((t n : ℕ) → IsDetachedFrom t n log → IsReady cpus numbers log t n) → (t n : ℕ)
+    → IsDetachedFrom t n (log ++ heard_from None h) → IsReady cpus numbers (log ++ heard_from None h) t n
 heard_ready cpus numbers log h are t n gone = ⊎_elim
     (λ (passed : (c : ℕ) → c < cpus → HasPassedOn t c log). inl (λ c lt. passed_on t c log (heard_from None h) (refl, tt) (passed c lt)))
-    (λ (retired : (get_or numbers t None ≡ Some n) × ((j : ℕ) → j < cpus → (w : ℕ) × IsSnapped t j w log)). inr (retired.0, λ j lt. let w = retired.1 j lt in (w.0, snapped_on t j w.0 log (heard_from None h) (refl, tt) w.1)))
+    (λ (retired : (get_or numbers t None ≡ Some n) × ((j : ℕ) → j < cpus → (w : ℕ) × IsSnapped t j w log)). inr
+    (retired.0, λ j lt. let w = retired.1 j lt in (w.0, snapped_on t j w.0 log (heard_from None h) (refl, tt) w.1)))
     (are t n (sym (standing_last t log (has_heard_from None h)) ∙ gone))
 
 none_is_seen : (c : ℕ) → is_seen none_seen c ≡ true → ⊥
@@ -212,7 +229,8 @@ so_far_begun z x words numbers y is =
       out = λ c lt seen. absurd (none_is_seen c seen);
     }
 
-pub so_far_turn : (z : Settings) (x : OnCpu) (words : List ℕ) (numbers : List (Option ℕ)) (seen : List Bool) (m : OnCpu) (told : Option ℕ) (after : List Bool) (y : OnCpu) → SoFar z.cpus x words numbers seen m → SomeGlanced z words m seen told after y → SoFar z.cpus x words numbers after y
+pub so_far_turn : (z : Settings) (x : OnCpu) (words : List ℕ) (numbers : List (Option ℕ)) (seen : List Bool) (m : OnCpu) (told : Option ℕ) (after : List Bool) (y : OnCpu)
+    → SoFar z.cpus x words numbers seen m → SomeGlanced z words m seen told after y → SoFar z.cpus x words numbers after y
 so_far_turn z x words numbers seen m told after y had is =
     let hold = is.2.hold in
     let p = glanced words seen after z.cpus _ hold.end hold.made in
@@ -240,12 +258,14 @@ so_far_turn z x words numbers seen m told after y had is =
           (p.found c lt now);
     }
 
-so_far_turns : (z : Settings) (x : OnCpu) (words : List ℕ) (numbers : List (Option ℕ)) (n : ℕ) (m : OnCpu) (seen : List Bool) (y : OnCpu) (after : List Bool) → SoFar z.cpus x words numbers seen m → TurnsWaiting (SomeGlanced z words) n m seen y after → SoFar z.cpus x words numbers after y
+so_far_turns : (z : Settings) (x : OnCpu) (words : List ℕ) (numbers : List (Option ℕ)) (n : ℕ) (m : OnCpu) (seen : List Bool) (y : OnCpu) (after : List Bool) → SoFar z.cpus x words numbers seen m
+    → TurnsWaiting (SomeGlanced z words) n m seen y after → SoFar z.cpus x words numbers after y
 so_far_turns z x words numbers zero m seen y after had is = subst (λ (p : OnCpu × List Bool). SoFar z.cpus x words numbers p.1 p.0) (λ k. (sym is.0 k, sym is.1 k)) had
 so_far_turns z x words numbers (suc n) m seen y after had is = so_far_turn z x words numbers is.1 is.0 (Some is.2) after y (so_far_turns z x words numbers n m seen is.0 is.1 had is.3) is.4
 
 -- where no CPU was told, all were seen out
-pub all_seen : (z : Settings) (x : OnCpu) (words : List ℕ) (numbers : List (Option ℕ)) (m : OnCpu) (seen : List Bool) (told : Option ℕ) (after : List Bool) (y : OnCpu) → (had : SoFar z.cpus x words numbers after y) → SomeGlanced z words m seen told after y → told ≡ None → HasWaited had.since z.cpus
+pub all_seen : (z : Settings) (x : OnCpu) (words : List ℕ) (numbers : List (Option ℕ)) (m : OnCpu) (seen : List Bool) (told : Option ℕ) (after : List Bool) (y : OnCpu)
+    → (had : SoFar z.cpus x words numbers after y) → SomeGlanced z words m seen told after y → told ≡ None → HasWaited had.since z.cpus
 all_seen z x words numbers m seen told after y had is none = λ c lt. had.out c lt (not-false (is_seen after c) (least_none (λ d. not (is_seen after d)) z.cpus (sym is.2.least ∙ none) c lt))
 
 -- The end
@@ -258,7 +278,8 @@ waited_on : (since more : List LogItem) (cpus : ℕ) → HasWaited since cpus �
 waited_on since more cpus waited c lt = seen_more c since more (waited c lt)
 
 -- once all were seen out, the passes are made, and the CPU is told what the keeper did
-pub passed_out : (z : Settings) (x : OnCpu) (words : List ℕ) (numbers : List (Option ℕ)) (seen : List Bool) (m : OnCpu) (y : OnCpu) → (had : SoFar z.cpus x words numbers seen m) → HasWaited had.since z.cpus → SomePassed z m numbers y → HasSeenAllOut z.cpus x y
+pub passed_out : (z : Settings) (x : OnCpu) (words : List ℕ) (numbers : List (Option ℕ)) (seen : List Bool) (m : OnCpu) (y : OnCpu) → (had : SoFar z.cpus x words numbers seen m)
+    → HasWaited had.since z.cpus → SomePassed z m numbers y → HasSeenAllOut z.cpus x y
 passed_out z x words numbers seen m y had waited is =
     let a = is.0 in
     let does = is.2 in
@@ -310,7 +331,8 @@ waited_none z turns x told y none is =
     passed_out z x is.snapshots is.numbers is.waits.after is.waited y end (all_seen z x is.snapshots is.numbers last.0 last.1 told is.waits.after is.waited end last.3 none)
     (subst (λ (o : Option ℕ). Finishes (SomePassed z) is.numbers is.waited o y) none is.end)
 
-pub waited_ok : (z : Settings) (turns : ℕ) (x : OnCpu) (told : Option ℕ) (y : OnCpu) (result : Result (Unit {0}) Refusal) → result ≡ wait_answer told → HasPerformed z turns x told y → IfOk result (λ _. HasSeenAllOut z.cpus x y)
+pub waited_ok : (z : Settings) (turns : ℕ) (x : OnCpu) (told : Option ℕ) (y : OnCpu) (result : Result (Unit {0}) Refusal) → result ≡ wait_answer told → HasPerformed z turns x told y
+    → IfOk result (λ _. HasSeenAllOut z.cpus x y)
 waited_ok z turns x None y result is made = subst (λ (r : Result (Unit {0}) Refusal). IfOk r (λ _. HasSeenAllOut z.cpus x y)) (sym is) (waited_none z turns x None y refl made)
 waited_ok z turns x (Some c) y result is made = subst (λ (r : Result (Unit {0}) Refusal). IfOk r (λ _. HasSeenAllOut z.cpus x y)) (sym is) tt
 
@@ -327,7 +349,10 @@ pub learns_more : (x m y : OnCpu) → Learns x m → Learns m y → Learns x y
 learns_more x m y first second = (
   record {
     pass = prefix_trans x.view.pass m.view.pass y.view.pass first.0.pass second.0.pass;
-    known_log = (first.0.known_log.0 ++ second.0.known_log.0, sym (append_assoc x.known_log first.0.known_log.0 second.0.known_log.0) ∙ (ap (λ (l : List LogItem). l ++ second.0.known_log.0) first.0.known_log.1 ∙ second.0.known_log.1));
+    known_log = (
+      first.0.known_log.0 ++ second.0.known_log.0,
+      sym (append_assoc x.known_log first.0.known_log.0 second.0.known_log.0) ∙ (ap (λ (l : List LogItem). l ++ second.0.known_log.0) first.0.known_log.1 ∙ second.0.known_log.1),
+    );
     is = second.0.is ∙ ap (λ (o : OnCpu). record o { view = record o.view { pass = y.view.pass; noted_pass = y.view.noted_pass }; made = y.made; known_log = y.known_log; log = y.log }) first.0.is;
     log = goes_on (IsNote x.view.id) x.log m.log y.log first.0.log (subst (λ (c : ℕ). GoesOnBy (IsNote c) m.log y.log) (ap (λ (o : OnCpu). o.view.id) first.0.is) second.0.log);
   },

@@ -26,11 +26,13 @@ iface_if (Some n) Driver d rightly is = absurd (let q : ◌≡◌ {A = Bool} fal
 keeps_iface : (k : KeeperView) (t d : ℕ) (e : Entry) → IsShown k → slot_at k.slots t ≡ Retired e → kept_at k.keeps t ≡ Some d → e.rec.kind ≡ Iface
 keeps_iface k t d e is_shown is kept =
     let seen = seen_by_keeper is_shown.g k is_shown.good is_shown.shown in
-    let keeps : DriversKept k.slots k.keeps = subst (λ (x : List Slot). DriversKept x k.keeps) (sym seen.slots) (subst (DriversKept is_shown.g.slots) (sym seen.keeps) is_shown.good.holds.kept_drivers) in
+    let keeps : DriversKept k.slots k.keeps =
+    subst (λ (x : List Slot). DriversKept x k.keeps) (sym seen.slots) (subst (DriversKept is_shown.g.slots) (sym seen.keeps) is_shown.good.holds.kept_drivers) in
     iface_if (kept_at k.keeps t) e.rec.kind d (keeps.rightly t e (inr is)) kept
 
 -- a keeper has work at each slot that it has as retired
-pub may_work : {table : TableId} {log : List LogItem} (a : Settings) (k : KeeperView) (rows : List KeptSlot) (n : ℕ) (x : OnPlainKeeper) (t : ℕ) (e : Entry) → IsOurKeeper a k rows n → on_keeper table a k rows log ≡ x
+pub may_work : {table : TableId} {log : List LogItem} (a : Settings) (k : KeeperView) (rows : List KeptSlot) (n : ℕ) (x : OnPlainKeeper) (t : ℕ) (e : Entry) → IsOurKeeper a k rows n
+    → on_keeper table a k rows log ≡ x
     → slot_at x.keeper.slots t ≡ Retired e → MayWork x.words.settings x.keeper t
 may_work a k rows n x t e our is retired =
     let there : slot_at (states_of rows) t ≡ Retired e = ap (λ (y : OnPlainKeeper). slot_at y.keeper.slots t) is ∙ retired in
@@ -91,7 +93,8 @@ pub cleared_grows : (m : Mark) (w : ℕ) → Grows m (mark_after_passive_look m 
 cleared_grows m w = record { snapshot = refl; passed = λ p. p; clear = λ p. or_left m.clear _ p; collected = λ p. p }
 
 -- a look makes m of the mark of c
-pub look_leaves : (a b : OnKeeper) (ev : Event) (r : Reply) (t c : ℕ) (m : Mark) → Grows (mark_at a.view.marks t c) m → b.view ≡ marked a.view ev r t c m → b.slots ≡ a.slots → IsPrefix a.log b.log → HasLookedFor a t b
+pub look_leaves : (a b : OnKeeper) (ev : Event) (r : Reply) (t c : ℕ) (m : Mark) → Grows (mark_at a.view.marks t c) m → b.view ≡ marked a.view ev r t c m → b.slots ≡ a.slots → IsPrefix a.log b.log
+    → HasLookedFor a t b
 look_leaves a b ev r t c m grows view slots log = subst (λ (l : KeeperView). HasLookedFor a t (record b { view = l })) (sym view) record {
   worked = record { only = refl; marks = mark_grows a.view.marks t c m grows; totals = λ u off. refl; looks = omega arith; slots = slots; log = log };
   totals = refl;
@@ -108,7 +111,8 @@ collection_leaves a b t c has = subst (λ (l : KeeperView). HasWorkedFor a t (re
 }
 
 -- the mark that a step writes is there
-pub mark_put : (ev : Event) (r : Reply) (z : Settings) (a : OnKeeper) (l : KeeperView) (t c : ℕ) (m : Mark) → MayWork z a t → c < z.cpus → Makes ev r (Keeper a.view) (Keeper l) → mark_at (with_cell a.view.marks t c m) t c ≡ m
+pub mark_put : (ev : Event) (r : Reply) (z : Settings) (a : OnKeeper) (l : KeeperView) (t c : ℕ) (m : Mark) → MayWork z a t → c < z.cpus → Makes ev r (Keeper a.view) (Keeper l)
+    → mark_at (with_cell a.view.marks t c m) t c ≡ m
 mark_put ev r z a l t c m may cpu made =
     let seen = seen_by_keeper made.g a.view made.good made.before in
     let same : z ≡ made.g.settings = sym may.settings ∙ seen.settings in
@@ -145,7 +149,8 @@ pub still_collected : (a b : OnKeeper) (t n : ℕ) → HasWorkedFor a t b → Co
 still_collected a b t n worked each c lt = (worked.marks.here c).collected (each c lt)
 
 -- a slot with all marks is drained once nothing is held
-pub is_drained : (z : Settings) (x : OnKeeper) (t held : ℕ) → MayWork z x t → PassedBelow x.view t z.cpus → ClearBelow x.view t z.cpus → CollectedBelow x.view t z.cpus → held + bias ≡ total_at x.view.totals t → held ≡ 0 → IsDrainedOn x t
+pub is_drained : (z : Settings) (x : OnKeeper) (t held : ℕ) → MayWork z x t → PassedBelow x.view t z.cpus → ClearBelow x.view t z.cpus → CollectedBelow x.view t z.cpus
+    → held + bias ≡ total_at x.view.totals t → held ≡ 0 → IsDrainedOn x t
 is_drained z x t held may passed clear mark_after_collect total none =
     record {
       retired = (may.e, may.retired);

@@ -1,6 +1,7 @@
 -- A turn of the work on a retired entry: what it answers is what the keeper saw, and what it leaves.
 use Rattle.std.specs.Prelude.{◌≡◌, ◌≢◌, ◌⊎◌, ℕ, zero, suc, ◌+◌, ◌<◌, ◌≤◌, ◌%◌, List, [], ◌∷◌, ◌++◌, Option, true, false, Some, None, Bool, Result, Ok, Err}
-use Rattle.name_registry.specs.Types.{Entry, Iface, Event, Look, PassiveLook, Word, Refusal, NotRetired, Settings, Stage, Grace, Passive, Local, Freed, Rest, Retired, LogItem, KeeperView, Keeper, KeptSlot}
+use Rattle.name_registry.specs.Types.{Entry, Iface, Event, Look, PassiveLook, Word, Refusal, NotRetired, Settings, Stage, Grace, Passive, Local, Freed, Rest, Retired, LogItem, KeeperView, Keeper}
+use Rattle.name_registry.specs.Types.{KeptSlot}
 use mathlib.Core.List.{IsPrefix}
 use Rattle.registry_values.specs.Common.{bias, is_retired_as, retired_slot, slot_at}
 use Rattle.protocol.specs.Common.{MarksGrow, mark_at, total_at, kept_at}

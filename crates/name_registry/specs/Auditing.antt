@@ -123,7 +123,8 @@ pub record AreShown (g : State) (k : OnKeeper) (xs : List OnCpu) : Type 0 where
 abbrev pub IsTallied : OnKeeper → List OnCpu → Tally → Type 0
 IsTallied k xs b = b.held ≡ tally k xs b.number
 
--- Before it sums, an audit lets all know the same of the keeper's log: the keeper tells, each CPU hears in turn and tells on, and the keeper hears the last one. Then each view is shown by a state of its own, in which the keeper had done just the same.
+-- Before it sums, an audit lets all know the same of the keeper's log: the keeper tells, each CPU hears in turn and tells on, and the keeper hears the last one. Then each view is shown by a state of
+-- its own, in which the keeper had done just the same.
 
 -- with another note beside it, some state shows the CPU, in which the keeper had done just this
 abbrev pub IsShownOn : List LogItem → OnCpu → Type 0

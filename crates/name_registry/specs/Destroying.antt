@@ -36,7 +36,8 @@ module _ {X : Type 0} (turn : X → Result Stage Refusal → X → Type 0) where
     pub enough : (MeetsObstacle met → ⊥) ⊎ (suc earlier ≡ turns)
     pub told : answer ≡ destroy_result_of met
 
--- A turn with the caller's CPU x: the keeper a hears first what the CPU knows, makes the turn, and hears once more, so that its log has what it found. Then the CPU hears the history and all that the keeper did.
+-- A turn with the caller's CPU x: the keeper a hears first what the CPU knows, makes the turn, and hears once more, so that its log has what it found. Then the CPU hears the history and all that the
+-- keeper did.
 pub record HasAdvancedFor (z : Settings) (a : OnKeeper) (x : OnCpu) (n : ℕ) (answer : Result Stage Refusal) (b : OnKeeper) (y : OnCpu) : Type 0 where
   pub known : IsPrefix x.known_log a.log
   pub seen : length x.view.pass ≤ changes_in a.log

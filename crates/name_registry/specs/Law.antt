@@ -17,7 +17,8 @@ counts_of g t = slice_index_or g.counts t []
 
 -- In the state that the table shows: the words of a live or retired entry's slot, less the bias of its total and of each word that isn't collected, are the references held.
 abbrev pub Balanced : State → Type 0
-Balanced g = (t : ℕ) (e : Entry) → IsIn e (slot_at g.slots t) → sum_by itself (counts_of g t) + total_at g.totals t ≡ held_at g.locals g.hands g.keeps g.due e.number t + bias * (1 + sum_by one_if_used (counts_of g t))
+Balanced g = (t : ℕ) (e : Entry) → IsIn e (slot_at g.slots t)
+    → sum_by itself (counts_of g t) + total_at g.totals t ≡ held_at g.locals g.hands g.keeps g.due e.number t + bias * (1 + sum_by one_if_used (counts_of g t))
 
 -- a list of events leads to a state that the words and the views of all seats show, the keeper's among them; it obeys the laws, and its balances are the references held
 pub record IsBalancedRun (a : Settings) (s : Table ℕ View) (k : KeeperView) : Type 0 where

@@ -14,7 +14,8 @@ IsRetiredIn t n log = (occupant t log ≡ Some n) × IsDetachedFrom t n log
 abbrev pub IsNotRetired : ℕ → List LogItem → Type 0
 IsNotRetired n log = (t : ℕ) → IsRetiredIn t n log → ⊥
 
--- The last thing that the keeper did, and in this turn, which began after `begin`, was to load the section word of c, which was odd, and as it was at the snapshot: the section that was open then was open still, and may hold the entry. The CPUs before c have passed.
+-- The last thing that the keeper did, and in this turn, which began after `begin`, was to load the section word of c, which was odd, and as it was at the snapshot: the section that was open then was
+-- open still, and may hold the entry. The CPUs before c have passed.
 pub record MetSection (t c : ℕ) (begin log : List LogItem) : Type 0 where
   pub word : ℕ
   pub before : List LogItem

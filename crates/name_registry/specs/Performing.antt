@@ -49,7 +49,8 @@ GlancesBelow snapshots seen after (suc n) k l =
 
 -- One hold of the interlock
 
--- The keeper a hears first what the CPU x knows: its log goes on from that, and its history is as long as the log says. Then it makes the looks, and nothing else. At the end the CPU hears the history and all that the keeper did.
+-- The keeper a hears first what the CPU x knows: its log goes on from that, and its history is as long as the log says. Then it makes the looks, and nothing else. At the end the CPU hears the history
+-- and all that the keeper did.
 pub record Hold (looks : Looking → Looking → Type 0) (a : OnKeeper) (x : OnCpu) (b : OnKeeper) (y : OnCpu) : Type 0 where
   pub known : IsPrefix x.known_log a.log
   pub seen : length x.view.pass ≤ changes_in a.log
@@ -99,7 +100,8 @@ abbrev pub PassesBelow : Settings → List (Option ℕ) → ℕ → OnKeeper →
 PassesBelow z numbers zero a b = b ≡ a
 PassesBelow z numbers (suc n) a b = (m : OnKeeper) × PassesBelow z numbers n a m × PassesNumber z m n (slice_index_or numbers n None) b
 
--- As a perform ends: the keeper a hears what the CPU x knows, makes its looks for the entries with these numbers, and hears once more, so that its log has what they told. At the end the CPU hears the history and all that the keeper did.
+-- As a perform ends: the keeper a hears what the CPU x knows, makes its looks for the entries with these numbers, and hears once more, so that its log has what they told. At the end the CPU hears the
+-- history and all that the keeper did.
 pub record HasPassedAll (z : Settings) (a : OnKeeper) (x : OnCpu) (numbers : List (Option ℕ)) (b : OnKeeper) (y : OnCpu) : Type 0 where
   pub known : IsPrefix x.known_log a.log
   pub end : OnKeeper
@@ -173,7 +175,9 @@ PerformsOutside z turns false x result y = (told : Option ℕ) × (result ≡ wa
 
 -- What the caller's CPU knows at the end
 
--- When the keeper had done just `before`, it had heard the CPU, which told it all that it knew as the call began: what it knew of the keeper's log, and its pass. Since then the keeper saw each CPU out of a section: by the law `running_headline` (`waiting`) each section has ended that was open then, or at any moment before the CPU told the keeper: so each that was open as the call began. And each entry that had been detached by then, and whose slot wasn't given again since, has passed on each CPU.
+-- When the keeper had done just `before`, it had heard the CPU, which told it all that it knew as the call began: what it knew of the keeper's log, and its pass. Since then the keeper saw each CPU
+-- out of a section: by the law `running_headline` (`waiting`) each section has ended that was open then, or at any moment before the CPU told the keeper: so each that was open as the call began. And
+-- each entry that had been detached by then, and whose slot wasn't given again since, has passed on each CPU.
 pub record HasSeenAllOut (cpus : ℕ) (x y : OnCpu) : Type 0 where
   pub before : List LogItem
   pub since : List LogItem

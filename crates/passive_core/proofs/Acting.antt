@@ -14,7 +14,8 @@ idle_unsearching s c idle =
     let p = and_parts (nat_lt c s.seated) (is_none (search_at s c) && is_empty (hand_at s c)) idle in
     none_from (search_at s c) (and_parts (is_none (search_at s c)) (is_empty (hand_at s c)) p.1).0
 
-acting_free : (s : State) (c : ℕ) (b : Bool) → nat_lt c s.seated ≡ b → Holds s → (not b || (b && (is_none (search_at s c) && is_empty (hand_at s c)))) ≡ true → (is_none (search_at s c) && is_empty (hand_at s c)) ≡ true
+acting_free : (s : State) (c : ℕ) (b : Bool) → nat_lt c s.seated ≡ b → Holds s → (not b || (b && (is_none (search_at s c) && is_empty (hand_at s c)))) ≡ true
+    → (is_none (search_at s c) && is_empty (hand_at s c)) ≡ true
 acting_free s c true is on may = may
 acting_free s c false is on may =
     let le : s.seated ≤ c = either (cases_lt c s.seated) (λ lt. absurd (let q : ◌≡◌ {A = Bool} true false = sym (lt-ltb c s.seated lt) ∙ is in cc)) (λ ge. ge) in

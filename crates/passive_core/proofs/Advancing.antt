@@ -1,12 +1,17 @@
 -- What looks, collections and the end of a slot's use tell and leave.
-use Rattle.std.proofs.Common.{◌≡◌, ℕ, zero, suc, ◌+◌, ◌-◌, ◌%◌, ◌<◌, inr, List, [], length, get_or, set, Option, Some, None, Bool, true, false, not, ◌&&◌, ◌||◌, ◌==◌, Result, Ok, refl, sym, ap, subst, ◌∙◌, arith, nat_lt, get_or-set_same, get_or-set_other, add-zero, IsSome}
+use Rattle.std.proofs.Common.{◌≡◌, ℕ, zero, suc, ◌+◌, ◌-◌, ◌%◌, ◌<◌, inr, List, [], length, get_or, set, Option, Some, None, Bool, true, false, not, ◌&&◌, ◌||◌, ◌==◌, Result, Ok, refl, sym, ap, subst}
+use Rattle.std.proofs.Common.{◌∙◌, arith, nat_lt, get_or-set_same, get_or-set_other, add-zero, IsSome}
 use Rattle.std.specs.Prelude.{is_some, is_none}
 use Rattle.std.proofs.lemmas.Bool.{cases_lt, cases_eq, eqb-true, eq-eqb, lt-ltb, ne_eqb, cases_Bool, and_from}
 use Rattle.std.proofs.lemmas.Option.{same_Some}
 use Rattle.passive_core.specs.Types.{Entry, Look, PassiveLook, Collect, TotalAdd, KeptSub, Reply, Done, Mark, Slot, Retired, Refusal, Stage, Grace, Passive, Local, Freed}
-use Rattle.passive_core.specs.Common.{AdvanceLeaves, Settles, Empties, Gathers, HoldersAreOpen, LeavesMarks, MarksPass, Passes, Clears, MarksClear, SameBut, StageMarks, AdvanceMarks, StageLeaves, advance_answer, count_given_up, has_passive, is_open_since, is_snapshot, first_obstacle, may_act}
-use Rattle.protocol.specs.Common.{AllClear, AllCollected, AllPassed, MarksGrow, Outcome, guard, some_outcome, step, after_look, after_look_passive, after_collect, after_total, after_kept_sub, after_vacate, may_collect, may_examine, may_look_passive, may_vacate, is_drainable, is_drained, is_iface_slot, keeps_rightly, Holds, one_if, held_at, at_rest, State, section_at, begin_at, count_at, kept_at, mark_at, passive_at, total_at, with_cell}
-use Rattle.registry_values.specs.Common.{no_mark, least_below, mark_after_look, mark_after_passive_look, mark_after_collect, are_collected, has_changed, have_passed, is_even, stage_of, retired_slot, has_number, is_retired, slot_of, slot_at, bias}
+use Rattle.passive_core.specs.Common.{AdvanceLeaves, Settles, Empties, Gathers, HoldersAreOpen, LeavesMarks, MarksPass, Passes, Clears, MarksClear, SameBut, StageMarks, AdvanceMarks, StageLeaves}
+use Rattle.passive_core.specs.Common.{advance_answer, count_given_up, has_passive, is_open_since, is_snapshot, first_obstacle, may_act}
+use Rattle.protocol.specs.Common.{AllClear, AllCollected, AllPassed, MarksGrow, Outcome, guard, some_outcome, step, after_look, after_look_passive, after_collect, after_total, after_kept_sub}
+use Rattle.protocol.specs.Common.{after_vacate, may_collect, may_examine, may_look_passive, may_vacate, is_drainable, is_drained, is_iface_slot, keeps_rightly, Holds, one_if, held_at, at_rest, State}
+use Rattle.protocol.specs.Common.{section_at, begin_at, count_at, kept_at, mark_at, passive_at, total_at, with_cell}
+use Rattle.registry_values.specs.Common.{no_mark, least_below, mark_after_look, mark_after_passive_look, mark_after_collect, are_collected, has_changed, have_passed, is_even, stage_of, retired_slot}
+use Rattle.registry_values.specs.Common.{has_number, is_retired, slot_of, slot_at, bias}
 use Rattle.protocol.proofs.slots.Occupied.{at_rest_tells, in_within, is_retired_tells, number_in, has_it, one_number, slot_found}
 use Rattle.protocol.proofs.counts.Bounds.{driver_positive}
 use Rattle.protocol.proofs.counts.CountBounds.{all_collected}
@@ -61,7 +66,8 @@ pub examines : (s : State) (t c : ℕ) → at_rest s.due ≡ true → is_retired
 examines s t c rest gone lt = and_from (at_rest s.due) _ rest (and_from (nat_lt c s.settings.cpus) _ (lt-ltb c s.settings.cpus lt) gone)
 
 -- a look passes just where the section isn't the one of the snapshot
-shows_passed : (m : Mark) (w x : ℕ) (begin : Option ℕ) → m.snapshot ≡ Some x → (begin ≡ None → w % 2 ≡ 0) → ((b : ℕ) → begin ≡ Some b → w % 2 ≡ 1) → ((b : ℕ) → begin ≡ Some b → m.passed ≡ true → w ≡ x → ⊥)
+shows_passed : (m : Mark) (w x : ℕ) (begin : Option ℕ) → m.snapshot ≡ Some x → (begin ≡ None → w % 2 ≡ 0) → ((b : ℕ) → begin ≡ Some b → w % 2 ≡ 1)
+    → ((b : ℕ) → begin ≡ Some b → m.passed ≡ true → w ≡ x → ⊥)
     → (mark_after_look m w).passed ≡ not (is_some begin && is_snapshot m.snapshot w)
 shows_passed m w x None snap outside inside left =
     let even : is_even w ≡ true = eq-eqb (w % 2) 0 (outside refl) in
@@ -71,7 +77,8 @@ shows_passed m w x (Some b) snap outside inside left =
     rw (snap, odd) (either_not m.passed (x == w) (λ passed same. left b refl passed (sym (eqb-true x w same))))
 
 -- a CPU that has passed isn't in the section of the snapshot
-shows_left : (m : Mark) (w x : ℕ) (begin : Option ℕ) → m.snapshot ≡ Some x → ((b : ℕ) → begin ≡ Some b → m.passed ≡ true → w ≡ x → ⊥) → m.passed ≡ true → true ≡ not (is_some begin && is_snapshot m.snapshot w)
+shows_left : (m : Mark) (w x : ℕ) (begin : Option ℕ) → m.snapshot ≡ Some x → ((b : ℕ) → begin ≡ Some b → m.passed ≡ true → w ≡ x → ⊥) → m.passed ≡ true
+    → true ≡ not (is_some begin && is_snapshot m.snapshot w)
 shows_left m w x None snap left passed = refl
 shows_left m w x (Some b) snap left passed = rw snap (sym (not_so (x == w) (λ same. left b refl passed (sym (eqb-true x w same)))))
 
@@ -122,7 +129,8 @@ look_marks s t c =
 pub open_same : (s n : State) (t c : ℕ) → n ≡ record s { marks = n.marks } → MarksPass s.marks n.marks t → is_open_since n t c ≡ is_open_since s t c
 open_same s n t c only marks = rw (ap (λ (x : State). x.begins) only, ap (λ (x : State). x.section) only, (marks.here c).snapshot) refl
 
-pub look_is : (s n : State) (t c : ℕ) (r : Reply) → at_rest s.due ≡ true → is_retired (slot_at s.slots t) ≡ true → c < s.settings.cpus → step s (Look (Some t) c) ≡ Some (record { state = n; reply = r }) → n ≡ after_look s t c
+pub look_is : (s n : State) (t c : ℕ) (r : Reply) → at_rest s.due ≡ true → is_retired (slot_at s.slots t) ≡ true → c < s.settings.cpus
+    → step s (Look (Some t) c) ≡ Some (record { state = n; reply = r }) → n ≡ after_look s t c
 look_is s n t c r rest gone lt made = made_is (may_examine s t c) (after_look s t c) n _ r (examines s t c rest gone lt) made
 
 -- changes of marks alone, one after the other
@@ -165,7 +173,8 @@ shows_clear m (suc w) zero_if = either (cases_Bool m.clear)
     (λ clear. absurd (omega (arith, zero_if clear)))
     (λ not_yet. rw (not_yet, ne_eqb (suc w) 0 (λ same. omega arith), lt-ltb 0 (suc w) (omega arith)) refl)
 
-pub passive_clears : (s : State) (t c : ℕ) → Holds s → is_retired (slot_at s.slots t) ≡ true → (mark_after_passive_look (mark_at s.marks t c) (passive_at s.passive c t)).clear ≡ not (has_passive s t c)
+pub passive_clears : (s : State) (t c : ℕ) → Holds s → is_retired (slot_at s.slots t) ≡ true
+    → (mark_after_passive_look (mark_at s.marks t c) (passive_at s.passive c t)).clear ≡ not (has_passive s t c)
 passive_clears s t c on gone =
     let e = is_retired_tells (slot_at s.slots t) gone in
     shows_clear (mark_at s.marks t c) (passive_at s.passive c t) (λ clear. (on.passive.clear c t e.0 e.1 clear).1)
@@ -178,7 +187,8 @@ clear_left s t c on gone clear =
 pub examines_passive : (s : State) (t c : ℕ) → at_rest s.due ≡ true → is_retired (slot_at s.slots t) ≡ true → AllPassed s t → c < s.settings.cpus → may_look_passive s t c ≡ true
 examines_passive s t c rest gone passed lt = and_from (may_examine s t c) _ (examines s t c rest gone lt) (passed_from s t passed)
 
-pub passive_look_is : (s n : State) (t c : ℕ) (r : Reply) → at_rest s.due ≡ true → is_retired (slot_at s.slots t) ≡ true → AllPassed s t → c < s.settings.cpus → step s (PassiveLook t c) ≡ Some (record { state = n; reply = r }) → n ≡ after_look_passive s t c
+pub passive_look_is : (s n : State) (t c : ℕ) (r : Reply) → at_rest s.due ≡ true → is_retired (slot_at s.slots t) ≡ true → AllPassed s t → c < s.settings.cpus
+    → step s (PassiveLook t c) ≡ Some (record { state = n; reply = r }) → n ≡ after_look_passive s t c
 passive_look_is s n t c r rest gone passed lt made = made_is (may_look_passive s t c) (after_look_passive s t c) n _ r (examines_passive s t c rest gone passed lt) made
 
 pub passive_look_marks : (s : State) (t c : ℕ) → MarksClear s.marks (after_look_passive s t c).marks t
@@ -192,15 +202,18 @@ passive_look_marks s t c =
 
 -- Collections
 
-pub collects : (s : State) (t c : ℕ) → at_rest s.due ≡ true → is_retired (slot_at s.slots t) ≡ true → AllPassed s t → AllClear s t → c < s.settings.cpus → (mark_at s.marks t c).collected ≡ false → may_collect s t c ≡ true
+pub collects : (s : State) (t c : ℕ) → at_rest s.due ≡ true → is_retired (slot_at s.slots t) ≡ true → AllPassed s t → AllClear s t → c < s.settings.cpus → (mark_at s.marks t c).collected ≡ false
+    → may_collect s t c ≡ true
 collects s t c rest gone passed clear lt yet = and_from (may_examine s t c) _ (examines s t c rest gone lt) (and_from (is_drainable s t) _ (drainable_from s t passed clear) (ap not yet))
 
-pub collect_is : (s n : State) (t c : ℕ) (r : Reply) → at_rest s.due ≡ true → is_retired (slot_at s.slots t) ≡ true → AllPassed s t → AllClear s t → c < s.settings.cpus → (mark_at s.marks t c).collected ≡ false
+pub collect_is : (s n : State) (t c : ℕ) (r : Reply) → at_rest s.due ≡ true → is_retired (slot_at s.slots t) ≡ true → AllPassed s t → AllClear s t → c < s.settings.cpus
+    → (mark_at s.marks t c).collected ≡ false
     → step s (Collect t c) ≡ Some (record { state = n; reply = r }) → n ≡ after_collect s t c
 collect_is s n t c r rest gone passed clear lt yet made = made_is (may_collect s t c) (after_collect s t c) n _ r (collects s t c rest gone passed clear lt yet) made
 
 -- a word was collected, and is to be added
-pub adds : (s m : State) (t c : ℕ) → m ≡ after_collect s t c → step m (TotalAdd t) ≡ Some (record { state = after_total (after_collect s t c) t (total_at s.totals t + count_at s.counts c t - bias); reply = Done })
+pub adds : (s m : State) (t c : ℕ) → m ≡ after_collect s t c
+    → step m (TotalAdd t) ≡ Some (record { state = after_total (after_collect s t c) t (total_at s.totals t + count_at s.counts c t - bias); reply = Done })
 adds s m t c is = rw (is, eq-eqb t t refl) refl
 
 pub added : (s n : State) (t c : ℕ) → at_rest s.due ≡ true → n ≡ after_total (after_collect s t c) t (total_at s.totals t + count_at s.counts c t - bias) → Gathers s n t
@@ -226,7 +239,8 @@ gathers_more a b d t x y = record {
 }
 
 -- once all words are collected, the total says what is held
-pub gathered_total : (s : State) (t : ℕ) (e : Entry) → Holds s → at_rest s.due ≡ true → slot_at s.slots t ≡ Retired e → AllCollected s t → total_at s.totals t ≡ bias + held_at s.locals s.hands s.keeps s.due e.number t
+pub gathered_total : (s : State) (t : ℕ) (e : Entry) → Holds s → at_rest s.due ≡ true → slot_at s.slots t ≡ Retired e → AllCollected s t
+    → total_at s.totals t ≡ bias + held_at s.locals s.hands s.keeps s.due e.number t
 gathered_total s t e on rest gone all = all_collected on.balance t e (at_rest_tells s.due rest) gone all
 
 pub gathered_words : (s : State) (t : ℕ) → Holds s → is_retired (slot_at s.slots t) ≡ true → AllCollected s t → (c : ℕ) → count_at s.counts c t ≡ 0
@@ -236,7 +250,8 @@ gathered_words s t on gone all c =
 
 -- The end of a slot's use
 
-pub drained_from : (s : State) (t : ℕ) → at_rest s.due ≡ true → is_retired (slot_at s.slots t) ≡ true → AllPassed s t → AllClear s t → AllCollected s t → total_at s.totals t ≡ bias → is_drained s t ≡ true
+pub drained_from : (s : State) (t : ℕ) → at_rest s.due ≡ true → is_retired (slot_at s.slots t) ≡ true → AllPassed s t → AllClear s t → AllCollected s t → total_at s.totals t ≡ bias
+    → is_drained s t ≡ true
 drained_from s t rest gone passed clear all total =
     and_from (at_rest s.due) _ rest (and_from (is_retired (slot_at s.slots t)) _ gone (and_from (is_drainable s t) _ (drainable_from s t passed clear)
     (and_from (are_collected s.settings.cpus (get_or s.marks t [])) _ (collected_from s t all) (eq-eqb (total_at s.totals t) bias total))))
@@ -265,7 +280,8 @@ keeps_as_iface s t d on kept drained =
     let right = on.kept_drivers.rightly t told.1.0 (inr told.1.1) in
     ap is_iface_slot told.1.1 ∙ subst (λ (k : Option ℕ). keeps_rightly k told.1.0.rec.kind ≡ true) kept right
 
-pub gives_up : (s : State) (t d u : ℕ) → Holds s → kept_at s.keeps t ≡ Some d → slot_of s.slots d ≡ Some u → is_drained s t ≡ true → step s (KeptSub t) ≡ Some (record { state = after_kept_sub s t u; reply = Done })
+pub gives_up : (s : State) (t d u : ℕ) → Holds s → kept_at s.keeps t ≡ Some d → slot_of s.slots d ≡ Some u → is_drained s t ≡ true
+    → step s (KeptSub t) ≡ Some (record { state = after_kept_sub s t u; reply = Done })
 gives_up s t d u on kept of drained = rw (kept, of, keeps_as_iface s t d on kept drained, drained) refl
 
 pub gave_up : (s n : State) (t d u : ℕ) → Holds s → kept_at s.keeps t ≡ Some d → slot_of s.slots d ≡ Some u → is_drained s t ≡ true → n ≡ after_kept_sub s t u → Empties s n t
@@ -314,7 +330,8 @@ pub passive_same : (s n : State) (t c : ℕ) → n ≡ record s { marks = n.mark
 passive_same s n t c only = ap (λ (x : State). has_passive x t c) only
 
 -- a word that was collected is marked so
-pub collected_there : (s n : State) (t c : ℕ) → Holds s → t < s.settings.slots → c < s.settings.cpus → n ≡ after_total (after_collect s t c) t (total_at s.totals t + count_at s.counts c t - bias) → (mark_at n.marks t c).collected ≡ true
+pub collected_there : (s n : State) (t c : ℕ) → Holds s → t < s.settings.slots → c < s.settings.cpus → n ≡ after_total (after_collect s t c) t (total_at s.totals t + count_at s.counts c t - bias)
+    → (mark_at n.marks t c).collected ≡ true
 collected_there s n t c on lt low is = ap (λ (x : State). (mark_at x.marks t c).collected) is ∙ ap (λ (m : Mark). m.collected) (mark_there s t c (mark_after_collect (mark_at s.marks t c)) on lt low)
 
 -- where so many local references are held nothing changes
@@ -342,7 +359,8 @@ least_same p q zero same = refl
 least_same p q (suc n) same = rw (least_same p q n same, same n) refl
 
 -- a stage stays while only seats, marks, counts and totals change
-stage_kept : (s m : State) (t n : ℕ) → m ≡ record s { seated = s.settings.cpus; marks = m.marks; counts = m.counts; totals = m.totals } → MarksGrow s.marks m.marks t → first_obstacle m t n ≡ first_obstacle s t n
+stage_kept : (s m : State) (t n : ℕ) → m ≡ record s { seated = s.settings.cpus; marks = m.marks; counts = m.counts; totals = m.totals } → MarksGrow s.marks m.marks t
+    → first_obstacle m t n ≡ first_obstacle s t n
 stage_kept s m t n only marks =
     let open_ : (c : ℕ) → is_open_since m t c ≡ is_open_since s t c = λ c. rw (ap (λ (x : State). x.begins) only, ap (λ (x : State). x.section) only, (marks.here c).snapshot) refl in
     let first : least_below (is_open_since m t) m.settings.cpus ≡ least_below (is_open_since s t) s.settings.cpus =
@@ -360,7 +378,8 @@ is_freed (Freed t) = true
 pub stage_again : (s m : State) (t n : ℕ) (stage : Stage) → is_freed stage ≡ false → StageLeaves s m t stage → first_obstacle m t n ≡ first_obstacle s t n
 stage_again s m t n (Local k) held left = stage_kept s m t n left.only left.marks
 stage_again s m t n (Freed u) held left = absurd (let q : ◌≡◌ {A = Bool} true false = held in cc)
-stage_again s m t n _ held left = stage_kept s m t n (subst (λ (x : State). x ≡ record s { seated = s.settings.cpus; marks = x.marks; counts = x.counts; totals = x.totals }) (sym left.only) refl) left.marks
+stage_again s m t n _ held left =
+    stage_kept s m t n (subst (λ (x : State). x ≡ record s { seated = s.settings.cpus; marks = x.marks; counts = x.counts; totals = x.totals }) (sym left.only) refl) left.marks
 
 pub slots_again : (s m : State) (t : ℕ) (stage : Stage) → is_freed stage ≡ false → StageLeaves s m t stage → m.slots ≡ s.slots
 slots_again s m t (Freed u) held left = absurd (let q : ◌≡◌ {A = Bool} true false = held in cc)
@@ -406,7 +425,8 @@ answer_again s m number stage held left =
     let place : retired_slot m.slots number ≡ Some left.0 = ap (λ (x : List Slot). retired_slot x number) slots ∙ left.1 in
     rw (place, left.1) (ap (λ (x : Stage). Ok x) (stage_again s m left.0 number stage held left.2))
 
-pub advance_again : (s m n : State) (number : ℕ) (stage next : Stage) → is_freed stage ≡ false → AdvanceLeaves s m number (Ok stage) → AdvanceLeaves m n number (Ok next) → next ≡ stage → AdvanceLeaves s n number (Ok next)
+pub advance_again : (s m n : State) (number : ℕ) (stage next : Stage) → is_freed stage ≡ false → AdvanceLeaves s m number (Ok stage) → AdvanceLeaves m n number (Ok next) → next ≡ stage
+    → AdvanceLeaves s n number (Ok next)
 advance_again s m n number stage next held x y same =
     let slots = slots_again s m x.0 stage held x.2 in
     let place : Some y.0 ≡ Some x.0 = sym y.1 ∙ (ap (λ (l : List Slot). retired_slot l number) slots ∙ x.1) in
@@ -414,7 +434,8 @@ advance_again s m n number stage next held x y same =
     let second : StageLeaves m n x.0 stage = subst (λ (k : ℕ). StageLeaves m n k stage) one (subst (StageLeaves m n y.0) same y.2) in
     (x.0, x.1, subst (StageLeaves s n x.0) (sym same) (leaves_again s m n x.0 stage held x.2 second))
 
-pub marks_again : (s m n : State) (number : ℕ) (stage next : Stage) → is_freed stage ≡ false → AdvanceLeaves s m number (Ok stage) → AdvanceMarks s m number (Ok stage) → AdvanceMarks m n number (Ok next) → next ≡ stage → AdvanceMarks s n number (Ok next)
+pub marks_again : (s m n : State) (number : ℕ) (stage next : Stage) → is_freed stage ≡ false → AdvanceLeaves s m number (Ok stage) → AdvanceMarks s m number (Ok stage)
+    → AdvanceMarks m n number (Ok next) → next ≡ stage → AdvanceMarks s n number (Ok next)
 marks_again s m n number stage next held left x y same =
     let slots = slots_again s m left.0 stage held left.2 in
     let place : Some y.0 ≡ Some x.0 = sym y.1 ∙ (ap (λ (l : List Slot). retired_slot l number) slots ∙ x.1) in

@@ -1,5 +1,6 @@
 -- Attaches: the words that are stored, the slot that is taken, and why the entry may be linked.
-use Rattle.std.proofs.Common.{◌≡◌, ℕ, zero, suc, ◌+◌, ◌-◌, ◌<◌, List, [], ◌∷◌, ◌++◌, length, get_or, set, take, drop, replicate, get_or-set_same, Option, Some, None, Bool, true, false, not, ◌&&◌, ◌==◌, is_none, nat_lt, IsTrue, refl, sym, add-one, ap, subst, ◌∙◌, arith, lt-ltb, eq-eqb}
+use Rattle.std.proofs.Common.{◌≡◌, ℕ, zero, suc, ◌+◌, ◌-◌, ◌<◌, List, [], ◌∷◌, ◌++◌, length, get_or, set, take, drop, replicate, get_or-set_same, Option, Some, None, Bool, true, false, not, ◌&&◌}
+use Rattle.std.proofs.Common.{◌==◌, is_none, nat_lt, IsTrue, refl, sym, add-one, ap, subst, ◌∙◌, arith, lt-ltb, eq-eqb}
 use Rattle.std.specs.Prelude.{Result, Ok, Err}
 use Rattle.std.specs.List.{list_all, zip}
 use Rattle.std.proofs.Math.Seq.{drop-cons}
@@ -8,10 +9,13 @@ use Rattle.std.proofs.lemmas.List.{length-replicate, replicate_more, set-get_or,
 use Rattle.std.proofs.lemmas.List.Quantifiers.{position-Some}
 use Rattle.std.proofs.lemmas.Slice.Zip.{get_or-zip, length-zip}
 use Rattle.passive_core.specs.Types.{Entry, Kind, Iface, Driver, Record, StoreSlot, Publish, Reply, Done, Refusal, LocalPlace, Free, Standing, RecordWords, Slot, Vacant}
-use Rattle.passive_core.specs.Common.{Before, IsAnswer, with_reference_given_back, given_entry, is_driver_in, is_driver_number, is_to_driver, with_reference_kept, first_fit, with_prepared, with_attach_undone, words_before, all_seated, may_act}
+use Rattle.passive_core.specs.Common.{Before, IsAnswer, with_reference_given_back, given_entry, is_driver_in, is_driver_number, is_to_driver, with_reference_kept, first_fit, with_prepared}
+use Rattle.passive_core.specs.Common.{with_attach_undone, words_before, all_seated, may_act}
 use Rattle.registry_values.specs.Common.{attach_answer, next_entry, is_available, key_of_record, key_of, is_iface, is_taken, is_vacant, slot_of, slot_at, is_lawful, bias}
 use Rattle.registry_values.proofs.Answers as answers
-use Rattle.protocol.specs.Common.{with_biases, at_rest, State, kept_at, local_at, no_words, row_at, total_at, Outcome, after_count_store, after_keep, after_publish, after_row_store, after_seeing, are_unused, entry_of, has_room, room_of, is_bias, is_driver_slot, is_prepared, keeps_rightly, may_keep, may_publish, may_write, number_standing, step, with_word, words_of, Holds, SeatsShow}
+use Rattle.protocol.specs.Common.{with_biases, at_rest, State, kept_at, local_at, no_words, row_at, total_at, Outcome, after_count_store, after_keep, after_publish, after_row_store, after_seeing}
+use Rattle.protocol.specs.Common.{are_unused, entry_of, has_room, room_of, is_bias, is_driver_slot, is_prepared, keeps_rightly, may_keep, may_publish, may_write, number_standing, step, with_word}
+use Rattle.protocol.specs.Common.{words_of, Holds, SeatsShow}
 use Rattle.registry_values.specs.Names.{are_name_words}
 use Rattle.protocol.proofs.keeps.CountKeeps.{keep_keeps}
 use Rattle.registry_values.proofs.Fit.{ranges}
@@ -121,7 +125,8 @@ given_writes s rec e on rest given =
     (and_from (nat_lt e.slot s.settings.slots) (is_vacant (slot_at s.slots e.slot)) (lt-ltb e.slot s.settings.slots fit.0) fit.1)
 
 -- A refused attach: the answer is that of the parts.
-pub answer_refused : (inside unfit x y : Bool) (given g : Result Entry Refusal) (f : Refusal) → inside ≡ x → unfit ≡ y → given ≡ g → ◌≡◌ {A = Result Entry Refusal} (Err f) (attach_answer inside unfit given)
+pub answer_refused : (inside unfit x y : Bool) (given g : Result Entry Refusal) (f : Refusal) → inside ≡ x → unfit ≡ y → given ≡ g
+    → ◌≡◌ {A = Result Entry Refusal} (Err f) (attach_answer inside unfit given)
     → IsAnswer (attach_answer x y g) (Err f)
 answer_refused inside unfit x y given g f caller fit same is = subst (λ (r : Result Entry Refusal). IsAnswer r (Err f)) (is ∙ (λ i. attach_answer (caller i) (fit i) (same i))) refl
 
@@ -141,7 +146,8 @@ all_biases (suc n) = all_biases n
 biases_stored : (cpus : ℕ) (row : List ℕ) → list_all is_bias (take cpus (with_biases cpus row)) ≡ true
 biases_stored cpus row =
     let size = length-replicate cpus bias in
-    let first : take cpus (with_biases cpus row) ≡ replicate cpus bias = take-append-le cpus (replicate cpus bias) (drop cpus row) (omega (arith, size)) ∙ take-replicate cpus cpus bias (omega arith) in
+    let first : take cpus (with_biases cpus row) ≡ replicate cpus bias =
+    take-append-le cpus (replicate cpus bias) (drop cpus row) (omega (arith, size)) ∙ take-replicate cpus cpus bias (omega arith) in
     ap (list_all is_bias) first ∙ all_biases cpus
 
 -- A prepared entry may be linked: s is the state before its words are stored.
@@ -151,15 +157,18 @@ pub prepared_links : (s : State) (e : Entry) → Holds s → may_write s e.slot 
 prepared_links s e on write number lawful free room keeps =
     let told = may_write_tells s e.slot on.shape write in
     let row : row_at (with_prepared s e).rows e.slot ≡ words_of e = get_or-set_same s.rows e.slot (words_of e) no_words (omega (arith, told.1, on.shape.slots, on.shape.rows)) in
-    let entry : entry_of e.slot (row_at (with_prepared s e).rows e.slot) ≡ Some e = ap (entry_of e.slot) row ∙ words_read e.number e.slot e.rec.name.high e.rec.name.low e.rec.value e.rec.kind lawful in
+    let entry : entry_of e.slot (row_at (with_prepared s e).rows e.slot) ≡ Some e =
+    ap (entry_of e.slot) row ∙ words_read e.number e.slot e.rec.name.high e.rec.name.low e.rec.value e.rec.kind lawful in
     let numbered : (e.number == length s.history + 1) ≡ true = eq-eqb e.number (length s.history + 1) number in
     let counts : get_or (with_prepared s e).counts e.slot [] ≡ with_biases s.settings.cpus (get_or s.counts e.slot []) =
     get_or-set_same s.counts e.slot (with_biases s.settings.cpus (get_or s.counts e.slot [])) [] (omega (arith, told.1, on.shape.slots, on.shape.counts)) in
     let biased : list_all is_bias (take s.settings.cpus (get_or (with_prepared s e).counts e.slot [])) ≡ true =
     ap (λ (r : List ℕ). list_all is_bias (take s.settings.cpus r)) counts ∙ biases_stored s.settings.cpus (get_or s.counts e.slot []) in
     let total : (total_at s.totals e.slot == bias) ≡ true = eq-eqb (total_at s.totals e.slot) bias (on.balance.vacant e.slot told.1 told.2) in
-    let link : (get_or (with_prepared s e).next e.slot 0 == s.head) ≡ true = eq-eqb (get_or (with_prepared s e).next e.slot 0) s.head (get_or-set_same s.next e.slot s.head 0 (omega (arith, told.1, on.shape.slots, on.shape.links))) in
-    let unused : are_unused (with_prepared s e) e.slot ≡ true = and_from (list_all is_bias (take s.settings.cpus (get_or (with_prepared s e).counts e.slot []))) (total_at s.totals e.slot == bias) biased total in
+    let link : (get_or (with_prepared s e).next e.slot 0 == s.head) ≡ true =
+    eq-eqb (get_or (with_prepared s e).next e.slot 0) s.head (get_or-set_same s.next e.slot s.head 0 (omega (arith, told.1, on.shape.slots, on.shape.links))) in
+    let unused : are_unused (with_prepared s e) e.slot ≡ true =
+    and_from (list_all is_bias (take s.settings.cpus (get_or (with_prepared s e).counts e.slot []))) (total_at s.totals e.slot == bias) biased total in
     let ready : is_prepared (with_prepared s e) e.slot e.rec.kind ≡ true =
     and_from (get_or (with_prepared s e).next e.slot 0 == s.head) (are_unused (with_prepared s e) e.slot && keeps_rightly (kept_at s.keeps e.slot) e.rec.kind) link
     (and_from (are_unused (with_prepared s e) e.slot) (keeps_rightly (kept_at s.keeps e.slot) e.rec.kind) unused keeps) in
@@ -205,7 +214,8 @@ pub record MayLink (s : State) (e : Entry) : Type 0 where
   pub links : step (with_prepared s e) (Publish e.slot) ≡ Some (record { state = after_publish (with_prepared s e) e.slot e; reply = Done })
 
 -- what a given entry is, in a state with the same history and slots
-may_link : (s : State) (rec : Record) (e : Entry) → Holds s → may_write s e.slot ≡ true → e ≡ next_entry (length s.history) rec e.slot → is_taken (key_of_record rec) s.slots ≡ false → has_room s ≡ true
+may_link : (s : State) (rec : Record) (e : Entry) → Holds s → may_write s e.slot ≡ true → e ≡ next_entry (length s.history) rec e.slot → is_taken (key_of_record rec) s.slots ≡ false
+    → has_room s ≡ true
     → IsTrue (is_lawful rec.name) → keeps_rightly (kept_at s.keeps e.slot) rec.kind ≡ true → MayLink s e
 may_link s rec e on writes is free room lawful keeps =
     let same : e.rec ≡ rec = ap (λ (x : Entry). x.rec) is in
@@ -220,21 +230,24 @@ driver_keeps : (kept : Option ℕ) (kind : Kind) → kept ≡ None → is_iface 
 driver_keeps kept Iface none other = absurd (let q : ◌≡◌ {A = Bool} true false = other in cc)
 driver_keeps kept Driver none other = ap (λ (o : Option ℕ). keeps_rightly o Driver) none
 
-pub driver_links : (s : State) (rec : Record) (e : Entry) → Holds s → at_rest s.due ≡ true → given_entry s rec ≡ Ok e → is_iface rec.kind ≡ false → IsTrue (is_lawful rec.name) → MayLink (all_seated s) e
+pub driver_links : (s : State) (rec : Record) (e : Entry) → Holds s → at_rest s.due ≡ true → given_entry s rec ≡ Ok e → is_iface rec.kind ≡ false → IsTrue (is_lawful rec.name)
+    → MayLink (all_seated s) e
 driver_links s rec e on rest is other lawful =
     let given = given_tells s rec e is in
     let fit = first_fit_tells s e.slot on given.fit in
     may_link (all_seated s) rec e (seated_keeps s on) (given_writes s rec e on rest given) given.entry given.free given.room lawful (driver_keeps (kept_at s.keeps e.slot) rec.kind fit.2 other)
 
 -- The same along a call: `room`, `begun`, `ready` and `now` are the states that its steps leave.
-pub call_restored : (s room begun ready now : State) (e : Entry) (before : Before) → room ≡ s → before ≡ words_before room e.slot → begun ≡ all_seated room → ready ≡ with_prepared begun e → now ≡ ready
+pub call_restored : (s room begun ready now : State) (e : Entry) (before : Before) → room ≡ s → before ≡ words_before room e.slot → begun ≡ all_seated room → ready ≡ with_prepared begun e
+    → now ≡ ready
     → with_attach_undone now e.slot before ≡ s
 call_restored s room begun ready now e before same kept seats words stays =
     ap (λ (x : State). with_attach_undone x e.slot before) (stays ∙ (words ∙ ap (λ (x : State). with_prepared x e) (seats ∙ ap all_seated same)))
     ∙ (ap (with_attach_undone (with_prepared (all_seated s) e) e.slot) (kept ∙ ap (λ (x : State). words_before x e.slot) same) ∙ words_restored s e)
 
 -- storing and linking an entry and seeing it leaves who may act
-pub call_acts : (begun ready made now : State) (e : Entry) (c d : ℕ) → ready ≡ with_prepared begun e → made ≡ after_publish ready e.slot e → now ≡ after_seeing made c → may_act begun d ≡ true → may_act now d ≡ true
+pub call_acts : (begun ready made now : State) (e : Entry) (c d : ℕ) → ready ≡ with_prepared begun e → made ≡ after_publish ready e.slot e → now ≡ after_seeing made c → may_act begun d ≡ true
+    → may_act now d ≡ true
 call_acts begun ready made now e c d words links sees may =
     ap (λ (x : State). may_act x d) (sees ∙ ap (λ (x : State). after_seeing x c) (links ∙ ap (λ (x : State). after_publish x e.slot e) words)) ∙ may
 
@@ -258,7 +271,8 @@ pub record MayPlug (s : State) (e : Entry) (id : ℕ) : Type 0 where
   pub holds : Holds (with_reference_kept s e.slot id)
   pub links : MayLink (with_reference_kept (all_seated s) e.slot id) e
 
-pub iface_links : (s : State) (rec : Record) (e : Entry) (id : ℕ) → Holds s → at_rest s.due ≡ true → given_entry s rec ≡ Ok e → is_to_driver s id ≡ true → is_iface rec.kind ≡ true → IsTrue (is_lawful rec.name)
+pub iface_links : (s : State) (rec : Record) (e : Entry) (id : ℕ) → Holds s → at_rest s.due ≡ true → given_entry s rec ≡ Ok e → is_to_driver s id ≡ true → is_iface rec.kind ≡ true
+    → IsTrue (is_lawful rec.name)
     → MayPlug s e id
 iface_links s rec e id on rest is driver iface lawful =
     let t = e.slot in
@@ -274,7 +288,8 @@ iface_links s rec e id on rest is driver iface lawful =
     (and_from (is_none (kept_at s.keeps t)) (is_driver_slot (slot_at s.slots u)) (ap is_none fit.2) place.2) in
     let kept : with_reference_kept s t id ≡ after_keep s t id n = ap (λ (o : Option ℕ). record s { locals = set s.locals id Free; keeps = set s.keeps t o }) (ap number_standing at) in
     let holds : Holds (with_reference_kept s t id) = subst Holds (sym kept) (keep_keeps s t id n u on at place.1 may) in
-    let now : kept_at (with_reference_kept s t id).keeps t ≡ Some n = get_or-set_same s.keeps t (number_standing (local_at s.locals id)) None (omega (arith, fit.0, on.shape.keeps)) ∙ ap number_standing at in
+    let now : kept_at (with_reference_kept s t id).keeps t ≡ Some n =
+    get_or-set_same s.keeps t (number_standing (local_at s.locals id)) None (omega (arith, fit.0, on.shape.keeps)) ∙ ap number_standing at in
     let rightly : keeps_rightly (kept_at (with_reference_kept s t id).keeps t) rec.kind ≡ true = ap (λ (o : Option ℕ). keeps_rightly o rec.kind) now ∙ iface_keeps n rec.kind iface in
     assumption (may_link (with_reference_kept (all_seated s) t id) rec e (seated_keeps (with_reference_kept s t id) holds) writes given.entry given.free given.room lawful rightly)
 
@@ -296,13 +311,16 @@ pub record PlugSteps (s room begun kept ready now : State) (e : Entry) (id : ℕ
   pub words : ready ≡ with_prepared kept e
   pub stays : now ≡ ready
 
-pub plug_words_restored : (s room begun kept ready now : State) (e : Entry) (id : ℕ) (before : Before) → PlugSteps s room begun kept ready now e id before → with_attach_undone now e.slot before ≡ with_reference_kept s e.slot id
+pub plug_words_restored : (s room begun kept ready now : State) (e : Entry) (id : ℕ) (before : Before) → PlugSteps s room begun kept ready now e id before
+    → with_attach_undone now e.slot before ≡ with_reference_kept s e.slot id
 plug_words_restored s room begun kept ready now e id before c =
     let begins : begun ≡ all_seated s = c.seats ∙ ap all_seated c.same in
     ap (λ (x : State). with_attach_undone x e.slot before) (c.stays ∙ (c.words ∙ ap (λ (x : State). with_prepared x e) (c.keeps ∙ ap (λ (x : State). with_reference_kept x e.slot id) begins)))
-    ∙ (ap (with_attach_undone (with_prepared (with_reference_kept (all_seated s) e.slot id) e) e.slot) (c.saved ∙ ap (λ (x : State). words_before x e.slot) c.same) ∙ words_restored (with_reference_kept s e.slot id) e)
+    ∙ (ap (with_attach_undone (with_prepared (with_reference_kept (all_seated s) e.slot id) e) e.slot) (c.saved ∙ ap (λ (x : State). words_before x e.slot) c.same)
+    ∙ words_restored (with_reference_kept s e.slot id) e)
 
-pub plug_restored : (s room words : State) (t id : ℕ) (place : LocalPlace) → kept_at s.keeps t ≡ None → room ≡ s → place ≡ local_at room.locals id → words ≡ with_reference_kept s t id → with_reference_given_back words t id place ≡ s
+pub plug_restored : (s room words : State) (t id : ℕ) (place : LocalPlace) → kept_at s.keeps t ≡ None → room ≡ s → place ≡ local_at room.locals id → words ≡ with_reference_kept s t id
+    → with_reference_given_back words t id place ≡ s
 plug_restored s room words t id place empty same saved is =
     ap (λ (x : State). with_reference_given_back x t id place) is
     ∙ (ap (with_reference_given_back (with_reference_kept s t id) t id) (saved ∙ ap (λ (x : State). local_at x.locals id) same) ∙ reference_restored s t id empty)

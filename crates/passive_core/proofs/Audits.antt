@@ -1,5 +1,6 @@
 -- What an audit rests on.
-use Rattle.std.proofs.Common.{◌≡◌, ℕ, zero, suc, ◌+◌, ◌*◌, ◌^◌, ◌<◌, ◌≤◌, ◌⊎◌, inl, inr, ⊎_elim, ℤ, pos, ◌+ℤ◌, ◌≤ℤ◌, neg_ℤ, List, [], ◌∷◌, ◌++◌, length, get_or, map, take, fold, refl, sym, ap, subst, ◌∙◌, add-one, arith, sum_by, Bool, true, ne_eqb}
+use Rattle.std.proofs.Common.{◌≡◌, ℕ, zero, suc, ◌+◌, ◌*◌, ◌^◌, ◌<◌, ◌≤◌, ◌⊎◌, inl, inr, ⊎_elim, ℤ, pos, ◌+ℤ◌, ◌≤ℤ◌, neg_ℤ, List, [], ◌∷◌, ◌++◌, length, get_or, map, take, fold, refl, sym, ap, subst}
+use Rattle.std.proofs.Common.{◌∙◌, add-one, arith, sum_by, Bool, true, ne_eqb}
 use Rattle.std.specs.Prelude.{if◌then◌else◌}
 use Rattle.std.specs.List.{All}
 use Rattle.std.proofs.lemmas.Int.{ints}
@@ -60,7 +61,8 @@ local_bounds zero low high = (omega (arith, ints), omega (arith, ints))
 local_bounds (suc w) (inl never) high = absurd (omega (arith, never))
 local_bounds (suc w) (inr low) high = (omega (arith, ints, low, local_some w), omega (arith, ints, high, local_some w))
 
-pub local_range : (s : State) (c t : ℕ) (e : Entry) → Holds s → IsIn e (slot_at s.slots t) → c < s.settings.cpus → (neg_ℤ (pos (2 ^ 50)) ≤ℤ local_of (count_at s.counts c t)) × (local_of (count_at s.counts c t) ≤ℤ pos (2 ^ 50))
+pub local_range : (s : State) (c t : ℕ) (e : Entry) → Holds s → IsIn e (slot_at s.slots t) → c < s.settings.cpus
+    → (neg_ℤ (pos (2 ^ 50)) ≤ℤ local_of (count_at s.counts c t)) × (local_of (count_at s.counts c t) ≤ℤ pos (2 ^ 50))
 local_range s c t e on is low = local_bounds (count_at s.counts c t)
     (⊎_elim
     (λ (counting : IsCounting s.slots s.marks c t). inr (omega (arith, word_floor on.balance (fit_of s on) c t e low is counting)))
@@ -74,7 +76,8 @@ at_local (suc n) [] k lt = absurd (omega (arith, lt))
 at_local (suc n) (w ∷ row) zero lt = (refl, omega arith)
 at_local (suc n) (w ∷ row) (suc k) lt = let rest = at_local n row k (omega (arith, lt)) in (rest.0, omega (arith, rest.1))
 
-pub locals_range : (s : State) (t : ℕ) (e : Entry) → Holds s → IsIn e (slot_at s.slots t) → (k : ℕ) → k < length (locals_at s t) → (neg_ℤ (pos (2 ^ 50)) ≤ℤ get_or (locals_at s t) k (pos 0)) × (get_or (locals_at s t) k (pos 0) ≤ℤ pos (2 ^ 50))
+pub locals_range : (s : State) (t : ℕ) (e : Entry) → Holds s → IsIn e (slot_at s.slots t) → (k : ℕ) → k < length (locals_at s t)
+    → (neg_ℤ (pos (2 ^ 50)) ≤ℤ get_or (locals_at s t) k (pos 0)) × (get_or (locals_at s t) k (pos 0) ≤ℤ pos (2 ^ 50))
 locals_range s t e on is k lt =
     let at = at_local s.settings.cpus (get_or s.counts t []) k lt in
     subst (λ (z : ℤ). (neg_ℤ (pos (2 ^ 50)) ≤ℤ z) × (z ≤ℤ pos (2 ^ 50))) (sym at.0) (local_range s k t e on is at.1)
@@ -87,18 +90,21 @@ locals_few (suc n) (w ∷ row) = omega (arith, locals_few n row)
 pub word_small : (s : State) (c t : ℕ) (e : Entry) → Holds s → IsIn e (slot_at s.slots t) → count_at s.counts c t < 2 ^ 60
 word_small s c t e on is = omega (arith, word_ceiling on.balance (fit_of s on) c t e is)
 
-pub total_range : (s : State) (t : ℕ) (e : Entry) → Holds s → at_rest s.due ≡ true → IsIn e (slot_at s.slots t) → (bias ≤ total_at s.totals t + MOST_CPUS * greatest_limit) × (total_at s.totals t ≤ bias + MOST_CPUS * greatest_limit)
+pub total_range : (s : State) (t : ℕ) (e : Entry) → Holds s → at_rest s.due ≡ true → IsIn e (slot_at s.slots t)
+    → (bias ≤ total_at s.totals t + MOST_CPUS * greatest_limit) × (total_at s.totals t ≤ bias + MOST_CPUS * greatest_limit)
 total_range s t e on rest is =
     let range = total_at_rest on.balance (fit_of s on) t e (at_rest_tells s.due rest) is in
     (omega (arith, range.0), range.1)
 
 -- How the code goes over CPUs and slots.
 
-pub locals_more : (row : List ℕ) (c : ℕ) (z : ℤ) (items : List ℤ) → c < length row → items ≡ map local_of (take c row) → z ≡ local_of (get_or row c 0) → items ++ z ∷ [] ≡ map local_of (take (c + 1) row)
+pub locals_more : (row : List ℕ) (c : ℕ) (z : ℤ) (items : List ℤ) → c < length row → items ≡ map local_of (take c row) → z ≡ local_of (get_or row c 0)
+    → items ++ z ∷ [] ≡ map local_of (take (c + 1) row)
 locals_more row c z items lt so_far is =
     rw (so_far, is) (sym (map-append local_of (take c row) (get_or row c 0 ∷ []))) ∙ ap (map local_of) (sym (take_more row c 0 lt))
 
-pub tally_is : (s : State) (n t : ℕ) (held total : ℤ) (locals : List ℤ) → locals ≡ locals_at s t → total ≡ less_bias (total_at s.totals t) → held ≡ sum_of (locals_at s t) +ℤ less_bias (total_at s.totals t)
+pub tally_is : (s : State) (n t : ℕ) (held total : ℤ) (locals : List ℤ) → locals ≡ locals_at s t → total ≡ less_bias (total_at s.totals t)
+    → held ≡ sum_of (locals_at s t) +ℤ less_bias (total_at s.totals t)
     → record { number = n; slot = t; held = held; locals = locals; total = total } ≡ tally_of s n t
 tally_is s n t held total locals l d h = rw (l, d, h) refl
 
@@ -112,7 +118,8 @@ tally_at s t x e is = ⊎_elim
     (λ (gone : x ≡ Retired e). ap (tallies_at s t) gone)
     is
 
-pub tallies_more : (s : State) (t : ℕ) (x : Slot) (e : Entry) (list : List Balance) (b : Balance) → x ≡ slot_at s.slots t → IsIn e x → map tally_shown list ≡ tallies_below s t → tally_shown b ≡ tally_of s e.number t → map tally_shown (list ++ b ∷ []) ≡ tallies_below s (t + 1)
+pub tallies_more : (s : State) (t : ℕ) (x : Slot) (e : Entry) (list : List Balance) (b : Balance) → x ≡ slot_at s.slots t → IsIn e x → map tally_shown list ≡ tallies_below s t
+    → tally_shown b ≡ tally_of s e.number t → map tally_shown (list ++ b ∷ []) ≡ tallies_below s (t + 1)
 tallies_more s t x e list b at is so_far one =
     map-append tally_shown list (b ∷ []) ∙ (ap (λ (ys : List Tally). ys ++ tally_shown b ∷ []) so_far
     ∙ (ap (λ (y : Tally). tallies_below s t ++ y ∷ []) one
@@ -135,7 +142,8 @@ all_right s (suc t) on rest = both_right s (tallies_below s t) (tallies_at s t (
 
 shown_right : (s : State) (list : List Balance) → All (IsHeldRightly s) (map tally_shown list) → All (λ (b : Balance). IsHeldRightly s (tally_shown b)) list
 shown_right s [] all = All-nil (λ (b : Balance). IsHeldRightly s (tally_shown b))
-shown_right s (b ∷ list) all = All-cons (λ (b : Balance). IsHeldRightly s (tally_shown b)) b list (All-head (IsHeldRightly s) (tally_shown b) (map tally_shown list) all) (shown_right s list (All-tail (IsHeldRightly s) (tally_shown b) (map tally_shown list) all))
+shown_right s (b ∷ list) all = All-cons (λ (b : Balance). IsHeldRightly s (tally_shown b)) b list (All-head (IsHeldRightly s) (tally_shown b) (map tally_shown list) all)
+    (shown_right s list (All-tail (IsHeldRightly s) (tally_shown b) (map tally_shown list) all))
 
 pub audit_right : (s : State) (list : List Balance) → Holds s → at_rest s.due ≡ true → map tally_shown list ≡ audit_of s → All (λ (b : Balance). IsHeldRightly s (tally_shown b)) list
 audit_right s list on rest is = shown_right s list (subst (All (IsHeldRightly s)) (sym is) (all_right s s.settings.slots on rest))

@@ -1,5 +1,6 @@
 -- The live entry with a key is the one that a lookup of it gives now; and the row of marks, while its snapshots are taken.
-use Rattle.std.proofs.Common.{◌≡◌, ℕ, suc, ◌+◌, ◌-◌, ◌<◌, inl, inr, List, [], ◌∷◌, ◌++◌, length, get_or, set, map, take, replicate, Option, Some, None, Bool, true, false, nat_lt, refl, sym, ap, subst, ◌∙◌, arith, get_or-set_same}
+use Rattle.std.proofs.Common.{◌≡◌, ℕ, suc, ◌+◌, ◌-◌, ◌<◌, inl, inr, List, [], ◌∷◌, ◌++◌, length, get_or, set, map, take, replicate, Option, Some, None, Bool, true, false, nat_lt, refl, sym, ap, subst}
+use Rattle.std.proofs.Common.{◌∙◌, arith, get_or-set_same}
 use Rattle.std.specs.Prelude.{if◌then◌else◌, position}
 use Rattle.std.proofs.lemmas.Bool.{eq-eqb, lt-ltb, le-ltb}
 use Rattle.std.proofs.lemmas.List.{append_assoc, length-map, length-take-le, map_more, set-set, set-get_or, set_at, take_all}
@@ -8,7 +9,8 @@ use Rattle.passive_core.specs.Types.{MOST_CPUS, Entry, Reply, Done, Word, Due, R
 use Rattle.passive_core.specs.Common.{all_seated, may_act, IsDetachRefusal, IsLookupNow, with_detached, with_all_snapshots}
 use Rattle.registry_values.specs.Common.{detach_answer, is_live_as, slot_before, same_key, slot_at, no_mark}
 use Rattle.std.specs.Prelude.{Result, Ok, Err, IfSome}
-use Rattle.protocol.specs.Common.{is_inside, after_seeing, after_snapshot, after_unpublish, guard, is_idle, is_snapshot_due, with_retired, snapshot_mark, some_outcome, with_link_past, DueHolds, Holds, at_rest, State, section_at}
+use Rattle.protocol.specs.Common.{is_inside, after_seeing, after_snapshot, after_unpublish, guard, is_idle, is_snapshot_due, with_retired, snapshot_mark, some_outcome, with_link_past, DueHolds, Holds}
+use Rattle.protocol.specs.Common.{at_rest, State, section_at}
 use Rattle.passive_core.proofs.Acting.{acting_on, made_is}
 use Rattle.registry_values.proofs.Fit.{ranges}
 use Rattle.protocol.proofs.slots.Numbers.{position_fails}
@@ -18,14 +20,16 @@ use Rattle.registry_values.proofs.Slots.{key_same, live_tells}
 -- Live entries and keys
 
 -- what stands at the first place with a live entry of the key
-pub place_lookup : (s : State) (key : Key) (t : ℕ) → Holds s → position (is_live_as key) s.slots ≡ Some t → (e : Entry) × (slot_at s.slots t ≡ Live e) × IsLookupNow s key (Some e) × (slot_at s.slots e.slot ≡ Live e)
+pub place_lookup : (s : State) (key : Key) (t : ℕ) → Holds s → position (is_live_as key) s.slots ≡ Some t
+    → (e : Entry) × (slot_at s.slots t ≡ Live e) × IsLookupNow s key (Some e) × (slot_at s.slots e.slot ≡ Live e)
 place_lookup s key t on at =
     let found = position-Some (is_live_as key) s.slots t Vacant at in
     let live = live_tells key (slot_at s.slots t) found.1 in
     let shown = on.slots.live t live.0 live.1 in
     (live.0, live.1, (shown.0, live.2), on.slots.placed live.0 shown.0)
 
-pub place_is : (s : State) (key : Key) (t : ℕ) (e : Entry) → Holds s → position (is_live_as key) s.slots ≡ Some t → slot_at s.slots t ≡ Live e → IsLookupNow s key (Some e) × (slot_at s.slots e.slot ≡ Live e)
+pub place_is : (s : State) (key : Key) (t : ℕ) (e : Entry) → Holds s → position (is_live_as key) s.slots ≡ Some t → slot_at s.slots t ≡ Live e
+    → IsLookupNow s key (Some e) × (slot_at s.slots e.slot ≡ Live e)
 place_is s key t e on at live =
     let found = place_lookup s key t on at in
     let one : found.0 ≡ e = live_one found.0 e (slot_at s.slots t) live (inl found.1) in
@@ -52,7 +56,8 @@ pub found_live : (s : State) (found : Option Entry) (e : Entry) → found ≡ So
 found_live s found e is live = subst (λ (o : Option Entry). IfSome o (λ f. slot_at s.slots f.slot ≡ Live f)) is live
 
 -- a detach is refused inside a section, or where the lookup finds nothing
-pub refused_rightly : (s : State) (c : ℕ) (key : Key) (inside : Bool) (found : Option Entry) (f : Refusal) → is_inside s c ≡ inside → IsLookupNow s key found → ◌≡◌ {A = Result Entry Refusal} (Err f) (detach_answer inside found) → IsDetachRefusal s c key f
+pub refused_rightly : (s : State) (c : ℕ) (key : Key) (inside : Bool) (found : Option Entry) (f : Refusal) → is_inside s c ≡ inside → IsLookupNow s key found
+    → ◌≡◌ {A = Result Entry Refusal} (Err f) (detach_answer inside found) → IsDetachRefusal s c key f
 refused_rightly s c key true found f in_section lookup is = subst (IsDetachRefusal s c key) (same_refusal Inside f (sym is)) in_section
 refused_rightly s c key false None f outside lookup is = subst (IsDetachRefusal s c key) (same_refusal NotFound f (sym is)) (outside, lookup)
 refused_rightly s c key false (Some e) f outside lookup is = absurd (let q : ◌≡◌ {A = Result Entry Refusal} (Err f) (Ok e) = is in cc)
@@ -145,7 +150,8 @@ settings_by s t e None = refl
 settings_by s t e (Some p) = refl
 
 -- the snapshots were taken, and the keeper has told of it
-pub snapped_told : (s u v w : State) (e : Entry) (r : Reply) → u ≡ after_unpublish (all_seated s) e.slot e → v ≡ with_all_snapshots u e.slot → guard (at_rest v.due) (some_outcome v Done) ≡ Some (record { state = w; reply = r })
+pub snapped_told : (s u v w : State) (e : Entry) (r : Reply) → u ≡ after_unpublish (all_seated s) e.slot e → v ≡ with_all_snapshots u e.slot
+    → guard (at_rest v.due) (some_outcome v Done) ≡ Some (record { state = w; reply = r })
     → w ≡ with_all_snapshots (after_unpublish (all_seated s) e.slot e) e.slot
 snapped_told s u v w e r unlinked taken_all made =
     let all : v ≡ with_all_snapshots (after_unpublish (all_seated s) e.slot e) e.slot = taken_all ∙ ap (λ (x : State). with_all_snapshots x e.slot) unlinked in

@@ -28,8 +28,10 @@ pub depth_keeps : (s : State) (c depth : ℕ) → Holds s → c < s.settings.cpu
 depth_keeps s c depth on lt inside low high =
     let begun = some_from (begin_at s c) inside in
     let sections : SectionsShow s.settings s.history s.section s.begins (set s.depths c depth) s.seen = record {
-      outside = λ j. place_put 0 s.depths c depth (λ i d. get_or s.begins i None ≡ None → (get_or s.section i 0 % 2 ≡ 0) × (d ≡ 0)) j (λ is. absurd (none-some begun.0 (sym is ∙ begun.1))) (on.sections.outside j);
-      inside = λ j b. place_put 0 s.depths c depth (λ i d. get_or s.begins i None ≡ Some b → (get_or s.section i 0 % 2 ≡ 1) × (1 ≤ d)) j (λ is. ((on.sections.inside c b is).0, low)) (on.sections.inside j b);
+      outside = λ j. place_put 0 s.depths c depth (λ i d. get_or s.begins i None ≡ None → (get_or s.section i 0 % 2 ≡ 0) × (d ≡ 0)) j (λ is. absurd (none-some begun.0 (sym is ∙ begun.1)))
+          (on.sections.outside j);
+      inside = λ j b. place_put 0 s.depths c depth (λ i d. get_or s.begins i None ≡ Some b → (get_or s.section i 0 % 2 ≡ 1) × (1 ≤ d)) j (λ is. ((on.sections.inside c b is).0, low))
+          (on.sections.inside j b);
       deep = λ j. place_put 0 s.depths c depth (λ _ d. d ≤ 255) j high (on.sections.deep j);
       begun = on.sections.begun;
       prefix = on.sections.prefix;

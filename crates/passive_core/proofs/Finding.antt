@@ -3,7 +3,8 @@ use Rattle.std.proofs.Common.{◌≡◌, ℕ, zero, suc, ◌<◌, ◌⊎◌, inl
 use Rattle.std.proofs.lemmas.List.{set-set, set-get_or}
 use Rattle.registry_values.specs.Common.{are_words_of}
 use Rattle.passive_core.specs.Types.{Change, Entry, Reply, Done, Word, Found, Missed, Ref, Collected, Key, SearchPlace, AtHead, AtNext, AtNumber, AtKind, AtHigh, AtLow, AtValue, Search}
-use Rattle.protocol.specs.Common.{IsLookup, Holds, State, seen_at, search_at, row_at, entry_with, loaded_of_name, Outcome, guard, some_outcome, may_seek, after_seeing, after_seek, with_search_at, search_over, link_loaded, load_link, load_searched, outcome_of}
+use Rattle.protocol.specs.Common.{IsLookup, Holds, State, seen_at, search_at, row_at, entry_with, loaded_of_name, Outcome, guard, some_outcome, may_seek, after_seeing, after_seek, with_search_at}
+use Rattle.protocol.specs.Common.{search_over, link_loaded, load_link, load_searched, outcome_of}
 use Rattle.passive_core.specs.Common.{after_find, load_at, next_load}
 use Rattle.passive_core.proofs.Acting.{made_is}
 use Rattle.protocol.proofs.keeps.Searching.{Finds, FindSteps, IsFindStep, find_link, find_record, placed, searching_within, seen_now, weight}
@@ -58,7 +59,8 @@ past_head : (t n : ℕ) (A : Type 0) → (AtValue t n ≡ AtHead) ⊎ A → A
 past_head t n A (inl at) = absurd (let q : AtValue t n ≡ AtHead = at in cc)
 past_head t n A (inr a) = a
 
-load_moves : (b s : State) (c : ℕ) (q : Search) (p : SearchPlace) → Holds s → c < s.settings.cpus → Walking b s c → search_at b c ≡ None → (p ≡ AtHead) ⊎ (seen_at s c ≡ length b.history) → Moves b c (load_at s c q p)
+load_moves : (b s : State) (c : ℕ) (q : Search) (p : SearchPlace) → Holds s → c < s.settings.cpus → Walking b s c → search_at b c ≡ None → (p ≡ AtHead) ⊎ (seen_at s c ≡ length b.history)
+    → Moves b c (load_at s c q p)
 load_moves b s c q AtHead on lt walk none seen = link_moves b s c q s.head on lt walk none
 load_moves b s c q (AtNext t) on lt walk none seen = link_moves b s c q (get_or s.next t 0) on lt walk none
 load_moves b s c q (AtNumber t) on lt walk none seen = going_walks b s c q (AtKind t (row_at s.rows t).number) walk
@@ -104,7 +106,8 @@ turn_of b c q n s Missed moved step =
 turn_of b c q n s _ moved step = moved
 
 -- One load of the walk.
-pub load_turns : (b s t : State) (c : ℕ) (key : Key) (r : Reply) → Holds s → search_at b c ≡ None → Walks b s c key → next_load s c (search_at s c) ≡ Some (record { state = t; reply = r }) → IsTurn b c key (left s (search_at s c)) t r
+pub load_turns : (b s t : State) (c : ℕ) (key : Key) (r : Reply) → Holds s → search_at b c ≡ None → Walks b s c key → next_load s c (search_at s c) ≡ Some (record { state = t; reply = r })
+    → IsTurn b c key (left s (search_at s c)) t r
 load_turns b s t c key r on none walks made =
     let q : Search = record { key = key; start = walks.start; place = walks.place } in
     let is : search_at s c ≡ Some q = walks.finds.searching in
@@ -131,12 +134,14 @@ walk_starts b c key lt = record {
 }
 
 -- a walk that isn't over goes on, with less left
-pub walk_goes_on : (b : State) (c : ℕ) (key : Key) (n : ℕ) (s : State) (r : Reply) → IsTurn b c key n s r → ((e : Entry) → r ≡ Found e → ⊥) → (r ≡ Missed → ⊥) → Walks b s c key × (left s (search_at s c) < n)
+pub walk_goes_on : (b : State) (c : ℕ) (key : Key) (n : ℕ) (s : State) (r : Reply) → IsTurn b c key n s r → ((e : Entry) → r ≡ Found e → ⊥) → (r ≡ Missed → ⊥)
+    → Walks b s c key × (left s (search_at s c) < n)
 walk_goes_on b c key n s (Word w) turn not_found not_missed = turn
 walk_goes_on b c key n s (Found e) turn not_found not_missed = absurd (not_found e refl)
 walk_goes_on b c key n s Missed turn not_found not_missed = absurd (not_missed refl)
 walk_goes_on b c key n s _ turn not_found not_missed = absurd turn
 
 -- The first load is made after a Seek of an idle CPU inside a section.
-pub seek_starts : (b t : State) (c : ℕ) (key : Key) (r : Reply) → c < length b.searches → may_seek b c ≡ true → guard (may_seek b c) (some_outcome (after_seek b c key) Done) ≡ Some (record { state = t; reply = r }) → Walks b t c key
+pub seek_starts : (b t : State) (c : ℕ) (key : Key) (r : Reply) → c < length b.searches → may_seek b c ≡ true
+    → guard (may_seek b c) (some_outcome (after_seek b c key) Done) ≡ Some (record { state = t; reply = r }) → Walks b t c key
 seek_starts b t c key r lt may made = subst (λ (u : State). Walks b u c key) (sym (made_is (may_seek b c) (after_seek b c key) t Done r may made)) (walk_starts b c key lt)

@@ -1,5 +1,6 @@
 -- What the commands on local references rest on.
-use Rattle.std.proofs.Common.{◌≡◌, ℕ, zero, suc, ◌+◌, ◌-◌, ◌<◌, ◌⊎◌, inl, inr, List, [], ◌∷◌, ◌++◌, length, length-set, get_or, set, cond, position, Option, Some, None, IsSome, Result, Ok, Err, OnOk, OnErr, Bool, true, false, ◌&&◌, nat_lt, nat_eq, refl, sym, ap, subst, ◌∙◌, arith, sum_by, get_or-set_same, ne_eqb}
+use Rattle.std.proofs.Common.{◌≡◌, ℕ, zero, suc, ◌+◌, ◌-◌, ◌<◌, ◌⊎◌, inl, inr, List, [], ◌∷◌, ◌++◌, length, length-set, get_or, set, cond, position, Option, Some, None, IsSome, Result, Ok, Err, OnOk}
+use Rattle.std.proofs.Common.{OnErr, Bool, true, false, ◌&&◌, nat_lt, nat_eq, refl, sym, ap, subst, ◌∙◌, arith, sum_by, get_or-set_same, ne_eqb}
 use Rattle.std.specs.Prelude.{if◌then◌else◌, is_none}
 use Rattle.std.specs.List.{position_or_len}
 use Rattle.std.proofs.lemmas.List.{get_or_append_left, get_or_past, get_or_push, length_push, set-get_or}
@@ -7,8 +8,11 @@ use Rattle.std.proofs.lemmas.List.Sums.{position_or_len_is, sum_by_push}
 use Rattle.std.proofs.lemmas.List.Quantifiers.{position-Some}
 use Rattle.std.proofs.lemmas.List.Folds.{position_or_len_push}
 use Rattle.std.proofs.lemmas.Bool.{and_parts, cases_eq, cases_lt, eq-eqb, lt-ltb, le-ltb}
-use Rattle.passive_core.specs.Types.{Entry, CountAdd, SplitRef, JoinRef, CountDown, SplitBack, JoinKeeper, TotalSub, Reply, Done, Word, Ref, Collected, Hand, Empty, Taking, Giving, Back, LocalPlace, Free, Standing, Lifted}
-use Rattle.protocol.specs.Common.{State, count_at, found_at, hand_at, local_at, mark_at, row_at, search_at, total_at, at_rest, is_empty, Outcome, after_collected, after_count, after_count_add, after_count_down, after_hand, after_join_keeper, after_split, after_total, id_if, is_free, is_idle, least_id, load_local, may_join_keeper, split_ref, number_standing, state_after, step, some_outcome, with_local, word, words_of, Holds, standing_of}
+use Rattle.passive_core.specs.Types.{Entry, CountAdd, SplitRef, JoinRef, CountDown, SplitBack, JoinKeeper, TotalSub, Reply, Done, Word, Ref, Collected, Hand, Empty, Taking, Giving, Back, LocalPlace}
+use Rattle.passive_core.specs.Types.{Free, Standing, Lifted}
+use Rattle.protocol.specs.Common.{State, count_at, found_at, hand_at, local_at, mark_at, row_at, search_at, total_at, at_rest, is_empty, Outcome, after_collected, after_count, after_count_add}
+use Rattle.protocol.specs.Common.{after_count_down, after_hand, after_join_keeper, after_split, after_total, id_if, is_free, is_idle, least_id, load_local, may_join_keeper, split_ref, number_standing}
+use Rattle.protocol.specs.Common.{state_after, step, some_outcome, with_local, word, words_of, Holds, standing_of}
 use Rattle.registry_values.specs.Common.{bias, no_mark, is_collected, is_some_collected, slot_at, is_retired, slot_of}
 use Rattle.passive_core.specs.Common.{all_seated, may_act, count_in, free_added, is_counting, local_slot, slot_if, with_count_less, with_count_more, with_room}
 use Rattle.protocol.proofs.keeps.SectionKeeps.{empty_from}
@@ -51,7 +55,8 @@ end_of locals none = position_or_len_is is_free locals (length locals) Free (ome
 free_end : (locals : List LocalPlace) → position is_free locals ≡ None → position is_free (locals ++ Free ∷ []) ≡ Some (length locals)
 free_end locals none =
     let same : nat_eq (position_or_len is_free locals) (length locals) ≡ true = eq-eqb _ _ (end_of locals none) in
-    let at : position_or_len is_free (locals ++ Free ∷ []) ≡ length locals = omega (arith, position_or_len_push is_free locals Free ∙ ap (λ (b : Bool). cond b (length locals + 0) (position_or_len is_free locals)) same) in
+    let at : position_or_len is_free (locals ++ Free ∷ []) ≡ length locals =
+    omega (arith, position_or_len_push is_free locals Free ∙ ap (λ (b : Bool). cond b (length locals + 0) (position_or_len is_free locals)) same) in
     let lt : nat_lt (position_or_len is_free (locals ++ Free ∷ [])) (length (locals ++ Free ∷ [])) ≡ true = lt-ltb _ _ (omega (arith, at, length_push locals Free)) in
     ap (λ (b : Bool). cond b (Some (position_or_len is_free (locals ++ Free ∷ []))) None) lt ∙ ap Some at
 
@@ -59,14 +64,16 @@ set_end : {X : Type 0} (xs : List X) (x y : X) → set (xs ++ x ∷ []) (length 
 set_end [] x y = refl
 set_end (z ∷ xs) x y = ap (λ (ys : List _). z ∷ ys) (set_end xs x y)
 
-pub least_added : (locals : List LocalPlace) (o : Option ℕ) → position is_free locals ≡ o → (least_id (free_added locals o) ≡ least_id locals) × (least_id (free_added locals o) < length (free_added locals o))
+pub least_added : (locals : List LocalPlace) (o : Option ℕ) → position is_free locals ≡ o
+    → (least_id (free_added locals o) ≡ least_id locals) × (least_id (free_added locals o) < length (free_added locals o))
 least_added locals None none =
     let is : least_id (locals ++ Free ∷ []) ≡ length locals = ap (id_if (locals ++ Free ∷ [])) (free_end locals none) in
     (is ∙ sym (ap (id_if locals) none), omega (arith, is, length_push locals Free))
 least_added locals (Some id) some = (refl, omega (arith, ap (id_if locals) some, (position-Some is_free locals id Free some).0))
 
 -- a reference that is put there stands where it would have without
-pub placed : (locals : List LocalPlace) (o : Option ℕ) (p : LocalPlace) → position is_free locals ≡ o → with_local (free_added locals o) (least_id (free_added locals o)) p ≡ with_local locals (least_id locals) p
+pub placed : (locals : List LocalPlace) (o : Option ℕ) (p : LocalPlace) → position is_free locals ≡ o
+    → with_local (free_added locals o) (least_id (free_added locals o)) p ≡ with_local locals (least_id locals) p
 placed locals None p none =
     let is : least_id (locals ++ Free ∷ []) ≡ length locals = ap (id_if (locals ++ Free ∷ [])) (free_end locals none) in
     let was : least_id locals ≡ length locals = ap (id_if locals) none in
@@ -148,7 +155,8 @@ abbrev pub lifted : State → ℕ → ℕ → ℕ → State
 lifted s c n id = after_hand s c (Giving n id) id (Lifted c)
 
 abbrev pub exchanged : State → ℕ → ℕ → ℕ → ℕ → Bool → Option Outcome
-exchanged s c n id t counts = if counts then some_outcome (after_count_down (lifted s c n id) c t id) (Word (count_at s.counts c t)) else some_outcome (after_collected (lifted s c n id) c n id) Collected
+exchanged s c n id t counts =
+    if counts then some_outcome (after_count_down (lifted s c n id) c t id) (Word (count_at s.counts c t)) else some_outcome (after_collected (lifted s c n id) c n id) Collected
 
 downs : (s : State) (c n id t : ℕ) → Holds s → slot_of s.slots n ≡ Some t → c < s.settings.cpus → step (lifted s c n id) (CountDown c) ≡ exchanged s c n id t (nat_lt 0 (count_at s.counts c t))
 downs s c n id t on of low =
@@ -161,7 +169,8 @@ some_exchanged s c n id t false = refl
 
 pub down_allowed : (s v : State) (c n id t : ℕ) → Holds s → slot_of s.slots n ≡ Some t → c < s.settings.cpus → v ≡ lifted s c n id → IsSome (step v (CountDown c))
 down_allowed s v c n id t on of low is = subst (λ (x : State). IsSome (step x (CountDown c))) (sym is)
-    (is_some (step (lifted s c n id) (CountDown c)) (exchanged s c n id t (nat_lt 0 (count_at s.counts c t))) (downs s c n id t on of low) (some_exchanged s c n id t (nat_lt 0 (count_at s.counts c t))))
+    (is_some (step (lifted s c n id) (CountDown c)) (exchanged s c n id t (nat_lt 0 (count_at s.counts c t))) (downs s c n id t on of low)
+    (some_exchanged s c n id t (nat_lt 0 (count_at s.counts c t))))
 
 abbrev reply_of : Option Outcome → Reply
 reply_of None = Done
@@ -174,21 +183,27 @@ id_in _ = 0
 abbrev ref_of : Option Outcome → ℕ
 ref_of o = id_in (reply_of o)
 
-fell : (s w : State) (c n id t : ℕ) (r : Reply) (b : Bool) → exchanged s c n id t b ≡ Some (record { state = w; reply = r }) → r ≡ Collected → (b ≡ false) × (w ≡ after_collected (lifted s c n id) c n id)
+fell : (s w : State) (c n id t : ℕ) (r : Reply) (b : Bool) → exchanged s c n id t b ≡ Some (record { state = w; reply = r }) → r ≡ Collected
+    → (b ≡ false) × (w ≡ after_collected (lifted s c n id) c n id)
 fell s w c n id t r true was is = absurd (let q : Word (count_at s.counts c t) ≡ Collected = ap reply_of was ∙ is in cc)
 fell s w c n id t r false was is = (refl, ap (state_after s) (sym was))
 
-went : (s w : State) (c n id t : ℕ) (r : Reply) (b : Bool) → exchanged s c n id t b ≡ Some (record { state = w; reply = r }) → (r ≡ Collected → ⊥) → (b ≡ true) × (w ≡ after_count_down (lifted s c n id) c t id)
+went : (s w : State) (c n id t : ℕ) (r : Reply) (b : Bool) → exchanged s c n id t b ≡ Some (record { state = w; reply = r }) → (r ≡ Collected → ⊥)
+    → (b ≡ true) × (w ≡ after_count_down (lifted s c n id) c t id)
 went s w c n id t r true was off = (refl, ap (state_after s) (sym was))
 went s w c n id t r false was off = absurd (off (sym (ap reply_of was)))
 
-pub down_fell : (s v w : State) (c n id t : ℕ) (r : Reply) → Holds s → slot_of s.slots n ≡ Some t → c < s.settings.cpus → v ≡ lifted s c n id → step v (CountDown c) ≡ Some (record { state = w; reply = r }) → r ≡ Collected
+pub down_fell : (s v w : State) (c n id t : ℕ) (r : Reply) → Holds s → slot_of s.slots n ≡ Some t → c < s.settings.cpus → v ≡ lifted s c n id
+    → step v (CountDown c) ≡ Some (record { state = w; reply = r }) → r ≡ Collected
     → (nat_lt 0 (count_at s.counts c t) ≡ false) × (w ≡ after_collected (lifted s c n id) c n id)
-down_fell s v w c n id t r on of low is was = fell s w c n id t r (nat_lt 0 (count_at s.counts c t)) (sym (downs s c n id t on of low) ∙ subst (λ (x : State). step x (CountDown c) ≡ Some (record { state = w; reply = r })) is was)
+down_fell s v w c n id t r on of low is was =
+    fell s w c n id t r (nat_lt 0 (count_at s.counts c t)) (sym (downs s c n id t on of low) ∙ subst (λ (x : State). step x (CountDown c) ≡ Some (record { state = w; reply = r })) is was)
 
-pub down_went : (s v w : State) (c n id t : ℕ) (r : Reply) → Holds s → slot_of s.slots n ≡ Some t → c < s.settings.cpus → v ≡ lifted s c n id → step v (CountDown c) ≡ Some (record { state = w; reply = r }) → (r ≡ Collected → ⊥)
+pub down_went : (s v w : State) (c n id t : ℕ) (r : Reply) → Holds s → slot_of s.slots n ≡ Some t → c < s.settings.cpus → v ≡ lifted s c n id
+    → step v (CountDown c) ≡ Some (record { state = w; reply = r }) → (r ≡ Collected → ⊥)
     → (nat_lt 0 (count_at s.counts c t) ≡ true) × (w ≡ after_count_down (lifted s c n id) c t id)
-down_went s v w c n id t r on of low is was = went s w c n id t r (nat_lt 0 (count_at s.counts c t)) (sym (downs s c n id t on of low) ∙ subst (λ (x : State). step x (CountDown c) ≡ Some (record { state = w; reply = r })) is was)
+down_went s v w c n id t r on of low is was =
+    went s w c n id t r (nat_lt 0 (count_at s.counts c t)) (sym (downs s c n id t on of low) ∙ subst (λ (x : State). step x (CountDown c) ≡ Some (record { state = w; reply = r })) is was)
 
 -- the count is one less, and the hand is empty again
 pub counted_down : (s : State) (c n id t : ℕ) → hand_at s c ≡ Empty → after_count_down (lifted s c n id) c t id ≡ with_count_less s c id (Some t)
@@ -198,9 +213,11 @@ counted_down s c n id t hand =
     ap (λ (h : List Hand). record (after_count s c t (count_at s.counts c t - 1) (count_at s.nets c t - 1) Empty) { hands = h; locals = set (set s.locals id (Lifted c)) id Free }) hands
     ∙ ap (λ (l : List LocalPlace). record (after_count s c t (count_at s.counts c t - 1) (count_at s.nets c t - 1) Empty) { hands = s.hands; locals = l }) locals
 
-backs : (s : State) (c n id : ℕ) → c < length s.hands → step (after_collected (lifted s c n id) c n id) (SplitBack c) ≡ some_outcome (after_hand (after_collected (lifted s c n id) c n id) c Empty id (Standing n)) (Ref id)
+backs : (s : State) (c n id : ℕ) → c < length s.hands → step (after_collected (lifted s c n id) c n id) (SplitBack c)
+    ≡ some_outcome (after_hand (after_collected (lifted s c n id) c n id) c Empty id (Standing n)) (Ref id)
 backs s c n id low =
-    let hand : hand_at (after_collected (lifted s c n id) c n id) c ≡ Back n id = get_or-set_same (set s.hands c (Giving n id)) c (Back n id) Empty (omega (arith, low, length-set s.hands c (Giving n id))) in
+    let hand : hand_at (after_collected (lifted s c n id) c n id) c ≡ Back n id =
+    get_or-set_same (set s.hands c (Giving n id)) c (Back n id) Empty (omega (arith, low, length-set s.hands c (Giving n id))) in
     rw hand refl
 
 -- all is as it was before the reference was joined
@@ -215,7 +232,8 @@ pub back_allowed : (s w : State) (c n id : ℕ) → Holds s → c < s.settings.c
 back_allowed s w c n id on low is = subst (λ (x : State). IsSome (step x (SplitBack c))) (sym is)
     (is_some (step (after_collected (lifted s c n id) c n id) (SplitBack c)) _ (backs s c n id (omega (arith, low, on.shape.hands))) refl)
 
-pub gone_back : (s w x : State) (c n id : ℕ) (r : Reply) → Holds s → c < s.settings.cpus → hand_at s c ≡ Empty → local_at s.locals id ≡ Standing n → w ≡ after_collected (lifted s c n id) c n id → step w (SplitBack c) ≡ Some (record { state = x; reply = r }) → x ≡ s
+pub gone_back : (s w x : State) (c n id : ℕ) (r : Reply) → Holds s → c < s.settings.cpus → hand_at s c ≡ Empty → local_at s.locals id ≡ Standing n → w ≡ after_collected (lifted s c n id) c n id
+    → step w (SplitBack c) ≡ Some (record { state = x; reply = r }) → x ≡ s
 gone_back s w x c n id r on low hand at is was =
     made s (step (after_collected (lifted s c n id) c n id) (SplitBack c)) _ x r (backs s c n id (omega (arith, low, on.shape.hands)))
     (subst (λ (y : State). step y (SplitBack c) ≡ Some (record { state = x; reply = r })) is was)
@@ -228,10 +246,12 @@ some_collected s c t on low tl done =
     let tm : t < length s.marks = omega (arith, tl, on.shape.slots, on.shape.marks) in
     any_within is_collected s.settings.cpus (get_or s.marks t []) no_mark c low (omega (arith, low, on.shape.mark_rows t tm, (ranges s.settings on.fit).cpus)) done
 
-keeper_joins : (s : State) (id n t : ℕ) → number_standing (local_at s.locals id) ≡ Some n → slot_of s.slots n ≡ Some t → may_join_keeper s t ≡ true → step s (JoinKeeper id) ≡ some_outcome (after_join_keeper s id t) Done
+keeper_joins : (s : State) (id n t : ℕ) → number_standing (local_at s.locals id) ≡ Some n → slot_of s.slots n ≡ Some t → may_join_keeper s t ≡ true
+    → step s (JoinKeeper id) ≡ some_outcome (after_join_keeper s id t) Done
 keeper_joins s id n t live of may = rw (live, of, may) refl
 
-pub joined_keeper : (s : State) (c id n t : ℕ) → Holds s → c < s.settings.cpus → at_rest s.due ≡ true → number_standing (local_at s.locals id) ≡ Some n → slot_of s.slots n ≡ Some t → is_counting s c (local_slot s id) ≡ false → step s (JoinKeeper id) ≡ some_outcome (after_join_keeper s id t) Done
+pub joined_keeper : (s : State) (c id n t : ℕ) → Holds s → c < s.settings.cpus → at_rest s.due ≡ true → number_standing (local_at s.locals id) ≡ Some n → slot_of s.slots n ≡ Some t
+    → is_counting s c (local_slot s id) ≡ false → step s (JoinKeeper id) ≡ some_outcome (after_join_keeper s id t) Done
 joined_keeper s c id n t on low rest live of off =
     let none : nat_lt 0 (count_at s.counts c t) ≡ false = ap (is_counting s c) (sym (slot_is s id n t live of)) ∙ off in
     either (count_cases s c n t on of low)
@@ -274,10 +294,12 @@ counts_up s c t e found of idle room = rw (found, of, idle, room) refl
 abbrev pub prepared : State → State
 prepared s = all_seated (with_room s)
 
-room_at : (s : State) (c n t : ℕ) → slot_of s.slots n ≡ Some t → nat_lt (count_in s.nets c (slot_of s.slots n)) (bias + s.settings.count_limit) ≡ true → nat_lt (count_at s.nets c t) (bias + s.settings.count_limit) ≡ true
+room_at : (s : State) (c n t : ℕ) → slot_of s.slots n ≡ Some t → nat_lt (count_in s.nets c (slot_of s.slots n)) (bias + s.settings.count_limit) ≡ true
+    → nat_lt (count_at s.nets c t) (bias + s.settings.count_limit) ≡ true
 room_at s c n t of room = subst (λ (o : Option ℕ). nat_lt (count_in s.nets c o) (bias + s.settings.count_limit) ≡ true) of room
 
-pub count_allowed : (s u : State) (c : ℕ) (e : Entry) → Holds s → found_at s c ≡ Some e → u ≡ prepared s → is_idle u c ≡ true → nat_lt (count_in s.nets c (slot_of s.slots e.number)) (bias + s.settings.count_limit) ≡ true → IsSome (step u (CountAdd c))
+pub count_allowed : (s u : State) (c : ℕ) (e : Entry) → Holds s → found_at s c ≡ Some e → u ≡ prepared s → is_idle u c ≡ true
+    → nat_lt (count_in s.nets c (slot_of s.slots e.number)) (bias + s.settings.count_limit) ≡ true → IsSome (step u (CountAdd c))
 count_allowed s u c e on found is idle room =
     let t = found_slot s c e on found in
     subst (λ (x : State). IsSome (step x (CountAdd c))) (sym is)
@@ -289,7 +311,8 @@ pub record Taken (s v : State) (c n t : ℕ) : Type 0 where
   pub hand : hand_at v c ≡ Taking n
   pub room : least_id v.locals < length v.locals
 
-pub takes : (s u v : State) (c : ℕ) (e : Entry) (r : Reply) → Holds s → found_at s c ≡ Some e → c < s.settings.cpus → u ≡ prepared s → is_idle u c ≡ true → nat_lt (count_in s.nets c (slot_of s.slots e.number)) (bias + s.settings.count_limit) ≡ true
+pub takes : (s u v : State) (c : ℕ) (e : Entry) (r : Reply) → Holds s → found_at s c ≡ Some e → c < s.settings.cpus → u ≡ prepared s → is_idle u c ≡ true
+    → nat_lt (count_in s.nets c (slot_of s.slots e.number)) (bias + s.settings.count_limit) ≡ true
     → step u (CountAdd c) ≡ Some (record { state = v; reply = r }) → (t : ℕ) × Taken s v c e.number t
 takes s u v c e r on found low is idle room was =
     let t = found_slot s c e on found in
@@ -303,7 +326,8 @@ takes s u v c e r on found low is idle room was =
     )
 
 -- the reference has its place, and the hand is empty again
-pub split : (s v w : State) (c n t id : ℕ) → hand_at s c ≡ Empty → Taken s v c n t → step v (SplitRef c) ≡ Some (record { state = w; reply = Ref id }) → (w ≡ with_count_more s c n (Some t)) × (id ≡ least_id s.locals)
+pub split : (s v w : State) (c n t id : ℕ) → hand_at s c ≡ Empty → Taken s v c n t → step v (SplitRef c) ≡ Some (record { state = w; reply = Ref id })
+    → (w ≡ with_count_more s c n (Some t)) × (id ≡ least_id s.locals)
 split s v w c n t id hand taken_ was =
     let is : split_ref v c (Taking n) ≡ Some (record { state = w; reply = Ref id }) = subst (λ (h : Hand). split_ref v c h ≡ Some (record { state = w; reply = Ref id })) taken_.hand was in
     let done : some_outcome (after_split (after_count_add (prepared s) c n t) c n) (Ref (least_id (with_room s).locals)) ≡ Some (record { state = w; reply = Ref id })
@@ -327,11 +351,13 @@ less_count_ready u c id None d may = may
 less_count_ready u c id (Some t) d may = may
 
 -- the list of places after a growth that may be refused
-pub grown_holds : {X Y : Type 0} (s : State) (locals : List LocalPlace) (result : Result X Y) → Holds s → position is_free s.locals ≡ None → OnOk result (locals ≡ s.locals ++ Free ∷ []) → OnErr result (locals ≡ s.locals) → Holds (record s { locals = locals })
+pub grown_holds : {X Y : Type 0} (s : State) (locals : List LocalPlace) (result : Result X Y) → Holds s → position is_free s.locals ≡ None → OnOk result (locals ≡ s.locals ++ Free ∷ [])
+    → OnErr result (locals ≡ s.locals) → Holds (record s { locals = locals })
 grown_holds s locals (Ok x) on none ok err = subst (λ (l : List LocalPlace). Holds (record s { locals = l })) (ap (free_added s.locals) none ∙ sym ok) (room_holds s on)
 grown_holds s locals (Err e) on none ok err = subst (λ (l : List LocalPlace). Holds (record s { locals = l })) (sym err) on
 
-pub grown_room : {X Y : Type 0} (old locals : List LocalPlace) (result : Result X Y) → position is_free old ≡ None → OnOk result (locals ≡ old ++ Free ∷ []) → OnOk result (least_id locals < length locals)
+pub grown_room : {X Y : Type 0} (old locals : List LocalPlace) (result : Result X Y) → position is_free old ≡ None → OnOk result (locals ≡ old ++ Free ∷ [])
+    → OnOk result (least_id locals < length locals)
 grown_room old locals (Ok x) none ok = subst (λ (l : List LocalPlace). least_id l < length l) (sym ok) (least_added old None none).1
 grown_room old locals (Err e) none ok = tt
 
@@ -341,7 +367,8 @@ pub record Acquired (s w : State) (c n t id : ℕ) : Type 0 where
   pub state : w ≡ with_count_more s c n (Some t)
   pub least : id ≡ least_id s.locals
 
-pub acquires : (s u v w : State) (c id : ℕ) (e : Entry) (r : Reply) → Holds s → found_at s c ≡ Some e → c < s.settings.cpus → u ≡ prepared s → is_idle u c ≡ true → nat_lt (count_in s.nets c (slot_of s.slots e.number)) (bias + s.settings.count_limit) ≡ true
+pub acquires : (s u v w : State) (c id : ℕ) (e : Entry) (r : Reply) → Holds s → found_at s c ≡ Some e → c < s.settings.cpus → u ≡ prepared s → is_idle u c ≡ true
+    → nat_lt (count_in s.nets c (slot_of s.slots e.number)) (bias + s.settings.count_limit) ≡ true
     → step u (CountAdd c) ≡ Some (record { state = v; reply = r }) → step v (SplitRef c) ≡ Some (record { state = w; reply = Ref id }) → (t : ℕ) × Acquired s w c e.number t id
 acquires s u v w c id e r on found low is idle room first second =
     let took = takes s u v c e r on found low is idle room first in

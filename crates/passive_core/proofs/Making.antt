@@ -1,16 +1,21 @@
 -- Lists of events, one after the other.
-use Rattle.std.proofs.Common.{get_or, get_or-set_same, replicate, ◌≡◌, ℕ, zero, suc, ◌+◌, ◌-◌, ◌<◌, ◌≤◌, inl, inr, List, [], ◌∷◌, ◌++◌, Option, Some, None, Bool, true, false, ◌&&◌, nat_lt, Ok, refl, sym, ap, subst, ◌∙◌, arith, lt-ltb}
+use Rattle.std.proofs.Common.{get_or, get_or-set_same, replicate, ◌≡◌, ℕ, zero, suc, ◌+◌, ◌-◌, ◌<◌, ◌≤◌, inl, inr, List, [], ◌∷◌, ◌++◌, Option, Some, None, Bool, true, false, ◌&&◌, nat_lt, Ok, refl}
+use Rattle.std.proofs.Common.{sym, ap, subst, ◌∙◌, arith, lt-ltb}
 use Rattle.std.specs.Prelude.{All, is_none, if◌then◌else◌}
 use Rattle.std.proofs.lemmas.Option.{same_Some}
 use Rattle.std.proofs.lemmas.Bool.{and_parts, eq-eqb}
 use Rattle.std.proofs.lemmas.List.Elements.{All-append, All-cons, All-nil, All-push, All-weaker}
-use Rattle.passive_core.specs.Types.{Slot, Stage, Grace, Passive, Local, Freed, Event, Seat, Seek, LoadRecord, Publish, Unpublish, Tell, Hear, CountAdd, SplitRef, JoinRef, CountDown, SplitBack, RecordOf, Reply, Done, Ref, Word, Entry, Settings, MOST_CPUS, Live, Snapshots, Hand, Empty, Taking, Key}
+use Rattle.passive_core.specs.Types.{Slot, Stage, Grace, Passive, Local, Freed, Event, Seat, Seek, LoadRecord, Publish, Unpublish, Tell, Hear, CountAdd, SplitRef, JoinRef, CountDown, SplitBack}
+use Rattle.passive_core.specs.Types.{RecordOf, Reply, Done, Ref, Word, Entry, Settings, MOST_CPUS, Live, Snapshots, Hand, Empty, Taking, Key}
 use Rattle.registry_values.specs.Common.{retired_slot, bias, no_mark, slot_at, slot_before, slot_of}
-use Rattle.protocol.specs.Common.{after_count_add, after_count_store, after_publish, after_snapshot, after_split, after_unpublish, is_idle, least_id, load_record, may_write, some_outcome, step, Holds, IsLoadOf, State, at_rest, count_at, found_at, hand_at, is_empty, search_at, section_at}
+use Rattle.protocol.specs.Common.{after_count_add, after_count_store, after_publish, after_snapshot, after_split, after_unpublish, is_idle, least_id, load_record, may_write, some_outcome, step, Holds}
+use Rattle.protocol.specs.Common.{IsLoadOf, State, at_rest, count_at, found_at, hand_at, is_empty, search_at, section_at}
 use Rattle.protocol.proofs.keeps.SectionKeeps.{empty_from}
 use Rattle.registry_values.proofs.Fit.{ranges}
 use Rattle.passive_core.proofs.Attaching.{count_places, count_store_allowed, counts_first, counts_next, with_counts}
-use Rattle.passive_core.specs.Common.{with_all_snapshots, all_seated, AdvanceLeaves, Settles, is_counting, local_slot, count_in, release_events, under_events, with_count_more, AdvanceMakes, IsWork, count_stores_from, detach_events, linking_events, prepare_events, snapshots_from, FindMakes, IsCollectionFor, IsLookFor, IsPassiveLookFor, IsSeat, IsWaiting, Makes, MakesOnly, seats_and, seats_from}
+use Rattle.passive_core.specs.Common.{with_all_snapshots, all_seated, AdvanceLeaves, Settles, is_counting, local_slot, count_in, release_events, under_events, with_count_more, AdvanceMakes, IsWork}
+use Rattle.passive_core.specs.Common.{count_stores_from, detach_events, linking_events, prepare_events, snapshots_from, FindMakes, IsCollectionFor, IsLookFor, IsPassiveLookFor, IsSeat, IsWaiting}
+use Rattle.passive_core.specs.Common.{Makes, MakesOnly, seats_and, seats_from}
 use Rattle.passive_core.proofs.Detaching.{due_is, due_within, settings_by, snap_more, snapping, snapping_ends, snapping_starts}
 use Rattle.passive_core.proofs.Locals.{set_back}
 use Rattle.passive_core.proofs.Advancing.{is_freed, slots_again}
@@ -100,7 +105,8 @@ work_seated s u n t (Local k) x y = only_after (IsWork (Local k) t) s u n (only_
 work_seated s u n t (Freed v) x y = only_after (IsWork (Freed v) t) s u n (only_wider IsSeat (IsWork (Freed v) t) s u (λ e is. inl (inl (inl (inl is)))) x) y
 
 -- two turns that met the same obstacle
-pub work_again : (s m n : State) (number : ℕ) (stage next : Stage) → is_freed stage ≡ false → AdvanceLeaves s m number (Ok stage) → AdvanceMakes s m number (Ok stage) → AdvanceMakes m n number (Ok next) → next ≡ stage → AdvanceMakes s n number (Ok next)
+pub work_again : (s m n : State) (number : ℕ) (stage next : Stage) → is_freed stage ≡ false → AdvanceLeaves s m number (Ok stage) → AdvanceMakes s m number (Ok stage)
+    → AdvanceMakes m n number (Ok next) → next ≡ stage → AdvanceMakes s n number (Ok next)
 work_again s m n number stage next held left x y same =
     let slots = slots_again s m left.0 stage held left.2 in
     let place : Some y.0 ≡ Some x.0 = sym y.1 ∙ (ap (λ (l : List Slot). retired_slot l number) slots ∙ x.1) in
@@ -112,10 +118,12 @@ work_again s m n number stage next held left x y same =
 
 released_if : (s n : State) (c id : ℕ) (b : Bool) → is_counting s c (local_slot s id) ≡ b
     → Makes s (if b then JoinRef c id ∷ CountDown c ∷ [] else (JoinRef c id ∷ CountDown c ∷ SplitBack c ∷ []) ++ under_events id (local_slot s id)) n → Makes s (release_events s c id) n
-released_if s n c id b is makes = subst (λ (x : Bool). Makes s (if x then JoinRef c id ∷ CountDown c ∷ [] else (JoinRef c id ∷ CountDown c ∷ SplitBack c ∷ []) ++ under_events id (local_slot s id)) n) (sym is) makes
+released_if s n c id b is makes =
+    subst (λ (x : Bool). Makes s (if x then JoinRef c id ∷ CountDown c ∷ [] else (JoinRef c id ∷ CountDown c ∷ SplitBack c ∷ []) ++ under_events id (local_slot s id)) n) (sym is) makes
 
 -- by the CPU's own count
-pub released_by_count : (s u n : State) (c id : ℕ) → Holds s → at_rest s.due ≡ true → u ≡ all_seated s → is_counting u c (local_slot u id) ≡ true → Makes u (JoinRef c id ∷ CountDown c ∷ []) n → Makes s (seats_and s (release_events s c id)) n
+pub released_by_count : (s u n : State) (c id : ℕ) → Holds s → at_rest s.due ≡ true → u ≡ all_seated s → is_counting u c (local_slot u id) ≡ true → Makes u (JoinRef c id ∷ CountDown c ∷ []) n
+    → Makes s (seats_and s (release_events s c id)) n
 released_by_count s u n c id on rest seated counts makes =
     seated_and s u n (release_events s c id) on rest seated
     (subst (λ (x : State). Makes u (release_events x c id) n) seated (released_if u n c id true counts makes))
@@ -131,11 +139,13 @@ released_by_total s u v n c id on rest seated same counts first more =
 
 -- Lookups
 
-pub find_starts : (s u m : State) (c : ℕ) (key : Key) (r : Reply) → Holds s → at_rest s.due ≡ true → u ≡ all_seated s → step u (Seek c key.kind key.name) ≡ Some (record { state = m; reply = r }) → FindMakes s m c key
+pub find_starts : (s u m : State) (c : ℕ) (key : Key) (r : Reply) → Holds s → at_rest s.due ≡ true → u ≡ all_seated s → step u (Seek c key.kind key.name) ≡ Some (record { state = m; reply = r })
+    → FindMakes s m c key
 find_starts s u m c key r on rest seated made = ([], All-nil (IsLoadOf c), seated_and s u m (Seek c key.kind key.name ∷ []) on rest seated (makes_one u m (Seek c key.kind key.name) r made))
 
 -- one load more
-pub find_goes_on : (b s t : State) (c : ℕ) (key : Key) (r : Reply) → ((event : Event) × IsLoadOf c event × (step s event ≡ Some (record { state = t; reply = r }))) → FindMakes b s c key → FindMakes b t c key
+pub find_goes_on : (b s t : State) (c : ℕ) (key : Key) (r : Reply) → ((event : Event) × IsLoadOf c event × (step s event ≡ Some (record { state = t; reply = r }))) → FindMakes b s c key
+    → FindMakes b t c key
 find_goes_on b s t c key r load makes = (
   makes.0 ++ load.0 ∷ [],
   All-push (IsLoadOf c) makes.0 load.0 makes.1 load.1,
@@ -158,7 +168,8 @@ snapshots_on s t k zero on due all =
     sym (ap (snapping s t) last ∙ snapping_ends s t on)
 snapshots_on s t k (suc n) on due all =
     let lt : k < s.settings.cpus = omega (arith, all) in
-    let more : after_snapshot (snapping s t k) t k ≡ snapping s t (k + 1) = snap_more s t k (due_within s t on due) (omega (arith, on.shape.sections, lt)) (omega (arith, (ranges s.settings on.fit).cpus, lt)) in (
+    let more : after_snapshot (snapping s t k) t k ≡ snapping s t (k + 1) =
+    snap_more s t k (due_within s t on due) (omega (arith, on.shape.sections, lt)) (omega (arith, (ranges s.settings on.fit).cpus, lt)) in (
       record { state = after_snapshot (snapping s t k) t k; reply = Word (section_at s k) },
       rw (due_is s t k lt) refl,
       subst (λ (x : State). Makes x (snapshots_from t (k + 1) n) (with_all_snapshots s t)) (sym more) (snapshots_on s t (k + 1) n on due (omega (arith, all))),
@@ -168,14 +179,16 @@ pub snapshots_make : (s : State) (t : ℕ) → Holds s → s.due ≡ Snapshots t
 snapshots_make s t on due blank =
     subst (λ (x : State). Makes x (snapshots_from t 0 s.settings.cpus) (with_all_snapshots s t)) (sym (snapping_starts s t on due blank)) (snapshots_on s t 0 s.settings.cpus on due (omega arith))
 
-pub detach_makes : (s u v w n : State) (e : Entry) (c : ℕ) (q r : Reply) → Holds s → at_rest s.due ≡ true → is_idle (all_seated s) c ≡ true → slot_at s.slots e.slot ≡ Live e → u ≡ after_unpublish (all_seated s) e.slot e
+pub detach_makes : (s u v w n : State) (e : Entry) (c : ℕ) (q r : Reply) → Holds s → at_rest s.due ≡ true → is_idle (all_seated s) c ≡ true → slot_at s.slots e.slot ≡ Live e
+    → u ≡ after_unpublish (all_seated s) e.slot e
     → Makes u (snapshots_from e.slot 0 u.settings.cpus) v → step v (Tell None) ≡ Some (record { state = w; reply = q }) → step w (Hear (Some c)) ≡ Some (record { state = n; reply = r })
     → Makes s (seats_and s (detach_events s.settings.cpus c e.slot)) n
 detach_makes s u v w n e c q r on rest idle live is snaps tells hears =
     let cpus : u.settings.cpus ≡ s.settings.cpus = ap (λ (x : State). x.settings.cpus) is ∙ ap (λ (z : Settings). z.cpus) (settings_by (all_seated s) e.slot e (slot_before s.slots s.next e.slot)) in
     let all : Makes u (snapshots_from e.slot 0 s.settings.cpus) v = subst (λ (k : ℕ). Makes u (snapshots_from e.slot 0 k) v) cpus snaps in
     let end : Makes u (snapshots_from e.slot 0 s.settings.cpus ++ Tell None ∷ Hear (Some c) ∷ []) n =
-    makes_more u v n (snapshots_from e.slot 0 s.settings.cpus) (Tell None ∷ Hear (Some c) ∷ []) all (makes_first v w n (Tell None) q (Hear (Some c) ∷ []) tells (makes_one w n (Hear (Some c)) r hears)) in
+    makes_more u v n (snapshots_from e.slot 0 s.settings.cpus) (Tell None ∷ Hear (Some c) ∷ []) all
+    (makes_first v w n (Tell None) q (Hear (Some c) ∷ []) tells (makes_one w n (Hear (Some c)) r hears)) in
     seated_and s (all_seated s) n (detach_events s.settings.cpus c e.slot) on rest refl
     (makes_first (all_seated s) (all_seated s) n (Tell (Some c)) Done (Hear None ∷ Unpublish e.slot ∷ (snapshots_from e.slot 0 s.settings.cpus ++ Tell None ∷ Hear (Some c) ∷ [])) (rw idle refl)
     (makes_first (all_seated s) (all_seated s) n (Hear None) Done (Unpublish e.slot ∷ (snapshots_from e.slot 0 s.settings.cpus ++ Tell None ∷ Hear (Some c) ∷ [])) (rw rest refl)
@@ -193,7 +206,8 @@ counts_on s t k (suc n) on write all =
     let places = count_places s t k on write lt in (
       record { state = after_count_store (with_counts s t k) t k bias; reply = Done },
       count_store_allowed (with_counts s t k) t k bias write lt,
-      subst (λ (x : State). Makes x (count_stores_from t (k + 1) n) (with_counts s t s.settings.cpus)) (sym (counts_next s t k places.0 places.1)) (counts_on s t (k + 1) n on write (omega (arith, all))),
+      subst (λ (x : State). Makes x (count_stores_from t (k + 1) n) (with_counts s t s.settings.cpus)) (sym (counts_next s t k places.0 places.1))
+          (counts_on s t (k + 1) n on write (omega (arith, all))),
     )
 
 pub counts_make : (s : State) (t : ℕ) → Holds s → may_write s t ≡ true → Makes s (count_stores_from t 0 s.settings.cpus) (with_counts s t s.settings.cpus)
@@ -201,14 +215,17 @@ counts_make s t on write =
     subst (λ (x : State). Makes x (count_stores_from t 0 s.settings.cpus) (with_counts s t s.settings.cpus)) (sym (counts_first s t)) (counts_on s t 0 s.settings.cpus on write (omega arith))
 
 -- from the first store in e's slot on: b is the state before it, and `ready` has all words stored
-pub linking_makes : (b ready made now : State) (e : Entry) (c : ℕ) → Makes b (prepare_events b e) ready → step ready (Publish e.slot) ≡ Some (record { state = after_publish ready e.slot e; reply = Done }) → made ≡ after_publish ready e.slot e
+pub linking_makes : (b ready made now : State) (e : Entry) (c : ℕ) → Makes b (prepare_events b e) ready
+    → step ready (Publish e.slot) ≡ Some (record { state = after_publish ready e.slot e; reply = Done }) → made ≡ after_publish ready e.slot e
     → Makes made (Tell None ∷ Hear (Some c) ∷ []) now → Makes b (linking_events b c e) now
 linking_makes b ready made now e c stores may links tells =
     makes_more b ready now (prepare_events b e) (Publish e.slot ∷ Tell None ∷ Hear (Some c) ∷ []) stores
-    (makes_first ready made now (Publish e.slot) Done (Tell None ∷ Hear (Some c) ∷ []) (subst (λ (x : State). step ready (Publish e.slot) ≡ Some (record { state = x; reply = Done })) (sym links) may) tells)
+    (makes_first ready made now (Publish e.slot) Done (Tell None ∷ Hear (Some c) ∷ [])
+    (subst (λ (x : State). step ready (Publish e.slot) ≡ Some (record { state = x; reply = Done })) (sym links) may) tells)
 
 -- the seats come first, and c tells the keeper of its pass
-pub begun_makes : (s room begun now : State) (c : ℕ) (events : List Event) → room ≡ s → Makes room (seats_and room (Tell (Some c) ∷ Hear None ∷ [])) begun → Makes begun events now → Makes s (seats_and s (Tell (Some c) ∷ Hear None ∷ events)) now
+pub begun_makes : (s room begun now : State) (c : ℕ) (events : List Event) → room ≡ s → Makes room (seats_and room (Tell (Some c) ∷ Hear None ∷ [])) begun → Makes begun events now
+    → Makes s (seats_and s (Tell (Some c) ∷ Hear None ∷ events)) now
 begun_makes s room begun now c events same begins more =
     makes_inside s begun now (seats_from s.seated (s.settings.cpus - s.seated)) (Tell (Some c) ∷ Hear None ∷ []) events
     (subst (λ (x : State). Makes x (seats_and x (Tell (Some c) ∷ Hear None ∷ [])) begun) same begins) more
@@ -216,13 +233,15 @@ begun_makes s room begun now c events same begins more =
 -- Local references
 
 pub acquire_makes : (s n : State) (c t : ℕ) (e : Entry) → Holds s → at_rest s.due ≡ true → found_at s c ≡ Some e → c < s.settings.cpus → is_idle (all_seated s) c ≡ true
-    → nat_lt (count_in s.nets c (slot_of s.slots e.number)) (bias + s.settings.count_limit) ≡ true → slot_of s.slots e.number ≡ Some t → n ≡ with_count_more s c e.number (Some t) → Makes s (seats_and s (CountAdd c ∷ SplitRef c ∷ [])) n
+    → nat_lt (count_in s.nets c (slot_of s.slots e.number)) (bias + s.settings.count_limit) ≡ true → slot_of s.slots e.number ≡ Some t → n ≡ with_count_more s c e.number (Some t)
+    → Makes s (seats_and s (CountAdd c ∷ SplitRef c ∷ [])) n
 acquire_makes s n c t e on rest found low idle room of is =
     let room_at : nat_lt (count_at s.nets c t) (bias + s.settings.count_limit) ≡ true = subst (λ (o : Option ℕ). nat_lt (count_in s.nets c o) (bias + s.settings.count_limit) ≡ true) of room in
     let m : State = after_count_add (all_seated s) c e.number t in
     let taking : hand_at m c ≡ Taking e.number = get_or-set_same s.hands c (Taking e.number) Empty (omega (arith, low, on.shape.hands)) in
     let empty : hand_at s c ≡ Empty = acting_empty s c idle in
-    let back : after_split m c e.number ≡ with_count_more s c e.number (Some t) = ap (λ (h : List Hand). record (with_count_more s c e.number (Some t)) { hands = h }) (set_back s.hands c (Taking e.number) Empty Empty empty) in
+    let back : after_split m c e.number ≡ with_count_more s c e.number (Some t) =
+    ap (λ (h : List Hand). record (with_count_more s c e.number (Some t)) { hands = h }) (set_back s.hands c (Taking e.number) Empty Empty empty) in
     seated_and s (all_seated s) n (CountAdd c ∷ SplitRef c ∷ []) on rest refl
     (makes_first (all_seated s) m n (CountAdd c) (Word (count_at s.counts c t)) (SplitRef c ∷ []) (rw (found, of, idle, room_at) refl)
     (record { state = after_split m c e.number; reply = Ref (least_id s.locals) }, rw taking refl, is ∙ sym back))

@@ -2,7 +2,8 @@
 use Rattle.std.proofs.Common.{◌≡◌, ℕ, ◌+◌, ◌-◌, ◌<◌, Option, Some, None, IsSome, Bool, true, false, not, ◌&&◌, ◌||◌, nat_lt, refl, sym, ap, subst, ◌∙◌}
 use Rattle.std.proofs.lemmas.Bool.{or_cases, or_right, cases_lt, le-ltb}
 use Rattle.passive_core.specs.Types.{Entry, PassiveAdd, PassiveSub, Reply, Word}
-use Rattle.protocol.specs.Common.{State, found_at, passive_at, row_at, with_cell, IsAttached, Outcome, is_idle, is_number, after_add, after_sub, load_passive, state_after, step, some_outcome, word, words_of, Holds, passive_in}
+use Rattle.protocol.specs.Common.{State, found_at, passive_at, row_at, with_cell, IsAttached, Outcome, is_idle, is_number, after_add, after_sub, load_passive, state_after, step, some_outcome, word}
+use Rattle.protocol.specs.Common.{words_of, Holds, passive_in}
 use Rattle.registry_values.specs.Names.{are_name_words}
 use Rattle.registry_values.specs.Common.{slot_of}
 use Rattle.passive_core.specs.Common.{all_seated, may_act, IsOneLess, IsOneMore, passive_of, with_one_more, with_one_less}
@@ -46,10 +47,12 @@ has_slot s c n on has = either (or_cases (is_number n (found_at s c)) (nat_lt 0 
 
 -- The addition and the subtraction that a command makes, once all CPUs have their seats.
 
-adds : (s : State) (c n t : ℕ) → slot_of s.slots n ≡ Some t → is_idle s c ≡ true → (is_number n (found_at s c) || nat_lt 0 (passive_of s c n)) ≡ true → nat_lt (passive_of s c n) s.settings.passive_limit ≡ true
+adds : (s : State) (c n t : ℕ) → slot_of s.slots n ≡ Some t → is_idle s c ≡ true → (is_number n (found_at s c) || nat_lt 0 (passive_of s c n)) ≡ true
+    → nat_lt (passive_of s c n) s.settings.passive_limit ≡ true
     → step s (PassiveAdd c n) ≡ Some (record { state = after_add s c t; reply = Word (passive_at s.passive c t) })
 adds s c n t of idle has room =
-    let has_at : (is_number n (found_at s c) || nat_lt 0 (passive_at s.passive c t)) ≡ true = subst (λ (o : Option ℕ). (is_number n (found_at s c) || nat_lt 0 (passive_in s.passive c o)) ≡ true) of has in
+    let has_at : (is_number n (found_at s c) || nat_lt 0 (passive_at s.passive c t)) ≡ true =
+    subst (λ (o : Option ℕ). (is_number n (found_at s c) || nat_lt 0 (passive_in s.passive c o)) ≡ true) of has in
     let room_at : nat_lt (passive_at s.passive c t) s.settings.passive_limit ≡ true = subst (λ (o : Option ℕ). nat_lt (passive_in s.passive c o) s.settings.passive_limit ≡ true) of room in
     rw (of, idle, has_at, room_at) refl
 
@@ -66,13 +69,15 @@ pub is_some : (o p : Option Outcome) → o ≡ p → IsSome p → IsSome o
 is_some o p is some = subst IsSome (sym is) some
 
 -- the CPU may add, and holds then one more
-pub add_allowed : (s u : State) (c n : ℕ) → Holds s → u ≡ all_seated s → is_idle u c ≡ true → (is_number n (found_at s c) || nat_lt 0 (passive_of s c n)) ≡ true → nat_lt (passive_of s c n) s.settings.passive_limit ≡ true → IsSome (step u (PassiveAdd c n))
+pub add_allowed : (s u : State) (c n : ℕ) → Holds s → u ≡ all_seated s → is_idle u c ≡ true → (is_number n (found_at s c) || nat_lt 0 (passive_of s c n)) ≡ true
+    → nat_lt (passive_of s c n) s.settings.passive_limit ≡ true → IsSome (step u (PassiveAdd c n))
 add_allowed s u c n on seated idle has room =
     let t = has_slot s c n on has in
     subst (λ (x : State). IsSome (step x (PassiveAdd c n))) (sym seated)
     (is_some (step (all_seated s) (PassiveAdd c n)) _ (adds (all_seated s) c n t.0 t.1 (subst (λ (x : State). is_idle x c ≡ true) seated idle) has room) refl)
 
-pub added : (s u v : State) (c n : ℕ) (r : Reply) → Holds s → u ≡ all_seated s → is_idle u c ≡ true → (is_number n (found_at s c) || nat_lt 0 (passive_of s c n)) ≡ true → nat_lt (passive_of s c n) s.settings.passive_limit ≡ true
+pub added : (s u v : State) (c n : ℕ) (r : Reply) → Holds s → u ≡ all_seated s → is_idle u c ≡ true → (is_number n (found_at s c) || nat_lt 0 (passive_of s c n)) ≡ true
+    → nat_lt (passive_of s c n) s.settings.passive_limit ≡ true
     → step u (PassiveAdd c n) ≡ Some (record { state = v; reply = r }) → v ≡ with_one_more s c (slot_of s.slots n)
 added s u v c n r on seated idle has room was =
     let t = has_slot s c n on has in
@@ -153,9 +158,11 @@ same_word s o v w is was = ap replied (sym is ∙ was)
 pub load_ok : (s u : State) (n k : ℕ) (load : State → ℕ → Option Outcome) → ShowsRecord s n (load s) → u ≡ s → nat_lt k 5 ≡ true → (w : ℕ) × (load u k ≡ some_outcome u (Word w))
 load_ok s u n k load shows same few = subst (λ (x : State). (w : ℕ) × (load x k ≡ some_outcome x (Word w))) (sym same) (word (words_of shows.entry) k, shows.loads k few)
 
-pub word_is : (s u : State) (n k v : ℕ) (load : State → ℕ → Option Outcome) (shows : ShowsRecord s n (load s)) → u ≡ s → nat_lt k 5 ≡ true → load u k ≡ some_outcome u (Word v) → v ≡ word (words_of shows.entry) k
+pub word_is : (s u : State) (n k v : ℕ) (load : State → ℕ → Option Outcome) (shows : ShowsRecord s n (load s)) → u ≡ s → nat_lt k 5 ≡ true → load u k ≡ some_outcome u (Word v)
+    → v ≡ word (words_of shows.entry) k
 word_is s u n k v load shows same few was = same_word s (load s k) v (word (words_of shows.entry) k) (subst (λ (x : State). load x k ≡ some_outcome x (Word v)) same was) (shows.loads k few)
 
 -- a name of these words is lawful
-pub lawful_words : (s : State) (n high low : ℕ) (load : ℕ → Option Outcome) (shows : ShowsRecord s n load) → high ≡ shows.entry.rec.name.high → low ≡ shows.entry.rec.name.low → are_name_words high low ≡ true
+pub lawful_words : (s : State) (n high low : ℕ) (load : ℕ → Option Outcome) (shows : ShowsRecord s n load) → high ≡ shows.entry.rec.name.high → low ≡ shows.entry.rec.name.low
+    → are_name_words high low ≡ true
 lawful_words s n high low load shows h l = rw (h, l) shows.lawful

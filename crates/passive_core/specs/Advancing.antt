@@ -1,7 +1,8 @@
 -- How far the destruction of a retired entry has come, in plain terms, and what the keeper's work on it leaves.
 use Rattle.std.specs.Prelude.{◌≡◌, ◌<◌, ℕ, ◌+◌, ◌==◌, nat_lt, List, Option, Some, None, Bool, true, false, ◌&&◌, Result, Ok, Err, slice_set}
 use Rattle.passive_core.specs.Types.{Entry, Refusal, StillHeld, Stage, Grace, Passive, Local, Freed, Mark, Slot, Vacant, Retired}
-use Rattle.protocol.specs.Common.{MayHold, State, section_at, begin_at, mark_at, passive_at, count_at, total_at, kept_at, is_inside, held_at, one_if, AllClear, AllCollected, AllPassed, MarksGrow, SameElsewhere}
+use Rattle.protocol.specs.Common.{MayHold, State, section_at, begin_at, mark_at, passive_at, count_at, total_at, kept_at, is_inside, held_at, one_if, AllClear, AllCollected, AllPassed, MarksGrow}
+use Rattle.protocol.specs.Common.{SameElsewhere}
 use Rattle.registry_values.specs.Common.{bias, slot_at, has_number, retired_slot, least_below, stage_of}
 use Rattle.registry_values.specs.Stages as stages
 

@@ -1,6 +1,7 @@
 -- The events that a command makes, one after the other.
 use Rattle.std.specs.Prelude.{◌≡◌, ℕ, zero, suc, ◌+◌, ◌-◌, ◌⊎◌, List, [], ◌∷◌, ◌++◌, All, Option, Some, None, Result, Ok, Err}
-use Rattle.passive_core.specs.Types.{Entry, Refusal, StillHeld, Stage, Grace, Passive, Local, Freed, Event, Seat, Seek, LoadRecord, StoreSlot, StoreNext, Publish, Unpublish, Tell, Hear, Snapshot, Look, PassiveLook, Collect, TotalAdd, Keep, KeptSub, Vacate, RecordOf, Key}
+use Rattle.passive_core.specs.Types.{Entry, Refusal, StillHeld, Stage, Grace, Passive, Local, Freed, Event, Seat, Seek, LoadRecord, StoreSlot, StoreNext, Publish, Unpublish, Tell, Hear, Snapshot}
+use Rattle.passive_core.specs.Types.{Look, PassiveLook, Collect, TotalAdd, Keep, KeptSub, Vacate, RecordOf, Key}
 use Rattle.registry_values.specs.Common.{bias, kind_word, retired_slot}
 use Rattle.protocol.specs.Common.{IsLoadOf, State, Outcome, step}
 

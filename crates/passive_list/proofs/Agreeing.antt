@@ -37,7 +37,8 @@ inside : (b : ℕ) → DepthAgrees (Some b) 1
 inside b = record { outside = (λ (q : Some b ≡ None). cc, λ (q : 1 ≡ 0). absurd (omega arith)); most = omega arith }
 
 -- a new CPU
-pub new_agrees : (z : TableId) (a : Settings) (t : TableId) (c : ℕ) → t ≡ z → IsTrue (are_fit a) → c < a.cpus → IsOurCpu z a t (new_cpu a c) c 0 0 no_found (replicate MOST_SLOTS no_place) (replicate MOST_SLOTS no_place)
+pub new_agrees : (z : TableId) (a : Settings) (t : TableId) (c : ℕ) → t ≡ z → IsTrue (are_fit a) → c < a.cpus
+    → IsOurCpu z a t (new_cpu a c) c 0 0 no_found (replicate MOST_SLOTS no_place) (replicate MOST_SLOTS no_place)
 new_agrees z a t c table fit lt = record {
   table = table;
   settings = refl;
@@ -163,7 +164,8 @@ looked_up_agrees z a t u x y c w d e k f ps ns key our is_shown same kept had =
     seen_agrees z a t u x y c w d e k f ps ns x.noted_pass our is_shown same had.pass is kept
 
 -- the data of a CPU agree with its view by the table and the settings that its own seat has
-pub own_agrees : (z : TableId) (a : Settings) (t : TableId) (x : CpuView) (c w d : ℕ) (e : Found) (ps ns : List NumberedCount) → IsOurCpu z a t x c w d e ps ns → IsOurCpu t x.settings t x c w d e ps ns
+pub own_agrees : (z : TableId) (a : Settings) (t : TableId) (x : CpuView) (c w d : ℕ) (e : Found) (ps ns : List NumberedCount) → IsOurCpu z a t x c w d e ps ns
+    → IsOurCpu t x.settings t x c w d e ps ns
 own_agrees z a t x c w d e ps ns our = record {
   table = refl;
   settings = refl;

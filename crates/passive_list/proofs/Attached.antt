@@ -1,5 +1,6 @@
 -- An entry is published: the keeper may do so, and what it has agrees with what its seat knows then.
-use Rattle.std.proofs.Common.{◌≡◌, inl, ℕ, zero, suc, ◌+◌, ◌<◌, ◌≤◌, Bool, true, false, List, [], ◌∷◌, length, get_or, set, Option, Some, IsTrue, refl, sym, ap, ◌∙◌, subst, arith, get_or-set_same, length-set}
+use Rattle.std.proofs.Common.{◌≡◌, inl, ℕ, zero, suc, ◌+◌, ◌<◌, ◌≤◌, Bool, true, false, List, [], ◌∷◌, length, get_or, set, Option, Some, IsTrue, refl, sym, ap, ◌∙◌, subst, arith, get_or-set_same}
+use Rattle.std.proofs.Common.{length-set}
 use Rattle.std.proofs.lemmas.List.Folds.{list_any_at}
 use Rattle.std.proofs.lemmas.List.Sums.{sum_by-cons}
 use Rattle.atomic_table.specs.Seated.{TableId}
@@ -88,7 +89,8 @@ count_on (x ∷ xs) (y ∷ ys) on =
 pub entry_is : (e : Entry) → IsTrue (is_lawful e.rec.name) → entry_of e.slot (words_of e) ≡ Some e
 entry_is e lawful = by e.rec.kind
   where
-    by : (x : Kind) → entry_if e.slot (record { number = e.number; kind = kind_word x; high = e.rec.name.high; low = e.rec.name.low; value = e.rec.value }) (kind_of (kind_word x)) ≡ Some (record { number = e.number; slot = e.slot; rec = record { kind = x; name = e.rec.name; value = e.rec.value } })
+    by : (x : Kind) → entry_if e.slot (record { number = e.number; kind = kind_word x; high = e.rec.name.high; low = e.rec.name.low; value = e.rec.value }) (kind_of (kind_word x))
+        ≡ Some (record { number = e.number; slot = e.slot; rec = record { kind = x; name = e.rec.name; value = e.rec.value } })
     by Iface = rw (lawful) refl
     by Driver = rw (lawful) refl
 
@@ -101,7 +103,8 @@ asked_write a k rows t at agree lt vacant = record {
   vacant = (agree.each t lt).state ∙ (sym (state_at rows t) ∙ vacant);
 }
 
-pub may_publish : (a : Settings) (k : KeeperView) (rows : List KeptSlot) (e : Entry) (v : ℕ) → MayAttach a k rows e → LeadsBelow (states_of rows) e.number v → MayPublish (keeper_after_stores k e v) e.slot e
+pub may_publish : (a : Settings) (k : KeeperView) (rows : List KeptSlot) (e : Entry) (v : ℕ) → MayAttach a k rows e → LeadsBelow (states_of rows) e.number v
+    → MayPublish (keeper_after_stores k e v) e.slot e
 may_publish a k rows e v asked link =
     let at = asked.at in
     let t = e.slot in
@@ -130,7 +133,8 @@ may_publish a k rows e v asked link =
     }
 
 -- what publishing leaves, in one view
-pub published_is : (k l m : KeeperView) (e : Entry) (v : ℕ) → l ≡ keeper_after_stores k e v → (f : Entry) × MayPublish l e.slot f × HasPublished l e.slot f m → MayPublish (keeper_after_stores k e v) e.slot e → m ≡ keeper_after_publish k e v
+pub published_is : (k l m : KeeperView) (e : Entry) (v : ℕ) → l ≡ keeper_after_stores k e v → (f : Entry) × MayPublish l e.slot f × HasPublished l e.slot f m
+    → MayPublish (keeper_after_stores k e v) e.slot e → m ≡ keeper_after_publish k e v
 published_is k l m e v at told may =
     let t = e.slot in
     let p = keeper_after_stores k e v in
@@ -195,7 +199,8 @@ published_keeper a k l rows n e v was asked change is_shown =
       view = subst (IsAtRest a) (sym change) (published_at_rest a k rows e v asked);
       is_shown = is_shown;
       changes = let long = length-after_change k.history (Attach e) in let now = ap (λ (x : KeeperView). length x.history) change in omega (arith, was, long, now);
-      rows = subst (λ (x : KeeperView). RowsAgree a x (set rows t (row_live (row_at rows t) e))) (sym change) (rows_set a k p rows t (row_live (row_at rows t) e) lt (omega (arith, lt, most)) asked.agree
+      rows = subst (λ (x : KeeperView). RowsAgree a x (set rows t (row_live (row_at rows t) e))) (sym change)
+          (rows_set a k p rows t (row_live (row_at rows t) e) lt (omega (arith, lt, most)) asked.agree
           record {
             state = slot_here k.slots t (Live e) (omega (arith, lt, size));
             marks = had.marks;
@@ -207,8 +212,10 @@ published_keeper a k l rows n e v was asked change is_shown =
     }
 
 -- what is asked of a caller, of the keeper's own view
-pub ask : {table : TableId} {log : List LogItem} (a : Settings) (k : KeeperView) (rows : List KeptSlot) (n t : ℕ) (rec : Record) (x : OnPlainKeeper) → IsOurKeeper a k rows n → on_keeper table a k rows log ≡ x
-    → (t < x.words.settings.slots) × (slot_at x.keeper.slots t ≡ Vacant) → IsTrue (keeps_rightly (kept_at x.keeper.view.keeps t) rec.kind) → IsTrue (is_lawful rec.name) → is_taken (key_of_record rec) x.keeper.slots ≡ false
+pub ask : {table : TableId} {log : List LogItem} (a : Settings) (k : KeeperView) (rows : List KeptSlot) (n t : ℕ) (rec : Record) (x : OnPlainKeeper) → IsOurKeeper a k rows n
+    → on_keeper table a k rows log ≡ x
+    → (t < x.words.settings.slots) × (slot_at x.keeper.slots t ≡ Vacant) → IsTrue (keeps_rightly (kept_at x.keeper.view.keeps t) rec.kind) → IsTrue (is_lawful rec.name)
+    → is_taken (key_of_record rec) x.keeper.slots ≡ false
     → length x.keeper.view.history + live_count x.keeper.slots + 2 ≤ x.words.settings.change_limit → MayAttach a k rows (record { number = n + 1; slot = t; rec = rec })
 ask a k rows n t rec x our is vacant keeps name free room = record {
   at = our.view;

@@ -32,7 +32,8 @@ pub none_at_subtraction : (due : Due) (t u : ℕ) → due ≡ Subtracting u → 
 none_at_subtraction due t u is = (ap (addition_due_at t) is, ap (is_adding_at t) is)
 
 -- the total of a retired entry's slot is what is held, once all words are collected
-pub total_collected : (g : State) (k : KeeperView) (t : ℕ) (e : Entry) → Good g → KeeperShown g k → NothingToAdd k.due t → slot_at k.slots t ≡ Retired e → are_collected k.settings.cpus (row_of k t) ≡ true
+pub total_collected : (g : State) (k : KeeperView) (t : ℕ) (e : Entry) → Good g → KeeperShown g k → NothingToAdd k.due t → slot_at k.slots t ≡ Retired e
+    → are_collected k.settings.cpus (row_of k t) ≡ true
     → total_at k.totals t ≡ bias + held_in g e.number t
 total_collected g k t e good had none retired all =
     let seen = seen_by_keeper g k good had in

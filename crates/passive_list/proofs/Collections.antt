@@ -10,7 +10,8 @@ use Rattle.registry_values.proofs.Fit.{ranges}
 use Rattle.protocol.proofs.keeps.ListKeeps.{rows_put}
 use Rattle.cpu_words.specs.Common.{row_of, HasCollected, MayTotalAdd, HasAdded, IsShown, did, Makes}
 use Rattle.cpu_words.proofs.shown.KeepersShown.{step_is_shown}
-use Rattle.passive_list.specs.Common.{KeptSlot, OnKeeper, OnPlainKeeper, on_keeper, no_row, row_at, state_of, states_of, IsAtRest, RowsAgree, IsOurKeeper, keeper_after_collect, HasCollectedInto, AreHeld}
+use Rattle.passive_list.specs.Common.{KeptSlot, OnKeeper, OnPlainKeeper, on_keeper, no_row, row_at, state_of, states_of, IsAtRest, RowsAgree, IsOurKeeper, keeper_after_collect, HasCollectedInto}
+use Rattle.passive_list.specs.Common.{AreHeld}
 use Rattle.passive_list.proofs.Rows.{state_at, not_vacant_within, retired_in, row_stays, rows_set}
 use Rattle.passive_list.proofs.Balanced.{none_at_rest, total_collected, bias_within, adding_fits}
 
@@ -22,7 +23,8 @@ with_total k t marks total given_up = record k { marks = set k.marks t marks; to
 abbrev pub row_with_total : KeptSlot → List Mark → ℕ → KeptSlot
 row_with_total r marks total = record { state = r.state; marks = marks; total = total; keeps = r.keeps }
 
-with_total_at_rest : (a : Settings) (k : KeeperView) (t : ℕ) (marks : List Mark) (total : ℕ) (given_up : List ℕ) → IsAtRest a k → length marks ≡ MOST_CPUS → IsAtRest a (with_total k t marks total given_up)
+with_total_at_rest : (a : Settings) (k : KeeperView) (t : ℕ) (marks : List Mark) (total : ℕ) (given_up : List ℕ) → IsAtRest a k → length marks ≡ MOST_CPUS
+    → IsAtRest a (with_total k t marks total given_up)
 with_total_at_rest a k t marks total given_up at size = record {
   settings = at.settings;
   fit = at.fit;
@@ -42,7 +44,8 @@ with_total_at_rest a k t marks total given_up at size = record {
   room = at.room;
 }
 
-pub with_total_rows : (a : Settings) (k : KeeperView) (rows : List KeptSlot) (t : ℕ) (marks : List Mark) (total : ℕ) (given_up : List ℕ) → IsAtRest a k → RowsAgree a k rows → (slot_at (states_of rows) t ≡ Vacant → ⊥)
+pub with_total_rows : (a : Settings) (k : KeeperView) (rows : List KeptSlot) (t : ℕ) (marks : List Mark) (total : ℕ) (given_up : List ℕ) → IsAtRest a k → RowsAgree a k rows
+    → (slot_at (states_of rows) t ≡ Vacant → ⊥)
     → RowsAgree a (with_total k t marks total given_up) (set rows t (row_with_total (row_at rows t) marks total))
 with_total_rows a k rows t marks total given_up at agree some =
     let l = with_total k t marks total given_up in
@@ -80,7 +83,8 @@ pub record CollectionTells (k : KeeperView) (rows : List KeptSlot) (t w : ℕ) :
   pub fits : (row_at rows t).total + w < 2 ^ 64
   pub may : (old : ℕ) × MayTotalAdd k t old ((row_at rows t).total + w - bias)
 
-pub collection_tells : {log : List LogItem} (a : Settings) (k l : KeeperView) (rows : List KeptSlot) (n : ℕ) (x : OnKeeper) (t c w : ℕ) (e : Entry) → IsOurKeeper a k rows n → record { view = k; slots = states_of rows; log = log } ≡ x
+pub collection_tells : {log : List LogItem} (a : Settings) (k l : KeeperView) (rows : List KeptSlot) (n : ℕ) (x : OnKeeper) (t c w : ℕ) (e : Entry) → IsOurKeeper a k rows n
+    → record { view = k; slots = states_of rows; log = log } ≡ x
     → slot_at x.slots t ≡ Retired e → HasCollected k t c w l → Makes (Collect t c) (Word w) (Keeper k) (Keeper l) → CollectionTells l rows t w
 collection_tells a k l rows n x t c w e our is retired change made =
     let lt = (retired_in a k rows t e our.rows (ap (λ (y : OnKeeper). slot_at y.slots t) is ∙ retired)).0 in
@@ -96,26 +100,34 @@ collection_tells a k l rows n x t c w e our is retired change made =
     }
 
 -- the view after it, and the word is added
-added_is : (k l b : KeeperView) (rows : List KeptSlot) (t c w : ℕ) (m : Mark) → (row_at rows t).marks ≡ row_of k t → HasCollected k t c w l → m ≡ mark_after_collect (get_or (row_at rows t).marks c no_mark) → HasAdded l t ((row_at rows t).total + w - bias) b
+added_is : (k l b : KeeperView) (rows : List KeptSlot) (t c w : ℕ) (m : Mark) → (row_at rows t).marks ≡ row_of k t → HasCollected k t c w l
+    → m ≡ mark_after_collect (get_or (row_at rows t).marks c no_mark) → HasAdded l t ((row_at rows t).total + w - bias) b
     → b ≡ with_total k t (set (row_at rows t).marks c m) ((row_at rows t).total + w - bias) k.given_up
 added_is k l b rows t c w m row change mark added =
     let v = (row_at rows t).total + w - bias in
     added ∙ ap (λ (x : KeeperView). record x { totals = set x.totals t v; due = Rest }) change
-    ∙ sym (ap (λ (x : Mark). with_total k t (set (row_at rows t).marks c x) v k.given_up) mark ∙ ap (λ (ms : List Mark). with_total k t (set ms c (mark_after_collect (get_or ms c no_mark))) v k.given_up) row)
+    ∙ sym (ap (λ (x : Mark). with_total k t (set (row_at rows t).marks c x) v k.given_up) mark
+    ∙ ap (λ (ms : List Mark). with_total k t (set ms c (mark_after_collect (get_or ms c no_mark))) v k.given_up) row)
 
-pub collected_keeper : {log : List LogItem} (a : Settings) (k l b : KeeperView) (rows : List KeptSlot) (n : ℕ) (x : OnKeeper) (t c w : ℕ) (e : Entry) (m : Mark) → IsOurKeeper a k rows n → record { view = k; slots = states_of rows; log = log } ≡ x
-    → slot_at x.slots t ≡ Retired e → HasCollected k t c w l → m ≡ mark_after_collect (get_or (row_at rows t).marks c no_mark) → HasAdded l t ((row_at rows t).total + w - bias) b → Makes (TotalAdd t) Done (Keeper l) (Keeper b)
+pub collected_keeper : {log : List LogItem} (a : Settings) (k l b : KeeperView) (rows : List KeptSlot) (n : ℕ) (x : OnKeeper) (t c w : ℕ) (e : Entry) (m : Mark) → IsOurKeeper a k rows n
+    → record { view = k; slots = states_of rows; log = log } ≡ x
+    → slot_at x.slots t ≡ Retired e → HasCollected k t c w l → m ≡ mark_after_collect (get_or (row_at rows t).marks c no_mark) → HasAdded l t ((row_at rows t).total + w - bias) b
+    → Makes (TotalAdd t) Done (Keeper l) (Keeper b)
     → IsOurKeeper a b (set rows t (row_with_total (row_at rows t) (set (row_at rows t).marks c m) ((row_at rows t).total + w - bias))) n
 collected_keeper a k l b rows n x t c w e m our is retired change mark added made =
     let here = ap (λ (y : OnKeeper). slot_at y.slots t) is ∙ retired in
     let lt = (retired_in a k rows t e our.rows here).0 in
     let row = (our.rows.each t lt).marks in
     let size = our.view.sized.marks in
-    let long : length (set (row_at rows t).marks c m) ≡ MOST_CPUS = length-set (row_at rows t).marks c m ∙ (ap (λ (ms : List Mark). length ms) row ∙ our.view.sized.mark_rows t (omega (arith, lt, size))) in
-    with_total_keeper a k b rows n t (set (row_at rows t).marks c m) ((row_at rows t).total + w - bias) k.given_up our (λ v. let q : Retired e ≡ Vacant = sym here ∙ v in cc) long (added_is k l b rows t c w m row change mark added) (step_is_shown made)
+    let long : length (set (row_at rows t).marks c m) ≡ MOST_CPUS =
+    length-set (row_at rows t).marks c m ∙ (ap (λ (ms : List Mark). length ms) row ∙ our.view.sized.mark_rows t (omega (arith, lt, size))) in
+    with_total_keeper a k b rows n t (set (row_at rows t).marks c m) ((row_at rows t).total + w - bias) k.given_up our (λ v. let q : Retired e ≡ Vacant = sym here ∙ v in cc) long
+    (added_is k l b rows t c w m row change mark added) (step_is_shown made)
 
-pub collected_into : {log between later : List LogItem} (a : Settings) (k l b : KeeperView) (rows : List KeptSlot) (n : ℕ) (x : OnKeeper) (t c w : ℕ) (e : Entry) (r : KeptSlot) → IsOurKeeper a k rows n → record { view = k; slots = states_of rows; log = log } ≡ x
-    → slot_at x.slots t ≡ Retired e → HasCollected k t c w l → Makes (Collect t c) (Word w) (Keeper k) (Keeper l) → HasAdded l t ((row_at rows t).total + w - bias) b → Makes (TotalAdd t) Done (Keeper l) (Keeper b) → r.state ≡ (row_at rows t).state
+pub collected_into : {log between later : List LogItem} (a : Settings) (k l b : KeeperView) (rows : List KeptSlot) (n : ℕ) (x : OnKeeper) (t c w : ℕ) (e : Entry) (r : KeptSlot)
+    → IsOurKeeper a k rows n → record { view = k; slots = states_of rows; log = log } ≡ x
+    → slot_at x.slots t ≡ Retired e → HasCollected k t c w l → Makes (Collect t c) (Word w) (Keeper k) (Keeper l) → HasAdded l t ((row_at rows t).total + w - bias) b
+    → Makes (TotalAdd t) Done (Keeper l) (Keeper b) → r.state ≡ (row_at rows t).state
     → between ≡ log ++ did (Collect t c) (Word w) → later ≡ between ++ did (TotalAdd t) Done → HasCollectedInto x t c (record { view = b; slots = states_of (set rows t r); log = later })
 collected_into {log} {later} a k l b rows n x t c w e r our is retired change made added made_too state first then =
     let lt = (retired_in a k rows t e our.rows (ap (λ (y : OnKeeper). slot_at y.slots t) is ∙ retired)).0 in
@@ -125,7 +137,8 @@ collected_into {log} {later} a k l b rows n x t c w e r our is retired change ma
       word = w;
       collected = subst (λ (y : KeeperView). Makes (Collect t c) (Word w) (Keeper k) (Keeper y)) change made;
       added = subst (λ (y : KeeperView). Makes (TotalAdd t) Done (Keeper y) (Keeper b)) change made_too;
-      view = added ∙ ap (λ (y : KeeperView). record y { totals = set y.totals t v; due = Rest }) change ∙ (λ i. record (keeper_after_collect k t c w) { totals = set k.totals t (total i); due = sym our.view.rest i });
+      view = added ∙ ap (λ (y : KeeperView). record y { totals = set y.totals t v; due = Rest }) change
+          ∙ (λ i. record (keeper_after_collect k t c w) { totals = set k.totals t (total i); due = sym our.view.rest i });
       slots = map-set_same state_of rows t r no_row state;
       log = then ∙ ap (λ (ds : List LogItem). ds ++ did (TotalAdd t) Done) first;
     }
@@ -138,12 +151,14 @@ pub record TotalTells (k : KeeperView) (t total : ℕ) : Type 0 where
   pub held : AreHeld k t (total - bias)
 
 -- the row of a retired slot has the total, which is the bias and what is held
-pub total_tells : {table : TableId} {log : List LogItem} (a : Settings) (k : KeeperView) (rows : List KeptSlot) (n : ℕ) (x : OnPlainKeeper) (t : ℕ) (e : Entry) → IsOurKeeper a k rows n → on_keeper table a k rows log ≡ x
+pub total_tells : {table : TableId} {log : List LogItem} (a : Settings) (k : KeeperView) (rows : List KeptSlot) (n : ℕ) (x : OnPlainKeeper) (t : ℕ) (e : Entry) → IsOurKeeper a k rows n
+    → on_keeper table a k rows log ≡ x
     → slot_at x.keeper.slots t ≡ Retired e → are_collected x.words.settings.cpus (row_of x.keeper.view t) ≡ true → TotalTells x.keeper.view t (row_at rows t).total
 total_tells a k rows n x t e our is retired all =
     let here = retired_in a k rows t e our.rows (ap (λ (y : OnPlainKeeper). slot_at y.keeper.slots t) is ∙ retired) in
     let total : (row_at rows t).total ≡ total_at k.totals t = (our.rows.each t here.0).total in
-    let told : are_collected k.settings.cpus (row_of k t) ≡ true = ap (λ (z : Settings). are_collected z.cpus (row_of k t)) our.view.settings ∙ (ap (λ (y : OnPlainKeeper). are_collected y.words.settings.cpus (row_of y.keeper.view t)) is ∙ all) in
+    let told : are_collected k.settings.cpus (row_of k t) ≡ true =
+    ap (λ (z : Settings). are_collected z.cpus (row_of k t)) our.view.settings ∙ (ap (λ (y : OnPlainKeeper). are_collected y.words.settings.cpus (row_of y.keeper.view t)) is ∙ all) in
     let floor = bias_within k t e our.is_shown our.view.rest here.1 told in
     subst (λ (y : OnPlainKeeper). TotalTells y.keeper.view t (row_at rows t).total) is record {
       floor = omega (arith, floor, total);

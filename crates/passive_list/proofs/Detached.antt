@@ -21,7 +21,8 @@ before_in a k rows n p at agree was = before_on (states_of rows) k.slots n p (ro
 pub leads_in : (a : Settings) (k : KeeperView) (rows : List KeptSlot) (n v : ℕ) → IsAtRest a k → RowsAgree a k rows → LeadsBelow (states_of rows) n v → LeadsBelow k.slots n v
 leads_in a k rows n v at agree was = leads_on (states_of rows) k.slots n v (rows_live a k rows agree) (live_rows a k rows at agree) was
 
-pub may_unpublish : (a : Settings) (k : KeeperView) (rows : List KeptSlot) (t : ℕ) (e : Entry) (p : Option ℕ) (v : ℕ) → IsAtRest a k → RowsAgree a k rows → (row_at rows t).state ≡ Live e → IsBefore (states_of rows) e.number p → LeadsBelow (states_of rows) e.number v → MayUnpublish k t p v
+pub may_unpublish : (a : Settings) (k : KeeperView) (rows : List KeptSlot) (t : ℕ) (e : Entry) (p : Option ℕ) (v : ℕ) → IsAtRest a k → RowsAgree a k rows → (row_at rows t).state ≡ Live e
+    → IsBefore (states_of rows) e.number p → LeadsBelow (states_of rows) e.number v → MayUnpublish k t p v
 may_unpublish a k rows t e p v at agree is before link = record {
   rest = at.rest;
   e = e;
@@ -40,14 +41,16 @@ unpublished_is k l t e p v live told = told.2 ∙ ap (λ (x : Entry). keeper_aft
     one : (x y : Entry) → Live x ≡ Live y → x ≡ y
     one x y q = cc
 
-pub detached_is : (k l m : KeeperView) (t : ℕ) (e : Entry) (p : Option ℕ) (v : ℕ) (marks : List Mark) → slot_at k.slots t ≡ Live e → HasUnpublished k t p v l → m ≡ with_snapshots l t marks → m ≡ detached k t e p v marks
+pub detached_is : (k l m : KeeperView) (t : ℕ) (e : Entry) (p : Option ℕ) (v : ℕ) (marks : List Mark) → slot_at k.slots t ≡ Live e → HasUnpublished k t p v l → m ≡ with_snapshots l t marks
+    → m ≡ detached k t e p v marks
 detached_is k l m t e p v marks live told taken = taken ∙ ap (λ (x : KeeperView). with_snapshots x t marks) (unpublished_is k l t e p v live told)
 
 links_size : (next : List ℕ) (p : Option ℕ) (v : ℕ) → length (links_with next p v) ≡ length next
 links_size next None v = refl
 links_size next (Some q) v = length-set next q v
 
-detached_at_rest : (a : Settings) (k : KeeperView) (t : ℕ) (e : Entry) (p : Option ℕ) (v : ℕ) (marks : List Mark) → IsAtRest a k → t < a.slots → slot_at k.slots t ≡ Live e → length marks ≡ MOST_CPUS → IsAtRest a (detached k t e p v marks)
+detached_at_rest : (a : Settings) (k : KeeperView) (t : ℕ) (e : Entry) (p : Option ℕ) (v : ℕ) (marks : List Mark) → IsAtRest a k → t < a.slots → slot_at k.slots t ≡ Live e → length marks ≡ MOST_CPUS
+    → IsAtRest a (detached k t e p v marks)
 detached_at_rest a k t e p v marks at lt live size =
     let fresh = replicate MOST_CPUS no_mark in
     record {
@@ -77,7 +80,8 @@ detached_at_rest a k t e p v marks at lt live size =
 abbrev pub row_retired : KeptSlot → Entry → List Mark → KeptSlot
 row_retired r e marks = record { state = Retired e; marks = marks; total = r.total; keeps = r.keeps }
 
-pub detached_keeper : (a : Settings) (k l : KeeperView) (rows : List KeptSlot) (n t : ℕ) (e : Entry) (p : Option ℕ) (v : ℕ) (marks : List Mark) → IsOurKeeper a k rows n → (row_at rows t).state ≡ Live e → length marks ≡ MOST_CPUS
+pub detached_keeper : (a : Settings) (k l : KeeperView) (rows : List KeptSlot) (n t : ℕ) (e : Entry) (p : Option ℕ) (v : ℕ) (marks : List Mark) → IsOurKeeper a k rows n
+    → (row_at rows t).state ≡ Live e → length marks ≡ MOST_CPUS
     → l ≡ detached k t e p v marks → IsShown l → IsOurKeeper a l (set rows t (row_retired (row_at rows t) e marks)) (n + 1)
 detached_keeper a k l rows n t e p v marks our is marks_size change is_shown =
     let at = our.view in
@@ -94,7 +98,8 @@ detached_keeper a k l rows n t e p v marks our is marks_size change is_shown =
       view = subst (IsAtRest a) (sym change) (detached_at_rest a k t e p v marks at lt live.1 marks_size);
       is_shown = is_shown;
       changes = let was = our.changes in let more = length-after_change k.history (Detach e.number) in let now = ap (λ (x : KeeperView). length x.history) change in omega (arith, was, more, now);
-      rows = subst (λ (x : KeeperView). RowsAgree a x (set rows t (row_retired (row_at rows t) e marks))) (sym change) (rows_set a k d rows t (row_retired (row_at rows t) e marks) lt (omega (arith, lt, most)) our.rows
+      rows = subst (λ (x : KeeperView). RowsAgree a x (set rows t (row_retired (row_at rows t) e marks))) (sym change)
+          (rows_set a k d rows t (row_retired (row_at rows t) e marks) lt (omega (arith, lt, most)) our.rows
           record {
             state = slot_here k.slots t (Retired e) (omega (arith, lt, size));
             marks = sym (get_or-set_same (set k.marks t fresh) t marks [] (omega (arith, lt, wide, long)));
@@ -102,5 +107,6 @@ detached_keeper a k l rows n t e p v marks our is marks_size change is_shown =
             keeps = had.keeps;
             unused = λ vacant. absurd (let q : Retired e ≡ Vacant = vacant in cc);
           }
-          (λ u off was. row_stays k d u (row_at rows u) (slot_other k.slots t (Retired e) u off) (get_or-set_other (set k.marks t fresh) t u marks [] off ∙ get_or-set_other k.marks t u fresh [] off) refl refl was));
+          (λ u off was. row_stays k d u (row_at rows u) (slot_other k.slots t (Retired e) u off)
+          (get_or-set_other (set k.marks t fresh) t u marks [] off ∙ get_or-set_other k.marks t u fresh [] off) refl refl was));
     }

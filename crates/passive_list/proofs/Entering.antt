@@ -13,7 +13,8 @@ few None = omega arith
 few (Some b) = omega arith
 
 -- the CPU may begin a section just where it has ended fewer than that
-pub may_begin_is : (z : TableId) (a : Settings) (t : TableId) (x : CpuView) (c w d : ℕ) (e : Found) (ps ns : List NumberedCount) (limit : ℕ) → IsOurCpu z a t x c w d e ps ns → limit ≡ a.section_limit → nat_lt w limit ≡ may_begin x
+pub may_begin_is : (z : TableId) (a : Settings) (t : TableId) (x : CpuView) (c w d : ℕ) (e : Found) (ps ns : List NumberedCount) (limit : ℕ) → IsOurCpu z a t x c w d e ps ns → limit ≡ a.section_limit
+    → nat_lt w limit ≡ may_begin x
 may_begin_is z a t x c w d e ps ns limit our is =
     let word = our.section.word in
     let most : x.settings.section_limit ≡ a.section_limit = ap (λ (s : Settings). s.section_limit) our.settings in
@@ -21,7 +22,8 @@ may_begin_is z a t x c w d e ps ns limit our is =
     same_test w limit x.section (2 * x.settings.section_limit) (λ lt. omega (arith, lt, word, is, most, at)) (λ ge. omega (arith, ge, word, is, most))
 
 -- so it has then
-pub unspent : (z : TableId) (a : Settings) (t : TableId) (x : CpuView) (c w d : ℕ) (e : Found) (ps ns : List NumberedCount) → IsOurCpu z a t x c w d e ps ns → IsTrue (may_begin x) → w < a.section_limit
+pub unspent : (z : TableId) (a : Settings) (t : TableId) (x : CpuView) (c w d : ℕ) (e : Found) (ps ns : List NumberedCount) → IsOurCpu z a t x c w d e ps ns → IsTrue (may_begin x)
+    → w < a.section_limit
 unspent z a t x c w d e ps ns our may = ltb-true w a.section_limit (may_begin_is z a t x c w d e ps ns a.section_limit our refl ∙ may)
 
 -- a CPU that names its own table, to a contract, by its seat
@@ -29,7 +31,8 @@ abbrev pub cpu_at : Seated CpuView → ℕ → OnCpu
 cpu_at s depth = record { view = s.view; depth = depth; made = 0; known_log = s.known_log; log = s.log }
 
 -- a section begins by the step
-pub entered_on : (a : OnCpu) (s t : Seated CpuView) (c d n : ℕ) → cpu_at s d ≡ a → s.view.id ≡ c → d ≡ 0 → n ≡ d + 1 → SeatMakes Cpu (Enter c) Done s t → HasEntered s.view t.view → HasEnteredOn a (cpu_at t n)
+pub entered_on : (a : OnCpu) (s t : Seated CpuView) (c d n : ℕ) → cpu_at s d ≡ a → s.view.id ≡ c → d ≡ 0 → n ≡ d + 1 → SeatMakes Cpu (Enter c) Done s t → HasEntered s.view t.view
+    → HasEnteredOn a (cpu_at t n)
 entered_on a s t c d n at id shallow one made entered =
     let had : HasEnteredOn (cpu_at s d) (cpu_at t n) = record {
       begun = λ _. entered;

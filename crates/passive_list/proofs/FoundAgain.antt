@@ -1,5 +1,6 @@
 -- The second part of a walk: each noted entry is sought by its kind and name, and is written where that finds it.
-use Rattle.std.proofs.Common.{take_all, ◌≡◌, ◌≢◌, ⊎_elim, ℕ, ◌+◌, ◌≤◌, ◌<◌, List, [], ◌∷◌, ◌++◌, map, length, get_or, take, drop, Option, Some, None, true, refl, sym, ap, ◌∙◌, subst, arith, drop-set-lt, drop-drop, length-set}
+use Rattle.std.proofs.Common.{take_all, ◌≡◌, ◌≢◌, ⊎_elim, ℕ, ◌+◌, ◌≤◌, ◌<◌, List, [], ◌∷◌, ◌++◌, map, length, get_or, take, drop, Option, Some, None, true, refl, sym, ap, ◌∙◌, subst, arith}
+use Rattle.std.proofs.Common.{drop-set-lt, drop-drop, length-set}
 use Rattle.std.proofs.lemmas.List.{append-nil, get_or_default, get_or-map, get_or-take, take_more, take_more_set, length-take-le, length-map}
 use Rattle.std.proofs.lemmas.List.Elements.{Contains-get_or, Contains-push, Contains-push_cases, Contains-append_left}
 use Rattle.std.proofs.lemmas.List.Quantifiers.{all_pairs_push}
@@ -12,7 +13,8 @@ use Rattle.protocol.specs.Common.{IsAttached, IsLiveAt}
 use Rattle.protocol.proofs.history.History.{at_within, one_entry, one_live, live_down}
 use Rattle.cpu_words.specs.Common.{key_with, MaySeek}
 use Rattle.cpu_words.proofs.shown.Passes.{attached_prefix}
-use Rattle.passive_list.specs.Common.{Noted, HasLookedUp, WasLive, AreGoneBy, HasWalked, nobody, SearchesOnce, Lookup, LooksUpEach, HasGoneOverBy, noted_of, IsNoting, AreNoted, HaveSearched, HasFoundAgain, LooksUpAgain, HaveBeenFound, WritesNext, HasGoneOver, OnCpu}
+use Rattle.passive_list.specs.Common.{Noted, HasLookedUp, WasLive, AreGoneBy, HasWalked, nobody, SearchesOnce, Lookup, LooksUpEach, HasGoneOverBy, noted_of, IsNoting, AreNoted, HaveSearched}
+use Rattle.passive_list.specs.Common.{HasFoundAgain, LooksUpAgain, HaveBeenFound, WritesNext, HasGoneOver, OnCpu}
 use Rattle.passive_list.proofs.Walking.{prefix_trans}
 use Rattle.passive_list.proofs.Standing.{prefix_length, live_before, was_live_later, live_stands, stood_was_live}
 use Rattle.passive_list.proofs.Noting.{no_zeros}
@@ -21,7 +23,8 @@ use Rattle.passive_list.proofs.Searches.{one_more_looked_up}
 -- One entry
 
 -- what the entry is looked up by, from its words
-pub key_noted : (e : Entry) (n : Noted) (kind : Kind) (name : Name) → n ≡ noted_of e → ((k : Kind) → n.kind ≡ kind_word k → kind ≡ k) → name ≡ record { high = n.high; low = n.low } → key_with kind name ≡ key_of e
+pub key_noted : (e : Entry) (n : Noted) (kind : Kind) (name : Name) → n ≡ noted_of e → ((k : Kind) → n.kind ≡ kind_word k → kind ≡ k) → name ≡ record { high = n.high; low = n.low }
+    → key_with kind name ≡ key_of e
 key_noted e n kind name is kinds named =
     let k : kind ≡ e.rec.kind = kinds e.rec.kind (ap (λ (m : Noted). m.kind) is) in
     let w : name ≡ e.rec.name = named ∙ ap (λ (m : Noted). record { high = m.high; low = m.low }) is in
@@ -99,7 +102,8 @@ module _ (x y w : CpuView) (es rs : List Entry) (e : Entry) (before : HaveSearch
     one_more f below again =
         let there = again.some f refl in
         let same : f ≡ e = there.0 in
-        let here : WasLive w.pass (length x.pass) (length w.pass) e = was_live_later w.pass w.pass (length x.pass) (length y.pass) e ([], append-nil w.pass) (prefix_length x.pass y.pass before.pass) there.1 in
+        let here : WasLive w.pass (length x.pass) (length w.pass) e =
+        was_live_later w.pass w.pass (length x.pass) (length y.pass) e ([], append-nil w.pass) (prefix_length x.pass y.pass before.pass) there.1 in
         record {
           each = λ g in_. ⊎_elim
               (λ (old : Contains rs g). each_old g old)
@@ -125,7 +129,8 @@ next_drop row place = sym (drop-drop 1 place row)
 pub rest_stays : (first old new : List Entry) (place next : ℕ) (answer : Option Entry) → WritesNext answer place old next new → drop place old ≡ drop place first → drop next new ≡ drop next first
 rest_stays first old new place next None wrote same = (λ i. drop (wrote.0 i) (wrote.1 i)) ∙ same ∙ ap (λ k. drop k first) (sym wrote.0)
 rest_stays first old new place next (Some e) wrote same =
-    (λ i. drop (wrote.0 i) (wrote.1 i)) ∙ drop-set-lt (place + 1) old place e (omega arith) ∙ next_drop old place ∙ ap (drop 1) same ∙ sym (next_drop first place) ∙ ap (λ k. drop k first) (sym wrote.0)
+    (λ i. drop (wrote.0 i) (wrote.1 i)) ∙ drop-set-lt (place + 1) old place e (omega arith) ∙ next_drop old place ∙ ap (drop 1) same ∙ sym (next_drop first place)
+    ∙ ap (λ k. drop k first) (sym wrote.0)
 
 pub size_stays : (old new : List Entry) (place next : ℕ) (answer : Option Entry) → WritesNext answer place old next new → length new ≡ length old
 size_stays old new place next None wrote = ap (λ (l : List Entry). length l) wrote.1
@@ -168,13 +173,15 @@ next_found x y w noted d old new count next i answer lt room before now again wr
         omega (arith, are.newest_first at.0 i f at.1 within, ap (λ (g : Entry). g.number) at.2, ap (λ (g : Entry). g.number) (get_or_default es i f blank within))
 
     by_cases : (answer : Option Entry) → HasFoundAgain y e answer w → WritesNext answer count old next new → HaveBeenFound x (take i es ++ e ∷ []) (take next new) w
-    by_cases None again wrote = subst (λ l. HaveBeenFound x (take i es ++ e ∷ []) l w) (sym (λ j. take (wrote.0 j) (wrote.1 j))) (one_less x y w (take i es) (take count old) e before now attached found again)
+    by_cases None again wrote =
+        subst (λ l. HaveBeenFound x (take i es ++ e ∷ []) l w) (sym (λ j. take (wrote.0 j) (wrote.1 j))) (one_less x y w (take i es) (take count old) e before now attached found again)
     by_cases (Some f) again wrote =
         subst (λ l. HaveBeenFound x (take i es ++ e ∷ []) l w) (sym ((λ j. take (wrote.0 j) (wrote.1 j)) ∙ take_more_set old count f room))
         (one_more x y w (take i es) (take count old) e before now attached found f below again)
 
 -- by the log: e was looked up by its kind and name
-pub looked_up_again : (c slots : ℕ) (e : Entry) (key : Key) (answer found : Option Entry) (old new : List LogItem) → key ≡ key_of e → SearchesOnce c slots key found old new → ((f : Entry) → answer ≡ Some f → found ≡ Some f)
+pub looked_up_again : (c slots : ℕ) (e : Entry) (key : Key) (answer found : Option Entry) (old new : List LogItem) → key ≡ key_of e → SearchesOnce c slots key found old new
+    → ((f : Entry) → answer ≡ Some f → found ≡ Some f)
     → LooksUpAgain c slots e answer old new
 looked_up_again c slots e key answer found old new is once replied = (found, subst (λ (k : Key). SearchesOnce c slots k found old new) is once, replied)
 
@@ -182,9 +189,11 @@ only : (f g : Entry) → Contains (f ∷ []) g → f ≡ g
 only f g there = ⊎_elim (λ (none : Contains [] g). absurd (omega (arith, none.1))) (λ (is : f ≡ g). is) (Contains-push_cases [] f g there)
 
 -- the noted entry at i was looked up
-pub next_looked_up : (c slots : ℕ) (y w : CpuView) (h : List Change) (noted : List Noted) (d : Noted) (old new : List Entry) (count next i : ℕ) (answer : Option Entry) (first before after : List LogItem) → i < length noted → count < length old → IsPrefix h y.pass
+pub next_looked_up : (c slots : ℕ) (y w : CpuView) (h : List Change) (noted : List Noted) (d : Noted) (old new : List Entry) (count next i : ℕ) (answer : Option Entry)
+    (first before after : List LogItem) → i < length noted → count < length old → IsPrefix h y.pass
     → ((e : Entry) → get_or noted i d ≡ noted_of e → IsAttached y.pass e → HasFoundAgain y e answer w) → ((e : Entry) → get_or noted i d ≡ noted_of e → LooksUpAgain c slots e answer before after)
-    → WritesNext answer count old next new → (es : List Entry) → AreNoted h noted es → LooksUpEach c slots (take i es) (take count old) first before → LooksUpEach c slots (take (i + 1) es) (take next new) first after
+    → WritesNext answer count old next new → (es : List Entry) → AreNoted h noted es → LooksUpEach c slots (take i es) (take count old) first before
+    → LooksUpEach c slots (take (i + 1) es) (take next new) first after
 next_looked_up c slots y w h noted d old new count next i answer first before after lt room more again log wrote es are so_far =
     subst (λ l. LooksUpEach c slots l (take next new) first after) (sym (take_more es i blank within)) (by_cases answer again_e (log e is) wrote)
   where
@@ -200,7 +209,8 @@ next_looked_up c slots y w h noted d old new count next i answer first before af
     again_e : HasFoundAgain y e answer w
     again_e = again e is (attached_prefix h y.pass e more (are.attached e (Contains-get_or es i blank within)))
 
-    by_cases : (answer : Option Entry) → HasFoundAgain y e answer w → LooksUpAgain c slots e answer before after → WritesNext answer count old next new → LooksUpEach c slots (take i es ++ e ∷ []) (take next new) first after
+    by_cases : (answer : Option Entry) → HasFoundAgain y e answer w → LooksUpAgain c slots e answer before after → WritesNext answer count old next new
+        → LooksUpEach c slots (take i es ++ e ∷ []) (take next new) first after
     by_cases None found by wrote = subst (λ l. LooksUpEach c slots (take i es ++ e ∷ []) l first after) (append-nil (take count old) ∙ sym (λ j. take (wrote.0 j) (wrote.1 j)))
         (one_more_looked_up c slots (take i es) (take count old) [] e by.0 first before after so_far by.1 (λ f there. absurd (omega (arith, there.1))))
     by_cases (Some f) found by wrote = subst (λ l. LooksUpEach c slots (take i es ++ e ∷ []) l first after) (sym ((λ j. take (wrote.0 j) (wrote.1 j)) ∙ take_more_set old count f room))
@@ -237,7 +247,8 @@ all_noted x y noted es are at = record { are = are; attached = λ e there. (at.n
 pub all_gone_by : (x y w : CpuView) (es : List Entry) (link : ℕ) → IsNoting x es link y → IsPrefix y.pass w.pass → AreGoneBy w.pass (length x.pass) (length w.pass) es
 all_gone_by x y w es link at more = record {
   each = λ e there.
-      was_live_later y.pass w.pass (length x.pass) (length x.pass) e more (omega arith) (stood_was_live y.pass (length x.pass) e.slot e at.tells.legal (prefix_length x.pass y.pass at.pass) (at.noted.stands e there));
+      was_live_later y.pass w.pass (length x.pass) (length x.pass) e more (omega arith)
+      (stood_was_live y.pass (length x.pass) e.slot e at.tells.legal (prefix_length x.pass y.pass at.pass) (at.noted.stands e there));
   newest_first = at.noted.newest_first;
 }
 
@@ -250,7 +261,8 @@ nobody_found x y key (Some e) is had =
     let same : key_of e ≡ nobody = live.1 ∙ is in
     absurd (no_zeros ((λ i. are_name_words (sym same i).name.high (sym same i).name.low) ∙ named))
 
-pub gone_over : (x y z w : CpuView) (es rs : List Entry) (key : Key) (answer : Option Entry) → IsNoting x es 0 y → HaveSearched y z → HaveBeenFound y es rs z → key ≡ nobody → HasLookedUp key z w answer → HasGoneOver x w rs
+pub gone_over : (x y z w : CpuView) (es rs : List Entry) (key : Key) (answer : Option Entry) → IsNoting x es 0 y → HaveSearched y z → HaveBeenFound y es rs z → key ≡ nobody
+    → HasLookedUp key z w answer → HasGoneOver x w rs
 gone_over x y z w es rs key answer noted searched_ found is had = record {
   pass = prefix_trans x.pass y.pass w.pass noted.pass more;
   is = had.is ∙ (λ i. record z { pass = w.pass; search = None; found = nobody_found z w key answer is had i })
@@ -259,7 +271,8 @@ gone_over x y z w es rs key answer noted searched_ found is had = record {
   all = λ e live.
       let first = live_before y.pass w.pass (length x.pass) (length x.pass) e more live.0.begun low (omega arith) live.0 in
       let last = live_before y.pass w.pass (length y.pass) (length w.pass) e more (omega (arith, live.0.begun, low)) (omega arith) (prefix_length y.pass w.pass more) live.1 in
-      let still = live_before z.pass w.pass (length z.pass) (length w.pass) e had.pass (omega (arith, live.0.begun, low, prefix_length y.pass z.pass searched_.pass)) (omega arith) (prefix_length z.pass w.pass had.pass) live.1 in
+      let still = live_before z.pass w.pass (length z.pass) (length w.pass) e had.pass (omega (arith, live.0.begun, low, prefix_length y.pass z.pass searched_.pass)) (omega arith)
+      (prefix_length z.pass w.pass had.pass) live.1 in
       found.all e (noted.goes_on e (first, last)) still;
   each = λ e there. was_live_later z.pass w.pass (length x.pass) (length y.pass) e had.pass low (found.each e there).1;
   newest_first = found.newest_first;
@@ -275,7 +288,8 @@ noting_slots : (x y : CpuView) (es : List Entry) → IsNoting x es 0 y → y.set
 noting_slots x y es at = ap (λ (v : CpuView). v.settings.slots) at.is
 
 -- by the log
-pub gone_over_by : (c : ℕ) (x y z : CpuView) (es rs : List Entry) (key : Key) (answer : Option Entry) (count : ℕ) (old first second new : List LogItem) → (noted : IsNoting x es 0 y) → HaveSearched y z → key ≡ nobody
+pub gone_over_by : (c : ℕ) (x y z : CpuView) (es rs : List Entry) (key : Key) (answer : Option Entry) (count : ℕ) (old first second new : List LogItem) → (noted : IsNoting x es 0 y) → HaveSearched y z
+    → key ≡ nobody
     → ((once : SearchesOnce c x.settings.slots nobody None old first) × (once.visited ≡ count)) → length es ≡ count → LooksUpEach c y.settings.slots es rs first second
     → answer ≡ None → SearchesOnce c z.settings.slots key answer second new → HasGoneOverBy c x.settings.slots es rs old new
 gone_over_by c x y z es rs key answer count old first second new noted searched_ is notes size finds none clears =
@@ -286,7 +300,8 @@ gone_over_by c x y z es rs key answer count old first second new noted searched_
       notes = notes.0;
       each = notes.1 ∙ sym size;
       finds = subst (λ (slots : ℕ). LooksUpEach c slots es rs first second) to_x finds;
-      clears = subst (λ (slots : ℕ). SearchesOnce c slots nobody None second new) (searched_slots y z searched_ ∙ to_x) (subst (λ (l : Lookup). SearchesOnce c z.settings.slots l.key l.answer second new) (λ i. record { key = is i; answer = none i }) clears);
+      clears = subst (λ (slots : ℕ). SearchesOnce c slots nobody None second new) (searched_slots y z searched_ ∙ to_x)
+          (subst (λ (l : Lookup). SearchesOnce c z.settings.slots l.key l.answer second new) (λ i. record { key = is i; answer = none i }) clears);
     }
 
 -- to a contract
@@ -294,7 +309,13 @@ pub walked : (a b : OnCpu) (row : List Entry) → a.view.search ≡ None → Has
     → (noted : List Entry) → AreGoneBy b.view.pass (length a.view.pass) (length b.view.pass) noted → HasGoneOverBy a.view.id a.view.settings.slots noted row a.log b.log → HasWalked a b row
 walked a b row idle had depth made known_log noted gone_by log = record {
   pass = had.pass;
-  is = λ i. record { view = (had.is ∙ ap (λ (s : Option Search). record a.view { pass = b.view.pass; search = s; found = None }) (sym idle)) i; depth = depth i; made = made i; known_log = known_log i; log = b.log };
+  is = λ i. record {
+    view = (had.is ∙ ap (λ (s : Option Search). record a.view { pass = b.view.pass; search = s; found = None }) (sym idle)) i;
+    depth = depth i;
+    made = made i;
+    known_log = known_log i;
+    log = b.log;
+  };
   all = had.all;
   each = had.each;
   held = λ e s there begun.

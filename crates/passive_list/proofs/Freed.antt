@@ -39,7 +39,8 @@ one_slot k t u e f is_shown is also same =
     (one_number g.history g.slots t u e f is_shown.good.holds.slots (subst (λ (x : List Slot). IsIn e (slot_at x t)) slots is) (subst (λ (x : List Slot). IsIn f (slot_at x u)) slots also) same).0
 
 -- the row of what is held shows its number
-held_place : (a : Settings) (k : KeeperView) (rows : List KeptSlot) (u : ℕ) (f : Entry) → IsShown k → RowsAgree a k rows → HeldRow k rows u → IsIn f (slot_at k.slots u) → place_of f.number rows ≡ Some u
+held_place : (a : Settings) (k : KeeperView) (rows : List KeptSlot) (u : ℕ) (f : Entry) → IsShown k → RowsAgree a k rows → HeldRow k rows u → IsIn f (slot_at k.slots u)
+    → place_of f.number rows ≡ Some u
 held_place a k rows u f is_shown agree row is =
     let lt = row.slot in
     let size = agree.size in
@@ -86,19 +87,22 @@ abbrev IsIface : OnKeeper → ℕ → Type 0
 IsIface x t = (e : Entry) × (slot_at x.slots t ≡ Retired e) × (e.rec.kind ≡ Iface)
 
 -- so the slot is found by the rows
-pub keeps_on : {log : List LogItem} (a : Settings) (k : KeeperView) (rows : List KeptSlot) (n t : ℕ) (x : OnKeeper) → IsOurKeeper a k rows n → record { view = k; slots = states_of rows; log = log } ≡ x → IsIface x t
+pub keeps_on : {log : List LogItem} (a : Settings) (k : KeeperView) (rows : List KeptSlot) (n t : ℕ) (x : OnKeeper) → IsOurKeeper a k rows n
+    → record { view = k; slots = states_of rows; log = log } ≡ x → IsIface x t
     → (u : ℕ) × (kept_slot (row_at rows t).keeps rows ≡ Some u) × KeepsHeld k t u
 keeps_on a k rows n t x our is iface =
     let retired = retired_in a k rows t iface.0 our.rows (ap (λ (y : OnKeeper). slot_at y.slots t) is ∙ iface.1) in
     let it = keeps_shown k t iface.0 our.is_shown our.view.rest retired.1 iface.2 in
     let s = it.1 in (
       it.0,
-      ap (λ (o : Option ℕ). kept_slot o rows) ((our.rows.each t retired.0).keeps ∙ s.keeps.kept) ∙ (ap (λ (m : ℕ). place_of m rows) (sym s.number) ∙ held_place a k rows it.0 s.f our.is_shown our.rows (held_row a k rows it.0 our.view our.rows s.keeps.held) s.here),
+      ap (λ (o : Option ℕ). kept_slot o rows) ((our.rows.each t retired.0).keeps ∙ s.keeps.kept)
+          ∙ (ap (λ (m : ℕ). place_of m rows) (sym s.number) ∙ held_place a k rows it.0 s.f our.is_shown our.rows (held_row a k rows it.0 our.view our.rows s.keeps.held) s.here),
       s.keeps,
     )
 
 -- where they have found u
-pub keeps_at : {log : List LogItem} (a : Settings) (k : KeeperView) (rows : List KeptSlot) (n t u : ℕ) (x : OnKeeper) → IsOurKeeper a k rows n → record { view = k; slots = states_of rows; log = log } ≡ x → IsIface x t
+pub keeps_at : {log : List LogItem} (a : Settings) (k : KeeperView) (rows : List KeptSlot) (n t u : ℕ) (x : OnKeeper) → IsOurKeeper a k rows n
+    → record { view = k; slots = states_of rows; log = log } ≡ x → IsIface x t
     → kept_slot (row_at rows t).keeps rows ≡ Some u → KeepsHeld k t u
 keeps_at a k rows n t u x our is iface found =
     let it = keeps_on a k rows n t x our is iface in
@@ -106,7 +110,8 @@ keeps_at a k rows n t u x our is iface found =
     subst (KeepsHeld k t) same it.2
 
 -- and the keeper may give the driver up
-pub may_free : {log : List LogItem} (a : Settings) (k : KeeperView) (rows : List KeptSlot) (n t u : ℕ) (x : OnKeeper) → IsOurKeeper a k rows n → record { view = k; slots = states_of rows; log = log } ≡ x → IsIface x t
+pub may_free : {log : List LogItem} (a : Settings) (k : KeeperView) (rows : List KeptSlot) (n t u : ℕ) (x : OnKeeper) → IsOurKeeper a k rows n
+    → record { view = k; slots = states_of rows; log = log } ≡ x → IsIface x t
     → IsDrainedOn x t → KeepsHeld k t u → MayKeptSub k t u
 may_free a k rows n t u x our is iface drained keeps =
     let d = (subst (λ (y : OnKeeper). IsDrainedOn y t) (sym is) drained).drained in
@@ -181,7 +186,8 @@ freed_rows a k rows t d u at agree held off lt total =
     }
     (λ v other was. row_stays m (freed k t d u) v (row_at rows' v) (slot_other k.slots t Vacant v other) refl refl (get_or-set_other k.keeps t v None None other) was)
 
-pub freed_keeper : {log : List LogItem} (a : Settings) (k l : KeeperView) (rows : List KeptSlot) (n t u : ℕ) (x : OnKeeper) → IsOurKeeper a k rows n → record { view = k; slots = states_of rows; log = log } ≡ x → IsDrainedOn x t → KeepsHeld k t u
+pub freed_keeper : {log : List LogItem} (a : Settings) (k l : KeeperView) (rows : List KeptSlot) (n t u : ℕ) (x : OnKeeper) → IsOurKeeper a k rows n
+    → record { view = k; slots = states_of rows; log = log } ≡ x → IsDrainedOn x t → KeepsHeld k t u
     → HasKeptSub k t u l → IsShown l → IsOurKeeper a l (set (set rows u (row_less (row_at rows u))) t (row_freed (row_at rows t))) n
 freed_keeper a k l rows n t u x our is drained keeps told is_shown =
     let d = subst (λ (y : OnKeeper). IsDrainedOn y t) (sym is) drained in
@@ -196,8 +202,10 @@ freed_keeper a k l rows n t u x our is drained keeps told is_shown =
     }
 
 -- what it leaves of the keeper
-pub has_freed : {log later : List LogItem} (a : Settings) (k l : KeeperView) (rows : List KeptSlot) (t u : ℕ) (r : KeptSlot) (x : OnKeeper) → record { view = k; slots = states_of rows; log = log } ≡ x → RowsAgree a k rows → Makes (KeptSub t) Done (Keeper k) (Keeper l) → HasKeptSub k t u l → later ≡ log ++ did (KeptSub t) Done
-    → ((e : Entry) → slot_at k.slots t ≡ Retired e → IsFreedFrom t e.number later) → HasFreed x t (record { view = l; slots = states_of (set (set rows u (row_less (row_at rows u))) t (row_freed r)); log = later })
+pub has_freed : {log later : List LogItem} (a : Settings) (k l : KeeperView) (rows : List KeptSlot) (t u : ℕ) (r : KeptSlot) (x : OnKeeper) → record { view = k; slots = states_of rows; log = log } ≡ x
+    → RowsAgree a k rows → Makes (KeptSub t) Done (Keeper k) (Keeper l) → HasKeptSub k t u l → later ≡ log ++ did (KeptSub t) Done
+    → ((e : Entry) → slot_at k.slots t ≡ Retired e → IsFreedFrom t e.number later)
+    → HasFreed x t (record { view = l; slots = states_of (set (set rows u (row_less (row_at rows u))) t (row_freed r)); log = later })
 has_freed {later} a k l rows t u r x is agree made told goes_on freed =
     let after = set (set rows u (row_less (row_at rows u))) t (row_freed r) in
     subst (λ (y : OnKeeper). HasFreed y t (record { view = l; slots = states_of after; log = later })) is record {

@@ -41,7 +41,8 @@ are_kept (Some e) = (refl, refl, refl)
 
 -- outside and with nothing found again, as before, and one section more is ended
 pub from_outside_agrees : (z : TableId) (a : Settings) (t u : TableId) (x y v w : CpuView) (c n m d : ℕ) (e : Found) (f : Option Entry) (ps ns : List NumberedCount) (key : Key)
-    → IsOurCpu z a t x c n d e ps ns → u ≡ t → d ≡ 0 → IsTrue (may_begin x) → Makes (Enter c) Done (Cpu x) (Cpu y) → HasEntered x y → IsShownCpu v → HasLookedUp key y v f → IsShownCpu w → HasExited v w → m ≡ n + 1 → IsOurCpu u w.settings u w c m d e ps ns
+    → IsOurCpu z a t x c n d e ps ns → u ≡ t → d ≡ 0 → IsTrue (may_begin x) → Makes (Enter c) Done (Cpu x) (Cpu y) → HasEntered x y → IsShownCpu v → HasLookedUp key y v f → IsShownCpu w
+    → HasExited v w → m ≡ n + 1 → IsOurCpu u w.settings u w c m d e ps ns
 from_outside_agrees z a t u x y v w c n m d e f ps ns key our same shallow unended made entered looked_shown looked exited_shown exited one_more =
     let room : n < a.section_limit = unspent z a t x c n d e ps ns our unended in
     let inside = entered_agrees z a t u x y c n d e ps ns our (step_is_shown made) same shallow room entered in
@@ -68,7 +69,8 @@ from_outside_agrees z a t u x y v w c n m d e f ps ns key our same shallow unend
 -- To a contract
 
 pub found_from_outside : (key : Key) (a : OnCpu) (x y v w : Seated CpuView) (c d : ℕ) (f : Option Entry)
-    → cpu_at x d ≡ a → IsIdle x.view → x.view.id ≡ c → d ≡ 0 → SeatMakes Cpu (Enter c) Done x y → HasEntered x.view y.view → HasLookedUp key y.view v.view f → v.known_log ≡ y.known_log → SearchesOnce c y.view.settings.slots key f y.log v.log
+    → cpu_at x d ≡ a → IsIdle x.view → x.view.id ≡ c → d ≡ 0 → SeatMakes Cpu (Enter c) Done x y → HasEntered x.view y.view → HasLookedUp key y.view v.view f → v.known_log ≡ y.known_log
+    → SearchesOnce c y.view.settings.slots key f y.log v.log
     → SeatMakes Cpu (Exit c) Done v w → HasExited v.view w.view → HasFoundFromOutside key a (cpu_at w d) f
 found_from_outside key a x y v w c d f at idle id shallow enters entered looked known log exits exited =
     let one : d + 1 ≡ 1 = omega (arith, shallow) in
@@ -87,6 +89,14 @@ found_from_outside key a x y v w c d f at idle id shallow enters entered looked 
         seen = λ e is_e. (looked.seen e is_e).1;
         log = subst (λ (i : ℕ). SearchesOnce i y.view.settings.slots key f y.log v.log) (sym y_id) log;
       };
-      exits = record { ended = λ _. exited; inner = λ off. absurd (off one); depth = refl; made = refl; known_log = exits.known_log; event = λ _. exits.log ∙ ap (λ (i : ℕ). v.log ++ did (Exit i) Done) (sym v_id); none = λ off. absurd (off one) };
+      exits = record {
+        ended = λ _. exited;
+        inner = λ off. absurd (off one);
+        depth = refl;
+        made = refl;
+        known_log = exits.known_log;
+        event = λ _. exits.log ∙ ap (λ (i : ℕ). v.log ++ did (Exit i) Done) (sym v_id);
+        none = λ off. absurd (off one);
+      };
     } in
     subst (λ (b : OnCpu). HasFoundFromOutside key b (cpu_at w d) f) at had

@@ -14,7 +14,8 @@ use Rattle.passive_list.proofs.Collections.{with_total_keeper}
 use Rattle.passive_list.proofs.Subtracting.{HeldRow, held_row, less, row_less, less_is}
 
 -- what the rows say of a collected word, the seat knows
-pub may_take_in : {log : List LogItem} (a : Settings) (k : KeeperView) (rows : List KeptSlot) (n : ℕ) (v w : ReferenceView) (x : OnKeeper) → IsOurKeeper a k rows n → record { view = k; slots = states_of rows; log = log } ≡ x → v ≡ w
+pub may_take_in : {log : List LogItem} (a : Settings) (k : KeeperView) (rows : List KeptSlot) (n : ℕ) (v w : ReferenceView) (x : OnKeeper) → IsOurKeeper a k rows n
+    → record { view = k; slots = states_of rows; log = log } ≡ x → v ≡ w
     → IsFoundCollected x.slots x.view.marks w → MayJoinKeeper k v
 may_take_in a k rows n v w x our is is_too found = record {
   rest = our.view.rest;
@@ -40,7 +41,8 @@ held_before k j l v joined made =
     }
 
 -- so its slot's row has it
-pub given_row : (a : Settings) (k j l : KeeperView) (rows : List KeptSlot) (n t : ℕ) (v : ReferenceView) → IsOurKeeper a k rows n → v.entry.slot ≡ t → j ≡ keeper_after_join k v → Makes (TotalSub t) Done (Keeper j) (Keeper l) → HeldRow k rows t
+pub given_row : (a : Settings) (k j l : KeeperView) (rows : List KeptSlot) (n t : ℕ) (v : ReferenceView) → IsOurKeeper a k rows n → v.entry.slot ≡ t → j ≡ keeper_after_join k v
+    → Makes (TotalSub t) Done (Keeper j) (Keeper l) → HeldRow k rows t
 given_row a k j l rows n t v our slot joined made =
     let held = held_before k j l v joined (subst (λ (u : ℕ). Makes (TotalSub u) Done (Keeper j) (Keeper l)) (sym slot) made) in
     held_row a k rows t our.view our.rows (subst (IsHeldIn k) slot held)
@@ -59,9 +61,11 @@ given_keeper a k j l rows n t v our slot joined made told =
     (given_is k j l t v our.view.rest joined told ∙ less_is k rows t given_up our.view.rest row) (step_is_shown made)
 
 -- what is left of the keeper
-pub has_given_up : {log between later : List LogItem} (k j l : KeeperView) (rows : List KeptSlot) (t : ℕ) (v w : ReferenceView) (x : OnKeeper) → record { view = k; slots = states_of rows; log = log } ≡ x → v ≡ w → k.due ≡ Rest → v.entry.slot ≡ t → j ≡ keeper_after_join k v
+pub has_given_up : {log between later : List LogItem} (k j l : KeeperView) (rows : List KeptSlot) (t : ℕ) (v w : ReferenceView) (x : OnKeeper)
+    → record { view = k; slots = states_of rows; log = log } ≡ x → v ≡ w → k.due ≡ Rest → v.entry.slot ≡ t → j ≡ keeper_after_join k v
     → JoinsBy JoinKeeper (Keeper k) (Reference v) (Keeper j) → Makes (TotalSub t) Done (Keeper j) (Keeper l) → HasSubtracted j t l
-    → between ≡ log ++ did (JoinKeeper v.entry.number) Done → later ≡ between ++ did (TotalSub t) Done → HasGivenUp x w (record { view = l; slots = states_of (set rows t (row_less (row_at rows t))); log = later })
+    → between ≡ log ++ did (JoinKeeper v.entry.number) Done → later ≡ between ++ did (TotalSub t) Done
+    → HasGivenUp x w (record { view = l; slots = states_of (set rows t (row_less (row_at rows t))); log = later })
 has_given_up {log} {later} k j l rows t v w x is is_too rest slot joined joins made told first then =
     let after = states_of (set rows t (row_less (row_at rows t))) in
     let s = v.entry.slot in
@@ -69,7 +73,8 @@ has_given_up {log} {later} k j l rows t v w x is is_too rest slot joined joins m
     let told_there : HasSubtracted j s l = subst (λ (u : ℕ). HasSubtracted j u l) (sym slot) told in
     let both : later ≡ log ++ did (JoinKeeper v.entry.number) Done ++ did (TotalSub s) Done =
     then ∙ ap (λ (ds : List LogItem). ds ++ did (TotalSub t) Done) first ∙ ap (λ (u : ℕ). log ++ did (JoinKeeper v.entry.number) Done ++ did (TotalSub u) Done) (sym slot) in
-    subst (λ (y : OnKeeper). HasGivenUp y w (record { view = l; slots = after; log = later })) is (subst (λ (u : ReferenceView). HasGivenUp (record { view = k; slots = states_of rows; log = log }) u (record { view = l; slots = after; log = later })) is_too record {
+    subst (λ (y : OnKeeper). HasGivenUp y w (record { view = l; slots = after; log = later })) is
+    (subst (λ (u : ReferenceView). HasGivenUp (record { view = k; slots = states_of rows; log = log }) u (record { view = l; slots = after; log = later })) is_too record {
       joined = subst (λ (y : KeeperView). JoinsBy JoinKeeper (Keeper k) (Reference v) (Keeper y)) joined joins;
       subtracted = subst (λ (y : KeeperView). Makes (TotalSub s) Done (Keeper y) (Keeper l)) joined made_there;
       view = given_is k j l s v rest joined told_there;

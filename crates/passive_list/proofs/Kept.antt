@@ -36,7 +36,8 @@ row_keeping r n = record { state = r.state; marks = r.marks; total = r.total; ke
 abbrev pub rows_keeping : List KeptSlot → ℕ → ℕ → List KeptSlot
 rows_keeping rows t n = set rows t (row_keeping (row_at rows t) n)
 
-keeping_rows : (a : Settings) (k : KeeperView) (rows : List KeptSlot) (t n : ℕ) (v : ReferenceView) → IsAtRest a k → RowsAgree a k rows → t < a.slots → v.entry.number ≡ n → RowsAgree a (keeper_after_keep k t v) (rows_keeping rows t n)
+keeping_rows : (a : Settings) (k : KeeperView) (rows : List KeptSlot) (t n : ℕ) (v : ReferenceView) → IsAtRest a k → RowsAgree a k rows → t < a.slots → v.entry.number ≡ n
+    → RowsAgree a (keeper_after_keep k t v) (rows_keeping rows t n)
 keeping_rows a k rows t n v at agree lt number =
     let l = keeper_after_keep k t v in
     let some = Some v.entry.number in
@@ -62,8 +63,10 @@ pub same_history : (k l : KeeperView) (t : ℕ) (v : ReferenceView) → l ≡ ke
 same_history k l t v at = sym (ap (λ (x : KeeperView). length x.history) at)
 
 -- what publishing asks of the keeper once the slot keeps the reference, from what is asked of a caller
-pub may_attach : {table : TableId} {log : List LogItem} (a : Settings) (k l : KeeperView) (rows : List KeptSlot) (c t n : ℕ) (rec : Record) (v : ReferenceView) (x : OnPlainKeeper) → IsOurKeeper a k rows c → on_keeper table a k rows log ≡ x
-    → l ≡ keeper_after_keep k t v → v.entry.number ≡ n → (t < x.words.settings.slots) × (slot_at x.keeper.slots t ≡ Vacant) → rec.kind ≡ Iface → IsTrue (is_lawful rec.name) → is_taken (key_of_record rec) x.keeper.slots ≡ false → length x.keeper.view.history + live_count x.keeper.slots + 2 ≤ x.words.settings.change_limit
+pub may_attach : {table : TableId} {log : List LogItem} (a : Settings) (k l : KeeperView) (rows : List KeptSlot) (c t n : ℕ) (rec : Record) (v : ReferenceView) (x : OnPlainKeeper)
+    → IsOurKeeper a k rows c → on_keeper table a k rows log ≡ x
+    → l ≡ keeper_after_keep k t v → v.entry.number ≡ n → (t < x.words.settings.slots) × (slot_at x.keeper.slots t ≡ Vacant) → rec.kind ≡ Iface → IsTrue (is_lawful rec.name)
+    → is_taken (key_of_record rec) x.keeper.slots ≡ false → length x.keeper.view.history + live_count x.keeper.slots + 2 ≤ x.words.settings.change_limit
     → MayAttach a l (rows_keeping rows t n) (record { number = c + 1; slot = t; rec = rec })
 may_attach a k l rows c t n rec v x our is at number vacant kind name free room =
     let rest = our.view in
@@ -84,11 +87,13 @@ may_attach a k l rows c t n rec v x our is at number vacant kind name free room 
       name = name;
       free = ap (is_taken (key_of_record rec)) states ∙ free;
       room = rw (history, states) (subst (λ (z : Settings). length x.keeper.view.history + live_count x.keeper.slots + 2 ≤ z.change_limit) (sym (settings_are is)) room);
-      number = let changes = our.changes in let long = ap (λ (h : List Change). length h) history in let was = ap (λ (y : OnPlainKeeper). length y.keeper.view.history) is in omega (arith, changes, long, was);
+      number = let changes =
+          our.changes in let long = ap (λ (h : List Change). length h) history in let was = ap (λ (y : OnPlainKeeper). length y.keeper.view.history) is in omega (arith, changes, long, was);
     }
 
 -- the slot keeps the reference then
-pub keeps_it : (a : Settings) (k l : KeeperView) (rows : List KeptSlot) (n t : ℕ) (v : ReferenceView) → IsOurKeeper a k rows n → t < a.slots → l ≡ keeper_after_keep k t v → kept_at l.keeps t ≡ Some v.entry.number
+pub keeps_it : (a : Settings) (k l : KeeperView) (rows : List KeptSlot) (n t : ℕ) (v : ReferenceView) → IsOurKeeper a k rows n → t < a.slots → l ≡ keeper_after_keep k t v
+    → kept_at l.keeps t ≡ Some v.entry.number
 keeps_it a k l rows n t v our lt change =
     let size = our.view.sized.keeps in
     ap (λ (x : KeeperView). kept_at x.keeps t) change ∙ get_or-set_same k.keeps t (Some v.entry.number) None (omega (arith, lt, size))

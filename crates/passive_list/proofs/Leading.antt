@@ -91,7 +91,8 @@ newest_live slots n d e (Some at) here had = ⊎_elim
       live = here;
       number = refl;
       below = lt;
-      most = λ u h within live below. one_of slots d u e h (λ x. x.number ≤ e.number) here within live (omega arith) (λ before. let most = had.most u h before live below in omega (arith, most, newer, number));
+      most = λ u h within live below. one_of slots d u e h (λ x. x.number ≤ e.number) here within live (omega arith)
+          (λ before. let most = had.most u h before live below in omega (arith, most, newer, number));
     })
     (λ (older : e.number ≤ at.number). let is : nat_lt at.number e.number ≡ false = le-ltb at.number e.number older in let number = had.number in
     rw (test, is) record {
@@ -108,7 +109,8 @@ newest_live slots n d e (Some at) here had = ⊎_elim
       live = had.live;
       number = had.number;
       below = had.below;
-      most = λ u h within live below. one_of slots d u e h (λ x. x.number < n → x.number ≤ had.f.number) here within live (λ (no_ : e.number < n). absurd (omega (arith, no_, ge))) (λ before lt. had.most u h before live lt) below;
+      most = λ u h within live below. one_of slots d u e h (λ x. x.number < n → x.number ≤ had.f.number) here within live (λ (no_ : e.number < n). absurd (omega (arith, no_, ge)))
+          (λ before lt. had.most u h before live lt) below;
     })
     (cases_lt e.number n)
 
@@ -169,7 +171,8 @@ oldest_live slots n d e (Some at) here had = ⊎_elim
       number = refl;
       above = lt;
       within = omega arith;
-      least = λ u h within live above. one_of slots d u e h (λ x. e.number ≤ x.number) here within live (omega arith) (λ before. let least = had.least u h before live above in omega (arith, least, older, number));
+      least = λ u h within live above. one_of slots d u e h (λ x. e.number ≤ x.number) here within live (omega arith)
+          (λ before. let least = had.least u h before live above in omega (arith, least, older, number));
     })
     (λ (newer : at.number ≤ e.number). let is : nat_lt e.number at.number ≡ false = le-ltb e.number at.number newer in let number = had.number in let w = had.within in
     rw (test, is) record {
@@ -188,7 +191,8 @@ oldest_live slots n d e (Some at) here had = ⊎_elim
       number = had.number;
       above = had.above;
       within = omega (arith, w);
-      least = λ u h within live above. one_of slots d u e h (λ x. n < x.number → had.f.number ≤ x.number) here within live (λ (no_ : n < e.number). absurd (omega (arith, no_, ge))) (λ before lt. had.least u h before live lt) above;
+      least = λ u h within live above. one_of slots d u e h (λ x. n < x.number → had.f.number ≤ x.number) here within live (λ (no_ : n < e.number). absurd (omega (arith, no_, ge)))
+          (λ before lt. had.least u h before live lt) above;
     })
     (cases_lt n e.number)
 
@@ -209,5 +213,9 @@ place_from : (slots : List Slot) (n : ℕ) (best : Option At) → Oldest slots n
 place_from slots n None had = tt
 place_from slots n (Some at) had = had.within
 
-pub oldest_before : (rows : List KeptSlot) (n : ℕ) → length rows ≡ MOST_SLOTS → IsBefore (states_of rows) n (place_of (oldest_to rows n MOST_SLOTS)) × IsLinkPlace (place_of (oldest_to rows n MOST_SLOTS))
-oldest_before rows n size = (before_from (states_of rows) n MOST_SLOTS (oldest_to rows n MOST_SLOTS) (live_within rows size) (oldest_is rows n MOST_SLOTS), place_from (states_of rows) n (oldest_to rows n MOST_SLOTS) (oldest_is rows n MOST_SLOTS))
+pub oldest_before : (rows : List KeptSlot) (n : ℕ) → length rows ≡ MOST_SLOTS
+    → IsBefore (states_of rows) n (place_of (oldest_to rows n MOST_SLOTS)) × IsLinkPlace (place_of (oldest_to rows n MOST_SLOTS))
+oldest_before rows n size = (
+  before_from (states_of rows) n MOST_SLOTS (oldest_to rows n MOST_SLOTS) (live_within rows size) (oldest_is rows n MOST_SLOTS),
+  place_from (states_of rows) n (oldest_to rows n MOST_SLOTS) (oldest_is rows n MOST_SLOTS),
+)

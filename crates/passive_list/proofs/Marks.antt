@@ -50,7 +50,8 @@ marked_at_rest a k ev r t c m at = record {
   room = at.room;
 }
 
-marked_rows : (a : Settings) (k : KeeperView) (rows : List KeptSlot) (ev : Event) (r : Reply) (t c : ℕ) (m : Mark) (e : Entry) → IsAtRest a k → RowsAgree a k rows → slot_at (states_of rows) t ≡ Retired e
+marked_rows : (a : Settings) (k : KeeperView) (rows : List KeptSlot) (ev : Event) (r : Reply) (t c : ℕ) (m : Mark) (e : Entry) → IsAtRest a k → RowsAgree a k rows
+    → slot_at (states_of rows) t ≡ Retired e
     → RowsAgree a (marked k ev r t c m) (set rows t (row_marked (row_at rows t) c m))
 marked_rows a k rows ev r t c m e at agree is =
     let retired = retired_in a k rows t e agree is in
@@ -69,12 +70,14 @@ marked_rows a k rows ev r t c m e at agree is =
     (λ u off was. row_stays k (marked k ev r t c m) u (row_at rows u) refl (row_other k.marks t c m u off) refl refl was)
 
 -- the mark in a retired slot's row is the mark in the view
-row_mark : (a : Settings) (k : KeeperView) (rows : List KeptSlot) (t c : ℕ) (e : Entry) → RowsAgree a k rows → slot_at (states_of rows) t ≡ Retired e → get_or (row_at rows t).marks c no_mark ≡ mark_at k.marks t c
+row_mark : (a : Settings) (k : KeeperView) (rows : List KeptSlot) (t c : ℕ) (e : Entry) → RowsAgree a k rows → slot_at (states_of rows) t ≡ Retired e
+    → get_or (row_at rows t).marks c no_mark ≡ mark_at k.marks t c
 row_mark a k rows t c e agree is = ap (λ (ms : List Mark). get_or ms c no_mark) (agree.each t (retired_in a k rows t e agree is).0).marks
 
 -- after a look that made f of the mark, in the row as in the view, the rows agree
 pub looked_keeper : (a : Settings) (k l : KeeperView) (rows : List KeptSlot) (n : ℕ) (ev : Event) (r : Reply) (t c : ℕ) (f : Mark → Mark) (m : Mark) (e : Entry)
-    → IsOurKeeper a k rows n → slot_at (states_of rows) t ≡ Retired e → m ≡ f (get_or (row_at rows t).marks c no_mark) → l ≡ marked k ev r t c (f (mark_at k.marks t c)) → Makes ev r (Keeper k) (Keeper l)
+    → IsOurKeeper a k rows n → slot_at (states_of rows) t ≡ Retired e → m ≡ f (get_or (row_at rows t).marks c no_mark) → l ≡ marked k ev r t c (f (mark_at k.marks t c))
+    → Makes ev r (Keeper k) (Keeper l)
     → IsOurKeeper a l (set rows t (row_marked (row_at rows t) c m)) n
 looked_keeper a k l rows n ev r t c f m e our is made change event =
     let mark : m ≡ f (mark_at k.marks t c) = made ∙ ap f (row_mark a k rows t c e our.rows is) in
@@ -88,14 +91,16 @@ looked_keeper a k l rows n ev r t c f m e our is made change event =
 
 -- the mark that it made is the view's
 pub looked_mark : (a : Settings) (k l : KeeperView) (rows : List KeptSlot) (ev : Event) (r : Reply) (t c : ℕ) (f : Mark → Mark) (m : Mark) (e : Entry)
-    → IsAtRest a k → RowsAgree a k rows → slot_at (states_of rows) t ≡ Retired e → c < a.cpus → m ≡ f (get_or (row_at rows t).marks c no_mark) → l ≡ marked k ev r t c (f (mark_at k.marks t c)) → m ≡ mark_at l.marks t c
+    → IsAtRest a k → RowsAgree a k rows → slot_at (states_of rows) t ≡ Retired e → c < a.cpus → m ≡ f (get_or (row_at rows t).marks c no_mark) → l ≡ marked k ev r t c (f (mark_at k.marks t c))
+    → m ≡ mark_at l.marks t c
 looked_mark a k l rows ev r t c f m e at agree is cpu made change =
     let lt = (retired_in a k rows t e agree is).0 in
     let size = at.sized.marks in
     let few = (ranges a at.fit).cpus in
     let within : t < length k.marks = omega (arith, lt, size) in
     let long = at.sized.mark_rows t within in
-    made ∙ ap f (row_mark a k rows t c e agree is) ∙ sym (ap (λ (x : KeeperView). mark_at x.marks t c) change ∙ cell_here no_mark k.marks t c (f (mark_at k.marks t c)) within (omega (arith, long, few, cpu)))
+    made ∙ ap f (row_mark a k rows t c e agree is) ∙ sym (ap (λ (x : KeeperView). mark_at x.marks t c) change
+    ∙ cell_here no_mark k.marks t c (f (mark_at k.marks t c)) within (omega (arith, long, few, cpu)))
 
 -- what stands in the slots stays
 pub looked_states : (rows : List KeptSlot) (t c : ℕ) (m : Mark) → states_of (set rows t (row_marked (row_at rows t) c m)) ≡ states_of rows
@@ -130,7 +135,8 @@ vacated_at_rest a k t e at lt retired = record {
       omega (arith, same, room);
 }
 
-pub vacated_keeper : {log : List LogItem} (a : Settings) (k l : KeeperView) (rows : List KeptSlot) (n t : ℕ) → IsOurKeeper a k rows n → IsDrainedOn (record { view = k; slots = states_of rows; log = log }) t
+pub vacated_keeper : {log : List LogItem} (a : Settings) (k l : KeeperView) (rows : List KeptSlot) (n t : ℕ) → IsOurKeeper a k rows n
+    → IsDrainedOn (record { view = k; slots = states_of rows; log = log }) t
     → l ≡ keeper_after_vacate k t → IsShown l → IsOurKeeper a l (set rows t (row_vacated (row_at rows t))) n
 vacated_keeper a k l rows n t our is change is_shown =
     let here = retired_in a k rows t is.retired.0 our.rows is.retired.1 in
@@ -156,7 +162,8 @@ vacated_keeper a k l rows n t our is change is_shown =
     }
 
 -- what it leaves of the keeper
-pub has_vacated : {log later : List LogItem} (a : Settings) (k l : KeeperView) (rows : List KeptSlot) (t : ℕ) (r : KeptSlot) (x : OnKeeper) → record { view = k; slots = states_of rows; log = log } ≡ x → RowsAgree a k rows → Makes (Vacate t) Done (Keeper k) (Keeper l) → Makes (Hear None) Done (Keeper l) (Keeper l)
+pub has_vacated : {log later : List LogItem} (a : Settings) (k l : KeeperView) (rows : List KeptSlot) (t : ℕ) (r : KeptSlot) (x : OnKeeper) → record { view = k; slots = states_of rows; log = log } ≡ x
+    → RowsAgree a k rows → Makes (Vacate t) Done (Keeper k) (Keeper l) → Makes (Hear None) Done (Keeper l) (Keeper l)
     → l ≡ keeper_after_vacate k t → later ≡ log ++ (did (Vacate t) Done ++ did (Hear None) Done) → ((e : Entry) → slot_at k.slots t ≡ Retired e → IsFreedFrom t e.number later)
     → HasVacated x t (record { view = l; slots = states_of (set rows t (row_vacated r)); log = later })
 has_vacated {later} a k l rows t r x is agree made heard change goes_on freed =
@@ -170,7 +177,8 @@ has_vacated {later} a k l rows t r x is agree made heard change goes_on freed =
     }
 
 -- what the row says of a drain is what the view says
-pub drained_tells : {log : List LogItem} (a : Settings) (k : KeeperView) (rows : List KeptSlot) (t cpus : ℕ) → IsAtRest a k → RowsAgree a k rows → t < a.slots → cpus ≡ a.cpus → is_drained_row cpus (row_at rows t) ≡ true → IsDrainedOn (record { view = k; slots = states_of rows; log = log }) t
+pub drained_tells : {log : List LogItem} (a : Settings) (k : KeeperView) (rows : List KeptSlot) (t cpus : ℕ) → IsAtRest a k → RowsAgree a k rows → t < a.slots → cpus ≡ a.cpus
+    → is_drained_row cpus (row_at rows t) ≡ true → IsDrainedOn (record { view = k; slots = states_of rows; log = log }) t
 drained_tells a k rows t cpus at agree lt same is =
     let r = row_at rows t in
     let had = agree.each t lt in
@@ -193,7 +201,8 @@ drained_tells a k rows t cpus at agree lt same is =
       };
     }
 
-pub drained_from : {log : List LogItem} (a : Settings) (k : KeeperView) (rows : List KeptSlot) (t cpus : ℕ) → IsAtRest a k → RowsAgree a k rows → t < a.slots → cpus ≡ a.cpus → IsDrainedOn (record { view = k; slots = states_of rows; log = log }) t → is_drained_row cpus (row_at rows t) ≡ true
+pub drained_from : {log : List LogItem} (a : Settings) (k : KeeperView) (rows : List KeptSlot) (t cpus : ℕ) → IsAtRest a k → RowsAgree a k rows → t < a.slots → cpus ≡ a.cpus
+    → IsDrainedOn (record { view = k; slots = states_of rows; log = log }) t → is_drained_row cpus (row_at rows t) ≡ true
 drained_from a k rows t cpus at agree lt same is =
     let had = agree.each t lt in
     let d = is.drained in

@@ -1,5 +1,6 @@
 -- The first part of a walk: each slot on the list is noted, and a link leads past none that has been live since.
-use Rattle.std.proofs.Common.{◌≡◌, ◌≢◌, ◌⊎◌, inl, inr, ⊎_elim, ℕ, zero, suc, ◌+◌, ◌-◌, ◌≤◌, ◌<◌, Bool, true, false, ◌&&◌, ◌==◌, List, [], ◌∷◌, ◌++◌, map, length, get_or, set, Option, Some, None, refl, sym, ap, ◌∙◌, subst, arith, length-append, true≢false, eqb, eqb-true}
+use Rattle.std.proofs.Common.{◌≡◌, ◌≢◌, ◌⊎◌, inl, inr, ⊎_elim, ℕ, zero, suc, ◌+◌, ◌-◌, ◌≤◌, ◌<◌, Bool, true, false, ◌&&◌, ◌==◌, List, [], ◌∷◌, ◌++◌, map, length, get_or, set, Option, Some, None, refl}
+use Rattle.std.proofs.Common.{sym, ap, ◌∙◌, subst, arith, length-append, true≢false, eqb, eqb-true}
 use Rattle.std.proofs.lemmas.List.{map-append, length-map, get_or-map, take_more_set}
 use Rattle.std.proofs.lemmas.List.Elements.{Contains-get_or, Contains-push, Contains-push_cases, Contains-append_left}
 use Rattle.std.proofs.lemmas.List.Quantifiers.{all_pairs_push}
@@ -16,7 +17,8 @@ use Rattle.registry_values.specs.Common.{are_words_of, kind_word}
 use Rattle.protocol.specs.Common.{StandsOn, loaded_at}
 use Rattle.protocol.proofs.history.History.{one_entry}
 use Rattle.cpu_words.specs.Common.{MayLoadLink, PassTells, SkipsNone, Descends, LinkHolds, every_word, HasLoadedLink, HasLoadedWord, HasFollowed, cpu_after_seek, cpu_after_link, search_for}
-use Rattle.passive_list.specs.Common.{Noted, search_at, IsUnderWay, MayVisit, cpu_with_search_at, after_visit, nobody, noted_of, AreStoodOn, HasNotedFrom, HasNoted, view_at_link, IsLiveSince, GoesOnAt, IsNoting, HasNotedSoFar}
+use Rattle.passive_list.specs.Common.{Noted, search_at, IsUnderWay, MayVisit, cpu_with_search_at, after_visit, nobody, noted_of, AreStoodOn, HasNotedFrom, HasNoted, view_at_link, IsLiveSince}
+use Rattle.passive_list.specs.Common.{GoesOnAt, IsNoting, HasNotedSoFar}
 use Rattle.passive_list.proofs.Walking.{prefix_trans, on_word, judged_at, may_follow}
 use Rattle.passive_list.proofs.Standing.{prefix_length, stands_later, live_before}
 
@@ -147,11 +149,13 @@ pub noted_there : (x y z : CpuView) (es : List Entry) (t : ℕ) (n : Noted) → 
 noted_there x y z es t n at had = had (length x.pass) (noting_on x y es t at) (tells_on x y es t at)
 
 -- the entry there is one more of those noted
-with_next : (x y : CpuView) (es : List Entry) (t : ℕ) (e : Entry) → IsNoting x es (suc t) y → StandsOn y.pass (length x.pass) (length y.pass) t e → AreStoodOn y.pass (length x.pass) x.settings.slots (es ++ e ∷ [])
+with_next : (x y : CpuView) (es : List Entry) (t : ℕ) (e : Entry) → IsNoting x es (suc t) y → StandsOn y.pass (length x.pass) (length y.pass) t e
+    → AreStoodOn y.pass (length x.pass) x.settings.slots (es ++ e ∷ [])
 with_next x y es t e at stands = record {
   stands = λ f there. ⊎_elim
       (λ (old : Contains es f). at.noted.stands f old)
-      (λ (same : e ≡ f). subst (λ (g : Entry). StandsOn y.pass (length x.pass) (length y.pass) g.slot g) same (subst (λ (u : ℕ). StandsOn y.pass (length x.pass) (length y.pass) u e) (sym stands.at) stands))
+      (λ (same : e ≡ f). subst (λ (g : Entry). StandsOn y.pass (length x.pass) (length y.pass) g.slot g) same
+      (subst (λ (u : ℕ). StandsOn y.pass (length x.pass) (length y.pass) u e) (sym stands.at) stands))
       (Contains-push_cases es e f there);
   slot = λ f there. ⊎_elim
       (λ (old : Contains es f). at.noted.slot f old)
@@ -169,14 +173,22 @@ room_for_next x y z es t n at had =
 -- its link was loaded
 view_after : (x y z w : CpuView) (t m : ℕ) → y ≡ view_at_link x (suc t) y.pass → z ≡ cpu_with_search_at y nobody (length x.pass) (AtNext t)
     → w ≡ cpu_after_link z (search_at nobody (length x.pass) (AtNext t)) m w.pass → w ≡ view_at_link x m w.pass
-view_after x y z w t zero is_y is_z is_w = is_w ∙ ap (λ (u : CpuView). record u { pass = w.pass; search = None; found = None }) (is_z ∙ ap (λ (u : CpuView). cpu_with_search_at u nobody (length x.pass) (AtNext t)) is_y)
+view_after x y z w t zero is_y is_z is_w =
+    is_w ∙ ap (λ (u : CpuView). record u { pass = w.pass; search = None; found = None }) (is_z ∙ ap (λ (u : CpuView). cpu_with_search_at u nobody (length x.pass) (AtNext t)) is_y)
 view_after x y z w t (suc u) is_y is_z is_w =
-    is_w ∙ ap (λ (v : CpuView). record v { pass = w.pass; search = Some (search_at nobody (length x.pass) (AtNumber u)) }) (is_z ∙ ap (λ (v : CpuView). cpu_with_search_at v nobody (length x.pass) (AtNext t)) is_y)
+    is_w ∙ ap (λ (v : CpuView). record v { pass = w.pass; search = Some (search_at nobody (length x.pass) (AtNumber u)) })
+    (is_z ∙ ap (λ (v : CpuView). cpu_with_search_at v nobody (length x.pass) (AtNext t)) is_y)
 
 pub notes_next : (x y z w : CpuView) (es : List Entry) (t m : ℕ) (n : Noted) → (at : IsNoting x es (suc t) y) → (had : HasNoted y t n z) → HasLoadedLink z m w
     → IsNoting x (es ++ (noted_there x y z es t n at had).entry ∷ []) m w
 notes_next x y z w es t m n at had loaded_link =
-    record { pass = pass; is = view_after x y z w t m at.is v.is followed.is; tells = tells; noted = noted_on; goes_on = goes_on m followed.holds (followed.next t e refl stands_z) (followed.descends t refl) }
+    record {
+      pass = pass;
+      is = view_after x y z w t m at.is v.is followed.is;
+      tells = tells;
+      noted = noted_on;
+      goes_on = goes_on m followed.holds (followed.next t e refl stands_z) (followed.descends t refl);
+    }
   where
     from : ℕ
     from = length x.pass
@@ -262,7 +274,8 @@ one_more_noted x y z w row count t m n lt so_far had loaded_link =
     let v = noted_there x y z so_far.entries t n so_far.noting had in
     record {
       entries = so_far.entries ++ v.entry ∷ [];
-      are = take_more_set row count n lt ∙ ap (λ l. l ++ n ∷ []) so_far.are ∙ ap (λ (k : Noted). map noted_of so_far.entries ++ k ∷ []) v.noted ∙ sym (map-append noted_of so_far.entries (v.entry ∷ []));
+      are = take_more_set row count n lt ∙ ap (λ l. l ++ n ∷ []) so_far.are ∙ ap (λ (k : Noted). map noted_of so_far.entries ++ k ∷ []) v.noted
+          ∙ sym (map-append noted_of so_far.entries (v.entry ∷ []));
       size = length-append so_far.entries (v.entry ∷ []) ∙ ap (λ k. k + 1) so_far.size;
       noting = notes_next x y z w so_far.entries t m n so_far.noting had loaded_link;
     }

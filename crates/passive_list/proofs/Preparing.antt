@@ -26,7 +26,8 @@ row_may k l t r may at = subst (λ (x : KeeperView). MayWrite x t) (sym at) reco
 
 -- one word more
 pub row_next : (k l m : KeeperView) (t j v : ℕ) (r : RecordWords) → l ≡ with_row k t r → HasRecordWord l t j v m → m ≡ with_row k t (with_word r j v)
-row_next k l m t j v r at is = is ∙ (ap (λ (x : KeeperView). record x { rows = set x.rows t (with_word (row_at x.rows t) j v) }) at ∙ ap (λ (rows : List RecordWords). record k { rows = rows }) (row_again k.rows t r j v))
+row_next k l m t j v r at is =
+    is ∙ (ap (λ (x : KeeperView). record x { rows = set x.rows t (with_word (row_at x.rows t) j v) }) at ∙ ap (λ (rows : List RecordWords). record k { rows = rows }) (row_again k.rows t r j v))
 
 -- The count words
 
@@ -50,7 +51,8 @@ counts_next k l m t c sized low few at is =
     let size = sized.counts in
     let within : t < length k.counts = omega (arith, size, low) in
     let long = sized.count_rows t within in
-    is ∙ (ap (λ (x : KeeperView). record x { counts = with_cell x.counts t c bias }) at ∙ ap (λ (counts : List (List ℕ)). record k { counts = counts }) (counts_set k t c within (omega (arith, long, few))))
+    is ∙ (ap (λ (x : KeeperView). record x { counts = with_cell x.counts t c bias }) at
+    ∙ ap (λ (counts : List (List ℕ)). record k { counts = counts }) (counts_set k t c within (omega (arith, long, few))))
 
 pub counts_may : (k l : KeeperView) (t c : ℕ) → MayWrite k t → l ≡ with_counts k t c → MayWrite l t
 counts_may k l t c may at = subst (λ (x : KeeperView). MayWrite x t) (sym at) record { rest = may.rest; slot = may.slot; vacant = may.vacant }
@@ -90,9 +92,11 @@ pub row_settings : (k l : KeeperView) (t : ℕ) (r : RecordWords) → l ≡ with
 row_settings k l t r at = ap (λ (x : KeeperView). x.settings) at
 
 pub sized_after : (k l : KeeperView) (t : ℕ) (r : RecordWords) → AreSized k.settings.slots k → l ≡ with_row k t r → AreSized l.settings.slots l
-sized_after k l t r had at = subst (λ (n : ℕ). AreSized n l) (sym (ap (λ (z : Settings). z.slots) (row_settings k l t r at))) (subst (AreSized k.settings.slots) (sym at) (row_sized k.settings.slots k t r had))
+sized_after k l t r had at =
+    subst (λ (n : ℕ). AreSized n l) (sym (ap (λ (z : Settings). z.slots) (row_settings k l t r at))) (subst (AreSized k.settings.slots) (sym at) (row_sized k.settings.slots k t r had))
 
-pub prepared_from : (k l m o : KeeperView) (e : Entry) (cpus v : ℕ) → cpus ≡ k.settings.cpus → l ≡ with_row k e.slot (words_of e) → m ≡ with_counts l e.slot cpus → HasLink m e.slot v o → o ≡ keeper_after_stores k e v
+pub prepared_from : (k l m o : KeeperView) (e : Entry) (cpus v : ℕ) → cpus ≡ k.settings.cpus → l ≡ with_row k e.slot (words_of e) → m ≡ with_counts l e.slot cpus → HasLink m e.slot v o
+    → o ≡ keeper_after_stores k e v
 prepared_from k l m o e cpus v same row counts link =
     let t = e.slot in
     let w = with_counts (with_row k t (words_of e)) t k.settings.cpus in

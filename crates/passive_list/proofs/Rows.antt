@@ -84,7 +84,8 @@ not_vacant_within a k rows t agree some = ⊎_elim
     (cases_lt t a.slots)
 
 -- and what its row says is what the view says
-pub taken_in : (a : Settings) (k : KeeperView) (rows : List KeptSlot) (t : ℕ) (x : Slot) → RowsAgree a k rows → slot_at (states_of rows) t ≡ x → (x ≡ Vacant → ⊥) → (t < a.slots) × (slot_at k.slots t ≡ x)
+pub taken_in : (a : Settings) (k : KeeperView) (rows : List KeptSlot) (t : ℕ) (x : Slot) → RowsAgree a k rows → slot_at (states_of rows) t ≡ x → (x ≡ Vacant → ⊥)
+    → (t < a.slots) × (slot_at k.slots t ≡ x)
 taken_in a k rows t x agree is some =
     let lt = not_vacant_within a k rows t agree (λ v. some (sym is ∙ v)) in
     (lt, (agree.each t lt).state ∙ (sym (state_at rows t) ∙ is))
@@ -98,7 +99,8 @@ slots_agree a k rows t view agree = ⊎_elim
     none ∙ sym (state_at rows t ∙ agree.beyond t past))
     (cases_lt t a.slots)
 
-pub retired_in : (a : Settings) (k : KeeperView) (rows : List KeptSlot) (t : ℕ) (e : Entry) → RowsAgree a k rows → slot_at (states_of rows) t ≡ Retired e → (t < a.slots) × (slot_at k.slots t ≡ Retired e)
+pub retired_in : (a : Settings) (k : KeeperView) (rows : List KeptSlot) (t : ℕ) (e : Entry) → RowsAgree a k rows → slot_at (states_of rows) t ≡ Retired e
+    → (t < a.slots) × (slot_at k.slots t ≡ Retired e)
 retired_in a k rows t e agree is = taken_in a k rows t (Retired e) agree is (λ v. cc)
 
 pub live_in : (a : Settings) (k : KeeperView) (rows : List KeptSlot) (t : ℕ) (e : Entry) → RowsAgree a k rows → slot_at (states_of rows) t ≡ Live e → (t < a.slots) × (slot_at k.slots t ≡ Live e)
@@ -116,7 +118,8 @@ row_stays k l t r slot marks total keeps had = record {
 }
 
 -- one row changes with its slot, and the others stay
-pub rows_set : (a : Settings) (k l : KeeperView) (rows : List KeptSlot) (t : ℕ) (r : KeptSlot) → t < a.slots → t < MOST_SLOTS → RowsAgree a k rows → RowAgrees l t r → ((u : ℕ) → u ≢ t → RowAgrees k u (row_at rows u) → RowAgrees l u (row_at rows u))
+pub rows_set : (a : Settings) (k l : KeeperView) (rows : List KeptSlot) (t : ℕ) (r : KeptSlot) → t < a.slots → t < MOST_SLOTS → RowsAgree a k rows → RowAgrees l t r
+    → ((u : ℕ) → u ≢ t → RowAgrees k u (row_at rows u) → RowAgrees l u (row_at rows u))
     → RowsAgree a l (set rows t r)
 rows_set a k l rows t r lt place agree here others = record {
   size = length-set rows t r ∙ agree.size;
@@ -131,7 +134,8 @@ rows_set a k l rows t r lt place agree here others = record {
 }
 
 -- The keeper as contracts see it: it has the rows that are in it
-pub has_rows : {table : TableId} {log : List LogItem} (a : Settings) (k : KeeperView) (rows : List KeptSlot) (n : ℕ) (x : OnPlainKeeper) → IsOurKeeper a k rows n → on_keeper table a k rows log ≡ x → HasRows x rows
+pub has_rows : {table : TableId} {log : List LogItem} (a : Settings) (k : KeeperView) (rows : List KeptSlot) (n : ℕ) (x : OnPlainKeeper) → IsOurKeeper a k rows n → on_keeper table a k rows log ≡ x
+    → HasRows x rows
 has_rows a k rows n x our is = subst (λ (y : OnPlainKeeper). HasRows y rows) is record { are = refl; agree = subst (IsOurKeeper a k rows) our.changes our }
 
 -- A keeper's value, or a CPU's: what is so of it is so of its parts

@@ -28,20 +28,24 @@ pub so_many : (c m n : ℕ) (old new : List LogItem) → m ≡ n → GoesOnByLoa
 so_many c m n old new same goes = subst (λ (k : ℕ). GoesOnByLoads c k old new) same goes
 
 -- four words of a slot
-pub four_loaded : (c : ℕ) (r s t u : Reply) (l0 l1 l2 l3 l4 : List LogItem) → l1 ≡ l0 ++ did (LoadRecord (OfSearch c)) r → l2 ≡ l1 ++ did (LoadRecord (OfSearch c)) s → l3 ≡ l2 ++ did (LoadRecord (OfSearch c)) t → l4 ≡ l3 ++ did (LoadRecord (OfSearch c)) u
+pub four_loaded : (c : ℕ) (r s t u : Reply) (l0 l1 l2 l3 l4 : List LogItem) → l1 ≡ l0 ++ did (LoadRecord (OfSearch c)) r → l2 ≡ l1 ++ did (LoadRecord (OfSearch c)) s
+    → l3 ≡ l2 ++ did (LoadRecord (OfSearch c)) t → l4 ≡ l3 ++ did (LoadRecord (OfSearch c)) u
     → GoesOnByLoads c 4 l0 l4
 four_loaded c r s t u l0 l1 l2 l3 l4 first second third fourth =
     so_many c (1 + (1 + (1 + 1))) 4 l0 l4 refl
-    (more_loads c 1 (1 + (1 + 1)) l0 l1 l4 (word_loaded c r l0 l1 first) (more_loads c 1 (1 + 1) l1 l2 l4 (word_loaded c s l1 l2 second) (more_loads c 1 1 l2 l3 l4 (word_loaded c t l2 l3 third) (word_loaded c u l3 l4 fourth))))
+    (more_loads c 1 (1 + (1 + 1)) l0 l1 l4 (word_loaded c r l0 l1 first)
+    (more_loads c 1 (1 + 1) l1 l2 l4 (word_loaded c s l1 l2 second) (more_loads c 1 1 l2 l3 l4 (word_loaded c t l2 l3 third) (word_loaded c u l3 l4 fourth))))
 
 -- the search begins
-pub search_begun : (c : ℕ) (kind : Kind) (name : Name) (reply : Reply) (old new : List LogItem) → new ≡ old ++ (did (Seek c kind name) Done ++ did (LoadLink c) reply) → HasSearchedFor c (key_with kind name) 0 old new
+pub search_begun : (c : ℕ) (kind : Kind) (name : Name) (reply : Reply) (old new : List LogItem) → new ≡ old ++ (did (Seek c kind name) Done ++ did (LoadLink c) reply)
+    → HasSearchedFor c (key_with kind name) 0 old new
 search_begun c kind name reply old new is =
     so_many c 1 (1 + 5 * 0) (old ++ did (Seek c kind name) Done) new refl
     (link_loaded c reply (old ++ did (Seek c kind name) Done) new (rw append_assoc is))
 
 -- one entry more was visited
-pub one_visited : (c : ℕ) (key : Key) (n : ℕ) (old before between new : List LogItem) → HasSearchedFor c key n old before → GoesOnByLoads c 4 before between → GoesOnByLoads c 1 between new → HasSearchedFor c key (n + 1) old new
+pub one_visited : (c : ℕ) (key : Key) (n : ℕ) (old before between new : List LogItem) → HasSearchedFor c key n old before → GoesOnByLoads c 4 before between → GoesOnByLoads c 1 between new
+    → HasSearchedFor c key (n + 1) old new
 one_visited c key n old before between new so_far four last =
     so_many c (1 + 5 * n + (4 + 1)) (1 + 5 * (n + 1)) (old ++ did (Seek c key.kind key.name) Done) new (let same : 1 + 5 * n + (4 + 1) ≡ 1 + 5 * (n + 1) = omega arith in same)
     (more_loads c (1 + 5 * n) (4 + 1) (old ++ did (Seek c key.kind key.name) Done) before new so_far (more_loads c 4 1 before between new four last))
@@ -79,7 +83,8 @@ pub none_looked_up : (c slots : ℕ) (log : List LogItem) → LooksUpEach c slot
 none_looked_up c slots log = record { lookups = []; keys = refl; log = refl; found = λ e there. absurd (omega (arith, there.1)) }
 
 -- e was looked up too, and what was found is written at the end of the row
-pub one_more_looked_up : (c slots : ℕ) (es row more : List Entry) (e : Entry) (found : Option Entry) (old between new : List LogItem) → LooksUpEach c slots es row old between → SearchesOnce c slots (key_of e) found between new
+pub one_more_looked_up : (c slots : ℕ) (es row more : List Entry) (e : Entry) (found : Option Entry) (old between new : List LogItem) → LooksUpEach c slots es row old between
+    → SearchesOnce c slots (key_of e) found between new
     → ((f : Entry) → Contains more f → (f ≡ e) × (found ≡ Some f)) → LooksUpEach c slots (es ++ e ∷ []) (row ++ more) old new
 one_more_looked_up c slots es row more e found old between new so_far once written = record {
   lookups = so_far.lookups ++ now ∷ [];
@@ -87,7 +92,10 @@ one_more_looked_up c slots es row more e found old between new so_far once writt
   log = one_more_search c slots so_far.lookups now old between new so_far.log once;
   found = λ f there. ⊎_elim
       (λ (in_ : Contains row f). (Contains-append_left es (e ∷ []) f (so_far.found f in_).0, Contains-append_left so_far.lookups (now ∷ []) (found_by_name f) (so_far.found f in_).1))
-      (λ (in_ : Contains more f). (subst (Contains (es ++ e ∷ [])) (sym (written f in_).0) (Contains-push es e), subst (Contains (so_far.lookups ++ now ∷ [])) (same f (written f in_).0 (written f in_).1) (Contains-push so_far.lookups now)))
+      (λ (in_ : Contains more f). (
+        subst (Contains (es ++ e ∷ [])) (sym (written f in_).0) (Contains-push es e),
+        subst (Contains (so_far.lookups ++ now ∷ [])) (same f (written f in_).0 (written f in_).1) (Contains-push so_far.lookups now),
+      ))
       (Contains-append_cases row more f there);
 }
   where

@@ -47,11 +47,13 @@ less k t given_up = record k { totals = set k.totals t (total_at k.totals t - 1)
 abbrev pub row_less : KeptSlot → KeptSlot
 row_less r = row_with_total r r.marks (r.total - 1)
 
-pub less_is : (k : KeeperView) (rows : List KeptSlot) (t : ℕ) (given_up : List ℕ) → k.due ≡ Rest → HeldRow k rows t → less k t given_up ≡ with_total k t (row_at rows t).marks ((row_at rows t).total - 1) given_up
+pub less_is : (k : KeeperView) (rows : List KeptSlot) (t : ℕ) (given_up : List ℕ) → k.due ≡ Rest → HeldRow k rows t
+    → less k t given_up ≡ with_total k t (row_at rows t).marks ((row_at rows t).total - 1) given_up
 less_is k rows t given_up rest row =
     let marks : k.marks ≡ set k.marks t (row_at rows t).marks = sym (set-get_or k.marks t []) ∙ ap (set k.marks t) (sym row.agrees.marks) in
     λ i. record k { marks = marks i; totals = set k.totals t (sym row.agrees.total i - 1); due = rest i; given_up = given_up }
 
-pub less_rows : (a : Settings) (k : KeeperView) (rows : List KeptSlot) (t : ℕ) (given_up : List ℕ) → IsAtRest a k → RowsAgree a k rows → HeldRow k rows t → RowsAgree a (less k t given_up) (set rows t (row_less (row_at rows t)))
+pub less_rows : (a : Settings) (k : KeeperView) (rows : List KeptSlot) (t : ℕ) (given_up : List ℕ) → IsAtRest a k → RowsAgree a k rows → HeldRow k rows t
+    → RowsAgree a (less k t given_up) (set rows t (row_less (row_at rows t)))
 less_rows a k rows t given_up at agree row = subst (λ (x : KeeperView). RowsAgree a x (set rows t (row_less (row_at rows t)))) (sym (less_is k rows t given_up at.rest row))
     (with_total_rows a k rows t (row_at rows t).marks ((row_at rows t).total - 1) given_up at agree row.some)

@@ -26,7 +26,8 @@ taking_first k t cpus fresh due some =
 pub none_taken : AreSnapshots 0 (replicate MOST_CPUS no_mark)
 none_taken = record { size = length-replicate MOST_CPUS no_mark; each = λ c lt. absurd (omega (arith, lt)) }
 
-pub taking_next : (k l m : KeeperView) (t cpus c w : ℕ) (marks : List Mark) → AreFresh k t → cpus ≡ k.settings.cpus → l ≡ taking k t cpus c marks → HasSnapshot l t c w m → m ≡ taking k t cpus (c + 1) (set marks c (snapshot_mark w))
+pub taking_next : (k l m : KeeperView) (t cpus c w : ℕ) (marks : List Mark) → AreFresh k t → cpus ≡ k.settings.cpus → l ≡ taking k t cpus c marks → HasSnapshot l t c w m
+    → m ≡ taking k t cpus (c + 1) (set marks c (snapshot_mark w))
 taking_next k l m t cpus c w marks fresh same at is =
     let x = snapshot_mark w in
     let here : with_cell (set k.marks t marks) t c x ≡ set k.marks t (set marks c x) =

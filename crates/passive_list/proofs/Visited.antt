@@ -29,7 +29,8 @@ gone_by_none x last p = record {
 }
 
 -- one more was visited, and the pass may have grown since
-one_more_gone_by : (key : Key) (x y z : CpuView) (t n last visited : ℕ) (b : Bool) (p : List Change) → IsOn key x t last y → HasVisited y key t n b z → IsPrefix y.pass p → HasGoneBy x visited last y.pass → HasGoneBy x (visited + 1) n p
+one_more_gone_by : (key : Key) (x y z : CpuView) (t n last visited : ℕ) (b : Bool) (p : List Change) → IsOn key x t last y → HasVisited y key t n b z → IsPrefix y.pass p
+    → HasGoneBy x visited last y.pass → HasGoneBy x (visited + 1) n p
 one_more_gone_by key x y z t n last visited b p on had more so_far = record {
   entries = so_far.entries ++ e ∷ [];
   size = omega (arith, length-append so_far.entries (e ∷ []), so_far.size);
@@ -67,7 +68,8 @@ one_more_gone_by key x y z t n last visited b p on had more so_far = record {
     low = prefix_length x.pass y.pass on.pass
 
 -- its link was loaded
-pub gone_by_next : (key : Key) (x y z w : CpuView) (t n m last visited : ℕ) → IsOn key x t last y → HasVisited y key t n false z → HasLoadedLink z m w → HasGoneBy x visited last y.pass → HasGoneBy x (visited + 1) n w.pass
+pub gone_by_next : (key : Key) (x y z w : CpuView) (t n m last visited : ℕ) → IsOn key x t last y → HasVisited y key t n false z → HasLoadedLink z m w → HasGoneBy x visited last y.pass
+    → HasGoneBy x (visited + 1) n w.pass
 gone_by_next key x y z w t n m last visited on had loaded_link so_far =
     let v = had (length x.pass) (on_way key x y t last on) in
     let followed = loaded_link (search_at key (length x.pass) (AtNext t)) (ap (λ (u : CpuView). u.search) v.is) in

@@ -13,10 +13,12 @@ prefix_trans p q r a b = (a.0 ++ b.0, sym (append_assoc p a.0 b.0) ∙ ap (λ l.
 -- One load
 
 -- the search goes on at another place
-pub on_word : (x y : CpuView) (key : Key) (from : ℕ) (p q : SearchPlace) (n w : ℕ) → IsUnderWay x key from p → loaded_at (search_at key from p) p (every_word n) ≡ Some (On q w) → HasLoadedWord x n y → y ≡ cpu_with_search_at x key from q
+pub on_word : (x y : CpuView) (key : Key) (from : ℕ) (p q : SearchPlace) (n w : ℕ) → IsUnderWay x key from p → loaded_at (search_at key from p) p (every_word n) ≡ Some (On q w) → HasLoadedWord x n y
+    → y ≡ cpu_with_search_at x key from q
 on_word x y key from p q n w at on had = (had (search_at key from p) at).is ∙ ap (cpu_after_record_word x (search_at key from p)) on
 
-pub goes_on : (x y : CpuView) (key : Key) (from : ℕ) (p q : SearchPlace) (n w : ℕ) → IsUnderWay x key from p → loaded_at (search_at key from p) p (every_word n) ≡ Some (On q w) → HasLoadedWord x n y → IsUnderWay y key from q
+pub goes_on : (x y : CpuView) (key : Key) (from : ℕ) (p q : SearchPlace) (n w : ℕ) → IsUnderWay x key from p → loaded_at (search_at key from p) p (every_word n) ≡ Some (On q w) → HasLoadedWord x n y
+    → IsUnderWay y key from q
 goes_on x y key from p q n w at on had = ap (λ (v : CpuView). v.search) (on_word x y key from p q n w at on had)
 
 pub may_load : (x : CpuView) (key : Key) (from t k : ℕ) (p : SearchPlace) → IsUnderWay x key from p → IsAtWord p t k → MayLoadSearched x t k
@@ -97,7 +99,8 @@ left_slot : (key : Key) (x y z : CpuView) (t n last : ℕ) (b : Bool) → IsOn k
 left_slot key x y z t n last b on v = v.is ∙ ap (λ u. cpu_with_search_at u key (length x.pass) (after_visit t n b)) on.is
 
 -- the link of a slot was loaded
-followed_on : (key : Key) (x y z w : CpuView) (t n m last : ℕ) → IsOn key x t last y → HasVisitedFrom y key (length x.pass) t n false z → HasFollowed z (search_at key (length x.pass) (AtNext t)) m w → IsAtLink key x m n w
+followed_on : (key : Key) (x y z w : CpuView) (t n m last : ℕ) → IsOn key x t last y → HasVisitedFrom y key (length x.pass) t n false z → HasFollowed z (search_at key (length x.pass) (AtNext t)) m w
+    → IsAtLink key x m n w
 followed_on key x y z w t n zero last on v had =
     let left = left_slot key x y z t n last false on v in
     let pass : z.pass ≡ y.pass = ap (λ (u : CpuView). u.pass) left in

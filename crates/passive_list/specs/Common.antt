@@ -12,7 +12,8 @@ pub use Rattle.passive_list.specs.Links.{link_to, newer_of, older_of, place_of}
 pub use Rattle.passive_list.specs.Logs.{GoesOnBy, HasOwnLog}
 pub use Rattle.passive_list.specs.Lookups.{HasFound, HasFoundFromOutside}
 pub use Rattle.passive_list.specs.Notes.{HasHeardOn, HeardAndTold, WasShown, as_teller, cpu_after_tell, has_heard, has_told}
-pub use Rattle.passive_list.specs.Noting.{AreNoted, AreStoodOn, GoesOnAt, HasFoundAgain, HasGoneOver, HasNoted, HasNotedFrom, HasNotedSoFar, HaveBeenFound, HaveSearched, IsLiveSince, IsNoting, LooksUpAgain, WritesNext, noted_of, view_at_link}
+pub use Rattle.passive_list.specs.Noting.{AreNoted, AreStoodOn, GoesOnAt, HasFoundAgain, HasGoneOver, HasNoted, HasNotedFrom, HasNotedSoFar, HaveBeenFound, HaveSearched, IsLiveSince, IsNoting}
+pub use Rattle.passive_list.specs.Noting.{LooksUpAgain, WritesNext, noted_of, view_at_link}
 pub use Rattle.passive_list.specs.Publishing.{HasAttached, HasEntry, MayAttach, keeper_after_publish, keeper_after_stores, with_counts, with_row}
 pub use Rattle.passive_list.specs.Retiring.{AreFresh, AreSnapshots, HasDetached, with_snapshots}
 pub use Rattle.passive_list.specs.Searches.{GoesOnByLoads, HasGoneOverBy, HasSearchedFor, IsLoad, LooksUpEach, Lookup, SearchesEach, SearchesOnce, found_by_name, nobody}

@@ -12,7 +12,8 @@ pub record GoesOnBy (P : LogItem → Type 0) (old new : List LogItem) : Type 0 w
   pub are : new ≡ old ++ since
   pub only : All P since
 
--- The keeper is at rest. The history is as long as the log says, the marks, the slots and their entries, as the keeper has them, are in it, each retired entry was snapped on each CPU, and the words that were found grow
+-- The keeper is at rest. The history is as long as the log says, the marks, the slots and their entries, as the keeper has them, are in it, each retired entry was snapped on each CPU, and the words
+-- that were found grow
 pub record HasOwnLog (z : Settings) (a : OnKeeper) : Type 0 where
   pub settings : a.view.settings ≡ z
   pub rest : a.view.due ≡ Rest

@@ -15,7 +15,8 @@ pub record OnNote : Type 0 where
 abbrev pub as_teller : OnCpu → Teller
 as_teller a = teller_of a.view a.log
 
--- the pass is a longer prefix of the history, with what the note tells in it, and the known log goes on; nothing else changes but the pass noted beside the view, and the CPU's own log: how that goes on each call says
+-- the pass is a longer prefix of the history, with what the note tells in it, and the known log goes on; nothing else changes but the pass noted beside the view, and the CPU's own log: how that goes
+-- on each call says
 pub record HasHeardOn (note : List Change) (a b : OnCpu) : Type 0 where
   pub told : IsPrefix note b.view.pass
   pub pass : IsPrefix a.view.pass b.view.pass

@@ -32,7 +32,8 @@ is_of : (x : CpuView) (e : Entry) (t n : ℕ) → IsAt e t n → IsAttached x.pa
 is_of x e t n at attached = record { entry = e; attached = attached; slot = at.slot; number = at.number }
 
 -- one reference more
-pub added_passive : (x : CpuView) (ps : List NumberedCount) (e : Entry) (t n m : ℕ) → PassiveAgree x ps → IsAt e t n → IsAttached x.pass e → t < MOST_SLOTS → IsAloneAt x t n → m ≡ references_to n x.references
+pub added_passive : (x : CpuView) (ps : List NumberedCount) (e : Entry) (t n m : ℕ) → PassiveAgree x ps → IsAt e t n → IsAttached x.pass e → t < MOST_SLOTS → IsAloneAt x t n
+    → m ≡ references_to n x.references
     → PassiveAgree (record x { references = e ∷ x.references }) (set ps t (record { number = n; count = m + 1 }))
 added_passive x ps e t n m agree at attached few alone is = record { size = length-set ps t new ∙ agree.size; counts = counted; placed = placed; each = each }
   where
@@ -134,7 +135,8 @@ less_passive x ps e t n agree at among = record { size = length-set ps t new ∙
 
 -- a CPU with other references, and places that agree with them
 with_references : (z : TableId) (a : Settings) (t u : TableId) (x : CpuView) (c w d : ℕ) (o : Found) (ps qs ns : List NumberedCount) (references : List Entry)
-    → IsOurCpu z a t x c w d o ps ns → u ≡ t → IsShownCpu (record x { references = references }) → PassiveAgree (record x { references = references }) qs → IsOurCpu z a u (record x { references = references }) c w d o qs ns
+    → IsOurCpu z a t x c w d o ps ns → u ≡ t → IsShownCpu (record x { references = references }) → PassiveAgree (record x { references = references }) qs
+    → IsOurCpu z a u (record x { references = references }) c w d o qs ns
 with_references z a t u x c w d o ps qs ns references our same is_shown agree = record {
   table = same ∙ our.table;
   settings = our.settings;
@@ -155,11 +157,14 @@ pub added_agrees : (z : TableId) (a : Settings) (t u : TableId) (x y : CpuView) 
     → IsOurCpu z a t x c w d o ps ns → u ≡ t → IsShownCpu y → HasAdded x s n y → s < MOST_SLOTS → IsAloneAt x s n → m ≡ references_to n x.references
     → IsOurCpu z a u y c w d o (set ps s (record { number = n; count = m + 1 })) ns
 added_agrees z a t u x y c w d o ps ns s n m our same is_shown had few alone is = subst (λ (v : CpuView). IsOurCpu z a u v c w d o (set ps s (record { number = n; count = m + 1 })) ns) (sym had.3)
-    (with_references z a t u x c w d o ps (set ps s (record { number = n; count = m + 1 })) ns (had.0 ∷ x.references) our same (subst IsShownCpu had.3 is_shown) (added_passive x ps had.0 s n m our.passive had.1 had.2 few alone is))
+    (with_references z a t u x c w d o ps (set ps s (record { number = n; count = m + 1 })) ns (had.0 ∷ x.references) our same (subst IsShownCpu had.3 is_shown)
+    (added_passive x ps had.0 s n m our.passive had.1 had.2 few alone is))
 
 -- a reference was taken away
 pub less_agrees : (z : TableId) (a : Settings) (t u : TableId) (x y : CpuView) (c w d : ℕ) (o : Found) (ps ns : List NumberedCount) (e : Entry) (s n : ℕ)
     → IsOurCpu z a t x c w d o ps ns → u ≡ t → IsShownCpu y → IsAt e s n → Contains x.references e → HasSubtracted x n y
     → IsOurCpu z a u y c w d o (set ps s (record { number = (place_at ps s).number; count = (place_at ps s).count - 1 })) ns
-less_agrees z a t u x y c w d o ps ns e s n our same is_shown at among had = subst (λ (v : CpuView). IsOurCpu z a u v c w d o (set ps s (record { number = (place_at ps s).number; count = (place_at ps s).count - 1 })) ns) (sym had)
-    (with_references z a t u x c w d o ps (set ps s (record { number = (place_at ps s).number; count = (place_at ps s).count - 1 })) ns (without n x.references) our same (subst IsShownCpu had is_shown) (less_passive x ps e s n our.passive at among))
+less_agrees z a t u x y c w d o ps ns e s n our same is_shown at among had =
+    subst (λ (v : CpuView). IsOurCpu z a u v c w d o (set ps s (record { number = (place_at ps s).number; count = (place_at ps s).count - 1 })) ns) (sym had)
+    (with_references z a t u x c w d o ps (set ps s (record { number = (place_at ps s).number; count = (place_at ps s).count - 1 })) ns (without n x.references) our same
+    (subst IsShownCpu had is_shown) (less_passive x ps e s n our.passive at among))

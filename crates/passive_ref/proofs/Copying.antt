@@ -17,8 +17,10 @@ new_of n t e a b p attached number added =
     subst (λ (f : Entry). IsNew f a b p) one added.3
 
 -- of the last found entry, by what is kept of it
-pub acquired : (k : Found) (a b : OnCpu) (r : Result OnPsref Refusal) → IsFoundAs a.view k → Answers (why_full a.view k.number) (IsAdded k.slot k.number a b) r → Answers (why_not_acquired a.view a.view.found) (IsAcquired a b) r
-acquired k a b r kept answer = subst (λ (o : Option Entry). Answers (why_not_acquired a.view o) (IsAcquired a b) r) (sym kept.found) (subst (λ n. Answers (why_full a.view n) (IsAcquired a b) r) kept.number (with_answer r answer))
+pub acquired : (k : Found) (a b : OnCpu) (r : Result OnPsref Refusal) → IsFoundAs a.view k → Answers (why_full a.view k.number) (IsAdded k.slot k.number a b) r
+    → Answers (why_not_acquired a.view a.view.found) (IsAcquired a b) r
+acquired k a b r kept answer = subst (λ (o : Option Entry). Answers (why_not_acquired a.view o) (IsAcquired a b) r) (sym kept.found)
+    (subst (λ n. Answers (why_full a.view n) (IsAcquired a b) r) kept.number (with_answer r answer))
   where
     with_answer : (s : Result OnPsref Refusal) → Answers (why_full a.view k.number) (IsAdded k.slot k.number a b) s → Answers (why_full a.view k.number) (IsAcquired a b) s
     with_answer (Ok p) had = (had.0, (kept.entry, kept.found, new_of k.number k.slot kept.entry a b p kept.attached (sym kept.number) had.1))

@@ -77,11 +77,13 @@ none_here x ps n agree is = ⊎_elim
     (cases_Bool (nat_lt 0 (references_to n x.references)))
 
 -- an entry that the CPU found last or refers to is in the pass
-pub known_attached : (x : CpuView) (ps : List NumberedCount) (e : Entry) → PassiveAgree x ps → ((f : Entry) → x.found ≡ Some f → IsAttached x.pass f) → (x.found ≡ Some e) ⊎ Contains x.references e → IsAttached x.pass e
+pub known_attached : (x : CpuView) (ps : List NumberedCount) (e : Entry) → PassiveAgree x ps → ((f : Entry) → x.found ≡ Some f → IsAttached x.pass f) → (x.found ≡ Some e) ⊎ Contains x.references e
+    → IsAttached x.pass e
 known_attached x ps e agree seen known = ⊎_elim (λ (found : x.found ≡ Some e). seen e found) (λ (among : Contains x.references e). (agree.each e among).1) known
 
 -- where the place of an entry's slot is of another number, the CPU has no reference to that entry
-pub uncounted_here : (x : CpuView) (ps : List NumberedCount) (t n : ℕ) (e : Entry) → PassiveAgree x ps → IsAt e t n → IsAttached x.pass e → (place_at ps t).number ≢ n → references_to n x.references ≡ 0
+pub uncounted_here : (x : CpuView) (ps : List NumberedCount) (t n : ℕ) (e : Entry) → PassiveAgree x ps → IsAt e t n → IsAttached x.pass e → (place_at ps t).number ≢ n
+    → references_to n x.references ≡ 0
 uncounted_here x ps t n e agree at attached off = ⊎_elim
     (λ (some : nat_lt 0 (references_to n x.references) ≡ true).
     let one = some_of n x.references (ltb-true 0 (references_to n x.references) some) in

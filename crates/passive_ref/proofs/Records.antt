@@ -20,7 +20,8 @@ abbrev pub after_load : Entry → ℕ → OnCpu → OnCpu
 after_load e k a = record a { log = a.log ++ has_loaded a.view.id e k }
 
 -- the word m that was loaded by the number n is the entry's
-pub after_word : (a b : OnCpu) (e : Entry) (n k m : ℕ) → b ≡ record a { log = a.log ++ did (LoadRecord (Passive a.view.id n k)) (Word m) } → e.number ≡ n → m ≡ word (words_of e) k → b ≡ after_load e k a
+pub after_word : (a b : OnCpu) (e : Entry) (n k m : ℕ) → b ≡ record a { log = a.log ++ did (LoadRecord (Passive a.view.id n k)) (Word m) } → e.number ≡ n → m ≡ word (words_of e) k
+    → b ≡ after_load e k a
 after_word a b e n k m is number same = is ∙ (λ i. record a { log = a.log ++ did (LoadRecord (Passive a.view.id (sym number i) k)) (Word (same i)) })
 
 pub all_loaded : (a b0 b1 b2 b3 : OnCpu) (e : Entry) → b0 ≡ after_load e 1 a → b1 ≡ after_load e 2 b0 → b2 ≡ after_load e 3 b1 → b3 ≡ after_load e 4 b2 → HasLoaded e a b3

@@ -1,7 +1,9 @@
 -- The definitions of this crate that proofs and the crates above cite, and for its own proofs its types, passed on from one place. Declares nothing.
 pub use Rattle.protocol.specs.declared.event.Counted.{Counted}
 pub use Rattle.protocol.specs.declared.event.Event.{Event}
-pub use Rattle.protocol.specs.declared.event.Event.TheVariants.{Collect, CountAdd, CountDown, Enter, Exit, Hear, JoinKeeper, JoinRef, Keep, KeptSub, LoadLink, LoadRecord, Look, PassiveAdd, PassiveLook, PassiveSub, Publish, Seat, Seek, Snapshot, SplitBack, SplitRef, StoreNext, StoreSlot, Tell, TotalAdd, TotalSub, Unpublish, Vacate}
+pub use Rattle.protocol.specs.declared.event.Event.TheVariants.{Collect, CountAdd, CountDown, Enter, Exit, Hear, JoinKeeper, JoinRef, Keep, KeptSub, LoadLink, LoadRecord, Look, PassiveAdd}
+pub use Rattle.protocol.specs.declared.event.Event.TheVariants.{PassiveLook, PassiveSub, Publish, Seat, Seek, Snapshot, SplitBack, SplitRef, StoreNext, StoreSlot, Tell, TotalAdd, TotalSub, Unpublish}
+pub use Rattle.protocol.specs.declared.event.Event.TheVariants.{Vacate}
 pub use Rattle.protocol.specs.declared.event.RecordOf.{RecordOf}
 pub use Rattle.protocol.specs.declared.event.Reply.{Reply}
 pub use Rattle.protocol.specs.declared.event.Reply.TheVariants.{Collected, Done, Found, Missed, Ref, Word}
@@ -17,15 +19,31 @@ pub use Rattle.protocol.specs.declared.state.RecordWords.{RecordWords}
 pub use Rattle.protocol.specs.declared.state.Search.{Search}
 pub use Rattle.protocol.specs.declared.state.SearchPlace.{SearchPlace}
 pub use Rattle.protocol.specs.declared.state.SearchPlace.TheVariants.{AtHead, AtHigh, AtKind, AtLow, AtNext, AtNumber, AtValue}
-pub use Rattle.protocol.specs.Events.{Outcome, after_add, after_collect, after_collected, after_count, after_count_add, after_count_down, after_count_store, after_enter, after_exit, after_hand, after_join_keeper, after_keep, after_kept_sub, after_link_store, after_look, after_look_passive, after_publish, after_row_store, after_seat, after_seeing, after_seek, after_snapshot, after_split, after_sub, after_total, after_unpublish, after_vacate, are_unused, count_down, due_after, entry_if, entry_of, exchange, grows, guard, has_room, hear, id_if, is_bias, is_drainable, is_drained, is_driver_slot, is_free, is_idle, is_iface_slot, is_inside, is_number, is_outside, is_prepared, is_snapshot_due, keeps_rightly, kept_sub, kind_of, least_id, link_at, link_loaded, load_link, load_local, load_passive, load_record, load_searched, look, may_add, may_collect, may_count, may_enter, may_examine, may_exit, may_glance, may_join, may_join_keeper, may_keep, may_look_passive, may_publish, may_seat, may_seek, may_sub, may_vacate, may_write, number_standing, outcome_of, room_of, search_over, snapshot, snapshot_mark, some_outcome, split_back, split_ref, state_after, step, store_slot, tell, total_add, total_sub, unpublish, with_link_past, with_local, with_retired, with_search_at, with_some, with_word, word, words_of}
+pub use Rattle.protocol.specs.Events.{Outcome, after_add, after_collect, after_collected, after_count, after_count_add, after_count_down, after_count_store, after_enter, after_exit, after_hand}
+pub use Rattle.protocol.specs.Events.{after_join_keeper, after_keep, after_kept_sub, after_link_store, after_look, after_look_passive, after_publish, after_row_store, after_seat, after_seeing}
+pub use Rattle.protocol.specs.Events.{after_seek, after_snapshot, after_split, after_sub, after_total, after_unpublish, after_vacate, are_unused, count_down, due_after, entry_if, entry_of, exchange}
+pub use Rattle.protocol.specs.Events.{grows, guard, has_room, hear, id_if, is_bias, is_drainable, is_drained, is_driver_slot, is_free, is_idle, is_iface_slot, is_inside, is_number, is_outside}
+pub use Rattle.protocol.specs.Events.{is_prepared, is_snapshot_due, keeps_rightly, kept_sub, kind_of, least_id, link_at, link_loaded, load_link, load_local, load_passive, load_record, load_searched}
+pub use Rattle.protocol.specs.Events.{look, may_add, may_collect, may_count, may_enter, may_examine, may_exit, may_glance, may_join, may_join_keeper, may_keep, may_look_passive, may_publish, may_seat}
+pub use Rattle.protocol.specs.Events.{may_seek, may_sub, may_vacate, may_write, number_standing, outcome_of, room_of, search_over, snapshot, snapshot_mark, some_outcome, split_back, split_ref}
+pub use Rattle.protocol.specs.Events.{state_after, step, store_slot, tell, total_add, total_sub, unpublish, with_link_past, with_local, with_retired, with_search_at, with_some, with_word, word}
+pub use Rattle.protocol.specs.Events.{words_of}
 pub use Rattle.protocol.specs.History.{EndsAt, IsAttached, IsLawful, IsLegal, IsLiveAt, IsLookup, MayHold, after_change}
-pub use Rattle.protocol.specs.Invariant.{AllBelow, AreRows, Balances, CountsHold, DriversKept, DueHolds, FoundHold, HandHolds, HasShape, HeldStay, Holds, IsCounting, IsIn, IsSnapshotDue, Leads, LinksStay, ListShows, MarksHold, Occupies, PassiveShow, PlaceHolds, ReferencesHold, RowsShow, SearchHolds, SearchesHold, SeatsShow, SectionsShow, SlotsShow, SnapshotsStand, StandsOn, To_end, To_entry, addition_due_at, greatest_limit, held_at, in_hand, is_adding_at, itself, kept_of, one_if, one_if_used, standing_of, subtraction_due_at}
-pub use Rattle.protocol.specs.Laws.{AnswersLawfully, BalanceAtRest, BalancesAtRest, DriversOutlive, EndsByExit, EveryRunKeeps, GraceLaw, HasBegun, HasExit, HasMoved, Headline, InvariantSuffices, IsAllowed, IsAnswered, IsBalanced, IsLoadOf, IsSafe, LawfulAnswers, ObeysLaws, OutliveInterfaces, ReusesSafely, SafeReuse, after, after_event, answer_of, destroyed_slot, given_slot, held_of, occupant_of}
+pub use Rattle.protocol.specs.Invariant.{AllBelow, AreRows, Balances, CountsHold, DriversKept, DueHolds, FoundHold, HandHolds, HasShape, HeldStay, Holds, IsCounting, IsIn, IsSnapshotDue, Leads}
+pub use Rattle.protocol.specs.Invariant.{LinksStay, ListShows, MarksHold, Occupies, PassiveShow, PlaceHolds, ReferencesHold, RowsShow, SearchHolds, SearchesHold, SeatsShow, SectionsShow, SlotsShow}
+pub use Rattle.protocol.specs.Invariant.{SnapshotsStand, StandsOn, To_end, To_entry, addition_due_at, greatest_limit, held_at, in_hand, is_adding_at, itself, kept_of, one_if, one_if_used, standing_of}
+pub use Rattle.protocol.specs.Invariant.{subtraction_due_at}
+pub use Rattle.protocol.specs.Laws.{AnswersLawfully, BalanceAtRest, BalancesAtRest, DriversOutlive, EndsByExit, EveryRunKeeps, GraceLaw, HasBegun, HasExit, HasMoved, Headline, InvariantSuffices}
+pub use Rattle.protocol.specs.Laws.{IsAllowed, IsAnswered, IsBalanced, IsLoadOf, IsSafe, LawfulAnswers, ObeysLaws, OutliveInterfaces, ReusesSafely, SafeReuse, after, after_event, answer_of}
+pub use Rattle.protocol.specs.Laws.{destroyed_slot, given_slot, held_of, occupant_of}
 pub use Rattle.protocol.specs.Loaded.{SlotWithin, entry_with, loaded_at, loaded_of_name, row_of_place}
 pub use Rattle.protocol.specs.Marking.{AllClear, AllCollected, AllPassed, MarksGrow, SameElsewhere}
-pub use Rattle.protocol.specs.Model.{Acquires, Answers, Attaches, Copies, Counts, Detaches, Enters, Exits, Gives_up, Goes_on, IsDriverHere, IsModelRun, IsModelStep, IsUnheld, Lookup, Model, Releases, Seeks, Sees, Stays, Uncounts, Vacates, empty_model, put, with_locals, with_passive}
+pub use Rattle.protocol.specs.Model.{Acquires, Answers, Attaches, Copies, Counts, Detaches, Enters, Exits, Gives_up, Goes_on, IsDriverHere, IsModelRun, IsModelStep, IsUnheld, Lookup, Model, Releases}
+pub use Rattle.protocol.specs.Model.{Seeks, Sees, Stays, Uncounts, Vacates, empty_model, put, with_locals, with_passive}
 pub use Rattle.protocol.specs.Picture.{EveryRunIsModelRun, locals_of, lookup_of, number_in, passive_in, picture, subtractions_due}
-pub use Rattle.protocol.specs.Rows.{CollectRace, FrozenLink, Gives, all_three, attaches, detaches, done_replies, first, has_found, loads, search_begins, search_case, search_goes_on, try_replies, two_cpus, unlinked_case, wm0, wm1, wm2}
+pub use Rattle.protocol.specs.Rows.{CollectRace, FrozenLink, Gives, all_three, attaches, detaches, done_replies, first, has_found, loads, search_begins, search_case, search_goes_on, try_replies}
+pub use Rattle.protocol.specs.Rows.{two_cpus, unlinked_case, wm0, wm1, wm2}
 pub use Rattle.protocol.specs.Run.{Run, empty_run, run_of_events, run_with_event}
-pub use Rattle.protocol.specs.State.{State, at_rest, begin_at, cell, count_at, depth_at, found_at, hand_at, is_empty, kept_at, local_at, mark_at, no_words, opening, passive_at, row_at, search_at, section_at, seen_at, total_at, with_biases, with_cell}
+pub use Rattle.protocol.specs.State.{State, at_rest, begin_at, cell, count_at, depth_at, found_at, hand_at, is_empty, kept_at, local_at, mark_at, no_words, opening, passive_at, row_at, search_at}
+pub use Rattle.protocol.specs.State.{section_at, seen_at, total_at, with_biases, with_cell}
 pub use Rattle.protocol.specs.Taken.{Keeps, Steps, WantsMemory}

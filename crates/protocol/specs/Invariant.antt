@@ -77,14 +77,17 @@ HeldStay h slots begins = (c b : ℕ) (e : Entry) → slice_index_or begins c No
 
 -- frozen links: while an open section may hold an unlinked entry, its link leads to what was below it when it was unlinked
 abbrev pub LinksStay : List Change → List Slot → List ℕ → List (Option ℕ) → Type 0
-LinksStay h slots next begins = (t p c b : ℕ) (e : Entry) → slot_at slots t ≡ Retired e → EndsAt h e.number p → slice_index_or begins c None ≡ Some b → b < p → Leads h p e.number (slice_index_or next t 0)
+LinksStay h slots next begins =
+    (t p c b : ℕ) (e : Entry) → slot_at slots t ≡ Retired e → EndsAt h e.number p → slice_index_or begins c None ≡ Some b → b < p → Leads h p e.number (slice_index_or next t 0)
 
 -- grace: an open section of a CPU that has passed, or whose word differs from the snapshot, began at or after the end; words only grow, and a CPU that has passed is not in the section of its snapshot
 pub record MarksHold (h : List Change) (slots : List Slot) (marks : List (List Mark)) (section : List ℕ) (begins : List (Option ℕ)) : Type 0 where
   pub passed : (t p c b : ℕ) (e : Entry) → slot_at slots t ≡ Retired e → EndsAt h e.number p → slice_index_or begins c None ≡ Some b → (mark_at marks t c).passed ≡ true → p ≤ b
-  pub changed : (t p c b w : ℕ) (e : Entry) → slot_at slots t ≡ Retired e → EndsAt h e.number p → slice_index_or begins c None ≡ Some b → (mark_at marks t c).snapshot ≡ Some w → (slice_index_or section c 0 ≡ w → ⊥) → p ≤ b
+  pub changed : (t p c b w : ℕ) (e : Entry) → slot_at slots t ≡ Retired e → EndsAt h e.number p → slice_index_or begins c None ≡ Some b → (mark_at marks t c).snapshot ≡ Some w
+      → (slice_index_or section c 0 ≡ w → ⊥) → p ≤ b
   pub older : (t c w : ℕ) (e : Entry) → slot_at slots t ≡ Retired e → (mark_at marks t c).snapshot ≡ Some w → w ≤ slice_index_or section c 0
-  pub left : (t c b w : ℕ) (e : Entry) → slot_at slots t ≡ Retired e → slice_index_or begins c None ≡ Some b → (mark_at marks t c).passed ≡ true → (mark_at marks t c).snapshot ≡ Some w → slice_index_or section c 0 ≡ w → ⊥
+  pub left : (t c b w : ℕ) (e : Entry) → slot_at slots t ≡ Retired e → slice_index_or begins c None ≡ Some b → (mark_at marks t c).passed ≡ true → (mark_at marks t c).snapshot ≡ Some w
+      → slice_index_or section c 0 ≡ w → ⊥
 
 -- the snapshot of the CPU c for t is still to be taken
 abbrev pub IsSnapshotDue : Due → ℕ → ℕ → Type 0
@@ -214,13 +217,15 @@ abbrev pub IsCounting : List Slot → List (List Mark) → ℕ → ℕ → Type 
 IsCounting slots marks c t = (e : Entry) × ((slot_at slots t ≡ Live e) ⊎ ((slot_at slots t ≡ Retired e) × ((mark_at marks t c).collected ≡ false)))
 
 -- balance: of each occupied slot the local references held
-pub record CountsHold (z : Settings) (slots : List Slot) (marks : List (List Mark)) (counts nets : List (List ℕ)) (totals : List ℕ) (hands : List Hand) (keeps : List (Option ℕ)) (due : Due) (locals : List LocalPlace) : Type 0 where
+pub record CountsHold (z : Settings) (slots : List Slot) (marks : List (List Mark)) (counts nets : List (List ℕ)) (totals : List ℕ) (hands : List Hand) (keeps : List (Option ℕ)) (due : Due)
+    (locals : List LocalPlace) : Type 0 where
   pub counted : (c t : ℕ) → c < z.cpus → IsCounting slots marks c t → (count_at counts c t ≡ count_at nets c t) × (0 < count_at counts c t)
   pub used : (c t : ℕ) (e : Entry) → c < z.cpus → IsIn e (slot_at slots t) → 0 < count_at nets c t
   pub emptied : (c t : ℕ) (e : Entry) → slot_at slots t ≡ Retired e → (mark_at marks t c).collected ≡ true → count_at counts c t ≡ 0
   pub beyond : (c t : ℕ) → z.cpus ≤ c → count_at counts c t ≡ 0
   pub limited : (c t : ℕ) (e : Entry) → IsIn e (slot_at slots t) → count_at nets c t ≤ bias + z.count_limit
-  pub balance : (t : ℕ) (e : Entry) → IsIn e (slot_at slots t) → Balances (slice_index_or counts t []) (total_at totals t) (held_at locals hands keeps due e.number t) (addition_due_at t due) (is_adding_at t due)
+  pub balance : (t : ℕ) (e : Entry) → IsIn e (slot_at slots t)
+      → Balances (slice_index_or counts t []) (total_at totals t) (held_at locals hands keeps due e.number t) (addition_due_at t due) (is_adding_at t due)
   pub vacant : (t : ℕ) → t < length slots → slot_at slots t ≡ Vacant → total_at totals t ≡ bias
   pub fresh : (c t d : ℕ) → due ≡ Snapshots t d → (mark_at marks t c).collected ≡ false
 

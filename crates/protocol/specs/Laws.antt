@@ -195,7 +195,8 @@ pub record IsSafe (s : State) : Type 0 where
   -- which is what the caller had seen at its Seek
   pub begun : (event : Event) (c : ℕ) (q : Search) → search_at (after_event s event) c ≡ Some q → HasBegun s event c q
 
--- Over every list of events no slot is destroyed or given again while a read section that may have found it, a passive reference or a local reference holds it; whenever the keeper is at rest each slot's balance is exactly its local references held; and each lookup's answer is the registry's at some point of its one history, not before what the caller had seen.
+-- Over every list of events no slot is destroyed or given again while a read section that may have found it, a passive reference or a local reference holds it; whenever the keeper is at rest each
+-- slot's balance is exactly its local references held; and each lookup's answer is the registry's at some point of its one history, not before what the caller had seen.
 abbrev pub Headline : Type 0
 Headline = Always IsSafe
 

@@ -2,7 +2,8 @@
 use Rattle.std.specs.Prelude.{◌≡◌, ℕ, ◌-◌, List, ◌∷◌, [], ◌++◌, replicate, Option, Some, None}
 use Rattle.protocol.specs.Types.{Driver, Entry, Name, Settings, MOST_CPUS, Attach, Detach, Vacant, Live, Retired, Mark}
 use Rattle.protocol.specs.declared.event.Event.{Event}
-use Rattle.protocol.specs.declared.event.Event.TheVariants.{Seat, Enter, Exit, Seek, LoadLink, LoadRecord, StoreSlot, StoreNext, Publish, Unpublish, Tell, Hear, Snapshot, Look, PassiveLook, CountAdd, SplitRef, JoinRef, CountDown, SplitBack, Collect, TotalAdd, JoinKeeper, TotalSub, Vacate}
+use Rattle.protocol.specs.declared.event.Event.TheVariants.{Seat, Enter, Exit, Seek, LoadLink, LoadRecord, StoreSlot, StoreNext, Publish, Unpublish, Tell, Hear, Snapshot, Look, PassiveLook, CountAdd}
+use Rattle.protocol.specs.declared.event.Event.TheVariants.{SplitRef, JoinRef, CountDown, SplitBack, Collect, TotalAdd, JoinKeeper, TotalSub, Vacate}
 use Rattle.protocol.specs.declared.event.RecordOf.TheVariants.{Search as OfSearch}
 use Rattle.protocol.specs.declared.event.Reply.{Reply}
 use Rattle.protocol.specs.declared.event.Reply.TheVariants.{Done, Word, Found, Ref, Collected}
@@ -32,7 +33,8 @@ loads w = Some (Word w) ∷ []
 
 -- an attach of the entry e by c: its words, the count words of all CPUs, its link and the link to it, and a note
 abbrev pub attach_events : ℕ → Entry → ℕ → List Event → List Event
-attach_events c e link counts = StoreSlot e.slot 0 e.number ∷ StoreSlot e.slot 1 (kind_word e.rec.kind) ∷ StoreSlot e.slot 2 e.rec.name.high ∷ StoreSlot e.slot 3 e.rec.name.low ∷ StoreSlot e.slot 4 e.rec.value
+attach_events c e link counts =
+    StoreSlot e.slot 0 e.number ∷ StoreSlot e.slot 1 (kind_word e.rec.kind) ∷ StoreSlot e.slot 2 e.rec.name.high ∷ StoreSlot e.slot 3 e.rec.name.low ∷ StoreSlot e.slot 4 e.rec.value
     ∷ (counts ++ StoreNext e.slot link ∷ Publish e.slot ∷ Tell None ∷ Hear (Some c) ∷ [])
 
 -- the events lead from one state to the other, and these are their replies
@@ -106,7 +108,8 @@ all_three = record (opening two_cpus) {
 
 -- CPU 0 seeks wm0, goes past wm2 and has loaded two words of wm1
 abbrev pub search_begins : List Event
-search_begins = Enter 0 ∷ Seek 0 Driver wm0 ∷ LoadLink 0 ∷ LoadRecord (OfSearch 0) ∷ LoadRecord (OfSearch 0) ∷ LoadRecord (OfSearch 0) ∷ LoadRecord (OfSearch 0) ∷ LoadLink 0 ∷ LoadRecord (OfSearch 0) ∷ LoadRecord (OfSearch 0) ∷ []
+search_begins = Enter 0 ∷ Seek 0 Driver wm0 ∷ LoadLink 0 ∷ LoadRecord (OfSearch 0) ∷ LoadRecord (OfSearch 0) ∷ LoadRecord (OfSearch 0) ∷ LoadRecord (OfSearch 0) ∷ LoadLink 0 ∷ LoadRecord (OfSearch 0)
+    ∷ LoadRecord (OfSearch 0) ∷ []
 
 abbrev pub search_case : State
 search_case = record all_three {
@@ -136,7 +139,8 @@ unlinked_case = record search_case {
 
 -- the search goes on along it and finds wm0
 abbrev pub search_goes_on : List Event
-search_goes_on = LoadRecord (OfSearch 0) ∷ LoadRecord (OfSearch 0) ∷ LoadLink 0 ∷ LoadRecord (OfSearch 0) ∷ LoadRecord (OfSearch 0) ∷ LoadRecord (OfSearch 0) ∷ LoadRecord (OfSearch 0) ∷ LoadRecord (OfSearch 0) ∷ []
+search_goes_on = LoadRecord (OfSearch 0) ∷ LoadRecord (OfSearch 0) ∷ LoadLink 0 ∷ LoadRecord (OfSearch 0) ∷ LoadRecord (OfSearch 0) ∷ LoadRecord (OfSearch 0) ∷ LoadRecord (OfSearch 0)
+    ∷ LoadRecord (OfSearch 0) ∷ []
 
 abbrev pub has_found : State
 has_found = record unlinked_case { seen = 5 ∷ 5 ∷ []; searches = None ∷ None ∷ []; found = Some first ∷ None ∷ [] }
@@ -180,6 +184,8 @@ race_events = Look (Some 0) 0 ∷ PassiveLook 0 0 ∷ JoinRef 0 0 ∷ Collect 0 
 
 -- the row collect-race
 pub record CollectRace : Type 0 where
-  pub detached : replies (opening one_cpu) count_and_detach_events ≡ done_replies 13 ++ loads 1 ++ loads 1 ++ loads 2 ++ loads wm.high ++ loads 0 ++ Some (Found wm_entry) ∷ loads bias ++ Some (Ref 0) ∷ Some Done ∷ Some Done ∷ loads 2
-  pub race : replies before_race race_events ≡ Some (Word 2) ∷ Some (Word 0) ∷ Some Done ∷ Some (Word 281474976710657) ∷ Some Collected ∷ Some Done ∷ None ∷ Some (Ref 0) ∷ Some Done ∷ Some Done ∷ Some Done ∷ []
+  pub detached : replies (opening one_cpu) count_and_detach_events
+      ≡ done_replies 13 ++ loads 1 ++ loads 1 ++ loads 2 ++ loads wm.high ++ loads 0 ++ Some (Found wm_entry) ∷ loads bias ++ Some (Ref 0) ∷ Some Done ∷ Some Done ∷ loads 2
+  pub race : replies before_race race_events ≡ Some (Word 2) ∷ Some (Word 0) ∷ Some Done ∷ Some (Word 281474976710657) ∷ Some Collected ∷ Some Done ∷ None ∷ Some (Ref 0) ∷ Some Done ∷ Some Done
+      ∷ Some Done ∷ []
   pub counted : (run_of_events (empty_run before_race) race_events).counted ≡ record { taken = 10; refused = 1; last = Some Done }

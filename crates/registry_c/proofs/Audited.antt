@@ -1,5 +1,6 @@
 -- The audit: one CPU more, one slot more, and the whole.
-use Rattle.std.proofs.Common.{◌≡◌, ◌≢◌, inl, inr, ⊎_elim, ℕ, zero, suc, ◌+◌, ◌^◌, ◌<◌, ◌≤◌, ℤ, ◌+ℤ◌, pos, neg_ℤ, ◌≤ℤ◌, List, [], ◌∷◌, ◌++◌, length, get_or, map, replicate, take, drop, set, Option, Some, None, refl, sym, ap, ◌∙◌, subst, arith, add-one, length-append, length-set}
+use Rattle.std.proofs.Common.{◌≡◌, ◌≢◌, inl, inr, ⊎_elim, ℕ, zero, suc, ◌+◌, ◌^◌, ◌<◌, ◌≤◌, ℤ, ◌+ℤ◌, pos, neg_ℤ, ◌≤ℤ◌, List, [], ◌∷◌, ◌++◌, length, get_or, map, replicate, take, drop, set, Option}
+use Rattle.std.proofs.Common.{Some, None, refl, sym, ap, ◌∙◌, subst, arith, add-one, length-append, length-set}
 use Rattle.std.specs.List.{All}
 use Rattle.std.proofs.lemmas.Bool.{cases_lt}
 use Rattle.std.proofs.lemmas.Int.{ints}
@@ -58,7 +59,8 @@ none_local k t n cs = record {
   range = λ i. subst (λ (y : ℤ). (neg_ℤ (pos (2 ^ 50)) ≤ℤ y) × (y ≤ℤ pos (2 ^ 50))) (sym (same_all MOST_CPUS i (pos 0))) (omega (arith, ints), omega (arith, ints));
 }
 
-pub locals_more : (k : OnKeeper) (t n : ℕ) (cs : List (Option OnPlainCpu)) (c : ℕ) (locals : List ℤ) (b : OnPlainCpu) (z : ℤ) → c < MOST_CPUS → c < length cs → body_at cs c ≡ Some b → z ≡ local_met k t n b.cpu
+pub locals_more : (k : OnKeeper) (t n : ℕ) (cs : List (Option OnPlainCpu)) (c : ℕ) (locals : List ℤ) (b : OnPlainCpu) (z : ℤ) → c < MOST_CPUS → c < length cs → body_at cs c ≡ Some b
+    → z ≡ local_met k t n b.cpu
     → (neg_ℤ (pos (2 ^ 50)) ≤ℤ z) × (z ≤ℤ pos (2 ^ 50)) → AreLocals k t n cs c locals → AreLocals k t n cs (c + 1) (set locals c z)
 locals_more k t n cs c locals b z few within at is range so_far =
     let f = local_met k t n in
@@ -69,14 +71,17 @@ locals_more k t n cs c locals b z few within at is range so_far =
       value = take_more_set locals c z lt ∙ ((λ i. so_far.value i ++ here i ∷ []) ∙ sym (map_more f (cpus_in cs) c (cpu_in None) (omega (arith, within, length-map cs cpu_in))));
       cut = λ i past. get_or-set_other locals c i z (pos 0) (λ e. absurd (omega (arith, past, e))) ∙ so_far.cut i (omega (arith, past));
       range = λ i. dite (ℕ_discrete i c)
-          (λ (same : i ≡ c). subst (λ (y : ℤ). (neg_ℤ (pos (2 ^ 50)) ≤ℤ y) × (y ≤ℤ pos (2 ^ 50))) (sym (ap (λ j. get_or (set locals c z) j (pos 0)) same ∙ get_or-set_same locals c z (pos 0) lt)) range)
+          (λ (same : i ≡ c). subst (λ (y : ℤ). (neg_ℤ (pos (2 ^ 50)) ≤ℤ y) × (y ≤ℤ pos (2 ^ 50)))
+          (sym (ap (λ j. get_or (set locals c z) j (pos 0)) same ∙ get_or-set_same locals c z (pos 0) lt)) range)
           (λ (off : i ≢ c). subst (λ (y : ℤ). (neg_ℤ (pos (2 ^ 50)) ≤ℤ y) × (y ≤ℤ pos (2 ^ 50))) (sym (get_or-set_other locals c i z (pos 0) off)) (so_far.range i));
     }
 
 -- what is told of the entry, as its numbers say it
-pub tally_told : (k : OnKeeper) (xs : List OnCpu) (cpus n t s : ℕ) (held total : ℤ) (locals : List ℤ) → s ≡ t → take cpus locals ≡ locals_met k xs t n → total ≡ less_bias (total_at k.view.totals t) → held ≡ sum_of (take cpus locals) +ℤ total
+pub tally_told : (k : OnKeeper) (xs : List OnCpu) (cpus n t s : ℕ) (held total : ℤ) (locals : List ℤ) → s ≡ t → take cpus locals ≡ locals_met k xs t n → total ≡ less_bias (total_at k.view.totals t)
+    → held ≡ sum_of (take cpus locals) +ℤ total
     → tally_in cpus (record { number = n; slot = s; held = held; locals = locals; total = total }) ≡ tally_met k xs n t
-tally_told k xs cpus n t s held total locals place l d h = (λ i. record { number = n; slot = place i; held = held; locals = take cpus locals; total = total }) ∙ tally_is k xs n t held total (take cpus locals) l d h
+tally_told k xs cpus n t s held total locals place l d h =
+    (λ i. record { number = n; slot = place i; held = held; locals = take cpus locals; total = total }) ∙ tally_is k xs n t held total (take cpus locals) l d h
 
 -- How many entries there are
 
@@ -116,7 +121,8 @@ has_place k t slots e lt is =
 pub none_told : (z : Settings) (k : OnKeeper) (cs : List (Option OnPlainCpu)) (first list : List CBalance) → length list ≡ length first → list ≡ first → AreTold z k cs 0 0 first list
 none_told z k cs first list size same = record { place = refl; met = refl; cut = All-nil (IsCut z.cpus); rest = ap (drop 0) same; size = size }
 
-more_entry : (z : Settings) (k : OnKeeper) (cs : List (Option OnPlainCpu)) (t at at' : ℕ) (e : Entry) (first list new : List CBalance) → at < length list → IsIn e (slot_at k.slots t) → WritesNext z k cs t at list at' new → AreTold z k cs t at first list → AreTold z k cs (t + 1) at' first new
+more_entry : (z : Settings) (k : OnKeeper) (cs : List (Option OnPlainCpu)) (t at at' : ℕ) (e : Entry) (first list new : List CBalance) → at < length list → IsIn e (slot_at k.slots t)
+    → WritesNext z k cs t at list at' new → AreTold z k cs t at first list → AreTold z k cs (t + 1) at' first new
 more_entry z k cs t at at' e first list new lt is next told =
     let had = next.some e is in
     let b = had.1 in
@@ -127,11 +133,13 @@ more_entry z k cs t at at' e first list new lt is next told =
       met = ap (map (tally_in z.cpus)) more ∙ (map-append (tally_in z.cpus) (take at list) (b ∷ [])
           ∙ each_more (tally_met k (cpus_in cs)) k.slots t (slot_at k.slots t) e (map (tally_in z.cpus) (take at list)) (tally_in z.cpus b) refl is told.met had.3);
       cut = All-same (IsCut z.cpus) _ _ more (All-push (IsCut z.cpus) _ _ told.cut had.4);
-      rest = (λ i. drop (had.0 i) (had.2 i)) ∙ (drop-set-lt (at + 1) list at b (omega arith) ∙ (sym (drop-drop 1 at list) ∙ (ap (drop 1) told.rest ∙ (drop-drop 1 at first ∙ ap (λ n. drop n first) (sym had.0)))));
+      rest = (λ i. drop (had.0 i) (had.2 i)) ∙ (drop-set-lt (at + 1) list at b (omega arith)
+          ∙ (sym (drop-drop 1 at list) ∙ (ap (drop 1) told.rest ∙ (drop-drop 1 at first ∙ ap (λ n. drop n first) (sym had.0)))));
       size = ap length had.2 ∙ (length-set list at b ∙ told.size);
     }
 
-pub told_more : (z : Settings) (k : OnKeeper) (cs : List (Option OnPlainCpu)) (t at at' : ℕ) (first list new : List CBalance) → t < z.slots → occupied k z.slots ≤ length first → WritesNext z k cs t at list at' new → AreTold z k cs t at first list
+pub told_more : (z : Settings) (k : OnKeeper) (cs : List (Option OnPlainCpu)) (t at at' : ℕ) (first list new : List CBalance) → t < z.slots → occupied k z.slots ≤ length first
+    → WritesNext z k cs t at list at' new → AreTold z k cs t at first list
     → AreTold z k cs (t + 1) at' first new
 told_more z k cs t at at' first list new lt room next told = by (slot_at k.slots t) refl
   where
@@ -157,20 +165,23 @@ all_of : {X Y : Type 0} (f : X → Y) (P : Y → Type 0) (list : List X) → All
 all_of f P [] all = All-nil (λ x. P (f x))
 all_of f P (x ∷ list) all = All-cons (λ y. P (f y)) x list (All-head P (f x) (map f list) all) (all_of f P list (All-tail P (f x) (map f list) all))
 
-pub audit_told : (z : Settings) (k a : OnKeeper) (ys : List OnCpu) (cs ds : List (Option OnPlainCpu)) (first list : List CBalance) → IsKeeperOf z a → AreAllHere z.cpus ds → AreAlike a (cpus_in ds) ys → HasListened a k → HaveHeard ds cs
+pub audit_told : (z : Settings) (k a : OnKeeper) (ys : List OnCpu) (cs ds : List (Option OnPlainCpu)) (first list : List CBalance) → IsKeeperOf z a → AreAllHere z.cpus ds → AreAlike a (cpus_in ds) ys
+    → HasListened a k → HaveHeard ds cs
     → AreTold z k cs z.slots (occupied k z.slots) first list → AuditWrites z a ds first list
 audit_told z k a ys cs ds first list known here alike heard have told =
     let xs = cpus_in ds in
     let all = all_cpus z.cpus ds here in
     let place : occupied k z.slots ≡ occupied a z.slots = ap (λ (b : OnKeeper). occupied b z.slots) heard.is.1 in
-    let met : map (tally_in z.cpus) (take (occupied a z.slots) list) ≡ tallies_met a xs z.slots = ap (λ n. map (tally_in z.cpus) (take n list)) (sym place) ∙ (told.met ∙ tallies_learned a k xs (cpus_in cs) z.slots heard have.learned) in
+    let met : map (tally_in z.cpus) (take (occupied a z.slots) list) ≡ tallies_met a xs z.slots =
+    ap (λ n. map (tally_in z.cpus) (take n list)) (sym place) ∙ (told.met ∙ tallies_learned a k xs (cpus_in cs) z.slots heard have.learned) in
     record {
       told = record {
         keeper = known;
         met = met;
         answer = met ∙ each_same (tally_met a xs) (tally_of a xs) a.slots z.slots (λ u e there. alike_tally z a xs ys known all alike u e there);
         tally = all_of (tally_in z.cpus) (IsTallied a xs) (take (occupied a z.slots) list) (subst (All (IsTallied a xs)) (sym met)
-            (each_all (IsTallied a xs) (tally_met a xs) a.slots z.slots (λ u e there. ap (λ (y : Tally). y.held) (alike_tally z a xs ys known all alike u e there) ∙ alike_held z a xs ys known all alike u e there)));
+            (each_all (IsTallied a xs) (tally_met a xs) a.slots z.slots
+            (λ u e there. ap (λ (y : Tally). y.held) (alike_tally z a xs ys known all alike u e there) ∙ alike_held z a xs ys known all alike u e there)));
         cut = subst (λ n. All (IsCut z.cpus) (take n list)) place told.cut;
       };
       rest = ap (λ n. drop n list) (sym place) ∙ (told.rest ∙ ap (λ n. drop n first) place);

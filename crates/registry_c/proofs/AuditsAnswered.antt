@@ -33,7 +33,8 @@ module _ (z : Settings) (k : OnKeeper) (cs : List (Option OnPlainCpu)) (old new 
   }
 
 -- at null there is no list, and what is asked for has no length
-pub without_list : (a b : OnPlainKeeper) (n : ℕ) (cs cs' : List (Option OnPlainCpu)) (room : ℕ) (list list' : Option (List CBalance)) (new : List CBalance) (count count' : Option ℕ) → is_nothing list ≡ true → list' ≡ list → room ≡ 0 → length new ≡ 0
+pub without_list : (a b : OnPlainKeeper) (n : ℕ) (cs cs' : List (Option OnPlainCpu)) (room : ℕ) (list list' : Option (List CBalance)) (new : List CBalance) (count count' : Option ℕ)
+    → is_nothing list ≡ true → list' ≡ list → room ≡ 0 → length new ≡ 0
     → AuditsBodies a b cs cs' n [] new count count' → AuditsList a b n cs cs' room list list' count count'
 without_list a b n cs cs' room (Some l) list' new count count' null same none size made = absurd (false≢true null)
 without_list a b n cs cs' room None list' (x ∷ new) count count' null same none size made = absurd (omega (arith, size))

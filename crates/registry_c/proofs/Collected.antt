@@ -44,7 +44,8 @@ some_of : (k : OnKeeper) (t n : ℕ) → some_collected k t n ≡ true → (c : 
 some_of k t zero is = absurd (false≢true is)
 some_of k t (suc n) is = by (λ before. some_of k t n before) (some_collected k t n) refl (mark_at k.view.marks t n).collected refl
   where
-    by : (some_collected k t n ≡ true → (c : ℕ) × ((mark_at k.view.marks t c).collected ≡ true)) → (a : Bool) → some_collected k t n ≡ a → (b : Bool) → (mark_at k.view.marks t n).collected ≡ b → (c : ℕ) × ((mark_at k.view.marks t c).collected ≡ true)
+    by : (some_collected k t n ≡ true → (c : ℕ) × ((mark_at k.view.marks t c).collected ≡ true)) → (a : Bool) → some_collected k t n ≡ a → (b : Bool) → (mark_at k.view.marks t n).collected ≡ b
+        → (c : ℕ) × ((mark_at k.view.marks t c).collected ≡ true)
     by rest true before b at = rest before
     by rest false before true at = (n, at)
     by rest false before false at = absurd (false≢true (sym (λ i. before i || at i) ∙ is))

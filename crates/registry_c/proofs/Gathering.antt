@@ -38,7 +38,8 @@ body_set (g ∷ hs) (suc c) h lt = body_set hs c h (omega (arith, lt))
 abbrev pub PassesAt : CpuHandle → CpuHandle → List Change → List LogItem → TableId → List LogItem → Type 0
 PassesAt h after note known_log table told = (b : OnPlainCpu) → h.body ≡ Some b → PassesOn b after.body note known_log table told
 
-pub behind_more : (cs : List (Option OnPlainCpu)) (hs : List CpuHandle) (n : ℕ) (d h : CpuHandle) (note : List Change) (known_log : List LogItem) (table : TableId) (told : List LogItem) → n < length hs → PassesAt (get_or hs n d) h note known_log table told
+pub behind_more : (cs : List (Option OnPlainCpu)) (hs : List CpuHandle) (n : ℕ) (d h : CpuHandle) (note : List Change) (known_log : List LogItem) (table : TableId) (told : List LogItem)
+    → n < length hs → PassesAt (get_or hs n d) h note known_log table told
     → SameBehind cs (bodies_of hs) → SameBehind cs (bodies_of (set hs n h))
 behind_more cs hs n d h note known_log table told lt passes same c b at = ⊎_elim
     (λ (here : c ≡ n).
@@ -50,8 +51,10 @@ behind_more cs hs n d h note known_log table told lt passes same c b at = ⊎_el
     (was.0, others_stay hs n c h off ∙ was.1, was.2))
     (cases_eq c n)
 
-pub gathered_next : (cs : List (Option OnPlainCpu)) (hs : List CpuHandle) (n : ℕ) (log : List LogItem) (d h : CpuHandle) (b : OnPlainCpu) (note : List Change) (known_log : List LogItem) (table : TableId) (told : List LogItem) → n < length hs → body_at cs n ≡ Some b
-    → PassesAt (get_or hs n d) h note known_log table told → SameBehind cs (bodies_of hs) → Gathered (cpus_in cs) (cpus_in (bodies_of hs)) n log known_log → Gathered (cpus_in cs) (cpus_in (bodies_of (set hs n h))) (n + 1) log told
+pub gathered_next : (cs : List (Option OnPlainCpu)) (hs : List CpuHandle) (n : ℕ) (log : List LogItem) (d h : CpuHandle) (b : OnPlainCpu) (note : List Change) (known_log : List LogItem)
+    (table : TableId) (told : List LogItem) → n < length hs → body_at cs n ≡ Some b
+    → PassesAt (get_or hs n d) h note known_log table told → SameBehind cs (bodies_of hs) → Gathered (cpus_in cs) (cpus_in (bodies_of hs)) n log known_log
+    → Gathered (cpus_in cs) (cpus_in (bodies_of (set hs n h))) (n + 1) log told
 gathered_next cs hs n log d h b note known_log table told lt at passes same so_far =
     let was = same n b at in
     let p = passes was.0 (sym (body_is hs n d lt) ∙ was.1) in
@@ -59,14 +62,16 @@ gathered_next cs hs n log d h b note known_log table told lt at passes same so_f
     (gathered_more (cpus_in cs) (cpus_in (bodies_of hs)) n log known_log told note was.0.cpu p.body.cpu so_far (at_behind (bodies_of hs) n was.0 was.1) p.heard p.knows p.shown p.note p.log)
 
 -- the next handle has a CPU, whose table the note is of
-pub behind_next : (cpus : ℕ) (w : Named) (cs : List (Option OnPlainCpu)) (hs : List CpuHandle) (n : ℕ) (d : CpuHandle) (table : TableId) → AreAllHere cpus cs → ((c : ℕ) (b : OnPlainCpu) → body_at cs c ≡ Some b → b.words ≡ w) → n < cpus → n < length hs → table ≡ w.table → SameBehind cs (bodies_of hs)
+pub behind_next : (cpus : ℕ) (w : Named) (cs : List (Option OnPlainCpu)) (hs : List CpuHandle) (n : ℕ) (d : CpuHandle) (table : TableId) → AreAllHere cpus cs
+    → ((c : ℕ) (b : OnPlainCpu) → body_at cs c ≡ Some b → b.words ≡ w) → n < cpus → n < length hs → table ≡ w.table → SameBehind cs (bodies_of hs)
     → (b : OnPlainCpu) × ((get_or hs n d).body ≡ Some b) × (table ≡ b.words.table)
 behind_next cpus w cs hs n d table all named low lt is same =
     let has = all.each n low in
     let was = same n has.0 has.1 in
     (was.0, sym (body_is hs n d lt) ∙ was.1, is ∙ sym (ap (λ (x : Named). x.table) (was.2 ∙ named n has.0 has.1)))
 
-pub passed_table : (cpus : ℕ) (w : Named) (cs : List (Option OnPlainCpu)) (hs : List CpuHandle) (n : ℕ) (d h : CpuHandle) (note : List Change) (known_log : List LogItem) (table : TableId) (told : List LogItem) → AreAllHere cpus cs → ((c : ℕ) (b : OnPlainCpu) → body_at cs c ≡ Some b → b.words ≡ w) → n < cpus → n < length hs
+pub passed_table : (cpus : ℕ) (w : Named) (cs : List (Option OnPlainCpu)) (hs : List CpuHandle) (n : ℕ) (d h : CpuHandle) (note : List Change) (known_log : List LogItem) (table : TableId)
+    (told : List LogItem) → AreAllHere cpus cs → ((c : ℕ) (b : OnPlainCpu) → body_at cs c ≡ Some b → b.words ≡ w) → n < cpus → n < length hs
     → PassesAt (get_or hs n d) h note known_log table told → SameBehind cs (bodies_of hs) → table ≡ w.table
 passed_table cpus w cs hs n d h note known_log table told all named low lt passes same =
     let has = all.each n low in
@@ -77,14 +82,16 @@ passed_table cpus w cs hs n d h note known_log table told all named low lt passe
 same_size : (cs : List (Option OnPlainCpu)) (hs : List CpuHandle) → length (cpus_in (bodies_of hs)) ≡ length (cpus_in cs) → length (bodies_of hs) ≡ length cs
 same_size cs hs size = sym (length-map (bodies_of hs) cpu_in) ∙ (size ∙ length-map cs cpu_in)
 
-pub gathered_size : (cs : List (Option OnPlainCpu)) (hs : List CpuHandle) (n : ℕ) (log known_log : List LogItem) → Gathered (cpus_in cs) (cpus_in (bodies_of hs)) n log known_log → length hs ≡ length cs
+pub gathered_size : (cs : List (Option OnPlainCpu)) (hs : List CpuHandle) (n : ℕ) (log known_log : List LogItem) → Gathered (cpus_in cs) (cpus_in (bodies_of hs)) n log known_log
+    → length hs ≡ length cs
 gathered_size cs hs n log known_log so_far = sym (count_bodies hs) ∙ same_size cs hs so_far.size
 
 pub cpus_size : (hs : List CpuHandle) → length (cpus_in (bodies_of hs)) ≡ length hs
 cpus_size hs = length-map (bodies_of hs) cpu_in ∙ count_bodies hs
 
 -- all have heard
-pub all_heard : (cpus : ℕ) (cs : List (Option OnPlainCpu)) (hs : List CpuHandle) (n : ℕ) (log known_log : List LogItem) → AreAllHere cpus cs → Gathered (cpus_in cs) (cpus_in (bodies_of hs)) n log known_log → length hs ≤ n → SameBehind cs (bodies_of hs) → HaveHeard cs (bodies_of hs)
+pub all_heard : (cpus : ℕ) (cs : List (Option OnPlainCpu)) (hs : List CpuHandle) (n : ℕ) (log known_log : List LogItem) → AreAllHere cpus cs
+    → Gathered (cpus_in cs) (cpus_in (bodies_of hs)) n log known_log → length hs ≤ n → SameBehind cs (bodies_of hs) → HaveHeard cs (bodies_of hs)
 all_heard cpus cs hs n log known_log all so_far done same =
     let size = same_size cs hs so_far.size in
     record {

@@ -69,10 +69,12 @@ pub boxed_last : (boxes : List (Box OnPlainCpu Global)) (b : Box OnPlainCpu Glob
 boxed_last boxes b = map-append (λ (x : Box OnPlainCpu Global). x.value) boxes (b ∷ [])
 
 -- one handle more is given
-pub given_more : (all : List OnPlainCpu) (n c : ℕ) (hs : List CpuHandle) (h : CpuHandle) (b : OnPlainCpu) → c < length hs → h.body ≡ Some b → get_elem? all (n - suc c) ≡ some b → AreGiven all n (bodies_of hs) c → AreGiven all n (bodies_of (set hs c h)) (c + 1)
+pub given_more : (all : List OnPlainCpu) (n c : ℕ) (hs : List CpuHandle) (h : CpuHandle) (b : OnPlainCpu) → c < length hs → h.body ≡ Some b → get_elem? all (n - suc c) ≡ some b
+    → AreGiven all n (bodies_of hs) c → AreGiven all n (bodies_of (set hs c h)) (c + 1)
 given_more all n c hs h b lt is at given = λ k less. dite (ℕ_discrete k c)
     (λ (same : k ≡ c).
-    let here : body_at (bodies_of (set hs c h)) k ≡ Some b = ap (λ (l : List (Option OnPlainCpu)). body_at l k) (set_body hs c h) ∙ (ap (body_at (set (bodies_of hs) c h.body)) same ∙ (get_or-set_same (bodies_of hs) c h.body None (omega (arith, lt, count_bodies hs)) ∙ is)) in
+    let here : body_at (bodies_of (set hs c h)) k ≡ Some b = ap (λ (l : List (Option OnPlainCpu)). body_at l k) (set_body hs c h)
+    ∙ (ap (body_at (set (bodies_of hs) c h.body)) same ∙ (get_or-set_same (bodies_of hs) c h.body None (omega (arith, lt, count_bodies hs)) ∙ is)) in
     (b, here, ap (λ j. get_elem? all (n - suc j)) same ∙ at))
     (λ (off : k ≢ c).
     let before = given k (omega (arith, less, off)) in

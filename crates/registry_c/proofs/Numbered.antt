@@ -22,7 +22,8 @@ some_number k t e is_shown at =
     let there : slot_at is_shown.g.slots t ≡ Retired e = ap (λ (x : List Slot). slot_at x t) (sym seen.slots) ∙ at in
     (at_within is_shown.g.history e.number (Attach e) (is_shown.good.holds.slots.retired t e there).0).0
 
-pub numbered : {log : List LogItem} (a : Settings) (k : KeeperView) (rows : List KeptSlot) (n : ℕ) (x : OnKeeper) (t m : ℕ) → IsOurKeeper a k rows n → record { view = k; slots = states_of rows; log = log } ≡ x
+pub numbered : {log : List LogItem} (a : Settings) (k : KeeperView) (rows : List KeptSlot) (n : ℕ) (x : OnKeeper) (t m : ℕ) → IsOurKeeper a k rows n
+    → record { view = k; slots = states_of rows; log = log } ≡ x
     → retired_number (slot_at x.slots t) ≡ Some m → 0 < m
 numbered a k rows n x t m our is retired =
     let there = retired_some (slot_at (states_of rows) t) m (ap (λ (y : OnKeeper). retired_number (slot_at y.slots t)) is ∙ retired) in

@@ -40,5 +40,6 @@ pub given_open : (w : Named) (n : ℕ) (all : List OnPlainCpu) (cs : List (Optio
 given_open w n all cs is given c lt =
     let had = given c lt in
     let back : n - suc (n - suc c) ≡ c = omega (arith, lt) in
-    let at : get_elem? all (n - suc c) ≡ some (opened_cpu w c) = ap (λ (l : List OnPlainCpu). get_elem? l (n - suc c)) is ∙ (down_at w n n (n - suc c) (omega (arith, lt)) ∙ ap (λ (j : ℕ). some (opened_cpu w j)) back) in
+    let at : get_elem? all (n - suc c) ≡ some (opened_cpu w c) =
+    ap (λ (l : List OnPlainCpu). get_elem? l (n - suc c)) is ∙ (down_at w n n (n - suc c) (omega (arith, lt)) ∙ ap (λ (j : ℕ). some (opened_cpu w j)) back) in
     had.1 ∙ ap Some (some-injective _ _ (sym had.2 ∙ at))

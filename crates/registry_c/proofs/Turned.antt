@@ -12,10 +12,12 @@ use Rattle.registry_c.specs.KeeperCalls.{Advances, AdvancesFor, Begins, PassesHe
 use Rattle.registry_c.proofs.Gone.{advanced_gone, advanced_for_gone}
 use Rattle.registry_c.proofs.Numbered.{numbered}
 
-pub advances_by : (number : ℕ) (k l : OnPlainKeeper) (r : Result Stage Refusal) → l.words ≡ k.words → HasAdvanced k.keeper number r l.keeper → IfOk r (λ stage. IsStageOf k.words.settings stage) → Advances number k l r
+pub advances_by : (number : ℕ) (k l : OnPlainKeeper) (r : Result Stage Refusal) → l.words ≡ k.words → HasAdvanced k.keeper number r l.keeper → IfOk r (λ stage. IsStageOf k.words.settings stage)
+    → Advances number k l r
 advances_by number k l r same made stage = record { answer = made; stage = stage; gone = advanced_gone k.keeper number r l.keeper made; words = same }
 
-pub advances_for_by : (number : ℕ) (k l : OnPlainKeeper) (c d : OnPlainCpu) (r : Result Stage Refusal) → KeepsWords k c l d → HasAdvancedFor k.words.settings k.keeper c.cpu number r l.keeper d.cpu → IfOk r (λ stage. IsStageOf k.words.settings stage)
+pub advances_for_by : (number : ℕ) (k l : OnPlainKeeper) (c d : OnPlainCpu) (r : Result Stage Refusal) → KeepsWords k c l d → HasAdvancedFor k.words.settings k.keeper c.cpu number r l.keeper d.cpu
+    → IfOk r (λ stage. IsStageOf k.words.settings stage)
     → IsTurn k.words.settings number c.cpu r d.cpu → AdvancesFor number k c l d r
 advances_for_by number k l c d r same made stage turn = record {
   answer = made;
@@ -26,15 +28,18 @@ advances_for_by number k l c d r same made stage turn = record {
 }
 
 -- past the last there is no number
-named_by : {log : List LogItem} (a : Settings) (k : KeeperView) (rows : List KeptSlot) (n : ℕ) (s : Settings) (m b : OnKeeper) (x y : OnCpu) (snapshots : List ℕ) (numbers : List (Option ℕ)) → length numbers ≡ MOST_SLOTS
+named_by : {log : List LogItem} (a : Settings) (k : KeeperView) (rows : List KeptSlot) (n : ℕ) (s : Settings) (m b : OnKeeper) (x y : OnCpu) (snapshots : List ℕ) (numbers : List (Option ℕ))
+    → length numbers ≡ MOST_SLOTS
     → IsOurKeeper a k rows n → record { view = k; slots = states_of rows; log = log } ≡ m → HasBegun s m x snapshots numbers b y → (t j : ℕ) → get_or numbers t None ≡ Some j → 0 < j
 named_by a k rows n s m b x y snapshots numbers size our is begun t j at = ⊎_elim
     (λ (lt : t < MOST_SLOTS). numbered a k rows n m t j our is (sym (begun.numbers t lt) ∙ at))
     (λ (past : MOST_SLOTS ≤ t). absurd (let q : ◌≡◌ {A = Option ℕ} None (Some j) = sym (get_or_past numbers t None (omega (arith, size, past))) ∙ at in cc))
     (cases_lt t MOST_SLOTS)
 
-pub begins_by : {log : List LogItem} (a : Settings) (view : KeeperView) (rows : List KeptSlot) (n : ℕ) (k l : OnPlainKeeper) (c d : OnPlainCpu) (snapshots : List ℕ) (numbers : List (Option ℕ)) (retired : List ℕ) → length numbers ≡ MOST_SLOTS
-    → IsOurKeeper a view rows n → record { view = view; slots = states_of rows; log = log } ≡ k.keeper → KeepsWords k c l d → HasBegun k.words.settings k.keeper c.cpu snapshots numbers l.keeper d.cpu → retired ≡ map number_or_none numbers
+pub begins_by : {log : List LogItem} (a : Settings) (view : KeeperView) (rows : List KeptSlot) (n : ℕ) (k l : OnPlainKeeper) (c d : OnPlainCpu) (snapshots : List ℕ) (numbers : List (Option ℕ))
+    (retired : List ℕ) → length numbers ≡ MOST_SLOTS
+    → IsOurKeeper a view rows n → record { view = view; slots = states_of rows; log = log } ≡ k.keeper → KeepsWords k c l d → HasBegun k.words.settings k.keeper c.cpu snapshots numbers l.keeper d.cpu
+    → retired ≡ map number_or_none numbers
     → Begins k c l d (record { snapshots = snapshots; retired = retired; seen = replicate MOST_CPUS 0; begun = BEGUN })
 begins_by a view rows n k l c d snapshots numbers retired size our at same begun out = record {
   numbers = numbers;
@@ -47,7 +52,8 @@ begins_by a view rows n k l c d snapshots numbers retired size our at same begun
 }
 
 -- what follows a turn's glances: where they told of no CPU what was retired is passed, and else nothing more is done
-pub finishes_passed : (z y : Settings) (numbers made : List (Option ℕ)) (p q : OnKeeper × OnCpu) (told : Option ℕ) → y ≡ z → made ≡ numbers → is_some told ≡ false → HasPassedAll y p.0 p.1 made q.0 q.1 → Finishes (PassesHeld z) numbers p told q
+pub finishes_passed : (z y : Settings) (numbers made : List (Option ℕ)) (p q : OnKeeper × OnCpu) (told : Option ℕ) → y ≡ z → made ≡ numbers → is_some told ≡ false → HasPassedAll y p.0 p.1 made q.0 q.1
+    → Finishes (PassesHeld z) numbers p told q
 finishes_passed z y numbers made p q None same is none passed =
     subst (λ (x : Settings). HasPassedAll x p.0 p.1 numbers q.0 q.1) same (subst (λ (n : List (Option ℕ)). HasPassedAll y p.0 p.1 n q.0 q.1) is passed)
 finishes_passed z y numbers made p q (Some c) same is none passed = absurd (let no : true ≡ false = none in cc)
@@ -57,7 +63,8 @@ finishes_waiting z numbers p None some = absurd (let no : false ≡ true = some 
 finishes_waiting z numbers p (Some c) some = refl
 
 -- the keeper m and the CPU d are as the glances left them
-pub turns_by : (k m l : OnPlainKeeper) (c d e : OnPlainCpu) (told : Option ℕ) (old : CWait) (before seen : List Bool) (flags : List ℕ) → before ≡ map is_set old.seen → flags ≡ map flag_of seen → HasGlanced k.words.settings old.snapshots k.keeper c.cpu before told seen m.keeper d.cpu
+pub turns_by : (k m l : OnPlainKeeper) (c d e : OnPlainCpu) (told : Option ℕ) (old : CWait) (before seen : List Bool) (flags : List ℕ) → before ≡ map is_set old.seen → flags ≡ map flag_of seen
+    → HasGlanced k.words.settings old.snapshots k.keeper c.cpu before told seen m.keeper d.cpu
     → Finishes (PassesHeld k.words.settings) (map none_or_number old.retired) (m.keeper, d.cpu) told (l.keeper, e.cpu) → KeepsWords k c l e → Turns k c l e told old (record old { seen = flags })
 turns_by k m l c d e told old before seen flags was are glanced finished same = record {
   seen = seen;

@@ -35,7 +35,8 @@ entered_by a b (Err f) kept is entered = absurd (refused_not f is)
 pub entered_inside : (a b : OnPlainCpu) (n : ℕ) → (begin_of a ≡ None) ↔ (a.cpu.depth ≡ 0) → Enters a b n → n ≡ DONE → begin_of b ≢ None
 entered_inside a b n kept enters is = entered_by a b enters.r kept (sym is ∙ enters.number) enters.entered
 
-found_by : (kind : ℕ) (m : CName) (a b : OnPlainCpu) (n : ℕ) (old new : Option CEntry) (k : Option Kind) (o : Option ℕ) → kind_in kind ≡ k → begin_of a ≡ o → Finds kind m a b n old new → begin_of b ≡ begin_of a
+found_by : (kind : ℕ) (m : CName) (a b : OnPlainCpu) (n : ℕ) (old new : Option CEntry) (k : Option Kind) (o : Option ℕ) → kind_in kind ≡ k → begin_of a ≡ o → Finds kind m a b n old new
+    → begin_of b ≡ begin_of a
 found_by kind m a b n old new None o is at finds = ap begin_of (finds.bad is).1
 found_by kind m a b n old new (Some k) None is at finds = ap begin_of (finds.outside k is at).1
 found_by kind m a b n old new (Some k) (Some x) is at finds = ap (λ (c : OnCpu). c.view.begin) (finds.inside k is (some_not x (begin_of a) at)).1.is
@@ -58,7 +59,8 @@ acquired_same kind name a b n old new both =
     (λ (off : both.answer ≢ DONE). ap begin_of (both.refused off).1 ∙ found)
 
 -- so the exit is done
-pub between : (a first last b : OnPlainCpu) (entered n left : ℕ) (Same : Type 0) (P : OnPlainCpu → OnPlainCpu → Type 0) → Enters a first entered → entered ≡ DONE → begin_of first ≢ None → P first last → begin_of last ≡ begin_of first → Exits last b left → Between a b n Same P
+pub between : (a first last b : OnPlainCpu) (entered n left : ℕ) (Same : Type 0) (P : OnPlainCpu → OnPlainCpu → Type 0) → Enters a first entered → entered ≡ DONE → begin_of first ≢ None → P first last
+    → begin_of last ≡ begin_of first → Exits last b left → Between a b n Same P
 between a first last b entered n left Same P enters is inside does same exits = record {
   first = first;
   entered = entered;
@@ -85,7 +87,8 @@ found_inside kind k m a b s n old new is some words had written = record {
   inside = λ j at begun.
       let one : Some k ≡ Some j = sym is ∙ at in
       let same : k ≡ j = cc in
-      subst (λ (i : Kind). (answer : Option Entry) × HasFound (key_with i (name_in m)) a.cpu b.cpu answer × (b.words ≡ a.words) × WritesFound answer n old new) same (entry_seen (key_with k (name_in m)) s, had, words, written);
+      subst (λ (i : Kind). (answer : Option Entry) × HasFound (key_with i (name_in m)) a.cpu b.cpu answer × (b.words ≡ a.words) × WritesFound answer n old new) same
+      (entry_seen (key_with k (name_in m)) s, had, words, written);
 }
 
 -- what C is told of an entry by its words
@@ -130,7 +133,9 @@ from_outside kind k m name a b s n old new is named shallow room words seen writ
 -- A find and an acquire
 
 -- The find is done. The acquire is done or refused, and only where it is done is the entry told.
-pub looked : (kind : ℕ) (name : Option CName) (a m b : OnPlainCpu) (e : Entry) (n : ℕ) (old new : Option CEntry) → ((k : ℕ) (x y : Option CEntry) → TellsFound (Ok e) k x y → FindsNamed kind name a m k x y) → Acquires m b n None None → (n ≡ DONE → new ≡ put old (entry_out e)) → (n ≢ DONE → new ≡ old) → FindsAndAcquires kind name a b n old new
+pub looked : (kind : ℕ) (name : Option CName) (a m b : OnPlainCpu) (e : Entry) (n : ℕ) (old new : Option CEntry)
+    → ((k : ℕ) (x y : Option CEntry) → TellsFound (Ok e) k x y → FindsNamed kind name a m k x y) → Acquires m b n None None → (n ≡ DONE → new ≡ put old (entry_out e)) → (n ≢ DONE → new ≡ old)
+    → FindsAndAcquires kind name a b n old new
 looked kind name a m b e n old new finds acquires done other = record {
   found = m;
   answer = DONE;
@@ -143,7 +148,8 @@ looked kind name a m b e n old new finds acquires done other = record {
 -- An enter and a find
 
 -- The enter is done, and the find done or refused: a refused one is exited.
-pub entered_and_found : (kind : ℕ) (name : Option CName) (a first last b : OnPlainCpu) (entered n : ℕ) (old new : Option CEntry) → Enters a first entered → entered ≡ DONE → FindsNamed kind name first last n old new → (n ≡ DONE → b ≡ last) → (n ≢ DONE → Exits last b DONE) → EntersAndFinds kind name a b n old new
+pub entered_and_found : (kind : ℕ) (name : Option CName) (a first last b : OnPlainCpu) (entered n : ℕ) (old new : Option CEntry) → Enters a first entered → entered ≡ DONE
+    → FindsNamed kind name first last n old new → (n ≡ DONE → b ≡ last) → (n ≢ DONE → Exits last b DONE) → EntersAndFinds kind name a b n old new
 entered_and_found kind name a first last b entered n old new enters is finds stays exits = record {
   first = first;
   entered = entered;
@@ -153,7 +159,8 @@ entered_and_found kind name a first last b entered n old new enters is finds sta
 }
 
 -- the exit of a find that was refused, in a section that is still open
-pub exited : (kind : ℕ) (name : Option CName) (first last b : OnPlainCpu) (n left : ℕ) (old new : Option CEntry) → begin_of first ≢ None → FindsNamed kind name first last n old new → Exits last b left → Exits last b DONE
+pub exited : (kind : ℕ) (name : Option CName) (first last b : OnPlainCpu) (n left : ℕ) (old new : Option CEntry) → begin_of first ≢ None → FindsNamed kind name first last n old new → Exits last b left
+    → Exits last b DONE
 exited kind name first last b n left old new inside finds exits =
     let same = found_same kind name first last n old new finds in
     subst (λ (k : ℕ). Exits last b k) (exits.inside (λ none. inside (sym same ∙ none))).0 exits

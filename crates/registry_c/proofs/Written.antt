@@ -26,7 +26,8 @@ copied_more t first new k b lt is so_far = record {
 }
 
 -- the zero after them
-pub written : (t first new : List ℕ) (n : ℕ) → n < length first → n ≤ length t → (length t < length first → n ≡ length t) → (length first ≤ length t → n ≡ length first - 1) → AreCopied t first new n → IsWritten t first (set new n 0)
+pub written : (t first new : List ℕ) (n : ℕ) → n < length first → n ≤ length t → (length t < length first → n ≡ length t) → (length first ≤ length t → n ≡ length first - 1) → AreCopied t first new n
+    → IsWritten t first (set new n 0)
 written t first new n room few whole cut copied =
     let here : get_or (set new n 0) n 0 ≡ 0 = get_or-set_same new n 0 0 (omega (arith, room, copied.size)) in
     record {

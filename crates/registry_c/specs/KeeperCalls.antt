@@ -4,7 +4,8 @@ use Rattle.registry_c.specs.Types.{Entry, Kind, Driver, Record, Name, Refusal, I
 use Rattle.registry_values.specs.Common.{name_of_words, number_of_refusal, destroy_result, destroy_result_of}
 use Rattle.cpu_words.specs.Common.{IsFreedFrom}
 use Rattle.passive_list.specs.Common.{OnCpu, OnPlainCpu, OnKeeper, OnPlainKeeper}
-use Rattle.name_registry.specs.Common.{HasAdvanced, HasAttachedFor, HasAttachedIfaceFor, attach_answer, attach_iface_answer, HasAdvancedFor, HasDetachedFor, IsDetachAnswer, IsStageOf, KeepsWords, is_inside, IsTurn, Finishes, HasBegun, HasGlanced, HasPassedAll}
+use Rattle.name_registry.specs.Common.{HasAdvanced, HasAttachedFor, HasAttachedIfaceFor, attach_answer, attach_iface_answer, HasAdvancedFor, HasDetachedFor, IsDetachAnswer, IsStageOf, KeepsWords}
+use Rattle.name_registry.specs.Common.{is_inside, IsTurn, Finishes, HasBegun, HasGlanced, HasPassedAll}
 use Rattle.registry_c.specs.declared.values.TheConstants.{DONE, EMPTY_HANDLE, BAD_KIND, BAD_NAME, NOT_BEGUN, NULL}
 use Rattle.registry_c.specs.declared.values.CEntry.{CEntry}
 use Rattle.registry_c.specs.declared.values.CName.{CName}

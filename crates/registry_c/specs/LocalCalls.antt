@@ -80,12 +80,14 @@ abbrev pub WritesIface : Result Entry (Refusal × OnLocalBody) → ℕ → Optio
 WritesIface (Ok e) n l old new = (n ≡ DONE) × (l ≡ None) × (new ≡ put old (entry_out e))
 WritesIface (Err back) n l old new = (n ≡ number_of_refusal back.0) × (l ≡ Some back.1) × (new ≡ old)
 
-pub record AttachIfaceAnswers (name : CName) (value : ℕ) (k : OnPlainKeeper) (c : OnPlainCpu) (v : OnLocalBody) (k' : OnPlainKeeper) (c' : OnPlainCpu) (l : Option OnLocalBody) (n : ℕ) (old new : Option CEntry) : Type 0 where
+pub record AttachIfaceAnswers (name : CName) (value : ℕ) (k : OnPlainKeeper) (c : OnPlainCpu) (v : OnLocalBody) (k' : OnPlainKeeper) (c' : OnPlainCpu) (l : Option OnLocalBody) (n : ℕ)
+    (old new : Option CEntry) : Type 0 where
   pub bad : words_name name ≡ None → (n ≡ BAD_NAME) × (k' ≡ k) × (c' ≡ c) × (l ≡ Some v) × (new ≡ old)
   pub good : (m : Name) → words_name name ≡ Some m → (r : Result Entry (Refusal × OnLocalBody)) × AttachesIface (record_of Iface m value) v k c k' c' r × WritesIface r n l old new
 
 -- by a name that was given, or by none
-pub record AttachesIfaceNamed (name : Option CName) (value : ℕ) (k : OnPlainKeeper) (c : OnPlainCpu) (v : OnLocalBody) (k' : OnPlainKeeper) (c' : OnPlainCpu) (l : Option OnLocalBody) (n : ℕ) (old new : Option CEntry) : Type 0 where
+pub record AttachesIfaceNamed (name : Option CName) (value : ℕ) (k : OnPlainKeeper) (c : OnPlainCpu) (v : OnLocalBody) (k' : OnPlainKeeper) (c' : OnPlainCpu) (l : Option OnLocalBody) (n : ℕ)
+    (old new : Option CEntry) : Type 0 where
   pub null : name ≡ None → (n ≡ NULL) × (k' ≡ k) × (c' ≡ c) × (l ≡ Some v) × (new ≡ old)
   pub named : (m : CName) → name ≡ Some m → AttachIfaceAnswers m value k c v k' c' l n old new
 

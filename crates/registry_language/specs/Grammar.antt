@@ -15,9 +15,11 @@ use Rattle.registry_language.specs.declared.position.Position.TheVariants.{First
 use Rattle.registry_language.specs.declared.command.Verb.{Verb}
 use Rattle.registry_language.specs.declared.command.Verb.TheVariants as verbs
 use Rattle.registry_language.specs.declared.command.Command.{Command}
-use Rattle.registry_language.specs.declared.command.Command.TheVariants.{Domain, Limits, Attach, Plug, Detach, Enter, Exit, Find, Reference, Copy, Held, Read, Release, Count, Peek, Uncount, Advance, Destroy, Perform, Audit}
+use Rattle.registry_language.specs.declared.command.Command.TheVariants.{Domain, Limits, Attach, Plug, Detach, Enter, Exit, Find, Reference, Copy, Held, Read, Release, Count, Peek, Uncount, Advance}
+use Rattle.registry_language.specs.declared.command.Command.TheVariants.{Destroy, Perform, Audit}
 use Rattle.registry_language.specs.declared.fault.Cause.{Cause}
-use Rattle.registry_language.specs.declared.fault.Cause.TheVariants.{TooLong, LongLine, BadByte, UnknownCommand, Misplaced, WrongCount, BadNumber, BadCpu, BadKind, BadName, BadLabel, BadSettings, NoDomain}
+use Rattle.registry_language.specs.declared.fault.Cause.TheVariants.{TooLong, LongLine, BadByte, UnknownCommand, Misplaced, WrongCount, BadNumber, BadCpu, BadKind, BadName, BadLabel, BadSettings}
+use Rattle.registry_language.specs.declared.fault.Cause.TheVariants.{NoDomain}
 use Rattle.registry_language.specs.declared.fault.ScriptFault.{ScriptFault}
 use Rattle.registry_language.specs.Words.{lines_of, words_in_line, number_of, verb_of}
 use Rattle.registry_language.specs.Program.{Program, ProgramDraft, empty_draft, settings_for, with_limits, are_turns, with_command}

@@ -7,7 +7,8 @@ use Rattle.registry_language.specs.declared.label.Label.{Label}
 use Rattle.registry_language.specs.declared.position.Position.{Position}
 use Rattle.registry_language.specs.declared.position.Position.TheVariants.{First, Second, Later}
 use Rattle.registry_language.specs.declared.command.Command.{Command}
-use Rattle.registry_language.specs.declared.command.Command.TheVariants.{Domain, Limits, Attach, Plug, Detach, Enter, Exit, Find, Reference, Copy, Held, Read, Release, Count, Peek, Uncount, Advance, Destroy, Perform, Audit}
+use Rattle.registry_language.specs.declared.command.Command.TheVariants.{Domain, Limits, Attach, Plug, Detach, Enter, Exit, Find, Reference, Copy, Held, Read, Release, Count, Peek, Uncount, Advance}
+use Rattle.registry_language.specs.declared.command.Command.TheVariants.{Destroy, Perform, Audit}
 
 pub record Program : Type 0 where
   pub settings : Settings

@@ -5,7 +5,8 @@ use Rattle.std.specs.Char.{is_ascii_digit}
 use Rattle.std.specs.Str.{bytes_eq}
 use Rattle.std.specs.Str.Parse.{digits_value}
 use Rattle.registry_language.specs.declared.command.Verb.{Verb}
-use Rattle.registry_language.specs.declared.command.Verb.TheVariants.{Domain, Limits, Attach, Plug, Detach, Enter, Exit, Find, Reference, Copy, Held, Read, Release, Count, Peek, Uncount, Advance, Destroy, Perform, Audit}
+use Rattle.registry_language.specs.declared.command.Verb.TheVariants.{Domain, Limits, Attach, Plug, Detach, Enter, Exit, Find, Reference, Copy, Held, Read, Release, Count, Peek, Uncount, Advance}
+use Rattle.registry_language.specs.declared.command.Verb.TheVariants.{Destroy, Perform, Audit}
 
 -- a line ends at a byte 10
 abbrev pub lines_of : List ℕ → List (List ℕ)

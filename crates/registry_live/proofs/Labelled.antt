@@ -1,5 +1,6 @@
 -- What becomes of the references that CPUs hold and of those that labels stand for, call by call.
-use Rattle.std.proofs.Common.{◌≡◌, ◌≢◌, ◌⊎◌, ⊎_elim, ℕ, zero, suc, ◌+◌, ◌-◌, ◌<◌, ◌≤◌, ◌==◌, ◌&&◌, Bool, true, false, cond, List, [], ◌∷◌, length, map, get_or, take, set, replicate, Option, Some, None, refl, sym, ap, ◌∙◌, subst, nat_lt, ℤ, pos, ◌-ℤ◌, arith}
+use Rattle.std.proofs.Common.{◌≡◌, ◌≢◌, ◌⊎◌, ⊎_elim, ℕ, zero, suc, ◌+◌, ◌-◌, ◌<◌, ◌≤◌, ◌==◌, ◌&&◌, Bool, true, false, cond, List, [], ◌∷◌, length, map, get_or, take, set, replicate, Option, Some}
+use Rattle.std.proofs.Common.{None, refl, sym, ap, ◌∙◌, subst, nat_lt, ℤ, pos, ◌-ℤ◌, arith}
 use mathlib.Core.Path.{subst₂}
 use Rattle.std.proofs.Math.Path.{fun_ext}
 use Rattle.std.proofs.lemmas.Bool.{cases_eq, cases_Bool, eq-eqb, ne_eqb, eqb-true, ltb-true, ltb-false, and_parts, false≢true}
@@ -51,12 +52,15 @@ same_each (x ∷ xs) zero d y is (suc k) n = refl
 same_each (x ∷ xs) (suc c) d y is zero n = refl
 same_each (x ∷ xs) (suc c) d y is (suc k) n = same_each xs c d y is k n
 
-more_each : (xs : List OnCpu) (c : ℕ) (e : Entry) (d y : OnCpu) → c < length xs → y.view.references ≡ e ∷ (get_or xs c d).view.references → (k n : ℕ) → references_at (set xs c y) k n ≡ references_at xs k n + one_label c e.number k n
+more_each : (xs : List OnCpu) (c : ℕ) (e : Entry) (d y : OnCpu) → c < length xs → y.view.references ≡ e ∷ (get_or xs c d).view.references → (k n : ℕ)
+    → references_at (set xs c y) k n ≡ references_at xs k n + one_label c e.number k n
 unfolding one_label
 more_each [] c e d y lt is k n = absurd (omega (arith, lt))
 more_each (x ∷ xs) zero e d y lt is zero n = let at = ap (references_to n) is in let all = to_cons n e x.view.references in omega (arith, at, all)
-more_each (x ∷ xs) zero e d y lt is (suc k) n = plus_none (references_at xs k n) (one_label zero e.number (suc k) n) (ap (λ (b : Bool). cond (b && e.number == n) 1 0) (ne_eqb zero (suc k) (λ is. omega (arith, is))))
-more_each (x ∷ xs) (suc c) e d y lt is zero n = plus_none (references_to n x.view.references) (one_label (suc c) e.number zero n) (ap (λ (b : Bool). cond (b && e.number == n) 1 0) (ne_eqb (suc c) zero (λ is. omega (arith, is))))
+more_each (x ∷ xs) zero e d y lt is (suc k) n =
+    plus_none (references_at xs k n) (one_label zero e.number (suc k) n) (ap (λ (b : Bool). cond (b && e.number == n) 1 0) (ne_eqb zero (suc k) (λ is. omega (arith, is))))
+more_each (x ∷ xs) (suc c) e d y lt is zero n =
+    plus_none (references_to n x.view.references) (one_label (suc c) e.number zero n) (ap (λ (b : Bool). cond (b && e.number == n) 1 0) (ne_eqb (suc c) zero (λ is. omega (arith, is))))
 more_each (x ∷ xs) (suc c) e d y lt is (suc k) n = more_each xs c e d y (omega (arith, lt)) is k n ∙ ap (λ (b : ℕ). references_at xs k n + b) (sym (one_later c e.number k n))
 
 one_gone : (m n : ℕ) (es : List Entry) → 0 < references_to m es → references_to n (without m es) + cond (m == n) 1 0 ≡ references_to n es
@@ -76,13 +80,16 @@ less_each : (xs : List OnCpu) (c m : ℕ) (d y : OnCpu) → c < length xs → y.
 unfolding one_label
 less_each [] c m d y lt is some k n = absurd (omega (arith, lt))
 less_each (x ∷ xs) zero m d y lt is some zero n = let at = ap (references_to n) is in let less = one_gone m n x.view.references some in omega (arith, at, less)
-less_each (x ∷ xs) zero m d y lt is some (suc k) n = sym (plus_none (references_at xs k n) (one_label zero m (suc k) n) (ap (λ (b : Bool). cond (b && m == n) 1 0) (ne_eqb zero (suc k) (λ is. omega (arith, is)))))
-less_each (x ∷ xs) (suc c) m d y lt is some zero n = sym (plus_none (references_to n x.view.references) (one_label (suc c) m zero n) (ap (λ (b : Bool). cond (b && m == n) 1 0) (ne_eqb (suc c) zero (λ is. omega (arith, is)))))
+less_each (x ∷ xs) zero m d y lt is some (suc k) n =
+    sym (plus_none (references_at xs k n) (one_label zero m (suc k) n) (ap (λ (b : Bool). cond (b && m == n) 1 0) (ne_eqb zero (suc k) (λ is. omega (arith, is)))))
+less_each (x ∷ xs) (suc c) m d y lt is some zero n =
+    sym (plus_none (references_to n x.view.references) (one_label (suc c) m zero n) (ap (λ (b : Bool). cond (b && m == n) 1 0) (ne_eqb (suc c) zero (λ is. omega (arith, is)))))
 less_each (x ∷ xs) (suc c) m d y lt is some (suc k) n = ap (λ (b : ℕ). references_at (set xs c y) k n + b) (one_later c m k n) ∙ less_each xs c m d y (omega (arith, lt)) is some k n
 
 -- What labels stand for, where one place has changed
 
-filled : (ps : List (Option OnPsref)) (i : ℕ) (d : Option OnPsref) (p : OnPsref) → i < length ps → get_or ps i d ≡ None → (k n : ℕ) → labels_to (set ps i (Some p)) k n ≡ labels_to ps k n + one_label p.cpu p.number k n
+filled : (ps : List (Option OnPsref)) (i : ℕ) (d : Option OnPsref) (p : OnPsref) → i < length ps → get_or ps i d ≡ None → (k n : ℕ)
+    → labels_to (set ps i (Some p)) k n ≡ labels_to ps k n + one_label p.cpu p.number k n
 unfolding one_label
 filled ps i d p lt is k n =
     let f : Option OnPsref → ℕ = λ o. cond (is_label_to k n o) 1 0 in
@@ -90,7 +97,8 @@ filled ps i d p lt is k n =
     let all : labels_to (set ps i (Some p)) k n + f (get_or ps i d) ≡ labels_to ps k n + one_label p.cpu p.number k n = sum_by-set f ps i (Some p) d lt in
     omega (arith, none, all)
 
-emptied : (ps : List (Option OnPsref)) (i : ℕ) (d : Option OnPsref) (p : OnPsref) → i < length ps → get_or ps i d ≡ Some p → (k n : ℕ) → labels_to (set ps i None) k n + one_label p.cpu p.number k n ≡ labels_to ps k n
+emptied : (ps : List (Option OnPsref)) (i : ℕ) (d : Option OnPsref) (p : OnPsref) → i < length ps → get_or ps i d ≡ Some p → (k n : ℕ)
+    → labels_to (set ps i None) k n + one_label p.cpu p.number k n ≡ labels_to ps k n
 unfolding one_label
 emptied ps i d p lt is k n =
     let f : Option OnPsref → ℕ = λ o. cond (is_label_to k n o) 1 0 in
@@ -107,10 +115,12 @@ named_id m xs c x all few is = ap (λ (u : OnCpu). u.view.id) (sym is) ∙ all.e
 keeps_same : (xs ys : List OnCpu) (ps : List (Option OnPsref)) → ((k n : ℕ) → references_at ys k n ≡ references_at xs k n) → Keeps xs ps ys ps
 keeps_same xs ys ps same = fun_ext (λ k. fun_ext (λ n. ap (λ (r : ℕ). pos r -ℤ pos (labels_to ps k n)) (same k n)))
 
-gained : (xs ys : List OnCpu) (ps qs : List (Option OnPsref)) (b : ℕ → ℕ → ℕ) → ((k n : ℕ) → references_at ys k n ≡ references_at xs k n + b k n) → ((k n : ℕ) → labels_to qs k n ≡ labels_to ps k n + b k n) → Keeps xs ps ys qs
+gained : (xs ys : List OnCpu) (ps qs : List (Option OnPsref)) (b : ℕ → ℕ → ℕ) → ((k n : ℕ) → references_at ys k n ≡ references_at xs k n + b k n)
+    → ((k n : ℕ) → labels_to qs k n ≡ labels_to ps k n + b k n) → Keeps xs ps ys qs
 gained xs ys ps qs b more labels = fun_ext (λ k. fun_ext (λ n. let r = more k n in let l = labels k n in omega (arith, ints, r, l)))
 
-lost : (xs ys : List OnCpu) (ps qs : List (Option OnPsref)) (b : ℕ → ℕ → ℕ) → ((k n : ℕ) → references_at ys k n + b k n ≡ references_at xs k n) → ((k n : ℕ) → labels_to qs k n + b k n ≡ labels_to ps k n) → Keeps xs ps ys qs
+lost : (xs ys : List OnCpu) (ps qs : List (Option OnPsref)) (b : ℕ → ℕ → ℕ) → ((k n : ℕ) → references_at ys k n + b k n ≡ references_at xs k n)
+    → ((k n : ℕ) → labels_to qs k n + b k n ≡ labels_to ps k n) → Keeps xs ps ys qs
 lost xs ys ps qs b less labels = fun_ext (λ k. fun_ext (λ n. let r = less k n in let l = labels k n in omega (arith, ints, r, l)))
 
 -- a CPU goes on and keeps its references
@@ -124,18 +134,22 @@ refused_at xs ps c i d y o q place cpu =
     subst (λ (l : List (Option OnPsref)). Keeps xs ps (set xs c y) l) (sym stays) (goes_on xs ps c d y (ap (λ (u : OnCpu). u.view.references) cpu))
 
 -- the free place has a new reference of the CPU
-pub takes_label : (xs : List OnCpu) (ps : List (Option OnPsref)) (c i : ℕ) (e : Entry) (d y : OnCpu) (o : Option OnPsref) (p : OnPsref) → c < length xs → (get_or xs c d).view.id ≡ c → i < length ps → get_or ps i o ≡ None
+pub takes_label : (xs : List OnCpu) (ps : List (Option OnPsref)) (c i : ℕ) (e : Entry) (d y : OnCpu) (o : Option OnPsref) (p : OnPsref) → c < length xs → (get_or xs c d).view.id ≡ c → i < length ps
+    → get_or ps i o ≡ None
     → IsNew e (get_or xs c d) y p → Keeps xs ps (set xs c y) (set ps i (Some p))
 takes_label xs ps c i e d y o p few named few_labels free new =
-    let labels : (k n : ℕ) → labels_to (set ps i (Some p)) k n ≡ labels_to ps k n + one_label c e.number k n = subst (λ (m : ℕ). (k n : ℕ) → labels_to (set ps i (Some p)) k n ≡ labels_to ps k n + one_label c m k n) new.number
+    let labels : (k n : ℕ) → labels_to (set ps i (Some p)) k n ≡ labels_to ps k n + one_label c e.number k n =
+    subst (λ (m : ℕ). (k n : ℕ) → labels_to (set ps i (Some p)) k n ≡ labels_to ps k n + one_label c m k n) new.number
     (subst (λ (a : ℕ). (k n : ℕ) → labels_to (set ps i (Some p)) k n ≡ labels_to ps k n + one_label a p.number k n) (new.cpu ∙ named) (filled ps i o p few_labels free)) in
     gained xs (set xs c y) ps (set ps i (Some p)) (one_label c e.number) (more_each xs c e d y few (ap (λ (u : OnCpu). u.view.references) new.after)) labels
 
 -- the place is free, and the CPU has released the reference that was there
-leaves_label : (xs : List OnCpu) (ps : List (Option OnPsref)) (c i : ℕ) (d y : OnCpu) (o : Option OnPsref) (p : OnPsref) → c < length xs → p.cpu ≡ c → 0 < references_to p.number (get_or xs c d).view.references → i < length ps → get_or ps i o ≡ Some p
+leaves_label : (xs : List OnCpu) (ps : List (Option OnPsref)) (c i : ℕ) (d y : OnCpu) (o : Option OnPsref) (p : OnPsref) → c < length xs → p.cpu ≡ c
+    → 0 < references_to p.number (get_or xs c d).view.references → i < length ps → get_or ps i o ≡ Some p
     → HasOneLess p.number (get_or xs c d) y → Keeps xs ps (set xs c y) (set ps i None)
 leaves_label xs ps c i d y o p few own some few_labels there less =
-    let labels : (k n : ℕ) → labels_to (set ps i None) k n + one_label c p.number k n ≡ labels_to ps k n = subst (λ (a : ℕ). (k n : ℕ) → labels_to (set ps i None) k n + one_label a p.number k n ≡ labels_to ps k n) own (emptied ps i o p few_labels there) in
+    let labels : (k n : ℕ) → labels_to (set ps i None) k n + one_label c p.number k n ≡ labels_to ps k n =
+    subst (λ (a : ℕ). (k n : ℕ) → labels_to (set ps i None) k n + one_label a p.number k n ≡ labels_to ps k n) own (emptied ps i o p few_labels there) in
     lost xs (set xs c y) ps (set ps i None) (one_label c p.number) (less_each xs c p.number d y few (ap (λ (u : OnCpu). u.view.references) less) some) labels
 
 -- By the answers
@@ -145,8 +159,10 @@ free_of None why is = refl
 free_of (Some p) why is = absurd (false≢true (sym (ap is_some is)))
 
 -- the label stands for what was acquired, or the call was refused
-pub refers : (xs : List OnCpu) (ps : List (Option OnPsref)) (c i : ℕ) (d y : OnCpu) (o q : Option OnPsref) (why : Option Refusal) (answer : Result ℕ Hitch) → c < length xs → (get_or xs c d).view.id ≡ c → i < length ps
-    → Decides (unless_taken (is_some (get_or ps i o)) why) (λ m. Has q (λ p. (p.number ≡ m) × IsAcquired (get_or xs c d) y p)) answer → IfErr answer (λ h. (q ≡ get_or ps i o) × (y ≡ get_or xs c d)) → Keeps xs ps (set xs c y) (set ps i q)
+pub refers : (xs : List OnCpu) (ps : List (Option OnPsref)) (c i : ℕ) (d y : OnCpu) (o q : Option OnPsref) (why : Option Refusal) (answer : Result ℕ Hitch) → c < length xs
+    → (get_or xs c d).view.id ≡ c → i < length ps
+    → Decides (unless_taken (is_some (get_or ps i o)) why) (λ m. Has q (λ p. (p.number ≡ m) × IsAcquired (get_or xs c d) y p)) answer → IfErr answer (λ h. (q ≡ get_or ps i o) × (y ≡ get_or xs c d))
+    → Keeps xs ps (set xs c y) (set ps i q)
 refers xs ps c i d y o q why (Ok m) few named few_labels is refused =
     subst (λ (r : Option OnPsref). Keeps xs ps (set xs c y) (set ps i r)) (sym is.1.1)
     (takes_label xs ps c i is.1.2.1.0 d y o is.1.0 few named few_labels (free_of (get_or ps i o) why is.0) is.1.2.1.2)
@@ -174,11 +190,13 @@ not_refused (Some f) is = absurd (false≢true (sym (ap is_some is)))
 
 -- the label is free, or the call was refused
 pub lets_go : (xs : List OnCpu) (ps : List (Option OnPsref)) (c i : ℕ) (d y : OnCpu) (o q : Option OnPsref) (answer : Result ℕ Hitch) → c < length xs → (get_or xs c d).view.id ≡ c → i < length ps
-    → Decides (unless_free (get_or ps i o) (λ p. hitch_of (why_unusable (get_or xs c d).view p))) (λ m. Has (get_or ps i o) (λ p. (p.number ≡ m) × HasOneLess m (get_or xs c d) y)) answer → IfOk answer (λ m. q ≡ None)
+    → Decides (unless_free (get_or ps i o) (λ p. hitch_of (why_unusable (get_or xs c d).view p))) (λ m. Has (get_or ps i o) (λ p. (p.number ≡ m) × HasOneLess m (get_or xs c d) y)) answer
+    → IfOk answer (λ m. q ≡ None)
     → IfErr answer (λ h. (q ≡ get_or ps i o) × (y ≡ get_or xs c d)) → Keeps xs ps (set xs c y) (set ps i q)
 lets_go xs ps c i d y o q (Ok m) few named few_labels is free refused =
     let p : OnPsref = is.1.0 in
-    let may = usable (get_or xs c d).view p (not_refused (why_unusable (get_or xs c d).view p) (ap (λ (r : Option OnPsref). unless_free r (λ s. hitch_of (why_unusable (get_or xs c d).view s))) (sym is.1.1) ∙ is.0)) in
+    let may = usable (get_or xs c d).view p (not_refused (why_unusable (get_or xs c d).view p)
+    (ap (λ (r : Option OnPsref). unless_free r (λ s. hitch_of (why_unusable (get_or xs c d).view s))) (sym is.1.1) ∙ is.0)) in
     let less : HasOneLess p.number (get_or xs c d) y = subst (λ (n : ℕ). HasOneLess n (get_or xs c d) y) (sym is.1.2.0) is.1.2.1 in
     subst (λ (r : Option OnPsref). Keeps xs ps (set xs c y) (set ps i r)) (sym free)
     (leaves_label xs ps c i d y o p few (may.0 ∙ named) may.1 few_labels is.1.1 less)
@@ -237,7 +255,8 @@ unfolding one_label
 single p c n = let all : labels_to (Some p ∷ []) c n ≡ cond (p.cpu == c && p.number == n) 1 0 + 0 = sum_by-cons (λ (o : Option OnPsref). cond (is_label_to c n o) 1 0) (Some p) [] in omega (arith, all)
 
 -- a reference that its CPU doesn't hold: nothing is left to release
-unheld_released : (xs ys : List OnCpu) (p : OnPsref) → ((c n : ℕ) → references_at ys c n ≡ references_at xs c n) → references_at xs p.cpu p.number ≡ 0 → StayInside xs ys → HaveReleased xs (Some p ∷ []) ys
+unheld_released : (xs ys : List OnCpu) (p : OnPsref) → ((c n : ℕ) → references_at ys c n ≡ references_at xs c n) → references_at xs p.cpu p.number ≡ 0 → StayInside xs ys
+    → HaveReleased xs (Some p ∷ []) ys
 unfolding one_label
 unheld_released xs ys p same unheld inside = record { each = each; inside = inside }
   where
@@ -270,7 +289,8 @@ unheld x p f own why = ⊎_elim
 
 -- the reference's own CPU was asked to release it
 pub own_released : {X : Type 0} (xs : List OnCpu) (p : OnPsref) (d y : OnCpu) (answer : Result X (Refusal × OnPsref)) → p.cpu < length xs → (get_or xs p.cpu d).view.id ≡ p.cpu
-    → GivesBack (why_unusable (get_or xs p.cpu d).view p) p (λ done. HasOneLess p.number (get_or xs p.cpu d) y) answer → IfErr answer (λ f. y ≡ get_or xs p.cpu d) → HaveReleased xs (Some p ∷ []) (set xs p.cpu y)
+    → GivesBack (why_unusable (get_or xs p.cpu d).view p) p (λ done. HasOneLess p.number (get_or xs p.cpu d) y) answer → IfErr answer (λ f. y ≡ get_or xs p.cpu d)
+    → HaveReleased xs (Some p ∷ []) (set xs p.cpu y)
 own_released xs p d y (Ok done) few named is refused =
     let some = (usable (get_or xs p.cpu d).view p is.0).1 in
     record {
@@ -285,7 +305,8 @@ own_released xs p d y (Err f) few named is refused =
     (here_at xs p.cpu p.number d few ∙ unheld (get_or xs p.cpu d).view p f.0 named is.0) (stays_inside xs p.cpu d y (ap inside_of refused))
 
 -- the same of the reference in a place
-pub place_released : {X : Type 0} (m : ℕ) (xs : List OnCpu) (n : ℕ) (x y : OnCpu) (p : OnPsref) (place : Option OnPsref) (answer : Result X (Refusal × OnPsref)) → AreAllCpus m xs → n < length xs → x ≡ get_or xs n x → place ≡ Some p → n ≡ p.cpu
+pub place_released : {X : Type 0} (m : ℕ) (xs : List OnCpu) (n : ℕ) (x y : OnCpu) (p : OnPsref) (place : Option OnPsref) (answer : Result X (Refusal × OnPsref)) → AreAllCpus m xs → n < length xs
+    → x ≡ get_or xs n x → place ≡ Some p → n ≡ p.cpu
     → GivesBack (why_unusable (get_or xs n x).view p) p (λ done. HasOneLess p.number (get_or xs n x) y) answer → IfErr answer (λ f. y ≡ get_or xs n x) → HaveReleased xs (place ∷ []) (set xs n y)
 place_released m xs n x y p place answer all few is here own given refused =
     let named = named_id m xs n x all few is in
@@ -300,7 +321,8 @@ pub none_left : (xs : List OnCpu) (ps : List (Option OnPsref)) → HaveReleased 
 none_left xs ps = record { each = λ c n. let none : labels_to (take 0 ps) c n ≡ 0 = refl in omega (arith, none); inside = refl }
 
 -- the first k places and then the next one
-pub released_next : (xs ys zs : List OnCpu) (ps : List (Option OnPsref)) (k : ℕ) (place : Option OnPsref) → k < length ps → HaveReleased xs (take k ps) ys → HaveReleased ys (place ∷ []) zs → place ≡ get_or ps k place → HaveReleased xs (take (k + 1) ps) zs
+pub released_next : (xs ys zs : List OnCpu) (ps : List (Option OnPsref)) (k : ℕ) (place : Option OnPsref) → k < length ps → HaveReleased xs (take k ps) ys → HaveReleased ys (place ∷ []) zs
+    → place ≡ get_or ps k place → HaveReleased xs (take (k + 1) ps) zs
 released_next xs ys zs ps k place lt first next is = record { each = each; inside = next.inside ∙ first.inside }
   where
     more : (c n : ℕ) → labels_to (take (k + 1) ps) c n ≡ labels_to (take k ps) c n + cond (is_label_to c n place) 1 0

@@ -11,14 +11,16 @@ use Rattle.registry_live.proofs.Labelled.{goes_on_same, same_here, same_on, stay
 use Rattle.registry_live.proofs.LiveCpus.{on_one, uncounted_stays}
 
 -- CPU 0 has released the reference in the place
-pub lets_go : (n : ℕ) (xs : List OnCpu) (x y : OnCpu) (v : ReferenceView) (place : Option ReferenceView) → place ≡ Some v → AreAllCpus n xs → 0 < n → x ≡ get_or xs 0 x → IsLetGo (get_or xs 0 x) v y → LetsGo xs place (set xs 0 y)
+pub lets_go : (n : ℕ) (xs : List OnCpu) (x y : OnCpu) (v : ReferenceView) (place : Option ReferenceView) → place ≡ Some v → AreAllCpus n xs → 0 < n → x ≡ get_or xs 0 x → IsLetGo (get_or xs 0 x) v y
+    → LetsGo xs place (set xs 0 y)
 lets_go n xs x y v place here all some is let_go = subst (λ (o : Option ReferenceView). LetsGo xs o (set xs 0 y)) (sym here) (on_one n xs 0 x y (λ (a b : OnCpu). IsLetGo a v b) all some is let_go)
 
 pub none_gone : (xs : List OnCpu) (ps : List (Option ReferenceView)) → LetGo xs (take 0 ps) xs
 none_gone xs ps = refl
 
 -- the first k places and then the next one
-pub gone_next : (xs ys zs : List OnCpu) (ps : List (Option ReferenceView)) (k : ℕ) (place : Option ReferenceView) → k < length ps → LetGo xs (take k ps) ys → LetsGo ys place zs → place ≡ get_or ps k place → LetGo xs (take (suc k) ps) zs
+pub gone_next : (xs ys zs : List OnCpu) (ps : List (Option ReferenceView)) (k : ℕ) (place : Option ReferenceView) → k < length ps → LetGo xs (take k ps) ys → LetsGo ys place zs
+    → place ≡ get_or ps k place → LetGo xs (take (suc k) ps) zs
 gone_next xs ys zs [] k place lt first next is = absurd (omega (arith, lt))
 gone_next xs ys zs (p ∷ ps) zero place lt first next is = (zs, subst (λ (l : List OnCpu). LetsGo l p zs) first (subst (λ (o : Option ReferenceView). LetsGo ys o zs) is next), refl)
 gone_next xs ys zs (p ∷ ps) (suc k) place lt first next is = (first.0, first.1, gone_next first.0 ys zs ps k place (omega (arith, lt)) first.2 next is)

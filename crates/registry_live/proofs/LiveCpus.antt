@@ -46,11 +46,13 @@ same_stays a b is = record { id = ap (λ (x : OnCpu). x.view.id) is; references 
 pub learned_stays : (a b : OnCpu) → HasLearned a b → StaysOn a b
 learned_stays a b learned = record { id = ap (λ (x : OnCpu). x.view.id) learned.is; references = ap (λ (x : OnCpu). x.view.references) learned.is }
 
-pub attached_stays : (a b : OnCpu) (rec : Record) (inside unfit : Bool) (answer : Result Entry Refusal) → IfOk answer (λ e. (e.rec ≡ rec) × HasLearned a b × HasSeenAttach a b e) → IfErr answer (λ f. IsAttachRefusal inside unfit f × (b ≡ a)) → StaysOn a b
+pub attached_stays : (a b : OnCpu) (rec : Record) (inside unfit : Bool) (answer : Result Entry Refusal) → IfOk answer (λ e. (e.rec ≡ rec) × HasLearned a b × HasSeenAttach a b e)
+    → IfErr answer (λ f. IsAttachRefusal inside unfit f × (b ≡ a)) → StaysOn a b
 attached_stays a b rec inside unfit (Ok e) ok refused = learned_stays a b ok.1
 attached_stays a b rec inside unfit (Err f) ok refused = same_stays a b refused.1
 
-pub detached_stays : (a b : OnCpu) (kind : Kind) (name : Name) (inside : Bool) (answer : Result Entry Refusal) → IfOk answer (λ e. (e.rec.kind ≡ kind) × (e.rec.name ≡ name) × HasLearned a b × HasSeenDetach a b e) → IfErr answer (λ f. IsDetachRefusedTo inside f × (b ≡ a))
+pub detached_stays : (a b : OnCpu) (kind : Kind) (name : Name) (inside : Bool) (answer : Result Entry Refusal)
+    → IfOk answer (λ e. (e.rec.kind ≡ kind) × (e.rec.name ≡ name) × HasLearned a b × HasSeenDetach a b e) → IfErr answer (λ f. IsDetachRefusedTo inside f × (b ≡ a))
     → StaysOn a b
 detached_stays a b kind name inside (Ok e) ok refused = learned_stays a b ok.2
 detached_stays a b kind name inside (Err f) ok refused = same_stays a b refused.1
@@ -69,13 +71,15 @@ pub uncounted_stays : (a b : OnCpu) (v : ReferenceView) → IsLetGo a v b → St
 uncounted_stays a b v (inl is) = record { id = ap (λ (x : OnCpu). x.view.id) is; references = ap (λ (x : OnCpu). x.view.references) is }
 uncounted_stays a b v (inr back) = let is = back.1.cpu in record { id = ap (λ (x : OnCpu). x.view.id) is; references = ap (λ (x : OnCpu). x.view.references) is }
 
-pub released_id : {X : Type 0} (a b : OnCpu) (p : OnPsref) (why : Option Refusal) (answer : Result X (Refusal × OnPsref)) → GivesBack why p (λ x. HasOneLess p.number a b) answer → IfErr answer (λ e. b ≡ a) → b.view.id ≡ a.view.id
+pub released_id : {X : Type 0} (a b : OnCpu) (p : OnPsref) (why : Option Refusal) (answer : Result X (Refusal × OnPsref)) → GivesBack why p (λ x. HasOneLess p.number a b) answer
+    → IfErr answer (λ e. b ≡ a) → b.view.id ≡ a.view.id
 released_id a b p why (Ok x) is refused = ap (λ (y : OnCpu). y.view.id) is.1
 released_id a b p why (Err e) is refused = ap (λ (y : OnCpu). y.view.id) refused
 
 -- What becomes of a passive reference that is given back
 
-once_back : {X : Type 0} (xs : List OnCpu) (x y : OnCpu) (p : OnPsref) (answer : Result X (Refusal × OnPsref)) → GivesBack (why_unusable (get_or xs p.cpu x).view p) p (λ d. HasOneLess p.number (get_or xs p.cpu x) y) answer → IsGivenBack xs (set xs p.cpu y) p
+once_back : {X : Type 0} (xs : List OnCpu) (x y : OnCpu) (p : OnPsref) (answer : Result X (Refusal × OnPsref))
+    → GivesBack (why_unusable (get_or xs p.cpu x).view p) p (λ d. HasOneLess p.number (get_or xs p.cpu x) y) answer → IsGivenBack xs (set xs p.cpu y) p
 once_back xs x y p (Ok d) given = λ (z : OnCpu) at may. (y, subst (λ (u : OnCpu). HasOneLess p.number u y) (cpu_at xs p.cpu z x at).1 given.1, refl)
 once_back xs x y p (Err e) given = λ (z : OnCpu) at may. absurd (false≢true (sym (ap is_some (sym given.0 ∙ ap (λ (u : OnCpu). why_unusable u.view p) (cpu_at xs p.cpu z x at).1 ∙ may))))
 

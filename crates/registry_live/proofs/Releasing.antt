@@ -68,7 +68,8 @@ one_set xs c d y one = record { size = length-set xs c y; each = each }
         (at_set xs c k y b now)
 
 -- the CPU was asked to release the reference
-pub asked : {X : Type 0} (xs : List OnCpu) (c : ℕ) (d y : OnCpu) (p : OnPsref) (why : Option Refusal) (answer : Result X (Refusal × OnPsref)) → GivesBack why p (λ done. HasOneLess p.number (get_or xs c d) y) answer → IfErr answer (λ f. y ≡ get_or xs c d)
+pub asked : {X : Type 0} (xs : List OnCpu) (c : ℕ) (d y : OnCpu) (p : OnPsref) (why : Option Refusal) (answer : Result X (Refusal × OnPsref))
+    → GivesBack why p (λ done. HasOneLess p.number (get_or xs c d) y) answer → IfErr answer (λ f. y ≡ get_or xs c d)
     → AllOnlyRelease xs (set xs c y)
 asked xs c d y p why (Ok done) is refused = one_set xs c d y (is_one_less (get_or xs c d) y p.number is.1)
 asked xs c d y p why (Err f) is refused = one_set xs c d y (is_same (get_or xs c d) y refused)

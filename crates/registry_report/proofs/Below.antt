@@ -48,7 +48,8 @@ kept_one n (Some m) = refl
 pub kept_is : (n : ℕ) (keeps : List (Option ℕ)) → sum_by (kept_of n) keeps ≡ count_below (λ t. is_this n (kept_at keeps t)) (length keeps)
 kept_is n keeps = sum_is (kept_of n) (is_this n) keeps None (kept_one n)
 
-or_next_first : (p : ℕ → Bool) (n c : ℕ) (o : Option ℕ) (b : Bool) → least_below p n ≡ o → or_next o b n ≡ Some c → ((least_below p n ≡ Some c → (d : ℕ) → d < c → p d ≡ false)) → (d : ℕ) → d < c → p d ≡ false
+or_next_first : (p : ℕ → Bool) (n c : ℕ) (o : Option ℕ) (b : Bool) → least_below p n ≡ o → or_next o b n ≡ Some c → ((least_below p n ≡ Some c → (d : ℕ) → d < c → p d ≡ false)) → (d : ℕ) → d < c
+    → p d ≡ false
 or_next_first p n c (Some x) b at is before d lt = before (at ∙ is) d lt
 or_next_first p n c None true at is before d lt = let same : n ≡ c = same_Some n c is in least_none p n at d (omega arith)
 or_next_first p n c None false at is before d lt = absurd (none-some c is)

@@ -50,13 +50,15 @@ same_attach e f p = cc
 
 -- nothing happens at this position
 idle_step : (h : List Change) (key : Key) (k : ℕ) (a : Option Entry) → change_at h (suc k) ≡ None → IsLookup h k key a → IsLookup h (suc k) key a
-idle_step h key k None is was = λ e live same. was e (live_back h k e live (not_here h (suc k) e None live.attached is (λ (q : ◌≡◌ {A = Option Change} None (Some (Attach e))). none-some (Attach e) q))) same
+idle_step h key k None is was =
+    λ e live same. was e (live_back h k e live (not_here h (suc k) e None live.attached is (λ (q : ◌≡◌ {A = Option Change} None (Some (Attach e))). none-some (Attach e) q))) same
 idle_step h key k (Some e) is was = (live_on h k e was.0 (λ (q : EndsAt h e.number (suc k)). none-some (Detach e.number) (sym is ∙ q)), was.1)
 
 -- an entry with another key is attached
 other_step : (h : List Change) (key : Key) (k : ℕ) (f : Entry) (a : Option Entry) → change_at h (suc k) ≡ Some (Attach f) → (key_of f ≡ key → ⊥) → IsLookup h k key a → IsLookup h (suc k) key a
 other_step h key k f None is other was = λ e live same. was e
-    (live_back h k e live (not_here h (suc k) e (Some (Attach f)) live.attached is (λ (q : ◌≡◌ {A = Option Change} (Some (Attach f)) (Some (Attach e))). other (ap key_of (same_attach f e q) ∙ same)))) same
+    (live_back h k e live (not_here h (suc k) e (Some (Attach f)) live.attached is (λ (q : ◌≡◌ {A = Option Change} (Some (Attach f)) (Some (Attach e))). other (ap key_of (same_attach f e q) ∙ same))))
+    same
 other_step h key k f (Some e) is other was = (live_on h k e was.0 (λ (q : EndsAt h e.number (suc k)). attach_ends f e.number (sym is ∙ q)), was.1)
 
 -- one with the key is
@@ -90,12 +92,14 @@ beside_step h key k n (Some e) is other was = (
   was.1,
 )
 
-detach_step : (h : List Change) → IsLegal h → (key : Key) (k n : ℕ) (a : Option Entry) (b : Bool) → change_at h (suc k) ≡ Some (Detach n) → is_number n a ≡ b → IsLookup h k key a → IsLookup h (suc k) key (if b then None else a)
+detach_step : (h : List Change) → IsLegal h → (key : Key) (k n : ℕ) (a : Option Entry) (b : Bool) → change_at h (suc k) ≡ Some (Detach n) → is_number n a ≡ b → IsLookup h k key a
+    → IsLookup h (suc k) key (if b then None else a)
 detach_step h legal key k n a false is test was = beside_step h key k n a is test was
 detach_step h legal key k n None true is test was = absurd (let q : ◌≡◌ {A = Bool} false true = test in cc)
 detach_step h legal key k n (Some e) true is test was = end_step h legal key k n e is (eqb-true e.number n test) was
 
-key_step : (h : List Change) → IsLegal h → (key : Key) (k : ℕ) (f : Entry) (a : Option Entry) (b : Bool) → change_at h (suc k) ≡ Some (Attach f) → same_key (key_of f) key ≡ b → IsLookup h k key a → IsLookup h (suc k) key (if b then Some f else a)
+key_step : (h : List Change) → IsLegal h → (key : Key) (k : ℕ) (f : Entry) (a : Option Entry) (b : Bool) → change_at h (suc k) ≡ Some (Attach f) → same_key (key_of f) key ≡ b → IsLookup h k key a
+    → IsLookup h (suc k) key (if b then Some f else a)
 key_step h legal key k f a true is test was = attach_step h legal key k f is (key_from (key_of f) key test)
 key_step h legal key k f a false is test was = other_step h key k f a is
     (λ (same : key_of f ≡ key). let q : ◌≡◌ {A = Bool} true false = sym (ap (λ (x : Key). same_key x key) same ∙ key_same key) ∙ test in cc) was

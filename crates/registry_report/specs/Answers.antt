@@ -1,5 +1,6 @@
 -- What each command answers: by lookups in the history, the first-fit slot, the first obstacle, and who holds what.
-use Rattle.std.specs.Prelude.{ℕ, zero, suc, ◌+◌, ◌==◌, nat_lt, List, [], ◌∷◌, ◌++◌, length, Option, Some, None, is_none, is_some, Bool, false, not, ◌&&◌, Result, Ok, Err, if◌then◌else◌, ℤ, pos, neg_ℤ, ◌-ℤ◌}
+use Rattle.std.specs.Prelude.{ℕ, zero, suc, ◌+◌, ◌==◌, nat_lt, List, [], ◌∷◌, ◌++◌, length, Option, Some, None, is_none, is_some, Bool, false, not, ◌&&◌, Result, Ok, Err, if◌then◌else◌, ℤ, pos, neg_ℤ}
+use Rattle.std.specs.Prelude.{◌-ℤ◌}
 use Rattle.registry_report.specs.Types.{Room, Entry, Record, CorePsref, Refusal, Stage, Key}
 use Rattle.registry_values.specs.declared.refusal.Refusal.TheVariants as refusal
 use Rattle.registry_values.specs.Common.{least_below, stage_of, key_of_record, is_iface, Tally}

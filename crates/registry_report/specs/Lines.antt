@@ -2,7 +2,8 @@
 use Rattle.std.specs.Prelude.{ℕ, ◌+◌, List, [], ◌∷◌, ◌++◌, map, Bool, true, false, Option, Some, None, codes}
 use Rattle.std.specs.Fmt.{decimal, signed_decimal}
 use Rattle.registry_values.specs.Common.{Tally}
-use Rattle.registry_report.specs.Types.{Entry, Refusal, NoMemory, BadSettings, NameTaken, NoSlot, HistoryFull, NotFound, Inside, SectionsSpent, NothingFound, PassiveFull, WrongCpu, NotHeld, LocalFull, NotRetired, MissingCpu, StillHeld, Waiting, TooDeep, NeedsDriver, Stage, Grace, Passive, Local, Freed}
+use Rattle.registry_report.specs.Types.{Entry, Refusal, NoMemory, BadSettings, NameTaken, NoSlot, HistoryFull, NotFound, Inside, SectionsSpent, NothingFound, PassiveFull, WrongCpu, NotHeld, LocalFull}
+use Rattle.registry_report.specs.Types.{NotRetired, MissingCpu, StillHeld, Waiting, TooDeep, NeedsDriver, Stage, Grace, Passive, Local, Freed}
 use Rattle.registry_report.specs.declared.hitch.Hitch.{Hitch}
 use Rattle.registry_report.specs.declared.hitch.Hitch.TheVariants.{NoLabel, LabelTaken, NotInside, Refused}
 
@@ -85,7 +86,8 @@ performed_line = line_of_text (codes "performed")
 
 -- a CPU's net count may be negative, and so may the total
 abbrev pub balance_line : Tally → List ℕ
-balance_line t = line_of_words (codes "slot" ∷ decimal t.slot ∷ codes "number" ∷ decimal t.number ∷ codes "held" ∷ signed_decimal t.held ∷ codes "locals" ∷ map signed_decimal t.locals ++ codes "total" ∷ signed_decimal t.total ∷ [])
+balance_line t = line_of_words (codes "slot" ∷ decimal t.slot ∷ codes "number" ∷ decimal t.number ∷ codes "held" ∷ signed_decimal t.held ∷ codes "locals" ∷ map signed_decimal t.locals
+    ++ codes "total" ∷ signed_decimal t.total ∷ [])
 
 abbrev pub balance_lines : List Tally → List ℕ
 balance_lines [] = []

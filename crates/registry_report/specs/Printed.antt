@@ -2,12 +2,15 @@
 use Rattle.std.specs.Prelude.{◌≡◌, ℕ, List, [], ◌∷◌, ◌++◌, Option, true, ◌⊎◌, Result, IfErr}
 use Rattle.std.specs.Io.KnownBytes.{Appends}
 use Rattle.registry_values.specs.Common.{Tally, IsObstacle}
-use Rattle.registry_report.specs.Types.{Refusal, NoMemory, NameTaken, NoSlot, HistoryFull, NotFound, Inside, SectionsSpent, NothingFound, PassiveFull, WrongCpu, NotHeld, LocalFull, NotRetired, StillHeld, Waiting, TooDeep, NeedsDriver, Command, Domain, Limits, Plug, Enter, Exit, Find, Reference, Copy, Held, Read, Release, Count, Peek, Uncount, Advance, Destroy, Perform, Audit}
+use Rattle.registry_report.specs.Types.{Refusal, NoMemory, NameTaken, NoSlot, HistoryFull, NotFound, Inside, SectionsSpent, NothingFound, PassiveFull, WrongCpu, NotHeld, LocalFull, NotRetired}
+use Rattle.registry_report.specs.Types.{StillHeld, Waiting, TooDeep, NeedsDriver, Command, Domain, Limits, Plug, Enter, Exit, Find, Reference, Copy, Held, Read, Release, Count, Peek, Uncount, Advance}
+use Rattle.registry_report.specs.Types.{Destroy, Perform, Audit}
 use Rattle.registry_report.specs.declared.hitch.Hitch.{Hitch}
 use Rattle.registry_report.specs.declared.hitch.Hitch.TheVariants.{NoLabel, LabelTaken, NotInside, Refused}
 use Rattle.registry_report.specs.declared.session.Reading.{Reading}
 use Rattle.registry_language.specs.declared.command.Command.TheVariants.{Attach, Detach}
-use Rattle.registry_report.specs.Lines.{domain_line, limits_line, attached_line, retired_line, section_line, found_line, reference_line, held_line, read_line, released_line, counted_line, peek_line, uncounted_line, stage_line, destroyed_line, performed_line, audit_text}
+use Rattle.registry_report.specs.Lines.{domain_line, limits_line, attached_line, retired_line, section_line, found_line, reference_line, held_line, read_line, released_line, counted_line, peek_line}
+use Rattle.registry_report.specs.Lines.{uncounted_line, stage_line, destroyed_line, performed_line, audit_text}
 use Rattle.registry_report.specs.Report.{answer_line}
 use Rattle.registry_report.specs.Written.{AppendsPrefix}
 

@@ -3,11 +3,14 @@ use Rattle.std.specs.Prelude.{ℕ, List, [], ◌∷◌, ◌++◌, true, Result, 
 use Rattle.registry_report.specs.declared.hitch.Hitch.{Hitch}
 use Rattle.registry_report.specs.Types.{Command, Domain, Limits, Plug, Enter, Exit, Find, Reference, Copy, Held, Read, Release, Count, Peek, Uncount, Advance, Destroy, Perform, Audit}
 use Rattle.registry_language.specs.declared.command.Command.TheVariants.{Attach, Detach}
-use Rattle.registry_report.specs.Lines.{domain_line, limits_line, attached_line, retired_line, section_line, found_line, reference_line, held_line, read_line, released_line, counted_line, peek_line, uncounted_line, stage_line, destroyed_line, performed_line, audit_text, hitch_line}
+use Rattle.registry_report.specs.Lines.{domain_line, limits_line, attached_line, retired_line, section_line, found_line, reference_line, held_line, read_line, released_line, counted_line, peek_line}
+use Rattle.registry_report.specs.Lines.{uncounted_line, stage_line, destroyed_line, performed_line, audit_text, hitch_line}
 use Rattle.registry_language.specs.Program.{Program}
 use Rattle.registry_report.specs.Registry.{Registry, opening_registry}
-use Rattle.registry_report.specs.Answers.{command_answer, attach_answer, plug_answer, detach_answer, enter_answer, exit_answer, find_answer, reference_answer, copy_answer, held_answer, read_answer, release_answer, count_answer, peek_answer, uncount_answer, advance_answer, destroy_answer, perform_answer, audit_answer}
-use Rattle.registry_report.specs.Turns.{on_ok, with_attached, after_plug, with_detached, with_section_entered, with_section_exited, with_found, with_reference, without_reference, with_one_counted, with_one_uncounted, after_advance, after_destroy}
+use Rattle.registry_report.specs.Answers.{command_answer, attach_answer, plug_answer, detach_answer, enter_answer, exit_answer, find_answer, reference_answer, copy_answer, held_answer, read_answer}
+use Rattle.registry_report.specs.Answers.{release_answer, count_answer, peek_answer, uncount_answer, advance_answer, destroy_answer, perform_answer, audit_answer}
+use Rattle.registry_report.specs.Turns.{on_ok, with_attached, after_plug, with_detached, with_section_entered, with_section_exited, with_found, with_reference, without_reference, with_one_counted}
+use Rattle.registry_report.specs.Turns.{with_one_uncounted, after_advance, after_destroy}
 
 -- the line of an answer, or of why there is none
 abbrev pub answer_line : {X : Type 0} → (X → List ℕ) → Result X Hitch → List ℕ

@@ -8,7 +8,8 @@ use Rattle.registry_report.specs.Registry.{Registry}
 use Rattle.registry_report.specs.Session.{SessionState}
 
 -- the history, who found what, who holds what, and what stands in the slots
-pub record ShowsModel (h : List Change) (begins : List (Option ℕ)) (found : List (Option Entry)) (passive : List (List ℕ)) (slots : List Slot) (locals : List LocalPlace) (keeps : List (Option ℕ)) (m : Model) : Type 0 where
+pub record ShowsModel (h : List Change) (begins : List (Option ℕ)) (found : List (Option Entry)) (passive : List (List ℕ)) (slots : List Slot) (locals : List LocalPlace) (keeps : List (Option ℕ))
+    (m : Model) : Type 0 where
   pub history : m.history ≡ h
   pub sections : (c : ℕ) → m.sections c ≡ slice_index_or begins c None
   pub last_found : (c : ℕ) → m.found c ≡ slice_index_or found c None
@@ -28,7 +29,8 @@ CountsLive h slots = count_by is_attach h ≡ count_by (λ c. not (is_attach c))
 
 -- a section with the snapshot's word was begun before the entry's end
 abbrev pub SnapshotsFollow : List Change → List Slot → List (List Mark) → List ℕ → List (Option ℕ) → Type 0
-SnapshotsFollow h slots marks section begins = (t p c b w : ℕ) (e : Entry) → slot_at slots t ≡ Retired e → EndsAt h e.number p → slice_index_or begins c None ≡ Some b → (mark_at marks t c).snapshot ≡ Some w → slice_index_or section c 0 ≡ w → b < p
+SnapshotsFollow h slots marks section begins = (t p c b w : ℕ) (e : Entry) → slot_at slots t ≡ Retired e → EndsAt h e.number p → slice_index_or begins c None ≡ Some b
+    → (mark_at marks t c).snapshot ≡ Some w → slice_index_or section c 0 ≡ w → b < p
 
 -- a number that is to come has no counts
 pub record IsFresh (acquired released : ℕ → ℕ → ℕ) (given_up : ℕ → ℕ) (is_collected : ℕ → Bool) (n : ℕ) : Type 0 where
@@ -38,7 +40,8 @@ pub record IsFresh (acquired released : ℕ → ℕ → ℕ) (given_up : ℕ →
   pub uncollected : is_collected n ≡ false
 
 -- the net counts are what was acquired less what was released; before the drain each word is its net count and the total what was given up
-pub record ShowsTallies (cpus : ℕ) (h : List Change) (slots : List Slot) (counts nets : List (List ℕ)) (totals : List ℕ) (acquired released : ℕ → ℕ → ℕ) (given_up : ℕ → ℕ) (is_collected : ℕ → Bool) : Type 0 where
+pub record ShowsTallies (cpus : ℕ) (h : List Change) (slots : List Slot) (counts nets : List (List ℕ)) (totals : List ℕ) (acquired released : ℕ → ℕ → ℕ) (given_up : ℕ → ℕ)
+    (is_collected : ℕ → Bool) : Type 0 where
   pub net : (t c : ℕ) (e : Entry) → IsIn e (slot_at slots t) → c < cpus → count_at nets c t + released c e.number ≡ bias + acquired c e.number
   pub word : (t c : ℕ) (e : Entry) → IsIn e (slot_at slots t) → c < cpus → is_collected e.number ≡ false → count_at counts c t ≡ count_at nets c t
   pub total : (t : ℕ) (e : Entry) → IsIn e (slot_at slots t) → is_collected e.number ≡ false → total_at totals t + given_up e.number ≡ bias

@@ -9,7 +9,8 @@ pub use Rattle.registry_values.specs.declared.entry.Kind.TheVariants.{Driver, If
 pub use Rattle.registry_values.specs.declared.entry.Record.{Record}
 pub use Rattle.registry_values.specs.declared.mark.Mark.{Mark}
 pub use Rattle.registry_values.specs.declared.refusal.Refusal.{Refusal}
-pub use Rattle.registry_values.specs.declared.refusal.Refusal.TheVariants.{BadSettings, HistoryFull, Inside, LocalFull, MissingCpu, NameTaken, NeedsDriver, NoMemory, NoSlot, NotFound, NotHeld, NotRetired, NothingFound, PassiveFull, SectionsSpent, StillHeld, TooDeep, Waiting, WrongCpu}
+pub use Rattle.registry_values.specs.declared.refusal.Refusal.TheVariants.{BadSettings, HistoryFull, Inside, LocalFull, MissingCpu, NameTaken, NeedsDriver, NoMemory, NoSlot, NotFound, NotHeld}
+pub use Rattle.registry_values.specs.declared.refusal.Refusal.TheVariants.{NotRetired, NothingFound, PassiveFull, SectionsSpent, StillHeld, TooDeep, Waiting, WrongCpu}
 pub use Rattle.registry_values.specs.declared.settings.Settings.{Settings}
 pub use Rattle.registry_values.specs.declared.settings.TheConstants.{MOST_CPUS}
 pub use Rattle.registry_values.specs.declared.slot.Key.{Key}
@@ -23,5 +24,6 @@ pub use Rattle.protocol.specs.declared.state.LocalPlace.{LocalPlace}
 pub use Rattle.protocol.specs.declared.state.LocalPlace.TheVariants.{Free, Standing}
 pub use Rattle.passive_core.specs.declared.psref.CorePsref.{CorePsref}
 pub use Rattle.registry_language.specs.declared.command.Command.{Command}
-pub use Rattle.registry_language.specs.declared.command.Command.TheVariants.{Advance, Audit, Copy, Count, Destroy, Domain, Enter, Exit, Find, Held, Limits, Peek, Perform, Plug, Read, Reference, Release, Uncount}
+pub use Rattle.registry_language.specs.declared.command.Command.TheVariants.{Advance, Audit, Copy, Count, Destroy, Domain, Enter, Exit, Find, Held, Limits, Peek, Perform, Plug, Read, Reference}
+pub use Rattle.registry_language.specs.declared.command.Command.TheVariants.{Release, Uncount}
 pub use Rattle.registry_language.specs.declared.fault.RunFault.{RunFault}

@@ -2,7 +2,8 @@
 use Rattle.std.proofs.Common.{◌≡◌, ⊎_elim, ℕ, ◌<◌, ◌≤◌, nat_lt, Bool, true, false, Option, Some, None, Result, Ok, Err, if◌then◌else◌, refl, sym, ap, ◌∙◌}
 use Rattle.std.specs.Prelude.{IsErr, IsErrAnd}
 use Rattle.std.proofs.lemmas.Bool.{cases_lt, le-ltb, lt-ltb}
-use Rattle.registry_values.specs.Common.{Room, Entry, Record, Refusal, NameTaken, NoSlot, HistoryFull, Inside, LocalFull, NeedsDriver, has_room, next_entry, entry_in, given_entry, attach_answer, why_uncounted}
+use Rattle.registry_values.specs.Common.{Room, Entry, Record, Refusal, NameTaken, NoSlot, HistoryFull, Inside, LocalFull, NeedsDriver, has_room, next_entry, entry_in, given_entry, attach_answer}
+use Rattle.registry_values.specs.Common.{why_uncounted}
 
 -- what is so where an entry is given
 pub record IsGiven (taken : Bool) (fit : Option ℕ) (room : Room) (rec : Record) (e : Entry) : Type 0 where

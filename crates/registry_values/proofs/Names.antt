@@ -1,5 +1,6 @@
 -- How the bytes of a name and its two words hang together.
-use Rattle.std.proofs.Common.{◌≡◌, ℕ, ◌+◌, ◌-◌, ◌<◌, ◌==◌, zero, suc, Bool, true, false, ◌&&◌, List, [], ◌∷◌, ◌++◌, length, get_or, take, drop, replicate, Option, Some, None, is_none, if◌then◌else◌, nat_le, refl, ap, ap₂, sym, ◌∙◌, arith, ◌⊎◌, length-append, length-drop, length-take-le, take-append-drop, inl, inr}
+use Rattle.std.proofs.Common.{◌≡◌, ℕ, ◌+◌, ◌-◌, ◌<◌, ◌==◌, zero, suc, Bool, true, false, ◌&&◌, List, [], ◌∷◌, ◌++◌, length, get_or, take, drop, replicate, Option, Some, None, is_none, if◌then◌else◌}
+use Rattle.std.proofs.Common.{nat_le, refl, ap, ap₂, sym, ◌∙◌, arith, ◌⊎◌, length-append, length-drop, length-take-le, take-append-drop, inl, inr}
 use Rattle.std.proofs.lemmas.Bool.{and_parts, and_from}
 use Rattle.std.proofs.lemmas.Bool.Decides.{nat_tests}
 use Rattle.std.proofs.lemmas.List.{length-replicate}

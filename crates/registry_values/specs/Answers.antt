@@ -5,7 +5,8 @@ use Rattle.registry_values.specs.declared.answer.Room.{Room}
 use Rattle.registry_values.specs.declared.entry.Entry.{Entry}
 use Rattle.registry_values.specs.declared.entry.Record.{Record}
 use Rattle.registry_values.specs.declared.refusal.Refusal.{Refusal}
-use Rattle.registry_values.specs.declared.refusal.Refusal.TheVariants.{NameTaken, NoSlot, HistoryFull, Inside, NeedsDriver, TooDeep, SectionsSpent, PassiveFull, WrongCpu, NotHeld, LocalFull, NotFound, Waiting}
+use Rattle.registry_values.specs.declared.refusal.Refusal.TheVariants.{NameTaken, NoSlot, HistoryFull, Inside, NeedsDriver, TooDeep, SectionsSpent, PassiveFull, WrongCpu, NotHeld, LocalFull, NotFound}
+use Rattle.registry_values.specs.declared.refusal.Refusal.TheVariants.{Waiting}
 use Rattle.registry_values.specs.declared.slot.Slot.{Slot}
 use Rattle.registry_values.specs.Slots.{is_available}
 

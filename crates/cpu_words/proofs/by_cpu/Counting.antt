@@ -1,5 +1,6 @@
 -- A count word of a CPU and its net count change: why the other views stay, and what the CPU's own view shows.
-use Rattle.std.proofs.Common.{◌≡◌, ◌≢◌, ⊎_elim, ℕ, zero, suc, ◌+◌, ◌*◌, ◌<◌, ◌≤◌, List, [], ◌∷◌, ◌++◌, length, replicate, get_or, set, sum_by, false, cond, refl, sym, ap, ◌∙◌, subst, arith, length-append, get_or-set_same, get_or-set_other}
+use Rattle.std.proofs.Common.{◌≡◌, ◌≢◌, ⊎_elim, ℕ, zero, suc, ◌+◌, ◌*◌, ◌<◌, ◌≤◌, List, [], ◌∷◌, ◌++◌, length, replicate, get_or, set, sum_by, false, cond, refl, sym, ap, ◌∙◌, subst, arith}
+use Rattle.std.proofs.Common.{length-append, get_or-set_same, get_or-set_other}
 use Rattle.std.specs.List.{zip}
 use Rattle.std.proofs.lemmas.List.{length-replicate}
 use Rattle.std.proofs.lemmas.List.Sums.{sum_by-cons}
@@ -12,7 +13,8 @@ use Rattle.registry_values.proofs.Fit.{ranges}
 use Rattle.protocol.proofs.slots.Cells.{get_or_all, row_here, row_other, cell_here, cell_other}
 use Rattle.protocol.proofs.history.History.{at_within, one_entry}
 use Rattle.protocol.proofs.slots.Occupied.{not_vacant, one_in, one_number, attached_in}
-use Rattle.cpu_words.specs.Common.{InHand, CpuView, Spot, section_of, passive_of, count_of, head_word, next_of, record_of, total_of, word_at, index, number_at, with_number, one_more, own_of, cpu_view, SameHand, HandFits, depth_of, collected_net, collected_one, GivesUp, CpuShown, Agrees, Good, IsNetCount, IsPlaceCount, IsMetAlone}
+use Rattle.cpu_words.specs.Common.{InHand, CpuView, Spot, section_of, passive_of, count_of, head_word, next_of, record_of, total_of, word_at, index, number_at, with_number, one_more, own_of, cpu_view}
+use Rattle.cpu_words.specs.Common.{SameHand, HandFits, depth_of, collected_net, collected_one, GivesUp, CpuShown, Agrees, Good, IsNetCount, IsPlaceCount, IsMetAlone}
 use Rattle.cpu_words.proofs.shown.Placing.{agrees_set}
 use Rattle.cpu_words.proofs.by_cpu.CpuSteps.{CpuLists, lists_of, with_lists, LeavesOthers}
 use Rattle.cpu_words.proofs.shown.Seeing.{seen_of}
@@ -56,7 +58,8 @@ place_is g x t e w had here place = dite (ℕ_discrete (number_at x.met t) e.num
 -- Marks and net counts of one slot
 
 -- a sum over marks and net counts, as one net count changes that the sum leaves out
-uncollected_sum : (f : Mark × ℕ → ℕ) (ms : List Mark) (ns : List ℕ) (c v : ℕ) → ((n : ℕ) → f (get_or ms c no_mark, v) ≡ f (get_or ms c no_mark, n)) → sum_by f (zip ms (set ns c v)) ≡ sum_by f (zip ms ns)
+uncollected_sum : (f : Mark × ℕ → ℕ) (ms : List Mark) (ns : List ℕ) (c v : ℕ) → ((n : ℕ) → f (get_or ms c no_mark, v) ≡ f (get_or ms c no_mark, n))
+    → sum_by f (zip ms (set ns c v)) ≡ sum_by f (zip ms ns)
 uncollected_sum f [] ns c v same = refl
 uncollected_sum f (m ∷ ms) [] c v same = refl
 uncollected_sum f (m ∷ ms) (n ∷ ns) zero v same =
@@ -74,7 +77,8 @@ uncollected_sum f (m ∷ ms) (n ∷ ns) (suc c) v same =
 abbrev pub count_lists : State → ℕ → ℕ → ℕ → ℕ → Hand → List LocalPlace → CpuLists
 count_lists g c t w v h locals = record (lists_of g) { hands = set g.hands c h; counts = with_cell g.counts t c w; nets = with_cell g.nets t c v; locals = locals }
 
-gives_up_on : (g : State) (c t v : ℕ) (given_up : List ℕ) (u : ℕ) (e : Entry) → t < length g.nets → ((e : Entry) → slot_at g.slots t ≡ Retired e → (mark_at g.marks t c).collected ≡ false) → slot_at g.slots u ≡ Retired e
+gives_up_on : (g : State) (c t v : ℕ) (given_up : List ℕ) (u : ℕ) (e : Entry) → t < length g.nets → ((e : Entry) → slot_at g.slots t ≡ Retired e → (mark_at g.marks t c).collected ≡ false)
+    → slot_at g.slots u ≡ Retired e
     → GivesUp g given_up u e.number → GivesUp (record g { nets = with_cell g.nets t c v }) given_up u e.number
 gives_up_on g c t v given_up u e lt used gone p = dite (ℕ_discrete u t)
     (λ (same : u ≡ t).
@@ -84,9 +88,11 @@ gives_up_on g c t v given_up u e lt used gone p = dite (ℕ_discrete u t)
     let mark : (get_or ms c no_mark).collected ≡ false = ap (λ k. (mark_at g.marks k c).collected) same ∙ used e (ap (slot_at g.slots) (sym same) ∙ gone) in
     let a = uncollected_sum collected_net ms ns c v (λ n. ap (λ b. cond b v 0) mark ∙ sym (ap (λ b. cond b n 0) mark)) in
     let b = uncollected_sum collected_one ms ns c v (λ n. refl) in
-    subst (λ r. total_at g.totals u + addition_due_at u g.due + number_at given_up e.number + bias * sum_by collected_one (zip ms r) ≡ bias * (1 + is_adding_at u g.due) + sum_by collected_net (zip ms r) + subtraction_due_at u g.due) (sym row)
+    subst (λ r. total_at g.totals u + addition_due_at u g.due + number_at given_up e.number + bias * sum_by collected_one (zip ms r)
+    ≡ bias * (1 + is_adding_at u g.due) + sum_by collected_net (zip ms r) + subtraction_due_at u g.due) (sym row)
     (ap (λ k. total_at g.totals u + addition_due_at u g.due + number_at given_up e.number + bias * k) b ∙ p ∙ ap (λ k. bias * (1 + is_adding_at u g.due) + k + subtraction_due_at u g.due) (sym a)))
-    (λ (other : u ≢ t). subst (λ r. total_at g.totals u + addition_due_at u g.due + number_at given_up e.number + bias * sum_by collected_one (zip (get_or g.marks u []) r) ≡ bias * (1 + is_adding_at u g.due) + sum_by collected_net (zip (get_or g.marks u []) r) + subtraction_due_at u g.due)
+    (λ (other : u ≢ t). subst (λ r. total_at g.totals u + addition_due_at u g.due + number_at given_up e.number + bias * sum_by collected_one (zip (get_or g.marks u []) r)
+    ≡ bias * (1 + is_adding_at u g.due) + sum_by collected_net (zip (get_or g.marks u []) r) + subtraction_due_at u g.due)
     (sym (row_other g.nets t c v u other)) p)
 
 -- the word of a retired slot that still counts has no collected mark
@@ -96,7 +102,8 @@ still_open g c t counting e gone = ⊎_elim
     (λ (on : (slot_at g.slots t ≡ Retired counting.0) × ((mark_at g.marks t c).collected ≡ false)). on.1)
     counting.1
 
-pub leaves_counts : (g : State) (c t w v : ℕ) (h : Hand) (locals : List LocalPlace) (e : Entry) → Good g → IsIn e (slot_at g.slots t) → t < g.settings.slots → IsCounting g.slots g.marks c t → LeavesOthers g c (count_lists g c t w v h locals)
+pub leaves_counts : (g : State) (c t w v : ℕ) (h : Hand) (locals : List LocalPlace) (e : Entry) → Good g → IsIn e (slot_at g.slots t) → t < g.settings.slots → IsCounting g.slots g.marks c t
+    → LeavesOthers g c (count_lists g c t w v h locals)
 leaves_counts g c t w v h locals e good here lt counting =
     let nets : length g.nets ≡ g.settings.slots = good.holds.shape.nets in
     let within : t < length g.nets = omega arith in record {
@@ -114,7 +121,8 @@ leaves_counts g c t w v h locals e good here lt counting =
     }
 
 -- the words after a step on a count word
-pub count_words : (words : List ℕ) (g : State) (c t w v : ℕ) (h : Hand) (locals : List LocalPlace) → Good g → Agrees words g → c < g.settings.cpus → t < g.settings.slots → Agrees (set words (index (count_of c t)) w) (with_lists g (count_lists g c t w v h locals))
+pub count_words : (words : List ℕ) (g : State) (c t w v : ℕ) (h : Hand) (locals : List LocalPlace) → Good g → Agrees words g → c < g.settings.cpus → t < g.settings.slots
+    → Agrees (set words (index (count_of c t)) w) (with_lists g (count_lists g c t w v h locals))
 count_words words g c t w v h locals good agrees lt there =
     let size : length g.counts ≡ g.settings.slots = good.holds.shape.counts in
     let in_rows : t < length g.counts = omega arith in
@@ -176,8 +184,10 @@ met_alone g x e had attached u same =
     let one : f.0 ≡ e = one_entry g.history f.0 e f.1 attached (f.2 ∙ same) in
     sym f.3 ∙ ap (λ (o : Entry). o.slot) one
 
-pub shown_count : (g : State) (x : CpuView) (e : Entry) (t w v : ℕ) (h : Hand) (locals : List LocalPlace) (k : InHand) (acquired released : List ℕ) → Good g → CpuShown g x → IsIn e (slot_at g.slots t) → t < g.settings.slots
-    → Recount x e v acquired released → SameHand h k → HandFits g.history g.slots g.marks x.id k → CpuShown (with_lists g (count_lists g x.id t w v h locals)) (recounted g x t e.number (count_lists g x.id t w v h locals) k acquired released)
+pub shown_count : (g : State) (x : CpuView) (e : Entry) (t w v : ℕ) (h : Hand) (locals : List LocalPlace) (k : InHand) (acquired released : List ℕ) → Good g → CpuShown g x → IsIn e (slot_at g.slots t)
+    → t < g.settings.slots
+    → Recount x e v acquired released → SameHand h k → HandFits g.history g.slots g.marks x.id k
+    → CpuShown (with_lists g (count_lists g x.id t w v h locals)) (recounted g x t e.number (count_lists g x.id t w v h locals) k acquired released)
 shown_count g x e t w v h locals k acquired released good had here lt count same fits =
     let seen = seen_of g x good had in
     let most : g.settings.cpus ≤ MOST_CPUS = seen.fit.cpus in

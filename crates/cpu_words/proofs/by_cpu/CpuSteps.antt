@@ -7,7 +7,8 @@ use Rattle.cpu_words.specs.Types.{Entry, Change, Settings, Event, Reply, Vacant,
 use Rattle.protocol.specs.Common.{IsAttached, State, section_at, begin_at, depth_at, seen_at, search_at, found_at, hand_at, passive_at, count_at, step, standing_of}
 use Rattle.registry_values.specs.Common.{slot_at}
 use Rattle.protocol.proofs.keeps.Keeping.{step_holds}
-use Rattle.cpu_words.specs.Common.{CpuView, View, Keeper, Cpu, Reference, Note, Spent, CpuOwn, own_of, cpu_view, SameHand, depth_of, GivesUp, CpuShown, Agrees, IsFresh, Good, Ruled, GoesOn, by_number, did, Makes}
+use Rattle.cpu_words.specs.Common.{CpuView, View, Keeper, Cpu, Reference, Note, Spent, CpuOwn, own_of, cpu_view, SameHand, depth_of, GivesUp, CpuShown, Agrees, IsFresh, Good, Ruled, GoesOn, by_number}
+use Rattle.cpu_words.specs.Common.{did, Makes}
 use Rattle.cpu_words.proofs.shown.Showing.{standing_in, Stay, shows_set}
 use Rattle.cpu_words.proofs.laws.Reaching.{more}
 use Rattle.cpu_words.proofs.shown.Passes.{attached_longer}
@@ -27,10 +28,34 @@ pub record CpuLists : Type 0 where
   pub locals : List LocalPlace
 
 abbrev pub lists_of : State → CpuLists
-lists_of g = record { section = g.section; begins = g.begins; depths = g.depths; seen = g.seen; searches = g.searches; found = g.found; hands = g.hands; passive = g.passive; counts = g.counts; nets = g.nets; locals = g.locals }
+lists_of g = record {
+  section = g.section;
+  begins = g.begins;
+  depths = g.depths;
+  seen = g.seen;
+  searches = g.searches;
+  found = g.found;
+  hands = g.hands;
+  passive = g.passive;
+  counts = g.counts;
+  nets = g.nets;
+  locals = g.locals;
+}
 
 abbrev pub with_lists : State → CpuLists → State
-with_lists g l = record g { section = l.section; begins = l.begins; depths = l.depths; seen = l.seen; searches = l.searches; found = l.found; hands = l.hands; passive = l.passive; counts = l.counts; nets = l.nets; locals = l.locals }
+with_lists g l = record g {
+  section = l.section;
+  begins = l.begins;
+  depths = l.depths;
+  seen = l.seen;
+  searches = l.searches;
+  found = l.found;
+  hands = l.hands;
+  passive = l.passive;
+  counts = l.counts;
+  nets = l.nets;
+  locals = l.locals;
+}
 
 -- the lists are changed at c alone, and what the keeper counts stays
 pub record LeavesOthers (g : State) (c : ℕ) (l : CpuLists) : Type 0 where
@@ -106,7 +131,8 @@ fresh_stays g l c leaves lt d le fresh =
       nets = λ t e here. leaves.nets d t other ∙ fresh.nets t e here;
     }
 
-pub good_after : (g : State) (l : CpuLists) (c : ℕ) (e : Event) (r : Reply) → Good g → LeavesOthers g c l → c < g.seated → step g e ≡ Some (record { state = with_lists g l; reply = r }) → Good (with_lists g l)
+pub good_after : (g : State) (l : CpuLists) (c : ℕ) (e : Event) (r : Reply) → Good g → LeavesOthers g c l → c < g.seated → step g e ≡ Some (record { state = with_lists g l; reply = r })
+    → Good (with_lists g l)
 good_after g l c e r good leaves lt made = record {
   holds = step_holds g (with_lists g l) e r good.holds made;
   fresh = λ d le within. fresh_stays g l c leaves lt d le (good.fresh d le within);
@@ -115,7 +141,8 @@ good_after g l c e r good leaves lt made = record {
 -- a CPU's step on a word keeps the rule, and is its event
 pub cpu_makes : (z : Settings) (s : Table ℕ View) (r : Ruled z s) (i : ℕ) (x : CpuView) (word m : ℕ) (l : CpuLists) (e : Event) (rep : Reply) (own : CpuOwn)
     → get_elem? s.views i ≡ some (Cpu x) → step r.g e ≡ Some (record { state = with_lists r.g l; reply = rep }) → LeavesOthers r.g x.id l
-    → ((n : ℕ) → sum_by (standing_of n) l.locals ≡ standing_in n r.g) → own.noted_pass ≡ x.noted_pass → CpuShown (with_lists r.g l) (cpu_view (with_lists r.g l) x.id own) → Agrees (set s.words word m) (with_lists r.g l)
+    → ((n : ℕ) → sum_by (standing_of n) l.locals ≡ standing_in n r.g) → own.noted_pass ≡ x.noted_pass → CpuShown (with_lists r.g l) (cpu_view (with_lists r.g l) x.id own)
+    → Agrees (set s.words word m) (with_lists r.g l)
     → GoesOn z s r (did (by_number r.g e) rep) (stepped s word m i [] (Cpu (cpu_view (with_lists r.g l) x.id own)) keeps) × Makes e rep (Cpu x) (Cpu (cpu_view (with_lists r.g l) x.id own))
 cpu_makes z s r i x word m l e rep own at made leaves count noted_pass shown words =
     let g = r.g in
@@ -178,10 +205,12 @@ shown_on g x l had hands passive nets depth more within found = record {
   met = had.met;
   there = had.there;
   found = found;
-  references = λ e among. attached_longer g.history (seen_at g x.id) (get_or l.seen x.id 0) e more within (subst (λ (p : List Change). IsAttached p e) (ap (λ (v : CpuView). v.pass) had.is) (had.references e among));
+  references = λ e among. attached_longer g.history (seen_at g x.id) (get_or l.seen x.id 0) e more within
+      (subst (λ (p : List Change). IsAttached p e) (ap (λ (v : CpuView). v.pass) had.is) (had.references e among));
   noted_pass = had.noted_pass;
 }
 
 -- what the CPU had found stays in its pass
 pub found_on : (g : State) (x : CpuView) (n : ℕ) → CpuShown g x → seen_at g x.id ≤ n → n ≤ length g.history → (e : Entry) → found_at g x.id ≡ Some e → IsAttached (take n g.history) e
-found_on g x n had more within e is = attached_longer g.history (seen_at g x.id) n e more within (subst (λ (p : List Change). IsAttached p e) (ap (λ (v : CpuView). v.pass) had.is) (had.found e (ap (λ (v : CpuView). v.found) had.is ∙ is)))
+found_on g x n had more within e is = attached_longer g.history (seen_at g x.id) n e more within
+    (subst (λ (p : List Change). IsAttached p e) (ap (λ (v : CpuView). v.pass) had.is) (had.found e (ap (λ (v : CpuView). v.found) had.is ∙ is)))

@@ -12,7 +12,10 @@ use Rattle.protocol.proofs.counts.Sums.{one_at, local_changed, local_added, stan
 use Rattle.cpu_words.proofs.laws.Reaching.{more}
 use Rattle.cpu_words.proofs.logs.Seats.{tells_nothing, names_nobody, seat_cut, seat_join}
 use Rattle.cpu_words.proofs.shown.Standing.{standing_place}
-use Rattle.cpu_words.specs.Common.{InHand, CpuView, ReferenceView, LogItem, Logged, View, Cpu, Reference, Spent, Spot, section_of, passive_of, count_of, head_word, next_of, record_of, total_of, word_at, is_to, SameHand, HandFits, IsCollectedFor, CpuShown, ReferenceShown, cpu_of, reference_of, reference_to, Good, number_or_none, number_of_id, by_number, did, log_of_events, the_cpu, maker, LoggedRuled, logged_after_split, no_log, no_teller, fresh, joined_seat, spent_seat, leaves_hand, cuts_off, takes_in, SplitsBy, JoinsBy, SplitsOn, JoinsOn, IsIdle, with_hand, reference_in, with_empty_hand, reference_of_hand, with_reference_in_hand, IsTaking, IsBack}
+use Rattle.cpu_words.specs.Common.{InHand, CpuView, ReferenceView, LogItem, Logged, View, Cpu, Reference, Spent, Spot, section_of, passive_of, count_of, head_word, next_of, record_of, total_of}
+use Rattle.cpu_words.specs.Common.{word_at, is_to, SameHand, HandFits, IsCollectedFor, CpuShown, ReferenceShown, cpu_of, reference_of, reference_to, Good, number_or_none, number_of_id, by_number, did}
+use Rattle.cpu_words.specs.Common.{log_of_events, the_cpu, maker, LoggedRuled, logged_after_split, no_log, no_teller, fresh, joined_seat, spent_seat, leaves_hand, cuts_off, takes_in, SplitsBy}
+use Rattle.cpu_words.specs.Common.{JoinsBy, SplitsOn, JoinsOn, IsIdle, with_hand, reference_in, with_empty_hand, reference_of_hand, with_reference_in_hand, IsTaking, IsBack}
 use Rattle.cpu_words.specs.declared.view.InHand.TheVariants.{Empty as NoEntry, Taking as TakingEntry, Giving as GivingEntry, Back as BackEntry}
 use Rattle.cpu_words.proofs.shown.Showing.{standing_in, backed, shows_split, shows_join}
 use Rattle.cpu_words.proofs.shown.Placing.{agrees_same}
@@ -88,7 +91,8 @@ pub record HandStep (g : State) (x : CpuView) (e : Event) (r : Reply) (k : InHan
   pub same : SameHand h k
   pub fits : HandFits g.history g.slots g.marks x.id k
 
-pub shown_hand : (g : State) (x : CpuView) (h : Hand) (locals : List LocalPlace) (k : InHand) → Good g → CpuShown g x → SameHand h k → HandFits g.history g.slots g.marks x.id k → CpuShown (handed g x.id h locals) (with_hand x k)
+pub shown_hand : (g : State) (x : CpuView) (h : Hand) (locals : List LocalPlace) (k : InHand) → Good g → CpuShown g x → SameHand h k → HandFits g.history g.slots g.marks x.id k
+    → CpuShown (handed g x.id h locals) (with_hand x k)
 shown_hand g x h locals k good had same fits =
     let seen = seen_of g x good had in record {
       seated = had.seated;
@@ -153,15 +157,19 @@ splits z i x e leaves s r at =
         reached = (more z g (with_lists g l) e p.r r.reached m.made).0;
         words = agrees_same s.words g (with_lists g l) r.words refl (λ q there. same_words g x.id m.h m.locals q);
         shows = shows_split g (with_lists g l) r.seat s.views i (Cpu x) (with_empty_hand (Cpu x)) (reference_of_hand (Cpu x)) r.shows at (cpu_stays g l x.id r.seat i after had.0)
-            (had.0, shown_hand g x m.h m.locals NoEntry r.good had.1 m.same m.fits) (tt, record { attached = p.right.attached; collected = p.right.collected }) (λ c lt. inl lt) refl (λ n. let h = p.count n in omega arith);
+            (had.0, shown_hand g x m.h m.locals NoEntry r.good had.1 m.same m.fits) (tt, record { attached = p.right.attached; collected = p.right.collected }) (λ c lt. inl lt) refl
+            (λ n. let h = p.count n in omega arith);
       };
     }
 
 -- the same of a seat, whose view is a CPU's
 
-pub seat_splits : (z : Settings) (i : ℕ) (l : Logged) (x : CpuView) (e : Event) → l ≡ record l { view = Cpu (cpu_of l.view) } → cpu_of l.view ≡ x → maker e ≡ the_cpu x.id → leaves_hand x.id x.hand ≡ did e (Ref 0) → LeavesHand e x
+pub seat_splits : (z : Settings) (i : ℕ) (l : Logged) (x : CpuView) (e : Event) → l ≡ record l { view = Cpu (cpu_of l.view) } → cpu_of l.view ≡ x → maker e ≡ the_cpu x.id
+    → leaves_hand x.id x.hand ≡ did e (Ref 0) → LeavesHand e x
     → Splits (LoggedRuled z) i l (logged_after_split with_empty_hand cuts_off l) (fresh reference_of_hand no_log no_teller l)
-seat_splits z i l x e is view own does leaves = seat_cut z i l (Cpu x) with_empty_hand reference_of_hand cuts_off no_log no_teller (did e (Ref 0)) (is ∙ ap (λ (u : CpuView). record l { view = Cpu u }) view) tt (own, tt) does (tells_nothing (record l { view = Cpu x }) (did e (Ref 0))) (names_nobody (record l { view = Cpu x }) (did e (Ref 0))) (splits z i x e leaves)
+seat_splits z i l x e is view own does leaves = seat_cut z i l (Cpu x) with_empty_hand reference_of_hand cuts_off no_log no_teller (did e (Ref 0))
+    (is ∙ ap (λ (u : CpuView). record l { view = Cpu u }) view) tt (own, tt) does (tells_nothing (record l { view = Cpu x }) (did e (Ref 0))) (names_nobody (record l { view = Cpu x }) (did e (Ref 0)))
+    (splits z i x e leaves)
 
 -- what is in the hand says which
 pub does_split_ref : (x : CpuView) (c : ℕ) → x.id ≡ c → (e : Entry) × IsTaking x e → leaves_hand x.id x.hand ≡ did (SplitRef c) (Ref 0)
@@ -170,7 +178,8 @@ does_split_ref x c id may k = leaves_hand (id k) (may.1 k)
 pub does_split_back : (x : CpuView) (c : ℕ) → x.id ≡ c → (e : Entry) × IsBack x e → leaves_hand x.id x.hand ≡ did (SplitBack c) (Ref 0)
 does_split_back x c id may k = leaves_hand (id k) (may.1 k)
 
-pub seat_splits_by : (v a b : View) (x : CpuView) (e : Event) → cpu_of v ≡ x → a ≡ with_empty_hand v → b ≡ reference_of_hand v → LeavesHand e x → SplitsBy e (Cpu x) (Cpu (cpu_of a)) (Reference (reference_of b))
+pub seat_splits_by : (v a b : View) (x : CpuView) (e : Event) → cpu_of v ≡ x → a ≡ with_empty_hand v → b ≡ reference_of_hand v → LeavesHand e x
+    → SplitsBy e (Cpu x) (Cpu (cpu_of a)) (Reference (reference_of b))
 seat_splits_by v a b x e view left right leaves =
     let p : cpu_of a ≡ with_hand x NoEntry = ap cpu_of left ∙ ap (λ (u : CpuView). with_hand u NoEntry) view in
     let q : reference_of b ≡ reference_in x.id x.hand = ap reference_of right ∙ ap (λ (u : CpuView). reference_in u.id u.hand) view in
@@ -193,7 +202,8 @@ split_ref_leaves x c id may = subst (λ d. LeavesHand (SplitRef d) x) id (λ g g
         fits = tt;
       };
       right = subst (ReferenceShown g) (sym there) (record { attached = attached; collected = λ d no. absurd (let q : ◌≡◌ {A = Option ℕ} None (Some d) = no in cc) });
-      count = λ k. let a = local_added k g.locals (Standing n) in let b : one_if (is_to k (reference_in x.id x.hand).entry) ≡ one_if (n == k) = ap (λ (v : ReferenceView). one_if (is_to k v.entry)) there in omega arith;
+      count = λ k. let a = local_added k g.locals (Standing n) in
+          let b : one_if (is_to k (reference_in x.id x.hand).entry) ≡ one_if (n == k) = ap (λ (v : ReferenceView). one_if (is_to k v.entry)) there in omega arith;
     })
 
 pub split_back_leaves : (x : CpuView) (c : ℕ) → x.id ≡ c → (e : Entry) × IsBack x e → LeavesHand (SplitBack c) x
@@ -274,7 +284,8 @@ joins_by x c v id idle g good had shown has =
       count = λ n. let h = p.count n in omega arith;
     }
 
-joins : (z : Settings) (i o : ℕ) (x : CpuView) (v : ReferenceView) → IsIdle x → JoinsOn z i (Cpu x) o (Reference v) (with_reference_in_hand (Cpu x) (Reference v)) Spent (did (JoinRef x.id v.entry.number) Done)
+joins : (z : Settings) (i o : ℕ) (x : CpuView) (v : ReferenceView) → IsIdle x
+    → JoinsOn z i (Cpu x) o (Reference v) (with_reference_in_hand (Cpu x) (Reference v)) Spent (did (JoinRef x.id v.entry.number) Done)
 joins z i o x v idle s r at apart there =
     let g = r.g in
     let both = with_reference_in_hand (Cpu x) (Reference v) in
@@ -306,11 +317,14 @@ joins z i o x v idle s r at apart there =
 
 -- the same of two seats, whose views are a CPU's and a reference's
 
-pub seat_joins : (z : Settings) (i o : ℕ) (l m : Logged) (x : CpuView) → l ≡ record l { view = Cpu (cpu_of l.view) } → cpu_of l.view ≡ x → m ≡ record m { view = Reference (reference_of m.view) } → IsIdle x
+pub seat_joins : (z : Settings) (i o : ℕ) (l m : Logged) (x : CpuView) → l ≡ record l { view = Cpu (cpu_of l.view) } → cpu_of l.view ≡ x → m ≡ record m { view = Reference (reference_of m.view) }
+    → IsIdle x
     → Joins (LoggedRuled z) i l o m (joined_seat with_reference_in_hand takes_in l m) spent_seat
-seat_joins z i o l m x is view that idle = seat_join z i o l m (Cpu x) (Reference (reference_of m.view)) with_reference_in_hand takes_in (did (JoinRef x.id (reference_of m.view).entry.number) Done) (is ∙ ap (λ (u : CpuView). record l { view = Cpu u }) view) that tt (refl, tt) refl (joins z i o x (reference_of m.view) idle)
+seat_joins z i o l m x is view that idle = seat_join z i o l m (Cpu x) (Reference (reference_of m.view)) with_reference_in_hand takes_in (did (JoinRef x.id (reference_of m.view).entry.number) Done)
+    (is ∙ ap (λ (u : CpuView). record l { view = Cpu u }) view) that tt (refl, tt) refl (joins z i o x (reference_of m.view) idle)
 
-pub seat_joins_by : (v a : View) (x : CpuView) (c : ℕ) (u : View) (w : ReferenceView) → cpu_of v ≡ x → reference_of u ≡ w → a ≡ with_reference_in_hand v u → x.id ≡ c → IsIdle x → JoinsBy (JoinRef c) (Cpu x) (Reference w) (Cpu (cpu_of a))
+pub seat_joins_by : (v a : View) (x : CpuView) (c : ℕ) (u : View) (w : ReferenceView) → cpu_of v ≡ x → reference_of u ≡ w → a ≡ with_reference_in_hand v u → x.id ≡ c → IsIdle x
+    → JoinsBy (JoinRef c) (Cpu x) (Reference w) (Cpu (cpu_of a))
 seat_joins_by v a x c u w view that both id idle =
     let p : cpu_of a ≡ with_hand x (GivingEntry w.entry) = ap cpu_of both ∙ (λ k. with_hand (view k) (GivingEntry (that k).entry)) in
     subst (λ (y : CpuView). JoinsBy (JoinRef c) (Cpu x) (Reference w) (Cpu y)) (sym p) (joins_by x c w id idle)

@@ -18,7 +18,9 @@ use Rattle.protocol.proofs.slots.Occupied.{attached_in, in_within}
 use Rattle.protocol.proofs.keeps.References.{giving_holds}
 use Rattle.protocol.proofs.counts.Sums.{local_changed}
 use Rattle.cpu_words.specs.declared.view.InHand.TheVariants.{Empty as NoEntry, Taking as TakingEntry, Giving as GivingEntry, Back as BackEntry}
-use Rattle.cpu_words.specs.Common.{CpuView, View, Cpu, count_of, index, number_at, with_number, one_more, own_of, cpu_view, HandFits, IsCollectedFor, CpuShown, cpu_of, Agrees, Good, Ruled, GoesOn, did, Makes, CpuMay, down_reply, IsNetCount, IsPlaceCount, IsMetAlone, MayCount, HasCounted, CountTold, MayCountDown, HasCountedDown, HasFoundCollected, DownTold, with_hand}
+use Rattle.cpu_words.specs.Common.{CpuView, View, Cpu, count_of, index, number_at, with_number, one_more, own_of, cpu_view, HandFits, IsCollectedFor, CpuShown, cpu_of, Agrees, Good, Ruled, GoesOn}
+use Rattle.cpu_words.specs.Common.{did, Makes, CpuMay, down_reply, IsNetCount, IsPlaceCount, IsMetAlone, MayCount, HasCounted, CountTold, MayCountDown, HasCountedDown, HasFoundCollected, DownTold}
+use Rattle.cpu_words.specs.Common.{with_hand}
 use Rattle.cpu_words.proofs.shown.Placing.{agrees_set}
 use Rattle.cpu_words.proofs.by_cpu.CpuSteps.{with_lists, cpu_makes}
 use Rattle.cpu_words.proofs.shown.Seeing.{Seen, seen_of, idle_of}
@@ -65,12 +67,16 @@ count_add_at z x e may is s r i at fits =
     } in
     let attached : IsAttached g.history e = (attached_in g.history g.slots t e r.good.holds.slots counts.1).0 in
     let shown = shown_count g x e t (count_at g.counts c t + 1) (count_at g.nets c t + 1) (Taking n) g.locals (TakingEntry e) acquired x.released r.good had counts.1 there after refl attached in
-    let made : step g (CountAdd c) ≡ Some (record { state = with_lists g l; reply = Word word }) = rw (found, counts.0, idle_of g x seen had may.idle, lt-ltb (count_at g.nets c t) (bias + g.settings.count_limit) room, has) refl in
-    let words = subst (λ m. Agrees (set s.words (index (count_of c t)) m) (with_lists g l)) (sym next) (count_words s.words g c t (count_at g.counts c t + 1) (count_at g.nets c t + 1) (Taking n) g.locals r.good r.words seen.lt there) in
-    let done = cpu_makes z s r i x (index (count_of c t)) ((word + 1) % 2 ^ 64) l (CountAdd c) (Word word) (record (own_of x) { hand = TakingEntry e; acquired = acquired; met = with_number x.met t n }) at made
+    let made : step g (CountAdd c) ≡ Some (record { state = with_lists g l; reply = Word word }) =
+    rw (found, counts.0, idle_of g x seen had may.idle, lt-ltb (count_at g.nets c t) (bias + g.settings.count_limit) room, has) refl in
+    let words = subst (λ m. Agrees (set s.words (index (count_of c t)) m) (with_lists g l)) (sym next)
+    (count_words s.words g c t (count_at g.counts c t + 1) (count_at g.nets c t + 1) (Taking n) g.locals r.good r.words seen.lt there) in
+    let done = cpu_makes z s r i x (index (count_of c t)) ((word + 1) % 2 ^ 64) l (CountAdd c) (Word word)
+    (record (own_of x) { hand = TakingEntry e; acquired = acquired; met = with_number x.met t n }) at made
     (leaves_counts g c t (count_at g.counts c t + 1) (count_at g.nets c t + 1) (Taking n) g.locals e r.good counts.1 there counts.2) (λ k. refl) refl shown words in
     let y = recounted g x t n l (TakingEntry e) acquired x.released in
-    let change : y ≡ record x { hand = TakingEntry e; acquired = acquired; met = with_number x.met t n } = ap (λ (v : CpuView). record v { hand = TakingEntry e; acquired = acquired; met = with_number x.met t n }) (sym had.is) in
+    let change : y ≡ record x { hand = TakingEntry e; acquired = acquired; met = with_number x.met t n } =
+    ap (λ (v : CpuView). record v { hand = TakingEntry e; acquired = acquired; met = with_number x.met t n }) (sym had.is) in
     let told : CountTold x word y = λ u m other.
     let one : e ≡ other.entry = some_same (sym is ∙ other.found) in
     let slot : t ≡ u = ap (λ (f : Entry). f.slot) one ∙ other.slot in
@@ -90,9 +96,20 @@ count_add_at z x e may is s r i at fits =
 place_at : (x : CpuView) (e : Entry) (t n w : ℕ) → e.slot ≡ t → e.number ≡ n → IsPlaceCount x t n w → IsPlaceCount x e.slot e.number w
 place_at x e t n w slot number place = subst (λ (p : ℕ × ℕ). IsPlaceCount x p.0 p.1 w) (λ k. (sym slot k, sym number k)) place
 
-pub count_add_may : (z : Settings) (x : CpuView) (c t n : ℕ) → x.id ≡ c → MayCount x t n → CpuMay z x (index (count_of c t)) (λ m. (m + 1) % 2 ^ 64) (λ m. did (CountAdd c) (Word m)) (λ v m y. Makes (CountAdd c) (Word m) (Cpu v) (Cpu y) × CountTold v m y)
-count_add_may z x c t n id may = subst (λ (p : ℕ × ℕ). CpuMay z x (index (count_of p.0 p.1)) (λ m. (m + 1) % 2 ^ 64) (λ m. did (CountAdd p.0) (Word m)) (λ v m y. Makes (CountAdd p.0) (Word m) (Cpu v) (Cpu y) × CountTold v m y)) (λ k. (id k, may.slot k))
-    (count_add_at z x may.entry (record { idle = may.idle; entry = may.entry; found = may.found; slot = refl; number = refl; count = may.count; place = place_at x may.entry t n may.count may.slot may.number may.place; room = may.room }) may.found)
+pub count_add_may : (z : Settings) (x : CpuView) (c t n : ℕ) → x.id ≡ c → MayCount x t n
+    → CpuMay z x (index (count_of c t)) (λ m. (m + 1) % 2 ^ 64) (λ m. did (CountAdd c) (Word m)) (λ v m y. Makes (CountAdd c) (Word m) (Cpu v) (Cpu y) × CountTold v m y)
+count_add_may z x c t n id may = subst (λ (p : ℕ × ℕ). CpuMay z x (index (count_of p.0 p.1)) (λ m. (m + 1) % 2 ^ 64) (λ m. did (CountAdd p.0) (Word m))
+    (λ v m y. Makes (CountAdd p.0) (Word m) (Cpu v) (Cpu y) × CountTold v m y)) (λ k. (id k, may.slot k))
+    (count_add_at z x may.entry (record {
+      idle = may.idle;
+      entry = may.entry;
+      found = may.found;
+      slot = refl;
+      number = refl;
+      count = may.count;
+      place = place_at x may.entry t n may.count may.slot may.number may.place;
+      room = may.room;
+    }) may.found)
 
 -- an entry in a hand that gives it up has its slot
 in_hand_there : (g : State) (c id : ℕ) (e : Entry) → Good g → IsAttached g.history e → hand_at g c ≡ Giving e.number id → IsIn e (slot_at g.slots e.slot)
@@ -177,14 +194,20 @@ down_counted z s r i x e old at is p found =
     let shown = shown_count g x e t (count_at g.counts c t - 1) (count_at g.nets c t - 1) Empty locals NoEntry x.acquired released r.good p.had p.here p.there after tt tt in
     let made : step g (CountDown c) ≡ Some (record { state = with_lists g l; reply = Word word }) = rw (p.hand, p.slot, eq-eqb (count_at g.counts c t) (count_at g.nets c t) same, has) refl in
     let next : count_at g.counts c t - 1 ≡ old - 1 = ap (λ k. k - 1) (same ∙ net) in
-    let words = subst (λ m. Agrees (set s.words (index (count_of c t)) m) (with_lists g l)) next (count_words s.words g c t (count_at g.counts c t - 1) (count_at g.nets c t - 1) Empty locals r.good r.words p.seen.lt p.there) in
+    let words = subst (λ m. Agrees (set s.words (index (count_of c t)) m) (with_lists g l)) next
+    (count_words s.words g c t (count_at g.counts c t - 1) (count_at g.nets c t - 1) Empty locals r.good r.words p.seen.lt p.there) in
     let done = cpu_makes z s r i x (index (count_of c t)) (old - 1) l (CountDown c) (Word word) (record (own_of x) { hand = NoEntry; released = released; met = with_number x.met t n }) at made
     (leaves_counts g c t (count_at g.counts c t - 1) (count_at g.nets c t - 1) Empty locals e r.good p.here p.there counting)
     (λ k. let a = local_changed k g.locals p.id (Lifted c) Free within lifted in omega arith) refl shown words in
     let y = recounted g x t n l NoEntry x.acquired released in
-    let change : y ≡ record x { hand = NoEntry; released = released; met = with_number x.met t n } = ap (λ (v : CpuView). record v { hand = NoEntry; released = released; met = with_number x.met t n }) (sym p.had.is) in
-    let replied : Word word ≡ down_reply old word = sym (ap (λ b. if b then Word word else Collected) (eq-eqb word old found)) in
-    (y, subst (λ (a : Reply). GoesOn z s r (did (CountDown c) a) (stepped s (index (count_of c t)) (old - 1) i [] (Cpu y) keeps)) replied done.0, (λ _. (done.1, (e, is, refl, refl, change))), (λ ne. absurd (ne found)))
+    let change : y ≡ record x { hand = NoEntry; released = released; met = with_number x.met t n } =
+    ap (λ (v : CpuView). record v { hand = NoEntry; released = released; met = with_number x.met t n }) (sym p.had.is) in
+    let replied : Word word ≡ down_reply old word = sym (ap (λ b. if b then Word word else Collected) (eq-eqb word old found)) in (
+      y,
+      subst (λ (a : Reply). GoesOn z s r (did (CountDown c) a) (stepped s (index (count_of c t)) (old - 1) i [] (Cpu y) keeps)) replied done.0,
+      (λ _. (done.1, (e, is, refl, refl, change))),
+      (λ ne. absurd (ne found)),
+    )
 
 -- the word isn't the net count: it was collected, and the reference goes back
 down_collected : (z : Settings) (s : Table ℕ View) (r : Ruled z s) (i : ℕ) (x : CpuView) (e : Entry) (old : ℕ) → get_elem? s.views i ≡ some (Cpu x) → x.hand ≡ GivingEntry e → Giver r.g x e old
@@ -206,10 +229,15 @@ down_collected z s r i x e old at is p off =
     let view : with_hand x (BackEntry e) ≡ cpu_view (with_lists g l) c (record (own_of x) { hand = BackEntry e }) = ap (λ (v : CpuView). with_hand v (BackEntry e)) p.had.is in
     let made : step g (CountDown c) ≡ Some (record { state = with_lists g l; reply = Collected }) = rw (p.hand, p.slot, ne_eqb (count_at g.counts c t) (count_at g.nets c t) differs) refl in
     let words = agrees_set s.words g (with_lists g l) (count_of c t) word r.good.holds.fit r.words refl (p.seen.lt, p.there) (sym has) (λ q there ne. same_words g c (Back n p.id) g.locals q) in
-    let done = cpu_makes z s r i x (index (count_of c t)) word l (CountDown c) Collected (record (own_of x) { hand = BackEntry e }) at made (leaves_hands g c (Back n p.id) g.locals) (λ k. refl) refl (subst (CpuShown (with_lists g l)) view shown) words in
+    let done = cpu_makes z s r i x (index (count_of c t)) word l (CountDown c) Collected (record (own_of x) { hand = BackEntry e }) at made (leaves_hands g c (Back n p.id) g.locals) (λ k. refl) refl
+    (subst (CpuShown (with_lists g l)) view shown) words in
     let replied : Collected ≡ down_reply old word = sym (ap (λ b. if b then Word word else Collected) (ne_eqb word old off)) in
-    let y = cpu_view (with_lists g l) c (record (own_of x) { hand = BackEntry e }) in
-    (y, subst (λ (a : Reply). GoesOn z s r (did (CountDown c) a) (stepped s (index (count_of c t)) word i [] (Cpu y) keeps)) replied done.0, (λ same. absurd (off same)), (λ _. (done.1, (e, is, refl, sym view))))
+    let y = cpu_view (with_lists g l) c (record (own_of x) { hand = BackEntry e }) in (
+      y,
+      subst (λ (a : Reply). GoesOn z s r (did (CountDown c) a) (stepped s (index (count_of c t)) word i [] (Cpu y) keeps)) replied done.0,
+      (λ same. absurd (off same)),
+      (λ _. (done.1, (e, is, refl, sym view))),
+    )
 
 count_down_at : (z : Settings) (x : CpuView) (e : Entry) (old new : ℕ) → x.hand ≡ GivingEntry e → IsPlaceCount x e.slot e.number old → old < 2 ^ 64 → new ≡ (old + (2 ^ 64 - 1)) % 2 ^ 64
     → CpuMay z x (index (count_of x.id e.slot)) (λ m. either (m == old) new m) (λ m. did (CountDown x.id) (down_reply old m)) (DownTold (CountDown x.id) old)
@@ -219,12 +247,15 @@ count_down_at z x e old new is place fits is_new s r i at within =
     let less : old - 1 ≡ new = omega arith in
     let word = slice_index s.words (index (count_of x.id e.slot)) in
     ⊎_elim
-    (λ (same : word ≡ old). finish word _ (subst (Down z s r i x e old word) (less ∙ sym (ap (λ b. either b new word) (eq-eqb word old same))) (down_counted z s r i x e old at is p same)) p.floor p.low (met_alone r.g x e p.had p.attached))
-    (λ (off : word ≢ old). finish word _ (subst (Down z s r i x e old word) (sym (ap (λ b. either b new word) (ne_eqb word old off))) (down_collected z s r i x e old at is p off)) p.floor p.low (met_alone r.g x e p.had p.attached))
+    (λ (same : word ≡ old). finish word _ (subst (Down z s r i x e old word) (less ∙ sym (ap (λ b. either b new word) (eq-eqb word old same))) (down_counted z s r i x e old at is p same)) p.floor
+    p.low (met_alone r.g x e p.had p.attached))
+    (λ (off : word ≢ old). finish word _ (subst (Down z s r i x e old word) (sym (ap (λ b. either b new word) (ne_eqb word old off))) (down_collected z s r i x e old at is p off)) p.floor p.low
+    (met_alone r.g x e p.had p.attached))
     (cases_eq word old)
   where
     Goal : ℕ → ℕ → Type 0
-    Goal w m = (v : View) × GoesOn z s r (did (CountDown x.id) (down_reply old w)) (stepped s (index (count_of x.id e.slot)) m i [] v keeps) × ((v ≡ Cpu (cpu_of v)) × DownTold (CountDown x.id) old x w (cpu_of v))
+    Goal w m = (v : View) × GoesOn z s r (did (CountDown x.id) (down_reply old w)) (stepped s (index (count_of x.id e.slot)) m i [] v keeps)
+        × ((v ≡ Cpu (cpu_of v)) × DownTold (CountDown x.id) old x w (cpu_of v))
 
     same_giving_entry : (a b : Entry) → GivingEntry a ≡ GivingEntry b → a ≡ b
     same_giving_entry a b eq = cc
@@ -238,12 +269,18 @@ count_down_at z x e old new is place fits is_new s r i at within =
         λ t n may.
             let one : e ≡ may.entry = same_giving_entry e may.entry (sym is ∙ may.giving) in
             let slot : e.slot ≡ t = ap (λ (f : Entry). f.slot) one ∙ may.slot in
-            let number : e.number ≡ n = ap (λ (f : Entry). f.number) one ∙ may.number in
-            (floor, subst (λ k. IsNetCount x k old) number low, subst (λ (p : ℕ × ℕ). IsMetAlone x p.0 p.1) (λ k. (slot k, number k)) alone, (λ same. let h = d.2 same in (h.0, subst (λ (p : ℕ × ℕ). HasCountedDown x p.0 p.1 d.0) (λ k. (slot k, number k)) h.1)), (λ off. let h = d.3 off in (h.0, subst (λ k. HasFoundCollected x k d.0) number h.1))),
+            let number : e.number ≡ n = ap (λ (f : Entry). f.number) one ∙ may.number in (
+              floor,
+              subst (λ k. IsNetCount x k old) number low,
+              subst (λ (p : ℕ × ℕ). IsMetAlone x p.0 p.1) (λ k. (slot k, number k)) alone,
+              (λ same. let h = d.2 same in (h.0, subst (λ (p : ℕ × ℕ). HasCountedDown x p.0 p.1 d.0) (λ k. (slot k, number k)) h.1)),
+              (λ off. let h = d.3 off in (h.0, subst (λ k. HasFoundCollected x k d.0) number h.1)),
+            ),
       ),
     )
 
 pub count_down_may : (z : Settings) (x : CpuView) (c t n old new : ℕ) → x.id ≡ c → MayCountDown x t n old → old < 2 ^ 64 → new ≡ (old + (2 ^ 64 - 1)) % 2 ^ 64
     → CpuMay z x (index (count_of c t)) (λ m. either (m == old) new m) (λ m. did (CountDown c) (down_reply old m)) (DownTold (CountDown c) old)
-count_down_may z x c t n old new id may fits is_new = subst (λ (p : ℕ × ℕ). CpuMay z x (index (count_of p.0 p.1)) (λ m. either (m == old) new m) (λ m. did (CountDown p.0) (down_reply old m)) (DownTold (CountDown p.0) old)) (λ k. (id k, may.slot k))
+count_down_may z x c t n old new id may fits is_new =
+    subst (λ (p : ℕ × ℕ). CpuMay z x (index (count_of p.0 p.1)) (λ m. either (m == old) new m) (λ m. did (CountDown p.0) (down_reply old m)) (DownTold (CountDown p.0) old)) (λ k. (id k, may.slot k))
     (count_down_at z x may.entry old new may.giving (place_at x may.entry t n old may.slot may.number may.place) fits is_new)

@@ -13,7 +13,8 @@ use Rattle.protocol.proofs.counts.HeldSums.{one_self}
 use Rattle.protocol.proofs.slots.Occupied.{attached_in, in_within}
 use Rattle.protocol.proofs.slots.Numbers.{slot_number}
 use Rattle.cpu_words.proofs.shown.Standing.{standing_place}
-use Rattle.cpu_words.specs.Common.{ReferenceView, View, Reference, Spot, record_of, index, IsSpot, ReferenceShown, Good, Ruled, GoesOn, number_or_none, by_number, did, OneSeat, Makes, ReferenceMay, tells_local}
+use Rattle.cpu_words.specs.Common.{ReferenceView, View, Reference, Spot, record_of, index, IsSpot, ReferenceShown, Good, Ruled, GoesOn, number_or_none, by_number, did, OneSeat, Makes, ReferenceMay}
+use Rattle.cpu_words.specs.Common.{tells_local}
 use Rattle.cpu_words.proofs.laws.Reaching.{more}
 use Rattle.cpu_words.proofs.shown.Placing.{agrees_set}
 use Rattle.cpu_words.proofs.shown.Showing.{shows_set, backed}
@@ -60,7 +61,8 @@ local_here g v id good shown stands =
     subst (λ (t : ℕ). IsIn v.entry (slot_at g.slots t)) at (subst (λ (f : Entry). IsIn f (slot_at g.slots has.0)) (sym one) has.2)
 
 -- the step: the seat's reference is live, so its entry has its slot
-pub local_may : (z : Settings) (v : ReferenceView) (t k : ℕ) → v.entry.slot ≡ t → k < 5 → ReferenceMay z v (index (record_of t k)) (λ n. did (LoadRecord (Local v.entry.number k)) (Word n)) (tells_local (LoadRecord (Local 0 k)))
+pub local_may : (z : Settings) (v : ReferenceView) (t k : ℕ) → v.entry.slot ≡ t → k < 5
+    → ReferenceMay z v (index (record_of t k)) (λ n. did (LoadRecord (Local v.entry.number k)) (Word n)) (tells_local (LoadRecord (Local 0 k)))
 local_may z v t k slot few = subst (λ (u : ℕ). ReferenceMay z v (index (record_of u k)) (λ n. did (LoadRecord (Local v.entry.number k)) (Word n)) (tells_local (LoadRecord (Local 0 k)))) slot
     (λ s r i at fits.
     let g = r.g in
@@ -79,11 +81,15 @@ local_may z v t k slot few = subst (λ (u : ℕ). ReferenceMay z v (index (recor
     rw (place.1, of, lt-ltb k 5 few) (λ j. Some (record { state = g; reply = Word (sym stands j) })) in
     let done = keeps_view z s r i (Reference v) (record_of e.slot k) (LoadRecord (Local place.0 k)) (Word found) at (lt, few) made refl in (
       Reference v,
-      subst (λ (n : ℕ). GoesOn z s r (did (LoadRecord (Local n k)) (Word found)) (stepped s (index (record_of e.slot k)) found i [] (Reference v) keeps)) (ap (λ (x : LocalPlace). number_or_none (number_standing x)) place.1) done.0,
+      subst (λ (n : ℕ). GoesOn z s r (did (LoadRecord (Local n k)) (Word found)) (stepped s (index (record_of e.slot k)) found i [] (Reference v) keeps))
+          (ap (λ (x : LocalPlace). number_or_none (number_standing x)) place.1) done.0,
       (
         refl,
         λ id j event.
-            let same : k ≡ j = cc in
-            ((place.0, subst (λ (h : ℕ). Makes (LoadRecord (Local place.0 h)) (Word found) (Reference v) (Reference v)) same done.1), stands ∙ row_word g e k r.good here ∙ ap (word (words_of e)) same, row_lawful g e r.good here),
+            let same : k ≡ j = cc in (
+              (place.0, subst (λ (h : ℕ). Makes (LoadRecord (Local place.0 h)) (Word found) (Reference v) (Reference v)) same done.1),
+              stands ∙ row_word g e k r.good here ∙ ap (word (words_of e)) same,
+              row_lawful g e r.good here,
+            ),
       ),
     ))

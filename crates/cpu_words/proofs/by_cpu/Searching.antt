@@ -1,5 +1,6 @@
 -- The loads of a search on the words.
-use Rattle.std.proofs.Common.{◌++◌, ◌≡◌, ◌≢◌, ℕ, zero, suc, ◌-◌, ◌≤◌, ◌<◌, ⊎_elim, List, [], ◌∷◌, length, take, drop, get_or, set, Option, Some, None, refl, sym, ap, ◌∙◌, subst, arith, get_or-set_same, get_or-set_other, set-set}
+use Rattle.std.proofs.Common.{◌++◌, ◌≡◌, ◌≢◌, ℕ, zero, suc, ◌-◌, ◌≤◌, ◌<◌, ⊎_elim, List, [], ◌∷◌, length, take, drop, get_or, set, Option, Some, None, refl, sym, ap, ◌∙◌, subst, arith}
+use Rattle.std.proofs.Common.{get_or-set_same, get_or-set_other, set-set}
 use Rattle.std.proofs.lemmas.List.{set-get_or, length-take-le, take-append-drop}
 use Rattle.std.proofs.lemmas.Bool.{cases_lt}
 use Rattle.std.proofs.lemmas.Option.{none-some, same_Some}
@@ -8,9 +9,11 @@ use mathlib.Core.Option.{some, some-ne-none}
 use mathlib.Core.List.{IsPrefix}
 use lib.ListN.{get_elem?}
 use Rattle.atomic_table.specs.Table.{State as Table, keeps, stepped}
-use Rattle.cpu_words.specs.Types.{Name, Kind, Entry, Change, Detach, Settings, Seek, LoadLink, LoadRecord, Reply, Done, Key, SearchPlace, AtHead, AtNext, AtNumber, AtKind, AtHigh, AtLow, AtValue, RecordWords, Search, Loaded, On, Over, Live, Retired}
+use Rattle.cpu_words.specs.Types.{Name, Kind, Entry, Change, Detach, Settings, Seek, LoadLink, LoadRecord, Reply, Done, Key, SearchPlace, AtHead, AtNext, AtNumber, AtKind, AtHigh, AtLow, AtValue}
+use Rattle.cpu_words.specs.Types.{RecordWords, Search, Loaded, On, Over, Live, Retired}
 use Rattle.protocol.specs.declared.event.RecordOf.TheVariants.{Search as OfSearch}
-use Rattle.protocol.specs.Common.{IsAttached, EndsAt, IsLiveAt, IsLawful, State, begin_at, seen_at, search_at, found_at, row_at, step, with_some, load_link, link_loaded, load_searched, outcome_of, word, words_of, loaded_at, loaded_of_name, entry_with, row_of_place, SlotWithin, StandsOn, Leads, To_end, To_entry, Holds, PlaceHolds}
+use Rattle.protocol.specs.Common.{IsAttached, EndsAt, IsLiveAt, IsLawful, State, begin_at, seen_at, search_at, found_at, row_at, step, with_some, load_link, link_loaded, load_searched, outcome_of}
+use Rattle.protocol.specs.Common.{word, words_of, loaded_at, loaded_of_name, entry_with, row_of_place, SlotWithin, StandsOn, Leads, To_end, To_entry, Holds, PlaceHolds}
 use Rattle.protocol.specs.History.{change_at}
 use Rattle.registry_values.specs.Common.{are_words_of, slot_at}
 use Rattle.registry_values.proofs.Fit.{ranges}
@@ -19,7 +22,10 @@ use Rattle.protocol.proofs.history.History.{at_within}
 use Rattle.protocol.proofs.keeps.SearchKeeps.{IsAnswer, AnswersLookup, record_answers}
 use Rattle.protocol.proofs.slots.Cells.{one_in}
 use Rattle.protocol.proofs.keeps.Searching.{Walks, stands_in, words_stand, search_walks, LinkTells, link_tells, head_ahead, at_next_ahead}
-use Rattle.cpu_words.specs.Common.{CpuView, View, Cpu, Spot, section_of, passive_of, count_of, head_word, next_of, record_of, total_of, word_at, index, own_of, cpu_view, cpu_of, depth_of, CpuShown, Agrees, Good, Ruled, GoesOn, did, Makes, CpuMay, sought, MaySeek, key_with, search_for, cpu_after_seek, search_with_place, MayLoadLink, link_answer, cpu_after_link, LinkHolds, MayStandOn, Descends, SkipsNone, PassTells, HasFollowed, HasLoadedLink, HasSought, IsAtWord, MayLoadSearched, every_word, loaded_of, loaded_answer, cpu_after_record_word, FoundHolds, HasSearched, HasLoadedWord}
+use Rattle.cpu_words.specs.Common.{CpuView, View, Cpu, Spot, section_of, passive_of, count_of, head_word, next_of, record_of, total_of, word_at, index, own_of, cpu_view, cpu_of, depth_of, CpuShown}
+use Rattle.cpu_words.specs.Common.{Agrees, Good, Ruled, GoesOn, did, Makes, CpuMay, sought, MaySeek, key_with, search_for, cpu_after_seek, search_with_place, MayLoadLink, link_answer, cpu_after_link}
+use Rattle.cpu_words.specs.Common.{LinkHolds, MayStandOn, Descends, SkipsNone, PassTells, HasFollowed, HasLoadedLink, HasSought, IsAtWord, MayLoadSearched, every_word, loaded_of, loaded_answer}
+use Rattle.cpu_words.specs.Common.{cpu_after_record_word, FoundHolds, HasSearched, HasLoadedWord}
 use Rattle.cpu_words.proofs.laws.Reaching.{goes_both}
 use Rattle.cpu_words.proofs.shown.Placing.{agrees_same}
 use Rattle.cpu_words.proofs.shown.Passes.{at_prefix, attached_take, attached_prefix, taken_is_prefix, prefix_longer, take_whole}
@@ -27,7 +33,8 @@ use Rattle.cpu_words.proofs.by_cpu.CpuSteps.{CpuLists, lists_of, with_lists, sam
 use Rattle.cpu_words.proofs.shown.Seeing.{seen_of, idle_of}
 
 -- a load leaves the words
-pub loaded_words : (words : List ℕ) (g : State) (l : CpuLists) (i m : ℕ) → slice_index words i ≡ m → Agrees words g → l.section ≡ g.section → l.passive ≡ g.passive → l.counts ≡ g.counts → Agrees (set words i m) (with_lists g l)
+pub loaded_words : (words : List ℕ) (g : State) (l : CpuLists) (i m : ℕ) → slice_index words i ≡ m → Agrees words g → l.section ≡ g.section → l.passive ≡ g.passive → l.counts ≡ g.counts
+    → Agrees (set words i m) (with_lists g l)
 loaded_words words g l i m found agrees section passive counts =
     subst (λ (ws : List ℕ). Agrees ws (with_lists g l)) (sym (set-get_or words i 0) ∙ ap (set words i) found) (agrees_same words g (with_lists g l) agrees refl (λ q there. same q))
   where
@@ -73,7 +80,8 @@ stands_by_history h to t q e within from stands =
 
 -- a search stands on one entry of a slot
 one_stands : (g : State) (c from to after t : ℕ) (e f : Entry) → Holds g → Walks g c from → StandsOn g.history from to t e → StandsOn g.history from after t f → f.number ≡ e.number
-one_stands g c from to after t e f on walk here there = ap (λ (d : Entry). d.number) (one_in e f (slot_at g.slots t) (stands_in g c from to t e on walk here) (stands_in g c from after t f on walk there))
+one_stands g c from to after t e f on walk here there =
+    ap (λ (d : Entry). d.number) (one_in e f (slot_at g.slots t) (stands_in g c from to t e on walk here) (stands_in g c from after t f on walk there))
 
 descends : (g : State) (c n m s : ℕ) (q : Search) (p r : List Change) → Holds g → Walks g c q.start → r ≡ g.history → LinkTells g q.start q.key n m
     → ((e : Entry) → MayStandOn p q s e → n ≤ e.number) → Descends p q s m r
@@ -114,8 +122,13 @@ skips_none g c from n m on walk since = by_leads m since.leads
     by_leads : (m : ℕ) → Leads g.history since.point n m → SkipsNone g.history from n m
     by_leads _ (To_end none) = λ f first last lt. none f (live_between g.history from since.point f since.from_on since.up_to first last) lt
     by_leads _ (To_entry i live lt most) = λ e f stands first last below.
-        let there : StandsOn g.history from (length g.history) i.slot i = record { attached = live.attached; at = refl; begun = omega (arith, live.begun, since.up_to); unended = λ p ends. omega (arith, live.unended p ends, since.from_on) } in
-        omega (arith, one_stands g c from (length g.history) (length g.history) i.slot i e on walk there stands, most f (live_between g.history from since.point f since.from_on since.up_to first last) below)
+        let there : StandsOn g.history from (length g.history) i.slot i =
+        record { attached = live.attached; at = refl; begun = omega (arith, live.begun, since.up_to); unended = λ p ends. omega (arith, live.unended p ends, since.from_on) } in
+        omega (
+          arith,
+          one_stands g c from (length g.history) (length g.history) i.slot i e on walk there stands,
+          most f (live_between g.history from since.point f since.from_on since.up_to first last) below,
+        )
 
 pass_tells : (g : State) (c from : ℕ) → Holds g → Walks g c from → PassTells (begin_at g c) from g.history
 pass_tells g c from on walk = record {
@@ -192,13 +205,16 @@ follows z s r i x spot m n q at under found link tells leads at_head above =
     (λ e is. found_on g x (get_or l.seen x.id 0) had more within e (found_before (found_at g x.id) m e (sym finds ∙ is))) in
     let done = cpu_makes z s r i x spot m l (LoadLink x.id) (link_answer m) (own_of x) at made leaves (λ k. refl) refl shown (loaded_words s.words g l spot m found r.words refl refl refl) in
     let change : y ≡ cpu_after_link x q m y.pass =
-    (λ k. record y { search = searches k; found = finds k }) ∙ ap (λ (v : CpuView). record v { pass = y.pass; search = next_search q m; found = next_found v.found m }) (sym had.is) ∙ followed_is x q m y.pass in
+    (λ k. record y { search = searches k; found = finds k }) ∙ ap (λ (v : CpuView). record v { pass = y.pass; search = next_search q m; found = next_found v.found m }) (sym had.is)
+    ∙ followed_is x q m y.pass in
     let longer : IsPrefix x.pass y.pass = subst (λ p. IsPrefix p y.pass) (sym seen.pass) (prefix_longer g.history (seen_at g x.id) (get_or l.seen x.id 0) more within) in
     let holds : LinkHolds x.settings q m y.pass = subst (λ (a : Settings). LinkHolds a q m y.pass) (sym seen.settings) (link_holds g q n m y.pass r.good passes tells) in
     let walk : Walks g x.id q.start = search_walks g x.id q r.good.holds (sym seen.search ∙ under) in
-    let down : (t : ℕ) → q.place ≡ AtNext t → Descends x.pass q t m y.pass = λ t place. descends g x.id n m t q x.pass y.pass r.good.holds walk passes tells (λ e stands. omega (arith, above t e place stands)) in
+    let down : (t : ℕ) → q.place ≡ AtNext t → Descends x.pass q t m y.pass =
+    λ t place. descends g x.id n m t q x.pass y.pass r.good.holds walk passes tells (λ e stands. omega (arith, above t e place stands)) in
     let skips : SkipsNone y.pass q.start n m = subst (λ (p : List Change). SkipsNone p q.start n m) (sym passes) (skips_none g x.id q.start n m r.good.holds walk leads) in
-    let told : PassTells x.begin q.start y.pass = subst (λ (p : List Change). PassTells x.begin q.start p) (sym passes) (subst (λ (b : Option ℕ). PassTells b q.start g.history) (sym seen.begin) (pass_tells g x.id q.start r.good.holds walk)) in
+    let told : PassTells x.begin q.start y.pass = subst (λ (p : List Change). PassTells x.begin q.start p) (sym passes)
+    (subst (λ (b : Option ℕ). PassTells b q.start g.history) (sym seen.begin) (pass_tells g x.id q.start r.good.holds walk)) in
     let size : length y.pass ≡ length g.history = ap (λ (p : List Change). length p) passes in (
       y,
       done.0,
@@ -219,7 +235,8 @@ same_next s t e = cc
 
 pub load_link_may : (z : Settings) (x : CpuView) (c t : ℕ) → x.id ≡ c → MayLoadLink x t
     → CpuMay z x (index (next_of t)) (λ n. n) (λ n. did (LoadLink c) (link_answer n)) (λ v n y. Makes (LoadLink c) (link_answer n) (Cpu v) (Cpu y) × HasLoadedLink v n y)
-load_link_may z x c t id may = subst (λ d. CpuMay z x (index (next_of t)) (λ n. n) (λ n. did (LoadLink d) (link_answer n)) (λ v n y. Makes (LoadLink d) (link_answer n) (Cpu v) (Cpu y) × HasLoadedLink v n y)) id
+load_link_may z x c t id may =
+    subst (λ d. CpuMay z x (index (next_of t)) (λ n. n) (λ n. did (LoadLink d) (link_answer n)) (λ v n y. Makes (LoadLink d) (link_answer n) (Cpu v) (Cpu y) × HasLoadedLink v n y)) id
     (λ s r i at fits.
     let g = r.g in
     let q = may.search in
@@ -238,7 +255,8 @@ load_link_may z x c t id may = subst (λ d. CpuMay z x (index (next_of t)) (λ n
     let at_head : q.place ≡ AtHead → stands.0.number ≡ suc (length g.history) = λ place. absurd (let wrong : AtHead ≡ AtNext t = sym place ∙ may.place in cc) in
     let above : (u : ℕ) (e : Entry) → q.place ≡ AtNext u → MayStandOn x.pass q u e → e.number ≡ stands.0.number = λ u e place on_e.
     let same : u ≡ t = same_next u t (sym place ∙ may.place) in
-    let by_pass : MayStandOn (take (seen_at g x.id) g.history) q t e = subst (λ (v : ℕ). MayStandOn (take (seen_at g x.id) g.history) q v e) same (subst (λ (p : List Change). MayStandOn p q u e) seen.pass on_e) in
+    let by_pass : MayStandOn (take (seen_at g x.id) g.history) q t e =
+    subst (λ (v : ℕ). MayStandOn (take (seen_at g x.id) g.history) q v e) same (subst (λ (p : List Change). MayStandOn p q u e) seen.pass on_e) in
     let by_history = stands_by_history g.history (seen_at g x.id) t q e seen.within (on.searches x.id q searching).started by_pass in
     one_stands g x.id q.start (seen_at g x.id) (seen_at g x.id) t stands.0 e on walk stands.1 by_history in
     told z s r i x (index (next_of t)) (slice_index s.words (index (next_of t))) q may.under_way
@@ -247,7 +265,8 @@ load_link_may z x c t id may = subst (λ d. CpuMay z x (index (next_of t)) (λ n
   where
     told : (z : Settings) (s : Table ℕ View) (r : Ruled z s) (i : ℕ) (x : CpuView) (spot m : ℕ) (q : Search) → x.search ≡ Some q
         → (y : CpuView) × GoesOn z s r (did (LoadLink x.id) (link_answer m)) (stepped s spot m i [] (Cpu y) keeps) × Makes (LoadLink x.id) (link_answer m) (Cpu x) (Cpu y) × HasFollowed x q m y
-        → (w : View) × GoesOn z s r (did (LoadLink x.id) (link_answer m)) (stepped s spot m i [] w keeps) × ((w ≡ Cpu (cpu_of w)) × (Makes (LoadLink x.id) (link_answer m) (Cpu x) (Cpu (cpu_of w)) × HasLoadedLink x m (cpu_of w)))
+        → (w : View) × GoesOn z s r (did (LoadLink x.id) (link_answer m)) (stepped s spot m i [] w keeps)
+        × ((w ≡ Cpu (cpu_of w)) × (Makes (LoadLink x.id) (link_answer m) (Cpu x) (Cpu (cpu_of w)) × HasLoadedLink x m (cpu_of w)))
     told z s r i x spot m q under done = (Cpu done.0, done.1, (refl, (done.2, λ p is. subst (λ (o : Search). HasFollowed x o m done.0) (same_Some q p (sym under ∙ is)) done.3)))
 
 -- Seek touches no word: it is made with the load of the head
@@ -260,8 +279,10 @@ at_same (u ∷ us) (suc i) v w e = at_same us i v w e
 abbrev pub begun_lists : State → ℕ → Search → CpuLists
 begun_lists g c q = record (lists_of g) { searches = set g.searches c (Some q) }
 
-begins_search : (z : Settings) (s : Table ℕ View) (r : Ruled z s) (i : ℕ) (x : CpuView) (spot m : ℕ) (kind : Kind) (name : Name) → get_elem? s.views i ≡ some (Cpu x) → MaySeek x → slice_index s.words spot ≡ m
-    → GoesOn z s r (did (Seek x.id kind name) Done) (stepped s spot m i [] (Cpu (cpu_after_seek (key_with kind name) x)) keeps) × Makes (Seek x.id kind name) Done (Cpu x) (Cpu (cpu_after_seek (key_with kind name) x))
+begins_search : (z : Settings) (s : Table ℕ View) (r : Ruled z s) (i : ℕ) (x : CpuView) (spot m : ℕ) (kind : Kind) (name : Name) → get_elem? s.views i ≡ some (Cpu x) → MaySeek x
+    → slice_index s.words spot ≡ m
+    → GoesOn z s r (did (Seek x.id kind name) Done) (stepped s spot m i [] (Cpu (cpu_after_seek (key_with kind name) x)) keeps)
+    × Makes (Seek x.id kind name) Done (Cpu x) (Cpu (cpu_after_seek (key_with kind name) x))
 begins_search z s r i x spot m kind name at may found =
     let g = r.g in
     let key = key_with kind name in
@@ -293,11 +314,17 @@ seek_at z x kind name may s r i at fits =
     let found : slice_index t.words (index head_word) ≡ m = ap (λ (ws : List ℕ). slice_index ws (index head_word)) stays in
     let after = seek_link z t begun.0.ruled i v m (search_for key x) here refl refl found in
     let same : stepped t (index head_word) m i [] (Cpu after.0) keeps ≡ stepped s (index head_word) m i [] (Cpu after.0) keeps =
-    λ k. record { words = set-set s.words (index head_word) m m k; homes = s.homes; views = set-set s.views i (Cpu v) (Cpu after.0) k } in
-    (Cpu after.0, subst (GoesOn z s r (did (Seek x.id kind name) Done ++ did (LoadLink x.id) (link_answer m))) same (goes_both z s t _ r (did (Seek x.id kind name) Done) (did (LoadLink x.id) (link_answer m)) begun.0 after.1), (refl, (begun.1, after.2, after.3)))
+    λ k. record { words = set-set s.words (index head_word) m m k; homes = s.homes; views = set-set s.views i (Cpu v) (Cpu after.0) k } in (
+      Cpu after.0,
+      subst (GoesOn z s r (did (Seek x.id kind name) Done ++ did (LoadLink x.id) (link_answer m))) same
+          (goes_both z s t _ r (did (Seek x.id kind name) Done) (did (LoadLink x.id) (link_answer m)) begun.0 after.1),
+      (refl, (begun.1, after.2, after.3)),
+    )
   where
-    seek_link : (z : Settings) (t : Table ℕ View) (r : Ruled z t) (i : ℕ) (v : CpuView) (m : ℕ) (q : Search) → get_elem? t.views i ≡ some (Cpu v) → v.search ≡ Some q → q.place ≡ AtHead → slice_index t.words (index head_word) ≡ m
-        → (y : CpuView) × GoesOn z t r (did (LoadLink v.id) (link_answer m)) (stepped t (index head_word) m i [] (Cpu y) keeps) × Makes (LoadLink v.id) (link_answer m) (Cpu v) (Cpu y) × HasFollowed v q m y
+    seek_link : (z : Settings) (t : Table ℕ View) (r : Ruled z t) (i : ℕ) (v : CpuView) (m : ℕ) (q : Search) → get_elem? t.views i ≡ some (Cpu v) → v.search ≡ Some q → q.place ≡ AtHead
+        → slice_index t.words (index head_word) ≡ m
+        → (y : CpuView) × GoesOn z t r (did (LoadLink v.id) (link_answer m)) (stepped t (index head_word) m i [] (Cpu y) keeps) × Makes (LoadLink v.id) (link_answer m) (Cpu v) (Cpu y)
+        × HasFollowed v q m y
     seek_link z t r i v m q at under place is =
         let g = r.g in
         let had : CpuShown g v = (r.shows.fits i (Cpu v) at).1 in
@@ -313,13 +340,15 @@ seek_at z x kind name may s r i at fits =
         (λ at_head. refl)
         (λ u e next stands. absurd (let wrong : AtHead ≡ AtNext u = sym place ∙ next in cc))
 
-pub seek_may : (z : Settings) (x : CpuView) (c : ℕ) (kind : Kind) (name : Name) → x.id ≡ c → MaySeek x → CpuMay z x (index head_word) (λ n. n) (sought (Seek c kind name)) (HasSought (Seek c kind name))
+pub seek_may : (z : Settings) (x : CpuView) (c : ℕ) (kind : Kind) (name : Name) → x.id ≡ c → MaySeek x
+    → CpuMay z x (index head_word) (λ n. n) (sought (Seek c kind name)) (HasSought (Seek c kind name))
 seek_may z x c kind name id may = subst (λ d. CpuMay z x (index head_word) (λ n. n) (sought (Seek d kind name)) (HasSought (Seek d kind name))) id (seek_at z x kind name may)
 
 -- Record words
 
 -- an answer found that is lawful up to the end of a pass is lawful in the pass
-pub found_in_pass : (h : List Change) (from to : ℕ) (key : Key) (e : Entry) → to ≤ length h → IsLawful h from to key (Some e) → IsLawful (take to h) from (length (take to h)) key (Some e) × IsAttached (take to h) e
+pub found_in_pass : (h : List Change) (from to : ℕ) (key : Key) (e : Entry) → to ≤ length h → IsLawful h from to key (Some e)
+    → IsLawful (take to h) from (length (take to h)) key (Some e) × IsAttached (take to h) e
 found_in_pass h from to key e le lawful =
     let live : IsLiveAt h lawful.point e = lawful.answered.0 in
     let size : length (take to h) ≡ to = length-take-le to h le in
@@ -412,14 +441,16 @@ found_holds : (h : List Change) (n : ℕ) (q : Search) (o : Loaded) → n ≤ le
 found_holds h n q (On p w) le answer = tt
 found_holds h n q (Over e) le answer = found_in_pass h q.start n q.key e le answer
 
-found_shown : (p : List Change) (q : Search) (old : Option Entry) (o : Loaded) → ((e : Entry) → old ≡ Some e → IsAttached p e) → FoundHolds q (Some o) p → (e : Entry) → loaded_found old o ≡ Some e → IsAttached p e
+found_shown : (p : List Change) (q : Search) (old : Option Entry) (o : Loaded) → ((e : Entry) → old ≡ Some e → IsAttached p e) → FoundHolds q (Some o) p → (e : Entry) → loaded_found old o ≡ Some e
+    → IsAttached p e
 found_shown p q old (On place w) before holds e is = before e is
 found_shown p q old (Over f) before holds e is = subst (IsAttached p) (same_Some f e is) holds.1
 
 searches_word : (z : Settings) (s : Table ℕ View) (r : Ruled z s) (i : ℕ) (x : CpuView) (spot m : ℕ) (q : Search) (o : Loaded) → get_elem? s.views i ≡ some (Cpu x) → x.search ≡ Some q
     → slice_index s.words spot ≡ m → loaded_of (Some q) m ≡ Some o → loaded_at q q.place (row_of_place r.g.rows q.place) ≡ Some o
     → ((t k : ℕ) → IsAtWord q.place t k → word (row_at r.g.rows t) k ≡ m)
-    → (y : CpuView) × GoesOn z s r (did (LoadRecord (OfSearch x.id)) (loaded_answer (Some o))) (stepped s spot m i [] (Cpu y) keeps) × Makes (LoadRecord (OfSearch x.id)) (loaded_answer (Some o)) (Cpu x) (Cpu y) × HasSearched x q m y
+    → (y : CpuView) × GoesOn z s r (did (LoadRecord (OfSearch x.id)) (loaded_answer (Some o))) (stepped s spot m i [] (Cpu y) keeps)
+    × Makes (LoadRecord (OfSearch x.id)) (loaded_answer (Some o)) (Cpu x) (Cpu y) × HasSearched x q m y
 searches_word z s r i x spot m q o at under found makes load worded =
     let g = r.g in
     let had : CpuShown g x = (r.shows.fits i (Cpu x) at).1 in
@@ -439,23 +470,33 @@ searches_word z s r i x spot m q o at under found makes load worded =
     (λ d ne. get_or-set_other g.searches x.id d _ None ne) (λ d ne. founds_there g.found x.id d o ne) in
     let shown = shown_on g x l had refl refl refl (had.depth ∙ ap depth_of seen.begin) (omega arith) seen.within
     (λ e is. found_shown (take sees g.history) q (found_at g x.id) o (found_on g x sees had (omega arith) seen.within) holds e (sym finds ∙ is)) in
-    let done = cpu_makes z s r i x spot m l (LoadRecord (OfSearch x.id)) (loaded_answer (Some o)) (own_of x) at made leaves (λ k. refl) refl shown (loaded_words s.words g l spot m found r.words refl refl refl) in
+    let done = cpu_makes z s r i x spot m l (LoadRecord (OfSearch x.id)) (loaded_answer (Some o)) (own_of x) at made leaves (λ k. refl) refl shown
+    (loaded_words s.words g l spot m found r.words refl refl refl) in
     let change : y ≡ cpu_after_record_word x q (Some o) =
     (λ k. record y { search = searches k; found = finds k }) ∙ ap (λ (v : CpuView). record v { search = loaded_search q o; found = loaded_found v.found o }) (sym had.is) ∙ searched_is x q o in
     let on = r.good.holds in
     let walk : Walks g x.id q.start = search_walks g x.id q on searching in
     let number : (t : ℕ) → q.place ≡ AtNumber t → (e : Entry) × MayStandOn y.pass q t e × (e.number ≡ m) = λ t place.
     let stands = subst (PlaceHolds g.history q.start sees q.key) place (on.searches x.id q searching).stands in
-    let row = words_stand g x.id q.start sees t stands.0 on walk stands.1 in
-    (stands.0, stands_by_pass g.history sees t q stands.0 seen.within stands.1, sym (ap (λ (w : RecordWords). w.number) row) ∙ worded t 0 (subst (λ (p : SearchPlace). IsAtWord p t 0) (sym place) (refl, refl))) in
+    let row = words_stand g x.id q.start sees t stands.0 on walk stands.1 in (
+      stands.0,
+      stands_by_pass g.history sees t q stands.0 seen.within stands.1,
+      sym (ap (λ (w : RecordWords). w.number) row) ∙ worded t 0 (subst (λ (p : SearchPlace). IsAtWord p t 0) (sym place) (refl, refl)),
+    ) in
     let each_word : (t k : ℕ) (e : Entry) → IsAtWord q.place t k → MayStandOn y.pass q t e → word (words_of e) k ≡ m = λ t k e place stands.
     let by_history = stands_by_history g.history sees t q e seen.within (on.searches x.id q searching).started stands in
-    ap (λ (w : RecordWords). word w k) (sym (words_stand g x.id q.start sees t e on walk by_history)) ∙ worded t k place in
-    (y, done.0, done.1, record { is = change ∙ ap (cpu_after_record_word x q) (sym makes); holds = subst (λ (u : Option Loaded). FoundHolds q u y.pass) (sym makes) holds; number = number; words = each_word })
+    ap (λ (w : RecordWords). word w k) (sym (words_stand g x.id q.start sees t e on walk by_history)) ∙ worded t k place in (
+      y,
+      done.0,
+      done.1,
+      record { is = change ∙ ap (cpu_after_record_word x q) (sym makes); holds = subst (λ (u : Option Loaded). FoundHolds q u y.pass) (sym makes) holds; number = number; words = each_word },
+    )
 
 pub load_searched_may : (z : Settings) (x : CpuView) (c t k : ℕ) → x.id ≡ c → MayLoadSearched x t k
-    → CpuMay z x (index (record_of t k)) (λ n. n) (λ n. did (LoadRecord (OfSearch c)) (loaded_answer (loaded_of x.search n))) (λ v n y. Makes (LoadRecord (OfSearch c)) (loaded_answer (loaded_of v.search n)) (Cpu v) (Cpu y) × HasLoadedWord v n y)
-load_searched_may z x c t k id may = subst (λ d. CpuMay z x (index (record_of t k)) (λ n. n) (λ n. did (LoadRecord (OfSearch d)) (loaded_answer (loaded_of x.search n))) (λ v n y. Makes (LoadRecord (OfSearch d)) (loaded_answer (loaded_of v.search n)) (Cpu v) (Cpu y) × HasLoadedWord v n y)) id
+    → CpuMay z x (index (record_of t k)) (λ n. n) (λ n. did (LoadRecord (OfSearch c)) (loaded_answer (loaded_of x.search n)))
+    (λ v n y. Makes (LoadRecord (OfSearch c)) (loaded_answer (loaded_of v.search n)) (Cpu v) (Cpu y) × HasLoadedWord v n y)
+load_searched_may z x c t k id may = subst (λ d. CpuMay z x (index (record_of t k)) (λ n. n) (λ n. did (LoadRecord (OfSearch d)) (loaded_answer (loaded_of x.search n)))
+    (λ v n y. Makes (LoadRecord (OfSearch d)) (loaded_answer (loaded_of v.search n)) (Cpu v) (Cpu y) × HasLoadedWord v n y)) id
     (λ s r i at fits.
     let g = r.g in
     let q = may.search in

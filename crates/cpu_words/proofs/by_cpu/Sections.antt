@@ -6,15 +6,19 @@ use Rattle.std.specs.Prelude.{slice_index}
 use mathlib.Core.List.{IsPrefix}
 use Rattle.cpu_words.specs.Types.{Change, Settings, Enter, Exit, Done}
 use Rattle.protocol.specs.Common.{State, section_at, begin_at, depth_at, seen_at, step}
-use Rattle.cpu_words.specs.Common.{CpuView, Cpu, Spot, section_of, passive_of, count_of, head_word, next_of, record_of, total_of, word_at, index, own_of, cpu_view, depth_of, CpuShown, Agrees, Good, did, Makes, CpuMay, MayEnter, HasEntered, MayExit, HasExited}
+use Rattle.cpu_words.specs.Common.{CpuView, Cpu, Spot, section_of, passive_of, count_of, head_word, next_of, record_of, total_of, word_at, index, own_of, cpu_view, depth_of, CpuShown, Agrees, Good}
+use Rattle.cpu_words.specs.Common.{did, Makes, CpuMay, MayEnter, HasEntered, MayExit, HasExited}
 use Rattle.cpu_words.proofs.shown.Placing.{agrees_set}
 use Rattle.cpu_words.proofs.shown.Passes.{prefix_longer, take_whole}
 use Rattle.cpu_words.proofs.by_cpu.CpuSteps.{CpuLists, lists_of, with_lists, same_counts, shown_on, found_on, cpu_makes}
 use Rattle.cpu_words.proofs.shown.Seeing.{Seen, seen_of, idle_of}
 
 -- the words after a step on the CPU's section word
-pub section_words : (words : List ℕ) (g : State) (x : CpuView) (l : CpuLists) (m : ℕ) → Seen g x → Good g → Agrees words g → l.passive ≡ g.passive → l.counts ≡ g.counts → l.section ≡ set g.section x.id m → Agrees (set words (index (section_of x.id)) m) (with_lists g l)
-section_words words g x l m seen good agrees passive counts is = agrees_set words g (with_lists g l) (section_of x.id) m good.holds.fit agrees refl seen.lt (ap (λ (s : List ℕ). get_or s x.id 0) is ∙ get_or-set_same g.section x.id m 0 seen.in_section) (λ q there ne. other q ne)
+pub section_words : (words : List ℕ) (g : State) (x : CpuView) (l : CpuLists) (m : ℕ) → Seen g x → Good g → Agrees words g → l.passive ≡ g.passive → l.counts ≡ g.counts
+    → l.section ≡ set g.section x.id m → Agrees (set words (index (section_of x.id)) m) (with_lists g l)
+section_words words g x l m seen good agrees passive counts is =
+    agrees_set words g (with_lists g l) (section_of x.id) m good.holds.fit agrees refl seen.lt (ap (λ (s : List ℕ). get_or s x.id 0) is ∙ get_or-set_same g.section x.id m 0 seen.in_section)
+    (λ q there ne. other q ne)
   where
     other : (q : Spot) → (q ≡ section_of x.id → ⊥) → word_at (with_lists g l) q ≡ word_at g q
     other (section_of d) ne = ap (λ (s : List ℕ). get_or s d 0) is ∙ get_or-set_other g.section x.id d m 0 (λ e. ne (ap section_of e))
@@ -25,7 +29,8 @@ section_words words g x l m seen good agrees passive counts is = agrees_set word
     other (record_of t k) ne = refl
     other (total_of t) ne = refl
 
-pub enter_may : (z : Settings) (x : CpuView) (c : ℕ) → x.id ≡ c → MayEnter x → CpuMay z x (index (section_of c)) (λ n. (n + 1) % 2 ^ 64) (λ n. did (Enter c) Done) (λ v n y. Makes (Enter c) Done (Cpu v) (Cpu y) × HasEntered v y)
+pub enter_may : (z : Settings) (x : CpuView) (c : ℕ) → x.id ≡ c → MayEnter x
+    → CpuMay z x (index (section_of c)) (λ n. (n + 1) % 2 ^ 64) (λ n. did (Enter c) Done) (λ v n y. Makes (Enter c) Done (Cpu v) (Cpu y) × HasEntered v y)
 enter_may z x c id may = subst (λ d. CpuMay z x (index (section_of d)) (λ n. (n + 1) % 2 ^ 64) (λ n. did (Enter d) Done) (λ v n y. Makes (Enter d) Done (Cpu v) (Cpu y) × HasEntered v y)) id
     (λ s r i at fits.
     let g = r.g in
@@ -43,21 +48,25 @@ enter_may z x c id may = subst (λ d. CpuMay z x (index (section_of d)) (λ n. (
     let sees : get_or l.seen x.id 0 ≡ n = get_or-set_same g.seen x.id n 0 seen.in_seen in
     let passes : y.pass ≡ g.history = ap (λ k. take k g.history) sees ∙ take_whole g.history in
     let outside : begin_at g x.id ≡ None = sym seen.begin ∙ may.outside in
-    let made : step g (Enter x.id) ≡ Some (record { state = with_lists g l; reply = Done }) = rw (idle_of g x seen had may.idle, outside, lt-ltb (section_at g x.id) (2 * g.settings.section_limit) room) refl in
+    let made : step g (Enter x.id) ≡ Some (record { state = with_lists g l; reply = Done }) =
+    rw (idle_of g x seen had may.idle, outside, lt-ltb (section_at g x.id) (2 * g.settings.section_limit) room) refl in
     let leaves = same_counts g x.id l refl refl refl refl
     (λ d ne. get_or-set_other g.section x.id d _ 0 ne) (λ d ne. get_or-set_other g.begins x.id d _ None ne) (λ d ne. get_or-set_other g.depths x.id d _ 0 ne)
     (λ d ne. get_or-set_other g.seen x.id d _ 0 ne) (λ d ne. refl) (λ d ne. refl) in
     let shown = shown_on g x l had refl refl refl (get_or-set_same g.depths x.id 1 0 seen.in_depths ∙ sym (ap depth_of begins)) (omega (arith, seen.within, sees)) (omega (arith, sees))
     (found_on g x (get_or l.seen x.id 0) had (omega (arith, seen.within, sees)) (omega (arith, sees))) in
     let words = subst (λ m. Agrees (set s.words (index (section_of x.id)) m) (with_lists g l)) (sym next) (section_words s.words g x l (section_at g x.id + 1) seen r.good r.words refl refl refl) in
-    let done = cpu_makes z s r i x (index (section_of x.id)) ((slice_index s.words (index (section_of x.id)) + 1) % 2 ^ 64) l (Enter x.id) Done (own_of x) at made leaves (λ k. refl) refl shown words in
-    let longer : IsPrefix x.pass y.pass = subst (λ p. IsPrefix p y.pass) (sym seen.pass) (prefix_longer g.history (seen_at g x.id) (get_or l.seen x.id 0) (omega (arith, seen.within, sees)) (omega (arith, sees))) in
+    let done = cpu_makes z s r i x (index (section_of x.id)) ((slice_index s.words (index (section_of x.id)) + 1) % 2 ^ 64) l (Enter x.id) Done (own_of x) at made leaves
+    (λ k. refl) refl shown words in
+    let longer : IsPrefix x.pass y.pass =
+    subst (λ p. IsPrefix p y.pass) (sym seen.pass) (prefix_longer g.history (seen_at g x.id) (get_or l.seen x.id 0) (omega (arith, seen.within, sees)) (omega (arith, sees))) in
     let begun : y.begin ≡ Some (length y.pass) = begins ∙ ap (λ (h : List Change). Some (length h)) (sym passes) in
     let change : y ≡ record x { section = x.section + 1; begin = Some (length y.pass); pass = y.pass } =
     (λ k. record y { section = section k; begin = begun k }) ∙ ap (λ (v : CpuView). record v { section = v.section + 1; begin = Some (length y.pass); pass = y.pass }) (sym had.is) in
     (Cpu y, done.0, (refl, (done.1, (longer, change)))))
 
-pub exit_may : (z : Settings) (x : CpuView) (c : ℕ) → x.id ≡ c → MayExit x → CpuMay z x (index (section_of c)) (λ n. (n + 1) % 2 ^ 64) (λ n. did (Exit c) Done) (λ v n y. Makes (Exit c) Done (Cpu v) (Cpu y) × HasExited v y)
+pub exit_may : (z : Settings) (x : CpuView) (c : ℕ) → x.id ≡ c → MayExit x
+    → CpuMay z x (index (section_of c)) (λ n. (n + 1) % 2 ^ 64) (λ n. did (Exit c) Done) (λ v n y. Makes (Exit c) Done (Cpu v) (Cpu y) × HasExited v y)
 exit_may z x c id may = subst (λ d. CpuMay z x (index (section_of d)) (λ n. (n + 1) % 2 ^ 64) (λ n. did (Exit d) Done) (λ v n y. Makes (Exit d) Done (Cpu v) (Cpu y) × HasExited v y)) id
     (λ s r i at fits.
     let g = r.g in

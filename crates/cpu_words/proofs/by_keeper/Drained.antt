@@ -86,7 +86,8 @@ empty_row rows t c = ⊎_elim
     (written_cases [] rows t (replicate MOST_CPUS 0) t)
 
 -- the count words of vacant slots, with those of t
-pub vacated_counts : (g : State) (k : KeeperView) (t : ℕ) (e : Entry) → KeeperShown g k → Drained g t e → (c u : ℕ) → slot_at (set g.slots t Vacant) u ≡ Vacant → count_at g.counts c u ≡ count_at (set k.counts t (replicate MOST_CPUS 0)) c u
+pub vacated_counts : (g : State) (k : KeeperView) (t : ℕ) (e : Entry) → KeeperShown g k → Drained g t e → (c u : ℕ) → slot_at (set g.slots t Vacant) u ≡ Vacant
+    → count_at g.counts c u ≡ count_at (set k.counts t (replicate MOST_CPUS 0)) c u
 vacated_counts g k t e had drained c u vacant = ⊎_elim
     (λ (is : u ≡ t). ap (count_at g.counts c) is ∙ drained.counts c ∙ sym (ap (count_at (set k.counts t (replicate MOST_CPUS 0)) c) is ∙ empty_row k.counts t c))
     (λ (off : u ≢ t). had.counts c u (sym (slot_other g.slots t Vacant u off) ∙ vacant) ∙ sym (cell_in_old 0 k.counts t (replicate MOST_CPUS 0) u c off))

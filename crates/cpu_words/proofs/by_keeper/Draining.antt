@@ -8,7 +8,8 @@ use Rattle.registry_values.specs.Common.{no_mark, have_passed, are_clear, mark_a
 use Rattle.registry_values.proofs.Fit.{ranges}
 use Rattle.protocol.proofs.slots.Cells.{cell_cases, cell_here, cell_other}
 use Rattle.protocol.proofs.counts.HeldSums.{one_self, one_other}
-use Rattle.cpu_words.specs.Common.{KeeperView, Keeper, Spot, section_of, passive_of, count_of, head_word, next_of, record_of, total_of, word_at, index, KeeperOwn, keeper_own, keeper_view, KeeperShown, GivesUp, collected_net, collected_one, Agrees, Good, did, Makes, KeeperMay, MayLook, keeper_after_look, MayPassiveLook, LookedPassiveTold, MayCollect, CollectTold}
+use Rattle.cpu_words.specs.Common.{KeeperView, Keeper, Spot, section_of, passive_of, count_of, head_word, next_of, record_of, total_of, word_at, index, KeeperOwn, keeper_own, keeper_view, KeeperShown}
+use Rattle.cpu_words.specs.Common.{GivesUp, collected_net, collected_one, Agrees, Good, did, Makes, KeeperMay, MayLook, keeper_after_look, MayPassiveLook, LookedPassiveTold, MayCollect, CollectTold}
 use Rattle.cpu_words.proofs.shown.Placing.{agrees_set}
 use Rattle.cpu_words.proofs.by_keeper.KeeperSteps.{KeeperLists, keeper_lists, with_keeper, leaves_all, keeper_makes}
 use Rattle.cpu_words.proofs.by_keeper.KeeperSees.{SeenByKeeper, seen_by_keeper, loads}
@@ -37,7 +38,9 @@ looking g k t c good seen may =
 row_told : (f : ℕ → List Mark → Bool) (g : State) (k : KeeperView) (t : ℕ) → SeenByKeeper g k → f k.settings.cpus (get_or k.marks t []) ≡ true → f g.settings.cpus (get_or g.marks t []) ≡ true
 row_told f g k t seen is = sym (λ i. f (seen.settings i).cpus (get_or (seen.marks i) t [])) ∙ is
 
-pub passive_look_may : (z : Settings) (k : KeeperView) (t c : ℕ) → MayPassiveLook k t c → KeeperMay z k (index (passive_of c t)) (λ n. n) (λ n. did (PassiveLook t c) (Word n)) (λ v n l. Makes (PassiveLook t c) (Word n) (Keeper v) (Keeper l) × LookedPassiveTold (PassiveLook t c) v n l)
+pub passive_look_may : (z : Settings) (k : KeeperView) (t c : ℕ) → MayPassiveLook k t c
+    → KeeperMay z k (index (passive_of c t)) (λ n. n) (λ n. did (PassiveLook t c) (Word n))
+    (λ v n l. Makes (PassiveLook t c) (Word n) (Keeper v) (Keeper l) × LookedPassiveTold (PassiveLook t c) v n l)
 passive_look_may z k t c may s r i at fits =
     let g = r.g in
     let had : KeeperShown g k = (r.shows.fits i (Keeper k) at).1 in
@@ -52,9 +55,11 @@ passive_look_may z k t c may s r i at fits =
     let own : KeeperOwn = keeper_own (keeper_after_look k (PassiveLook t c) (Word w)) in
     let made : step g (PassiveLook t c) ≡ Some (record { state = with_keeper g l; reply = Word w }) = rw (here.rest, here.retired, lt-ltb c g.settings.cpus here.cpu, passed, found) refl in
     let shown : KeeperShown (with_keeper g l) (keeper_view (with_keeper g l) own) = shown_marked g k t c m g.due own r.good had here.cpu refl (due_alike g.due g.due refl) refl refl refl in
-    let done = keeper_makes z s r i k place w l (PassiveLook t c) (Word w) own at made (leaves_all g l refl refl refl refl (same_collected g t c m refl)) (λ n. refl) refl shown (loads s.words g (with_keeper g l) place r.words refl (λ q _. refl)) in
+    let done = keeper_makes z s r i k place w l (PassiveLook t c) (Word w) own at made (leaves_all g l refl refl refl refl (same_collected g t c m refl)) (λ n. refl) refl shown
+    (loads s.words g (with_keeper g l) place r.words refl (λ q _. refl)) in
     let change : keeper_view (with_keeper g l) own ≡ record (keeper_after_look k (PassiveLook t c) (Word w)) { marks = with_cell k.marks t c (mark_after_passive_look (mark_at k.marks t c) w) } =
-    ap (λ n. record (keeper_view g own) { marks = with_cell g.marks t c (mark_after_passive_look (mark_at g.marks t c) n) }) (sym found) ∙ ap (λ (v : KeeperView). record (keeper_after_look v (PassiveLook t c) (Word w)) { marks = with_cell v.marks t c (mark_after_passive_look (mark_at v.marks t c) w) }) (sym had.is) in
+    ap (λ n. record (keeper_view g own) { marks = with_cell g.marks t c (mark_after_passive_look (mark_at g.marks t c) n) }) (sym found)
+    ∙ ap (λ (v : KeeperView). record (keeper_after_look v (PassiveLook t c) (Word w)) { marks = with_cell v.marks t c (mark_after_passive_look (mark_at v.marks t c) w) }) (sym had.is) in
     (Keeper (keeper_view (with_keeper g l) own), done.0, (refl, (done.1, change)))
 
 -- the state with a word collected
@@ -104,7 +109,8 @@ shown_collected g k t c good had here still = record {
   gives_up = λ u e retired. gives_up_collected g t c k.given_up good here still u e retired (had.gives_up u e retired);
   later = had.later;
   beyond = λ d u past. ⊎_elim
-      (λ (at : (u ≡ t) × (d ≡ c) × (cell no_mark (with_cell g.marks t c (mark_after_collect (mark_at g.marks t c))) u d ≡ mark_after_collect (mark_at g.marks t c))). absurd (let e = at.1 in omega (arith, e, past, here.cpu)))
+      (λ (at : (u ≡ t) × (d ≡ c) × (cell no_mark (with_cell g.marks t c (mark_after_collect (mark_at g.marks t c))) u d ≡ mark_after_collect (mark_at g.marks t c))). absurd
+      (let e = at.1 in omega (arith, e, past, here.cpu)))
       (λ (off : cell no_mark (with_cell g.marks t c (mark_after_collect (mark_at g.marks t c))) u d ≡ cell no_mark g.marks u d). ap (λ (x : Mark). x.collected) off ∙ had.beyond d u past)
       (cell_cases no_mark g.marks t c (mark_after_collect (mark_at g.marks t c)) u d);
   noted_pass = had.noted_pass;
@@ -119,7 +125,8 @@ still_collected g t c u d is = ⊎_elim
 
 -- the words after it
 collect_words : (words : List ℕ) (g : State) (t c : ℕ) → Good g → Looking g t c → Agrees words g → Agrees (set words (index (count_of c t)) 0) (with_keeper g (collecting g t c))
-collect_words words g t c good here agrees = agrees_set words g (with_keeper g (collecting g t c)) (count_of c t) 0 good.holds.fit agrees refl (here.cpu, here.slot) (cell_here 0 g.counts t c 0 lt in_row) (λ q _ ne. other q ne)
+collect_words words g t c good here agrees =
+    agrees_set words g (with_keeper g (collecting g t c)) (count_of c t) 0 good.holds.fit agrees refl (here.cpu, here.slot) (cell_here 0 g.counts t c 0 lt in_row) (λ q _ ne. other q ne)
   where
     lt : t < length g.counts
     lt = omega (arith, here.slot, good.holds.shape.counts)
@@ -136,7 +143,8 @@ collect_words words g t c good here agrees = agrees_set words g (with_keeper g (
     other (record_of u j) ne = refl
     other (total_of u) ne = refl
 
-pub collect_may : (z : Settings) (k : KeeperView) (t c : ℕ) → MayCollect k t c → KeeperMay z k (index (count_of c t)) (λ _. 0) (λ n. did (Collect t c) (Word n)) (λ v n l. Makes (Collect t c) (Word n) (Keeper v) (Keeper l) × CollectTold (Collect t c) v n l)
+pub collect_may : (z : Settings) (k : KeeperView) (t c : ℕ) → MayCollect k t c
+    → KeeperMay z k (index (count_of c t)) (λ _. 0) (λ n. did (Collect t c) (Word n)) (λ v n l. Makes (Collect t c) (Word n) (Keeper v) (Keeper l) × CollectTold (Collect t c) v n l)
 collect_may z k t c may s r i at fits =
     let g = r.g in
     let had : KeeperShown g k = (r.shows.fits i (Keeper k) at).1 in
@@ -152,7 +160,9 @@ collect_may z k t c may s r i at fits =
     let own : KeeperOwn = keeper_own k in
     let made : step g (Collect t c) ≡ Some (record { state = with_keeper g l; reply = Word w }) = rw (here.rest, here.retired, lt-ltb c g.settings.cpus here.cpu, passed, clear, still, found) refl in
     let shown = shown_collected g k t c r.good had here still in
-    let done = keeper_makes z s r i k place 0 l (Collect t c) (Word w) own at made (leaves_all g l refl refl refl refl (still_collected g t c)) (λ n. refl) refl shown (collect_words s.words g t c r.good here r.words) in
+    let done = keeper_makes z s r i k place 0 l (Collect t c) (Word w) own at made (leaves_all g l refl refl refl refl (still_collected g t c)) (λ n. refl) refl shown
+    (collect_words s.words g t c r.good here r.words) in
     let change : keeper_view (with_keeper g l) own ≡ record k { marks = with_cell k.marks t c (mark_after_collect (mark_at k.marks t c)); due = Adding t w } =
-    ap (λ n. record (keeper_view g own) { marks = with_cell g.marks t c (mark_after_collect (mark_at g.marks t c)); due = Adding t n }) (sym found) ∙ ap (λ (v : KeeperView). record v { marks = with_cell v.marks t c (mark_after_collect (mark_at v.marks t c)); due = Adding t w }) (sym had.is) in
+    ap (λ n. record (keeper_view g own) { marks = with_cell g.marks t c (mark_after_collect (mark_at g.marks t c)); due = Adding t n }) (sym found)
+    ∙ ap (λ (v : KeeperView). record v { marks = with_cell v.marks t c (mark_after_collect (mark_at v.marks t c)); due = Adding t w }) (sym had.is) in
     (Keeper (keeper_view (with_keeper g l) own), done.0, (refl, (done.1, change)))

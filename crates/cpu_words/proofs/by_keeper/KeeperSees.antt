@@ -38,5 +38,6 @@ seen_by_keeper g k good had = record {
 }
 
 -- the words after a load
-pub loads : (words : List ℕ) (g g' : State) (i : ℕ) → Agrees words g → g'.settings ≡ g.settings → ((q : Spot) → IsSpot g.settings q → word_at g' q ≡ word_at g q) → Agrees (set words i (slice_index words i)) g'
+pub loads : (words : List ℕ) (g g' : State) (i : ℕ) → Agrees words g → g'.settings ≡ g.settings → ((q : Spot) → IsSpot g.settings q → word_at g' q ≡ word_at g q)
+    → Agrees (set words i (slice_index words i)) g'
 loads words g g' i agrees same others = subst (λ (l : List ℕ). Agrees l g') (sym (set-get_or words i 0)) (agrees_same words g g' agrees same others)

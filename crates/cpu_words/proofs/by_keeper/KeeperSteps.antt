@@ -13,7 +13,9 @@ use Rattle.protocol.proofs.slots.Occupied.{slot_has, slot_found, fresh_unoccupie
 use Rattle.protocol.proofs.keeps.Keeping.{step_holds}
 use Rattle.cpu_words.proofs.laws.Reaching.{more}
 use Rattle.cpu_words.proofs.shown.Standing.{standing_place}
-use Rattle.cpu_words.specs.Common.{InHand, CpuView, KeeperView, ReferenceView, View, Keeper, Cpu, Reference, Note, Spent, KeeperOwn, own_of, cpu_view, keeper_view, references_to, is_to, SameHand, HandFits, CpuShown, KeeperShown, Spot, section_of, passive_of, count_of, head_word, next_of, record_of, total_of, word_at, Agrees, IsFresh, Good, Ruled, GoesOn, by_number, did, Makes}
+use Rattle.cpu_words.specs.Common.{InHand, CpuView, KeeperView, ReferenceView, View, Keeper, Cpu, Reference, Note, Spent, KeeperOwn, own_of, cpu_view, keeper_view, references_to, is_to, SameHand}
+use Rattle.cpu_words.specs.Common.{HandFits, CpuShown, KeeperShown, Spot, section_of, passive_of, count_of, head_word, next_of, record_of, total_of, word_at, Agrees, IsFresh, Good, Ruled, GoesOn}
+use Rattle.cpu_words.specs.Common.{by_number, did, Makes}
 use Rattle.cpu_words.specs.declared.view.InHand.TheVariants.{Empty as NoEntry, Taking as TakingEntry, Giving as GivingEntry, Back as BackEntry}
 use Rattle.cpu_words.proofs.shown.Showing.{standing_in, IsBacked, Stay, shows_set}
 use Rattle.cpu_words.proofs.shown.Passes.{attached_on, attached_prefix, prefix_on, take_on}
@@ -35,10 +37,38 @@ pub record KeeperLists : Type 0 where
   pub locals : List LocalPlace
 
 abbrev pub keeper_lists : State → KeeperLists
-keeper_lists g = record { head = g.head; next = g.next; rows = g.rows; counts = g.counts; totals = g.totals; history = g.history; seated = g.seated; nets = g.nets; slots = g.slots; marks = g.marks; keeps = g.keeps; due = g.due; locals = g.locals }
+keeper_lists g = record {
+  head = g.head;
+  next = g.next;
+  rows = g.rows;
+  counts = g.counts;
+  totals = g.totals;
+  history = g.history;
+  seated = g.seated;
+  nets = g.nets;
+  slots = g.slots;
+  marks = g.marks;
+  keeps = g.keeps;
+  due = g.due;
+  locals = g.locals;
+}
 
 abbrev pub with_keeper : State → KeeperLists → State
-with_keeper g l = record g { head = l.head; next = l.next; rows = l.rows; counts = l.counts; totals = l.totals; history = l.history; seated = l.seated; nets = l.nets; slots = l.slots; marks = l.marks; keeps = l.keeps; due = l.due; locals = l.locals }
+with_keeper g l = record g {
+  head = l.head;
+  next = l.next;
+  rows = l.rows;
+  counts = l.counts;
+  totals = l.totals;
+  history = l.history;
+  seated = l.seated;
+  nets = l.nets;
+  slots = l.slots;
+  marks = l.marks;
+  keeps = l.keeps;
+  due = l.due;
+  locals = l.locals;
+}
 
 -- an occupant that was there, and one that came
 abbrev pub Stayed : State → KeeperLists → ℕ → Entry → Type 0
@@ -53,7 +83,8 @@ pub record LeavesCpus (g : State) (l : KeeperLists) : Type 0 where
   pub more : (zs : List Change) × (l.history ≡ g.history ++ zs)
   pub stay : (t : ℕ) (e : Entry) → IsIn e (slot_at l.slots t) → Stayed g l t e ⊎ Came g l t e
   pub go : (t : ℕ) (e : Entry) → IsIn e (slot_at g.slots t) → IsIn e (slot_at l.slots t) ⊎ ((c : ℕ) → passive_at g.passive c t ≡ 0)
-  pub collected : (t c : ℕ) (e : Entry) → slot_at g.slots t ≡ Retired e → (mark_at g.marks t c).collected ≡ true → Occupies l.slots e.number → (slot_at l.slots t ≡ Retired e) × ((mark_at l.marks t c).collected ≡ true)
+  pub collected : (t c : ℕ) (e : Entry) → slot_at g.slots t ≡ Retired e → (mark_at g.marks t c).collected ≡ true → Occupies l.slots e.number
+      → (slot_at l.slots t ≡ Retired e) × ((mark_at l.marks t c).collected ≡ true)
 
 -- a reference that a seat stands for has its slot
 pub reference_occupies : (g : State) (v : ReferenceView) → Holds g → IsBacked g (Reference v) → Occupies g.slots v.entry.number
@@ -72,9 +103,11 @@ hand_occupies slots locals c (Giving n id) e holds same = absurd same
 hand_occupies slots locals c (Back n id) e holds same = subst (Occupies slots) same holds.0
 
 abbrev Collected : State → KeeperLists → Type 0
-Collected g l = (t c : ℕ) (e : Entry) → slot_at g.slots t ≡ Retired e → (mark_at g.marks t c).collected ≡ true → Occupies l.slots e.number → (slot_at l.slots t ≡ Retired e) × ((mark_at l.marks t c).collected ≡ true)
+Collected g l = (t c : ℕ) (e : Entry) → slot_at g.slots t ≡ Retired e → (mark_at g.marks t c).collected ≡ true → Occupies l.slots e.number
+    → (slot_at l.slots t ≡ Retired e) × ((mark_at l.marks t c).collected ≡ true)
 
-hand_on : (g : State) (l : KeeperLists) (zs : List Change) (c : ℕ) (h : Hand) (x : InHand) → l.history ≡ g.history ++ zs → Collected g l → HandHolds l.slots l.locals c h → SameHand h x → HandFits g.history g.slots g.marks c x → HandFits l.history l.slots l.marks c x
+hand_on : (g : State) (l : KeeperLists) (zs : List Change) (c : ℕ) (h : Hand) (x : InHand) → l.history ≡ g.history ++ zs → Collected g l → HandHolds l.slots l.locals c h → SameHand h x
+    → HandFits g.history g.slots g.marks c x → HandFits l.history l.slots l.marks c x
 hand_on g l zs c h NoEntry more stays holds same fits = tt
 hand_on g l zs c h (TakingEntry e) more stays holds same fits = subst (λ (k : List Change). IsAttached k e) (sym more) (attached_on g.history zs e fits)
 hand_on g l zs c h (GivingEntry e) more stays holds same fits = subst (λ (k : List Change). IsAttached k e) (sym more) (attached_on g.history zs e fits)
@@ -138,7 +171,8 @@ cpu_shown_on g l y good after leaves had =
         (λ (none : (c : ℕ) → passive_at g.passive c t ≡ 0). ap (λ m. references_to m y.references) (sym is) ∙ sym (had.passive t e here) ∙ none y.id)
         (leaves.go t e here)
 
-pub keeper_stays : (g : State) (l : KeeperLists) (seat : ℕ → ℕ) (i : ℕ) → Good g → Holds (with_keeper g l) → LeavesCpus g l → ((n : ℕ) → sum_by (standing_of n) l.locals ≡ standing_in n g) → i ≡ 0 → Stay g (with_keeper g l) seat i
+pub keeper_stays : (g : State) (l : KeeperLists) (seat : ℕ → ℕ) (i : ℕ) → Good g → Holds (with_keeper g l) → LeavesCpus g l → ((n : ℕ) → sum_by (standing_of n) l.locals ≡ standing_in n g) → i ≡ 0
+    → Stay g (with_keeper g l) seat i
 keeper_stays g l seat i good after leaves count mine j (Keeper k) ne sits shown backed = absurd (ne (sits ∙ sym mine))
 keeper_stays g l seat i good after leaves count mine j (Cpu y) ne sits shown backed = cpu_shown_on g l y good after leaves shown
 keeper_stays g l seat i good after leaves count mine j (Reference v) ne sits shown backed =
@@ -167,7 +201,8 @@ keeper_good_after g l e r good leaves made = record {
 -- the keeper's step on a word keeps the rule, and is its event
 pub keeper_makes : (z : Settings) (s : Table ℕ View) (r : Ruled z s) (i : ℕ) (k : KeeperView) (word m : ℕ) (l : KeeperLists) (e : Event) (rep : Reply) (own : KeeperOwn)
     → get_elem? s.views i ≡ some (Keeper k) → step r.g e ≡ Some (record { state = with_keeper r.g l; reply = rep }) → LeavesCpus r.g l
-    → ((n : ℕ) → sum_by (standing_of n) l.locals ≡ standing_in n r.g) → own.noted_pass ≡ k.noted_pass → KeeperShown (with_keeper r.g l) (keeper_view (with_keeper r.g l) own) → Agrees (set s.words word m) (with_keeper r.g l)
+    → ((n : ℕ) → sum_by (standing_of n) l.locals ≡ standing_in n r.g) → own.noted_pass ≡ k.noted_pass → KeeperShown (with_keeper r.g l) (keeper_view (with_keeper r.g l) own)
+    → Agrees (set s.words word m) (with_keeper r.g l)
     → GoesOn z s r (did (by_number r.g e) rep) (stepped s word m i [] (Keeper (keeper_view (with_keeper r.g l) own)) keeps) × Makes e rep (Keeper k) (Keeper (keeper_view (with_keeper r.g l) own))
 keeper_makes z s r i k word m l e rep own at made leaves count noted_pass shown words =
     let g = r.g in
@@ -184,7 +219,8 @@ keeper_makes z s r i k word m l e rep own at made leaves count noted_pass shown 
           good = good;
           reached = (more z g g' e rep r.reached made).0;
           words = words;
-          shows = shows_set g g' r.seat s.views i (Keeper k) (Keeper w) r.shows at (keeper_stays g l r.seat i r.good good.holds leaves count had.0) (had.0, shown) leaves.seated refl (λ n. let h = count n in omega arith);
+          shows = shows_set g g' r.seat s.views i (Keeper k) (Keeper w) r.shows at (keeper_stays g l r.seat i r.good good.holds leaves count had.0) (had.0, shown) leaves.seated refl
+              (λ n. let h = count n in omega arith);
         };
         goes_on = (more z g g' e rep r.reached made).1;
         seated = omega (arith, leaves.seated);
@@ -210,7 +246,8 @@ abbrev pub beside : State → List LocalPlace → Due → List (Option ℕ) → 
 beside g locals due kept = record (keeper_lists g) { locals = locals; due = due; keeps = kept }
 
 -- nor does a CPU's view speak of the seats of the others
-pub cpu_beside_shown : (g : State) (n : ℕ) (locals : List LocalPlace) (due : Due) (kept : List (Option ℕ)) (y : CpuView) → (y.id < g.seated → y.id < n) → CpuShown g y → CpuShown (with_keeper g (record (beside g locals due kept) { seated = n })) y
+pub cpu_beside_shown : (g : State) (n : ℕ) (locals : List LocalPlace) (due : Due) (kept : List (Option ℕ)) (y : CpuView) → (y.id < g.seated → y.id < n) → CpuShown g y
+    → CpuShown (with_keeper g (record (beside g locals due kept) { seated = n })) y
 cpu_beside_shown g n locals due kept y more shown = record {
   seated = more shown.seated;
   is = shown.is;

@@ -10,7 +10,8 @@ use Rattle.registry_values.specs.Common.{slot_at, slot_of, is_driver}
 use Rattle.protocol.specs.Common.{kept_at, number_standing, step, is_driver_slot, IsIn, one_if}
 use Rattle.protocol.proofs.slots.Numbers.{slot_number}
 use Rattle.protocol.proofs.counts.Sums.{one_at, local_changed, standing_within}
-use Rattle.cpu_words.specs.Common.{KeeperView, ReferenceView, Logged, View, Keeper, Reference, Spent, is_to, keeper_of, reference_of, number_or_none, did, log_of_events, JoinsBy, JoinsOn, MayKeep, keeper_after_keep, with_kept, LoggedRuled, joined_seat, spent_seat, keeps_for}
+use Rattle.cpu_words.specs.Common.{KeeperView, ReferenceView, Logged, View, Keeper, Reference, Spent, is_to, keeper_of, reference_of, number_or_none, did, log_of_events, JoinsBy, JoinsOn, MayKeep}
+use Rattle.cpu_words.specs.Common.{keeper_after_keep, with_kept, LoggedRuled, joined_seat, spent_seat, keeps_for}
 use Rattle.cpu_words.proofs.shown.Placing.{agrees_same}
 use Rattle.cpu_words.proofs.laws.Reaching.{more}
 use Rattle.cpu_words.proofs.logs.Seats.{seat_join}
@@ -42,7 +43,8 @@ keep_makes k t v may g good had ref backs =
     let here : IsIn e (slot_at g.slots e.slot) = local_here g v id good ref place.1 in
     let of : slot_of g.slots n ≡ Some e.slot = slot_number g.history g.slots e e.slot good.holds.slots here in
     let l : KeeperLists = beside g (set g.locals id Free) g.due (set g.keeps t (Some n)) in
-    let made : step g (Keep t id) ≡ Some (record { state = with_keeper g l; reply = Done }) = rw (place.1, of, rest, lt-ltb t g.settings.slots lt, vacant, nothing, driver_slot e (slot_at g.slots e.slot) here may.driver) refl in
+    let made : step g (Keep t id) ≡ Some (record { state = with_keeper g l; reply = Done }) =
+    rw (place.1, of, rest, lt-ltb t g.settings.slots lt, vacant, nothing, driver_slot e (slot_at g.slots e.slot) here may.driver) refl in
     record {
       id = id;
       names = ap (λ (x : LocalPlace). number_or_none (number_standing x)) place.1;
@@ -63,7 +65,8 @@ keep_makes k t v may g good had ref backs =
       count = λ m. let a = local_changed m g.locals id (Standing n) Free (standing_within g.locals id n place.1) place.1 in omega arith;
     }
 
-keeps : (z : Settings) (i : ℕ) (k : KeeperView) (o t : ℕ) (v : ReferenceView) → MayKeep k t v → JoinsOn z i (Keeper k) o (Reference v) (Keeper (keeper_after_keep k t v)) Spent (did (Keep t v.entry.number) Done)
+keeps : (z : Settings) (i : ℕ) (k : KeeperView) (o t : ℕ) (v : ReferenceView) → MayKeep k t v
+    → JoinsOn z i (Keeper k) o (Reference v) (Keeper (keeper_after_keep k t v)) Spent (did (Keep t v.entry.number) Done)
 unfolding keep_makes
 keeps z i k o t v may s r at apart there =
     let g = r.g in
@@ -87,19 +90,23 @@ keeps z i k o t v may s r at apart there =
         good = law.good_after;
         reached = (more z g law.after (Keep t law.id) Done r.reached law.made).0;
         words = agrees_same s.words g law.after r.words refl (λ q _. beside_words g locals g.due kept q);
-        shows = shows_join g law.after r.seat s.views i (Keeper k) o (Reference v) both r.shows at apart was (beside_stays g locals g.due kept r.seat i had.0) (had.0, law.shown) refl (refl, refl) law.count there;
+        shows = shows_join g law.after r.seat s.views i (Keeper k) o (Reference v) both r.shows at apart was (beside_stays g locals g.due kept r.seat i had.0) (had.0, law.shown) refl
+            (refl, refl) law.count there;
       };
     }
 
 -- the same of seats' views
-pub keeps_seats : (z : Settings) (i : ℕ) (x : Logged) (o : ℕ) (u : Logged) (named t : ℕ) (k : KeeperView) (v : ReferenceView) → named ≡ t → x ≡ record x { view = Keeper (keeper_of x.view) } → keeper_of x.view ≡ k
-    → u ≡ record u { view = Reference (reference_of u.view) } → reference_of u.view ≡ v → MayKeep k t v → TableJoins (LoggedRuled z) i x o u (joined_seat (with_kept named) (keeps_for named) x u) spent_seat
+pub keeps_seats : (z : Settings) (i : ℕ) (x : Logged) (o : ℕ) (u : Logged) (named t : ℕ) (k : KeeperView) (v : ReferenceView) → named ≡ t → x ≡ record x { view = Keeper (keeper_of x.view) }
+    → keeper_of x.view ≡ k
+    → u ≡ record u { view = Reference (reference_of u.view) } → reference_of u.view ≡ v → MayKeep k t v
+    → TableJoins (LoggedRuled z) i x o u (joined_seat (with_kept named) (keeps_for named) x u) spent_seat
 keeps_seats z i x o u named t k v is keeper k_is ref v_is may =
     subst (λ (m : ℕ). TableJoins (LoggedRuled z) i x o u (joined_seat (with_kept m) (keeps_for m) x u) spent_seat) (sym is)
     (seat_join z i o x u (Keeper k) (Reference v) (with_kept t) (keeps_for t) (did (Keep t v.entry.number) Done) (keeper ∙ ap (λ (y : KeeperView). record x { view = Keeper y }) k_is)
     (ref ∙ ap (λ (y : ReferenceView). record u { view = Reference y }) v_is) tt (refl, tt) refl (keeps z i k o t v may))
 
-pub keep_by : (x u y : View) (named t : ℕ) (k : KeeperView) (v : ReferenceView) → named ≡ t → keeper_of x ≡ k → reference_of u ≡ v → y ≡ with_kept named x u → MayKeep k t v → JoinsBy (Keep t) (Keeper k) (Reference v) (Keeper (keeper_of y))
+pub keep_by : (x u y : View) (named t : ℕ) (k : KeeperView) (v : ReferenceView) → named ≡ t → keeper_of x ≡ k → reference_of u ≡ v → y ≡ with_kept named x u → MayKeep k t v
+    → JoinsBy (Keep t) (Keeper k) (Reference v) (Keeper (keeper_of y))
 keep_by x u y named t k v same k_is v_is y_is may =
     let is : keeper_of y ≡ keeper_after_keep k t v = ap keeper_of y_is ∙ (λ j. keeper_after_keep (k_is j) (same j) (v_is j)) in
     subst (λ w. JoinsBy (Keep t) (Keeper k) (Reference v) (Keeper w)) (sym is) (keep_makes k t v may)

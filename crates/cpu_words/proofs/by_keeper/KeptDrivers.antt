@@ -6,7 +6,8 @@ use Rattle.protocol.specs.Common.{State, total_at, kept_at, step, IsIn}
 use Rattle.registry_values.specs.Common.{slot_at, slot_of, is_iface}
 use Rattle.protocol.proofs.slots.Occupied.{slot_has}
 use Rattle.protocol.proofs.counts.Bounds.{driver_positive}
-use Rattle.cpu_words.specs.Common.{KeeperView, Keeper, total_of, index, KeeperOwn, keeper_own, keeper_view, one_more, KeeperShown, GivesUp, Agrees, Good, did, Makes, KeeperMay, MayKeptSub, HasKeptSub, KeptSubTold}
+use Rattle.cpu_words.specs.Common.{KeeperView, Keeper, total_of, index, KeeperOwn, keeper_own, keeper_view, one_more, KeeperShown, GivesUp, Agrees, Good, did, Makes, KeeperMay, MayKeptSub, HasKeptSub}
+use Rattle.cpu_words.specs.Common.{KeptSubTold}
 use Rattle.cpu_words.proofs.by_keeper.KeeperSteps.{KeeperLists, with_keeper, keeper_makes}
 use Rattle.cpu_words.proofs.by_keeper.KeeperSees.{seen_by_keeper}
 use Rattle.cpu_words.proofs.by_keeper.Drained.{Drained, drained_of, vacating, vacated_leaves, vacated_counts, stood}
@@ -50,7 +51,8 @@ giving_back g t u = vacating g t (set g.totals u (total_at g.totals u - 1)) (set
 abbrev own_after : KeeperView → ℕ → ℕ → KeeperOwn
 own_after k t n = keeper_own (record k { counts = set k.counts t (replicate MOST_CPUS 0); given_up = one_more k.given_up n })
 
-shown_kept_sub : (g : State) (k : KeeperView) (t d u : ℕ) (e : Entry) → Good g → KeeperShown g k → (x : Kept g t d u e) → KeeperShown (with_keeper g (giving_back g t u)) (keeper_view (with_keeper g (giving_back g t u)) (own_after k t x.driver.number))
+shown_kept_sub : (g : State) (k : KeeperView) (t d u : ℕ) (e : Entry) → Good g → KeeperShown g k → (x : Kept g t d u e)
+    → KeeperShown (with_keeper g (giving_back g t u)) (keeper_view (with_keeper g (giving_back g t u)) (own_after k t x.driver.number))
 shown_kept_sub g k t d u e good had x = record {
   is = refl;
   counts = vacated_counts g k t e had x.drained;
@@ -69,7 +71,8 @@ shown_kept_sub g k t d u e good had x = record {
   noted_pass = had.noted_pass;
 }
 
-pub kept_sub_may : (z : Settings) (k : KeeperView) (t u : ℕ) → MayKeptSub k t u → KeeperMay z k (index (total_of u)) (λ n. (n + (2 ^ 64 - 1)) % 2 ^ 64) (λ n. did (KeptSub t) Done) (λ v n l. Makes (KeptSub t) Done (Keeper v) (Keeper l) × KeptSubTold (KeptSub t) v l)
+pub kept_sub_may : (z : Settings) (k : KeeperView) (t u : ℕ) → MayKeptSub k t u
+    → KeeperMay z k (index (total_of u)) (λ n. (n + (2 ^ 64 - 1)) % 2 ^ 64) (λ n. did (KeptSub t) Done) (λ v n l. Makes (KeptSub t) Done (Keeper v) (Keeper l) × KeptSubTold (KeptSub t) v l)
 kept_sub_may z k t u may s r i at fits =
     let g = r.g in
     let had : KeeperShown g k = (r.shows.fits i (Keeper k) at).1 in
@@ -85,11 +88,31 @@ kept_sub_may z k t u may s r i at fits =
     let own : KeeperOwn = own_after k t n in
     let kind : is_iface e.rec.kind ≡ true = ap is_iface may.kind in
     let made : step g (KeptSub t) ≡ Some (record { state = with_keeper g l; reply = Done }) = rw (x.kept, x.of, x.drained.is, x.drained.retired, kind) refl in
-    let words : Agrees (set s.words (index (total_of u)) ((w + (2 ^ 64 - 1)) % 2 ^ 64)) (with_keeper g l) = subst (λ m. Agrees (set s.words (index (total_of u)) m) (with_keeper g l)) (sym next) (total_words s.words g l u v r.good x.slot r.words refl refl refl refl refl) in
-    let done = keeper_makes z s r i k (index (total_of u)) ((w + (2 ^ 64 - 1)) % 2 ^ 64) l (KeptSub t) Done own at made (vacated_leaves g t e (set g.totals u v) (set g.keeps t None) r.good x.drained) (λ m. refl) refl (shown_kept_sub g k t d u e r.good had x) words in
-    let change : keeper_view (with_keeper g l) own ≡ record k { totals = set k.totals u (total_at k.totals u - 1); slots = set k.slots t Vacant; keeps = set k.keeps t None; counts = set k.counts t (replicate MOST_CPUS 0); given_up = one_more k.given_up d } =
-    ap (λ (y : KeeperView). record y { totals = set y.totals u (total_at y.totals u - 1); slots = set y.slots t Vacant; keeps = set y.keeps t None; counts = set y.counts t (replicate MOST_CPUS 0); given_up = one_more y.given_up n }) (sym had.is)
-    ∙ ap (λ m. record k { totals = set k.totals u (total_at k.totals u - 1); slots = set k.slots t Vacant; keeps = set k.keeps t None; counts = set k.counts t (replicate MOST_CPUS 0); given_up = one_more k.given_up m }) x.number in
+    let words : Agrees (set s.words (index (total_of u)) ((w + (2 ^ 64 - 1)) % 2 ^ 64)) (with_keeper g l) =
+    subst (λ m. Agrees (set s.words (index (total_of u)) m) (with_keeper g l)) (sym next) (total_words s.words g l u v r.good x.slot r.words refl refl refl refl refl) in
+    let done = keeper_makes z s r i k (index (total_of u)) ((w + (2 ^ 64 - 1)) % 2 ^ 64) l (KeptSub t) Done own at made (vacated_leaves g t e (set g.totals u v) (set g.keeps t None) r.good x.drained)
+    (λ m. refl) refl (shown_kept_sub g k t d u e r.good had x) words in
+    let change : keeper_view (with_keeper g l) own ≡ record k {
+      totals = set k.totals u (total_at k.totals u - 1);
+      slots = set k.slots t Vacant;
+      keeps = set k.keeps t None;
+      counts = set k.counts t (replicate MOST_CPUS 0);
+      given_up = one_more k.given_up d;
+    } =
+    ap (λ (y : KeeperView). record y {
+      totals = set y.totals u (total_at y.totals u - 1);
+      slots = set y.slots t Vacant;
+      keeps = set y.keeps t None;
+      counts = set y.counts t (replicate MOST_CPUS 0);
+      given_up = one_more y.given_up n;
+    }) (sym had.is)
+    ∙ ap (λ m. record k {
+      totals = set k.totals u (total_at k.totals u - 1);
+      slots = set k.slots t Vacant;
+      keeps = set k.keeps t None;
+      counts = set k.counts t (replicate MOST_CPUS 0);
+      given_up = one_more k.given_up m;
+    }) x.number in
     (Keeper (keeper_view (with_keeper g l) own), done.0, (refl, (done.1, (u, (d, may.kept.1, change)))))
 
 -- a view has one slot for what the slot t keeps

@@ -27,15 +27,18 @@ sum_marked f (x ∷ ms) (n ∷ ns) (suc c) m lt there =
     let h = sum_marked f ms ns c m (omega arith) (omega arith) in
     omega arith
 
-pub same_collected : (g : State) (t c : ℕ) (m : Mark) → m.collected ≡ (mark_at g.marks t c).collected → (u d : ℕ) → (mark_at g.marks u d).collected ≡ true → (mark_at (with_cell g.marks t c m) u d).collected ≡ true
+pub same_collected : (g : State) (t c : ℕ) (m : Mark) → m.collected ≡ (mark_at g.marks t c).collected → (u d : ℕ) → (mark_at g.marks u d).collected ≡ true
+    → (mark_at (with_cell g.marks t c m) u d).collected ≡ true
 same_collected g t c m same u d is = ⊎_elim
-    (λ (here : (u ≡ t) × (d ≡ c) × (cell no_mark (with_cell g.marks t c m) u d ≡ m)). ap (λ (x : Mark). x.collected) here.2 ∙ same ∙ sym (ap (λ (p : ℕ × ℕ). (mark_at g.marks p.0 p.1).collected) (λ k. (here.0 k, here.1 k))) ∙ is)
+    (λ (here : (u ≡ t) × (d ≡ c) × (cell no_mark (with_cell g.marks t c m) u d ≡ m)). ap (λ (x : Mark). x.collected) here.2 ∙ same
+    ∙ sym (ap (λ (p : ℕ × ℕ). (mark_at g.marks p.0 p.1).collected) (λ k. (here.0 k, here.1 k))) ∙ is)
     (λ (off : cell no_mark (with_cell g.marks t c m) u d ≡ cell no_mark g.marks u d). ap (λ (x : Mark). x.collected) off ∙ is)
     (cell_cases no_mark g.marks t c m u d)
 
 -- of the slot t, and of another slot
 pub sum_here : (f : Mark × ℕ → ℕ) (g : State) (t c : ℕ) (m : Mark) → Good g → t < length g.slots → c < g.settings.cpus
-    → sum_by f (zip (get_or (with_cell g.marks t c m) t []) (get_or g.nets t [])) + f (mark_at g.marks t c, count_at g.nets c t) ≡ sum_by f (zip (get_or g.marks t []) (get_or g.nets t [])) + f (m, count_at g.nets c t)
+    → sum_by f (zip (get_or (with_cell g.marks t c m) t []) (get_or g.nets t [])) + f (mark_at g.marks t c, count_at g.nets c t)
+    ≡ sum_by f (zip (get_or g.marks t []) (get_or g.nets t [])) + f (m, count_at g.nets c t)
 sum_here f g t c m good lt cpu =
     let shape = good.holds.shape in
     let few = (ranges g.settings good.holds.fit).cpus in
@@ -46,7 +49,8 @@ sum_here f g t c m good lt cpu =
     ap (λ (ms : List Mark). sum_by f (zip ms (get_or g.nets t [])) + f (mark_at g.marks t c, count_at g.nets c t)) (row_here g.marks t c m in_marks)
     ∙ sum_marked f (get_or g.marks t []) (get_or g.nets t []) c m (omega (arith, marks, few, cpu)) (omega (arith, nets, few, cpu))
 
-pub sum_off : (f : Mark × ℕ → ℕ) (g : State) (t c : ℕ) (m : Mark) (u : ℕ) → u ≢ t → sum_by f (zip (get_or (with_cell g.marks t c m) u []) (get_or g.nets u [])) ≡ sum_by f (zip (get_or g.marks u []) (get_or g.nets u []))
+pub sum_off : (f : Mark × ℕ → ℕ) (g : State) (t c : ℕ) (m : Mark) (u : ℕ) → u ≢ t
+    → sum_by f (zip (get_or (with_cell g.marks t c m) u []) (get_or g.nets u [])) ≡ sum_by f (zip (get_or g.marks u []) (get_or g.nets u []))
 sum_off f g t c m u off = ap (λ (ms : List Mark). sum_by f (zip ms (get_or g.nets u []))) (row_other g.marks t c m u off)
 
 -- what is due is as much for the total of each slot
@@ -75,7 +79,8 @@ gives_up_marked g t c m due given_up good lt same alike u e here was =
     omega (arith, was, a.0, a.1, a.2, p, q))
     (cases_eq u t)
   where
-    at : (f : Mark × ℕ → ℕ) (v : Bool → ℕ) → ((x : Mark) (n : ℕ) → f (x, count_at g.nets c t) ≡ v x.collected) → t < length g.slots → sum_by f (zip (get_or (with_cell g.marks t c m) t []) (get_or g.nets t [])) ≡ sum_by f (zip (get_or g.marks t []) (get_or g.nets t []))
+    at : (f : Mark × ℕ → ℕ) (v : Bool → ℕ) → ((x : Mark) (n : ℕ) → f (x, count_at g.nets c t) ≡ v x.collected) → t < length g.slots
+        → sum_by f (zip (get_or (with_cell g.marks t c m) t []) (get_or g.nets t [])) ≡ sum_by f (zip (get_or g.marks t []) (get_or g.nets t []))
     at f v by lt' =
         let h = sum_here f g t c m good lt' lt in
         let old = by (mark_at g.marks t c) 0 in

@@ -1,5 +1,6 @@
 -- Publish on the words.
-use Rattle.std.proofs.Common.{◌≡◌, inl, inr, ⊎_elim, ℕ, zero, suc, ◌+◌, ◌≤◌, ◌<◌, List, [], ◌∷◌, length, replicate, take, get_or, set, sum_by, Option, Some, true, false, refl, sym, ap, ◌∙◌, subst, arith, get_or-set_other}
+use Rattle.std.proofs.Common.{◌≡◌, inl, inr, ⊎_elim, ℕ, zero, suc, ◌+◌, ◌≤◌, ◌<◌, List, [], ◌∷◌, length, replicate, take, get_or, set, sum_by, Option, Some, true, false, refl, sym, ap, ◌∙◌, subst}
+use Rattle.std.proofs.Common.{arith, get_or-set_other}
 use Rattle.std.specs.List.{zip, list_all}
 use Rattle.std.proofs.lemmas.Bool.{and_from, lt-ltb, le-leb, eq-eqb}
 use Rattle.std.proofs.lemmas.List.{get_or-replicate}
@@ -10,7 +11,8 @@ use Rattle.protocol.proofs.slots.Cells.{cell_in_new, cell_in_old}
 use Rattle.registry_values.proofs.Fit.{ranges}
 use Rattle.protocol.proofs.history.History.{length-after_change}
 use Rattle.protocol.proofs.slots.Occupied.{slot_cases, in_other, in_published, not_vacant}
-use Rattle.cpu_words.specs.Common.{KeeperView, Keeper, Spot, section_of, passive_of, count_of, head_word, next_of, record_of, total_of, IsSpot, word_at, index, keeper_own, keeper_view, KeeperShown, number_at, collected_net, collected_one, Agrees, Good, did, Makes, KeeperStores, LeadsBelow, MayPublish, HasPublished, PublishTold}
+use Rattle.cpu_words.specs.Common.{KeeperView, Keeper, Spot, section_of, passive_of, count_of, head_word, next_of, record_of, total_of, IsSpot, word_at, index, keeper_own, keeper_view, KeeperShown}
+use Rattle.cpu_words.specs.Common.{number_at, collected_net, collected_one, Agrees, Good, did, Makes, KeeperStores, LeadsBelow, MayPublish, HasPublished, PublishTold}
 use Rattle.cpu_words.proofs.shown.Passes.{prefix_on}
 use Rattle.cpu_words.proofs.shown.Placing.{agrees_set}
 use Rattle.cpu_words.proofs.by_keeper.KeeperSteps.{KeeperLists, keeper_lists, with_keeper, LeavesCpus, Came, keeper_makes}
@@ -112,7 +114,8 @@ leaves_published g t e good may =
     apart u f here same = not_vacant f (slot_at g.slots u) (ap (slot_at g.slots) same ∙ may.vacant) here
 
 -- what the keeper's view shows after it
-pub shown_published : (g : State) (k : KeeperView) (t : ℕ) (e : Entry) → Good g → KeeperShown g k → Publishes g t e → KeeperShown (with_keeper g (publish_lists g t e)) (keeper_view (with_keeper g (publish_lists g t e)) (keeper_own k))
+pub shown_published : (g : State) (k : KeeperView) (t : ℕ) (e : Entry) → Good g → KeeperShown g k → Publishes g t e
+    → KeeperShown (with_keeper g (publish_lists g t e)) (keeper_view (with_keeper g (publish_lists g t e)) (keeper_own k))
 shown_published g k t e good had may =
     let longer : length (after_change g.history (Attach e)) ≡ suc (length g.history) = length-after_change g.history (Attach e) in
     record {
@@ -146,14 +149,16 @@ shown_published g k t e good had may =
       noted_pass = prefix_on k.noted_pass g.history (Attach e ∷ []) had.noted_pass;
     }
 
-pub publish_may : (z : Settings) (k : KeeperView) (t : ℕ) (e : Entry) → MayPublish k t e → KeeperStores z k (index head_word) (t + 1) (λ n. did (Publish t) Done) (λ v n l. Makes (Publish t) Done (Keeper v) (Keeper l) × PublishTold (Publish t) v l)
+pub publish_may : (z : Settings) (k : KeeperView) (t : ℕ) (e : Entry) → MayPublish k t e
+    → KeeperStores z k (index head_word) (t + 1) (λ n. did (Publish t) Done) (λ v n l. Makes (Publish t) Done (Keeper v) (Keeper l) × PublishTold (Publish t) v l)
 publish_may z k t e may s r i at fits =
     let g = r.g in
     let had : KeeperShown g k = (r.shows.fits i (Keeper k) at).1 in
     let does = publishes g k t e r.good had may in
     let l = publish_lists g t e in
     let words : Agrees (set s.words (index head_word) (t + 1)) (with_keeper g l) = agrees_set s.words g (with_keeper g l) head_word (t + 1) r.good.holds.fit r.words refl tt refl (others g) in
-    let done = keeper_makes z s r i k (index head_word) (t + 1) l (Publish t) Done (keeper_own k) at (made_publish g t e does) (leaves_published g t e r.good does) (λ n. refl) refl (shown_published g k t e r.good had does) words in
+    let done = keeper_makes z s r i k (index head_word) (t + 1) l (Publish t) Done (keeper_own k) at (made_publish g t e does) (leaves_published g t e r.good does) (λ n. refl) refl
+    (shown_published g k t e r.good had does) words in
     let change : HasPublished k t e (keeper_view (with_keeper g l) (keeper_own k)) =
     ap (λ (v : KeeperView). record v { head = t + 1; history = after_change v.history (Attach e); slots = set v.slots t (Live e) }) (sym had.is) in
     (Keeper (keeper_view (with_keeper g l) (keeper_own k)), done.0, (refl, (done.1, (e, may, change))))

@@ -1,5 +1,6 @@
 -- The stores of the keeper into a vacant slot.
-use Rattle.std.proofs.Common.{◌≡◌, ◌≢◌, ⊎_elim, ℕ, zero, suc, ◌+◌, ◌-◌, ◌<◌, List, [], length, get_or, set, Some, false, nat_lt, refl, sym, ap, ◌∙◌, subst, arith, length-set, get_or-set_same, get_or-set_other}
+use Rattle.std.proofs.Common.{◌≡◌, ◌≢◌, ⊎_elim, ℕ, zero, suc, ◌+◌, ◌-◌, ◌<◌, List, [], length, get_or, set, Some, false, nat_lt, refl, sym, ap, ◌∙◌, subst, arith, length-set, get_or-set_same}
+use Rattle.std.proofs.Common.{get_or-set_other}
 use Rattle.std.proofs.lemmas.Bool.{cases_eq, lt-ltb, le-ltb}
 use Rattle.cpu_words.specs.Types.{Settings, StoreSlot, StoreNext, Done, RecordWords, Slot, Vacant, Rest}
 use Rattle.protocol.specs.Common.{State, no_words, with_cell, row_at, count_at, step, word, with_word}
@@ -7,7 +8,8 @@ use Rattle.registry_values.specs.Common.{slot_at}
 use Rattle.protocol.proofs.slots.Cells.{by_cell, cell_here, cell_other}
 use Rattle.protocol.proofs.keeps.ListKeeps.{rows_cell}
 use Rattle.registry_values.proofs.Fit.{ranges}
-use Rattle.cpu_words.specs.Common.{KeeperView, Keeper, Spot, section_of, passive_of, count_of, head_word, next_of, record_of, total_of, IsSpot, word_at, index, KeeperOwn, keeper_own, keeper_view, KeeperShown, Agrees, Good, did, Makes, KeeperStores, MayWrite, HasRecordWord, HasCountWord, HasLink}
+use Rattle.cpu_words.specs.Common.{KeeperView, Keeper, Spot, section_of, passive_of, count_of, head_word, next_of, record_of, total_of, IsSpot, word_at, index, KeeperOwn, keeper_own, keeper_view}
+use Rattle.cpu_words.specs.Common.{KeeperShown, Agrees, Good, did, Makes, KeeperStores, MayWrite, HasRecordWord, HasCountWord, HasLink}
 use Rattle.cpu_words.proofs.shown.Placing.{agrees_set}
 use Rattle.cpu_words.proofs.by_keeper.KeeperSteps.{KeeperLists, keeper_lists, with_keeper, leaves_all, keeper_makes}
 use Rattle.cpu_words.proofs.by_keeper.KeeperSees.{SeenByKeeper, seen_by_keeper}
@@ -30,8 +32,10 @@ stores_of g k t good had may =
 
 -- Links
 
-link_words : (words : List ℕ) (g : State) (t v : ℕ) → Good g → t < g.settings.slots → Agrees words g → Agrees (set words (index (next_of t)) v) (with_keeper g (record (keeper_lists g) { next = set g.next t v }))
-link_words words g t v good slot agrees = agrees_set words g (with_keeper g (record (keeper_lists g) { next = set g.next t v })) (next_of t) v good.holds.fit agrees refl slot (get_or-set_same g.next t v 0 (omega (arith, good.holds.shape.links))) other
+link_words : (words : List ℕ) (g : State) (t v : ℕ) → Good g → t < g.settings.slots → Agrees words g
+    → Agrees (set words (index (next_of t)) v) (with_keeper g (record (keeper_lists g) { next = set g.next t v }))
+link_words words g t v good slot agrees = agrees_set words g (with_keeper g (record (keeper_lists g) { next = set g.next t v })) (next_of t) v good.holds.fit agrees refl slot
+    (get_or-set_same g.next t v 0 (omega (arith, good.holds.shape.links))) other
   where
     other : (q : Spot) → IsSpot g.settings q → (q ≡ next_of t → ⊥) → word_at (with_keeper g (record (keeper_lists g) { next = set g.next t v })) q ≡ word_at g q
     other (section_of c) here ne = refl
@@ -42,7 +46,8 @@ link_words words g t v good slot agrees = agrees_set words g (with_keeper g (rec
     other (record_of u j) here ne = refl
     other (total_of u) here ne = refl
 
-pub store_next_may : (z : Settings) (k : KeeperView) (t v : ℕ) → MayWrite k t → KeeperStores z k (index (next_of t)) v (λ _. did (StoreNext t v) Done) (λ x n y. Makes (StoreNext t v) Done (Keeper x) (Keeper y) × HasLink x t v y)
+pub store_next_may : (z : Settings) (k : KeeperView) (t v : ℕ) → MayWrite k t
+    → KeeperStores z k (index (next_of t)) v (λ _. did (StoreNext t v) Done) (λ x n y. Makes (StoreNext t v) Done (Keeper x) (Keeper y) × HasLink x t v y)
 store_next_may z k t v may s r i at fits =
     let g = r.g in
     let had : KeeperShown g k = (r.shows.fits i (Keeper k) at).1 in
@@ -50,8 +55,20 @@ store_next_may z k t v may s r i at fits =
     let l : KeeperLists = record (keeper_lists g) { next = set g.next t v } in
     let own = keeper_own k in
     let made : step g (StoreNext t v) ≡ Some (record { state = with_keeper g l; reply = Done }) = rw (on.rest, lt-ltb t g.settings.slots on.slot, on.vacant) refl in
-    let shown : KeeperShown (with_keeper g l) (keeper_view (with_keeper g l) own) = record { is = refl; counts = had.counts; sized = had.sized; rows = had.rows; live_total = had.live_total; gives_up = had.gives_up; later = had.later; beyond = had.beyond; noted_pass = had.noted_pass } in
-    let done = keeper_makes z s r i k (index (next_of t)) v l (StoreNext t v) Done own at made (leaves_all g l refl refl refl refl (λ u d is. is)) (λ n. refl) refl shown (link_words s.words g t v r.good on.slot r.words) in
+    let shown : KeeperShown (with_keeper g l) (keeper_view (with_keeper g l) own) =
+    record {
+      is = refl;
+      counts = had.counts;
+      sized = had.sized;
+      rows = had.rows;
+      live_total = had.live_total;
+      gives_up = had.gives_up;
+      later = had.later;
+      beyond = had.beyond;
+      noted_pass = had.noted_pass;
+    } in
+    let done = keeper_makes z s r i k (index (next_of t)) v l (StoreNext t v) Done own at made (leaves_all g l refl refl refl refl (λ u d is. is)) (λ n. refl) refl shown
+    (link_words s.words g t v r.good on.slot r.words) in
     (Keeper (keeper_view (with_keeper g l) own), done.0, (refl, (done.1, ap (λ (x : KeeperView). record x { next = set x.next t v }) (sym had.is))))
 
 -- Record words
@@ -95,7 +112,8 @@ abbrev with_record : State → ℕ → ℕ → ℕ → KeeperLists
 with_record g t j v = record (keeper_lists g) { rows = set g.rows t (with_word (row_at g.rows t) j v) }
 
 record_words : (words : List ℕ) (g : State) (t j v : ℕ) → Good g → t < g.settings.slots → j < 5 → Agrees words g → Agrees (set words (index (record_of t j)) v) (with_keeper g (with_record g t j v))
-record_words words g t j v good slot lt agrees = agrees_set words g (with_keeper g (with_record g t j v)) (record_of t j) v good.holds.fit agrees refl (slot, lt) (ap (λ (r : RecordWords). word r j) here ∙ word_here (row_at g.rows t) j v lt) other
+record_words words g t j v good slot lt agrees = agrees_set words g (with_keeper g (with_record g t j v)) (record_of t j) v good.holds.fit agrees refl (slot, lt)
+    (ap (λ (r : RecordWords). word r j) here ∙ word_here (row_at g.rows t) j v lt) other
   where
     here : row_at (set g.rows t (with_word (row_at g.rows t) j v)) t ≡ with_word (row_at g.rows t) j v
     here = get_or-set_same g.rows t (with_word (row_at g.rows t) j v) no_words (omega (arith, good.holds.shape.rows))
@@ -113,7 +131,8 @@ record_words words g t j v good slot lt agrees = agrees_set words g (with_keeper
         (cases_eq u t)
     other (total_of u) there ne = refl
 
-pub store_record_may : (z : Settings) (k : KeeperView) (t j v : ℕ) → j < 5 → MayWrite k t → KeeperStores z k (index (record_of t j)) v (λ _. did (StoreSlot t j v) Done) (λ x n y. Makes (StoreSlot t j v) Done (Keeper x) (Keeper y) × HasRecordWord x t j v y)
+pub store_record_may : (z : Settings) (k : KeeperView) (t j v : ℕ) → j < 5 → MayWrite k t
+    → KeeperStores z k (index (record_of t j)) v (λ _. did (StoreSlot t j v) Done) (λ x n y. Makes (StoreSlot t j v) Done (Keeper x) (Keeper y) × HasRecordWord x t j v y)
 store_record_may z k t j v lt may s r i at fits =
     let g = r.g in
     let had : KeeperShown g k = (r.shows.fits i (Keeper k) at).1 in
@@ -121,8 +140,20 @@ store_record_may z k t j v lt may s r i at fits =
     let l = with_record g t j v in
     let own = keeper_own k in
     let made : step g (StoreSlot t j v) ≡ Some (record { state = with_keeper g l; reply = Done }) = rw (lt-ltb j 5 lt, on.rest, lt-ltb t g.settings.slots on.slot, on.vacant) refl in
-    let shown : KeeperShown (with_keeper g l) (keeper_view (with_keeper g l) own) = record { is = refl; counts = had.counts; sized = had.sized; rows = had.rows; live_total = had.live_total; gives_up = had.gives_up; later = had.later; beyond = had.beyond; noted_pass = had.noted_pass } in
-    let done = keeper_makes z s r i k (index (record_of t j)) v l (StoreSlot t j v) Done own at made (leaves_all g l refl refl refl refl (λ u d is. is)) (λ n. refl) refl shown (record_words s.words g t j v r.good on.slot lt r.words) in
+    let shown : KeeperShown (with_keeper g l) (keeper_view (with_keeper g l) own) =
+    record {
+      is = refl;
+      counts = had.counts;
+      sized = had.sized;
+      rows = had.rows;
+      live_total = had.live_total;
+      gives_up = had.gives_up;
+      later = had.later;
+      beyond = had.beyond;
+      noted_pass = had.noted_pass;
+    } in
+    let done = keeper_makes z s r i k (index (record_of t j)) v l (StoreSlot t j v) Done own at made (leaves_all g l refl refl refl refl (λ u d is. is)) (λ n. refl) refl shown
+    (record_words s.words g t j v r.good on.slot lt r.words) in
     (Keeper (keeper_view (with_keeper g l) own), done.0, (refl, (done.1, ap (λ (x : KeeperView). record x { rows = set x.rows t (with_word (row_at x.rows t) j v) }) (sym had.is))))
 
 -- Count words
@@ -130,8 +161,10 @@ store_record_may z k t j v lt may s r i at fits =
 abbrev with_count : State → ℕ → ℕ → ℕ → KeeperLists
 with_count g t c v = record (keeper_lists g) { counts = with_cell g.counts t c v }
 
-count_words : (words : List ℕ) (g : State) (t c v : ℕ) → Good g → t < g.settings.slots → c < g.settings.cpus → Agrees words g → Agrees (set words (index (count_of c t)) v) (with_keeper g (with_count g t c v))
-count_words words g t c v good slot lt agrees = agrees_set words g (with_keeper g (with_count g t c v)) (count_of c t) v good.holds.fit agrees refl (lt, slot) (cell_here 0 g.counts t c v within in_row) other
+count_words : (words : List ℕ) (g : State) (t c v : ℕ) → Good g → t < g.settings.slots → c < g.settings.cpus → Agrees words g
+    → Agrees (set words (index (count_of c t)) v) (with_keeper g (with_count g t c v))
+count_words words g t c v good slot lt agrees =
+    agrees_set words g (with_keeper g (with_count g t c v)) (count_of c t) v good.holds.fit agrees refl (lt, slot) (cell_here 0 g.counts t c v within in_row) other
   where
     within : t < length g.counts
     within = omega (arith, good.holds.shape.counts)
@@ -149,7 +182,8 @@ count_words words g t c v good slot lt agrees = agrees_set words g (with_keeper 
     other (total_of u) there ne = refl
 
 -- the keeper's own row of count words follows
-counts_follow : (g : State) (k : KeeperView) (t c v : ℕ) → Good g → KeeperShown g k → t < g.settings.slots → c < g.settings.cpus → (d u : ℕ) → slot_at g.slots u ≡ Vacant → count_at (with_cell g.counts t c v) d u ≡ count_at (with_cell k.counts t c v) d u
+counts_follow : (g : State) (k : KeeperView) (t c v : ℕ) → Good g → KeeperShown g k → t < g.settings.slots → c < g.settings.cpus → (d u : ℕ) → slot_at g.slots u ≡ Vacant
+    → count_at (with_cell g.counts t c v) d u ≡ count_at (with_cell k.counts t c v) d u
 counts_follow g k t c v good had slot lt d u vacant =
     let in_core : t < length g.counts = omega (arith, good.holds.shape.counts) in
     let in_own : t < length k.counts = omega (arith, had.sized) in
@@ -160,7 +194,8 @@ counts_follow g k t c v good had slot lt d u vacant =
     (cell_here 0 g.counts t c v in_core (omega (arith, row, few, lt)) ∙ sym (cell_here 0 k.counts t c v in_own (omega (arith, own_row, few, lt))))
     (λ off. cell_other 0 g.counts t c v u d off ∙ had.counts d u vacant ∙ sym (cell_other 0 k.counts t c v u d off))
 
-pub store_count_may : (z : Settings) (k : KeeperView) (t c v : ℕ) → c < k.settings.cpus → MayWrite k t → KeeperStores z k (index (count_of c t)) v (λ _. did (StoreSlot t (5 + c) v) Done) (λ x n y. Makes (StoreSlot t (5 + c) v) Done (Keeper x) (Keeper y) × HasCountWord x t ((5 + c) - 5) v y)
+pub store_count_may : (z : Settings) (k : KeeperView) (t c v : ℕ) → c < k.settings.cpus → MayWrite k t
+    → KeeperStores z k (index (count_of c t)) v (λ _. did (StoreSlot t (5 + c) v) Done) (λ x n y. Makes (StoreSlot t (5 + c) v) Done (Keeper x) (Keeper y) × HasCountWord x t ((5 + c) - 5) v y)
 store_count_may z k t c v within may s r i at fits =
     let g = r.g in
     let had : KeeperShown g k = (r.shows.fits i (Keeper k) at).1 in
@@ -170,7 +205,23 @@ store_count_may z k t c v within may s r i at fits =
     let own : KeeperOwn = record (keeper_own k) { counts = with_cell k.counts t c v } in
     let past : nat_lt (5 + c) 5 ≡ false = le-ltb (5 + c) 5 (omega arith) in
     let back : (5 + c) - 5 ≡ c = omega arith in
-    let made : step g (StoreSlot t (5 + c) v) ≡ Some (record { state = with_keeper g l; reply = Done }) = rw (past, back, on.rest, lt-ltb t g.settings.slots on.slot, on.vacant, lt-ltb c g.settings.cpus lt) refl in
-    let shown : KeeperShown (with_keeper g l) (keeper_view (with_keeper g l) own) = record { is = refl; counts = counts_follow g k t c v r.good had on.slot lt; sized = length-set k.counts t _ ∙ had.sized; rows = rows_cell k.counts t c v had.rows; live_total = had.live_total; gives_up = had.gives_up; later = had.later; beyond = had.beyond; noted_pass = had.noted_pass } in
-    let done = keeper_makes z s r i k (index (count_of c t)) v l (StoreSlot t (5 + c) v) Done own at made (leaves_all g l refl refl refl refl (λ u d is. is)) (λ n. refl) refl shown (count_words s.words g t c v r.good on.slot lt r.words) in
-    (Keeper (keeper_view (with_keeper g l) own), done.0, (refl, (done.1, ap (λ (x : KeeperView). record x { counts = with_cell k.counts t c v }) (sym had.is) ∙ ap (λ d. record k { counts = with_cell k.counts t d v }) (sym back))))
+    let made : step g (StoreSlot t (5 + c) v) ≡ Some (record { state = with_keeper g l; reply = Done }) =
+    rw (past, back, on.rest, lt-ltb t g.settings.slots on.slot, on.vacant, lt-ltb c g.settings.cpus lt) refl in
+    let shown : KeeperShown (with_keeper g l) (keeper_view (with_keeper g l) own) =
+    record {
+      is = refl;
+      counts = counts_follow g k t c v r.good had on.slot lt;
+      sized = length-set k.counts t _ ∙ had.sized;
+      rows = rows_cell k.counts t c v had.rows;
+      live_total = had.live_total;
+      gives_up = had.gives_up;
+      later = had.later;
+      beyond = had.beyond;
+      noted_pass = had.noted_pass;
+    } in
+    let done = keeper_makes z s r i k (index (count_of c t)) v l (StoreSlot t (5 + c) v) Done own at made (leaves_all g l refl refl refl refl (λ u d is. is)) (λ n. refl) refl shown
+    (count_words s.words g t c v r.good on.slot lt r.words) in (
+      Keeper (keeper_view (with_keeper g l) own),
+      done.0,
+      (refl, (done.1, ap (λ (x : KeeperView). record x { counts = with_cell k.counts t c v }) (sym had.is) ∙ ap (λ d. record k { counts = with_cell k.counts t d v }) (sym back))),
+    )

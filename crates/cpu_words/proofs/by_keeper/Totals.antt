@@ -1,5 +1,6 @@
 -- Totals on the words: what was collected is added, and a reference that is given up is subtracted.
-use Rattle.std.proofs.Common.{◌≡◌, ◌≢◌, inl, inr, ⊎_elim, ℕ, ◌+◌, ◌-◌, ◌%◌, ◌^◌, ◌≤◌, ◌<◌, ◌==◌, List, [], ◌++◌, length, get_or, set, Some, Bool, true, false, cond, eq-eqb, ne_eqb, refl, sym, ap, ◌∙◌, subst, arith}
+use Rattle.std.proofs.Common.{◌≡◌, ◌≢◌, inl, inr, ⊎_elim, ℕ, ◌+◌, ◌-◌, ◌%◌, ◌^◌, ◌≤◌, ◌<◌, ◌==◌, List, [], ◌++◌, length, get_or, set, Some, Bool, true, false, cond, eq-eqb, ne_eqb, refl, sym, ap, ◌∙◌}
+use Rattle.std.proofs.Common.{subst, arith}
 use Rattle.std.proofs.lemmas.Bool.{cases_eq, cases_lt}
 use Rattle.std.specs.Prelude.{slice_index}
 use mathlib.Core.Option.{some}
@@ -19,7 +20,10 @@ use Rattle.protocol.proofs.slots.Numbers.{slot_number}
 use Rattle.protocol.proofs.slots.MarkRows.{any_within}
 use Rattle.protocol.proofs.counts.Sums.{local_changed, standing_within}
 use Rattle.protocol.proofs.counts.Bounds.{adding_range, adding_within, subtracting_range}
-use Rattle.cpu_words.specs.Common.{KeeperView, ReferenceView, Logged, View, Keeper, Reference, Spent, Spot, section_of, passive_of, count_of, head_word, next_of, record_of, total_of, word_at, index, KeeperOwn, keeper_own, keeper_view, number_at, one_more, is_to, IsCollectedFor, KeeperShown, ReferenceShown, GivesUp, keeper_of, reference_of, Agrees, Good, number_or_none, did, log_of_events, Makes, JoinsBy, JoinsOn, KeeperMay, KeeperStores, MayTotalAdd, TotalAddTold, MayTotalSub, TotalSubTold, MayJoinKeeper, keeper_after_join, with_given_up, LoggedRuled, joined_seat, spent_seat, gives_up}
+use Rattle.cpu_words.specs.Common.{KeeperView, ReferenceView, Logged, View, Keeper, Reference, Spent, Spot, section_of, passive_of, count_of, head_word, next_of, record_of, total_of, word_at, index}
+use Rattle.cpu_words.specs.Common.{KeeperOwn, keeper_own, keeper_view, number_at, one_more, is_to, IsCollectedFor, KeeperShown, ReferenceShown, GivesUp, keeper_of, reference_of, Agrees, Good}
+use Rattle.cpu_words.specs.Common.{number_or_none, did, log_of_events, Makes, JoinsBy, JoinsOn, KeeperMay, KeeperStores, MayTotalAdd, TotalAddTold, MayTotalSub, TotalSubTold, MayJoinKeeper}
+use Rattle.cpu_words.specs.Common.{keeper_after_join, with_given_up, LoggedRuled, joined_seat, spent_seat, gives_up}
 use Rattle.cpu_words.proofs.laws.Reaching.{more}
 use Rattle.cpu_words.proofs.logs.Seats.{seat_join}
 use Rattle.cpu_words.proofs.shown.Placing.{agrees_set, agrees_same}
@@ -70,7 +74,8 @@ shown_added g k t old good had due = record {
   counts = had.counts;
   sized = had.sized;
   rows = had.rows;
-  live_total = λ u e live. ap (λ n. n + number_at k.given_up e.number) (total_other g.totals t v u (λ same. let q : Live e ≡ Retired gone.0 = sym live ∙ ap (slot_at g.slots) same ∙ gone.1 in cc)) ∙ had.live_total u e live;
+  live_total = λ u e live. ap (λ n. n + number_at k.given_up e.number) (total_other g.totals t v u (λ same. let q : Live e ≡ Retired gone.0 = sym live ∙ ap (slot_at g.slots) same ∙ gone.1 in cc))
+      ∙ had.live_total u e live;
   gives_up = λ u e retired. each u e (had.gives_up u e retired);
   later = had.later;
   beyond = had.beyond;
@@ -87,7 +92,8 @@ shown_added g k t old good had due = record {
     each u e was = ⊎_elim
         (λ (is : u ≡ t).
         let old_total : total_at g.totals u ≡ total_at g.totals t = ap (total_at g.totals) is in
-        let new_total : total_at (set g.totals t v) u ≡ v = ap (total_at (set g.totals t v)) is ∙ total_here g.totals t v (omega (arith, adding_within g t old good.holds due, good.holds.shape.totals)) in
+        let new_total : total_at (set g.totals t v) u ≡ v =
+        ap (total_at (set g.totals t v)) is ∙ total_here g.totals t v (omega (arith, adding_within g t old good.holds due, good.holds.shape.totals)) in
         let a : addition_due_at u g.due ≡ old = ap (addition_due_at u) due ∙ ap (λ (b : Bool). cond b old 0) (eq-eqb t u (sym is)) in
         let b : is_adding_at u g.due ≡ 1 = ap (is_adding_at u) due ∙ one_self t u (sym is) in
         let none : subtraction_due_at u g.due ≡ 0 = ap (subtraction_due_at u) due in
@@ -102,7 +108,8 @@ shown_added g k t old good had due = record {
         omega (arith, was, total, a, b, none))
         (cases_eq u t)
 
-pub total_add_may : (z : Settings) (k : KeeperView) (t old value : ℕ) → MayTotalAdd k t old value → KeeperStores z k (index (total_of t)) value (λ n. did (TotalAdd t) Done) (λ v n l. Makes (TotalAdd t) Done (Keeper v) (Keeper l) × TotalAddTold (TotalAdd t) v n l)
+pub total_add_may : (z : Settings) (k : KeeperView) (t old value : ℕ) → MayTotalAdd k t old value
+    → KeeperStores z k (index (total_of t)) value (λ n. did (TotalAdd t) Done) (λ v n l. Makes (TotalAdd t) Done (Keeper v) (Keeper l) × TotalAddTold (TotalAdd t) v n l)
 total_add_may z k t old value may s r i at fits =
     let g = r.g in
     let had : KeeperShown g k = (r.shows.fits i (Keeper k) at).1 in
@@ -113,8 +120,11 @@ total_add_may z k t old value may s r i at fits =
     let l : KeeperLists = totalling g t v in
     let own : KeeperOwn = keeper_own k in
     let made : step g (TotalAdd t) ≡ Some (record { state = with_keeper g l; reply = Done }) = ap (total_add g t) due ∙ rw (eq-eqb t t refl) refl in
-    let words : Agrees (set s.words (index (total_of t)) value) (with_keeper g l) = subst (λ n. Agrees (set s.words (index (total_of t)) n) (with_keeper g l)) (sym is) (total_words s.words g l t v r.good (adding_within g t old r.good.holds due) r.words refl refl refl refl refl) in
-    let done = keeper_makes z s r i k (index (total_of t)) value l (TotalAdd t) Done own at made (leaves_all g l refl refl refl refl (λ u d on. on)) (λ n. refl) refl (shown_added g k t old r.good had due) words in
+    let words : Agrees (set s.words (index (total_of t)) value) (with_keeper g l) =
+    subst (λ n. Agrees (set s.words (index (total_of t)) n) (with_keeper g l)) (sym is)
+    (total_words s.words g l t v r.good (adding_within g t old r.good.holds due) r.words refl refl refl refl refl) in
+    let done = keeper_makes z s r i k (index (total_of t)) value l (TotalAdd t) Done own at made (leaves_all g l refl refl refl refl (λ u d on. on)) (λ n. refl) refl
+    (shown_added g k t old r.good had due) words in
     let change : keeper_view (with_keeper g l) own ≡ record k { totals = set k.totals t value; due = Rest } =
     ap (λ n. record (keeper_view g own) { totals = set g.totals t n; due = Rest }) (sym is) ∙ ap (λ (x : KeeperView). record x { totals = set x.totals t value; due = Rest }) (sym had.is) in
     (Keeper (keeper_view (with_keeper g l) own), done.0, (refl, (done.1, change)))
@@ -164,7 +174,8 @@ total_within g t e good here = omega (arith, in_within g.slots t e here, good.ho
 
 -- a reference to the entry e of t is given up, and subtracted from the total of t: what the totals of all slots show
 pub shown_less : (g : State) (k : KeeperView) (t : ℕ) (e : Entry) → Good g → IsIn e (slot_at g.slots t) → 0 < total_at g.totals t
-    → (u : ℕ) (f : Entry) → IsIn f (slot_at g.slots u) → total_at (set g.totals t (total_at g.totals t - 1)) u + number_at (one_more k.given_up e.number) f.number ≡ total_at g.totals u + number_at k.given_up f.number
+    → (u : ℕ) (f : Entry) → IsIn f (slot_at g.slots u) → total_at (set g.totals t (total_at g.totals t - 1)) u + number_at (one_more k.given_up e.number) f.number
+    ≡ total_at g.totals u + number_at k.given_up f.number
 shown_less g k t e good here some_left u f there =
     let given = one_given g t e k.given_up good here u f there in
     let less = one_subtracted g.totals t (total_within g t e good here) some_left u in
@@ -175,7 +186,8 @@ none_due : (g : State) (t u : ℕ) (e f : Entry) → slot_at g.slots t ≡ Retir
 none_due g t u e f retired live = one_other t u (λ same. let q : Live f ≡ Retired e = sym live ∙ ap (slot_at g.slots) (sym same) ∙ retired in cc)
 
 -- no later entry's references are given up
-pub later_less : (g : State) (k : KeeperView) (t : ℕ) (e : Entry) → Good g → KeeperShown g k → IsIn e (slot_at g.slots t) → (n : ℕ) → length g.history < n → number_at (one_more k.given_up e.number) n ≡ 0
+pub later_less : (g : State) (k : KeeperView) (t : ℕ) (e : Entry) → Good g → KeeperShown g k → IsIn e (slot_at g.slots t) → (n : ℕ) → length g.history < n
+    → number_at (one_more k.given_up e.number) n ≡ 0
 later_less g k t e good had here n above =
     let le = number_in_history g t e good here in
     let ne : n ≢ e.number = λ same. absurd (omega (arith, le, above, same)) in
@@ -202,7 +214,8 @@ shown_subtracted g k t e good had retired due =
       noted_pass = had.noted_pass;
     }
 
-pub total_sub_may : (z : Settings) (k : KeeperView) (t : ℕ) → MayTotalSub k t → KeeperMay z k (index (total_of t)) (λ n. (n + (2 ^ 64 - 1)) % 2 ^ 64) (λ n. did (TotalSub t) Done) (λ v n l. Makes (TotalSub t) Done (Keeper v) (Keeper l) × TotalSubTold (TotalSub t) v l)
+pub total_sub_may : (z : Settings) (k : KeeperView) (t : ℕ) → MayTotalSub k t
+    → KeeperMay z k (index (total_of t)) (λ n. (n + (2 ^ 64 - 1)) % 2 ^ 64) (λ n. did (TotalSub t) Done) (λ v n l. Makes (TotalSub t) Done (Keeper v) (Keeper l) × TotalSubTold (TotalSub t) v l)
 total_sub_may z k t may s r i at fits =
     let g = r.g in
     let had : KeeperShown g k = (r.shows.fits i (Keeper k) at).1 in
@@ -218,8 +231,10 @@ total_sub_may z k t may s r i at fits =
     let l : KeeperLists = totalling g t v in
     let own : KeeperOwn = keeper_own k in
     let made : step g (TotalSub t) ≡ Some (record { state = with_keeper g l; reply = Done }) = ap (total_sub g t) due ∙ rw (eq-eqb t t refl) refl in
-    let words : Agrees (set s.words (index (total_of t)) ((w + (2 ^ 64 - 1)) % 2 ^ 64)) (with_keeper g l) = subst (λ n. Agrees (set s.words (index (total_of t)) n) (with_keeper g l)) (sym next) (total_words s.words g l t v r.good range.0 r.words refl refl refl refl refl) in
-    let done = keeper_makes z s r i k (index (total_of t)) ((w + (2 ^ 64 - 1)) % 2 ^ 64) l (TotalSub t) Done own at made (leaves_all g l refl refl refl refl (λ u d on. on)) (λ n. refl) refl (shown_subtracted g k t e r.good had gone.1 due) words in
+    let words : Agrees (set s.words (index (total_of t)) ((w + (2 ^ 64 - 1)) % 2 ^ 64)) (with_keeper g l) =
+    subst (λ n. Agrees (set s.words (index (total_of t)) n) (with_keeper g l)) (sym next) (total_words s.words g l t v r.good range.0 r.words refl refl refl refl refl) in
+    let done = keeper_makes z s r i k (index (total_of t)) ((w + (2 ^ 64 - 1)) % 2 ^ 64) l (TotalSub t) Done own at made (leaves_all g l refl refl refl refl (λ u d on. on)) (λ n. refl) refl
+    (shown_subtracted g k t e r.good had gone.1 due) words in
     let change : keeper_view (with_keeper g l) own ≡ record k { totals = set k.totals t (total_at k.totals t - 1); due = Rest } =
     ap (λ (x : KeeperView). record x { totals = set x.totals t (total_at x.totals t - 1); due = Rest }) (sym had.is) in
     (Keeper (keeper_view (with_keeper g l) own), done.0, (refl, (done.1, (e, ap (λ (x : List Slot). slot_at x t) seen.slots ∙ gone.1, change))))
@@ -238,7 +253,8 @@ record CollectedOf (g : State) (v : ReferenceView) : Type 0 where
 collected_of : (g : State) (k : KeeperView) (v : ReferenceView) → Good g → KeeperShown g k → ReferenceShown g v → MayJoinKeeper k v → CollectedOf g v
 collected_of g k v good had ref may = ⊎_elim
     (λ (there : (c : ℕ) × (v.collected ≡ Some c)). by_release there.0 (ref.collected there.0 there.1))
-    (λ (there : (t : ℕ) × (c : ℕ) × (e : Entry) × (slot_at k.slots t ≡ Retired e) × (e.number ≡ v.entry.number) × ((mark_at k.marks t c).collected ≡ true)). by_keeper there.0 there.1 there.2 there.3 there.4 there.5)
+    (λ (there : (t : ℕ) × (c : ℕ) × (e : Entry) × (slot_at k.slots t ≡ Retired e) × (e.number ≡ v.entry.number) × ((mark_at k.marks t c).collected ≡ true)).
+    by_keeper there.0 there.1 there.2 there.3 there.4 there.5)
     may.is_collected
   where
     by_release : (c : ℕ) → IsCollectedFor g.slots g.marks v.entry c → CollectedOf g v
@@ -306,7 +322,8 @@ join_keeper_law k v may g good had ref backs =
       count = λ m. let a = local_changed m g.locals id (Standing n) Free (standing_within g.locals id n place.1) place.1 in omega arith;
     }
 
-joins_at : (z : Settings) (i : ℕ) (k : KeeperView) (o : ℕ) (v : ReferenceView) → MayJoinKeeper k v → JoinsOn z i (Keeper k) o (Reference v) (Keeper (keeper_after_join k v)) Spent (did (JoinKeeper v.entry.number) Done)
+joins_at : (z : Settings) (i : ℕ) (k : KeeperView) (o : ℕ) (v : ReferenceView) → MayJoinKeeper k v
+    → JoinsOn z i (Keeper k) o (Reference v) (Keeper (keeper_after_join k v)) Spent (did (JoinKeeper v.entry.number) Done)
 unfolding join_keeper_law
 joins_at z i k o v may s r at apart there =
     let g = r.g in
@@ -328,7 +345,8 @@ joins_at z i k o v may s r at apart there =
         good = law.good_after;
         reached = (more z g law.after (JoinKeeper law.id) Done r.reached law.made).0;
         words = agrees_same s.words g law.after r.words refl (λ q _. beside_words g (set g.locals law.id Free) (Subtracting v.entry.slot) g.keeps q);
-        shows = shows_join g law.after r.seat s.views i (Keeper k) o (Reference v) both r.shows at apart was (beside_stays g (set g.locals law.id Free) (Subtracting v.entry.slot) g.keeps r.seat i had.0) (had.0, law.shown) refl (refl, refl) law.count there;
+        shows = shows_join g law.after r.seat s.views i (Keeper k) o (Reference v) both r.shows at apart was
+            (beside_stays g (set g.locals law.id Free) (Subtracting v.entry.slot) g.keeps r.seat i had.0) (had.0, law.shown) refl (refl, refl) law.count there;
       };
     }
 
@@ -339,7 +357,8 @@ joins_keeper z i x o u k v keeper k_is ref v_is may =
     seat_join z i o x u (Keeper k) (Reference v) with_given_up gives_up (did (JoinKeeper v.entry.number) Done) (keeper ∙ ap (λ (y : KeeperView). record x { view = Keeper y }) k_is)
     (ref ∙ ap (λ (y : ReferenceView). record u { view = Reference y }) v_is) tt (refl, tt) refl (joins_at z i k o v may)
 
-pub join_keeper_by : (x u y : View) (k : KeeperView) (v : ReferenceView) → keeper_of x ≡ k → reference_of u ≡ v → y ≡ with_given_up x u → MayJoinKeeper k v → JoinsBy JoinKeeper (Keeper k) (Reference v) (Keeper (keeper_of y))
+pub join_keeper_by : (x u y : View) (k : KeeperView) (v : ReferenceView) → keeper_of x ≡ k → reference_of u ≡ v → y ≡ with_given_up x u → MayJoinKeeper k v
+    → JoinsBy JoinKeeper (Keeper k) (Reference v) (Keeper (keeper_of y))
 join_keeper_by x u y k v k_is v_is y_is may =
     let is : keeper_of y ≡ keeper_after_join k v = ap keeper_of y_is ∙ (λ j. keeper_after_join (k_is j) (v_is j)) in
     subst (λ w. JoinsBy JoinKeeper (Keeper k) (Reference v) (Keeper w)) (sym is) (join_keeper_law k v may)

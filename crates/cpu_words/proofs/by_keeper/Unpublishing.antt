@@ -1,5 +1,6 @@
 -- Unpublish on the words.
-use Rattle.std.proofs.Common.{◌≡◌, inl, inr, ⊎_elim, ℕ, zero, suc, ◌<◌, List, [], ◌∷◌, length, replicate, get_or, set, sum_by, Option, Some, None, refl, sym, ap, ◌∙◌, subst, arith, get_or-set_same, get_or-set_other}
+use Rattle.std.proofs.Common.{◌≡◌, inl, inr, ⊎_elim, ℕ, zero, suc, ◌<◌, List, [], ◌∷◌, length, replicate, get_or, set, sum_by, Option, Some, None, refl, sym, ap, ◌∙◌, subst, arith, get_or-set_same}
+use Rattle.std.proofs.Common.{get_or-set_other}
 use Rattle.std.specs.List.{zip}
 use Rattle.std.proofs.lemmas.List.Sums.{sum_by-cons}
 use Rattle.cpu_words.specs.Types.{Entry, Detach, Settings, MOST_CPUS, Slot, Vacant, Live, Retired, Mark, Due, Rest, Snapshots, Unpublish, Done}
@@ -8,7 +9,9 @@ use Rattle.registry_values.specs.Common.{no_mark, slot_at, slot_before}
 use Rattle.protocol.proofs.slots.Cells.{cell_in_old, get_or_all}
 use Rattle.protocol.proofs.history.History.{length-after_change}
 use Rattle.protocol.proofs.slots.Occupied.{place_cases, slot_cases, in_unpublished, in_within, live_one}
-use Rattle.cpu_words.specs.Common.{KeeperView, Keeper, Spot, section_of, passive_of, count_of, head_word, next_of, record_of, total_of, word_at, keeper_own, keeper_view, KeeperShown, GivesUp, collected_net, collected_one, Agrees, Good, did, Makes, KeeperStores, LeadsBelow, IsBefore, MayUnpublish, HasUnpublished, UnpublishTold, keeper_after_unpublish, link_index, head_with, links_with}
+use Rattle.cpu_words.specs.Common.{KeeperView, Keeper, Spot, section_of, passive_of, count_of, head_word, next_of, record_of, total_of, word_at, keeper_own, keeper_view, KeeperShown, GivesUp}
+use Rattle.cpu_words.specs.Common.{collected_net, collected_one, Agrees, Good, did, Makes, KeeperStores, LeadsBelow, IsBefore, MayUnpublish, HasUnpublished, UnpublishTold, keeper_after_unpublish}
+use Rattle.cpu_words.specs.Common.{link_index, head_with, links_with}
 use Rattle.cpu_words.proofs.shown.Passes.{prefix_on}
 use Rattle.cpu_words.proofs.shown.Placing.{agrees_set}
 use Rattle.cpu_words.proofs.by_keeper.KeeperSteps.{KeeperLists, keeper_lists, with_keeper, LeavesCpus, keeper_makes}
@@ -67,7 +70,8 @@ retired_by g t e None v link = ap (λ (x : ℕ). with_keeper g (unpublish_lists 
 retired_by g t e (Some q) v link = ap (λ (x : ℕ). with_keeper g (unpublish_lists g t e (Some q) x)) link
 
 -- the core makes the event
-made_unpublish : (g : State) (t : ℕ) (e : Entry) (p : Option ℕ) (v : ℕ) → Unpublishes g t e p v → step g (Unpublish t) ≡ Some (record { state = with_keeper g (unpublish_lists g t e p v); reply = Done })
+made_unpublish : (g : State) (t : ℕ) (e : Entry) (p : Option ℕ) (v : ℕ) → Unpublishes g t e p v
+    → step g (Unpublish t) ≡ Some (record { state = with_keeper g (unpublish_lists g t e p v); reply = Done })
 made_unpublish g t e p v may =
     ap (unpublish g t) may.live
     ∙ (ap (λ (d : Due). guard (at_rest d) (some_outcome (after_unpublish g t e) Done)) may.rest
@@ -172,7 +176,8 @@ others_link g t e p v (next_of u) off = get_or-set_other g.next p u v 0 (λ same
 others_link g t e p v (record_of u j) off = refl
 others_link g t e p v (total_of u) off = refl
 
-link_words : (words : List ℕ) (g : State) (t : ℕ) (e : Entry) (p : Option ℕ) (v : ℕ) → Good g → Agrees words g → Unpublishes g t e p v → Agrees (set words (link_index p) v) (with_keeper g (unpublish_lists g t e p v))
+link_words : (words : List ℕ) (g : State) (t : ℕ) (e : Entry) (p : Option ℕ) (v : ℕ) → Good g → Agrees words g → Unpublishes g t e p v
+    → Agrees (set words (link_index p) v) (with_keeper g (unpublish_lists g t e p v))
 link_words words g t e None v good agrees may = agrees_set words g (with_keeper g (unpublish_lists g t e None v)) head_word v good.holds.fit agrees refl tt refl (λ q _ off. others_head g t e v q off)
 link_words words g t e (Some p) v good agrees may =
     let lt : p < g.settings.slots = may.place p refl in
@@ -195,7 +200,8 @@ unpublish_at z k t p v may s r i at fits =
     let does = unpublishes g k t p v r.good had may in
     let l = unpublish_lists g t e p v in
     let words = link_words s.words g t e p v r.good r.words does in
-    let done = keeper_makes z s r i k (link_index p) v l (Unpublish t) Done (keeper_own k) at (made_unpublish g t e p v does) (leaves_unlinked g t e p v does) (λ n. refl) refl (shown_unlinked g k t e p v had does) words in
+    let done = keeper_makes z s r i k (link_index p) v l (Unpublish t) Done (keeper_own k) at (made_unpublish g t e p v does) (leaves_unlinked g t e p v does) (λ n. refl) refl
+    (shown_unlinked g k t e p v had does) words in
     let change : keeper_view (with_keeper g l) (keeper_own k) ≡ keeper_after_unpublish k t e p v = ap (λ (y : KeeperView). keeper_after_unpublish y t e p v) (sym had.is) in (
       Keeper (keeper_view (with_keeper g l) (keeper_own k)),
       done.0,
@@ -211,4 +217,5 @@ unpublish_at z k t p v may s r i at fits =
 pub unpublish_may : (z : Settings) (k : KeeperView) (t : ℕ) (p : Option ℕ) (v w : ℕ) → w ≡ link_index p → MayUnpublish k t p v
     → KeeperStores z k w v (λ _. did (Unpublish t) Done) (λ y n l. Makes (Unpublish t) Done (Keeper y) (Keeper l) × UnpublishTold (Unpublish t) w v y l)
 unpublish_may z k t p v w is may =
-    subst (λ (x : ℕ). KeeperStores z k x v (λ _. did (Unpublish t) Done) (λ y n l. Makes (Unpublish t) Done (Keeper y) (Keeper l) × UnpublishTold (Unpublish t) x v y l)) (sym is) (unpublish_at z k t p v may)
+    subst (λ (x : ℕ). KeeperStores z k x v (λ _. did (Unpublish t) Done) (λ y n l. Makes (Unpublish t) Done (Keeper y) (Keeper l) × UnpublishTold (Unpublish t) x v y l)) (sym is)
+    (unpublish_at z k t p v may)

@@ -9,7 +9,8 @@ use Rattle.registry_values.specs.Common.{bias, slot_at}
 use Rattle.protocol.specs.declared.state.Hand.TheVariants.{Empty as EmptyHand, Taking as TakingHand, Giving as GivingHand, Back as BackHand}
 use Rattle.protocol.specs.Common.{State, hand_at, count_at, total_at, IsIn, one_if_used, itself, in_hand, kept_of, addition_due_at, is_adding_at, subtraction_due_at}
 use Rattle.protocol.proofs.slots.Occupied.{in_within}
-use Rattle.cpu_words.specs.Common.{InHand, Empty, Taking, Giving, Back, KeeperView, View, Keeper, Cpu, Reference, Note, Spent, count_of, total_of, SameHand, CpuShown, Shown, Agrees, Sits, ShowsViews, Good, sum_below, count_word, total_word, in_hand_to, hand_to, held_by_seats, HasOneSeat, IsBalanced, SeatsBalance}
+use Rattle.cpu_words.specs.Common.{InHand, Empty, Taking, Giving, Back, KeeperView, View, Keeper, Cpu, Reference, Note, Spent, count_of, total_of, SameHand, CpuShown, Shown, Agrees, Sits, ShowsViews}
+use Rattle.cpu_words.specs.Common.{Good, sum_below, count_word, total_word, in_hand_to, hand_to, held_by_seats, HasOneSeat, IsBalanced, SeatsBalance}
 use Rattle.cpu_words.proofs.by_keeper.KeeperSees.{SeenByKeeper, seen_by_keeper}
 
 -- Sums over numbers
@@ -52,7 +53,8 @@ views_same f g (x ∷ xs) same =
     omega (arith, sum_by-cons f x xs, sum_by-cons g x xs, rest, here)
 
 -- of the same terms but at one place
-views_but_one : (f g : View → ℕ) (views : List View) (i : ℕ) (v : View) → get_elem? views i ≡ some v → ((j : ℕ) (u : View) → j ≢ i → get_elem? views j ≡ some u → g u ≡ f u) → sum_by g views + f v ≡ sum_by f views + g v
+views_but_one : (f g : View → ℕ) (views : List View) (i : ℕ) (v : View) → get_elem? views i ≡ some v → ((j : ℕ) (u : View) → j ≢ i → get_elem? views j ≡ some u → g u ≡ f u)
+    → sum_by g views + f v ≡ sum_by f views + g v
 views_but_one f g [] i v at same = absurd (some-ne-none v (sym at))
 views_but_one f g (x ∷ xs) zero v at same =
     let is : x ≡ v = some-injective x v at in
@@ -151,7 +153,8 @@ hands_of_all g seat views n good shows =
 
 -- Words
 
-counts_of_all : (words : List ℕ) (g : State) (t : ℕ) (f : ℕ → ℕ) → Good g → Agrees words g → t < g.settings.slots → f 0 ≡ 0 → sum_by f (get_or g.counts t []) ≡ sum_below (λ c. f (count_word words t c)) g.settings.cpus
+counts_of_all : (words : List ℕ) (g : State) (t : ℕ) (f : ℕ → ℕ) → Good g → Agrees words g → t < g.settings.slots → f 0 ≡ 0
+    → sum_by f (get_or g.counts t []) ≡ sum_below (λ c. f (count_word words t c)) g.settings.cpus
 counts_of_all words g t f good agrees slot none =
     list_below f 0 (get_or g.counts t []) g.settings.cpus none (λ c le. ap f (good.holds.balance.beyond c t le) ∙ none)
     ∙ below_same (λ c. f (count_at g.counts c t)) (λ c. f (count_word words t c)) g.settings.cpus (λ c lt. ap f (sym (agrees.at (count_of c t) (lt, slot))))
@@ -169,7 +172,8 @@ one_seat g seat views c shows lt =
     }
 
 -- the balance where the words and the views show a state
-balanced : (g : State) (seat : ℕ → ℕ) (words : List ℕ) (views : List View) (k : KeeperView) (t : ℕ) (e : Entry) → Good g → Agrees words g → ShowsViews g seat views → SeenByKeeper g k → IsIn e (slot_at g.slots t)
+balanced : (g : State) (seat : ℕ → ℕ) (words : List ℕ) (views : List View) (k : KeeperView) (t : ℕ) (e : Entry) → Good g → Agrees words g → ShowsViews g seat views → SeenByKeeper g k
+    → IsIn e (slot_at g.slots t)
     → IsBalanced g.settings.cpus words views k t e.number
 balanced g seat words views k t e good agrees shows seen here = record {
   balance = balance;

@@ -1,6 +1,7 @@
 -- Destroying: an entry whose slot the keeper made vacant has no slot and no holder in any later state.
 use Rattle.cpu_words.proofs.logs.Changes.{run_as_logged}
-use Rattle.std.proofs.Common.{◌≡◌, inr, ⊎_elim, ℕ, ◌&&◌, Bool, true, false, IsTrue, List, [], ◌∷◌, ◌++◌, length, set, Option, Some, None, IsSome, refl, sym, ap, ◌∙◌, subst, append_assoc, length-append, arith}
+use Rattle.std.proofs.Common.{◌≡◌, inr, ⊎_elim, ℕ, ◌&&◌, Bool, true, false, IsTrue, List, [], ◌∷◌, ◌++◌, length, set, Option, Some, None, IsSome, refl, sym, ap, ◌∙◌, subst, append_assoc}
+use Rattle.std.proofs.Common.{length-append, arith}
 use Rattle.std.proofs.lemmas.List.{append-nil}
 use Rattle.std.proofs.lemmas.Option.{none-some, same_Some}
 use mathlib.Core.Option.{some}
@@ -9,7 +10,8 @@ use lib.ListN.{get_elem?}
 use Rattle.atomic_table.specs.Table.{State as Table}
 use Rattle.cpu_words.specs.Types.{Entry, Change, Attach, Detach, Settings, Vacant, Retired, Event, Vacate, KeptSub, Done}
 use Rattle.registry_values.specs.Common.{are_fit, slot_at, slot_of}
-use Rattle.protocol.specs.Common.{IsAttached, EndsAt, State, opening, kept_at, Outcome, guard, with_some, some_outcome, step, state_after, is_drained, may_vacate, is_iface_slot, after_vacate, after_kept_sub, Holds, Occupies, IsUnheld, number_in, picture, after, occupant_of, destroyed_slot, IsAllowed}
+use Rattle.protocol.specs.Common.{IsAttached, EndsAt, State, opening, kept_at, Outcome, guard, with_some, some_outcome, step, state_after, is_drained, may_vacate, is_iface_slot, after_vacate}
+use Rattle.protocol.specs.Common.{after_kept_sub, Holds, Occupies, IsUnheld, number_in, picture, after, occupant_of, destroyed_slot, IsAllowed}
 use Rattle.protocol.proofs.history.History.{one_entry, at_within}
 use Rattle.protocol.proofs.keeps.Keeping.{opening_holds, step_holds}
 use Rattle.protocol.proofs.keeps.MarkKeeps.{is_drained_tells}
@@ -48,7 +50,9 @@ empties_some s t (Some y) f empties = empties y
 
 empties : (s : State) (e : Event) (t : ℕ) → destroyed_slot e ≡ Some t → Empties s t (step s e)
 empties s (Vacate u) t of = empties_guard s t (may_vacate s u) (some_outcome (after_vacate s u) Done) (ap (λ (k : ℕ). set s.slots k Vacant) (same_Some u t of))
-empties s (KeptSub u) t of = empties_some s t (kept_at s.keeps u) _ (λ d. empties_some s t (slot_of s.slots d) _ (λ v. empties_guard s t (is_iface_slot (slot_at s.slots u) && is_drained s u) (some_outcome (after_kept_sub s u v) Done) (ap (λ (k : ℕ). set s.slots k Vacant) (same_Some u t of))))
+empties s (KeptSub u) t of = empties_some s t (kept_at s.keeps u) _
+    (λ d. empties_some s t (slot_of s.slots d) _ (λ v. empties_guard s t (is_iface_slot (slot_at s.slots u) && is_drained s u) (some_outcome (after_kept_sub s u v) Done)
+    (ap (λ (k : ℕ). set s.slots k Vacant) (same_Some u t of))))
 empties s e t of = absurd (none-some t of)
 
 whole : (f : Event) (t : ℕ) → destroyed_slot f ≡ Some t → is_whole f ≡ true
@@ -65,7 +69,8 @@ record Freed (m n : State) (t k : ℕ) : Type 0 where
   ended : (p : ℕ) × EndsAt m.history k p
   off : (u : ℕ) → occupant_of n u ≡ Some k → ⊥
 
-freed_now : (cpus : ℕ) (log : List LogItem) (m : State) (e : Event) (o : Outcome) (t k : ℕ) → Holds m → step m e ≡ Some o → destroyed_slot e ≡ Some t → Known cpus log m → IsDetachedFrom t k log → Freed m o.state t k
+freed_now : (cpus : ℕ) (log : List LogItem) (m : State) (e : Event) (o : Outcome) (t k : ℕ) → Holds m → step m e ≡ Some o → destroyed_slot e ≡ Some t → Known cpus log m → IsDetachedFrom t k log
+    → Freed m o.state t k
 freed_now cpus log m e o t k on made of known gone =
     let allowed : IsAllowed m e = subst (λ (p : Option Outcome). IsSome p) (sym made) refl in
     let told = is_drained_tells m t on (destroyed_drained m e t of allowed) in
@@ -164,7 +169,8 @@ pub record AtItem (cpus : ℕ) (before : List LogItem) (d : LogItem) (g : State)
   pub on : Holds m
   pub known : Known cpus before m
 
-pub at_item : (z : Settings) (s : Table ℕ Logged) (i : ℕ) (l : Logged) (before after_it : List LogItem) (item : LogItem) → (r : RunsAsLogged z s) → get_elem? s.views i ≡ some l → l.known_log ≡ before ++ item ∷ after_it → AtItem z.cpus before item (after (opening z) r.run.events)
+pub at_item : (z : Settings) (s : Table ℕ Logged) (i : ℕ) (l : Logged) (before after_it : List LogItem) (item : LogItem) → (r : RunsAsLogged z s) → get_elem? s.views i ≡ some l
+    → l.known_log ≡ before ++ item ∷ after_it → AtItem z.cpus before item (after (opening z) r.run.events)
 at_item z s i l before after_it item r at log_is =
     let run = r.run in
     let g = after (opening z) run.events in

@@ -8,7 +8,8 @@ use Rattle.protocol.specs.Common.{IsAttached, State, hand_at, kept_at, IsIn, Occ
 use Rattle.protocol.proofs.history.History.{one_entry}
 use Rattle.protocol.proofs.counts.HeldSums.{number_of, no_standing, one_self}
 use Rattle.protocol.proofs.slots.Occupied.{attached_in, slot_occupied, slot_found}
-use Rattle.cpu_words.specs.Common.{InHand, Empty, Taking, Giving, Back, CpuView, View, Keeper, Cpu, Reference, Note, Spent, SameHand, references_to, CpuShown, Shown, Good, SectionMayHold, IsInHand, SeatHolds, HeldHaveSlots}
+use Rattle.cpu_words.specs.Common.{InHand, Empty, Taking, Giving, Back, CpuView, View, Keeper, Cpu, Reference, Note, Spent, SameHand, references_to, CpuShown, Shown, Good, SectionMayHold, IsInHand}
+use Rattle.cpu_words.specs.Common.{SeatHolds, HeldHaveSlots}
 use Rattle.cpu_words.proofs.shown.Showing.{standing_in, IsBacked, backed}
 use Rattle.cpu_words.proofs.shown.Seeing.{seen_of}
 use Rattle.cpu_words.proofs.by_keeper.KeeperSees.{SeenByKeeper, seen_by_keeper}
@@ -68,7 +69,8 @@ its_slot g e good attached has =
 cpu_has : (g : State) (e : Entry) (x : CpuView) → Good g → CpuShown g x → (0 < references_to e.number x.references) ⊎ IsInHand e.number x.hand → Occupies g.slots e.number
 cpu_has g e x good shown holds = ⊎_elim
     (λ (some : 0 < references_to e.number x.references). occupies g.slots e.number (λ off. omega (arith, some, shown.gone e.number off)))
-    (λ (is : IsInHand e.number x.hand). hand_occupies g.slots g.locals x.id (hand_at g x.id) e.number (good.holds.references.in_hands x.id) (same_number (hand_at g x.id) x.hand e.number shown.hand is))
+    (λ (is : IsInHand e.number x.hand). hand_occupies g.slots g.locals x.id (hand_at g x.id) e.number (good.holds.references.in_hands x.id)
+    (same_number (hand_at g x.id) x.hand e.number shown.hand is))
     holds
 
 pub seat_has_slot : (g : State) (e : Entry) (v : View) → Good g → Shown g v → IsBacked g v → IsAttached g.history e → SeatHolds g.history e v → IsIn e (slot_at g.slots e.slot)

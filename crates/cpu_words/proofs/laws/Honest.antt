@@ -6,7 +6,8 @@ use Rattle.protocol.specs.Common.{MayHold, State, opening, hand_at, mark_at, kep
 use Rattle.protocol.proofs.counts.HeldSums.{none_in_hand, one_self}
 use Rattle.protocol.proofs.slots.Occupied.{in_within}
 use Rattle.protocol.proofs.model.RefiningEntries.{unheld_when_drained}
-use Rattle.cpu_words.specs.Common.{CpuView, View, Keeper, Cpu, Reference, Note, Spent, passive_of, count_of, references_to, KeeperShown, CpuShown, Shown, Agrees, Good, RunsLawfully, SectionMayHold, IsInHand, SeatHolds, MarkTells, DrainedIsFree, MarksAreHonest, FoundIsHeld}
+use Rattle.cpu_words.specs.Common.{CpuView, View, Keeper, Cpu, Reference, Note, Spent, passive_of, count_of, references_to, KeeperShown, CpuShown, Shown, Agrees, Good, RunsLawfully, SectionMayHold}
+use Rattle.cpu_words.specs.Common.{IsInHand, SeatHolds, MarkTells, DrainedIsFree, MarksAreHonest, FoundIsHeld}
 use Rattle.cpu_words.proofs.shown.Showing.{standing_in, IsBacked, backed}
 use Rattle.cpu_words.proofs.shown.Seeing.{Seen, seen_of}
 use Rattle.cpu_words.proofs.by_keeper.KeeperSees.{SeenByKeeper, seen_by_keeper}
@@ -48,7 +49,8 @@ drained_is_free z s i t k r at drained =
     }
 
 -- what the state has of a CPU's mark tells
-mark_tells : (words : List ℕ) (g : State) (t : ℕ) (e : Entry) (x : CpuView) → Good g → Agrees words g → CpuShown g x → slot_at g.slots t ≡ Retired e → MarkTells words g.history t e (mark_at g.marks t x.id) x
+mark_tells : (words : List ℕ) (g : State) (t : ℕ) (e : Entry) (x : CpuView) → Good g → Agrees words g → CpuShown g x → slot_at g.slots t ≡ Retired e
+    → MarkTells words g.history t e (mark_at g.marks t x.id) x
 mark_tells words g t e x good agrees shown retired =
     let seen : Seen g x = seen_of g x good shown in
     let slot : t < g.settings.slots = omega (arith, in_within g.slots t e (inr retired), good.holds.shape.slots) in

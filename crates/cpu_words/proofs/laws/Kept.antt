@@ -6,7 +6,8 @@ use lib.ListN.{get_elem?}
 use Rattle.atomic_table.specs.Table.{State as Table}
 use Rattle.cpu_words.specs.Types.{Settings, Live, Event, Publish, Done}
 use Rattle.registry_values.specs.Common.{key_of, slot_at, is_taken}
-use Rattle.protocol.specs.Common.{State, opening, row_at, kept_at, Outcome, guard, with_some, some_outcome, step, entry_of, may_write, may_publish, has_room, is_prepared, after_publish, Holds, number_in, after, occupant_of}
+use Rattle.protocol.specs.Common.{State, opening, row_at, kept_at, Outcome, guard, with_some, some_outcome, step, entry_of, may_write, may_publish, has_room, is_prepared, after_publish, Holds}
+use Rattle.protocol.specs.Common.{number_in, after, occupant_of}
 use Rattle.protocol.proofs.keeps.Keeping.{step_holds}
 use Rattle.protocol.proofs.keeps.ListKeeps.{may_write_tells}
 use Rattle.protocol.proofs.model.RefiningEntries.{number_of}

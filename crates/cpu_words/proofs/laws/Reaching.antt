@@ -10,7 +10,8 @@ noted_push : (s : State) (e : Event) (o : Option Outcome) (a b : List LogItem) �
 noted_push s e None a b = refl
 noted_push s e (Some o) a b = refl
 
-log_push : (r : Run) (es : List Event) (e : Event) (h : State) (rep : Reply) → step (run_of_events r es).state e ≡ Some (record { state = h; reply = rep }) → log_from r (es ++ e ∷ []) ≡ log_from r es ++ did (by_number (run_of_events r es).state e) rep
+log_push : (r : Run) (es : List Event) (e : Event) (h : State) (rep : Reply) → step (run_of_events r es).state e ≡ Some (record { state = h; reply = rep })
+    → log_from r (es ++ e ∷ []) ≡ log_from r es ++ did (by_number (run_of_events r es).state e) rep
 log_push r [] e h rep made = ap (λ (o : Option Outcome). log_with r.state e o []) made
 log_push r (f ∷ fs) e h rep made =
     let next = run_with_event r (step r.state f) in
@@ -21,7 +22,8 @@ pub more : (z : Settings) (g h : State) (e : Event) (rep : Reply) (reached : Rea
 more z g h e rep reached made =
     let r : Run = run_of_events (empty_run (opening z)) reached.events in
     let here : step r.state e ≡ Some (record { state = h; reply = rep }) = ap (λ (s : State). step s e) (sym reached.run) ∙ made in
-    let run : h ≡ after (opening z) (reached.events ++ e ∷ []) = sym (ap (λ (x : Run). x.state) (ran_push (empty_run (opening z)) reached.events e) ∙ ap (λ (o : Option Outcome). (run_with_event r o).state) here) in
+    let run : h ≡ after (opening z) (reached.events ++ e ∷ []) =
+    sym (ap (λ (x : Run). x.state) (ran_push (empty_run (opening z)) reached.events e) ∙ ap (λ (o : Option Outcome). (run_with_event r o).state) here) in
     let longer = log_push (empty_run (opening z)) reached.events e h rep here in
     let all : length (log_of_events z (reached.events ++ e ∷ [])) ≡ length (reached.events ++ e ∷ []) =
     omega (arith, ap (λ (ds : List LogItem). length ds) longer, length-append (log_of_events z reached.events) (did (by_number r.state e) rep), length-append reached.events (e ∷ []), reached.made) in

@@ -1,5 +1,6 @@
 -- Waiting: where the keeper took the section word of each CPU, and later found each even or another one, each section that was open before has ended.
-use Rattle.std.proofs.Common.{None, ◌≡◌, ◌⊎◌, inl, inr, ⊎_elim, ℕ, ◌+◌, ◌-◌, ◌%◌, ◌<◌, ◌≤◌, IsTrue, List, [], ◌∷◌, ◌++◌, length, take, drop, Some, refl, sym, ap, ◌∙◌, subst, length-append, append_assoc, arith}
+use Rattle.std.proofs.Common.{None, ◌≡◌, ◌⊎◌, inl, inr, ⊎_elim, ℕ, ◌+◌, ◌-◌, ◌%◌, ◌<◌, ◌≤◌, IsTrue, List, [], ◌∷◌, ◌++◌, length, take, drop, Some, refl, sym, ap, ◌∙◌, subst, length-append}
+use Rattle.std.proofs.Common.{append_assoc, arith}
 use Rattle.std.proofs.lemmas.Bool.{cases_lt}
 use Rattle.std.proofs.lemmas.List.{append_cancel_left, append_cancel_right, take_at, take-append-drop, take-append-le, length-take-le}
 use Rattle.std.proofs.lemmas.Option.{none-some}
@@ -12,7 +13,8 @@ use Rattle.registry_values.specs.Common.{are_fit}
 use Rattle.protocol.specs.Common.{State, opening, section_at, begin_at, Holds, after, after_event, IsAllowed, HasExit, HasMoved}
 use Rattle.protocol.proofs.keeps.Keeping.{opening_holds}
 use Rattle.protocol.proofs.runs.Grace.{ends_by_exit}
-use Rattle.cpu_words.specs.Common.{LogItem, Logged, Teller, Cpu, changes_in, has_taken, has_found, has_heard_from, HasHeardFrom, IsSeenOut, HasWaited, part, AreByOwn, RunsAsLogged, HasEndedOn, HasEndedSince, HadHeard, IsBeforeTelling, HaveEnded, WaitingEnds}
+use Rattle.cpu_words.specs.Common.{LogItem, Logged, Teller, Cpu, changes_in, has_taken, has_found, has_heard_from, HasHeardFrom, IsSeenOut, HasWaited, part, AreByOwn, RunsAsLogged, HasEndedOn}
+use Rattle.cpu_words.specs.Common.{HasEndedSince, HadHeard, IsBeforeTelling, HaveEnded, WaitingEnds}
 use Rattle.cpu_words.proofs.shown.Seeing.{seen_of}
 use Rattle.cpu_words.proofs.laws.Safety.{running_headline}
 use Rattle.cpu_words.proofs.logs.Changes.{counted, run_as_logged}
@@ -68,7 +70,8 @@ moved_from a old new b le up is moved = ⊎_elim
     (λ (off : new ≡ old → ⊥). inr (λ (same : b ≡ a). off (omega (arith, le, up, is, same))))
     moved
 
-waited_for : (c : ℕ) (s : State) (acts : List (ℕ × LogItem)) (es : List Event) (t : State) (since rest : List LogItem) → Follows s acts es t → Holds s → part 0 acts ≡ since ++ rest → IsSeenOut c since → WaitedFor c s acts es t since
+waited_for : (c : ℕ) (s : State) (acts : List (ℕ × LogItem)) (es : List Event) (t : State) (since rest : List LogItem) → Follows s acts es t → Holds s → part 0 acts ≡ since ++ rest → IsSeenOut c since
+    → WaitedFor c s acts es t since
 waited_for c s acts es t since rest run on mine seen =
     let last : List LogItem = seen.after ++ rest in
     let flat : since ++ rest ≡ seen.before ++ has_taken c seen.old ∷ (seen.between ++ has_found c seen.new ∷ last) =
@@ -137,7 +140,8 @@ ended_on z s r before since rest first second acts mine earlier later m are size
     let start = opening z in
     let at : w.between ≡ after start (earlier ++ w.earlier) = w.until ∙ (ap (λ (q : State). after q w.earlier) there ∙ sym (after_append start earlier w.earlier)) in
     let cut_at : take (length (earlier ++ w.earlier)) r.acts ≡ first ++ take (length w.earlier) second =
-    ap (λ (n : ℕ). take n r.acts) (length-append earlier w.earlier ∙ ap (λ (n : ℕ). n + length w.earlier) size) ∙ (ap (take (length first + length w.earlier)) acts ∙ take-append-add first second (length w.earlier)) in
+    ap (λ (n : ℕ). take n r.acts) (length-append earlier w.earlier ∙ ap (λ (n : ℕ). n + length w.earlier) size)
+    ∙ (ap (take (length first + length w.earlier)) acts ∙ take-append-add first second (length w.earlier)) in
     record {
       seen = w.seen;
       earlier = earlier ++ w.earlier;
@@ -163,7 +167,8 @@ record CutAt (z : Settings) (acts acts_then : List (ℕ × LogItem)) (first rest
   changes : length (after (opening z) first).history ≤ changes_in (part 0 acts_then)
 
 -- fewer events were made than acts at `acts_then`
-cut_at : (z : Settings) (seat : ℕ → ℕ) (n : ℕ) (acts acts_then later : List (ℕ × LogItem)) (events first rest : List Event) (t : State) → IsTrue (are_fit z) → AreByOwn seat n acts → Follows (opening z) acts events t
+cut_at : (z : Settings) (seat : ℕ → ℕ) (n : ℕ) (acts acts_then later : List (ℕ × LogItem)) (events first rest : List Event) (t : State) → IsTrue (are_fit z) → AreByOwn seat n acts
+    → Follows (opening z) acts events t
     → acts ≡ acts_then ++ later → events ≡ first ++ rest → length first ≤ length acts_then → CutAt z acts acts_then first rest t
 cut_at z seat n acts acts_then later events first rest t fit owners run are cut_is le =
     let m = length first in
@@ -179,7 +184,8 @@ cut_at z seat n acts acts_then later events first rest t fit owners run are cut_
     let on : Holds k.between = follows_holds (opening z) a k.earlier k.between k.before (opening_holds z fit) in
     let own = own_first seat n a (b ++ later) (subst (AreByOwn seat n) all owners) in
     let long : length k.between.history ≡ changes_in (part 0 a) + 0 = counted seat n (opening z) a k.earlier k.between k.before (opening_holds z fit) own in
-    let more : changes_in (part 0 acts_then) ≡ changes_in (part 0 a) + changes_in (part 0 b) = ap (λ (l : List (ℕ × LogItem)). changes_in (part 0 l)) both ∙ (ap changes_in (part_append 0 a b) ∙ changes_both (part 0 a) (part 0 b)) in
+    let more : changes_in (part 0 acts_then) ≡ changes_in (part 0 a) + changes_in (part 0 b) =
+    ap (λ (l : List (ℕ × LogItem)). changes_in (part 0 l)) both ∙ (ap changes_in (part_append 0 a b) ∙ changes_both (part 0 a) (part 0 b)) in
     record {
       since = b;
       later = later;
@@ -239,36 +245,45 @@ before_heard z s r h k first had few =
     let i = r.run.seat h.cpu in
     let item = has_heard_from (Some h.cpu) (Some k) in
     let n = length first in
-    let flat : part i r.acts ≡ had.heard.before ++ item ∷ (had.heard.after ++ had.more) = had.own ∙ (ap (λ (l : List LogItem). l ++ had.more) had.heard.are ∙ append_assoc had.heard.before (item ∷ had.heard.after) had.more) in
+    let flat : part i r.acts ≡ had.heard.before ++ item ∷ (had.heard.after ++ had.more) =
+    had.own ∙ (ap (λ (l : List LogItem). l ++ had.more) had.heard.are ∙ append_assoc had.heard.before (item ∷ had.heard.after) had.more) in
     let p = place i r.acts had.heard.before (had.heard.after ++ had.more) item flat in
     let come : k.events ≤ length (part (r.run.seat k.cpu) p.first) = (r.told i item p.first p.second p.are).before.events in
     let lt = fewer_acts (r.run.seat k.cpu) k.events n r.acts p.first ((i, item) ∷ p.second) p.are come few in
     let le : n ≤ length p.first = omega (arith, lt) in
     let at : take n r.acts ≡ take n p.first = ap (take n) p.are ∙ take-append-le n p.first ((i, item) ∷ p.second) le in
     let more = more_made i (take n p.first) (drop n p.first) in
-    let both : length (part i (take n p.first ++ drop n p.first)) ≡ length had.heard.before = ap (λ (l : List (ℕ × LogItem)). length (part i l)) (take-append-drop n p.first) ∙ ap (λ (l : List LogItem). length l) (part_placed i r.acts had.heard.before (had.heard.after ++ had.more) item flat p) in
-    let size : length had.log ≡ length had.heard.before + length (item ∷ had.heard.after) = ap (λ (l : List LogItem). length l) had.heard.are ∙ length-append had.heard.before (item ∷ had.heard.after) in
+    let both : length (part i (take n p.first ++ drop n p.first)) ≡ length had.heard.before =
+    ap (λ (l : List (ℕ × LogItem)). length (part i l)) (take-append-drop n p.first)
+    ∙ ap (λ (l : List LogItem). length l) (part_placed i r.acts had.heard.before (had.heard.after ++ had.more) item flat p) in
+    let size : length had.log ≡ length had.heard.before + length (item ∷ had.heard.after) =
+    ap (λ (l : List LogItem). length l) had.heard.are ∙ length-append had.heard.before (item ∷ had.heard.after) in
     let here : length (part i (take n r.acts)) ≡ length (part i (take n p.first)) = ap (λ (l : List (ℕ × LogItem)). length (part i l)) at in
     let low = had.few in
     omega (arith, here, more, both, size, low)
 
 -- so each section that was open at that moment has ended
 ended_since : (z : Settings) (s : Table ℕ Logged) (r : RunsAsLogged z s) (before since known : List LogItem) (acts_then later : List (ℕ × LogItem)) (h : Teller) (first rest : List Event)
-    → IsTrue (are_fit z) → r.acts ≡ acts_then ++ later → part 0 acts_then ≡ before → part 0 later ≡ since ++ known → HasWaited since z.cpus → HasHeardFrom None h before → r.run.events ≡ first ++ rest → IsBeforeTelling r h first
+    → IsTrue (are_fit z) → r.acts ≡ acts_then ++ later → part 0 acts_then ≡ before → part 0 later ≡ since ++ known → HasWaited since z.cpus → HasHeardFrom None h before → r.run.events ≡ first ++ rest
+    → IsBeforeTelling r h first
     → HasEndedSince z first rest (changes_in before)
 ended_since z s r before since known acts_then later h first rest fit are mine its waited heard cut_is few =
     let g = after (opening z) r.run.events in
-    let k = cut_at z r.run.seat g.seated r.acts acts_then later r.run.events first rest g fit r.owners (run_as_logged z s r) are cut_is (few_acts z s r h before acts_then later first are mine heard few) in
+    let k = cut_at z r.run.seat g.seated r.acts acts_then later r.run.events first rest g fit r.owners (run_as_logged z s r) are cut_is
+    (few_acts z s r h before acts_then later first are mine heard few) in
     let looks : List LogItem = part 0 k.since ++ since in
-    let later_is : k.later ≡ later = append_cancel_left (k.before ++ k.since) k.later later (append_assoc k.before k.since k.later ∙ (sym k.all ∙ (are ∙ ap (λ (l : List (ℕ × LogItem)). l ++ later) k.are))) in
+    let later_is : k.later ≡ later =
+    append_cancel_left (k.before ++ k.since) k.later later (append_assoc k.before k.since k.later ∙ (sym k.all ∙ (are ∙ ap (λ (l : List (ℕ × LogItem)). l ++ later) k.are))) in
     let own : part 0 (k.since ++ k.later) ≡ looks ++ known =
-    part_append 0 k.since k.later ∙ (ap (λ (l : List (ℕ × LogItem)). part 0 k.since ++ part 0 l) later_is ∙ (ap (λ (l : List LogItem). part 0 k.since ++ l) its ∙ sym (append_assoc (part 0 k.since) since known))) in
+    part_append 0 k.since k.later ∙ (ap (λ (l : List (ℕ × LogItem)). part 0 k.since ++ part 0 l) later_is
+    ∙ (ap (λ (l : List LogItem). part 0 k.since ++ l) its ∙ sym (append_assoc (part 0 k.since) since known))) in
     record {
       exits = λ c b lt is. (waited_for c (after (opening z) first) (k.since ++ k.later) rest g looks known k.run k.on own (seen_past c (part 0 k.since) since (waited c lt))).exits b is;
       changes = subst (λ (l : List LogItem). length (after (opening z) first).history ≤ changes_in l) mine k.changes;
     }
 
-have_ended : (z : Settings) (s : Table ℕ Logged) (i : ℕ) (l : Logged) (before since : List LogItem) → RunsAsLogged z s → get_elem? s.views i ≡ some l → l.known_log ≡ before ++ since → HasWaited since z.cpus → HaveEnded z s before since
+have_ended : (z : Settings) (s : Table ℕ Logged) (i : ℕ) (l : Logged) (before since : List LogItem) → RunsAsLogged z s → get_elem? s.views i ≡ some l → l.known_log ≡ before ++ since
+    → HasWaited since z.cpus → HaveEnded z s before since
 have_ended z s i l before since r at are waited =
     let run = r.run in
     let g = after (opening z) run.events in
@@ -282,7 +297,8 @@ have_ended z s i l before since r at are waited =
     let there : k.between ≡ after (opening z) k.earlier = follows_after (opening z) h.first k.earlier k.between k.before in
     let w : (c : ℕ) → c < z.cpus → WaitedFor c k.between h.second k.later g since = λ c lt. waited_for c k.between h.second k.later g since known.0 k.since on h.rest (waited c lt) in
     let own = own_first run.seat g.seated h.first h.second (subst (AreByOwn run.seat g.seated) h.are r.owners) in
-    let long : length k.between.history ≡ changes_in before = let n = counted run.seat g.seated (opening z) h.first k.earlier k.between k.before (opening_holds z fit) own in let same = ap changes_in h.mine in omega (arith, n, same) in
+    let long : length k.between.history ≡ changes_in before =
+    let n = counted run.seat g.seated (opening z) h.first k.earlier k.between k.before (opening_holds z fit) own in let same = ap changes_in h.mine in omega (arith, n, same) in
     let begun : (c b : ℕ) → begin_at g c ≡ Some b → changes_in before ≤ b = λ c b is.
     let late = (w c (within g c b z.cpus run.good.holds (ap (λ (a : Settings). a.cpus) run.settings) is)).begun b is in omega (arith, long, late) in
     record {
@@ -295,7 +311,8 @@ have_ended z s i l before since r at are waited =
       exits = λ c b lt is. subst (λ (q : State). HasExit q c k.later) there ((w c lt).exits b (ap (λ (q : State). begin_at q c) there ∙ is));
       each = λ c lt. ended_on z s r before since known.0 h.first h.second h.are h.mine k.earlier k.later k.between k.are k.size there c (w c lt);
       told = λ m first rest heard cut_is few. ended_since z s r before since known.0 h.first h.second m first rest fit h.are h.mine h.rest waited heard cut_is few;
-      heard = λ m k first rest heard had cut_is few. ended_since z s r before since known.0 h.first h.second m first rest fit h.are h.mine h.rest waited heard cut_is (before_heard z s r m k first had few);
+      heard = λ m k first rest heard had cut_is few. ended_since z s r before since known.0 h.first h.second m first rest fit h.are h.mine h.rest waited heard cut_is
+          (before_heard z s r m k first had few);
       begun = begun;
       none = λ i j p k x e keeper cpu ends le may.
           let shown = (run.shows.fits j (Cpu x) cpu).1 in

@@ -6,7 +6,8 @@ use Rattle.std.proofs.lemmas.Option.{none-some, same_Some}
 use Rattle.atomic_table.specs.Table.{State as Table}
 use Rattle.cpu_words.specs.Types.{Settings, Change, Attach, Detach, Slot, Vacant, Live, Retired, Event, Publish, Unpublish, Done}
 use Rattle.registry_values.specs.Common.{slot_at, slot_before, are_fit}
-use Rattle.protocol.specs.Common.{State, opening, row_at, at_rest, Outcome, guard, some_outcome, with_some, step, entry_of, unpublish, with_link_past, may_publish, after_publish, after_unpublish, Holds, empty_run, after}
+use Rattle.protocol.specs.Common.{State, opening, row_at, at_rest, Outcome, guard, some_outcome, with_some, step, entry_of, unpublish, with_link_past, may_publish, after_publish, after_unpublish}
+use Rattle.protocol.specs.Common.{Holds, empty_run, after}
 use Rattle.protocol.proofs.history.History.{length-after_change}
 use Rattle.protocol.proofs.keeps.Keeping.{step_holds}
 use Rattle.protocol.proofs.runs.Steps.{Sort, Refused, Left, Entered, Exited, Sought, Heard, Searched, Published, Unpublished, Kept, Gave_up, Vacated, step_sort}
@@ -29,7 +30,8 @@ grows_some s e None f grows = tt
 grows_some s e (Some y) f grows = grows y
 
 grows_publish : (s : State) (t : ℕ) → Grows s (Publish t) (step s (Publish t))
-grows_publish s t = grows_some s (Publish t) (entry_of t (row_at s.rows t)) _ (λ e. grows_guard s (Publish t) (may_publish s t e) (some_outcome (after_publish s t e) Done) (length-after_change s.history (Attach e)))
+grows_publish s t =
+    grows_some s (Publish t) (entry_of t (row_at s.rows t)) _ (λ e. grows_guard s (Publish t) (may_publish s t e) (some_outcome (after_publish s t e) Done) (length-after_change s.history (Attach e)))
 
 same_unlinked : (s : State) (t : ℕ) (p : Option ℕ) → (with_link_past s t p).history ≡ s.history
 same_unlinked s t None = refl
@@ -93,7 +95,8 @@ changes_off seat n i (Unpublish t) m is off = absurd (off is)
 changes_off seat n i e m is off = refl
 
 -- the keeper's part of the acts has all the changes
-pub counted : (seat : ℕ → ℕ) (n : ℕ) (s : State) (acts : List (ℕ × LogItem)) (es : List Event) (t : State) → Follows s acts es t → Holds s → AreByOwn seat n acts → length t.history ≡ changes_in (part 0 acts) + length s.history
+pub counted : (seat : ℕ → ℕ) (n : ℕ) (s : State) (acts : List (ℕ × LogItem)) (es : List Event) (t : State) → Follows s acts es t → Holds s → AreByOwn seat n acts
+    → length t.history ≡ changes_in (part 0 acts) + length s.history
 counted seat n s [] [] t is holds own = let size : length t.history ≡ length s.history = ap (λ (g : State). length g.history) is in omega arith
 counted seat n s [] (e ∷ es) t on holds own = absurd on
 counted seat n s (a ∷ more) [] t on holds own = absurd on
@@ -106,7 +109,8 @@ counted seat n s (a ∷ more) (e ∷ es) t on holds own =
     ap (λ n. c + n) grows ∙ (sym (moves_past e c (length s.history)) ∙ (λ k. (sym (unnamed_changes s e c) ∙ ap (λ (d : LogItem). changes_of d.event c) (sym on.2)) k + length s.history)) in
     ⊎_elim
     (λ (same : a.0 ≡ 0). rest ∙ (here ∙ sym (ap (λ (b : Bool). changes_in (cond b (a.1 ∷ part 0 more) (part 0 more)) + length s.history) (eq-eqb a.0 0 same))))
-    (λ (off : a.0 ≢ 0). rest ∙ (here ∙ ((λ k. changes_off seat n a.0 a.1.event c own.0 off k + length s.history) ∙ sym (ap (λ (b : Bool). changes_in (cond b (a.1 ∷ part 0 more) (part 0 more)) + length s.history) (ne_eqb a.0 0 off)))))
+    (λ (off : a.0 ≢ 0). rest ∙ (here ∙ ((λ k. changes_off seat n a.0 a.1.event c own.0 off k + length s.history)
+    ∙ sym (ap (λ (b : Bool). changes_in (cond b (a.1 ∷ part 0 more) (part 0 more)) + length s.history) (ne_eqb a.0 0 off)))))
     (cases_eq a.0 0)
 
 -- the run of a table under the rule

@@ -1,10 +1,15 @@
 -- What the keeper's log says of counts: which entry each slot has, and the count words that were collected for it, which are net counts.
-use Rattle.std.proofs.Common.{◌≡◌, ℕ, zero, suc, inr, ⊎_elim, ◌+◌, ◌<◌, nat_lt, ◌==◌, ◌&&◌, ◌-◌, Bool, true, false, not, if◌then◌else◌, List, [], ◌∷◌, ◌++◌, length, set, replicate, Option, Some, None, eq-eqb, ne_eqb, refl, sym, ap, ◌∙◌, subst, arith}
+use Rattle.std.proofs.Common.{◌≡◌, ℕ, zero, suc, inr, ⊎_elim, ◌+◌, ◌<◌, nat_lt, ◌==◌, ◌&&◌, ◌-◌, Bool, true, false, not, if◌then◌else◌, List, [], ◌∷◌, ◌++◌, length, set, replicate, Option, Some, None}
+use Rattle.std.proofs.Common.{eq-eqb, ne_eqb, refl, sym, ap, ◌∙◌, subst, arith}
 use Rattle.std.proofs.lemmas.Bool.{and_parts, cases_eq, eqb-true}
-use Rattle.cpu_words.specs.Types.{Entry, Mark, Settings, MOST_CPUS, Slot, Vacant, Live, Retired, Event, Seat, Enter, Exit, Seek, LoadLink, LoadRecord, StoreSlot, StoreNext, Publish, Unpublish, Tell, Hear, Snapshot, Look, PassiveAdd, PassiveSub, PassiveLook, CountAdd, SplitRef, JoinRef, CountDown, SplitBack, Collect, TotalAdd, JoinKeeper, TotalSub, Keep, KeptSub, Vacate, RecordOf, Passive, Local, Reply, Done, Word, Ref, Due, Rest, Snapshots, Adding, Subtracting, Hand, Empty, Taking, Giving, Back, Search, Loaded, On, Over}
+use Rattle.cpu_words.specs.Types.{Entry, Mark, Settings, MOST_CPUS, Slot, Vacant, Live, Retired, Event, Seat, Enter, Exit, Seek, LoadLink, LoadRecord, StoreSlot, StoreNext, Publish, Unpublish, Tell}
+use Rattle.cpu_words.specs.Types.{Hear, Snapshot, Look, PassiveAdd, PassiveSub, PassiveLook, CountAdd, SplitRef, JoinRef, CountDown, SplitBack, Collect, TotalAdd, JoinKeeper, TotalSub, Keep, KeptSub}
+use Rattle.cpu_words.specs.Types.{Vacate, RecordOf, Passive, Local, Reply, Done, Word, Ref, Due, Rest, Snapshots, Adding, Subtracting, Hand, Empty, Taking, Giving, Back, Search, Loaded, On, Over}
 use Rattle.registry_values.specs.Common.{bias, no_mark, mark_after_look, mark_after_passive_look, mark_after_collect, is_retired, is_taken, key_of, slot_at, slot_of, slot_before}
 use Rattle.protocol.specs.declared.event.RecordOf.TheVariants.{Search as OfSearch}
-use Rattle.protocol.specs.Common.{State, opening, with_cell, section_at, search_at, found_at, hand_at, row_at, mark_at, passive_at, count_at, kept_at, local_at, loaded_at, row_of_place, Outcome, guard, some_outcome, with_some, step, entry_of, snapshot_mark, may_write, may_publish, has_room, is_prepared, may_examine, is_drainable, is_drained, with_link_past, with_retired, Holds, IsCounting}
+use Rattle.protocol.specs.Common.{State, opening, with_cell, section_at, search_at, found_at, hand_at, row_at, mark_at, passive_at, count_at, kept_at, local_at, loaded_at, row_of_place, Outcome}
+use Rattle.protocol.specs.Common.{guard, some_outcome, with_some, step, entry_of, snapshot_mark, may_write, may_publish, has_room, is_prepared, may_examine, is_drainable, is_drained, with_link_past}
+use Rattle.protocol.specs.Common.{with_retired, Holds, IsCounting}
 use Rattle.protocol.specs.Events
 use Rattle.protocol.proofs.counts.Counts.{is_counting, not_both}
 use Rattle.protocol.proofs.keeps.CountKeeps.{hand_within, held_counting}
@@ -14,7 +19,8 @@ use Rattle.protocol.proofs.keeps.References.{snapshot_due_tells}
 use Rattle.protocol.proofs.keeps.Unlinking.{within_live, within_retired}
 use Rattle.protocol.proofs.slots.Cells.{by_cell, cell_cases, cell_here, cell_in_old, cell_other, get_or_all}
 use Rattle.protocol.proofs.slots.Occupied.{is_retired_tells, slot_cases, slot_has}
-use Rattle.cpu_words.specs.Common.{LogItem, Teller, by_number, reply_without_id, changes_of, changes_in, occupant_after, occupant_from, occupant, replied, word_after, word_from, word_collected, occupant_of, word_if, is_drawn, word_in, AreCountsOf, maker, IsSeatOf}
+use Rattle.cpu_words.specs.Common.{LogItem, Teller, by_number, reply_without_id, changes_of, changes_in, occupant_after, occupant_from, occupant, replied, word_after, word_from, word_collected}
+use Rattle.cpu_words.specs.Common.{occupant_of, word_if, is_drawn, word_in, AreCountsOf, maker, IsSeatOf}
 use Rattle.cpu_words.proofs.logs.Changes.{moves_past}
 use Rattle.cpu_words.proofs.logs.Marks.{fresh}
 use Rattle.cpu_words.proofs.logs.Runs.{item_of}
@@ -75,17 +81,20 @@ flag_cell marks t c m same u j = ⊎_elim
     (λ (old : mark_at (with_cell marks t c m) u j ≡ mark_at marks u j). ap (λ (x : Mark). x.collected) old)
     (cell_cases no_mark marks t c m u j)
 
-marked_word : (s n : State) (t c : ℕ) (m : Mark) → n.slots ≡ s.slots → n.nets ≡ s.nets → n.marks ≡ with_cell s.marks t c m → m.collected ≡ (mark_at s.marks t c).collected → (u d : ℕ) → word_in n u d ≡ word_in s u d
+marked_word : (s n : State) (t c : ℕ) (m : Mark) → n.slots ≡ s.slots → n.nets ≡ s.nets → n.marks ≡ with_cell s.marks t c m → m.collected ≡ (mark_at s.marks t c).collected → (u d : ℕ)
+    → word_in n u d ≡ word_in s u d
 marked_word s n t c m slots nets marks same u d =
     let flag = ap (λ (x : List (List Mark)). (mark_at x u d).collected) marks ∙ flag_cell s.marks t c m same u d in
     same_word s n u d (λ k. is_retired (slot_at (slots k) u) && flag k) (λ on. ap (λ (x : List (List ℕ)). count_at x d u) nets)
 
 -- Attach, detach, and the end of a slot's use
 
-other_slot : (s n : State) (t : ℕ) (u : ℕ) → slot_at n.slots u ≡ slot_at s.slots u → ((d : ℕ) → (mark_at n.marks u d).collected ≡ (mark_at s.marks u d).collected) → ((d : ℕ) → count_at n.nets d u ≡ count_at s.nets d u) → (d : ℕ) → word_in n u d ≡ word_in s u d
+other_slot : (s n : State) (t : ℕ) (u : ℕ) → slot_at n.slots u ≡ slot_at s.slots u → ((d : ℕ) → (mark_at n.marks u d).collected ≡ (mark_at s.marks u d).collected)
+    → ((d : ℕ) → count_at n.nets d u ≡ count_at s.nets d u) → (d : ℕ) → word_in n u d ≡ word_in s u d
 other_slot s n t u slot mark net d = let flag = mark d in same_word s n u d (λ k. is_retired (slot k) && flag k) (λ on. net d)
 
-retired_does : (s n : State) (t : ℕ) (e : Entry) → n.slots ≡ set s.slots t (Retired e) → n.marks ≡ set s.marks t (replicate MOST_CPUS no_mark) → n.nets ≡ s.nets → slot_at s.slots t ≡ Live e → Does s (Unpublish t) Done n
+retired_does : (s n : State) (t : ℕ) (e : Entry) → n.slots ≡ set s.slots t (Retired e) → n.marks ≡ set s.marks t (replicate MOST_CPUS no_mark) → n.nets ≡ s.nets → slot_at s.slots t ≡ Live e
+    → Does s (Unpublish t) Done n
 retired_does s n t e slots marks nets live =
     let lt = within_live s.slots t e live in (
       λ u. ap (λ (x : List Slot). occupant_of (slot_at x u)) slots ∙ ⊎_elim
@@ -94,7 +103,8 @@ retired_does s n t e slots marks nets live =
           (slot_cases s.slots t (Retired e) u lt),
       λ u d. ⊎_elim
           (λ (here : (u ≡ t) × (slot_at (set s.slots t (Retired e)) u ≡ Retired e)).
-          let new : mark_at n.marks u d ≡ no_mark = ap (λ (x : List (List Mark)). mark_at x u d) marks ∙ (ap (λ (k : ℕ). mark_at (set s.marks t (replicate MOST_CPUS no_mark)) k d) here.0 ∙ fresh s.marks t d) in
+          let new : mark_at n.marks u d ≡ no_mark =
+          ap (λ (x : List (List Mark)). mark_at x u d) marks ∙ (ap (λ (k : ℕ). mark_at (set s.marks t (replicate MOST_CPUS no_mark)) k d) here.0 ∙ fresh s.marks t d) in
           no_word n u d (undrawn_mark n u d (ap (λ (m : Mark). m.collected) new)) ∙ sym (no_word s u d (undrawn_slot s u d (ap is_retired (ap (slot_at s.slots) here.0 ∙ live)))))
           (λ (old : (u ≡ t → ⊥) × (slot_at (set s.slots t (Retired e)) u ≡ slot_at s.slots u)).
           other_slot s n t u (ap (λ (x : List Slot). slot_at x u) slots ∙ old.1)
@@ -137,13 +147,16 @@ vacated_does s n t on drained slots marks nets =
     let new = set s.slots t Vacant in (
       λ u. ap (λ (x : List Slot). occupant_of (slot_at x u)) slots ∙ ⊎_elim
           (λ (here : (u ≡ t) × (slot_at new u ≡ Vacant)). ap occupant_of here.1 ∙ sym (ap (λ (b : Bool). if b then None else occupant_of (slot_at s.slots u)) (eq-eqb t u (sym here.0))))
-          (λ (old : (u ≡ t → ⊥) × (slot_at new u ≡ slot_at s.slots u)). ap occupant_of old.1 ∙ sym (ap (λ (b : Bool). if b then None else occupant_of (slot_at s.slots u)) (ne_eqb t u (λ (same : t ≡ u). old.0 (sym same)))))
+          (λ (old : (u ≡ t → ⊥) × (slot_at new u ≡ slot_at s.slots u)). ap occupant_of old.1
+          ∙ sym (ap (λ (b : Bool). if b then None else occupant_of (slot_at s.slots u)) (ne_eqb t u (λ (same : t ≡ u). old.0 (sym same)))))
           (slot_cases s.slots t Vacant u lt),
       λ u d. ⊎_elim
           (λ (here : (u ≡ t) × (slot_at new u ≡ Vacant)).
-          no_word n u d (undrawn_slot n u d (ap (λ (x : List Slot). is_retired (slot_at x u)) slots ∙ ap is_retired here.1)) ∙ sym (ap (λ (b : Bool). if b then None else word_in s u d) (eq-eqb t u (sym here.0))))
+          no_word n u d (undrawn_slot n u d (ap (λ (x : List Slot). is_retired (slot_at x u)) slots ∙ ap is_retired here.1))
+          ∙ sym (ap (λ (b : Bool). if b then None else word_in s u d) (eq-eqb t u (sym here.0))))
           (λ (old : (u ≡ t → ⊥) × (slot_at new u ≡ slot_at s.slots u)).
-          other_slot s n t u (ap (λ (x : List Slot). slot_at x u) slots ∙ old.1) (λ j. ap (λ (x : List (List Mark)). (mark_at x u j).collected) marks) (λ j. ap (λ (x : List (List ℕ)). count_at x j u) nets) d
+          other_slot s n t u (ap (λ (x : List Slot). slot_at x u) slots ∙ old.1) (λ j. ap (λ (x : List (List Mark)). (mark_at x u j).collected) marks)
+          (λ j. ap (λ (x : List (List ℕ)). count_at x j u) nets) d
           ∙ sym (ap (λ (b : Bool). if b then None else word_in s u d) (ne_eqb t u (λ (same : t ≡ u). old.0 (sym same)))))
           (slot_cases s.slots t Vacant u lt),
     )
@@ -155,7 +168,8 @@ counted_word : (s n : State) (c t v : ℕ) → IsCounting s.slots s.marks c t �
 counted_word s n c t v counting slots marks nets u d =
     same_word s n u d (λ k. is_retired (slot_at (slots k) u) && (mark_at (marks k) u d).collected) (λ drawn. ap (λ (x : List (List ℕ)). count_at x d u) nets ∙ ⊎_elim
     (λ (p : (u ≡ t) × (d ≡ c) × (count_at (with_cell s.nets t c v) d u ≡ v)).
-    let parts = and_parts (is_retired (slot_at s.slots t)) (mark_at s.marks t c).collected ((λ k. is_retired (slot_at s.slots (sym p.0 k)) && (mark_at s.marks (sym p.0 k) (sym p.1 k)).collected) ∙ drawn) in
+    let parts = and_parts (is_retired (slot_at s.slots t)) (mark_at s.marks t c).collected
+    ((λ k. is_retired (slot_at s.slots (sym p.0 k)) && (mark_at s.marks (sym p.0 k) (sym p.1 k)).collected) ∙ drawn) in
     let gone = is_retired_tells (slot_at s.slots t) parts.0 in
     absurd (not_both s.slots s.marks c t gone.0 counting gone.1 parts.1))
     (λ (old : count_at (with_cell s.nets t c v) d u ≡ count_at s.nets d u). old)
@@ -210,7 +224,8 @@ outcome_counted s c q (Some (Over e)) = (λ u. refl, λ u d. refl)
 record_counted : (s : State) (of : RecordOf) → Counted s (LoadRecord of) (Events.load_record s of)
 record_counted s (OfSearch c) = on_some s (LoadRecord (OfSearch c)) (search_at s c) _ (λ q at. outcome_counted s c q (loaded_at q q.place (row_of_place s.rows q.place)))
 record_counted s (Passive c n k) = on_some s (LoadRecord (Passive c n k)) (slot_of s.slots n) _ (λ t of. on_made s (LoadRecord (Passive c n k)) _ _ _ (λ may. (λ u. refl, λ u d. refl)))
-record_counted s (Local id k) = on_some s (LoadRecord (Local id k)) (Events.number_standing (local_at s.locals id)) _ (λ n of. on_some s (LoadRecord (Local id k)) (slot_of s.slots n) _ (λ t of. on_made s (LoadRecord (Local id k)) _ _ _ (λ may. (λ u. refl, λ u d. refl))))
+record_counted s (Local id k) = on_some s (LoadRecord (Local id k)) (Events.number_standing (local_at s.locals id)) _
+    (λ n of. on_some s (LoadRecord (Local id k)) (slot_of s.slots n) _ (λ t of. on_made s (LoadRecord (Local id k)) _ _ _ (λ may. (λ u. refl, λ u d. refl))))
 
 tell_counted : (s : State) (to : Option ℕ) → Counted s (Tell to) (Events.tell s to)
 tell_counted s None = on_made s (Tell None) _ _ _ (λ may. (λ u. refl, λ u d. refl))
@@ -222,11 +237,13 @@ hear_counted s (Some c) = on_made s (Hear (Some c)) _ _ _ (λ may. (λ u. refl, 
 
 snapshot_step_counted : (s : State) (to : Option ℕ) (c : ℕ) → Holds s → Counted s (Snapshot to c) (Events.snapshot s to c)
 snapshot_step_counted s None c on = on_made s (Snapshot None c) _ _ _ (λ may. (λ u. refl, λ u d. refl))
-snapshot_step_counted s (Some t) c on = on_made s (Snapshot (Some t) c) _ _ _ (λ may. (λ u. refl, marked_word s (Events.after_snapshot s t c) t c (snapshot_mark (section_at s c)) refl refl refl (sym (on.balance.fresh c t c (snapshot_due_tells s.due t c may)))))
+snapshot_step_counted s (Some t) c on = on_made s (Snapshot (Some t) c) _ _ _
+    (λ may. (λ u. refl, marked_word s (Events.after_snapshot s t c) t c (snapshot_mark (section_at s c)) refl refl refl (sym (on.balance.fresh c t c (snapshot_due_tells s.due t c may)))))
 
 look_step_counted : (s : State) (to : Option ℕ) (c : ℕ) → Counted s (Look to c) (Events.look s to c)
 look_step_counted s None c = on_made s (Look None c) _ _ _ (λ may. (λ u. refl, λ u d. refl))
-look_step_counted s (Some t) c = on_made s (Look (Some t) c) _ _ _ (λ may. (λ u. refl, marked_word s (Events.after_look s t c) t c (mark_after_look (mark_at s.marks t c) (section_at s c)) refl refl refl refl))
+look_step_counted s (Some t) c =
+    on_made s (Look (Some t) c) _ _ _ (λ may. (λ u. refl, marked_word s (Events.after_look s t c) t c (mark_after_look (mark_at s.marks t c) (section_at s c)) refl refl refl refl))
 
 unlinked_counted : (s : State) (t : ℕ) (e : Entry) (p : Option ℕ) → slot_at s.slots t ≡ Live e → Does s (Unpublish t) Done (with_retired (with_link_past s t p) t e)
 unlinked_counted s t e None live = retired_does s (with_retired (with_link_past s t None) t e) t e refl refl refl live
@@ -296,7 +313,8 @@ step_counted s (Snapshot to c) on = snapshot_step_counted s to c on
 step_counted s (Look to c) on = look_step_counted s to c
 step_counted s (PassiveAdd c n) on = on_some s (PassiveAdd c n) (slot_of s.slots n) _ (λ t of. on_made s (PassiveAdd c n) _ _ _ (λ may. (λ u. refl, λ u d. refl)))
 step_counted s (PassiveSub c n) on = on_some s (PassiveSub c n) (slot_of s.slots n) _ (λ t of. on_made s (PassiveSub c n) _ _ _ (λ may. (λ u. refl, λ u d. refl)))
-step_counted s (PassiveLook t c) on = on_made s (PassiveLook t c) _ _ _ (λ may. (λ u. refl, marked_word s (Events.after_look_passive s t c) t c (mark_after_passive_look (mark_at s.marks t c) (passive_at s.passive c t)) refl refl refl refl))
+step_counted s (PassiveLook t c) on = on_made s (PassiveLook t c) _ _ _
+    (λ may. (λ u. refl, marked_word s (Events.after_look_passive s t c) t c (mark_after_passive_look (mark_at s.marks t c) (passive_at s.passive c t)) refl refl refl refl))
 step_counted s (CountAdd c) on = on_some s (CountAdd c) (found_at s c) _ (λ e found. on_some s (CountAdd c) (slot_of s.slots e.number) _ (λ t of. on_made s (CountAdd c) _ _ _
     (λ may. (λ u. refl, counted_word s (Events.after_count_add s c e.number t) c t (count_at s.nets c t + 1) (held_counting s c t e on found of).1 refl refl refl))))
 step_counted s (SplitRef c) on = split_counted s c (hand_at s c)
@@ -305,10 +323,13 @@ step_counted s (CountDown c) on = down_counted s c (hand_at s c) on refl
 step_counted s (SplitBack c) on = back_counted s c (hand_at s c)
 step_counted s (Collect t c) on = on_made s (Collect t c) (Events.may_collect s t c) _ _ (λ may. collected_does s t c on may)
 step_counted s (TotalAdd t) on = added_counted s t s.due
-step_counted s (JoinKeeper id) on = on_some s (JoinKeeper id) (Events.number_standing (local_at s.locals id)) _ (λ n of. on_some s (JoinKeeper id) (slot_of s.slots n) _ (λ t of. on_made s (JoinKeeper id) _ _ _ (λ may. (λ u. refl, λ u d. refl))))
+step_counted s (JoinKeeper id) on = on_some s (JoinKeeper id) (Events.number_standing (local_at s.locals id)) _
+    (λ n of. on_some s (JoinKeeper id) (slot_of s.slots n) _ (λ t of. on_made s (JoinKeeper id) _ _ _ (λ may. (λ u. refl, λ u d. refl))))
 step_counted s (TotalSub t) on = subtracted_counted s t s.due
-step_counted s (Keep t id) on = on_some s (Keep t id) (Events.number_standing (local_at s.locals id)) _ (λ n of. on_some s (Keep t id) (slot_of s.slots n) _ (λ u of. on_made s (Keep t id) _ _ _ (λ may. (λ u. refl, λ u d. refl))))
-step_counted s (KeptSub t) on = on_some s (KeptSub t) (kept_at s.keeps t) _ (λ d keeps. on_some s (KeptSub t) (slot_of s.slots d) _ (λ u of. on_made s (KeptSub t) (Events.is_iface_slot (slot_at s.slots t) && is_drained s t) _ _
+step_counted s (Keep t id) on = on_some s (Keep t id) (Events.number_standing (local_at s.locals id)) _
+    (λ n of. on_some s (Keep t id) (slot_of s.slots n) _ (λ u of. on_made s (Keep t id) _ _ _ (λ may. (λ u. refl, λ u d. refl))))
+step_counted s (KeptSub t) on =
+    on_some s (KeptSub t) (kept_at s.keeps t) _ (λ d keeps. on_some s (KeptSub t) (slot_of s.slots d) _ (λ u of. on_made s (KeptSub t) (Events.is_iface_slot (slot_at s.slots t) && is_drained s t) _ _
     (λ may. vacated_does s (Events.after_kept_sub s t u) t on (and_parts (Events.is_iface_slot (slot_at s.slots t)) (is_drained s t) may).1 refl refl refl)))
 step_counted s (Vacate t) on = on_made s (Vacate t) (Events.may_vacate s t) _ _ (λ may. vacated_does s (Events.after_vacate s t) t on (and_parts _ (is_drained s t) may).1 refl refl refl)
 
@@ -329,7 +350,8 @@ unnamed_word u d s e r x = refl
 occupant_both : (t n : ℕ) (x : Option ℕ) (a b : List LogItem) → occupant_from t n x (a ++ b) ≡ occupant_from t (changes_in a + n) (occupant_from t n x a) b
 occupant_both t n x [] b = let same : n ≡ 0 + n = omega arith in ap (λ (m : ℕ). occupant_from t m x b) same
 occupant_both t n x (d ∷ ds) b =
-    occupant_both t (changes_of d.event n) (occupant_after t n d.event x) ds b ∙ ap (λ (m : ℕ). occupant_from t m (occupant_from t (changes_of d.event n) (occupant_after t n d.event x) ds) b) (sym (moves_past d.event (changes_in ds) n))
+    occupant_both t (changes_of d.event n) (occupant_after t n d.event x) ds b
+    ∙ ap (λ (m : ℕ). occupant_from t m (occupant_from t (changes_of d.event n) (occupant_after t n d.event x) ds) b) (sym (moves_past d.event (changes_in ds) n))
 
 occupant_last : (t : ℕ) (log : List LogItem) (d : LogItem) → occupant t (log ++ d ∷ []) ≡ occupant_after t (changes_in log) d.event (occupant t log)
 occupant_last t log d = let same : changes_in log + 0 ≡ changes_in log = omega arith in occupant_both t 0 None log (d ∷ []) ∙ ap (λ (m : ℕ). occupant_after t m d.event (occupant t log)) same
@@ -340,7 +362,8 @@ word_both t c x (d ∷ ds) b = word_both t c (word_after t c d.event d.reply x) 
 
 -- by the keeper's next item
 
-pub occupant_next : (t : ℕ) (log : List LogItem) (s : State) (e : Event) (r : Reply) (h : Option Teller) → occupant t (log ++ item_of s e r h ∷ []) ≡ occupant_after t (changes_in log) e (occupant t log)
+pub occupant_next : (t : ℕ) (log : List LogItem) (s : State) (e : Event) (r : Reply) (h : Option Teller)
+    → occupant t (log ++ item_of s e r h ∷ []) ≡ occupant_after t (changes_in log) e (occupant t log)
 occupant_next t log s e r h = occupant_last t log (item_of s e r h) ∙ unnamed_occupant t (changes_in log) s e (occupant t log)
 
 pub word_next : (t c : ℕ) (log : List LogItem) (s : State) (e : Event) (r : Reply) (h : Option Teller) → word_collected t c (log ++ item_of s e r h ∷ []) ≡ word_after t c e r (word_collected t c log)
@@ -349,7 +372,8 @@ word_next t c log s e r h = word_both t c None log (item_of s e r h ∷ []) ∙ 
 -- The walk
 
 -- the keeper's next item
-pub counts_own : (log : List LogItem) (s : State) (e : Event) (o : Outcome) (h : Option Teller) → Holds s → step s e ≡ Some o → length s.history ≡ changes_in log → AreCountsOf log s → AreCountsOf (log ++ item_of s e o.reply h ∷ []) o.state
+pub counts_own : (log : List LogItem) (s : State) (e : Event) (o : Outcome) (h : Option Teller) → Holds s → step s e ≡ Some o → length s.history ≡ changes_in log → AreCountsOf log s
+    → AreCountsOf (log ++ item_of s e o.reply h ∷ []) o.state
 counts_own log s e o h on made changes are =
     let does : Counted s e (Some o) = subst (Counted s e) made (step_counted s e on) in record {
       occupants = λ t. occupant_next t log s e o.reply h ∙ ((λ k. occupant_after t (sym changes k) e (are.occupants t k)) ∙ sym (does.0 t));
@@ -369,7 +393,8 @@ word_off seat n i u d s (Vacate t) r x is off = absurd (off is)
 word_off seat n i u d s e r x is off = refl
 
 -- an event of another seat
-pub counts_off : (seat : ℕ → ℕ) (n i : ℕ) (log : List LogItem) (s : State) (e : Event) (o : Outcome) → IsSeatOf seat n i (maker (by_number s e)) → (i ≡ 0 → ⊥) → Holds s → step s e ≡ Some o → AreCountsOf log s → AreCountsOf log o.state
+pub counts_off : (seat : ℕ → ℕ) (n i : ℕ) (log : List LogItem) (s : State) (e : Event) (o : Outcome) → IsSeatOf seat n i (maker (by_number s e)) → (i ≡ 0 → ⊥) → Holds s → step s e ≡ Some o
+    → AreCountsOf log s → AreCountsOf log o.state
 counts_off seat n i log s e o is off on made are =
     let does : Counted s e (Some o) = subst (Counted s e) made (step_counted s e on) in record {
       occupants = λ t. are.occupants t ∙ sym (does.0 t ∙ occupant_off seat n i t (length s.history) s e (occupant_of (slot_at s.slots t)) is off);

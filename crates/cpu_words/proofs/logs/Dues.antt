@@ -1,10 +1,13 @@
 -- What is due: after which events snapshots are, what becomes of the totals, and that all settings stay.
 use Rattle.std.proofs.Common.{◌≡◌, ℕ, zero, suc, nat_lt, ◌+◌, ◌==◌, ◌&&◌, ◌-◌, Bool, true, false, if◌then◌else◌, set, Option, Some, None, refl, ap, ◌∙◌}
 use Rattle.std.proofs.lemmas.Bool.{and_parts, eqb-true}
-use Rattle.cpu_words.specs.Types.{Entry, Slot, Vacant, Live, Retired, Event, Seat, Enter, Exit, Seek, LoadLink, LoadRecord, StoreSlot, StoreNext, Publish, Unpublish, Tell, Hear, Snapshot, Look, PassiveAdd, PassiveSub, PassiveLook, CountAdd, SplitRef, JoinRef, CountDown, SplitBack, Collect, TotalAdd, JoinKeeper, TotalSub, Keep, KeptSub, Vacate, RecordOf, Passive, Local, Reply, Done, Word, Due, Rest, Snapshots, Adding, Subtracting, Hand, Empty, Taking, Giving, Back, Search, Loaded, On, Over}
+use Rattle.cpu_words.specs.Types.{Entry, Slot, Vacant, Live, Retired, Event, Seat, Enter, Exit, Seek, LoadLink, LoadRecord, StoreSlot, StoreNext, Publish, Unpublish, Tell, Hear, Snapshot, Look}
+use Rattle.cpu_words.specs.Types.{PassiveAdd, PassiveSub, PassiveLook, CountAdd, SplitRef, JoinRef, CountDown, SplitBack, Collect, TotalAdd, JoinKeeper, TotalSub, Keep, KeptSub, Vacate, RecordOf}
+use Rattle.cpu_words.specs.Types.{Passive, Local, Reply, Done, Word, Due, Rest, Snapshots, Adding, Subtracting, Hand, Empty, Taking, Giving, Back, Search, Loaded, On, Over}
 use Rattle.registry_values.specs.Common.{bias, slot_at, slot_of, slot_before}
 use Rattle.protocol.specs.declared.event.RecordOf.TheVariants.{Search as OfSearch}
-use Rattle.protocol.specs.Common.{State, search_at, found_at, hand_at, row_at, count_at, total_at, kept_at, local_at, at_rest, loaded_at, row_of_place, Outcome, guard, some_outcome, with_some, step, entry_of, due_after, is_snapshot_due, may_publish, may_collect, may_join_keeper, is_drained}
+use Rattle.protocol.specs.Common.{State, search_at, found_at, hand_at, row_at, count_at, total_at, kept_at, local_at, at_rest, loaded_at, row_of_place, Outcome, guard, some_outcome, with_some, step}
+use Rattle.protocol.specs.Common.{entry_of, due_after, is_snapshot_due, may_publish, may_collect, may_join_keeper, is_drained}
 use Rattle.protocol.specs.Events
 
 -- what an event makes due: after a detach the snapshots of all CPUs, after one of them the next; each other event makes no snapshot due
@@ -25,8 +28,10 @@ TotalsAfter s (Snapshot (Some t) c) o = o.state.totals ≡ s.totals
 TotalsAfter s (Collect t c) o = (may_collect s t c ≡ true) × (o.reply ≡ Word (count_at s.counts c t)) × (o.state.totals ≡ s.totals) × (o.state.due ≡ Adding t (count_at s.counts c t))
 TotalsAfter s (TotalAdd t) o = (old : ℕ) × (s.due ≡ Adding t old) × (o.state.totals ≡ set s.totals t (total_at s.totals t + old - bias)) × (o.state.due ≡ Rest)
 TotalsAfter s (TotalSub t) o = (s.due ≡ Subtracting t) × (o.state.totals ≡ set s.totals t (total_at s.totals t - 1)) × (o.state.due ≡ Rest)
-TotalsAfter s (JoinKeeper id) o = (n : ℕ) × (t : ℕ) × (Events.number_standing (local_at s.locals id) ≡ Some n) × (slot_of s.slots n ≡ Some t) × (may_join_keeper s t ≡ true) × (o.state.totals ≡ s.totals) × (o.state.due ≡ Subtracting t)
-TotalsAfter s (KeptSub t) o = (d : ℕ) × (u : ℕ) × (kept_at s.keeps t ≡ Some d) × (slot_of s.slots d ≡ Some u) × (is_drained s t ≡ true) × (o.state.totals ≡ set s.totals u (total_at s.totals u - 1)) × (o.state.due ≡ s.due)
+TotalsAfter s (JoinKeeper id) o = (n : ℕ) × (t : ℕ) × (Events.number_standing (local_at s.locals id) ≡ Some n) × (slot_of s.slots n ≡ Some t) × (may_join_keeper s t ≡ true)
+    × (o.state.totals ≡ s.totals) × (o.state.due ≡ Subtracting t)
+TotalsAfter s (KeptSub t) o =
+    (d : ℕ) × (u : ℕ) × (kept_at s.keeps t ≡ Some d) × (slot_of s.slots d ≡ Some u) × (is_drained s t ≡ true) × (o.state.totals ≡ set s.totals u (total_at s.totals u - 1)) × (o.state.due ≡ s.due)
 TotalsAfter s e o = SameTotals s o.state
 
 abbrev pub Dues : State → Event → Option Outcome → Type 0
@@ -34,7 +39,8 @@ Dues s e None = Unit {0}
 Dues s e (Some o) = (o.state.settings ≡ s.settings) × DueAfter s e o.state × TotalsAfter s e o
 
 -- it may be made, and leads to t
-on_made : (s : State) (e : Event) (b : Bool) (t : State) (r : Reply) → t.settings ≡ s.settings → (b ≡ true → DueAfter s e t) → (b ≡ true → TotalsAfter s e (record { state = t; reply = r })) → Dues s e (guard b (some_outcome t r))
+on_made : (s : State) (e : Event) (b : Bool) (t : State) (r : Reply) → t.settings ≡ s.settings → (b ≡ true → DueAfter s e t) → (b ≡ true → TotalsAfter s e (record { state = t; reply = r }))
+    → Dues s e (guard b (some_outcome t r))
 on_made s e true t r settings due totals = (settings, due refl, totals refl)
 on_made s e false t r settings due totals = tt
 
@@ -67,7 +73,8 @@ outcome_dues s c q (Some (Over e)) = (refl, λ u d is. is, (refl, refl))
 record_dues : (s : State) (of : RecordOf) → Dues s (LoadRecord of) (Events.load_record s of)
 record_dues s (OfSearch c) = on_some s (LoadRecord (OfSearch c)) (search_at s c) _ (λ q of. outcome_dues s c q (loaded_at q q.place (row_of_place s.rows q.place)))
 record_dues s (Passive c n k) = on_some s (LoadRecord (Passive c n k)) (slot_of s.slots n) _ (λ t of. on_made s (LoadRecord (Passive c n k)) _ _ _ refl (λ may u d is. is) (λ may. (refl, refl)))
-record_dues s (Local id k) = on_some s (LoadRecord (Local id k)) (Events.number_standing (local_at s.locals id)) _ (λ n of. on_some s (LoadRecord (Local id k)) (slot_of s.slots n) _ (λ t of. on_made s (LoadRecord (Local id k)) _ _ _ refl (λ may u d is. is) (λ may. (refl, refl))))
+record_dues s (Local id k) = on_some s (LoadRecord (Local id k)) (Events.number_standing (local_at s.locals id)) _
+    (λ n of. on_some s (LoadRecord (Local id k)) (slot_of s.slots n) _ (λ t of. on_made s (LoadRecord (Local id k)) _ _ _ refl (λ may u d is. is) (λ may. (refl, refl))))
 
 tell_dues : (s : State) (to : Option ℕ) → Dues s (Tell to) (Events.tell s to)
 tell_dues s None = on_made s (Tell None) _ _ _ refl (λ may u d is. is) (λ may. (refl, refl))
@@ -95,7 +102,8 @@ unlinked_totals s t (Some p) = refl
 
 unpublish_dues : (s : State) (t : ℕ) (x : Slot) → Dues s (Unpublish t) (Events.unpublish s t x)
 unpublish_dues s t Vacant = tt
-unpublish_dues s t (Live e) = on_made s (Unpublish t) (at_rest s.due) _ _ (unlinked_dues s t (slot_before s.slots s.next t)) (λ may. refl) (λ may. (may, unlinked_totals s t (slot_before s.slots s.next t)))
+unpublish_dues s t (Live e) =
+    on_made s (Unpublish t) (at_rest s.due) _ _ (unlinked_dues s t (slot_before s.slots s.next t)) (λ may. refl) (λ may. (may, unlinked_totals s t (slot_before s.slots s.next t)))
 unpublish_dues s t (Retired e) = tt
 
 split_dues : (s : State) (c : ℕ) (h : Hand) → Dues s (SplitRef c) (Events.split_ref s c h)
@@ -119,14 +127,16 @@ back_dues s c (Back n id) = (refl, λ u d is. is, (refl, refl))
 added_dues : (s : State) (t : ℕ) (due : Due) → s.due ≡ due → Dues s (TotalAdd t) (Events.total_add s t due)
 added_dues s t Rest at = tt
 added_dues s t (Snapshots u c) at = tt
-added_dues s t (Adding u old) at = on_made s (TotalAdd t) (u == t) _ _ refl (λ may v d is. absurd (let q : Rest ≡ Snapshots v d = is in cc)) (λ may. (old, at ∙ ap (λ (v : ℕ). Adding v old) (eqb-true u t may), refl, refl))
+added_dues s t (Adding u old) at =
+    on_made s (TotalAdd t) (u == t) _ _ refl (λ may v d is. absurd (let q : Rest ≡ Snapshots v d = is in cc)) (λ may. (old, at ∙ ap (λ (v : ℕ). Adding v old) (eqb-true u t may), refl, refl))
 added_dues s t (Subtracting u) at = tt
 
 subtracted_dues : (s : State) (t : ℕ) (due : Due) → s.due ≡ due → Dues s (TotalSub t) (Events.total_sub s t due)
 subtracted_dues s t Rest at = tt
 subtracted_dues s t (Snapshots u c) at = tt
 subtracted_dues s t (Adding u old) at = tt
-subtracted_dues s t (Subtracting u) at = on_made s (TotalSub t) (u == t) _ _ refl (λ may v d is. absurd (let q : Rest ≡ Snapshots v d = is in cc)) (λ may. (at ∙ ap (λ (v : ℕ). Subtracting v) (eqb-true u t may), refl, refl))
+subtracted_dues s t (Subtracting u) at =
+    on_made s (TotalSub t) (u == t) _ _ refl (λ may v d is. absurd (let q : Rest ≡ Snapshots v d = is in cc)) (λ may. (at ∙ ap (λ (v : ℕ). Subtracting v) (eqb-true u t may), refl, refl))
 
 store_dues : (s : State) (t k v : ℕ) → Dues s (StoreSlot t k v) (Events.store_slot s t k v)
 store_dues s t k v = on_if s (StoreSlot t k v) (nat_lt k 5) (guard (Events.may_write s t) (some_outcome (Events.after_row_store s t k v) Done))
@@ -152,16 +162,22 @@ step_dues s (Look to c) = look_step_dues s to c
 step_dues s (PassiveAdd c n) = on_some s (PassiveAdd c n) (slot_of s.slots n) _ (λ t of. on_made s (PassiveAdd c n) _ _ _ refl (λ may u d is. is) (λ may. (refl, refl)))
 step_dues s (PassiveSub c n) = on_some s (PassiveSub c n) (slot_of s.slots n) _ (λ t of. on_made s (PassiveSub c n) _ _ _ refl (λ may u d is. is) (λ may. (refl, refl)))
 step_dues s (PassiveLook t c) = on_made s (PassiveLook t c) _ _ _ refl (λ may u d is. is) (λ may. (refl, refl))
-step_dues s (CountAdd c) = on_some s (CountAdd c) (found_at s c) _ (λ e of. on_some s (CountAdd c) (slot_of s.slots e.number) _ (λ t of. on_made s (CountAdd c) _ _ _ refl (λ may u d is. is) (λ may. (refl, refl))))
+step_dues s (CountAdd c) =
+    on_some s (CountAdd c) (found_at s c) _ (λ e of. on_some s (CountAdd c) (slot_of s.slots e.number) _ (λ t of. on_made s (CountAdd c) _ _ _ refl (λ may u d is. is) (λ may. (refl, refl))))
 step_dues s (SplitRef c) = split_dues s c (hand_at s c)
 step_dues s (JoinRef c id) = on_some s (JoinRef c id) (Events.number_standing (local_at s.locals id)) _ (λ n of. on_made s (JoinRef c id) _ _ _ refl (λ may u d is. is) (λ may. (refl, refl)))
 step_dues s (CountDown c) = down_dues s c (hand_at s c)
 step_dues s (SplitBack c) = back_dues s c (hand_at s c)
-step_dues s (Collect t c) = on_made s (Collect t c) (may_collect s t c) _ _ refl (λ may u d is. absurd (let q : Adding t (count_at s.counts c t) ≡ Snapshots u d = is in cc)) (λ may. (may, refl, refl, refl))
+step_dues s (Collect t c) =
+    on_made s (Collect t c) (may_collect s t c) _ _ refl (λ may u d is. absurd (let q : Adding t (count_at s.counts c t) ≡ Snapshots u d = is in cc)) (λ may. (may, refl, refl, refl))
 step_dues s (TotalAdd t) = added_dues s t s.due refl
-step_dues s (JoinKeeper id) = on_some s (JoinKeeper id) (Events.number_standing (local_at s.locals id)) _ (λ n at. on_some s (JoinKeeper id) (slot_of s.slots n) _ (λ t of. on_made s (JoinKeeper id) (may_join_keeper s t) _ _ refl (λ may u d is. absurd (let q : Subtracting t ≡ Snapshots u d = is in cc)) (λ may. (n, t, at, of, may, refl, refl))))
+step_dues s (JoinKeeper id) = on_some s (JoinKeeper id) (Events.number_standing (local_at s.locals id)) _
+    (λ n at. on_some s (JoinKeeper id) (slot_of s.slots n) _ (λ t of. on_made s (JoinKeeper id) (may_join_keeper s t) _ _ refl (λ may u d is. absurd (let q : Subtracting t ≡ Snapshots u d = is in cc))
+    (λ may. (n, t, at, of, may, refl, refl))))
 step_dues s (TotalSub t) = subtracted_dues s t s.due refl
-step_dues s (Keep t id) = on_some s (Keep t id) (Events.number_standing (local_at s.locals id)) _ (λ n of. on_some s (Keep t id) (slot_of s.slots n) _ (λ u of. on_made s (Keep t id) _ _ _ refl (λ may u d is. is) (λ may. (refl, refl))))
-step_dues s (KeptSub t) = on_some s (KeptSub t) (kept_at s.keeps t) _ (λ d keeps. on_some s (KeptSub t) (slot_of s.slots d) _ (λ u of. on_made s (KeptSub t) (Events.is_iface_slot (slot_at s.slots t) && is_drained s t) _ _ refl (λ may v c is. is)
+step_dues s (Keep t id) = on_some s (Keep t id) (Events.number_standing (local_at s.locals id)) _
+    (λ n of. on_some s (Keep t id) (slot_of s.slots n) _ (λ u of. on_made s (Keep t id) _ _ _ refl (λ may u d is. is) (λ may. (refl, refl))))
+step_dues s (KeptSub t) = on_some s (KeptSub t) (kept_at s.keeps t) _
+    (λ d keeps. on_some s (KeptSub t) (slot_of s.slots d) _ (λ u of. on_made s (KeptSub t) (Events.is_iface_slot (slot_at s.slots t) && is_drained s t) _ _ refl (λ may v c is. is)
     (λ may. (d, u, keeps, of, (and_parts (Events.is_iface_slot (slot_at s.slots t)) (is_drained s t) may).1, refl, refl))))
 step_dues s (Vacate t) = on_made s (Vacate t) _ _ _ refl (λ may u d is. is) (λ may. (refl, refl))

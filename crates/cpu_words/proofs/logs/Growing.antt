@@ -44,7 +44,8 @@ grow_apart log a b c v w d e grow are first second found later =
     grow c v w d e first.before (first.after ++ second.before) second.after whole found later
 
 -- The snapshot of c for the slot t was taken before the wait, and c was seen out of its section in it: no look after the wait finds the word of that snapshot odd.
-pub no_open : (t c old w : ℕ) (log before since more : List LogItem) → WordsGrow log → log ≡ before ++ (since ++ more) → IsSnapped t c old before → IsSeenOut c since → StandsIn (has_looked t c w) more → w ≡ old → (w % 2 ≡ 1) → ⊥
+pub no_open : (t c old w : ℕ) (log before since more : List LogItem) → WordsGrow log → log ≡ before ++ (since ++ more) → IsSnapped t c old before → IsSeenOut c since → StandsIn (has_looked t c w) more
+    → w ≡ old → (w % 2 ≡ 1) → ⊥
 no_open t c old w log before since more grow are snapped seen looked same odd =
     let taken : LogItem = has_taken c seen.old in
     let found : LogItem = has_found c seen.new in

@@ -1,5 +1,6 @@
 -- What the keeper's log says of kept drivers.
-use Rattle.std.proofs.Common.{◌≡◌, ◌≢◌, ⊎_elim, ℕ, ◌<◌, ◌==◌, ◌&&◌, Bool, true, false, if◌then◌else◌, List, [], ◌∷◌, ◌++◌, length, set, Option, Some, None, get_or-set_same, get_or-set_other, eq-eqb, ne_eqb, refl, sym, ap, ◌∙◌, subst, arith}
+use Rattle.std.proofs.Common.{◌≡◌, ◌≢◌, ⊎_elim, ℕ, ◌<◌, ◌==◌, ◌&&◌, Bool, true, false, if◌then◌else◌, List, [], ◌∷◌, ◌++◌, length, set, Option, Some, None, get_or-set_same, get_or-set_other, eq-eqb}
+use Rattle.std.proofs.Common.{ne_eqb, refl, sym, ap, ◌∙◌, subst, arith}
 use Rattle.std.proofs.lemmas.Bool.{and_parts, cases_eq}
 use Rattle.std.proofs.lemmas.Option.{none-some, same_Some}
 use Rattle.cpu_words.specs.Types.{Event, Keep, KeptSub, Done}
@@ -65,7 +66,8 @@ written keeps u t x lt = ⊎_elim
     (cases_eq u t)
 
 pub keeps_on : (t : ℕ) (s : State) (e : Event) (o : Outcome) → Holds s → step s e ≡ Some o → KeepsOn t s e (Some o)
-keeps_on t s (Keep u id) o on made = subst (KeepsOn t s (Keep u id)) made (on_some t s (Keep u id) (Events.number_standing (local_at s.locals id)) _ (λ n at. on_some t s (Keep u id) (slot_of s.slots n) _ (λ v of.
+keeps_on t s (Keep u id) o on made =
+    subst (KeepsOn t s (Keep u id)) made (on_some t s (Keep u id) (Events.number_standing (local_at s.locals id)) _ (λ n at. on_some t s (Keep u id) (slot_of s.slots n) _ (λ v of.
     on_guard t s (Keep u id) (may_keep s u v) (some_outcome (after_keep s u id n) Done) (λ may.
     let told = may_write_tells s u on.shape (and_parts (may_write s u) _ may).0 in
     written s.keeps u t (Some n) (omega (arith, told.0, on.shape.slots, on.shape.keeps)) ∙ ap (λ (x : Option ℕ). if u == t then Some (number_or_none x) else kept_at s.keeps t) (sym at)))))
@@ -75,7 +77,8 @@ keeps_on t s e o on made = ap (λ (k : List (Option ℕ)). kept_at k t) (kept_le
 
 -- The keeper's next item, and one of another seat
 
-pub kept_own : (log : List LogItem) (s : State) (e : Event) (o : Outcome) (h : Option Teller) → Holds s → step s e ≡ Some o → ((t : ℕ) → kept_at s.keeps t ≡ keeping t log) → (t : ℕ) → kept_at o.state.keeps t ≡ keeping t (log ++ item_of s e o.reply h ∷ [])
+pub kept_own : (log : List LogItem) (s : State) (e : Event) (o : Outcome) (h : Option Teller) → Holds s → step s e ≡ Some o → ((t : ℕ) → kept_at s.keeps t ≡ keeping t log) → (t : ℕ)
+    → kept_at o.state.keeps t ≡ keeping t (log ++ item_of s e o.reply h ∷ [])
 kept_own log s e o h on made kept t = keeps_on t s e o on made ∙ (ap (keeps_next t (by_number s e)) (kept t) ∙ sym (keeping_both t None log (item_of s e o.reply h ∷ [])))
 
 pub kept_off : (seat : ℕ → ℕ) (n i : ℕ) (s : State) (e : Event) (o : Outcome) → IsSeatOf seat n i (maker (by_number s e)) → i ≢ 0 → Holds s → step s e ≡ Some o → o.state.keeps ≡ s.keeps

@@ -1,5 +1,6 @@
 -- What the keeper's log says of the state, by a walk over the run: how many changes there were, marks and slots.
-use Rattle.std.proofs.Common.{◌≡◌, ◌≢◌, ⊎_elim, ℕ, ◌+◌, ◌<◌, ◌≤◌, Bool, true, false, if◌then◌else◌, nat_lt, List, [], ◌∷◌, ◌++◌, length, set, replicate, Option, Some, None, refl, sym, ap, ◌∙◌, subst, arith}
+use Rattle.std.proofs.Common.{◌≡◌, ◌≢◌, ⊎_elim, ℕ, ◌+◌, ◌<◌, ◌≤◌, Bool, true, false, if◌then◌else◌, nat_lt, List, [], ◌∷◌, ◌++◌, length, set, replicate, Option, Some, None, refl, sym, ap, ◌∙◌, subst}
+use Rattle.std.proofs.Common.{arith}
 use Rattle.cpu_words.specs.Types.{Entry, Mark, Settings, MOST_CPUS, Retired, Event, Publish, Unpublish, Snapshot, Look, PassiveLook, Collect, Due, Rest, Snapshots}
 use Rattle.registry_values.specs.Common.{no_mark, mark_after_look, mark_after_passive_look, mark_after_collect, slot_at}
 use Rattle.protocol.specs.Common.{State, opening, with_cell, section_at, mark_at, kept_at, Outcome, step, snapshot_mark, due_after, Holds, DueHolds}
@@ -34,7 +35,8 @@ pub record Known (cpus : ℕ) (log : List LogItem) (s : State) : Type 0 where
 
 -- Snapshots that are due
 
-same_snapshots : (due later : Due) (marks new : List (List Mark)) → ((u d : ℕ) → later ≡ Snapshots u d → due ≡ Snapshots u d) → ((u j : ℕ) → (mark_at new u j).snapshot ≡ (mark_at marks u j).snapshot) → NoneAhead due marks → NoneAhead later new
+same_snapshots : (due later : Due) (marks new : List (List Mark)) → ((u d : ℕ) → later ≡ Snapshots u d → due ≡ Snapshots u d) → ((u j : ℕ) → (mark_at new u j).snapshot ≡ (mark_at marks u j).snapshot)
+    → NoneAhead due marks → NoneAhead later new
 same_snapshots due later marks new stays same none t c j is le = same t j ∙ none t c j (stays t c is) le
 
 cell_snapshot : (marks : List (List Mark)) (t c : ℕ) (m : Mark) → m.snapshot ≡ (mark_at marks t c).snapshot → (u j : ℕ) → (mark_at (with_cell marks t c m) u j).snapshot ≡ (mark_at marks u j).snapshot
@@ -67,7 +69,8 @@ ahead_after s (Snapshot (Some t) c) n due none = taken_next s t c n.due due.0 du
 ahead_after s (Snapshot None c) n due none = same_snapshots s.due n.due s.marks s.marks due (λ u j. refl) none
 ahead_after s (Look (Some t) c) n due none = same_snapshots s.due n.due s.marks _ due (cell_snapshot s.marks t c (mark_after_look (mark_at s.marks t c) (section_at s c)) refl) none
 ahead_after s (Look None c) n due none = same_snapshots s.due n.due s.marks s.marks due (λ u j. refl) none
-ahead_after s (PassiveLook t c) n due none = same_snapshots s.due n.due s.marks _ due (cell_snapshot s.marks t c (mark_after_passive_look (mark_at s.marks t c) (Rattle.protocol.specs.State.passive_at s.passive c t)) refl) none
+ahead_after s (PassiveLook t c) n due none =
+    same_snapshots s.due n.due s.marks _ due (cell_snapshot s.marks t c (mark_after_passive_look (mark_at s.marks t c) (Rattle.protocol.specs.State.passive_at s.passive c t)) refl) none
 ahead_after s (Collect t c) n due none = same_snapshots s.due n.due s.marks _ due (cell_snapshot s.marks t c (mark_after_collect (mark_at s.marks t c)) refl) none
 ahead_after s e n due none = same_snapshots s.due n.due s.marks s.marks due (λ u j. refl) none
 
@@ -83,7 +86,8 @@ first_taken s e n on due none = tt
 
 -- The walk
 
-known_own : (cpus : ℕ) (log : List LogItem) (s : State) (e : Event) (o : Outcome) (h : Option Teller) → Holds s → step s e ≡ Some o → Known cpus log s → Known cpus (log ++ item_of s e o.reply h ∷ []) o.state
+known_own : (cpus : ℕ) (log : List LogItem) (s : State) (e : Event) (o : Outcome) (h : Option Teller) → Holds s → step s e ≡ Some o → Known cpus log s
+    → Known cpus (log ++ item_of s e o.reply h ∷ []) o.state
 known_own cpus log s e o h on made known =
     let dues : Dues s e (Some o) = subst (Dues s e) made (step_dues s e) in
     let marks : Marks s e (Some o) = subst (Marks s e) made (step_marks s e) in
@@ -112,7 +116,8 @@ due_off seat n i s (Snapshot None c) t is off due = due
 due_off seat n i s (Snapshot (Some v) c) t is off due = absurd (off is)
 due_off seat n i s e t is off due = due
 
-known_off : (seat : ℕ → ℕ) (n cpus i : ℕ) (log : List LogItem) (s : State) (e : Event) (o : Outcome) → IsSeatOf seat n i (maker (by_number s e)) → i ≢ 0 → Holds s → step s e ≡ Some o → Known cpus log s → Known cpus log o.state
+known_off : (seat : ℕ → ℕ) (n cpus i : ℕ) (log : List LogItem) (s : State) (e : Event) (o : Outcome) → IsSeatOf seat n i (maker (by_number s e)) → i ≢ 0 → Holds s → step s e ≡ Some o
+    → Known cpus log s → Known cpus log o.state
 known_off seat n cpus i log s e o is off on made known =
     let dues : Dues s e (Some o) = subst (Dues s e) made (step_dues s e) in
     let marks : Marks s e (Some o) = subst (Marks s e) made (step_marks s e) in
@@ -138,4 +143,13 @@ known_stays seat n cpus = record {
 
 -- before all events
 pub known_first : (z : Settings) → Known z.cpus [] (opening z)
-known_first z = record { settings = refl; changes = refl; marks = no_marks z; slots = no_slots z; kept = λ t. Rattle.protocol.proofs.slots.Cells.get_or_all z.slots None t; counts = no_counts z; totals = no_totals z; ahead = λ t c j is le. absurd (let q : Rest ≡ Snapshots t c = is in cc) }
+known_first z = record {
+  settings = refl;
+  changes = refl;
+  marks = no_marks z;
+  slots = no_slots z;
+  kept = λ t. Rattle.protocol.proofs.slots.Cells.get_or_all z.slots None t;
+  counts = no_counts z;
+  totals = no_totals z;
+  ahead = λ t c j is le. absurd (let q : Rest ≡ Snapshots t c = is in cc);
+}

@@ -1,5 +1,6 @@
 -- What a run does to the section of each CPU, where an item of a seat stands in it, and what an item that loads a section word tells of the state.
-use Rattle.std.proofs.Common.{◌≡◌, ◌≢◌, ◌⊎◌, inl, inr, ⊎_elim, ℕ, suc, ◌+◌, ◌*◌, ◌<◌, ◌≤◌, ◌==◌, ◌&&◌, Bool, true, false, cond, nat_lt, List, [], ◌∷◌, ◌++◌, length, set, get_or, Option, Some, None, eq-eqb, ne_eqb, refl, sym, ap, ◌∙◌, subst, length-append, get_or-set_same, get_or-set_other, arith}
+use Rattle.std.proofs.Common.{◌≡◌, ◌≢◌, ◌⊎◌, inl, inr, ⊎_elim, ℕ, suc, ◌+◌, ◌*◌, ◌<◌, ◌≤◌, ◌==◌, ◌&&◌, Bool, true, false, cond, nat_lt, List, [], ◌∷◌, ◌++◌, length, set, get_or, Option, Some, None}
+use Rattle.std.proofs.Common.{eq-eqb, ne_eqb, refl, sym, ap, ◌∙◌, subst, length-append, get_or-set_same, get_or-set_other, arith}
 use Rattle.std.proofs.lemmas.Bool.{and_parts, cases_eq}
 use Rattle.std.proofs.lemmas.Option.{none-some, same_Some}
 use Rattle.cpu_words.specs.Types.{Event, LoadRecord, Snapshot, Look, JoinRef, JoinKeeper, Keep, Reply, Word, Ref}
@@ -93,7 +94,10 @@ since_on c s m t le first second = (
 
 -- a run
 pub run_since : (c : ℕ) (s : State) (acts : List (ℕ × LogItem)) (es : List Event) (t : State) → Follows s acts es t → Holds s → Since c s t × (length s.history ≤ length t.history)
-run_since c s [] [] t is on = (since_same c s t (ap (λ (g : State). section_at g c) is, ap (λ (g : State). begin_at g c) is), let n : length t.history ≡ length s.history = ap (λ (g : State). length g.history) is in omega arith)
+run_since c s [] [] t is on = (
+  since_same c s t (ap (λ (g : State). section_at g c) is, ap (λ (g : State). begin_at g c) is),
+  let n : length t.history ≡ length s.history = ap (λ (g : State). length g.history) is in omega arith,
+)
 run_since c s [] (e ∷ es) t run on = absurd run
 run_since c s (a ∷ more) [] t run on = absurd run
 run_since c s (a ∷ more) (e ∷ es) t run on =
@@ -126,7 +130,8 @@ part_off i x more off = ap (λ (b : Bool). cond b (x.1 ∷ part i more) (part i 
 pub one_more : (i : ℕ) (x : ℕ × LogItem) (more : List (ℕ × LogItem)) (d : LogItem) (later : List LogItem) → Placed i more d later → Placed i (x ∷ more) d later
 one_more i x more d later p = record { first = x ∷ p.first; second = p.second; are = ap (λ (l : List (ℕ × LogItem)). x ∷ l) p.are; rest = p.rest }
 
-pub place_here : (i : ℕ) (x : ℕ × LogItem) (more : List (ℕ × LogItem)) (a b : List LogItem) (d : LogItem) → x.0 ≡ i → x.1 ∷ part i more ≡ a ++ d ∷ b → ((y : LogItem) (c : List LogItem) → part i more ≡ c ++ d ∷ b → Placed i more d b) → Placed i (x ∷ more) d b
+pub place_here : (i : ℕ) (x : ℕ × LogItem) (more : List (ℕ × LogItem)) (a b : List LogItem) (d : LogItem) → x.0 ≡ i → x.1 ∷ part i more ≡ a ++ d ∷ b
+    → ((y : LogItem) (c : List LogItem) → part i more ≡ c ++ d ∷ b → Placed i more d b) → Placed i (x ∷ more) d b
 place_here i x more [] b d same is go = record {
   first = [];
   second = more;
@@ -166,7 +171,8 @@ pub halve : (i : ℕ) (acts : List (ℕ × LogItem)) (a b : List LogItem) → pa
 halve i acts [] b is = record { first = []; second = acts; are = refl; mine = refl; rest = is }
 halve i [] (d ∷ a) b is = absurd (let size : 0 ≡ suc (length (a ++ b)) = ap (λ (l : List LogItem). length l) is in omega arith)
 halve i (x ∷ more) (d ∷ a) b is = ⊎_elim
-    (λ (same : x.0 ≡ i). let both = sym (part_same i x more same) ∙ is in halve_on i x more d a b same (same_first x.1 d (part i more) (a ++ b) both) (halve i more a b (same_rest x.1 d (part i more) (a ++ b) both)))
+    (λ (same : x.0 ≡ i). let both = sym (part_same i x more same) ∙ is in
+    halve_on i x more d a b same (same_first x.1 d (part i more) (a ++ b) both) (halve i more a b (same_rest x.1 d (part i more) (a ++ b) both)))
     (λ (off : x.0 ≢ i). halve_past i x more (d ∷ a) b off (halve i more (d ∷ a) b (sym (part_off i x more off) ∙ is)))
     (cases_eq x.0 i)
 

@@ -1,5 +1,6 @@
 -- Steps, cuts and joins over the table with logs.
-use Rattle.std.proofs.Common.{◌≡◌, ◌≢◌, ◌⊎◌, inl, inr, ⊎_elim, ℕ, zero, suc, ◌<◌, ◌≤◌, ◌==◌, List, [], ◌∷◌, ◌++◌, map, length, Option, None, set, length-set, length-append, refl, sym, ap, ◌∙◌, subst, append_assoc, arith}
+use Rattle.std.proofs.Common.{◌≡◌, ◌≢◌, ◌⊎◌, inl, inr, ⊎_elim, ℕ, zero, suc, ◌<◌, ◌≤◌, ◌==◌, List, [], ◌∷◌, ◌++◌, map, length, Option, None, set, length-set, length-append, refl, sym, ap, ◌∙◌, subst}
+use Rattle.std.proofs.Common.{append_assoc, arith}
 use Rattle.std.proofs.lemmas.List.{map-set, append-nil, map-append}
 use Rattle.std.specs.Prelude.{slice_index}
 use mathlib.Core.Option.{some, some-injective, some-ne-none}
@@ -8,7 +9,9 @@ use lib.ListN.{get_elem?}
 use Rattle.atomic_table.specs.Table.{State as Table, Splits, Joins, keeps, stepped}
 use Rattle.atomic_table.proofs.Lists.{at_set, at_map}
 use Rattle.cpu_words.specs.Types.{Settings, Hear, Done}
-use Rattle.cpu_words.specs.Common.{LogItem, Teller, Logged, View, Keeper, Cpu, Reference, Note, Spent, Shown, Sits, Ruled, GoesOn, did, log_of_events, Moves, SplitsOn, JoinsOn, without_logs, part, events_of, untold, IsStanding, Maker, the_keeper, the_cpu, another, maker, maker_of_note, who, AreBy, IsSeatOf, AreByOwn, Knows, HasComeIf, AreToldBefore, spent_seat, LoggedRuled, KnownLogGrows, heard_from}
+use Rattle.cpu_words.specs.Common.{LogItem, Teller, Logged, View, Keeper, Cpu, Reference, Note, Spent, Shown, Sits, Ruled, GoesOn, did, log_of_events, Moves, SplitsOn, JoinsOn, without_logs, part}
+use Rattle.cpu_words.specs.Common.{events_of, untold, IsStanding, Maker, the_keeper, the_cpu, another, maker, maker_of_note, who, AreBy, IsSeatOf, AreByOwn, Knows, HasComeIf, AreToldBefore}
+use Rattle.cpu_words.specs.Common.{spent_seat, LoggedRuled, KnownLogGrows, heard_from}
 use Rattle.protocol.specs.Common.{State, opening, empty_run}
 use Rattle.cpu_words.proofs.logs.Parts.{by_seat, part_append, part_own, part_other, events_of_seat}
 use Rattle.cpu_words.proofs.logs.Told.{AreToldPast, come_more, come_seats, told_more, plain_of_end, plain_from, plain_past, heard_past}
@@ -96,15 +99,19 @@ record Went (z : Settings) (s : Table ℕ Logged) (r : LoggedRuled z s) (id : �
 
 -- the items of its log are the events, and where it heard a note they say who told that
 went : (z : Settings) (s : Table ℕ Logged) (r : LoggedRuled z s) (id : ℕ) (l : Logged) (its ds : List LogItem) (t : Table ℕ View) (goes : GoesOn z (without_logs s) r.run ds t)
-    → get_elem? s.views id ≡ some l → IsStanding l.view → AreBy (who l.view) its → map untold its ≡ ds → AreToldPast r.run.seat r.run.g.seated r.acts (by_seat id its) → Went z s r id l.log its ds t goes
+    → get_elem? s.views id ≡ some l → IsStanding l.view → AreBy (who l.view) its → map untold its ≡ ds → AreToldPast r.run.seat r.run.g.seated r.acts (by_seat id its)
+    → Went z s r id l.log its ds t goes
 went z s r id l its ds t goes at stands by events told =
     let sits = r.run.shows.fits id l.view (at_map (λ (l : Logged). l.view) s.views id l at) in
-    let own : IsSeatOf goes.ruled.seat goes.ruled.g.seated id (who l.view) = seat_of_more r.run.seat goes.ruled.seat r.run.g.seated goes.ruled.g.seated id (who l.view) goes.seated goes.seats (own_seat r.run.g r.run.seat id l.view sits.0 sits.1) in
-    let longer : (j : ℕ) → j ≢ id → part j (r.acts ++ by_seat id its) ≡ part j r.acts = λ j ne. part_append j r.acts (by_seat id its) ∙ (ap (λ (l : List LogItem). part j r.acts ++ l) (part_other id j its ne) ∙ append-nil (part j r.acts)) in
+    let own : IsSeatOf goes.ruled.seat goes.ruled.g.seated id (who l.view) =
+    seat_of_more r.run.seat goes.ruled.seat r.run.g.seated goes.ruled.g.seated id (who l.view) goes.seated goes.seats (own_seat r.run.g r.run.seat id l.view sits.0 sits.1) in
+    let longer : (j : ℕ) → j ≢ id → part j (r.acts ++ by_seat id its) ≡ part j r.acts =
+    λ j ne. part_append j r.acts (by_seat id its) ∙ (ap (λ (l : List LogItem). part j r.acts ++ l) (part_other id j its ne) ∙ append-nil (part j r.acts)) in
     record {
       acts = r.acts ++ by_seat id its;
       are = map-append (λ (a : ℕ × LogItem). untold a.1) r.acts (by_seat id its) ∙ ((λ k. r.are k ++ (events_of_seat id its ∙ events) k) ∙ sym goes.goes_on);
-      owners = by_own_append goes.ruled.seat goes.ruled.g.seated r.acts (by_seat id its) (by_own_more r.run.seat goes.ruled.seat r.run.g.seated goes.ruled.g.seated r.acts goes.seated goes.seats r.owners)
+      owners = by_own_append goes.ruled.seat goes.ruled.g.seated r.acts (by_seat id its)
+          (by_own_more r.run.seat goes.ruled.seat r.run.g.seated goes.ruled.g.seated r.acts goes.seated goes.seats r.owners)
           (by_own_seat goes.ruled.seat goes.ruled.g.seated id (who l.view) its own by);
       mine = (λ k. r.logs id l at stands k ++ sym (part_own id its) k) ∙ sym (part_append id r.acts (by_seat id its));
       others = λ j u ne there standing. r.logs j u there standing ∙ sym (longer j ne);
@@ -133,7 +140,8 @@ abbrev moved_to : Logged → View → List LogItem → List LogItem → Logged
 moved_to l w ds d = record l { view = w; log = l.log ++ ds; known_log = d }
 
 -- the rule holds on, whatever prefix of the keeper's log the seat has heard then
-logged_goes : (z : Settings) (l : Logged) (i : ℕ) (n : ℕ) (its ds : List LogItem) (w : View) (s : Table ℕ Logged) (r : LoggedRuled z s) (id : ℕ) → get_elem? s.views id ≡ some l → IsStanding l.view → AreBy (who l.view) its
+logged_goes : (z : Settings) (l : Logged) (i : ℕ) (n : ℕ) (its ds : List LogItem) (w : View) (s : Table ℕ Logged) (r : LoggedRuled z s) (id : ℕ) → get_elem? s.views id ≡ some l → IsStanding l.view
+    → AreBy (who l.view) its
     → map untold its ≡ ds → AreToldPast r.run.seat r.run.g.seated r.acts (by_seat id its)
     → GoesOn z (without_logs s) r.run ds (stepped (without_logs s) i n id [] w keeps) → (d : List LogItem) → IsPrefix d (part 0 r.acts) → LoggedRuled z (stepped s i n id [] (moved_to l w its d) keeps)
 logged_goes z l i n its ds w s r id at stands by events told goes_without_logs d known =
@@ -163,7 +171,8 @@ logged_goes z l i n its ds w s r id at stands by events told goes_without_logs d
           (at_set s.views id j m u there);
     }
 
-goes_plainly : (z : Settings) (l : Logged) (i : ℕ) (n : ℕ) (ds : List LogItem) (w : View) (s : Table ℕ Logged) (r : LoggedRuled z s) (id : ℕ) → get_elem? s.views id ≡ some l → IsStanding l.view → AreBy (who l.view) ds
+goes_plainly : (z : Settings) (l : Logged) (i : ℕ) (n : ℕ) (ds : List LogItem) (w : View) (s : Table ℕ Logged) (r : LoggedRuled z s) (id : ℕ) → get_elem? s.views id ≡ some l → IsStanding l.view
+    → AreBy (who l.view) ds
     → GoesOn z (without_logs s) r.run ds (stepped (without_logs s) i n id [] w keeps) → (d : List LogItem) → IsPrefix d (part 0 r.acts) → LoggedRuled z (stepped s i n id [] (moved_to l w ds d) keeps)
 goes_plainly z l i n ds w s r id at stands by goes d known =
     let none = plain z (without_logs s) r.run ds (stepped (without_logs s) i n id [] w keeps) goes in
@@ -174,7 +183,8 @@ abbrev pub LoggedMoves : Settings → Logged → ℕ → (ℕ → ℕ) → (ℕ 
 LoggedMoves z l i f ds tells = (s : Table ℕ Logged) → LoggedRuled z s → (id : ℕ) → get_elem? s.views id ≡ some l → slice_index s.words i < 18446744073709551616
     → (w : View) × LoggedRuled z (stepped s i (f (slice_index s.words i)) id [] (record l { view = w; log = l.log ++ ds (slice_index s.words i) }) keeps) × tells (slice_index s.words i) w
 
-pub logged_moves : (z : Settings) (l : Logged) (i : ℕ) (f : ℕ → ℕ) (ds : ℕ → List LogItem) (tells : ℕ → View → Type 0) → IsStanding l.view → ((n : ℕ) → AreBy (who l.view) (ds n)) → Moves z l.view i f ds tells → LoggedMoves z l i f ds tells
+pub logged_moves : (z : Settings) (l : Logged) (i : ℕ) (f : ℕ → ℕ) (ds : ℕ → List LogItem) (tells : ℕ → View → Type 0) → IsStanding l.view → ((n : ℕ) → AreBy (who l.view) (ds n))
+    → Moves z l.view i f ds tells → LoggedMoves z l i f ds tells
 logged_moves z l i f ds tells stands by moves s r id at fits =
     let word = slice_index s.words i in
     let done = moves (without_logs s) r.run id (at_map (λ (x : Logged). x.view) s.views id l at) fits in
@@ -183,25 +193,40 @@ logged_moves z l i f ds tells stands by moves s r id at fits =
 -- the same of a load that hears: what the seat has heard then is all that the keeper did, and its log says who told the note
 abbrev pub LoggedHears : Settings → Logged → ℕ → (ℕ → ℕ) → Option ℕ → (ℕ → View → Type 0) → Type 0
 LoggedHears z l i f by tells = (s : Table ℕ Logged) (r : LoggedRuled z s) (id : ℕ) → get_elem? s.views id ≡ some l → slice_index s.words i < 18446744073709551616
-    → (w : View) × (d : List LogItem) × LoggedRuled z (stepped s i (f (slice_index s.words i)) id [] (record l { view = w; log = l.log ++ heard_from by l.teller; known_log = d }) keeps) × tells (slice_index s.words i) w × KnownLogGrows l.known_log l.noted_log d × (d ≡ part 0 r.acts)
+    → (w : View) × (d : List LogItem) × LoggedRuled z (stepped s i (f (slice_index s.words i)) id [] (record l { view = w; log = l.log ++ heard_from by l.teller; known_log = d }) keeps)
+    × tells (slice_index s.words i) w × KnownLogGrows l.known_log l.noted_log d × (d ≡ part 0 r.acts)
 
-pub logged_hears : (z : Settings) (l : Logged) (i : ℕ) (f : ℕ → ℕ) (by : Option ℕ) (tells : ℕ → View → Type 0) → IsStanding l.view → maker_of_note by ≡ who l.view → Moves z l.view i f (λ _. did (Hear by) Done) tells → LoggedHears z l i f by tells
+pub logged_hears : (z : Settings) (l : Logged) (i : ℕ) (f : ℕ → ℕ) (by : Option ℕ) (tells : ℕ → View → Type 0) → IsStanding l.view → maker_of_note by ≡ who l.view
+    → Moves z l.view i f (λ _. did (Hear by) Done) tells → LoggedHears z l i f by tells
 logged_hears z l i f by tells stands own moves s r id at fits =
     let word = slice_index s.words i in
     let done = moves (without_logs s) r.run id (at_map (λ (x : Logged). x.view) s.views id l at) fits in
-    let all = part 0 r.acts in
-    (done.0, all, logged_goes z l i (f word) (heard_from by l.teller) (did (Hear by) Done) done.0 s r id at stands (own, tt) refl (heard_past r.run.seat r.run.g.seated id by l.teller r.acts (r.tellers id l at)) done.1 all ([], append-nil all), done.2, r.known id l at, refl)
+    let all = part 0 r.acts in (
+      done.0,
+      all,
+      logged_goes z l i (f word) (heard_from by l.teller) (did (Hear by) Done) done.0 s r id at stands (own, tt) refl
+          (heard_past r.run.seat r.run.g.seated id by l.teller r.acts (r.tellers id l at)) done.1 all ([], append-nil all),
+      done.2,
+      r.known id l at,
+      refl,
+    )
 
 -- and of the keeper's, which knows its own log
-pub logged_heard : (z : Settings) (l : Logged) (i : ℕ) (f : ℕ → ℕ) (tells : ℕ → View → Type 0) → IsStanding l.view → the_keeper ≡ who l.view → Moves z l.view i f (λ _. did (Hear None) Done) tells → LoggedMoves z l i f (λ _. heard_from None l.teller) tells
+pub logged_heard : (z : Settings) (l : Logged) (i : ℕ) (f : ℕ → ℕ) (tells : ℕ → View → Type 0) → IsStanding l.view → the_keeper ≡ who l.view → Moves z l.view i f (λ _. did (Hear None) Done) tells
+    → LoggedMoves z l i f (λ _. heard_from None l.teller) tells
 logged_heard z l i f tells stands own moves s r id at fits =
     let word = slice_index s.words i in
-    let done = moves (without_logs s) r.run id (at_map (λ (x : Logged). x.view) s.views id l at) fits in
-    (done.0, logged_goes z l i (f word) (heard_from None l.teller) (did (Hear None) Done) done.0 s r id at stands (own, tt) refl (heard_past r.run.seat r.run.g.seated id None l.teller r.acts (r.tellers id l at)) done.1 l.known_log (r.known id l at).0, done.2)
+    let done = moves (without_logs s) r.run id (at_map (λ (x : Logged). x.view) s.views id l at) fits in (
+      done.0,
+      logged_goes z l i (f word) (heard_from None l.teller) (did (Hear None) Done) done.0 s r id at stands (own, tt) refl
+          (heard_past r.run.seat r.run.g.seated id None l.teller r.acts (r.tellers id l at)) done.1 l.known_log (r.known id l at).0,
+      done.2,
+    )
 
 -- A seat is cut in two, or takes in another
 
-pub logged_splits : (z : Settings) (i : ℕ) (l : Logged) (left right : View) (ds known_log : List LogItem) (teller : Option Teller) → IsStanding l.view → AreBy (who l.view) ds → MayTell l ds known_log → MayName l ds teller → SplitsOn z i l.view left right ds
+pub logged_splits : (z : Settings) (i : ℕ) (l : Logged) (left right : View) (ds known_log : List LogItem) (teller : Option Teller) → IsStanding l.view → AreBy (who l.view) ds → MayTell l ds known_log
+    → MayName l ds teller → SplitsOn z i l.view left right ds
     → Splits (LoggedRuled z) i l (record l { view = left; log = l.log ++ ds }) (record { view = right; log = []; known_log = known_log; noted_log = []; teller = teller })
 logged_splits z i v left right ds known_log teller stands by may named splits s r at =
     let q = without_logs s in
@@ -209,7 +234,8 @@ logged_splits z i v left right ds known_log teller stands by may named splits s 
     let l : Logged = record v { view = left; log = v.log ++ ds } in
     let b : Logged = record { view = right; log = []; known_log = known_log; noted_log = []; teller = teller } in
     let t : Table ℕ Logged = record { words = s.words; homes = s.homes; views = set s.views i l ++ b ∷ [] } in
-    let views : set q.views i left ++ right ∷ [] ≡ (without_logs t).views = sym (map-append (λ (x : Logged). x.view) (set s.views i l) (b ∷ []) ∙ ap (λ (a : List View). a ++ right ∷ []) (map-set (λ (x : Logged). x.view) s.views i l)) in
+    let views : set q.views i left ++ right ∷ [] ≡ (without_logs t).views =
+    sym (map-append (λ (x : Logged). x.view) (set s.views i l) (b ∷ []) ∙ ap (λ (a : List View). a ++ right ∷ []) (map-set (λ (x : Logged). x.view) s.views i l)) in
     let goes : GoesOn z q r.run ds (without_logs t) = subst (λ (vs : List View). GoesOn z q r.run ds (record { words = s.words; homes = s.homes; views = vs })) views (splits q r.run here) in
     let on = went_plainly z s r i v ds (without_logs t) goes at stands by in
     let size : length (set s.views i l) ≡ length s.views = length-set s.views i l in
@@ -251,7 +277,8 @@ logged_splits z i v left right ds known_log teller stands by may named splits s 
 abbrev pub LiesBeside : Logged → Logged → List LogItem → Option Teller → Type 0
 LiesBeside l m noted_log teller = ((noted_log ≡ l.noted_log) × (teller ≡ l.teller)) ⊎ ((noted_log ≡ m.known_log) × (teller ≡ m.teller))
 
-pub logged_joins : (z : Settings) (i : ℕ) (l : Logged) (o : ℕ) (m : Logged) (both : View) (ds noted_log : List LogItem) (teller : Option Teller) → IsStanding l.view → AreBy (who l.view) ds → LiesBeside l m noted_log teller → JoinsOn z i l.view o m.view both Spent ds
+pub logged_joins : (z : Settings) (i : ℕ) (l : Logged) (o : ℕ) (m : Logged) (both : View) (ds noted_log : List LogItem) (teller : Option Teller) → IsStanding l.view → AreBy (who l.view) ds
+    → LiesBeside l m noted_log teller → JoinsOn z i l.view o m.view both Spent ds
     → Joins (LoggedRuled z) i l o m (record l { view = both; log = l.log ++ ds; noted_log = noted_log; teller = teller }) spent_seat
 logged_joins z i v o w both ds noted_log teller stands by lies joins s r at apart there =
     let q = without_logs s in
@@ -309,7 +336,8 @@ logged_joins z i v o w both ds noted_log teller stands by lies joins s r at apar
     }
 
 -- nothing is done: the log stays
-pub logged_joins_same : (z : Settings) (i : ℕ) (l : Logged) (o : ℕ) (m : Logged) (both : View) (noted_log : List LogItem) (teller : Option Teller) → IsStanding l.view → LiesBeside l m noted_log teller → JoinsOn z i l.view o m.view both Spent []
+pub logged_joins_same : (z : Settings) (i : ℕ) (l : Logged) (o : ℕ) (m : Logged) (both : View) (noted_log : List LogItem) (teller : Option Teller) → IsStanding l.view → LiesBeside l m noted_log teller
+    → JoinsOn z i l.view o m.view both Spent []
     → Joins (LoggedRuled z) i l o m (record l { view = both; noted_log = noted_log; teller = teller }) spent_seat
 logged_joins_same z i v o w both noted_log teller stands lies joins =
     subst (λ (log : List LogItem). Joins (LoggedRuled z) i v o w (record v { view = both; log = log; noted_log = noted_log; teller = teller }) spent_seat) (append-nil v.log)

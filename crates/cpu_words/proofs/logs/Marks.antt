@@ -1,12 +1,16 @@
 -- What the keeper's log says of marks: each snapshot that a mark has, and each pass, is in it.
-use Rattle.std.proofs.Common.{◌≡◌, ◌≢◌, ◌⊎◌, inl, inr, ⊎_elim, ℕ, zero, suc, ◌<◌, ◌≤◌, ◌==◌, ◌||◌, ◌&&◌, ◌-◌, nat_lt, Bool, true, false, if◌then◌else◌, List, [], ◌∷◌, ◌++◌, length, get_or, set, replicate, Option, Some, None, ne_eqb, refl, sym, ap, ◌∙◌, subst, append_assoc}
+use Rattle.std.proofs.Common.{◌≡◌, ◌≢◌, ◌⊎◌, inl, inr, ⊎_elim, ℕ, zero, suc, ◌<◌, ◌≤◌, ◌==◌, ◌||◌, ◌&&◌, ◌-◌, nat_lt, Bool, true, false, if◌then◌else◌, List, [], ◌∷◌, ◌++◌, length, get_or, set}
+use Rattle.std.proofs.Common.{replicate, Option, Some, None, ne_eqb, refl, sym, ap, ◌∙◌, subst, append_assoc}
 use Rattle.std.proofs.lemmas.Bool.{or_cases, not-true, eqb-true, eqb-false, cases_eq, cases_lt}
 use Rattle.std.proofs.lemmas.List.{get_or_past, set_past}
 use Rattle.std.proofs.lemmas.Option.{none-some, same_Some}
-use Rattle.cpu_words.specs.Types.{Mark, Slot, Vacant, Live, Retired, Settings, MOST_CPUS, Event, Seat, Enter, Exit, Seek, LoadLink, LoadRecord, StoreSlot, StoreNext, Publish, Unpublish, Tell, Hear, Snapshot, Look, PassiveAdd, PassiveSub, PassiveLook, CountAdd, SplitRef, JoinRef, CountDown, SplitBack, Collect, TotalAdd, JoinKeeper, TotalSub, Keep, KeptSub, Vacate, RecordOf, Passive, Local, Reply, Done, Word, Due, Rest, Snapshots, Adding, Subtracting, Hand, Empty, Taking, Giving, Back, Search, Loaded, On, Over}
+use Rattle.cpu_words.specs.Types.{Mark, Slot, Vacant, Live, Retired, Settings, MOST_CPUS, Event, Seat, Enter, Exit, Seek, LoadLink, LoadRecord, StoreSlot, StoreNext, Publish, Unpublish, Tell, Hear}
+use Rattle.cpu_words.specs.Types.{Snapshot, Look, PassiveAdd, PassiveSub, PassiveLook, CountAdd, SplitRef, JoinRef, CountDown, SplitBack, Collect, TotalAdd, JoinKeeper, TotalSub, Keep, KeptSub}
+use Rattle.cpu_words.specs.Types.{Vacate, RecordOf, Passive, Local, Reply, Done, Word, Due, Rest, Snapshots, Adding, Subtracting, Hand, Empty, Taking, Giving, Back, Search, Loaded, On, Over}
 use Rattle.registry_values.specs.Common.{no_mark, is_even, has_changed, mark_after_look, mark_after_passive_look, mark_after_collect, slot_at, slot_of, slot_before}
 use Rattle.protocol.specs.declared.event.RecordOf.TheVariants.{Search as OfSearch}
-use Rattle.protocol.specs.Common.{State, with_cell, section_at, search_at, found_at, hand_at, row_at, mark_at, kept_at, local_at, opening, loaded_at, row_of_place, Outcome, guard, some_outcome, with_some, step, snapshot_mark, entry_of}
+use Rattle.protocol.specs.Common.{State, with_cell, section_at, search_at, found_at, hand_at, row_at, mark_at, kept_at, local_at, opening, loaded_at, row_of_place, Outcome, guard, some_outcome}
+use Rattle.protocol.specs.Common.{with_some, step, snapshot_mark, entry_of}
 use Rattle.protocol.specs.Events
 use Rattle.protocol.proofs.slots.Cells.{cell_cases, cell_in_new, cell_in_old, get_or_all}
 use Rattle.cpu_words.specs.Common.{LogItem, Teller, by_number, has_snapped, has_looked, is_detach_from, KeepsEntry, IsSnapped, HasPassedOn, AreMarksOf, maker, IsSeatOf}
@@ -46,7 +50,8 @@ on_if : (s : State) (e : Event) (b : Bool) (o p : Option Outcome) → Marks s e 
 on_if s e true o p first second = first
 on_if s e false o p first second = second
 
-on_either : (s : State) (e : Event) (b : Bool) (t u : State) (r q : Reply) → t.marks ≡ marks_after s e → u.marks ≡ marks_after s e → HasReply s e r → HasReply s e q → Marks s e (if b then some_outcome t r else some_outcome u q)
+on_either : (s : State) (e : Event) (b : Bool) (t u : State) (r q : Reply) → t.marks ≡ marks_after s e → u.marks ≡ marks_after s e → HasReply s e r → HasReply s e q
+    → Marks s e (if b then some_outcome t r else some_outcome u q)
 on_either s e true t u r q first second answers answered = (first, answers)
 on_either s e false t u r q first second answers answered = (second, answered)
 
@@ -62,7 +67,8 @@ outcome_marks s c q (Some (Over e)) = (refl, tt)
 record_marks : (s : State) (of : RecordOf) → Marks s (LoadRecord of) (Events.load_record s of)
 record_marks s (OfSearch c) = on_some s (LoadRecord (OfSearch c)) (search_at s c) _ (λ q. outcome_marks s c q (loaded_at q q.place (row_of_place s.rows q.place)))
 record_marks s (Passive c n k) = on_some s (LoadRecord (Passive c n k)) (slot_of s.slots n) _ (λ t. on_made s (LoadRecord (Passive c n k)) _ _ _ refl tt)
-record_marks s (Local id k) = on_some s (LoadRecord (Local id k)) (Events.number_standing (local_at s.locals id)) _ (λ n. on_some s (LoadRecord (Local id k)) (slot_of s.slots n) _ (λ t. on_made s (LoadRecord (Local id k)) _ _ _ refl tt))
+record_marks s (Local id k) = on_some s (LoadRecord (Local id k)) (Events.number_standing (local_at s.locals id)) _
+    (λ n. on_some s (LoadRecord (Local id k)) (slot_of s.slots n) _ (λ t. on_made s (LoadRecord (Local id k)) _ _ _ refl tt))
 
 tell_marks : (s : State) (to : Option ℕ) → Marks s (Tell to) (Events.tell s to)
 tell_marks s None = on_made s (Tell None) _ _ _ refl tt
@@ -150,7 +156,8 @@ step_marks s (CountDown c) = down_marks s c (hand_at s c)
 step_marks s (SplitBack c) = back_marks s c (hand_at s c)
 step_marks s (Collect t c) = on_made s (Collect t c) _ _ _ refl tt
 step_marks s (TotalAdd t) = added_marks s t s.due
-step_marks s (JoinKeeper id) = on_some s (JoinKeeper id) (Events.number_standing (local_at s.locals id)) _ (λ n. on_some s (JoinKeeper id) (slot_of s.slots n) _ (λ t. on_made s (JoinKeeper id) _ _ _ refl tt))
+step_marks s (JoinKeeper id) =
+    on_some s (JoinKeeper id) (Events.number_standing (local_at s.locals id)) _ (λ n. on_some s (JoinKeeper id) (slot_of s.slots n) _ (λ t. on_made s (JoinKeeper id) _ _ _ refl tt))
 step_marks s (TotalSub t) = subtracted_marks s t s.due
 step_marks s (Keep t id) = on_some s (Keep t id) (Events.number_standing (local_at s.locals id)) _ (λ n. on_some s (Keep t id) (slot_of s.slots n) _ (λ u. on_made s (Keep t id) _ _ _ refl tt))
 step_marks s (KeptSub t) = on_some s (KeptSub t) (kept_at s.keeps t) _ (λ d. on_some s (KeptSub t) (slot_of s.slots d) _ (λ u. on_made s (KeptSub t) _ _ _ refl tt))
@@ -224,7 +231,8 @@ unsnapped_by t c w log d other is = ⊎_elim
     (λ (p : (is_detach_from t d.event ≡ false) × IsSnapped t c w log). p)
     (unsnapped t c w log d is)
 
-other_marks : (log : List LogItem) (marks : List (List Mark)) (d : LogItem) → ((t : ℕ) → is_detach_from t d.event ≡ false) → is_for_entry d.event ≡ false → AreMarksOf log marks → AreMarksOf (log ++ d ∷ []) marks
+other_marks : (log : List LogItem) (marks : List (List Mark)) (d : LogItem) → ((t : ℕ) → is_detach_from t d.event ≡ false) → is_for_entry d.event ≡ false → AreMarksOf log marks
+    → AreMarksOf (log ++ d ∷ []) marks
 other_marks log marks d other none are = record {
   snapped = λ t c w is. snapped_more t c w log d (other t) (are.snapped t c w is);
   marked = λ t c w is. are.marked t c w (unsnapped_by t c w log d none is).1;
@@ -234,34 +242,42 @@ other_marks log marks d other none are = record {
 pub fresh : (marks : List (List Mark)) (t c : ℕ) → mark_at (set marks t (replicate MOST_CPUS no_mark)) t c ≡ no_mark
 fresh marks t c = ⊎_elim
     (λ (lt : t < length marks). cell_in_new no_mark marks t (replicate MOST_CPUS no_mark) c lt ∙ get_or_all MOST_CPUS no_mark c)
-    (λ (ge : length marks ≤ t). ap (λ (m : List (List Mark)). mark_at m t c) (set_past marks t (replicate MOST_CPUS no_mark) ge) ∙ ap (λ (r : List Mark). get_or r c no_mark) (get_or_past marks t [] ge))
+    (λ (ge : length marks ≤ t). ap (λ (m : List (List Mark)). mark_at m t c) (set_past marks t (replicate MOST_CPUS no_mark) ge)
+    ∙ ap (λ (r : List Mark). get_or r c no_mark) (get_or_past marks t [] ge))
     (cases_lt t (length marks))
 
-detach_marks : (log : List LogItem) (marks : List (List Mark)) (t : ℕ) (r : Reply) → AreMarksOf log marks → AreMarksOf (log ++ item_as (Unpublish t) r None ∷ []) (set marks t (replicate MOST_CPUS no_mark))
+detach_marks : (log : List LogItem) (marks : List (List Mark)) (t : ℕ) (r : Reply) → AreMarksOf log marks
+    → AreMarksOf (log ++ item_as (Unpublish t) r None ∷ []) (set marks t (replicate MOST_CPUS no_mark))
 detach_marks log marks t r are =
     let new = set marks t (replicate MOST_CPUS no_mark) in
     let d = item_as (Unpublish t) r None in record {
       snapped = λ u c w is. ⊎_elim
           (λ (same : u ≡ t). let p : mark_at new u c ≡ no_mark = ap (λ (k : ℕ). mark_at new k c) same ∙ fresh marks t c in absurd (none-some w (sym (ap (λ (m : Mark). m.snapshot) p) ∙ is)))
-          (λ (off : u ≡ t → ⊥). snapped_more u c w log d (ne_eqb t u (λ (e : t ≡ u). off (sym e))) (are.snapped u c w (sym (ap (λ (m : Mark). m.snapshot) (cell_in_old no_mark marks t (replicate MOST_CPUS no_mark) u c off)) ∙ is)))
+          (λ (off : u ≡ t → ⊥). snapped_more u c w log d (ne_eqb t u (λ (e : t ≡ u). off (sym e)))
+          (are.snapped u c w (sym (ap (λ (m : Mark). m.snapshot) (cell_in_old no_mark marks t (replicate MOST_CPUS no_mark) u c off)) ∙ is)))
           (cases_eq u t);
       marked = λ u c w is.
           let p = unsnapped_by u c w log d refl is in
           ap (λ (m : Mark). m.snapshot) (cell_in_old no_mark marks t (replicate MOST_CPUS no_mark) u c (λ (same : u ≡ t). eqb-false t u p.0 (sym same))) ∙ are.marked u c w p.1;
       passed = λ u c is. ⊎_elim
-          (λ (same : u ≡ t). let p : mark_at new u c ≡ no_mark = ap (λ (k : ℕ). mark_at new k c) same ∙ fresh marks t c in absurd (let q : false ≡ true = sym (ap (λ (m : Mark). m.passed) p) ∙ is in cc))
-          (λ (off : u ≡ t → ⊥). passed_more u c log d (ne_eqb t u (λ (e : t ≡ u). off (sym e))) (are.passed u c (sym (ap (λ (m : Mark). m.passed) (cell_in_old no_mark marks t (replicate MOST_CPUS no_mark) u c off)) ∙ is)))
+          (λ (same : u ≡ t). let p : mark_at new u c ≡ no_mark = ap (λ (k : ℕ). mark_at new k c) same ∙ fresh marks t c in
+          absurd (let q : false ≡ true = sym (ap (λ (m : Mark). m.passed) p) ∙ is in cc))
+          (λ (off : u ≡ t → ⊥). passed_more u c log d (ne_eqb t u (λ (e : t ≡ u). off (sym e)))
+          (are.passed u c (sym (ap (λ (m : Mark). m.passed) (cell_in_old no_mark marks t (replicate MOST_CPUS no_mark) u c off)) ∙ is)))
           (cases_eq u t);
     }
 
-snapshot_marks : (log : List LogItem) (marks : List (List Mark)) (t c v : ℕ) → (mark_at marks t c).snapshot ≡ None → mark_at (with_cell marks t c (snapshot_mark v)) t c ≡ snapshot_mark v → AreMarksOf log marks → AreMarksOf (log ++ has_snapped t c v ∷ []) (with_cell marks t c (snapshot_mark v))
+snapshot_marks : (log : List LogItem) (marks : List (List Mark)) (t c v : ℕ) → (mark_at marks t c).snapshot ≡ None → mark_at (with_cell marks t c (snapshot_mark v)) t c ≡ snapshot_mark v
+    → AreMarksOf log marks → AreMarksOf (log ++ has_snapped t c v ∷ []) (with_cell marks t c (snapshot_mark v))
 snapshot_marks log marks t c v free there are =
     let l = log ++ has_snapped t c v ∷ [] in
     let here : IsSnapped t c v l = record { before = log; after = []; are = refl; since = tt } in record {
       snapped = λ u j w is. ⊎_elim
           (λ (p : (u ≡ t) × (j ≡ c) × (mark_at (with_cell marks t c (snapshot_mark v)) u j ≡ snapshot_mark v)).
-          subst (λ (k : ℕ). IsSnapped k j w l) (sym p.0) (subst (λ (k : ℕ). IsSnapped t k w l) (sym p.1) (subst (λ (k : ℕ). IsSnapped t c k l) (same_Some v w (sym (ap (λ (m : Mark). m.snapshot) p.2) ∙ is)) here)))
-          (λ (old : mark_at (with_cell marks t c (snapshot_mark v)) u j ≡ mark_at marks u j). snapped_more u j w log (has_snapped t c v) refl (are.snapped u j w (sym (ap (λ (m : Mark). m.snapshot) old) ∙ is)))
+          subst (λ (k : ℕ). IsSnapped k j w l) (sym p.0) (subst (λ (k : ℕ). IsSnapped t k w l) (sym p.1)
+          (subst (λ (k : ℕ). IsSnapped t c k l) (same_Some v w (sym (ap (λ (m : Mark). m.snapshot) p.2) ∙ is)) here)))
+          (λ (old : mark_at (with_cell marks t c (snapshot_mark v)) u j ≡ mark_at marks u j). snapped_more u j w log (has_snapped t c v) refl
+          (are.snapped u j w (sym (ap (λ (m : Mark). m.snapshot) old) ∙ is)))
           (cell_cases no_mark marks t c (snapshot_mark v) u j);
       marked = λ u j w is. ⊎_elim
           (λ (last : has_snapped t c v ≡ has_snapped u j w).
@@ -270,7 +286,8 @@ snapshot_marks log marks t c v free there are =
           let at_slot : t ≡ u = cc in
           let at_cpu : c ≡ j = cc in
           let word : v ≡ w = cc in
-          subst (λ (k : ℕ). (mark_at (with_cell marks t c (snapshot_mark v)) k j).snapshot ≡ Some w) at_slot (subst (λ (k : ℕ). (mark_at (with_cell marks t c (snapshot_mark v)) t k).snapshot ≡ Some w) at_cpu
+          subst (λ (k : ℕ). (mark_at (with_cell marks t c (snapshot_mark v)) k j).snapshot ≡ Some w) at_slot
+          (subst (λ (k : ℕ). (mark_at (with_cell marks t c (snapshot_mark v)) t k).snapshot ≡ Some w) at_cpu
           (ap (λ (m : Mark). m.snapshot) there ∙ ap (λ (k : ℕ). Some k) word)))
           (λ (old : (is_detach_from u (has_snapped t c v).event ≡ false) × IsSnapped u j w log).
           let was : (mark_at marks u j).snapshot ≡ Some w = are.marked u j w old.1 in
@@ -282,7 +299,8 @@ snapshot_marks log marks t c v free there are =
           (unsnapped u j w log (has_snapped t c v) is);
       passed = λ u j is. ⊎_elim
           (λ (p : (u ≡ t) × (j ≡ c) × (mark_at (with_cell marks t c (snapshot_mark v)) u j ≡ snapshot_mark v)). absurd (let q : false ≡ true = sym (ap (λ (m : Mark). m.passed) p.2) ∙ is in cc))
-          (λ (old : mark_at (with_cell marks t c (snapshot_mark v)) u j ≡ mark_at marks u j). passed_more u j log (has_snapped t c v) refl (are.passed u j (sym (ap (λ (m : Mark). m.passed) old) ∙ is)))
+          (λ (old : mark_at (with_cell marks t c (snapshot_mark v)) u j ≡ mark_at marks u j). passed_more u j log (has_snapped t c v) refl
+          (are.passed u j (sym (ap (λ (m : Mark). m.passed) old) ∙ is)))
           (cell_cases no_mark marks t c (snapshot_mark v) u j);
     }
 
@@ -291,14 +309,16 @@ changed None w is = absurd (let q : false ≡ true = is in cc)
 changed (Some x) w is = (x, refl, λ (same : w ≡ x). eqb-false x w (not-true (x == w) is) (sym same))
 
 -- a mark at t and c whose snapshot stays; it may have passed now
-cell_marks : (log : List LogItem) (marks : List (List Mark)) (t c : ℕ) (m : Mark) (d : LogItem) → ((u : ℕ) → is_detach_from u d.event ≡ false) → is_for_entry d.event ≡ false → m.snapshot ≡ (mark_at marks t c).snapshot → (m.passed ≡ true → HasPassedOn t c (log ++ d ∷ []))
+cell_marks : (log : List LogItem) (marks : List (List Mark)) (t c : ℕ) (m : Mark) (d : LogItem) → ((u : ℕ) → is_detach_from u d.event ≡ false) → is_for_entry d.event ≡ false
+    → m.snapshot ≡ (mark_at marks t c).snapshot → (m.passed ≡ true → HasPassedOn t c (log ++ d ∷ []))
     → AreMarksOf log marks → AreMarksOf (log ++ d ∷ []) (with_cell marks t c m)
 cell_marks log marks t c m d other none same pass are =
     let l = log ++ d ∷ [] in
     let new = with_cell marks t c m in record {
       snapped = λ u j w is. ⊎_elim
           (λ (p : (u ≡ t) × (j ≡ c) × (mark_at new u j ≡ m)).
-          subst (λ (k : ℕ). IsSnapped k j w l) (sym p.0) (subst (λ (k : ℕ). IsSnapped t k w l) (sym p.1) (snapped_more t c w log d (other t) (are.snapped t c w (sym same ∙ (sym (ap (λ (x : Mark). x.snapshot) p.2) ∙ is))))))
+          subst (λ (k : ℕ). IsSnapped k j w l) (sym p.0) (subst (λ (k : ℕ). IsSnapped t k w l) (sym p.1)
+          (snapped_more t c w log d (other t) (are.snapped t c w (sym same ∙ (sym (ap (λ (x : Mark). x.snapshot) p.2) ∙ is))))))
           (λ (old : mark_at new u j ≡ mark_at marks u j). snapped_more u j w log d (other u) (are.snapped u j w (sym (ap (λ (x : Mark). x.snapshot) old) ∙ is)))
           (cell_cases no_mark marks t c m u j);
       marked = λ u j w is.
@@ -315,7 +335,8 @@ cell_marks log marks t c m d other none same pass are =
           (cell_cases no_mark marks t c m u j);
     }
 
-look_marks : (log : List LogItem) (marks : List (List Mark)) (t c w : ℕ) → AreMarksOf log marks → AreMarksOf (log ++ has_looked t c w ∷ []) (with_cell marks t c (mark_after_look (mark_at marks t c) w))
+look_marks : (log : List LogItem) (marks : List (List Mark)) (t c w : ℕ) → AreMarksOf log marks
+    → AreMarksOf (log ++ has_looked t c w ∷ []) (with_cell marks t c (mark_after_look (mark_at marks t c) w))
 look_marks log marks t c w are =
     let m = mark_at marks t c in
     cell_marks log marks t c (mark_after_look m w) (has_looked t c w) (λ u. refl) refl refl
@@ -341,14 +362,19 @@ IsFirst s (Snapshot (Some t) c) = ((mark_at s.marks t c).snapshot ≡ None) × (
 IsFirst s e = Unit {0}
 
 -- the keeper's next item
-pub more_marks : (log : List LogItem) (s : State) (e : Event) (r : Reply) (h : Option Teller) → HasReply s e r → IsFirst s e → AreMarksOf log s.marks → AreMarksOf (log ++ item_of s e r h ∷ []) (marks_after s e)
+pub more_marks : (log : List LogItem) (s : State) (e : Event) (r : Reply) (h : Option Teller) → HasReply s e r → IsFirst s e → AreMarksOf log s.marks
+    → AreMarksOf (log ++ item_of s e r h ∷ []) (marks_after s e)
 more_marks log s (Unpublish t) r h is first are = detach_marks log s.marks t r are
 more_marks log s (Snapshot None c) r h is first are = other_marks log s.marks (item_as (Snapshot None c) r None) (λ t. refl) refl are
-more_marks log s (Snapshot (Some t) c) r h is first are = subst (λ (q : Reply). AreMarksOf (log ++ item_as (Snapshot (Some t) c) q None ∷ []) (marks_after s (Snapshot (Some t) c))) (sym is) (snapshot_marks log s.marks t c (section_at s c) first.0 first.1 are)
+more_marks log s (Snapshot (Some t) c) r h is first are = subst (λ (q : Reply). AreMarksOf (log ++ item_as (Snapshot (Some t) c) q None ∷ []) (marks_after s (Snapshot (Some t) c))) (sym is)
+    (snapshot_marks log s.marks t c (section_at s c) first.0 first.1 are)
 more_marks log s (Look None c) r h is first are = other_marks log s.marks (item_as (Look None c) r None) (λ t. refl) refl are
-more_marks log s (Look (Some t) c) r h is first are = subst (λ (q : Reply). AreMarksOf (log ++ item_as (Look (Some t) c) q None ∷ []) (marks_after s (Look (Some t) c))) (sym is) (look_marks log s.marks t c (section_at s c) are)
-more_marks log s (PassiveLook t c) r h is first are = cell_marks log s.marks t c _ (item_as (PassiveLook t c) r None) (λ u. refl) refl refl (λ was. passed_more t c log (item_as (PassiveLook t c) r None) refl (are.passed t c was)) are
-more_marks log s (Collect t c) r h is first are = cell_marks log s.marks t c _ (item_as (Collect t c) r None) (λ u. refl) refl refl (λ was. passed_more t c log (item_as (Collect t c) r None) refl (are.passed t c was)) are
+more_marks log s (Look (Some t) c) r h is first are =
+    subst (λ (q : Reply). AreMarksOf (log ++ item_as (Look (Some t) c) q None ∷ []) (marks_after s (Look (Some t) c))) (sym is) (look_marks log s.marks t c (section_at s c) are)
+more_marks log s (PassiveLook t c) r h is first are =
+    cell_marks log s.marks t c _ (item_as (PassiveLook t c) r None) (λ u. refl) refl refl (λ was. passed_more t c log (item_as (PassiveLook t c) r None) refl (are.passed t c was)) are
+more_marks log s (Collect t c) r h is first are =
+    cell_marks log s.marks t c _ (item_as (Collect t c) r None) (λ u. refl) refl refl (λ was. passed_more t c log (item_as (Collect t c) r None) refl (are.passed t c was)) are
 more_marks log s e r h is first are = other_marks log s.marks (item_of s e r h) (λ t. refl) refl are
 
 -- The opening

@@ -9,7 +9,8 @@ use Rattle.cpu_words.specs.Types.{Entry, Settings, Retired, Change, Event, Publi
 use Rattle.registry_values.specs.Common.{slot_at}
 use Rattle.protocol.specs.Common.{State, opening, section_at, kept_at, Outcome, step, Holds, destroyed_slot}
 use Rattle.protocol.proofs.keeps.Keeping.{opening_holds}
-use Rattle.cpu_words.specs.Common.{LogItem, CpuView, KeeperView, Logged, View, Keeper, Cpu, log_item, changes_in, AreMarksOf, AreSlotsOf, FindsWord, WordsGrow, IsFreedFrom, IsAttachedKeeping, IsShownAfter, IsOwnLog, keeping, part, LoggedRuled, with_note, keeper_with_note}
+use Rattle.cpu_words.specs.Common.{LogItem, CpuView, KeeperView, Logged, View, Keeper, Cpu, log_item, changes_in, AreMarksOf, AreSlotsOf, FindsWord, WordsGrow, IsFreedFrom, IsAttachedKeeping}
+use Rattle.cpu_words.specs.Common.{IsShownAfter, IsOwnLog, keeping, part, LoggedRuled, with_note, keeper_with_note}
 use Rattle.cpu_words.proofs.logs.Changes.{run_of, fit_of}
 use Rattle.cpu_words.proofs.logs.Loads.{place, same_event, word_of, replied_word, run_since}
 use Rattle.cpu_words.proofs.logs.Known.{Known, known_stays, known_first}
@@ -52,7 +53,8 @@ words_grow s acts es t run on c v w d e before between after are first second =
 
 log_known : (z : Settings) (s : Table ℕ Logged) (r : LoggedRuled z s) → Known z.cpus (part 0 r.acts) r.run.g
 log_known z s r = subst (Known z.cpus (part 0 r.acts)) (sym r.run.reached.run)
-    (walked r.run.seat r.run.g.seated (Known z.cpus) [] (opening z) r.acts r.run.reached.events _ (known_stays r.run.seat r.run.g.seated z.cpus) (run_of z s r) (opening_holds z (fit_of z s r)) r.owners (known_first z))
+    (walked r.run.seat r.run.g.seated (Known z.cpus) [] (opening z) r.acts r.run.reached.events _ (known_stays r.run.seat r.run.g.seated z.cpus) (run_of z s r)
+    (opening_holds z (fit_of z s r)) r.owners (known_first z))
 
 -- a state that shows a seat's view is one in which the keeper had done just what it did
 pub shown_after : (z : Settings) (v : View) (l : Logged) (s : Table ℕ Logged) (r : LoggedRuled z s) (i : ℕ) → get_elem? s.views i ≡ some (record l { view = v }) → IsShownAfter (part 0 r.acts) v
@@ -92,7 +94,8 @@ pub shown_with_note : (ds : List LogItem) (x y : CpuView) (h : List Change) → 
 shown_with_note ds x y h is shown = subst (λ (v : CpuView). IsShownAfter ds (Cpu v)) is shown
 
 -- a note that is laid beside the keeper's view changes neither its log nor its history and marks
-pub own_with_note : (log same note noted_log : List LogItem) (k l : KeeperView) (h : List Change) → l ≡ keeper_with_note k h → same ≡ log → noted_log ≡ note → IsOwnLog same noted_log l → IsOwnLog log note k
+pub own_with_note : (log same note noted_log : List LogItem) (k l : KeeperView) (h : List Change) → l ≡ keeper_with_note k h → same ≡ log → noted_log ≡ note → IsOwnLog same noted_log l
+    → IsOwnLog log note k
 own_with_note log same note noted_log k l h is logs notes own = record {
   told = subst (λ (p : List LogItem). IsPrefix p log) notes (subst (IsPrefix noted_log) logs own.told);
   changes = sym (ap (λ (x : KeeperView). length x.history) is) ∙ (own.changes ∙ ap changes_in logs);
@@ -100,13 +103,19 @@ own_with_note log same note noted_log k l h is logs notes own = record {
   slots = subst (λ (ds : List LogItem). AreSlotsOf k.settings.cpus ds k.slots) logs (subst (λ (x : KeeperView). AreSlotsOf x.settings.cpus same x.slots) is own.slots);
   kept = λ t. sym (ap (λ (x : KeeperView). kept_at x.keeps t) is) ∙ (own.kept t ∙ ap (keeping t) logs);
   grow = subst WordsGrow logs own.grow;
-  counts = (own.counts.0, subst (λ (ds : List LogItem). IsShownAfter ds (Keeper (keeper_with_note k own.counts.0))) logs (subst (λ (x : KeeperView). IsShownAfter same (Keeper (keeper_with_note x own.counts.0))) is own.counts.1));
+  counts = (
+    own.counts.0,
+    subst (λ (ds : List LogItem). IsShownAfter ds (Keeper (keeper_with_note k own.counts.0))) logs
+        (subst (λ (x : KeeperView). IsShownAfter same (Keeper (keeper_with_note x own.counts.0))) is own.counts.1),
+  );
 }
 
 -- the item that makes a retired slot vacant frees it from its entry
-pub freed_by : (t : ℕ) (log note : List LogItem) (k : KeeperView) (e : Entry) (d : LogItem) (more later : List LogItem) → IsOwnLog log note k → slot_at k.slots t ≡ Retired e → destroyed_slot d.event ≡ Some t → later ≡ log ++ d ∷ more → IsFreedFrom t e.number later
+pub freed_by : (t : ℕ) (log note : List LogItem) (k : KeeperView) (e : Entry) (d : LogItem) (more later : List LogItem) → IsOwnLog log note k → slot_at k.slots t ≡ Retired e
+    → destroyed_slot d.event ≡ Some t → later ≡ log ++ d ∷ more → IsFreedFrom t e.number later
 freed_by t log note k e d more later own at freed are = record { before = log; item = d; after = more; are = are; detached = own.slots.retired t e at; freed = freed }
 
 -- an attach in a slot that keeps a driver
-pub attached_by : (t : ℕ) (log note : List LogItem) (k : KeeperView) (d : ℕ) (later : List LogItem) → IsOwnLog log note k → kept_at k.keeps t ≡ Some d → later ≡ log ++ log_item (Publish t) Done ∷ [] → IsAttachedKeeping t (suc (length k.history)) d later
+pub attached_by : (t : ℕ) (log note : List LogItem) (k : KeeperView) (d : ℕ) (later : List LogItem) → IsOwnLog log note k → kept_at k.keeps t ≡ Some d → later ≡ log ++ log_item (Publish t) Done ∷ []
+    → IsAttachedKeeping t (suc (length k.history)) d later
 attached_by t log note k d later own keeps are = record { before = log; after = []; are = are; number = ap suc own.changes; keeps = sym (own.kept t) ∙ keeps }

@@ -67,7 +67,8 @@ named s e r d is only =
 
 follow : (r : Run) (acts : List (ℕ × LogItem)) (e : Event) (es : List Event) (o : Option Outcome) → NamesTellers acts → step r.state e ≡ o
     → events_of acts ≡ log_with r.state e o (log_from (run_with_event r o) es) → length (log_with r.state e o (log_from (run_with_event r o) es)) ≡ suc (length es)
-    → ((more : List (ℕ × LogItem)) → NamesTellers more → events_of more ≡ log_from (run_with_event r o) es → length (log_from (run_with_event r o) es) ≡ length es → Follows (run_with_event r o).state more es (run_of_events (run_with_event r o) es).state)
+    → ((more : List (ℕ × LogItem)) → NamesTellers more → events_of more ≡ log_from (run_with_event r o) es → length (log_from (run_with_event r o) es) ≡ length es
+    → Follows (run_with_event r o).state more es (run_of_events (run_with_event r o) es).state)
     → Follows r.state acts (e ∷ es) (run_of_events (run_with_event r o) es).state
 follow r acts e es None names is are all on = absurd (let le = few (run_with_event r None) es in omega (arith, le, all))
 follow r [] e es (Some o) names is are all on = absurd (let size : 0 ≡ suc (length (log_from (run_with_event r (Some o)) es)) = ap (λ (l : List LogItem). length l) are in omega arith)
@@ -80,12 +81,14 @@ follow r (a ∷ more) e es (Some o) names is are all on =
       on more names.1 (same_rest (untold a.1) d (events_of more) rest are) (omega arith),
     )
 
-follows_named : (r : Run) (acts : List (ℕ × LogItem)) (es : List Event) → NamesTellers acts → events_of acts ≡ log_from r es → length (log_from r es) ≡ length es → Follows r.state acts es (run_of_events r es).state
+follows_named : (r : Run) (acts : List (ℕ × LogItem)) (es : List Event) → NamesTellers acts → events_of acts ≡ log_from r es → length (log_from r es) ≡ length es
+    → Follows r.state acts es (run_of_events r es).state
 follows_named r [] [] names are all = refl
 follows_named r (a ∷ more) [] names are all = absurd (let size : suc (length (events_of more)) ≡ 0 = ap (λ (l : List LogItem). length l) are in omega arith)
 follows_named r acts (e ∷ es) names are all = follow r acts e es (step r.state e) names refl are all (λ more named same size. follows_named (run_with_event r (step r.state e)) more es named same size)
 
-pub follows : (seat : ℕ → ℕ) (n : ℕ) (r : Run) (acts : List (ℕ × LogItem)) (es : List Event) → AreToldBefore seat n acts → events_of acts ≡ log_from r es → length (log_from r es) ≡ length es → Follows r.state acts es (run_of_events r es).state
+pub follows : (seat : ℕ → ℕ) (n : ℕ) (r : Run) (acts : List (ℕ × LogItem)) (es : List Event) → AreToldBefore seat n acts → events_of acts ≡ log_from r es → length (log_from r es) ≡ length es
+    → Follows r.state acts es (run_of_events r es).state
 follows seat n r acts es told are all = follows_named r acts es (names_tellers seat n [] acts told) are all
 
 -- What it leads to

@@ -1,17 +1,20 @@
 -- What the keeper's log says of slots: which entry each has, and that all CPUs have passed for the last one where a slot is vacant.
-use Rattle.std.proofs.Common.{◌≡◌, ◌≢◌, ◌⊎◌, inl, inr, ⊎_elim, ℕ, suc, ◌+◌, ◌<◌, ◌==◌, ◌&&◌, Bool, true, false, not, if◌then◌else◌, List, [], ◌∷◌, ◌++◌, length, set, replicate, Option, Some, None, eq-eqb, ne_eqb, refl, sym, ap, ◌∙◌, subst, arith}
+use Rattle.std.proofs.Common.{◌≡◌, ◌≢◌, ◌⊎◌, inl, inr, ⊎_elim, ℕ, suc, ◌+◌, ◌<◌, ◌==◌, ◌&&◌, Bool, true, false, not, if◌then◌else◌, List, [], ◌∷◌, ◌++◌, length, set, replicate, Option, Some, None}
+use Rattle.std.proofs.Common.{eq-eqb, ne_eqb, refl, sym, ap, ◌∙◌, subst, arith}
 use Rattle.std.proofs.lemmas.Bool.{and_parts, eqb-true}
 use Rattle.std.proofs.lemmas.Option.{none-some, same_Some}
 use Rattle.cpu_words.specs.Types.{Entry, Slot, Vacant, Live, Retired, Settings, Event, Publish, Unpublish, Reply, Done}
 use Rattle.registry_values.specs.Common.{key_of, slot_at, slot_before, is_taken}
-use Rattle.protocol.specs.Common.{State, opening, row_at, at_rest, Outcome, guard, some_outcome, with_some, step, unpublish, entry_of, may_write, may_publish, has_room, is_prepared, after_publish, with_link_past, after_unpublish, is_drained, Holds}
+use Rattle.protocol.specs.Common.{State, opening, row_at, at_rest, Outcome, guard, some_outcome, with_some, step, unpublish, entry_of, may_write, may_publish, has_room, is_prepared, after_publish}
+use Rattle.protocol.specs.Common.{with_link_past, after_unpublish, is_drained, Holds}
 use Rattle.protocol.proofs.keeps.ListKeeps.{may_write_tells}
 use Rattle.protocol.proofs.keeps.MarkKeeps.{is_drained_tells}
 use Rattle.protocol.proofs.keeps.Unlinking.{within_live, within_retired}
 use Rattle.protocol.proofs.runs.Steps.{Sort, Refused, Left, Entered, Exited, Sought, Heard, Searched, Published, Unpublished, Kept, Gave_up, Vacated, step_sort}
 use Rattle.protocol.proofs.slots.Cells.{get_or_all}
 use Rattle.protocol.proofs.slots.Occupied.{live_one, not_vacant, retired_one, slot_cases}
-use Rattle.cpu_words.specs.Common.{LogItem, Teller, by_number, changes_in, HasPassedOn, AreMarksOf, Standing, nothing, attached, detached, number_of, standing, is_change_at, AreSlotsOf, maker, IsSeatOf}
+use Rattle.cpu_words.specs.Common.{LogItem, Teller, by_number, changes_in, HasPassedOn, AreMarksOf, Standing, nothing, attached, detached, number_of, standing, is_change_at, AreSlotsOf, maker}
+use Rattle.cpu_words.specs.Common.{IsSeatOf}
 use Rattle.cpu_words.proofs.logs.Changes.{is_change}
 use Rattle.cpu_words.proofs.logs.Marks.{passed_more}
 use Rattle.cpu_words.proofs.logs.Runs.{item_as, item_of}
@@ -37,7 +40,8 @@ slots_left s _ _ (Kept t id d v may) other p is = inl (ap (λ (q : Outcome). q.s
 slots_left s _ _ (Gave_up t d u keeps of ok) other p is = inr (t, ok, ap (λ (q : Outcome). q.state.slots) (sym (same_Some _ p is)))
 slots_left s _ _ (Vacated t may) other p is = inr (t, (and_parts _ (is_drained s t) may).1, ap (λ (q : Outcome). q.state.slots) (sym (same_Some _ p is)))
 
-vacated_slots : (s : State) (t : ℕ) (log : List LogItem) → Holds s → is_drained s t ≡ true → AreMarksOf log s.marks → AreSlotsOf s.settings.cpus log s.slots → AreSlotsOf s.settings.cpus log (set s.slots t Vacant)
+vacated_slots : (s : State) (t : ℕ) (log : List LogItem) → Holds s → is_drained s t ≡ true → AreMarksOf log s.marks → AreSlotsOf s.settings.cpus log s.slots
+    → AreSlotsOf s.settings.cpus log (set s.slots t Vacant)
 vacated_slots s t log on drained marks are =
     let told = is_drained_tells s t on drained in
     let lt : t < length s.slots = within_retired s.slots t told.1.0 told.1.1 in
@@ -75,7 +79,8 @@ more_slots cpus log slots d other are =
 -- Attach and detach
 
 -- what the other slots have stays
-elsewhere : (cpus : ℕ) (log : List LogItem) (slots : List Slot) (d : LogItem) (t : ℕ) (x : Slot) → t < length slots → ((u : ℕ) → (u ≡ t → ⊥) → is_change_at u d.event ≡ false) → AreSlotsOf cpus log slots
+elsewhere : (cpus : ℕ) (log : List LogItem) (slots : List Slot) (d : LogItem) (t : ℕ) (x : Slot) → t < length slots → ((u : ℕ) → (u ≡ t → ⊥) → is_change_at u d.event ≡ false)
+    → AreSlotsOf cpus log slots
     → ((e : Entry) → x ≡ Live e → standing t (log ++ d ∷ []) ≡ attached e.number) → ((e : Entry) → x ≡ Retired e → standing t (log ++ d ∷ []) ≡ detached e.number) → (x ≡ Vacant → ⊥)
     → AreSlotsOf cpus (log ++ d ∷ []) (set slots t x)
 elsewhere cpus log slots d t x lt other are live retired occupied =
@@ -92,11 +97,13 @@ elsewhere cpus log slots d t x lt other are live retired occupied =
           (slot_cases slots t x u lt);
       vacant = λ u n c is gone low. ⊎_elim
           (λ (here : (u ≡ t) × (slot_at new u ≡ x)). absurd (occupied (sym here.1 ∙ is)))
-          (λ (old : (u ≡ t → ⊥) × (slot_at new u ≡ slot_at slots u)). passed_more u c log d (no_detach_from u d.event (other u old.0)) (are.vacant u n c (sym old.1 ∙ is) (sym (same u old.0) ∙ gone) low))
+          (λ (old : (u ≡ t → ⊥) × (slot_at new u ≡ slot_at slots u)). passed_more u c log d (no_detach_from u d.event (other u old.0))
+          (are.vacant u n c (sym old.1 ∙ is) (sym (same u old.0) ∙ gone) low))
           (slot_cases slots t x u lt);
     }
 
-attached_slots : (cpus : ℕ) (log : List LogItem) (slots : List Slot) (t : ℕ) (r : Reply) (e : Entry) → t < length slots → e.number ≡ suc (changes_in log) → AreSlotsOf cpus log slots → AreSlotsOf cpus (log ++ item_as (Publish t) r None ∷ []) (set slots t (Live e))
+attached_slots : (cpus : ℕ) (log : List LogItem) (slots : List Slot) (t : ℕ) (r : Reply) (e : Entry) → t < length slots → e.number ≡ suc (changes_in log) → AreSlotsOf cpus log slots
+    → AreSlotsOf cpus (log ++ item_as (Publish t) r None ∷ []) (set slots t (Live e))
 attached_slots cpus log slots t r e lt number are =
     let d = item_as (Publish t) r None in
     elsewhere cpus log slots d t (Live e) lt (λ u off. ne_eqb t u (λ (same : t ≡ u). off (sym same))) are
@@ -106,7 +113,8 @@ attached_slots cpus log slots t r e lt number are =
     (λ f is. absurd (let q : Live e ≡ Retired f = is in cc))
     (λ is. let q : Live e ≡ Vacant = is in cc)
 
-detached_slots : (cpus : ℕ) (log : List LogItem) (slots : List Slot) (t : ℕ) (r : Reply) (e : Entry) → slot_at slots t ≡ Live e → AreSlotsOf cpus log slots → AreSlotsOf cpus (log ++ item_as (Unpublish t) r None ∷ []) (set slots t (Retired e))
+detached_slots : (cpus : ℕ) (log : List LogItem) (slots : List Slot) (t : ℕ) (r : Reply) (e : Entry) → slot_at slots t ≡ Live e → AreSlotsOf cpus log slots
+    → AreSlotsOf cpus (log ++ item_as (Unpublish t) r None ∷ []) (set slots t (Retired e))
 detached_slots cpus log slots t r e at are =
     let d = item_as (Unpublish t) r None in
     elsewhere cpus log slots d t (Retired e) (within_live slots t e at) (λ u off. ne_eqb t u (λ (same : t ≡ u). off (sym same))) are
@@ -132,7 +140,8 @@ gives_some log s e None f gives = tt
 gives_some log s e (Some y) f gives = gives y
 
 publish_gives : (log : List LogItem) (s : State) (t : ℕ) → Holds s → length s.history ≡ changes_in log → AreSlotsOf s.settings.cpus log s.slots → Gives log s (Publish t) (step s (Publish t))
-publish_gives log s t on changes are = gives_some log s (Publish t) (entry_of t (row_at s.rows t)) _ (λ e. gives_guard log s (Publish t) (may_publish s t e) (some_outcome (after_publish s t e) Done) (λ may.
+publish_gives log s t on changes are =
+    gives_some log s (Publish t) (entry_of t (row_at s.rows t)) _ (λ e. gives_guard log s (Publish t) (may_publish s t e) (some_outcome (after_publish s t e) Done) (λ may.
     let p = and_parts (may_write s t) _ may in
     let q = and_parts (e.number == length s.history + 1) (not (is_taken (key_of e) s.slots) && (has_room s && is_prepared s t e.rec.kind)) p.1 in
     let number = eqb-true e.number (length s.history + 1) q.0 in
@@ -145,23 +154,28 @@ unlinked_slots s t (Some p) = refl
 unpublish_gives : (log : List LogItem) (s : State) (t : ℕ) (x : Slot) → slot_at s.slots t ≡ x → AreSlotsOf s.settings.cpus log s.slots → Gives log s (Unpublish t) (unpublish s t x)
 unpublish_gives log s t Vacant at are = tt
 unpublish_gives log s t (Live e) at are = gives_guard log s (Unpublish t) (at_rest s.due) (some_outcome (after_unpublish s t e) Done) (λ rest.
-    subst (λ (slots : List Slot). AreSlotsOf s.settings.cpus (log ++ item_as (Unpublish t) Done None ∷ []) (set slots t (Retired e))) (sym (unlinked_slots s t (slot_before s.slots s.next t))) (detached_slots s.settings.cpus log s.slots t Done e at are))
+    subst (λ (slots : List Slot). AreSlotsOf s.settings.cpus (log ++ item_as (Unpublish t) Done None ∷ []) (set slots t (Retired e))) (sym (unlinked_slots s t (slot_before s.slots s.next t)))
+    (detached_slots s.settings.cpus log s.slots t Done e at are))
 unpublish_gives log s t (Retired e) at are = tt
 
-other_gives : (log : List LogItem) (s : State) (e : Event) (o : Outcome) (h : Option Teller) → Holds s → step s e ≡ Some o → is_change e ≡ false → AreMarksOf log s.marks → AreSlotsOf s.settings.cpus log s.slots
+other_gives : (log : List LogItem) (s : State) (e : Event) (o : Outcome) (h : Option Teller) → Holds s → step s e ≡ Some o → is_change e ≡ false → AreMarksOf log s.marks
+    → AreSlotsOf s.settings.cpus log s.slots
     → AreSlotsOf s.settings.cpus (log ++ item_of s e o.reply h ∷ []) o.state.slots
 other_gives log s e o h on made other marks are =
-    more_slots s.settings.cpus log o.state.slots (item_of s e o.reply h) (λ t. no_change_at t s e other) (left_slots s o.state log on (slots_left s e (step s e) (step_sort s e on) other o made) marks are)
+    more_slots s.settings.cpus log o.state.slots (item_of s e o.reply h) (λ t. no_change_at t s e other)
+    (left_slots s o.state log on (slots_left s e (step s e) (step_sort s e on) other o made) marks are)
 
 -- the keeper's next item
-pub slots_own : (log : List LogItem) (s : State) (e : Event) (o : Outcome) (h : Option Teller) → Holds s → step s e ≡ Some o → length s.history ≡ changes_in log → AreMarksOf log s.marks → AreSlotsOf s.settings.cpus log s.slots
+pub slots_own : (log : List LogItem) (s : State) (e : Event) (o : Outcome) (h : Option Teller) → Holds s → step s e ≡ Some o → length s.history ≡ changes_in log → AreMarksOf log s.marks
+    → AreSlotsOf s.settings.cpus log s.slots
     → AreSlotsOf s.settings.cpus (log ++ item_of s e o.reply h ∷ []) o.state.slots
 slots_own log s (Publish t) o h on made changes marks are = subst (Gives log s (Publish t)) made (publish_gives log s t on changes are)
 slots_own log s (Unpublish t) o h on made changes marks are = subst (Gives log s (Unpublish t)) made (unpublish_gives log s t (slot_at s.slots t) refl are)
 slots_own log s e o h on made changes marks are = other_gives log s e o h on made refl marks are
 
 -- an event of another seat
-pub slots_off : (seat : ℕ → ℕ) (n i : ℕ) (log : List LogItem) (s : State) (e : Event) (o : Outcome) → IsSeatOf seat n i (maker (by_number s e)) → i ≢ 0 → Holds s → step s e ≡ Some o → AreMarksOf log s.marks → AreSlotsOf s.settings.cpus log s.slots
+pub slots_off : (seat : ℕ → ℕ) (n i : ℕ) (log : List LogItem) (s : State) (e : Event) (o : Outcome) → IsSeatOf seat n i (maker (by_number s e)) → i ≢ 0 → Holds s → step s e ≡ Some o
+    → AreMarksOf log s.marks → AreSlotsOf s.settings.cpus log s.slots
     → AreSlotsOf s.settings.cpus log o.state.slots
 slots_off seat n i log s (Publish t) o is off on made marks are = absurd (off is)
 slots_off seat n i log s (Unpublish t) o is off on made marks are = absurd (off is)

@@ -2,7 +2,8 @@
 use Rattle.std.proofs.Common.{◌≡◌, ℕ, suc, ◌+◌, Bool, true, false, if◌then◌else◌, List, [], ◌∷◌, ◌++◌, refl, sym, ap, ◌∙◌, arith}
 use Rattle.cpu_words.specs.Types.{Event, Publish, Unpublish}
 use Rattle.protocol.specs.Common.{State}
-use Rattle.cpu_words.specs.Common.{LogItem, by_number, changes_of, changes_in, is_detach_from, KeepsEntry, Standing, nothing, attached, detached, number_of, stands_after, stands_from, standing, IsDetachedFrom, is_change_at, KeepsSlot}
+use Rattle.cpu_words.specs.Common.{LogItem, by_number, changes_of, changes_in, is_detach_from, KeepsEntry, Standing, nothing, attached, detached, number_of, stands_after, stands_from, standing}
+use Rattle.cpu_words.specs.Common.{IsDetachedFrom, is_change_at, KeepsSlot}
 use Rattle.cpu_words.proofs.logs.Changes.{is_change, moves_past}
 
 pushes : (e : Event) (a b : ℕ) → changes_of e (a + b) ≡ changes_of e a + b
@@ -22,7 +23,8 @@ changes_last log d =
 stands_both : (t n : ℕ) (x : Standing) (a b : List LogItem) → stands_from t n x (a ++ b) ≡ stands_from t (changes_in a + n) (stands_from t n x a) b
 stands_both t n x [] b = let same : n ≡ 0 + n = omega arith in ap (λ (m : ℕ). stands_from t m x b) same
 stands_both t n x (d ∷ ds) b =
-    stands_both t (changes_of d.event n) (stands_after t n d.event x) ds b ∙ ap (λ (m : ℕ). stands_from t m (stands_from t (changes_of d.event n) (stands_after t n d.event x) ds) b) (sym (moves_past d.event (changes_in ds) n))
+    stands_both t (changes_of d.event n) (stands_after t n d.event x) ds b
+    ∙ ap (λ (m : ℕ). stands_from t m (stands_from t (changes_of d.event n) (stands_after t n d.event x) ds) b) (sym (moves_past d.event (changes_in ds) n))
 
 pub standing_both : (t : ℕ) (a b : List LogItem) → standing t (a ++ b) ≡ stands_from t (changes_in a) (standing t a) b
 standing_both t a b = let same : changes_in a + 0 ≡ changes_in a = omega arith in stands_both t 0 nothing a b ∙ ap (λ (m : ℕ). stands_from t m (standing t a) b) same

@@ -3,7 +3,8 @@ use Rattle.std.proofs.Common.{◌≡◌, ◌≢◌, ◌⊎◌, inl, inr, ⊎_eli
 use Rattle.std.proofs.lemmas.List.{append-nil}
 use Rattle.cpu_words.specs.Types.{Event, Hear}
 use Rattle.protocol.specs.Common.{Outcome, step, Run, run_with_event, State}
-use Rattle.cpu_words.specs.Common.{LogItem, Teller, by_number, reply_without_id, log_item, log_with, log_from, part, HasComeIf, IsToldBefore, AreToldBefore, teller_if, untold, has_heard_from, heard_from}
+use Rattle.cpu_words.specs.Common.{LogItem, Teller, by_number, reply_without_id, log_item, log_with, log_from, part, HasComeIf, IsToldBefore, AreToldBefore, teller_if, untold, has_heard_from}
+use Rattle.cpu_words.specs.Common.{heard_from}
 use Rattle.cpu_words.proofs.logs.Parts.{by_seat, part_append}
 use Rattle.cpu_words.proofs.logs.Runs.{same_first, same_rest}
 
@@ -43,7 +44,8 @@ stands (y ∷ a) b (z ∷ first) rest x is =
 
 -- A teller has come so far, also when more was done, and when more CPUs have seats
 
-pub come_seats : (seat next : ℕ → ℕ) (n more : ℕ) (acts : List (ℕ × LogItem)) (h : Option Teller) → n ≤ more → ((c : ℕ) → c < n → next c ≡ seat c) → HasComeIf seat n acts h → HasComeIf next more acts h
+pub come_seats : (seat next : ℕ → ℕ) (n more : ℕ) (acts : List (ℕ × LogItem)) (h : Option Teller) → n ≤ more → ((c : ℕ) → c < n → next c ≡ seat c) → HasComeIf seat n acts h
+    → HasComeIf next more acts h
 come_seats seat next n more acts None le same come = tt
 come_seats seat next n more acts (Some h) le same come = record {
   seated = let lt = come.seated in omega (arith, lt, le);
@@ -60,7 +62,8 @@ come_acts seat n acts more (Some h) come = record {
       omega (arith, at, size, length-append (part (seat h.cpu) acts) (part (seat h.cpu) more));
 }
 
-pub come_more : (seat next : ℕ → ℕ) (n all : ℕ) (acts more : List (ℕ × LogItem)) (h : Option Teller) → n ≤ all → ((c : ℕ) → c < n → next c ≡ seat c) → HasComeIf seat n acts h → HasComeIf next all (acts ++ more) h
+pub come_more : (seat next : ℕ → ℕ) (n all : ℕ) (acts more : List (ℕ × LogItem)) (h : Option Teller) → n ≤ all → ((c : ℕ) → c < n → next c ≡ seat c) → HasComeIf seat n acts h
+    → HasComeIf next all (acts ++ more) h
 come_more seat next n all acts more h le same come = come_acts next all acts more h (come_seats seat next n all acts h le same come)
 
 told_seats : (seat next : ℕ → ℕ) (n more : ℕ) (first : List (ℕ × LogItem)) (d : LogItem) → n ≤ more → ((c : ℕ) → c < n → next c ≡ seat c) → IsToldBefore seat n first d → IsToldBefore next more first d
@@ -70,7 +73,8 @@ told_seats seat next n more first d le same told = record { only = told.only; be
 abbrev pub AreToldPast : (ℕ → ℕ) → ℕ → List (ℕ × LogItem) → List (ℕ × LogItem) → Type 0
 AreToldPast seat n acts new = (i : ℕ) (d : LogItem) (past rest : List (ℕ × LogItem)) → new ≡ past ++ (i, d) ∷ rest → IsToldBefore seat n (acts ++ past) d
 
-pub told_more : (seat next : ℕ → ℕ) (n all : ℕ) (acts new : List (ℕ × LogItem)) → n ≤ all → ((c : ℕ) → c < n → next c ≡ seat c) → AreToldBefore seat n acts → AreToldPast seat n acts new → AreToldBefore next all (acts ++ new)
+pub told_more : (seat next : ℕ → ℕ) (n all : ℕ) (acts new : List (ℕ × LogItem)) → n ≤ all → ((c : ℕ) → c < n → next c ≡ seat c) → AreToldBefore seat n acts → AreToldPast seat n acts new
+    → AreToldBefore next all (acts ++ new)
 told_more seat next n all acts new le same told past i d first rest is = ⊎_elim
     (λ (p : (more : List (ℕ × LogItem)) × (acts ≡ first ++ (i, d) ∷ more)). told_seats seat next n all first d le same (told i d first p.0 p.1))
     (λ (p : (more : List (ℕ × LogItem)) × (first ≡ acts ++ more) × (new ≡ more ++ (i, d) ∷ rest)).

@@ -1,6 +1,8 @@
 -- What the keeper's log says of totals: of each occupied slot the words that were collected, less the references given up.
-use Rattle.cpu_words.specs.Types.{Reply, Entry, Mark, Settings, MOST_CPUS, Slot, Vacant, Live, Retired, Event, Publish, Unpublish, Snapshot, Collect, TotalAdd, JoinKeeper, TotalSub, KeptSub, Vacate, Due, Rest, Snapshots, Subtracting}
-use Rattle.std.proofs.Common.{◌≡◌, inl, inr, ⊎_elim, ℕ, zero, suc, ◌+◌, ◌-◌, ◌*◌, ◌<◌, ◌≤◌, ◌==◌, ◌&&◌, nat_lt, not, Bool, true, false, if◌then◌else◌, List, [], ◌∷◌, ◌++◌, length, get_or, set, sum_by, Option, Some, None, eq-eqb, ne_eqb, refl, sym, ap, ◌∙◌, subst, append_assoc, arith}
+use Rattle.cpu_words.specs.Types.{Reply, Entry, Mark, Settings, MOST_CPUS, Slot, Vacant, Live, Retired, Event, Publish, Unpublish, Snapshot, Collect, TotalAdd, JoinKeeper, TotalSub, KeptSub, Vacate}
+use Rattle.cpu_words.specs.Types.{Due, Rest, Snapshots, Subtracting}
+use Rattle.std.proofs.Common.{◌≡◌, inl, inr, ⊎_elim, ℕ, zero, suc, ◌+◌, ◌-◌, ◌*◌, ◌<◌, ◌≤◌, ◌==◌, ◌&&◌, nat_lt, not, Bool, true, false, if◌then◌else◌, List, [], ◌∷◌, ◌++◌, length, get_or, set, sum_by}
+use Rattle.std.proofs.Common.{Option, Some, None, eq-eqb, ne_eqb, refl, sym, ap, ◌∙◌, subst, append_assoc, arith}
 use Rattle.std.specs.List.{zip, list_all}
 use Rattle.std.specs.Prelude.{take}
 use Rattle.std.proofs.lemmas.Bool.{and_parts, cases_eq, cases_lt, eqb-true}
@@ -9,14 +11,17 @@ use Rattle.std.proofs.lemmas.List.Sums.{sum_by-cons}
 use Rattle.std.proofs.lemmas.Option.{same_Some}
 use Rattle.registry_values.specs.Common.{bias, no_mark, is_retired, is_taken, key_of, slot_at, slot_of}
 use Rattle.registry_values.proofs.Fit.{ranges}
-use Rattle.protocol.specs.Common.{State, opening, mark_at, count_at, total_at, kept_at, at_rest, Outcome, step, due_after, may_write, may_examine, may_join, is_drainable, has_room, is_prepared, are_unused, keeps_rightly, is_bias, Holds, IsIn, one_if, addition_due_at, is_adding_at, subtraction_due_at}
+use Rattle.protocol.specs.Common.{State, opening, mark_at, count_at, total_at, kept_at, at_rest, Outcome, step, due_after, may_write, may_examine, may_join, is_drainable, has_room, is_prepared}
+use Rattle.protocol.specs.Common.{are_unused, keeps_rightly, is_bias, Holds, IsIn, one_if, addition_due_at, is_adding_at, subtraction_due_at}
 use Rattle.protocol.proofs.counts.Bounds.{adding_range, adding_within, driver_positive, subtracting_range}
 use Rattle.protocol.proofs.counts.HeldSums.{one_self, one_other}
 use Rattle.protocol.proofs.keeps.ListKeeps.{may_write_tells, false_from}
 use Rattle.protocol.proofs.keeps.MarkKeeps.{is_drained_tells, may_examine_tells}
 use Rattle.protocol.proofs.slots.Cells.{total_here, total_other}
 use Rattle.protocol.proofs.slots.Occupied.{at_rest_tells, fresh_unoccupied, in_within, one_number, slot_has}
-use Rattle.cpu_words.specs.Common.{LogItem, Teller, KeeperView, number_at, collected_net, collected_one, GivesUp, KeeperShown, Good, number_or_none, by_number, changes_of, changes_in, keeping, names, occupant_after, occupant, word_after, word_collected, replied, occupant_of, word_if, AreCountsOf, given_by, given_after, given_up, sum_below, is_there, word_or_none, words_collected, sum_collected, AreTotalsOf, maker, IsSeatOf}
+use Rattle.cpu_words.specs.Common.{LogItem, Teller, KeeperView, number_at, collected_net, collected_one, GivesUp, KeeperShown, Good, number_or_none, by_number, changes_of, changes_in, keeping, names}
+use Rattle.cpu_words.specs.Common.{occupant_after, occupant, word_after, word_collected, replied, occupant_of, word_if, AreCountsOf, given_by, given_after, given_up, sum_below, is_there, word_or_none}
+use Rattle.cpu_words.specs.Common.{words_collected, sum_collected, AreTotalsOf, maker, IsSeatOf}
 use Rattle.cpu_words.proofs.by_keeper.Marked.{due_alike}
 use Rattle.cpu_words.proofs.by_keeper.Totals.{one_subtracted}
 use Rattle.cpu_words.proofs.logs.Changes.{changes_up, unnamed_changes}
@@ -125,8 +130,10 @@ as_much : (log : List LogItem) (s : State) (e : Event) (o : Outcome) (t n : ℕ)
 as_much log s e o t n stay much even =
     let d : LogItem = item_of s e o.reply None in
     let word : (c : ℕ) → word_collected t c (log ++ d ∷ []) ≡ word_collected t c log = λ c. word_next t c log s e o.reply None ∙ stay c in
-    let words : words_collected t (log ++ d ∷ []) ≡ words_collected t log = sum_other (λ c. is_there (word_collected t c log)) (λ c. is_there (word_collected t c (log ++ d ∷ []))) MOST_CPUS (λ c lt. ap is_there (word c)) in
-    let sum : sum_collected t (log ++ d ∷ []) ≡ sum_collected t log = sum_other (λ c. word_or_none (word_collected t c log)) (λ c. word_or_none (word_collected t c (log ++ d ∷ []))) MOST_CPUS (λ c lt. ap word_or_none (word c)) in
+    let words : words_collected t (log ++ d ∷ []) ≡ words_collected t log =
+    sum_other (λ c. is_there (word_collected t c log)) (λ c. is_there (word_collected t c (log ++ d ∷ []))) MOST_CPUS (λ c lt. ap is_there (word c)) in
+    let sum : sum_collected t (log ++ d ∷ []) ≡ sum_collected t log =
+    sum_other (λ c. word_or_none (word_collected t c log)) (λ c. word_or_none (word_collected t c (log ++ d ∷ []))) MOST_CPUS (λ c lt. ap word_or_none (word c)) in
     let given : given_up n (log ++ d ∷ []) ≡ given_up n log + given_by log n (by_number s e) = given_more n log d in
     omega (arith, words, sum, given, much, even)
 
@@ -175,7 +182,8 @@ if_off : {X : Type 0} (u t : ℕ) (x y : X) → (u ≡ t → ⊥) → (if u == t
 if_off u t x y off = ap (λ (b : Bool). if b then x else y) (ne_eqb u t off)
 
 -- a slot is published with its total at the bias; nothing was collected for the new entry, and nothing given up
-published_next : (log : List LogItem) (s : State) (u : ℕ) (o : Outcome) (t n : ℕ) → Holds s → TotalsAfter s (Publish u) o → occupant_after t (changes_in log) (Publish u) (occupant t log) ≡ Some n → SaidBefore log s → Next log s (Publish u) o t n
+published_next : (log : List LogItem) (s : State) (u : ℕ) (o : Outcome) (t n : ℕ) → Holds s → TotalsAfter s (Publish u) o → occupant_after t (changes_in log) (Publish u) (occupant t log) ≡ Some n
+    → SaidBefore log s → Next log s (Publish u) o t n
 published_next log s u o t n on does is known = ⊎_elim
     (λ (same : u ≡ t).
     let number : suc (changes_in log) ≡ n = same_Some (suc (changes_in log)) n (sym (if_here u t (Some (suc (changes_in log))) (occupant t log) same) ∙ is) in
@@ -199,20 +207,24 @@ published_next log s u o t n on does is known = ⊎_elim
     let none : given_up n log ≡ 0 = known.totals.later n (omega (arith, number)) in
     omega (arith, total, quiet.0, quiet.1, quiet.2, words, sum, given, none))
     (λ (off : u ≡ t → ⊥).
-    as_much log s (Publish u) o t n (λ c. refl) (untouched log s (Publish u) o.state t n refl does.1) (known.totals.total t n (sym (if_off u t (Some (suc (changes_in log))) (occupant t log) off) ∙ is)))
+    as_much log s (Publish u) o t n (λ c. refl) (untouched log s (Publish u) o.state t n refl does.1)
+    (known.totals.total t n (sym (if_off u t (Some (suc (changes_in log))) (occupant t log) off) ∙ is)))
     (cases_eq u t)
 
-unpublished_next : (log : List LogItem) (s : State) (u : ℕ) (o : Outcome) (t n : ℕ) → DueAfter s (Unpublish u) o.state → TotalsAfter s (Unpublish u) o → occupant t log ≡ Some n → SaidBefore log s → Next log s (Unpublish u) o t n
+unpublished_next : (log : List LogItem) (s : State) (u : ℕ) (o : Outcome) (t n : ℕ) → DueAfter s (Unpublish u) o.state → TotalsAfter s (Unpublish u) o → occupant t log ≡ Some n → SaidBefore log s
+    → Next log s (Unpublish u) o t n
 unpublished_next log s u o t n due does is known = as_much log s (Unpublish u) o t n (λ c. refl)
     (quietly log s (Unpublish u) o.state t n refl does.1 (quiet_rest s.due t (at_rest_tells s.due does.0)) (quiet_snapshots o.state.due t u 0 due)) (known.totals.total t n is)
 
-snapped_next : (log : List LogItem) (s : State) (u c : ℕ) (o : Outcome) (t n : ℕ) → DueAfter s (Snapshot (Some u) c) o.state → TotalsAfter s (Snapshot (Some u) c) o → occupant t log ≡ Some n → SaidBefore log s → Next log s (Snapshot (Some u) c) o t n
+snapped_next : (log : List LogItem) (s : State) (u c : ℕ) (o : Outcome) (t n : ℕ) → DueAfter s (Snapshot (Some u) c) o.state → TotalsAfter s (Snapshot (Some u) c) o → occupant t log ≡ Some n
+    → SaidBefore log s → Next log s (Snapshot (Some u) c) o t n
 snapped_next log s u c o t n due does is known = as_much log s (Snapshot (Some u) c) o t n (λ d. refl)
     (quietly log s (Snapshot (Some u) c) o.state t n refl does (quiet_snapshots s.due t u c due.1) (quiet_after s o.state.due t u c due.0)) (known.totals.total t n is)
 
 -- the word that is collected is one more, and counts once it is added
 
-collected_here : (log : List LogItem) (s : State) (c : ℕ) (o : Outcome) (t n : ℕ) → Holds s → TotalsAfter s (Collect t c) o → occupant t log ≡ Some n → SaidBefore log s → Next log s (Collect t c) o t n
+collected_here : (log : List LogItem) (s : State) (c : ℕ) (o : Outcome) (t n : ℕ) → Holds s → TotalsAfter s (Collect t c) o → occupant t log ≡ Some n → SaidBefore log s
+    → Next log s (Collect t c) o t n
 collected_here log s c o t n on does is known =
     let w = count_at s.counts c t in
     let p = and_parts (may_examine s t c) (is_drainable s t && not (mark_at s.marks t c).collected) does.0 in
@@ -241,7 +253,8 @@ collected_here log s c o t n on does is known =
     let none : subtraction_due_at t o.state.due ≡ 0 = ap (subtraction_due_at t) does.3 in
     omega (arith, words, sum, one_old, one_new, word_old, word_new, given, even, total, quiet.0, quiet.1, quiet.2, added, adding, none)
 
-collected_off : (log : List LogItem) (s : State) (u c : ℕ) (o : Outcome) (t n : ℕ) → (u ≡ t → ⊥) → TotalsAfter s (Collect u c) o → occupant t log ≡ Some n → SaidBefore log s → Next log s (Collect u c) o t n
+collected_off : (log : List LogItem) (s : State) (u c : ℕ) (o : Outcome) (t n : ℕ) → (u ≡ t → ⊥) → TotalsAfter s (Collect u c) o → occupant t log ≡ Some n → SaidBefore log s
+    → Next log s (Collect u c) o t n
 collected_off log s u c o t n off does is known =
     let w = count_at s.counts c u in
     let p = and_parts (may_examine s u c) (is_drainable s u && not (mark_at s.marks u c).collected) does.0 in
@@ -253,7 +266,8 @@ collected_off log s u c o t n off does is known =
     let much : IsAsMuch log s (Collect u c) o.state t n = omega (arith, quiet.0, quiet.1, quiet.2, total, added, adding, none) in
     as_much log s (Collect u c) o t n (λ j. ap (λ (b : Bool). if b && c == j then replied o.reply else word_collected t j log) (ne_eqb u t off)) much (known.totals.total t n is)
 
-collected_next : (log : List LogItem) (s : State) (u c : ℕ) (o : Outcome) (t n : ℕ) → Holds s → TotalsAfter s (Collect u c) o → occupant t log ≡ Some n → SaidBefore log s → Next log s (Collect u c) o t n
+collected_next : (log : List LogItem) (s : State) (u c : ℕ) (o : Outcome) (t n : ℕ) → Holds s → TotalsAfter s (Collect u c) o → occupant t log ≡ Some n → SaidBefore log s
+    → Next log s (Collect u c) o t n
 collected_next log s u c o t n on does is known = ⊎_elim
     (λ (same : u ≡ t). subst (λ (v : ℕ). TotalsAfter s (Collect v c) o → Next log s (Collect v c) o t n) (sym same) (λ here. collected_here log s c o t n on here is known) does)
     (λ (off : u ≡ t → ⊥). collected_off log s u c o t n off does is known)
@@ -270,7 +284,8 @@ added_next log s u o t n on does is known =
     (λ (same : u ≡ t).
     let range = (adding_range s u old on due).0 in
     let lt : u < length s.totals = omega (arith, adding_within s u old on due, on.shape.totals) in
-    let total : total_at o.state.totals t ≡ total_at s.totals u + old - bias = ap (λ (x : List ℕ). total_at x t) does.2 ∙ (ap (total_at (set s.totals u (total_at s.totals u + old - bias))) (sym same) ∙ total_here s.totals u (total_at s.totals u + old - bias) lt) in
+    let total : total_at o.state.totals t ≡ total_at s.totals u + old - bias =
+    ap (λ (x : List ℕ). total_at x t) does.2 ∙ (ap (total_at (set s.totals u (total_at s.totals u + old - bias))) (sym same) ∙ total_here s.totals u (total_at s.totals u + old - bias) lt) in
     let was : total_at s.totals t ≡ total_at s.totals u = ap (total_at s.totals) (sym same) in
     let added : addition_due_at t s.due ≡ old = ap (addition_due_at t) due ∙ if_here u t old 0 same in
     let adding : is_adding_at t s.due ≡ 1 = ap (is_adding_at t) due ∙ one_self u t same in
@@ -294,7 +309,8 @@ subtracted_next log s u o t n on does is known =
     as_much log s (TotalSub u) o t n (λ c. refl) (omega (arith, less, total, before.0, before.1, before.2, after.0, after.1, after.2)) (known.totals.total t n is)
 
 -- a reference is given up, and is due for subtraction from its entry's slot
-joined_next : (log : List LogItem) (s : State) (id : ℕ) (o : Outcome) (t n : ℕ) → Holds s → TotalsAfter s (JoinKeeper id) o → occupant t log ≡ Some n → SaidBefore log s → Next log s (JoinKeeper id) o t n
+joined_next : (log : List LogItem) (s : State) (id : ℕ) (o : Outcome) (t n : ℕ) → Holds s → TotalsAfter s (JoinKeeper id) o → occupant t log ≡ Some n → SaidBefore log s
+    → Next log s (JoinKeeper id) o t n
 joined_next log s id o t n on does is known =
     let m = does.0 in
     let u = does.1 in
@@ -308,7 +324,8 @@ joined_next log s id o t n on does is known =
     as_much log s (JoinKeeper id) o t n (λ c. refl) (omega (arith, alike, given, total, before.0, before.1, before.2, after.0, after.1, after.2)) (known.totals.total t n is)
 
 -- of another slot than the one made vacant: the driver's total is 1 less, and one more reference to it is given up
-gave_up_next : (log : List LogItem) (s : State) (v : ℕ) (o : Outcome) (t n : ℕ) → Holds s → TotalsAfter s (KeptSub v) o → occupant_after t (changes_in log) (KeptSub v) (occupant t log) ≡ Some n → SaidBefore log s → Next log s (KeptSub v) o t n
+gave_up_next : (log : List LogItem) (s : State) (v : ℕ) (o : Outcome) (t n : ℕ) → Holds s → TotalsAfter s (KeptSub v) o → occupant_after t (changes_in log) (KeptSub v) (occupant t log) ≡ Some n
+    → SaidBefore log s → Next log s (KeptSub v) o t n
 gave_up_next log s v o t n on does is known = ⊎_elim
     (λ (same : v ≡ t). absurd (let q : ◌≡◌ {A = Option ℕ} None (Some n) = sym (if_here v t None (occupant t log) same) ∙ is in cc))
     (λ (off : v ≡ t → ⊥).
@@ -323,17 +340,21 @@ gave_up_next log s v o t n on does is known = ⊎_elim
     let rest = (is_drained_tells s v on does.4).0 in
     let before = quiet_rest s.due t rest in
     let after = quiet_rest o.state.due t (does.6 ∙ rest) in
-    as_much log s (KeptSub v) o t n (λ c. if_off v t None (word_collected t c log) off) (omega (arith, alike, given, less, total, before.0, before.1, before.2, after.0, after.1, after.2)) (known.totals.total t n was))
+    as_much log s (KeptSub v) o t n (λ c. if_off v t None (word_collected t c log) off) (omega (arith, alike, given, less, total, before.0, before.1, before.2, after.0, after.1, after.2))
+    (known.totals.total t n was))
     (cases_eq v t)
 
-vacated_next : (log : List LogItem) (s : State) (v : ℕ) (o : Outcome) (t n : ℕ) → TotalsAfter s (Vacate v) o → occupant_after t (changes_in log) (Vacate v) (occupant t log) ≡ Some n → SaidBefore log s → Next log s (Vacate v) o t n
+vacated_next : (log : List LogItem) (s : State) (v : ℕ) (o : Outcome) (t n : ℕ) → TotalsAfter s (Vacate v) o → occupant_after t (changes_in log) (Vacate v) (occupant t log) ≡ Some n → SaidBefore log s
+    → Next log s (Vacate v) o t n
 vacated_next log s v o t n does is known = ⊎_elim
     (λ (same : v ≡ t). absurd (let q : ◌≡◌ {A = Option ℕ} None (Some n) = sym (if_here v t None (occupant t log) same) ∙ is in cc))
     (λ (off : v ≡ t → ⊥).
-    as_much log s (Vacate v) o t n (λ c. if_off v t None (word_collected t c log) off) (untouched log s (Vacate v) o.state t n refl does) (known.totals.total t n (sym (if_off v t None (occupant t log) off) ∙ is)))
+    as_much log s (Vacate v) o t n (λ c. if_off v t None (word_collected t c log) off) (untouched log s (Vacate v) o.state t n refl does)
+    (known.totals.total t n (sym (if_off v t None (occupant t log) off) ∙ is)))
     (cases_eq v t)
 
-total_next : (log : List LogItem) (s : State) (e : Event) (o : Outcome) (t n : ℕ) → Holds s → DueAfter s e o.state → TotalsAfter s e o → occupant_after t (changes_in log) e (occupant t log) ≡ Some n → SaidBefore log s → Next log s e o t n
+total_next : (log : List LogItem) (s : State) (e : Event) (o : Outcome) (t n : ℕ) → Holds s → DueAfter s e o.state → TotalsAfter s e o → occupant_after t (changes_in log) e (occupant t log) ≡ Some n
+    → SaidBefore log s → Next log s e o t n
 total_next log s (Publish u) o t n on due does is known = published_next log s u o t n on does is known
 total_next log s (Unpublish u) o t n on due does is known = unpublished_next log s u o t n due does is known
 total_next log s (Snapshot (Some u) c) o t n on due does is known = snapped_next log s u c o t n due does is known
@@ -366,8 +387,10 @@ whoever_told log s e r h g are =
     record {
       total = λ t n is.
           let even = are.total t n (occupant_next t log s e r None ∙ (sym (occupant_next t log s e r h) ∙ is)) in
-          let words : words_collected t (log ++ f ∷ []) ≡ words_collected t (log ++ d ∷ []) = sum_other (λ c. is_there (word_collected t c (log ++ d ∷ []))) (λ c. is_there (word_collected t c (log ++ f ∷ []))) MOST_CPUS (λ c lt. ap is_there (word t c)) in
-          let sum : sum_collected t (log ++ f ∷ []) ≡ sum_collected t (log ++ d ∷ []) = sum_other (λ c. word_or_none (word_collected t c (log ++ d ∷ []))) (λ c. word_or_none (word_collected t c (log ++ f ∷ []))) MOST_CPUS (λ c lt. ap word_or_none (word t c)) in
+          let words : words_collected t (log ++ f ∷ []) ≡ words_collected t (log ++ d ∷ []) =
+          sum_other (λ c. is_there (word_collected t c (log ++ d ∷ []))) (λ c. is_there (word_collected t c (log ++ f ∷ []))) MOST_CPUS (λ c lt. ap is_there (word t c)) in
+          let sum : sum_collected t (log ++ f ∷ []) ≡ sum_collected t (log ++ d ∷ []) =
+          sum_other (λ c. word_or_none (word_collected t c (log ++ d ∷ []))) (λ c. word_or_none (word_collected t c (log ++ f ∷ []))) MOST_CPUS (λ c lt. ap word_or_none (word t c)) in
           omega (arith, even, words, sum, given n);
       later = λ n above. given n ∙ are.later n (let a = changes_last log f in let b = changes_last log d in omega (arith, above, a, b));
     }
@@ -385,7 +408,8 @@ plain_totals log s e o on made known =
     }
 
 -- the keeper's next item
-pub totals_own : (log : List LogItem) (s : State) (e : Event) (o : Outcome) (h : Option Teller) → Holds s → step s e ≡ Some o → SaidBefore log s → AreTotalsOf (log ++ item_of s e o.reply h ∷ []) o.state
+pub totals_own : (log : List LogItem) (s : State) (e : Event) (o : Outcome) (h : Option Teller) → Holds s → step s e ≡ Some o → SaidBefore log s
+    → AreTotalsOf (log ++ item_of s e o.reply h ∷ []) o.state
 totals_own log s e o h on made known = whoever_told log s e o.reply h o.state (plain_totals log s e o on made known)
 
 -- an event of another seat leaves totals, and what is due
@@ -401,7 +425,8 @@ left_off seat n i s (JoinKeeper id) o is off does = absurd (off is)
 left_off seat n i s (KeptSub t) o is off does = absurd (off is)
 left_off seat n i s e o is off does = does
 
-pub totals_off : (seat : ℕ → ℕ) (n i : ℕ) (log : List LogItem) (s : State) (e : Event) (o : Outcome) → IsSeatOf seat n i (maker (by_number s e)) → (i ≡ 0 → ⊥) → step s e ≡ Some o → AreTotalsOf log s → AreTotalsOf log o.state
+pub totals_off : (seat : ℕ → ℕ) (n i : ℕ) (log : List LogItem) (s : State) (e : Event) (o : Outcome) → IsSeatOf seat n i (maker (by_number s e)) → (i ≡ 0 → ⊥) → step s e ≡ Some o → AreTotalsOf log s
+    → AreTotalsOf log o.state
 totals_off seat n i log s e o is off made are =
     let dues : Dues s e (Some o) = subst (Dues s e) made (step_dues s e) in
     let same = left_off seat n i s e o is off dues.2 in record {
@@ -420,14 +445,16 @@ no_totals z = record { total = λ t n is. absurd (let q : ◌≡◌ {A = Option 
 -- What callers want
 
 -- at rest a total is by the log alone
-pub total_by_log : (log : List LogItem) (s : State) (t n : ℕ) → AreTotalsOf log s → s.due ≡ Rest → occupant t log ≡ Some n → total_at s.totals t + given_up n log + bias * words_collected t log ≡ bias + sum_collected t log
+pub total_by_log : (log : List LogItem) (s : State) (t n : ℕ) → AreTotalsOf log s → s.due ≡ Rest → occupant t log ≡ Some n
+    → total_at s.totals t + given_up n log + bias * words_collected t log ≡ bias + sum_collected t log
 total_by_log log s t n are rest is =
     let even : IsEven log s t n = are.total t n is in
     let quiet = quiet_rest s.due t rest in
     omega (arith, even, quiet.0, quiet.1, quiet.2)
 
 -- a sum over marks and net counts, as one over the places
-row_sum : (h : Mark × ℕ → ℕ) (ms : List Mark) (ns : List ℕ) (f : ℕ → ℕ) → length ms ≡ length ns → ((c : ℕ) → f c ≡ h (get_or ms c no_mark, get_or ns c 0)) → sum_below f (length ms) ≡ sum_by h (zip ms ns)
+row_sum : (h : Mark × ℕ → ℕ) (ms : List Mark) (ns : List ℕ) (f : ℕ → ℕ) → length ms ≡ length ns → ((c : ℕ) → f c ≡ h (get_or ms c no_mark, get_or ns c 0))
+    → sum_below f (length ms) ≡ sum_by h (zip ms ns)
 row_sum h [] ns f same each = refl
 row_sum h (m ∷ ms) [] f same each = absurd (omega (arith, same))
 row_sum h (m ∷ ms) (w ∷ ns) f same each =
@@ -448,7 +475,8 @@ net_collected true w = refl
 net_collected false w = refl
 
 -- as the keeper's view has it, so many references to the slot's entry were given up
-pub given_by_log : (log : List LogItem) (g : State) (k : KeeperView) (t n : ℕ) → Good g → KeeperShown g k → AreCountsOf log g → AreTotalsOf log g → g.due ≡ Rest → occupant t log ≡ Some n → number_at k.given_up n ≡ given_up n log
+pub given_by_log : (log : List LogItem) (g : State) (k : KeeperView) (t n : ℕ) → Good g → KeeperShown g k → AreCountsOf log g → AreTotalsOf log g → g.due ≡ Rest → occupant t log ≡ Some n
+    → number_at k.given_up n ≡ given_up n log
 given_by_log log g k t n good had counts totals rest is = by (slot_at g.slots t) refl
   where
     even : total_at g.totals t + given_up n log + bias * words_collected t log ≡ bias + sum_collected t log
@@ -478,8 +506,10 @@ given_by_log log g k t n good had counts totals rest is = by (slot_at g.slots t)
         λ c. counts.words t c ∙ (λ j. word_if (is_retired (at j) && (mark_at g.marks t c).collected) (count_at g.nets c t)) in
         let words : words_collected t log ≡ sum_by collected_one (zip (get_or g.marks t []) (get_or g.nets t [])) =
         ap (sum_below (λ c. is_there (word_collected t c log))) (sym marks)
-        ∙ row_sum collected_one (get_or g.marks t []) (get_or g.nets t []) (λ c. is_there (word_collected t c log)) (marks ∙ sym nets) (λ c. ap is_there (word c) ∙ one_collected (mark_at g.marks t c).collected (count_at g.nets c t)) in
+        ∙ row_sum collected_one (get_or g.marks t []) (get_or g.nets t []) (λ c. is_there (word_collected t c log)) (marks ∙ sym nets)
+        (λ c. ap is_there (word c) ∙ one_collected (mark_at g.marks t c).collected (count_at g.nets c t)) in
         let sum : sum_collected t log ≡ sum_by collected_net (zip (get_or g.marks t []) (get_or g.nets t [])) =
         ap (sum_below (λ c. word_or_none (word_collected t c log))) (sym marks)
-        ∙ row_sum collected_net (get_or g.marks t []) (get_or g.nets t []) (λ c. word_or_none (word_collected t c log)) (marks ∙ sym nets) (λ c. ap word_or_none (word c) ∙ net_collected (mark_at g.marks t c).collected (count_at g.nets c t)) in
+        ∙ row_sum collected_net (get_or g.marks t []) (get_or g.nets t []) (λ c. word_or_none (word_collected t c log)) (marks ∙ sym nets)
+        (λ c. ap word_or_none (word c) ∙ net_collected (mark_at g.marks t c).collected (count_at g.nets c t)) in
         omega (arith, even, gone, quiet.0, quiet.1, quiet.2, words, sum)

@@ -8,7 +8,10 @@ use Rattle.atomic_table.specs.Table.{Splits, Joins}
 use Rattle.atomic_table.proofs.Lists.{at_set}
 use Rattle.cpu_words.specs.Types.{Change, Settings, Event, Tell, Hear, Done, Rest}
 use Rattle.protocol.specs.Common.{State, seen_at, step}
-use Rattle.cpu_words.specs.Common.{CpuView, KeeperView, Logged, View, Keeper, Cpu, Note, Spent, KeeperOwn, own_of, cpu_view, keeper_own, keeper_view, depth_of, CpuShown, KeeperShown, Shown, cpu_of, keeper_of, note_of, Sits, reference_to, Good, by_number, did, log_item, log_of_events, Makes, SplitsBy, CpuMay, KeeperMay, SplitsOn, JoinsOn, the_cpu, who, LoggedRuled, logged_after_split, known_log_of, whole_log, fresh, logged_with_note, spent_seat, tells_pass, tells_history, told_by_cpu, no_teller, IsIdle, as_before, pass_told, history_told, with_note, keeper_with_note, beside_cpu, beside_keeper, HasHeard, KeeperHasHeard, CpuHears, section_of, head_word, index}
+use Rattle.cpu_words.specs.Common.{CpuView, KeeperView, Logged, View, Keeper, Cpu, Note, Spent, KeeperOwn, own_of, cpu_view, keeper_own, keeper_view, depth_of, CpuShown, KeeperShown, Shown, cpu_of}
+use Rattle.cpu_words.specs.Common.{keeper_of, note_of, Sits, reference_to, Good, by_number, did, log_item, log_of_events, Makes, SplitsBy, CpuMay, KeeperMay, SplitsOn, JoinsOn, the_cpu, who}
+use Rattle.cpu_words.specs.Common.{LoggedRuled, logged_after_split, known_log_of, whole_log, fresh, logged_with_note, spent_seat, tells_pass, tells_history, told_by_cpu, no_teller, IsIdle, as_before}
+use Rattle.cpu_words.specs.Common.{pass_told, history_told, with_note, keeper_with_note, beside_cpu, beside_keeper, HasHeard, KeeperHasHeard, CpuHears, section_of, head_word, index}
 use Rattle.std.proofs.lemmas.List.{append-nil}
 use Rattle.cpu_words.proofs.laws.Reaching.{more}
 use Rattle.cpu_words.proofs.logs.Seats.{tells_known, tells_whole, seat_cut, seat_with_note, names_nobody, names_cpu}
@@ -76,16 +79,22 @@ keeper_tells k may g good had =
 
 -- the same of a seat
 
-pub cpu_splits : (z : Settings) (i : ℕ) (l : Logged) (x : CpuView) (c : ℕ) → l ≡ record l { view = Cpu (cpu_of l.view) } → cpu_of l.view ≡ x → x.id ≡ c → IsIdle x → Splits (LoggedRuled z) i l (logged_after_split as_before tells_pass l) (fresh pass_told known_log_of told_by_cpu l)
-cpu_splits z i l x c is view id idle = seat_cut z i l (Cpu x) as_before pass_told tells_pass known_log_of told_by_cpu (did (Tell (Some c)) Done) (is ∙ ap (λ (u : CpuView). record l { view = Cpu u }) view) tt (ap the_cpu (sym id), tt) (λ k. did (Tell (Some (id k))) Done) (tells_known (record l { view = Cpu x }) (did (Tell (Some c)) Done)) (names_cpu l x (log_item (Tell (Some c)) Done)) (splits z i (Tell (Some c)) (Cpu x) x.pass (cpu_tells x c id idle))
+pub cpu_splits : (z : Settings) (i : ℕ) (l : Logged) (x : CpuView) (c : ℕ) → l ≡ record l { view = Cpu (cpu_of l.view) } → cpu_of l.view ≡ x → x.id ≡ c → IsIdle x
+    → Splits (LoggedRuled z) i l (logged_after_split as_before tells_pass l) (fresh pass_told known_log_of told_by_cpu l)
+cpu_splits z i l x c is view id idle = seat_cut z i l (Cpu x) as_before pass_told tells_pass known_log_of told_by_cpu (did (Tell (Some c)) Done)
+    (is ∙ ap (λ (u : CpuView). record l { view = Cpu u }) view) tt (ap the_cpu (sym id), tt) (λ k. did (Tell (Some (id k))) Done) (tells_known (record l { view = Cpu x }) (did (Tell (Some c)) Done))
+    (names_cpu l x (log_item (Tell (Some c)) Done)) (splits z i (Tell (Some c)) (Cpu x) x.pass (cpu_tells x c id idle))
 
 pub cpu_splits_by : (v a : View) (x : CpuView) (c : ℕ) → cpu_of v ≡ x → a ≡ pass_told v → x.id ≡ c → IsIdle x → SplitsBy (Tell (Some c)) (Cpu x) (Cpu x) (Note (note_of a))
 cpu_splits_by v a x c view right id idle =
     let p : note_of a ≡ x.pass = ap note_of right ∙ ap (λ (u : CpuView). u.pass) view in
     subst (λ h. SplitsBy (Tell (Some c)) (Cpu x) (Cpu x) (Note h)) (sym p) (tells_by (Tell (Some c)) (Cpu x) x.pass (cpu_tells x c id idle))
 
-pub keeper_splits : (z : Settings) (i : ℕ) (l : Logged) (k : KeeperView) → l ≡ record l { view = Keeper (keeper_of l.view) } → keeper_of l.view ≡ k → k.due ≡ Rest → Splits (LoggedRuled z) i l (logged_after_split as_before tells_history l) (fresh history_told (whole_log tells_history) no_teller l)
-keeper_splits z i l k is view may = seat_cut z i l (Keeper k) as_before history_told tells_history (whole_log tells_history) no_teller (did (Tell None) Done) (is ∙ ap (λ (u : KeeperView). record l { view = Keeper u }) view) tt (refl, tt) refl (tells_whole (record l { view = Keeper k }) (did (Tell None) Done) tt) (names_nobody (record l { view = Keeper k }) (did (Tell None) Done)) (splits z i (Tell None) (Keeper k) k.history (keeper_tells k may))
+pub keeper_splits : (z : Settings) (i : ℕ) (l : Logged) (k : KeeperView) → l ≡ record l { view = Keeper (keeper_of l.view) } → keeper_of l.view ≡ k → k.due ≡ Rest
+    → Splits (LoggedRuled z) i l (logged_after_split as_before tells_history l) (fresh history_told (whole_log tells_history) no_teller l)
+keeper_splits z i l k is view may = seat_cut z i l (Keeper k) as_before history_told tells_history (whole_log tells_history) no_teller (did (Tell None) Done)
+    (is ∙ ap (λ (u : KeeperView). record l { view = Keeper u }) view) tt (refl, tt) refl (tells_whole (record l { view = Keeper k }) (did (Tell None) Done) tt)
+    (names_nobody (record l { view = Keeper k }) (did (Tell None) Done)) (splits z i (Tell None) (Keeper k) k.history (keeper_tells k may))
 
 pub keeper_splits_by : (v a : View) (k : KeeperView) → keeper_of v ≡ k → a ≡ history_told v → k.due ≡ Rest → SplitsBy (Tell None) (Keeper k) (Keeper k) (Note (note_of a))
 keeper_splits_by v a k view right may =
@@ -169,17 +178,20 @@ keeper_beside k h = record {
 
 -- the same of two seats, whose views are a CPU's or the keeper's, and a note
 
-pub cpu_joins : (z : Settings) (i o : ℕ) (l m : Logged) → l ≡ record l { view = Cpu (cpu_of l.view) } → m ≡ record m { view = Note (note_of m.view) } → Joins (LoggedRuled z) i l o m (logged_with_note beside_cpu l m) spent_seat
+pub cpu_joins : (z : Settings) (i o : ℕ) (l m : Logged) → l ≡ record l { view = Cpu (cpu_of l.view) } → m ≡ record m { view = Note (note_of m.view) }
+    → Joins (LoggedRuled z) i l o m (logged_with_note beside_cpu l m) spent_seat
 cpu_joins z i o l m is that = seat_with_note z i o l m (Cpu (cpu_of l.view)) (Note (note_of m.view)) beside_cpu is that tt
     (joins z i o (Cpu (cpu_of l.view)) (beside_cpu (Cpu (cpu_of l.view)) (Note (note_of m.view))) (note_of m.view) (cpu_beside (cpu_of l.view) (note_of m.view)))
 
-pub keeper_joins : (z : Settings) (i o : ℕ) (l m : Logged) → l ≡ record l { view = Keeper (keeper_of l.view) } → m ≡ record m { view = Note (note_of m.view) } → Joins (LoggedRuled z) i l o m (logged_with_note beside_keeper l m) spent_seat
+pub keeper_joins : (z : Settings) (i o : ℕ) (l m : Logged) → l ≡ record l { view = Keeper (keeper_of l.view) } → m ≡ record m { view = Note (note_of m.view) }
+    → Joins (LoggedRuled z) i l o m (logged_with_note beside_keeper l m) spent_seat
 keeper_joins z i o l m is that = seat_with_note z i o l m (Keeper (keeper_of l.view)) (Note (note_of m.view)) beside_keeper is that tt
     (joins z i o (Keeper (keeper_of l.view)) (beside_keeper (Keeper (keeper_of l.view)) (Note (note_of m.view))) (note_of m.view) (keeper_beside (keeper_of l.view) (note_of m.view)))
 
 -- The load that hears
 
-pub hear_may : (z : Settings) (x : CpuView) (c : ℕ) → x.id ≡ c → IsIdle x → CpuMay z x (index (section_of c)) (λ n. n) (λ n. did (Hear (Some c)) Done) (λ v n y. Makes (Hear (Some c)) Done (Cpu v) (Cpu y) × HasHeard v y)
+pub hear_may : (z : Settings) (x : CpuView) (c : ℕ) → x.id ≡ c → IsIdle x
+    → CpuMay z x (index (section_of c)) (λ n. n) (λ n. did (Hear (Some c)) Done) (λ v n y. Makes (Hear (Some c)) Done (Cpu v) (Cpu y) × HasHeard v y)
 hear_may z x c id idle = subst (λ d. CpuMay z x (index (section_of d)) (λ n. n) (λ n. did (Hear (Some d)) Done) (λ v n y. Makes (Hear (Some d)) Done (Cpu v) (Cpu y) × HasHeard v y)) id
     (λ s r i at fits.
     let g = r.g in
@@ -204,9 +216,11 @@ hear_may z x c id idle = subst (λ d. CpuMay z x (index (section_of d)) (λ n. n
 
 -- at the place of its section word
 pub own_hear_may : (z : Settings) (x : CpuView) (c i : ℕ) → x.id ≡ c → i ≡ index (section_of c) → IsIdle x → CpuMay z x i (λ n. n) (λ n. did (Hear (Some x.id)) Done) (λ v n y. CpuHears v y)
-own_hear_may z x c i id place idle = subst (λ j. CpuMay z x j (λ n. n) (λ n. did (Hear (Some x.id)) Done) (λ v n y. CpuHears v y)) (sym (place ∙ sym (ap (λ d. index (section_of d)) id))) (hear_may z x x.id refl idle)
+own_hear_may z x c i id place idle =
+    subst (λ j. CpuMay z x j (λ n. n) (λ n. did (Hear (Some x.id)) Done) (λ v n y. CpuHears v y)) (sym (place ∙ sym (ap (λ d. index (section_of d)) id))) (hear_may z x x.id refl idle)
 
-pub hear_keeper_may : (z : Settings) (k : KeeperView) → k.due ≡ Rest → KeeperMay z k (index head_word) (λ n. n) (λ n. did (Hear None) Done) (λ v n l. Makes (Hear None) Done (Keeper v) (Keeper l) × KeeperHasHeard v l)
+pub hear_keeper_may : (z : Settings) (k : KeeperView) → k.due ≡ Rest
+    → KeeperMay z k (index head_word) (λ n. n) (λ n. did (Hear None) Done) (λ v n l. Makes (Hear None) Done (Keeper v) (Keeper l) × KeeperHasHeard v l)
 hear_keeper_may z k may s r i at fits =
     let g = r.g in
     let had : KeeperShown g k = (r.shows.fits i (Keeper k) at).1 in
@@ -215,8 +229,20 @@ hear_keeper_may z k may s r i at fits =
     let l = keeper_lists g in
     let own : KeeperOwn = keeper_own k in
     let made : step g (Hear None) ≡ Some (record { state = with_keeper g l; reply = Done }) = rw (rest) refl in
-    let shown : KeeperShown (with_keeper g l) (keeper_view (with_keeper g l) own) = record { is = refl; counts = had.counts; sized = had.sized; rows = had.rows; live_total = had.live_total; gives_up = had.gives_up; later = had.later; beyond = had.beyond; noted_pass = had.noted_pass } in
-    let done = keeper_makes z s r i k (index head_word) (slice_index s.words (index head_word)) l (Hear None) Done own at made (leaves_all g l refl refl refl refl (λ t d is. is)) (λ n. refl) refl shown (loads s.words g (with_keeper g l) (index head_word) r.words refl (λ q _. refl)) in
+    let shown : KeeperShown (with_keeper g l) (keeper_view (with_keeper g l) own) =
+    record {
+      is = refl;
+      counts = had.counts;
+      sized = had.sized;
+      rows = had.rows;
+      live_total = had.live_total;
+      gives_up = had.gives_up;
+      later = had.later;
+      beyond = had.beyond;
+      noted_pass = had.noted_pass;
+    } in
+    let done = keeper_makes z s r i k (index head_word) (slice_index s.words (index head_word)) l (Hear None) Done own at made (leaves_all g l refl refl refl refl (λ t d is. is))
+    (λ n. refl) refl shown (loads s.words g (with_keeper g l) (index head_word) r.words refl (λ q _. refl)) in
     (Keeper (keeper_view (with_keeper g l) own), done.0, (refl, (done.1, (had.noted_pass, sym had.is))))
 
 -- as a note is laid beside it a view stays idle, and the load after it is the CPU's own

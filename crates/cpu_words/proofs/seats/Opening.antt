@@ -14,7 +14,8 @@ use Rattle.registry_values.proofs.Fit.{ranges}
 use Rattle.protocol.proofs.slots.Cells.{get_or_all}
 use Rattle.protocol.proofs.keeps.MarkKeeps.{cell_all, rows_all}
 use Rattle.protocol.proofs.keeps.Keeping.{opening_holds}
-use Rattle.cpu_words.specs.Common.{CpuView, Logged, View, Spot, section_of, passive_of, count_of, head_word, next_of, record_of, total_of, index, IsSpot, word_at, Seated, new_keeper, first_view, Shown, Sits, Good, Ruled, IsStanding, Knows, LoggedRuled, first_logged, HasComeIf, AreOpening, AreSeats, cpu_seat}
+use Rattle.cpu_words.specs.Common.{CpuView, Logged, View, Spot, section_of, passive_of, count_of, head_word, next_of, record_of, total_of, index, IsSpot, word_at, Seated, new_keeper, first_view}
+use Rattle.cpu_words.specs.Common.{Shown, Sits, Good, Ruled, IsStanding, Knows, LoggedRuled, first_logged, HasComeIf, AreOpening, AreSeats, cpu_seat}
 use Rattle.cpu_words.proofs.logs.Told.{no_act}
 use Rattle.protocol.proofs.slots.Occupied.{not_vacant}
 
@@ -49,7 +50,8 @@ first_words z words fit are (passive_of c t) here = are.unused (index (passive_o
 first_words z words fit are (count_of c t) here = are.unused (index (count_of c t)) (omega (arith, ranges z fit, here)) ∙ sym (cell_all {X = ℕ} z.slots MOST_CPUS 0 t c)
 first_words z words fit are head_word here = are.unused (index head_word) (omega arith)
 first_words z words fit are (next_of t) here = are.unused (index (next_of t)) (omega (arith, ranges z fit)) ∙ sym (get_or_all {X = ℕ} z.slots 0 t)
-first_words z words fit are (record_of t k) here = are.unused (index (record_of t k)) (omega (arith, ranges z fit, here)) ∙ sym (ap (λ (r : RecordWords). word r k) (get_or_all z.slots no_words t) ∙ no_word k)
+first_words z words fit are (record_of t k) here =
+    are.unused (index (record_of t k)) (omega (arith, ranges z fit, here)) ∙ sym (ap (λ (r : RecordWords). word r k) (get_or_all z.slots no_words t) ∙ no_word k)
 first_words z words fit are (total_of t) here = are.totals t (omega (arith, ranges z fit)) ∙ sym (get_or-replicate z.slots t bias 0 here)
 
 -- the keeper's view at the start
@@ -111,7 +113,8 @@ opens z words fit are = record {
 
 -- the seats of the first CPUs
 
-pub more_seats : (table : TableId) (z : Settings) (n : ℕ) (seats : List (Seated CpuView)) (new : Seated CpuView) → AreSeats table z n seats → new ≡ cpu_seat table z n → AreSeats table z (n + 1) (seats ++ new ∷ [])
+pub more_seats : (table : TableId) (z : Settings) (n : ℕ) (seats : List (Seated CpuView)) (new : Seated CpuView) → AreSeats table z n seats → new ≡ cpu_seat table z n
+    → AreSeats table z (n + 1) (seats ++ new ∷ [])
 more_seats table z n seats new are is =
     let size : length seats ≡ n = are.count in record {
       count = length-append seats (new ∷ []) ∙ ap (λ k. k + 1) size;

@@ -7,7 +7,9 @@ use Rattle.cpu_words.specs.Types.{Entry, Settings, Seat, Done, Hand, Rest}
 use Rattle.protocol.specs.Common.{State, begin_at, found_at, at_rest, step, Holds}
 use Rattle.protocol.proofs.keeps.Keeping.{step_holds}
 use Rattle.cpu_words.specs.declared.view.InHand.TheVariants.{Empty as NoEntry}
-use Rattle.cpu_words.specs.Common.{CpuView, KeeperView, Logged, View, Keeper, Cpu, Reference, Note, Spent, Spot, section_of, passive_of, count_of, head_word, next_of, record_of, total_of, word_at, SameHand, own_of, cpu_view, new_cpu, CpuShown, KeeperShown, Shown, cpu_of, keeper_of, Sits, ShowsViews, IsFresh, Good, did, SplitsBy, SplitsOn, MaySeat, one_seated, with_cpu_seated, next_seat, the_cpu, LoggedRuled, logged_after_split, no_log, no_teller, fresh, seats_next}
+use Rattle.cpu_words.specs.Common.{CpuView, KeeperView, Logged, View, Keeper, Cpu, Reference, Note, Spent, Spot, section_of, passive_of, count_of, head_word, next_of, record_of, total_of, word_at}
+use Rattle.cpu_words.specs.Common.{SameHand, own_of, cpu_view, new_cpu, CpuShown, KeeperShown, Shown, cpu_of, keeper_of, Sits, ShowsViews, IsFresh, Good, did, SplitsBy, SplitsOn, MaySeat, one_seated}
+use Rattle.cpu_words.specs.Common.{with_cpu_seated, next_seat, the_cpu, LoggedRuled, logged_after_split, no_log, no_teller, fresh, seats_next}
 use Rattle.cpu_words.proofs.laws.Reaching.{more}
 use Rattle.cpu_words.proofs.logs.Seats.{tells_nothing, names_nobody, seat_cut}
 use Rattle.cpu_words.proofs.shown.Showing.{Stay, SeatsWith, shows_split}
@@ -204,16 +206,21 @@ splits z i k may s r at =
         good = p.good;
         reached = (more z g g' (Seat k.seated) Done r.reached (subst (λ c. step g (Seat c) ≡ Some (record { state = g'; reply = Done })) (sym p.number) p.made)).0;
         words = agrees_same s.words g g' r.words refl (λ q there. same_words g q);
-        shows = shows_split g g' seat' s.views i (Keeper k) (with_cpu_seated (Keeper k)) (next_seat (Keeper k)) reseated at (others_stay g seat' i had.0) (had.0, p.keeper) (here, p.new) (seats_one g r.seat far k p.number) refl (λ n. refl);
+        shows = shows_split g g' seat' s.views i (Keeper k) (with_cpu_seated (Keeper k)) (next_seat (Keeper k)) reseated at (others_stay g seat' i had.0) (had.0, p.keeper) (here, p.new)
+            (seats_one g r.seat far k p.number) refl (λ n. refl);
       };
     }
 
 -- the same of a seat, whose view is the keeper's
 
-pub seat_splits : (z : Settings) (i : ℕ) (l : Logged) (k : KeeperView) → l ≡ record l { view = Keeper (keeper_of l.view) } → keeper_of l.view ≡ k → MaySeat k → Splits (LoggedRuled z) i l (logged_after_split with_cpu_seated seats_next l) (fresh next_seat no_log no_teller l)
-seat_splits z i l k is view may = seat_cut z i l (Keeper k) with_cpu_seated next_seat seats_next no_log no_teller (did (Seat k.seated) Done) (is ∙ ap (λ (u : KeeperView). record l { view = Keeper u }) view) tt (refl, tt) refl (tells_nothing (record l { view = Keeper k }) (did (Seat k.seated) Done)) (names_nobody (record l { view = Keeper k }) (did (Seat k.seated) Done)) (splits z i k may)
+pub seat_splits : (z : Settings) (i : ℕ) (l : Logged) (k : KeeperView) → l ≡ record l { view = Keeper (keeper_of l.view) } → keeper_of l.view ≡ k → MaySeat k
+    → Splits (LoggedRuled z) i l (logged_after_split with_cpu_seated seats_next l) (fresh next_seat no_log no_teller l)
+seat_splits z i l k is view may = seat_cut z i l (Keeper k) with_cpu_seated next_seat seats_next no_log no_teller (did (Seat k.seated) Done)
+    (is ∙ ap (λ (u : KeeperView). record l { view = Keeper u }) view) tt (refl, tt) refl (tells_nothing (record l { view = Keeper k }) (did (Seat k.seated) Done))
+    (names_nobody (record l { view = Keeper k }) (did (Seat k.seated) Done)) (splits z i k may)
 
-pub seat_splits_by : (v a b : View) (k : KeeperView) → keeper_of v ≡ k → a ≡ with_cpu_seated v → b ≡ next_seat v → MaySeat k → SplitsBy (Seat k.seated) (Keeper k) (Keeper (keeper_of a)) (Cpu (cpu_of b))
+pub seat_splits_by : (v a b : View) (k : KeeperView) → keeper_of v ≡ k → a ≡ with_cpu_seated v → b ≡ next_seat v → MaySeat k
+    → SplitsBy (Seat k.seated) (Keeper k) (Keeper (keeper_of a)) (Cpu (cpu_of b))
 seat_splits_by v a b k view left right may =
     let p : keeper_of a ≡ one_seated k = ap keeper_of left ∙ ap one_seated view in
     let q : cpu_of b ≡ new_cpu k.settings k.seated = ap cpu_of right ∙ ap (λ (u : KeeperView). new_cpu u.settings u.seated) view in

@@ -30,9 +30,12 @@ entered_whole c x y id made =
     let after : made.after ≡ after_enter g c = left_by (may_enter g c) (after_enter g c) made.after made.made in
     let history : made.after.history ≡ g.history = ap (λ (s : State). s.history) after in
     let within : c < length g.seen = subst (λ d. d < length g.seen) id (seen_of g x made.good made.before).in_seen in
-    let sees : seen_at made.after c ≡ length made.after.history = ap (λ (s : State). seen_at s c) after ∙ (get_or-set_same g.seen c (length g.history) 0 within ∙ ap (λ (h : List Change). length h) (sym history)) in
-    let pass : y.pass ≡ take (seen_at made.after y.id) made.after.history = (seen_of made.after y made.good_after made.shown).pass in
-    (record { g = made.after; good = made.good_after; shown = made.shown }, pass ∙ (ap (λ d. take (seen_at made.after d) made.after.history) (made.same.1 ∙ id) ∙ (ap (λ n. take n made.after.history) sees ∙ take_whole made.after.history)))
+    let sees : seen_at made.after c ≡ length made.after.history =
+    ap (λ (s : State). seen_at s c) after ∙ (get_or-set_same g.seen c (length g.history) 0 within ∙ ap (λ (h : List Change). length h) (sym history)) in
+    let pass : y.pass ≡ take (seen_at made.after y.id) made.after.history = (seen_of made.after y made.good_after made.shown).pass in (
+      record { g = made.after; good = made.good_after; shown = made.shown },
+      pass ∙ (ap (λ d. take (seen_at made.after d) made.after.history) (made.same.1 ∙ id) ∙ (ap (λ n. take n made.after.history) sees ∙ take_whole made.after.history)),
+    )
 
 -- the last found entry may be held by the open section, and has its slot
 pub found_is_in : (x : CpuView) (e : Entry) (s : IsShownCpu x) → x.found ≡ Some e → SectionMayHold s.g.history e x × IsIn e (slot_at s.g.slots e.slot)

@@ -18,7 +18,8 @@ same_spot z fit (section_of c) (next_of t') here there e = absurd (omega (arith,
 same_spot z fit (section_of c) (record_of t' k') here there e = absurd (omega (arith, ranges z fit))
 same_spot z fit (section_of c) (total_of t') here there e = absurd (omega (arith, ranges z fit))
 same_spot z fit (passive_of c t) (section_of c') here there e = absurd (omega (arith, ranges z fit))
-same_spot z fit (passive_of c t) (passive_of c' t') here there e = let r = ranges z fit in let i : c' ≡ c = omega (arith, r, here, there) in let j : t' ≡ t = omega (arith, i, r, here, there) in ap (λ k. passive_of k t') i ∙ ap (passive_of c) j
+same_spot z fit (passive_of c t) (passive_of c' t') here there e =
+    let r = ranges z fit in let i : c' ≡ c = omega (arith, r, here, there) in let j : t' ≡ t = omega (arith, i, r, here, there) in ap (λ k. passive_of k t') i ∙ ap (passive_of c) j
 same_spot z fit (passive_of c t) (count_of c' t') here there e = absurd (omega (arith, ranges z fit))
 same_spot z fit (passive_of c t) head_word here there e = absurd (omega (arith, ranges z fit))
 same_spot z fit (passive_of c t) (next_of t') here there e = absurd (omega (arith, ranges z fit))
@@ -26,7 +27,8 @@ same_spot z fit (passive_of c t) (record_of t' k') here there e = absurd (omega 
 same_spot z fit (passive_of c t) (total_of t') here there e = absurd (omega (arith, ranges z fit))
 same_spot z fit (count_of c t) (section_of c') here there e = absurd (omega (arith, ranges z fit))
 same_spot z fit (count_of c t) (passive_of c' t') here there e = absurd (omega (arith, ranges z fit))
-same_spot z fit (count_of c t) (count_of c' t') here there e = let r = ranges z fit in let i : c' ≡ c = omega (arith, r, here, there) in let j : t' ≡ t = omega (arith, i, r, here, there) in ap (λ k. count_of k t') i ∙ ap (count_of c) j
+same_spot z fit (count_of c t) (count_of c' t') here there e =
+    let r = ranges z fit in let i : c' ≡ c = omega (arith, r, here, there) in let j : t' ≡ t = omega (arith, i, r, here, there) in ap (λ k. count_of k t') i ∙ ap (count_of c) j
 same_spot z fit (count_of c t) head_word here there e = absurd (omega (arith, ranges z fit))
 same_spot z fit (count_of c t) (next_of t') here there e = absurd (omega (arith, ranges z fit))
 same_spot z fit (count_of c t) (record_of t' k') here there e = absurd (omega (arith, ranges z fit))
@@ -50,7 +52,8 @@ same_spot z fit (record_of t k) (passive_of c' t') here there e = absurd (omega 
 same_spot z fit (record_of t k) (count_of c' t') here there e = absurd (omega (arith, ranges z fit))
 same_spot z fit (record_of t k) head_word here there e = absurd (omega (arith, ranges z fit))
 same_spot z fit (record_of t k) (next_of t') here there e = absurd (omega (arith, ranges z fit))
-same_spot z fit (record_of t k) (record_of t' k') here there e = let r = ranges z fit in let i : t' ≡ t = omega (arith, r, here, there) in let j : k' ≡ k = omega (arith, i, r, here, there) in ap (λ k. record_of k k') i ∙ ap (record_of t) j
+same_spot z fit (record_of t k) (record_of t' k') here there e =
+    let r = ranges z fit in let i : t' ≡ t = omega (arith, r, here, there) in let j : k' ≡ k = omega (arith, i, r, here, there) in ap (λ k. record_of k k') i ∙ ap (record_of t) j
 same_spot z fit (record_of t k) (total_of t') here there e = absurd (omega (arith, ranges z fit))
 same_spot z fit (total_of t) (section_of c') here there e = absurd (omega (arith, ranges z fit))
 same_spot z fit (total_of t) (passive_of c' t') here there e = absurd (omega (arith, ranges z fit))

@@ -80,7 +80,8 @@ have_on seat n views later stay have = record {
 }
 
 -- one view changes, and is its owner's as before; or it was no owner's
-owners_set : (views : List View) (i j : ℕ) (v w u : View) → get_elem? views i ≡ some v → (who w ≡ who v) ⊎ (who v ≡ another) → get_elem? views j ≡ some u → (who u ≡ another → ⊥) → HasOwner (set views i w) j (who u)
+owners_set : (views : List View) (i j : ℕ) (v w u : View) → get_elem? views i ≡ some v → (who w ≡ who v) ⊎ (who v ≡ another) → get_elem? views j ≡ some u → (who u ≡ another → ⊥)
+    → HasOwner (set views i w) j (who u)
 owners_set [] i j v w u at same there owned = absurd (some-ne-none v (sym at))
 owners_set (x ∷ xs) zero zero v w u at same there owned =
     let one : v ≡ u = sym (some-injective x v at) ∙ some-injective x u there in
@@ -89,7 +90,8 @@ owners_set (x ∷ xs) zero (suc j) v w u at same there owned = (u, there, refl)
 owners_set (x ∷ xs) (suc i) zero v w u at same there owned = (u, there, refl)
 owners_set (x ∷ xs) (suc i) (suc j) v w u at same there owned = owners_set xs i j v w u at same there owned
 
-have_set : (seat : ℕ → ℕ) (n m : ℕ) (views : List View) (i : ℕ) (v w : View) → m ≡ n → get_elem? views i ≡ some v → (who w ≡ who v) ⊎ (who v ≡ another) → HaveViews seat n views → HaveViews seat m (set views i w)
+have_set : (seat : ℕ → ℕ) (n m : ℕ) (views : List View) (i : ℕ) (v w : View) → m ≡ n → get_elem? views i ≡ some v → (who w ≡ who v) ⊎ (who v ≡ another) → HaveViews seat n views
+    → HaveViews seat m (set views i w)
 have_set seat n m views i v w more at same have = subst (λ (k : ℕ). HaveViews seat k (set views i w)) (sym more)
     (have_on seat n views (set views i w) (λ j u there owned. owners_set views i j v w u at same there owned) have)
 
@@ -148,13 +150,16 @@ shows_split g g' seat views i v left right shows at stay mine new seats same cou
           (at_end (set views i left) right u j e);
       each = have_push seat g.seated g'.seated (set views i left) right (subst (λ (n : ℕ). SeatsWith g.seated g'.seated seat n right) (sym size) seats)
           (have_set seat g.seated g.seated views i v left refl at (inl same) shows.each);
-      references = λ n. let a = sum_at (reference_to n) views i v left at in let b = shows.references n in let c = count n in let d = sum_by_push (reference_to n) (set views i left) right in omega arith;
+      references = λ n. let a =
+          sum_at (reference_to n) views i v left at in let b = shows.references n in let c = count n in let d = sum_by_push (reference_to n) (set views i left) right in omega arith;
     }
 
 -- one view is put into another, and is spent: it is neither the keeper's nor a CPU's
 pub shows_join : (g g' : State) (seat : ℕ → ℕ) (views : List View) (i : ℕ) (v : View) (o : ℕ) (u both : View)
-    → ShowsViews g seat views → get_elem? views i ≡ some v → o ≢ i → get_elem? views o ≡ some u → Stay g g' seat i → Sits seat i both × Shown g' both → g'.seated ≡ g.seated → (who both ≡ who v) × (who u ≡ another)
-    → ((n : ℕ) → reference_to n both + standing_in n g ≡ reference_to n v + reference_to n u + standing_in n g') → get_elem? (set views i both) o ≡ some u → ShowsViews g' seat (set (set views i both) o Spent)
+    → ShowsViews g seat views → get_elem? views i ≡ some v → o ≢ i → get_elem? views o ≡ some u → Stay g g' seat i → Sits seat i both × Shown g' both → g'.seated ≡ g.seated
+    → (who both ≡ who v) × (who u ≡ another)
+    → ((n : ℕ) → reference_to n both + standing_in n g ≡ reference_to n v + reference_to n u + standing_in n g') → get_elem? (set views i both) o ≡ some u
+    → ShowsViews g' seat (set (set views i both) o Spent)
 shows_join g g' seat views i v o u both shows at apart there stay mine seated same count there' = record {
   fits = λ j y e. ⊎_elim
       (λ (x : (j ≡ o) × (Spent ≡ y)). subst (λ (z : View). Sits seat j z × Shown g' z) x.1 (tt, tt))

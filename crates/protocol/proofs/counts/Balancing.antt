@@ -13,7 +13,8 @@ abbrev pub AreWords : List ℕ → Type 0
 AreWords row = (length row ≡ MOST_CPUS) × ((c : ℕ) → get_or row c 0 ≤ bias + greatest_limit)
 
 -- a total, with what is to be added, is far above 0
-pub total_floor : (row : List ℕ) (total held adding is_adding : ℕ) → AreWords row → Balances row total held adding is_adding → bias * (1 + is_adding) + held ≤ total + adding + MOST_CPUS * greatest_limit
+pub total_floor : (row : List ℕ) (total held adding is_adding : ℕ) → AreWords row → Balances row total held adding is_adding
+    → bias * (1 + is_adding) + held ≤ total + adding + MOST_CPUS * greatest_limit
 total_floor row total held adding is_adding words b =
     let used = used-le-length row in
     let most = words-le-used row words.1 in
@@ -24,7 +25,8 @@ pub total_ceiling : (row : List ℕ) (total held adding is_adding : ℕ) → Bal
 total_ceiling row total held adding is_adding b = omega (arith, b.capped)
 
 -- a word that isn't collected is far above 0
-pub word_floor : (row : List ℕ) (total held adding is_adding c : ℕ) → AreWords row → c < MOST_CPUS → 0 < get_or row c 0 → Balances row total held adding is_adding → bias + held ≤ get_or row c 0 + (MOST_CPUS - 1) * greatest_limit
+pub word_floor : (row : List ℕ) (total held adding is_adding c : ℕ) → AreWords row → c < MOST_CPUS → 0 < get_or row c 0 → Balances row total held adding is_adding
+    → bias + held ≤ get_or row c 0 + (MOST_CPUS - 1) * greatest_limit
 word_floor row total held adding is_adding c words lt some b =
     let used = used-le-length row in
     let in_ : c < length row = omega (arith, words.0) in
@@ -38,7 +40,8 @@ word_floor row total held adding is_adding c words lt some b =
     omega (arith, used, sums, uses, was, most, words.0, b.even, b.capped)
 
 -- one reference more is counted
-pub counted_up : (row : List ℕ) (total held adding is_adding c w : ℕ) → c < length row → get_or row c 0 ≡ w → 0 < w → Balances row total held adding is_adding → Balances (set row c (w + 1)) total (held + 1) adding is_adding
+pub counted_up : (row : List ℕ) (total held adding is_adding c w : ℕ) → c < length row → get_or row c 0 ≡ w → 0 < w → Balances row total held adding is_adding
+    → Balances (set row c (w + 1)) total (held + 1) adding is_adding
 counted_up row total held adding is_adding c w lt at some b =
     let sums = sum_by-set itself row c (w + 1) 0 lt in
     let uses = sum_by-set one_if_used row c (w + 1) 0 lt in
@@ -47,7 +50,8 @@ counted_up row total held adding is_adding c w lt at some b =
     record { even = omega (arith, sums, uses, was, now, at, b.even); capped = omega (arith, uses, was, now, b.capped) }
 
 -- one less, at a word that stays above 0
-pub counted_down : (row : List ℕ) (total held adding is_adding c w : ℕ) → c < length row → get_or row c 0 ≡ w → 1 < w → Balances row total (held + 1) adding is_adding → Balances (set row c (w - 1)) total held adding is_adding
+pub counted_down : (row : List ℕ) (total held adding is_adding c w : ℕ) → c < length row → get_or row c 0 ≡ w → 1 < w → Balances row total (held + 1) adding is_adding
+    → Balances (set row c (w - 1)) total held adding is_adding
 counted_down row total held adding is_adding c w lt at some b =
     let sums = sum_by-set itself row c (w - 1) 0 lt in
     let uses = sum_by-set one_if_used row c (w - 1) 0 lt in

@@ -3,7 +3,8 @@ use Rattle.std.proofs.Common.{◌≡◌, ℕ, suc, ◌<◌, ◌≤◌, ◌==◌,
 use Rattle.std.proofs.lemmas.List.Sums.{get_or-le-sum_by, sum_by-cons}
 use Rattle.std.proofs.lemmas.Bool.{eq-eqb, ne_eqb}
 use Rattle.protocol.specs.Types.{Change, Slot}
-use Rattle.protocol.specs.Common.{Hand, Empty, Taking, Giving, Back, LocalPlace, Free, Standing, Due, Rest, Snapshots, Adding, Subtracting, kept_at, local_at, Occupies, one_if, standing_of, in_hand, kept_of, subtraction_due_at, held_at, SlotsShow, HandHolds, ReferencesHold, DriversKept}
+use Rattle.protocol.specs.Common.{Hand, Empty, Taking, Giving, Back, LocalPlace, Free, Standing, Due, Rest, Snapshots, Adding, Subtracting, kept_at, local_at, Occupies, one_if, standing_of, in_hand}
+use Rattle.protocol.specs.Common.{kept_of, subtraction_due_at, held_at, SlotsShow, HandHolds, ReferencesHold, DriversKept}
 use Rattle.protocol.proofs.slots.Occupied.{place_within, fresh_unoccupied}
 
 -- the number that a hand names
@@ -101,7 +102,8 @@ pub record Unreferred (locals : List LocalPlace) (hands : List Hand) (keeps : Li
 pub unreferred : (locals : List LocalPlace) (hands : List Hand) (keeps : List (Option ℕ)) (due : Due) (n t : ℕ) → held_at locals hands keeps due n t ≡ 0 → Unreferred locals hands keeps n
 unreferred locals hands keeps due n t none = assumption (none_standing n locals (omega (arith, none)), none_in_hand n hands (omega (arith, none)), none_kept n keeps (omega (arith, none)))
 
-pub nothing_held : (locals : List LocalPlace) (hands : List Hand) (keeps : List (Option ℕ)) (due : Due) (n t : ℕ) → (due ≡ Subtracting t → ⊥) → Unreferred locals hands keeps n → held_at locals hands keeps due n t ≡ 0
+pub nothing_held : (locals : List LocalPlace) (hands : List Hand) (keeps : List (Option ℕ)) (due : Due) (n t : ℕ) → (due ≡ Subtracting t → ⊥) → Unreferred locals hands keeps n
+    → held_at locals hands keeps due n t ≡ 0
 nothing_held locals hands keeps due n t off free =
     let a = no_standing n locals free.unplaced in
     let b = no_hand n hands free.unhanded in
@@ -136,7 +138,8 @@ pub fresh_held : (cpus : ℕ) (slots : List Slot) (hands : List Hand) (keeps : L
 fresh_held cpus slots hands keeps due locals n t off rest refer kept = nothing_held locals hands keeps due n t rest (unoccupied cpus slots hands keeps due locals n off refer kept)
 
 -- the number that the next publishing gives is held nowhere
-pub published_held : (h : List Change) (cpus : ℕ) (slots : List Slot) (hands : List Hand) (keeps : List (Option ℕ)) (due : Due) (locals : List LocalPlace) (n t : ℕ) → SlotsShow h slots → length h < n → due ≡ Rest
+pub published_held : (h : List Change) (cpus : ℕ) (slots : List Slot) (hands : List Hand) (keeps : List (Option ℕ)) (due : Due) (locals : List LocalPlace) (n t : ℕ) → SlotsShow h slots → length h < n
+    → due ≡ Rest
     → ReferencesHold cpus slots hands due locals → DriversKept slots keeps → held_at locals hands keeps due n t ≡ 0
 published_held h cpus slots hands keeps due locals n t show above rest refer kept =
     fresh_held cpus slots hands keeps due locals n t (fresh_unoccupied h slots n show above) (λ is. let q : Rest ≡ Subtracting t = sym rest ∙ is in cc) refer kept

@@ -1,10 +1,12 @@
 -- Sums over a row of count words, over places of references, hands and kept drivers.
-use Rattle.std.proofs.Common.{◌≡◌, ◌≢◌, ℕ, zero, suc, ◌+◌, ◌*◌, ◌<◌, ◌≤◌, ◌⊎◌, List, ◌∷◌, [], ◌++◌, length, get_or, set, Option, Some, None, Bool, true, false, cond, ◌==◌, position, refl, sym, ap, ◌∙◌, arith, sum_by}
+use Rattle.std.proofs.Common.{◌≡◌, ◌≢◌, ℕ, zero, suc, ◌+◌, ◌*◌, ◌<◌, ◌≤◌, ◌⊎◌, List, ◌∷◌, [], ◌++◌, length, get_or, set, Option, Some, None, Bool, true, false, cond, ◌==◌, position, refl, sym, ap}
+use Rattle.std.proofs.Common.{◌∙◌, arith, sum_by}
 use Rattle.std.proofs.lemmas.List.Sums.{sum_by-set, sum_by-cons, sum_by_push}
 use Rattle.std.proofs.lemmas.List.Quantifiers.{position-Some}
 use Rattle.std.proofs.lemmas.List.{get_or_past}
 use Rattle.std.proofs.lemmas.Bool.{cases_lt, eq-eqb, ne_eqb, lt-ltb, le-ltb}
-use Rattle.protocol.specs.Common.{Hand, Empty, LocalPlace, Free, Standing, Lifted, local_at, kept_at, is_free, id_if, least_id, with_local, one_if_used, itself, greatest_limit, one_if, standing_of, in_hand, kept_of}
+use Rattle.protocol.specs.Common.{Hand, Empty, LocalPlace, Free, Standing, Lifted, local_at, kept_at, is_free, id_if, least_id, with_local, one_if_used, itself, greatest_limit, one_if, standing_of}
+use Rattle.protocol.specs.Common.{in_hand, kept_of}
 use Rattle.registry_values.specs.Common.{bias}
 use Rattle.protocol.proofs.Either.{either}
 
@@ -73,17 +75,20 @@ pub lifted_within : (locals : List LocalPlace) (id c : ℕ) → local_at locals 
 lifted_within locals id c at = local_within locals id (Lifted c) at (λ (no : Free ≡ Lifted c). cc)
 
 -- a place, a hand or what is kept changes
-pub local_changed : (n : ℕ) (locals : List LocalPlace) (id : ℕ) (p q : LocalPlace) → id < length locals → local_at locals id ≡ p → sum_by (standing_of n) (set locals id q) + standing_of n p ≡ sum_by (standing_of n) locals + standing_of n q
+pub local_changed : (n : ℕ) (locals : List LocalPlace) (id : ℕ) (p q : LocalPlace) → id < length locals → local_at locals id ≡ p
+    → sum_by (standing_of n) (set locals id q) + standing_of n p ≡ sum_by (standing_of n) locals + standing_of n q
 local_changed n locals id p q lt at =
     let was : standing_of n (local_at locals id) ≡ standing_of n p = ap (standing_of n) at in
     omega (arith, sum_by-set (standing_of n) locals id q Free lt, was)
 
-pub hand_changed : (n : ℕ) (hands : List Hand) (c : ℕ) (h k : Hand) → c < length hands → get_or hands c Empty ≡ h → sum_by (in_hand n) (set hands c k) + in_hand n h ≡ sum_by (in_hand n) hands + in_hand n k
+pub hand_changed : (n : ℕ) (hands : List Hand) (c : ℕ) (h k : Hand) → c < length hands → get_or hands c Empty ≡ h
+    → sum_by (in_hand n) (set hands c k) + in_hand n h ≡ sum_by (in_hand n) hands + in_hand n k
 hand_changed n hands c h k lt at =
     let was : in_hand n (get_or hands c Empty) ≡ in_hand n h = ap (in_hand n) at in
     omega (arith, sum_by-set (in_hand n) hands c k Empty lt, was)
 
-pub kept_changed : (n : ℕ) (keeps : List (Option ℕ)) (t : ℕ) (o k : Option ℕ) → t < length keeps → kept_at keeps t ≡ o → sum_by (kept_of n) (set keeps t k) + kept_of n o ≡ sum_by (kept_of n) keeps + kept_of n k
+pub kept_changed : (n : ℕ) (keeps : List (Option ℕ)) (t : ℕ) (o k : Option ℕ) → t < length keeps → kept_at keeps t ≡ o
+    → sum_by (kept_of n) (set keeps t k) + kept_of n o ≡ sum_by (kept_of n) keeps + kept_of n k
 kept_changed n keeps t o k lt at =
     let was : kept_of n (kept_at keeps t) ≡ kept_of n o = ap (kept_of n) at in
     omega (arith, sum_by-set (kept_of n) keeps t k None lt, was)

@@ -2,7 +2,8 @@
 use Rattle.std.proofs.Common.{◌≡◌, ℕ, zero, suc, ◌≤◌, List, length, get_or, Option, Some, None, arith}
 use Rattle.std.proofs.lemmas.Bool.{cases_lt}
 use Rattle.protocol.specs.Types.{Key, Entry, Change, Settings}
-use Rattle.protocol.specs.Common.{after_change, MayHold, Search, SearchPlace, AtHead, AtNext, AtNumber, AtKind, AtHigh, AtLow, AtValue, SectionsShow, SearchHolds, SearchesHold, FoundHold, Leads, To_end, To_entry, StandsOn, AllBelow, PlaceHolds}
+use Rattle.protocol.specs.Common.{after_change, MayHold, Search, SearchPlace, AtHead, AtNext, AtNumber, AtKind, AtHigh, AtLow, AtValue, SectionsShow, SearchHolds, SearchesHold, FoundHold, Leads}
+use Rattle.protocol.specs.Common.{To_end, To_entry, StandsOn, AllBelow, PlaceHolds}
 use Rattle.protocol.proofs.history.History.{ends_old, ends_was, attached_old, attached_was, live_old, live_was, length-after_change}
 use Rattle.protocol.proofs.Either.{either}
 

@@ -137,7 +137,8 @@ step_ahead h from k to n key zero lo hi below (To_end none) =
     No_more (λ f live un same. absurd (none f (record { attached = live.attached; begun = omega (arith, live.begun); unended = λ p x. omega (arith, un p x) }) (below f live un same)))
 step_ahead h from k to n key _ lo hi below (To_entry e live lt most) =
     One_more e (record { attached = live.attached; at = refl; begun = omega (arith, live.begun); unended = λ p x. omega (arith, live.unended p x) }) lt
-    (λ f lf un same. let m : f.number ≤ e.number = most f (record { attached = lf.attached; begun = omega (arith, lf.begun); unended = λ p x. omega (arith, un p x) }) (below f lf un same) in omega arith)
+    (λ f lf un same. let m : f.number ≤ e.number = most f (record { attached = lf.attached; begun = omega (arith, lf.begun); unended = λ p x. omega (arith, un p x) }) (below f lf un same) in
+    omega arith)
 
 -- the pass grows
 pub all_below_later : (h : List Change) (from to later : ℕ) (key : Key) (n : ℕ) → to ≤ later → AllBelow h from to key n → AllBelow h from later key n

@@ -9,9 +9,13 @@ use Rattle.protocol.proofs.keeps.Marking.{list_all_within, marks_write, snapshot
 use Rattle.protocol.proofs.slots.Occupied.{at_rest_tells, is_retired_tells, one_number, slot_has, slot_its, slot_occupied}
 use Rattle.protocol.proofs.keeps.Passive.{found_not_passed, passive_marked}
 use Rattle.protocol.proofs.keeps.Drivers.{drivers_keep}
-use Rattle.protocol.proofs.keeps.References.{back_holds, due_adding, due_subtracting, giving_holds, hand_seated, references_collect, references_collected, references_count_add, references_count_down, references_join, references_join_keeper, references_keep, references_split, references_split_back, references_total, seats_hand}
+use Rattle.protocol.proofs.keeps.References.{back_holds, due_adding, due_subtracting, giving_holds, hand_seated, references_collect, references_collected, references_count_add, references_count_down}
+use Rattle.protocol.proofs.keeps.References.{references_join, references_join_keeper, references_keep, references_split, references_split_back, references_total, seats_hand}
 use Rattle.protocol.proofs.keeps.SectionKeeps.{idle_parts, idle_tells, none_from}
-use Rattle.protocol.specs.Common.{after_collect, after_collected, after_count_add, after_count_down, after_count_store, after_hand, after_join_keeper, after_keep, after_split, after_total, exchange, is_drainable, is_driver_slot, is_idle, is_number, may_collect, may_count, may_examine, may_join, may_join_keeper, may_keep, may_write, some_outcome, Holds, IsCounting, IsIn, SeatsShow, SnapshotsStand, at_rest, State, count_at, found_at, hand_at, kept_at, local_at, mark_at, total_at, Keeps, Collected, Word, Due, Adding, Rest, Snapshots, Subtracting, Hand, Back, Empty, Giving, Taking, Lifted, Standing}
+use Rattle.protocol.specs.Common.{after_collect, after_collected, after_count_add, after_count_down, after_count_store, after_hand, after_join_keeper, after_keep, after_split, after_total, exchange}
+use Rattle.protocol.specs.Common.{is_drainable, is_driver_slot, is_idle, is_number, may_collect, may_count, may_examine, may_join, may_join_keeper, may_keep, may_write, some_outcome, Holds}
+use Rattle.protocol.specs.Common.{IsCounting, IsIn, SeatsShow, SnapshotsStand, at_rest, State, count_at, found_at, hand_at, kept_at, local_at, mark_at, total_at, Keeps, Collected, Word, Due, Adding}
+use Rattle.protocol.specs.Common.{Rest, Snapshots, Subtracting, Hand, Back, Empty, Giving, Taking, Lifted, Standing}
 use Rattle.registry_values.specs.Common.{mark_after_collect, are_clear, have_passed, is_clear, is_some_collected, no_mark, is_retired, slot_of, slot_at, bias}
 use Rattle.protocol.specs.Types.{Entry}
 use Rattle.protocol.proofs.Either.{either}
@@ -36,7 +40,8 @@ hand_put : (s : State) (c : ℕ) (h : Hand) → Holds s → c < s.seated → (le
 hand_put s c h on lt = (length-set s.hands c h ∙ on.shape.hands, seats_hand s.settings.cpus s.seated s.begins s.searches s.hands c h lt on.seats)
 
 -- a hand that wasn't empty
-pub hand_full : (s : State) (c : ℕ) (h x : Hand) → Holds s → hand_at s c ≡ x → (x ≡ Empty → ⊥) → (c < length s.hands) × ((length (set s.hands c h) ≡ s.settings.cpus) × SeatsShow s.settings.cpus s.seated s.begins s.searches (set s.hands c h))
+pub hand_full : (s : State) (c : ℕ) (h x : Hand) → Holds s → hand_at s c ≡ x → (x ≡ Empty → ⊥)
+    → (c < length s.hands) × ((length (set s.hands c h) ≡ s.settings.cpus) × SeatsShow s.settings.cpus s.seated s.begins s.searches (set s.hands c h))
 hand_full s c h x on hand full =
     let lt = hand_seated s.settings.cpus s.seated s.begins s.searches s.hands c (λ empty. full (sym hand ∙ empty)) on.seats in
     (omega (arith, lt, on.seats.within, on.shape.hands), hand_put s c h on lt)
@@ -140,7 +145,8 @@ collect_keeps s t c on may =
     let clear : (mark_at s.marks t c).clear ≡ true = list_all_within is_clear (get_or s.marks t []) s.settings.cpus c no_mark d.1 told.1 place.1 in
     let still : (mark_at s.marks t c).collected ≡ false = false_from (mark_at s.marks t c).collected q.1 in
     let stand = snapshots_marked s.settings.cpus s.slots s.marks s.due t c (mark_after_collect (mark_at s.marks t c)) refl on.snapshots in
-    let snapshots : SnapshotsStand s.settings.cpus s.slots (after_collect s t c).marks (Adding t (count_at s.counts c t)) = λ u j e is low later. stand u j e is low (λ due. not_at_rest s.due u due.0 told.0 due.1) in
+    let snapshots : SnapshotsStand s.settings.cpus s.slots (after_collect s t c).marks (Adding t (count_at s.counts c t)) =
+    λ u j e is low later. stand u j e is low (λ due. not_at_rest s.due u due.0 told.0 due.1) in
     assumption (
       snapshots,
       cell_sized s.counts t c 0 on.shape.counts on.shape.count_rows,
@@ -199,6 +205,7 @@ keep_keeps s t id n u on at of may =
 pub exchange_keeps : (s : State) (c n id t : ℕ) → Holds s → hand_at s c ≡ Giving n id → slot_of s.slots n ≡ Some t → Keeps (exchange s c n id t)
 exchange_keeps s c n id t on hand of = go (count_at s.counts c t == count_at s.nets c t) refl
   where
-    go : (b : Bool) → (count_at s.counts c t == count_at s.nets c t) ≡ b → Keeps (if b then some_outcome (after_count_down s c t id) (Word (count_at s.counts c t)) else some_outcome (after_collected s c n id) Collected)
+    go : (b : Bool) → (count_at s.counts c t == count_at s.nets c t) ≡ b
+        → Keeps (if b then some_outcome (after_count_down s c t id) (Word (count_at s.counts c t)) else some_outcome (after_collected s c n id) Collected)
     go true is = count_down_keeps s c n id t on hand of (eqb-true (count_at s.counts c t) (count_at s.nets c t) is)
     go false is = collected_keeps s c n id on hand

@@ -14,12 +14,14 @@ abbrev pub HasDriver : List Slot → ℕ → Type 0
 HasDriver slots d = (u : ℕ) × (e : Entry) × IsIn e (slot_at slots u) × (e.number ≡ d) × (e.rec.kind ≡ Driver)
 
 -- Which drivers stay where one slot is written: those that the new slot still has.
-pub has_driver_set : (slots : List Slot) (t : ℕ) (x : Slot) (d : ℕ) → t < length slots → ((f : Entry) → IsIn f (slot_at slots t) → f.number ≡ d → f.rec.kind ≡ Driver → IsIn f x) → HasDriver slots d → HasDriver (set slots t x) d
+pub has_driver_set : (slots : List Slot) (t : ℕ) (x : Slot) (d : ℕ) → t < length slots → ((f : Entry) → IsIn f (slot_at slots t) → f.number ≡ d → f.rec.kind ≡ Driver → IsIn f x) → HasDriver slots d
+    → HasDriver (set slots t x) d
 has_driver_set slots t x d lt stays was = either (cases_eq was.0 t)
     (λ same. (t, was.1, in_written slots t x was.1 lt (stays was.1 (subst (λ (k : ℕ). IsIn was.1 (slot_at slots k)) same was.2) was.3 was.4), was.3, was.4))
     (λ off. (was.0, was.1, in_other slots t x was.1 was.0 off was.2, was.3, was.4))
 
-pub drivers_publish : (slots : List Slot) (keeps : List (Option ℕ)) (t : ℕ) (e : Entry) → t < length slots → slot_at slots t ≡ Vacant → keeps_rightly (kept_at keeps t) e.rec.kind ≡ true → DriversKept slots keeps → DriversKept (set slots t (Live e)) keeps
+pub drivers_publish : (slots : List Slot) (keeps : List (Option ℕ)) (t : ℕ) (e : Entry) → t < length slots → slot_at slots t ≡ Vacant → keeps_rightly (kept_at keeps t) e.rec.kind ≡ true
+    → DriversKept slots keeps → DriversKept (set slots t (Live e)) keeps
 drivers_publish slots keeps t e lt vacant right kept = record {
   rightly = λ u f is. either (in_published slots t u e f lt is)
       (λ same.
@@ -36,7 +38,8 @@ drivers_unpublish slots keeps t e at kept = record {
 }
 
 -- no slot keeps the entry whose slot becomes vacant
-drivers_unkept : (slots : List Slot) (keeps : List (Option ℕ)) (t : ℕ) (e : Entry) → slot_at slots t ≡ Retired e → ((u : ℕ) → kept_at keeps u ≡ Some e.number → ⊥) → DriversKept slots keeps → DriversKept (set slots t Vacant) keeps
+drivers_unkept : (slots : List Slot) (keeps : List (Option ℕ)) (t : ℕ) (e : Entry) → slot_at slots t ≡ Retired e → ((u : ℕ) → kept_at keeps u ≡ Some e.number → ⊥) → DriversKept slots keeps
+    → DriversKept (set slots t Vacant) keeps
 drivers_unkept slots keeps t e at none kept = record {
   rightly = λ u f is. kept.rightly u f (in_vacated slots t u e f at is).1;
   drivers = λ u d holds. has_driver_set slots t Vacant d (in_within slots t e (inr at))
@@ -44,14 +47,16 @@ drivers_unkept slots keeps t e at none kept = record {
       (kept.drivers u d holds);
 }
 
-pub drivers_vacate : (slots : List Slot) (hands : List Hand) (keeps : List (Option ℕ)) (due : Due) (locals : List LocalPlace) (t : ℕ) (e : Entry) → slot_at slots t ≡ Retired e → held_at locals hands keeps due e.number t ≡ 0
+pub drivers_vacate : (slots : List Slot) (hands : List Hand) (keeps : List (Option ℕ)) (due : Due) (locals : List LocalPlace) (t : ℕ) (e : Entry) → slot_at slots t ≡ Retired e
+    → held_at locals hands keeps due e.number t ≡ 0
     → DriversKept slots keeps → DriversKept (set slots t Vacant) keeps
 drivers_vacate slots hands keeps due locals t e at none kept =
     let free : Unreferred locals hands keeps e.number = unreferred locals hands keeps due e.number t none in
     drivers_unkept slots keeps t e at free.unkept kept
 
 -- a kept reference goes with its slot
-pub drivers_kept_sub : (slots : List Slot) (hands : List Hand) (keeps : List (Option ℕ)) (due : Due) (locals : List LocalPlace) (t : ℕ) (e : Entry) → slot_at slots t ≡ Retired e → held_at locals hands keeps due e.number t ≡ 0
+pub drivers_kept_sub : (slots : List Slot) (hands : List Hand) (keeps : List (Option ℕ)) (due : Due) (locals : List LocalPlace) (t : ℕ) (e : Entry) → slot_at slots t ≡ Retired e
+    → held_at locals hands keeps due e.number t ≡ 0
     → DriversKept slots keeps → DriversKept (set slots t Vacant) (set keeps t None)
 drivers_kept_sub slots hands keeps due locals t e at none kept =
     let gone : DriversKept (set slots t Vacant) keeps = drivers_vacate slots hands keeps due locals t e at none kept in
@@ -101,7 +106,8 @@ kept_number slots keeps t e kept is kind =
     (some.0, some.1, kept_elsewhere slots keeps t some.0 e kept is some.1)
 
 -- the slot that `slot_of` finds for what an occupied slot keeps holds a driver, and is another
-pub kept_found : (h : List Change) (slots : List Slot) (keeps : List (Option ℕ)) (t d u : ℕ) (e : Entry) → SlotsShow h slots → DriversKept slots keeps → IsIn e (slot_at slots t) → kept_at keeps t ≡ Some d → slot_of slots d ≡ Some u
+pub kept_found : (h : List Change) (slots : List Slot) (keeps : List (Option ℕ)) (t d u : ℕ) (e : Entry) → SlotsShow h slots → DriversKept slots keeps → IsIn e (slot_at slots t)
+    → kept_at keeps t ≡ Some d → slot_of slots d ≡ Some u
     → (f : Entry) × IsIn f (slot_at slots u) × (f.number ≡ d) × (f.rec.kind ≡ Driver) × (u ≡ t → ⊥)
 kept_found h slots keeps t d u e show kept is at found =
     let has = slot_has slots d u found in
@@ -128,7 +134,8 @@ slot_has_driver slots n u found test =
     let one : is.0 ≡ has.1.0 = one_in is.0 has.1.0 (slot_at slots u) has.1.1 is.1 in
     (u, is.0, is.1, ap (λ (g : Entry). g.number) one ∙ has.1.2, is.2)
 
-pub drivers_keep : (slots : List Slot) (keeps : List (Option ℕ)) (t n u : ℕ) → slot_at slots t ≡ Vacant → slot_of slots n ≡ Some u → is_driver_slot (slot_at slots u) ≡ true → DriversKept slots keeps → DriversKept slots (set keeps t (Some n))
+pub drivers_keep : (slots : List Slot) (keeps : List (Option ℕ)) (t n u : ℕ) → slot_at slots t ≡ Vacant → slot_of slots n ≡ Some u → is_driver_slot (slot_at slots u) ≡ true → DriversKept slots keeps
+    → DriversKept slots (set keeps t (Some n))
 drivers_keep slots keeps t n u vacant found test kept = record {
   rightly = λ v e is.
       let off : v ≡ t → ⊥ = λ same. not_vacant e (slot_at slots v) (ap (slot_at slots) same ∙ vacant) is in

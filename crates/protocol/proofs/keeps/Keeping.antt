@@ -4,7 +4,8 @@ use Rattle.std.specs.Prelude.{if◌then◌else◌, is_none, nat_lt}
 use Rattle.std.specs.List.{list_all}
 use Rattle.std.proofs.lemmas.Bool.{and_parts, eqb-true}
 use Rattle.protocol.proofs.counts.CountBounds.{bias_at, none_held_at_bias}
-use Rattle.protocol.proofs.keeps.CountKeeps.{collect_keeps, count_add_keeps, count_store_keeps, exchange_keeps, fit_of, join_keeper_keeps, join_keeps, keep_keeps, only_slot, split_back_keeps, split_keeps, total_add_keeps, total_sub_keeps}
+use Rattle.protocol.proofs.keeps.CountKeeps.{collect_keeps, count_add_keeps, count_store_keeps, exchange_keeps, fit_of, join_keeper_keeps, join_keeps, keep_keeps, only_slot, split_back_keeps}
+use Rattle.protocol.proofs.keeps.CountKeeps.{split_keeps, total_add_keeps, total_sub_keeps}
 use Rattle.protocol.proofs.counts.Counts as C
 use Rattle.protocol.proofs.keeps.Drivers.{drivers_kept_sub, drivers_opening, drivers_publish, drivers_unpublish, drivers_vacate, kept_found}
 use Rattle.registry_values.proofs.Fit.{ranges}
@@ -12,10 +13,18 @@ use Rattle.protocol.proofs.counts.HeldSums.{published_held}
 use Rattle.protocol.proofs.keeps.ListKeeps as L
 use Rattle.protocol.proofs.keeps.MarkKeeps as M
 use Rattle.protocol.proofs.slots.Occupied.{in_within, at_rest_tells}
-use Rattle.protocol.proofs.keeps.References.{references_kept_sub, references_opening, references_publish, references_snapshot, references_unpublish, references_vacate, standing_tells, snapshot_due_tells}
+use Rattle.protocol.proofs.keeps.References.{references_kept_sub, references_opening, references_publish, references_snapshot, references_unpublish, references_vacate, standing_tells}
+use Rattle.protocol.proofs.keeps.References.{snapshot_due_tells}
 use Rattle.protocol.proofs.keeps.SearchKeeps.{link_keeps, record_keeps, seek_keeps}
 use Rattle.protocol.proofs.keeps.SectionKeeps.{enter_keeps, exit_keeps, hear_keeps, seat_keeps}
-use Rattle.protocol.specs.Common.{Outcome, after_count_store, after_kept_sub, after_look, after_look_passive, after_publish, after_row_store, after_snapshot, after_unpublish, after_vacate, count_down, entry_of, exchange, guard, hear, is_bias, is_drained, is_iface_slot, is_idle, is_snapshot_due, kept_sub, load_record, look, may_add, may_collect, may_count, may_enter, may_examine, may_exit, may_glance, may_join_keeper, may_keep, may_look_passive, may_publish, may_seat, may_seek, may_sub, may_vacate, may_write, snapshot, snapshot_mark, split_back, split_ref, number_standing, state_after, step, store_slot, some_outcome, tell, total_add, total_sub, unpublish, with_some, Holds, held_at, Run, run_of_events, run_with_event, at_rest, State, found_at, hand_at, kept_at, local_at, mark_at, opening, passive_at, row_at, search_at, section_at, total_at, Keeps, Event, Seat, Enter, Exit, Seek, LoadLink, LoadRecord, StoreSlot, StoreNext, Publish, Unpublish, Tell, Hear, Snapshot, Look, PassiveAdd, PassiveSub, PassiveLook, CountAdd, SplitRef, JoinRef, CountDown, SplitBack, Collect, TotalAdd, JoinKeeper, TotalSub, Keep, KeptSub, Vacate, RecordOf, Reply, Done, Due, Adding, Snapshots, Subtracting, Hand, Back, Giving, Taking, Standing}
+use Rattle.protocol.specs.Common.{Outcome, after_count_store, after_kept_sub, after_look, after_look_passive, after_publish, after_row_store, after_snapshot, after_unpublish, after_vacate, count_down}
+use Rattle.protocol.specs.Common.{entry_of, exchange, guard, hear, is_bias, is_drained, is_iface_slot, is_idle, is_snapshot_due, kept_sub, load_record, look, may_add, may_collect, may_count}
+use Rattle.protocol.specs.Common.{may_enter, may_examine, may_exit, may_glance, may_join_keeper, may_keep, may_look_passive, may_publish, may_seat, may_seek, may_sub, may_vacate, may_write, snapshot}
+use Rattle.protocol.specs.Common.{snapshot_mark, split_back, split_ref, number_standing, state_after, step, store_slot, some_outcome, tell, total_add, total_sub, unpublish, with_some, Holds, held_at}
+use Rattle.protocol.specs.Common.{Run, run_of_events, run_with_event, at_rest, State, found_at, hand_at, kept_at, local_at, mark_at, opening, passive_at, row_at, search_at, section_at, total_at}
+use Rattle.protocol.specs.Common.{Keeps, Event, Seat, Enter, Exit, Seek, LoadLink, LoadRecord, StoreSlot, StoreNext, Publish, Unpublish, Tell, Hear, Snapshot, Look, PassiveAdd, PassiveSub}
+use Rattle.protocol.specs.Common.{PassiveLook, CountAdd, SplitRef, JoinRef, CountDown, SplitBack, Collect, TotalAdd, JoinKeeper, TotalSub, Keep, KeptSub, Vacate, RecordOf, Reply, Done, Due, Adding}
+use Rattle.protocol.specs.Common.{Snapshots, Subtracting, Hand, Back, Giving, Taking, Standing}
 use Rattle.registry_values.specs.Common.{mark_after_passive_look, mark_after_look, slot_of, slot_at, are_fit, bias}
 use Rattle.protocol.specs.Types.{Entry, Settings, Slot, Live, Retired}
 use Rattle.protocol.specs.declared.event.RecordOf.TheVariants.{Search as OfSearch, Passive as OfPassive, Local as OfLocal}
@@ -30,7 +39,8 @@ publish_keeps s t e on is may =
     published_held s.history s.settings.cpus s.slots s.hands s.keeps s.due s.locals e.number t on.slots (omega (arith, told.number)) told.rest on.references on.kept_drivers in
     L.publish_keeps s t e on is may
     (C.publish on.balance (fit_of s on) t e told.within told.vacant told.rest (λ c lt. bias_at (fit_of s on) t c told.within lt unused.0) none)
-    (references_publish s.settings.cpus s.slots s.hands s.due s.locals t e told.within told.vacant on.references) (drivers_publish s.slots s.keeps t e told.within told.vacant told.rightly on.kept_drivers)
+    (references_publish s.settings.cpus s.slots s.hands s.due s.locals t e told.within told.vacant on.references)
+    (drivers_publish s.slots s.keeps t e told.within told.vacant told.rightly on.kept_drivers)
 
 pub unpublish_keeps : (s : State) (t : ℕ) (e : Entry) → Holds s → slot_at s.slots t ≡ Live e → at_rest s.due ≡ true → Holds (after_unpublish s t e)
 unpublish_keeps s t e on is rest = L.unpublish_keeps s t e on is rest
@@ -75,7 +85,8 @@ kept_sub_keeps s t d u on keeps of drained =
     M.kept_sub_keeps s t u on drained
     (C.kept_sub on.balance (fit_of s on) t u d driver.0 (in_within s.slots t e (inr gone)) (λ same. driver.4 (sym same)) told.0 keeps driver.1 driver.2
     (only_slot s u d driver.0 on driver.1 driver.2) told.5)
-    (references_kept_sub s.settings.cpus s.slots s.hands s.keeps s.due s.locals t e gone told.0 none on.references) (drivers_kept_sub s.slots s.hands s.keeps s.due s.locals t e gone none on.kept_drivers)
+    (references_kept_sub s.settings.cpus s.slots s.hands s.keeps s.due s.locals t e gone told.0 none on.references)
+    (drivers_kept_sub s.slots s.hands s.keeps s.due s.locals t e gone none on.kept_drivers)
 
 pub opening_holds : (z : Settings) → IsTrue (are_fit z) → Holds (opening z)
 opening_holds z fit = M.opening_holds z fit (C.opening z) (references_opening z.cpus z.slots) (drivers_opening z.slots z.slots)

@@ -1,5 +1,6 @@
 -- The keeper's events on the list keep the invariant: stores to a vacant slot, Publish and Unpublish.
-use Rattle.std.proofs.Common.{Bool, List, None, Option, Some, [], ap, arith, false, get_or, get_or-set_other, get_or-set_same, inl, inr, length, length-set, ltb-true, not, refl, replicate, set, subst, suc, sym, true, zero, ℕ, ◌&&◌, ◌+◌, ◌<◌, ◌∙◌, ◌≡◌, ◌≢◌, ◌≤◌}
+use Rattle.std.proofs.Common.{Bool, List, None, Option, Some, [], ap, arith, false, get_or, get_or-set_other, get_or-set_same, inl, inr, length, length-set, ltb-true, not, refl, replicate, set, subst}
+use Rattle.std.proofs.Common.{suc, sym, true, zero, ℕ, ◌&&◌, ◌+◌, ◌<◌, ◌∙◌, ◌≡◌, ◌≢◌, ◌≤◌}
 use Rattle.std.proofs.lemmas.Bool.{and_from, and_parts, cases_eq, cases_lt, eq-eqb, eqb-true, leb-true}
 use Rattle.std.proofs.lemmas.List.{set_past}
 use Rattle.std.proofs.lemmas.List.Folds.{list_any_at}
@@ -11,8 +12,11 @@ use Rattle.protocol.proofs.history.History.{length-after_change}
 use Rattle.protocol.proofs.keeps.Marking.{marks_detach, snapshots_detach}
 use Rattle.protocol.proofs.keeps.Passive.{passive_attach, passive_detach}
 use Rattle.protocol.proofs.keeps.Publishing.{held_attach, legal_attach, links_attach, list_attach, marks_attach, rows_attach, slots_attach, snapshots_attach}
-use Rattle.protocol.proofs.keeps.Unlinking.{before_leads, head_leads, head_leads_on, held_detach, legal_detach, link_to, links_detach, list_unlink_head, list_unlink_mid, rows_detach, slots_detach, within_live}
-use Rattle.protocol.specs.Common.{after_link_store, after_publish, after_row_store, after_unpublish, are_unused, entry_if, entry_of, has_room, is_prepared, keeps_rightly, kind_of, may_publish, may_write, with_retired, with_link_past, with_word, words_of, after_change, AreRows, CountsHold, DriversKept, HasShape, Holds, IsIn, Leads, LinksStay, ListShows, ReferencesHold, RowsShow, SnapshotsStand, one_if, at_rest, State, kept_at, no_words, row_at, with_cell, Rest, RecordWords}
+use Rattle.protocol.proofs.keeps.Unlinking.{before_leads, head_leads, head_leads_on, held_detach, legal_detach, link_to, links_detach, list_unlink_head, list_unlink_mid, rows_detach, slots_detach}
+use Rattle.protocol.proofs.keeps.Unlinking.{within_live}
+use Rattle.protocol.specs.Common.{after_link_store, after_publish, after_row_store, after_unpublish, are_unused, entry_if, entry_of, has_room, is_prepared, keeps_rightly, kind_of, may_publish}
+use Rattle.protocol.specs.Common.{may_write, with_retired, with_link_past, with_word, words_of, after_change, AreRows, CountsHold, DriversKept, HasShape, Holds, IsIn, Leads, LinksStay, ListShows}
+use Rattle.protocol.specs.Common.{ReferencesHold, RowsShow, SnapshotsStand, one_if, at_rest, State, kept_at, no_words, row_at, with_cell, Rest, RecordWords}
 use Rattle.protocol.specs.Types.{MOST_CPUS, Attach, Detach, Entry, Kind, Driver, Iface, Key, Slot, Live, Retired, Vacant}
 use Rattle.registry_values.specs.Common.{key_of, is_live, is_live_as, is_taken, is_vacant, kind_word, live_count, same_key, same_kind, same_name, slot_before, slot_at, bias, no_mark}
 use Rattle.registry_values.specs.Names.{are_name_words}
@@ -164,7 +168,8 @@ publish_own s e on row name may counts references drivers =
     let more : live_count (set s.slots e.slot (Live e)) + 0 ≡ live_count s.slots + 1 = live_count_put s.slots e.slot Vacant (Live e) told.within told.vacant in
     let size : length (after_change s.history (Attach e)) ≡ suc (length s.history) = length-after_change s.history (Attach e) in
     let list : ListShows (after_change s.history (Attach e)) (set s.slots e.slot (Live e)) (e.slot + 1) s.next =
-    subst (λ (n : ℕ). ListShows (after_change s.history (Attach e)) (set s.slots e.slot (Live e)) n s.next) (omega arith) (list_attach s.history s.slots s.head s.next e on.legal told.within told.number told.link on.slots on.list) in
+    subst (λ (n : ℕ). ListShows (after_change s.history (Attach e)) (set s.slots e.slot (Live e)) n s.next) (omega arith)
+    (list_attach s.history s.slots s.head s.next e on.legal told.within told.number told.link on.slots on.list) in
     let room : length (after_change s.history (Attach e)) + live_count (set s.slots e.slot (Live e)) ≤ s.settings.change_limit = omega (arith, size, more, told.room) in
     assumption (
       length-set s.nets e.slot (replicate MOST_CPUS bias) ∙ on.shape.nets,
@@ -189,7 +194,8 @@ pub publish_keeps : (s : State) (t : ℕ) (e : Entry) → Holds s → entry_of t
     → CountsOf (after_publish s t e) → ReferencesOf (after_publish s t e) → DriversOf (after_publish s t e) → Holds (after_publish s t e)
 publish_keeps s t e on is =
     let told = entry_shows t (row_at s.rows t) e is in
-    subst (λ (u : ℕ). row_at s.rows u ≡ words_of e → may_publish s u e ≡ true → CountsOf (after_publish s u e) → ReferencesOf (after_publish s u e) → DriversOf (after_publish s u e) → Holds (after_publish s u e))
+    subst (λ (u : ℕ). row_at s.rows u ≡ words_of e → may_publish s u e ≡ true → CountsOf (after_publish s u e) → ReferencesOf (after_publish s u e) → DriversOf (after_publish s u e)
+    → Holds (after_publish s u e))
     told.0 (λ row may counts references drivers. publish_own s e on row told.2 may counts references drivers) told.1
 
 -- the first store leaves all but the head and one link

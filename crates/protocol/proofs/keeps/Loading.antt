@@ -23,11 +23,17 @@ tells_bound s from n (suc t) key tells = tells.4
 pub head_bound : (s : State) (c : ℕ) (q : Search) → Holds s → search_at s c ≡ Some q → s.head ≤ s.settings.slots
 head_bound s c q on is =
     let walk : Walks s c q.start = search_walks s c q on is in
-    omega (arith, on.shape.slots, tells_bound s q.start (suc (length s.history)) s.head q.key (link_tells s c q.start (suc (length s.history)) s.head q.key on walk (head_ahead s q.start q.key on walk.by_now)))
+    omega (
+      arith,
+      on.shape.slots,
+      tells_bound s q.start (suc (length s.history)) s.head q.key (link_tells s c q.start (suc (length s.history)) s.head q.key on walk (head_ahead s q.start q.key on walk.by_now)),
+    )
 
 pub next_bound : (s : State) (c t : ℕ) (q : Search) → Holds s → search_at s c ≡ Some q → q.place ≡ AtNext t → (t < s.settings.slots) × (get_or s.next t 0 ≤ s.settings.slots)
 next_bound s c t q on is at =
     let walk : Walks s c q.start = search_walks s c q on is in
     let p = subst (PlaceHolds s.history q.start (get_or s.seen c 0) q.key) at (on.searches c q is).stands in
-    let ahead = at_next_ahead s c q.start (get_or s.seen c 0) t q.key on walk (on.sections.prefix c) p in
-    (omega (arith, ahead.0, on.shape.links), omega (arith, on.shape.slots, tells_bound s q.start p.0.number (get_or s.next t 0) q.key (link_tells s c q.start p.0.number (get_or s.next t 0) q.key on walk ahead.1)))
+    let ahead = at_next_ahead s c q.start (get_or s.seen c 0) t q.key on walk (on.sections.prefix c) p in (
+      omega (arith, ahead.0, on.shape.links),
+      omega (arith, on.shape.slots, tells_bound s q.start p.0.number (get_or s.next t 0) q.key (link_tells s c q.start p.0.number (get_or s.next t 0) q.key on walk ahead.1)),
+    )

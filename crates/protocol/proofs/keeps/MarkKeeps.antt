@@ -1,16 +1,21 @@
 -- Snapshots, looks, passive references and the end of a slot's use keep the invariant; the opening state has it.
-use Rattle.std.proofs.Common.{Bool, List, None, Option, Some, [], ap, arith, false, get_or, length, length-set, ltb-true, refl, replicate, set, subst, suc, sym, true, zero, ℕ, ◌%◌, ◌&&◌, ◌+◌, ◌-◌, ◌<◌, ◌||◌, ◌∙◌, ◌≡◌, ◌≤◌}
+use Rattle.std.proofs.Common.{Bool, List, None, Option, Some, [], ap, arith, false, get_or, length, length-set, ltb-true, refl, replicate, set, subst, suc, sym, true, zero, ℕ, ◌%◌, ◌&&◌, ◌+◌, ◌-◌}
+use Rattle.std.proofs.Common.{◌<◌, ◌||◌, ◌∙◌, ◌≡◌, ◌≤◌}
 use Rattle.std.proofs.lemmas.Bool.{and_parts, cases_lt, eqb-true, or_cases}
 use Rattle.std.proofs.lemmas.List.{get_or_past, length-replicate}
 use Rattle.std.proofs.lemmas.Option.{none-some}
 use Rattle.std.specs.Prelude.{IsTrue, is_none, nat_lt, ◌==◌}
 use Rattle.protocol.proofs.history.History.{at_empty}
 use Rattle.protocol.proofs.keeps.ListKeeps.{CountsOf, DriversOf, ReferencesOf, cell_sized, live_count_put}
-use Rattle.protocol.proofs.keeps.Marking.{held_vacate, links_vacate, list_all_within, list_vacate, marks_look, marks_snapshot, marks_vacate, marks_write, rows_vacate, slots_vacate, snapshots_marked, snapshots_taken, snapshots_vacate}
+use Rattle.protocol.proofs.keeps.Marking.{held_vacate, links_vacate, list_all_within, list_vacate, marks_look, marks_snapshot, marks_vacate, marks_write, rows_vacate, slots_vacate, snapshots_marked}
+use Rattle.protocol.proofs.keeps.Marking.{snapshots_taken, snapshots_vacate}
 use Rattle.protocol.proofs.keeps.Passive.{found_not_passed, passive_counted, passive_marked, passive_vacate}
 use Rattle.protocol.proofs.keeps.Unlinking.{within_retired}
-use Rattle.protocol.specs.Common.{after_add, after_kept_sub, after_look, after_look_passive, after_snapshot, after_sub, after_vacate, is_drainable, is_drained, is_idle, is_number, is_snapshot_due, may_add, may_examine, may_look_passive, may_sub, may_vacate, snapshot_mark, AreRows, DueHolds, Holds, IsIn, SnapshotsStand, To_end, at_rest, State, found_at, kept_at, mark_at, no_words, opening, passive_at, section_at, total_at, Rest, Snapshots, Empty}
-use Rattle.registry_values.specs.Common.{mark_after_passive_look, mark_after_look, are_clear, are_collected, has_changed, have_passed, is_clear, is_collected, is_even, is_passed, no_mark, are_fit, is_retired, live_count, slot_of, slot_at, bias}
+use Rattle.protocol.specs.Common.{after_add, after_kept_sub, after_look, after_look_passive, after_snapshot, after_sub, after_vacate, is_drainable, is_drained, is_idle, is_number, is_snapshot_due}
+use Rattle.protocol.specs.Common.{may_add, may_examine, may_look_passive, may_sub, may_vacate, snapshot_mark, AreRows, DueHolds, Holds, IsIn, SnapshotsStand, To_end, at_rest, State, found_at, kept_at}
+use Rattle.protocol.specs.Common.{mark_at, no_words, opening, passive_at, section_at, total_at, Rest, Snapshots, Empty}
+use Rattle.registry_values.specs.Common.{mark_after_passive_look, mark_after_look, are_clear, are_collected, has_changed, have_passed, is_clear, is_collected, is_even, is_passed, no_mark, are_fit}
+use Rattle.registry_values.specs.Common.{is_retired, live_count, slot_of, slot_at, bias}
 use Rattle.registry_values.proofs.Fit.{ranges}
 use Rattle.protocol.specs.Types.{Attach, Detach, Entry, Settings, MOST_CPUS, Mark, Slot, Live, Retired, Vacant}
 use Rattle.protocol.proofs.slots.Occupied.{not_vacant, slot_has, is_retired_tells, at_rest_tells}
@@ -98,7 +103,8 @@ add_keeps s c n t on of may =
           (λ f.
           let same : there.1.0 ≡ e = is_retired_one there.1.0 e (slot_at s.slots t) gone there.1.1 in
           let number : n ≡ e.number = sym there.1.2 ∙ ap (λ (g : Entry). g.number) same in
-          found_not_passed s.history s.slots s.marks s.section s.begins s.found c t e on.slots on.grace on.last_found gone (ap (λ (k : ℕ). is_number k (found_at s c)) (sym number) ∙ f) (on.passive.clear c t e gone clear).0)
+          found_not_passed s.history s.slots s.marks s.section s.begins s.found c t e on.slots on.grace on.last_found gone (ap (λ (k : ℕ). is_number k (found_at s c)) (sym number) ∙ f)
+          (on.passive.clear c t e gone clear).0)
           (λ h. omega (arith, ltb-true 0 (passive_at s.passive c t) h, (on.passive.clear c t e gone clear).1)))
           on.passive,
     )
@@ -120,7 +126,8 @@ sub_keeps s c t on may =
 
 -- what a drained slot shows
 pub is_drained_tells : (s : State) (t : ℕ) → Holds s → is_drained s t ≡ true
-    → (s.due ≡ Rest) × ((e : Entry) × (slot_at s.slots t ≡ Retired e)) × ((c : ℕ) → c < s.settings.cpus → (mark_at s.marks t c).passed ≡ true) × ((c : ℕ) → c < s.settings.cpus → (mark_at s.marks t c).clear ≡ true)
+    → (s.due ≡ Rest) × ((e : Entry) × (slot_at s.slots t ≡ Retired e)) × ((c : ℕ) → c < s.settings.cpus → (mark_at s.marks t c).passed ≡ true)
+    × ((c : ℕ) → c < s.settings.cpus → (mark_at s.marks t c).clear ≡ true)
     × ((c : ℕ) → c < s.settings.cpus → (mark_at s.marks t c).collected ≡ true) × (total_at s.totals t ≡ bias)
 is_drained_tells s t on is =
     let row : List Mark = get_or s.marks t [] in

@@ -1,19 +1,22 @@
 -- Snapshots, looks and the end of a slot's use.
-use Rattle.std.proofs.Common.{Bool, List, None, Option, Some, [], ap, arith, false, get_or, get_or-set_other, get_or-set_same, inl, inr, length, not, refl, replicate, set, subst, suc, sym, take, true, zero, ℕ, ◌%◌, ◌+◌, ◌<◌, ◌||◌, ◌∙◌, ◌∷◌, ◌≡◌, ◌≢◌, ◌≤◌}
+use Rattle.std.proofs.Common.{Bool, List, None, Option, Some, [], ap, arith, false, get_or, get_or-set_other, get_or-set_same, inl, inr, length, not, refl, replicate, set, subst, suc, sym, take, true}
+use Rattle.std.proofs.Common.{zero, ℕ, ◌%◌, ◌+◌, ◌<◌, ◌||◌, ◌∙◌, ◌∷◌, ◌≡◌, ◌≢◌, ◌≤◌}
 use Rattle.std.proofs.lemmas.Bool.{and_parts, eq-eqb, eqb-true, lt-ltb, or_cases}
 use Rattle.std.proofs.lemmas.Option.{same_Some}
 use Rattle.std.specs.List.{list_all}
 use Rattle.std.specs.Prelude.{if◌then◌else◌, nat_lt}
 use Rattle.protocol.proofs.keeps.Unlinking.{end_before, gone_before, within_live}
 use Rattle.registry_values.specs.Common.{mark_after_look, has_changed, is_even, no_mark, slot_at}
-use Rattle.protocol.specs.Common.{snapshot_mark, EndsAt, IsLiveAt, after_change, HeldStay, IsIn, IsSnapshotDue, LinksStay, ListShows, MarksHold, RowsShow, SectionsShow, SlotsShow, SnapshotsStand, mark_at, Due, Rest, Snapshots, RecordWords}
+use Rattle.protocol.specs.Common.{snapshot_mark, EndsAt, IsLiveAt, after_change, HeldStay, IsIn, IsSnapshotDue, LinksStay, ListShows, MarksHold, RowsShow, SectionsShow, SlotsShow, SnapshotsStand}
+use Rattle.protocol.specs.Common.{mark_at, Due, Rest, Snapshots, RecordWords}
 use Rattle.protocol.specs.Types.{Change, Detach, Entry, Settings, Mark, Slot, Live, Retired, Vacant}
 use Rattle.protocol.proofs.slots.Occupied.{slot_cases, not_vacant}
 use Rattle.protocol.proofs.slots.Cells.{by_cell, cell_here, cell_other, cell_put, get_or_all}
 use Rattle.protocol.proofs.Either.{either}
 
 -- a fresh row of marks
-pub marks_detach : (h : List Change) (slots : List Slot) (marks : List (List Mark)) (section : List ℕ) (begins : List (Option ℕ)) (e : Entry) (n : ℕ) → slot_at slots e.slot ≡ Live e → length marks ≡ length slots → SlotsShow h slots
+pub marks_detach : (h : List Change) (slots : List Slot) (marks : List (List Mark)) (section : List ℕ) (begins : List (Option ℕ)) (e : Entry) (n : ℕ) → slot_at slots e.slot ≡ Live e
+    → length marks ≡ length slots → SlotsShow h slots
     → MarksHold h slots marks section begins → MarksHold (after_change h (Detach e.number)) (set slots e.slot (Retired e)) (set marks e.slot (replicate n no_mark)) section begins
 marks_detach h slots marks section begins e n at size show m =
     let lt : e.slot < length slots = within_live slots e.slot e at in
@@ -76,7 +79,8 @@ changed_word None w holds = absurd (let q : ◌≡◌ {A = Bool} false true = ho
 changed_word (Some v) w holds = (v, refl, λ same. let q : ◌≡◌ {A = Bool} false true = sym (ap not (eq-eqb v w (sym same))) ∙ holds in cc)
 
 -- a look passes only where the word is even or differs from the snapshot
-pub marks_look : (z : Settings) (h : List Change) (slots : List Slot) (marks : List (List Mark)) (section : List ℕ) (begins : List (Option ℕ)) (depths seen : List ℕ) (t c : ℕ) → SectionsShow z h section begins depths seen
+pub marks_look : (z : Settings) (h : List Change) (slots : List Slot) (marks : List (List Mark)) (section : List ℕ) (begins : List (Option ℕ)) (depths seen : List ℕ) (t c : ℕ)
+    → SectionsShow z h section begins depths seen
     → MarksHold h slots marks section begins → MarksHold h slots (set marks t (set (get_or marks t []) c (mark_after_look (mark_at marks t c) (get_or section c 0)))) section begins
 marks_look z h slots marks section begins depths seen t c shown was = marks_write h slots marks section begins t c (mark_after_look (mark_at marks t c) (get_or section c 0))
     (λ p b e is ends in_ holds. either (or_cases (mark_at marks t c).passed (is_even (get_or section c 0) || has_changed (mark_at marks t c).snapshot (get_or section c 0)) holds)
@@ -154,10 +158,12 @@ rows_vacate slots rows t lt show u f is = show u f (subst (IsIn f) (vacated_befo
 pub list_vacate : (h : List Change) (slots : List Slot) (head : ℕ) (next : List ℕ) (t : ℕ) → t < length slots → ListShows h slots head next → ListShows h (set slots t Vacant) head next
 list_vacate h slots head next t lt list = record { first = list.first; links = λ u f is. list.links u f (sym (vacated_before slots t u f lt (inl is)).1 ∙ is) }
 
-pub links_vacate : (h : List Change) (slots : List Slot) (next : List ℕ) (begins : List (Option ℕ)) (t : ℕ) → t < length slots → LinksStay h slots next begins → LinksStay h (set slots t Vacant) next begins
+pub links_vacate : (h : List Change) (slots : List Slot) (next : List ℕ) (begins : List (Option ℕ)) (t : ℕ) → t < length slots → LinksStay h slots next begins
+    → LinksStay h (set slots t Vacant) next begins
 links_vacate h slots next begins t lt links u p c b f is = links u p c b f (sym (vacated_before slots t u f lt (inr is)).1 ∙ is)
 
-pub marks_vacate : (h : List Change) (slots : List Slot) (marks : List (List Mark)) (section : List ℕ) (begins : List (Option ℕ)) (t : ℕ) → t < length slots → MarksHold h slots marks section begins → MarksHold h (set slots t Vacant) marks section begins
+pub marks_vacate : (h : List Change) (slots : List Slot) (marks : List (List Mark)) (section : List ℕ) (begins : List (Option ℕ)) (t : ℕ) → t < length slots → MarksHold h slots marks section begins
+    → MarksHold h (set slots t Vacant) marks section begins
 marks_vacate h slots marks section begins t lt m = record {
   passed = λ u p c b f is. m.passed u p c b f (sym (vacated_before slots t u f lt (inr is)).1 ∙ is);
   changed = λ u p c b w f is. m.changed u p c b w f (sym (vacated_before slots t u f lt (inr is)).1 ∙ is);
@@ -166,7 +172,8 @@ marks_vacate h slots marks section begins t lt m = record {
 }
 
 -- No section may hold an entry for which every CPU has passed.
-pub held_vacate : (h : List Change) (slots : List Slot) (marks : List (List Mark)) (section : List ℕ) (begins : List (Option ℕ)) (t : ℕ) (e : Entry) → t < length slots → slot_at slots t ≡ Retired e → SlotsShow h slots
+pub held_vacate : (h : List Change) (slots : List Slot) (marks : List (List Mark)) (section : List ℕ) (begins : List (Option ℕ)) (t : ℕ) (e : Entry) → t < length slots → slot_at slots t ≡ Retired e
+    → SlotsShow h slots
     → ((c b : ℕ) → get_or begins c None ≡ Some b → (mark_at marks t c).passed ≡ true) → MarksHold h slots marks section begins → HeldStay h slots begins → HeldStay h (set slots t Vacant) begins
 held_vacate h slots marks section begins t e lt at show all m held c b f is hold =
     let was : IsIn f (slot_at slots f.slot) = held c b f is hold in
@@ -188,5 +195,6 @@ list_all_within p (x ∷ xs) zero i d all lt in_ = absurd (omega arith)
 list_all_within p (x ∷ xs) (suc n) zero d all lt in_ = (and_parts (p x) (list_all p (take n xs)) all).0
 list_all_within p (x ∷ xs) (suc n) (suc i) d all lt in_ = list_all_within p xs n i d (and_parts (p x) (list_all p (take n xs)) all).1 (omega arith) (omega arith)
 
-pub snapshots_vacate : (cpus : ℕ) (slots : List Slot) (marks : List (List Mark)) (due : Due) (t : ℕ) → t < length slots → SnapshotsStand cpus slots marks due → SnapshotsStand cpus (set slots t Vacant) marks due
+pub snapshots_vacate : (cpus : ℕ) (slots : List Slot) (marks : List (List Mark)) (due : Due) (t : ℕ) → t < length slots → SnapshotsStand cpus slots marks due
+    → SnapshotsStand cpus (set slots t Vacant) marks due
 snapshots_vacate cpus slots marks due t lt stand u c f is = stand u c f (sym (vacated_before slots t u f lt (inr is)).1 ∙ is)

@@ -1,5 +1,6 @@
 -- Passive references and the marks that tell that there is none.
-use Rattle.std.proofs.Common.{Bool, List, None, Option, Some, [], ap, arith, false, get_or, get_or-set_other, get_or-set_same, inr, length, refl, replicate, set, subst, sym, true, ℕ, ◌<◌, ◌∙◌, ◌≡◌, ◌≤◌}
+use Rattle.std.proofs.Common.{Bool, List, None, Option, Some, [], ap, arith, false, get_or, get_or-set_other, get_or-set_same, inr, length, refl, replicate, set, subst, sym, true, ℕ, ◌<◌, ◌∙◌, ◌≡◌}
+use Rattle.std.proofs.Common.{◌≤◌}
 use Rattle.std.proofs.lemmas.Bool.{cases_lt, eqb-true}
 use Rattle.protocol.proofs.history.History.{one_entry}
 use Rattle.protocol.proofs.keeps.Marking.{vacated_before}
@@ -11,7 +12,8 @@ use Rattle.protocol.specs.Types.{Change, Entry, Mark, Slot, Live, Retired, Vacan
 use Rattle.protocol.proofs.slots.Cells.{cell_put, get_or_all, place_in}
 use Rattle.protocol.proofs.Either.{either}
 
-pub passive_attach : (cpus limit : ℕ) (slots : List Slot) (marks : List (List Mark)) (passive : List (List ℕ)) (e : Entry) → e.slot < length slots → PassiveShow cpus limit slots marks passive → PassiveShow cpus limit (set slots e.slot (Live e)) marks passive
+pub passive_attach : (cpus limit : ℕ) (slots : List Slot) (marks : List (List Mark)) (passive : List (List ℕ)) (e : Entry) → e.slot < length slots → PassiveShow cpus limit slots marks passive
+    → PassiveShow cpus limit (set slots e.slot (Live e)) marks passive
 passive_attach cpus limit slots marks passive e lt p = record {
   vacant = λ c u. place_in Vacant slots e.slot (Live e) (λ v x. x ≡ Vacant → passive_at passive c v ≡ 0) u lt (λ is. absurd (let q : Live e ≡ Vacant = is in cc)) (λ off. p.vacant c u);
   clear = λ c u f is. p.clear c u f (retired_before slots e u f lt is);
@@ -20,7 +22,8 @@ passive_attach cpus limit slots marks passive e lt p = record {
   limited = p.limited;
 }
 
-pub passive_detach : (cpus limit : ℕ) (slots : List Slot) (marks : List (List Mark)) (passive : List (List ℕ)) (e : Entry) (n : ℕ) → e.slot < length slots → e.slot < length marks → PassiveShow cpus limit slots marks passive
+pub passive_detach : (cpus limit : ℕ) (slots : List Slot) (marks : List (List Mark)) (passive : List (List ℕ)) (e : Entry) (n : ℕ) → e.slot < length slots → e.slot < length marks
+    → PassiveShow cpus limit slots marks passive
     → PassiveShow cpus limit (set slots e.slot (Retired e)) (set marks e.slot (replicate n no_mark)) passive
 passive_detach cpus limit slots marks passive e n lt lm p =
     let fresh : (u c : ℕ) → u ≡ e.slot → mark_at (set marks e.slot (replicate n no_mark)) u c ≡ no_mark = λ u c same.
@@ -88,7 +91,8 @@ found_number n (Some e) is = (e, refl, eqb-true e.number n is)
 
 -- c has not passed for an entry that it found last
 pub found_not_passed : (h : List Change) (slots : List Slot) (marks : List (List Mark)) (section : List ℕ) (begins : List (Option ℕ)) (found : List (Option Entry)) (c t : ℕ) (f : Entry)
-    → SlotsShow h slots → MarksHold h slots marks section begins → FoundHold h begins found → slot_at slots t ≡ Retired f → is_number f.number (get_or found c None) ≡ true → (mark_at marks t c).passed ≡ true → ⊥
+    → SlotsShow h slots → MarksHold h slots marks section begins → FoundHold h begins found → slot_at slots t ≡ Retired f → is_number f.number (get_or found c None) ≡ true
+    → (mark_at marks t c).passed ≡ true → ⊥
 found_not_passed h slots marks section begins found c t f show m hold gone is passed =
     let e = found_number f.number (get_or found c None) is in
     let held = hold c e.0 e.1 in

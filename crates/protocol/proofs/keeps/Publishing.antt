@@ -3,7 +3,8 @@ use Rattle.std.proofs.Common.{List, Option, ap, arith, get_or, get_or-set_other,
 use Rattle.std.proofs.lemmas.Bool.{cases_eq, cases_lt}
 use Rattle.protocol.proofs.history.Growing.{hold_was, leads_old}
 use Rattle.protocol.proofs.history.History.{at_cases, at_new, at_within, attached_old, ends_after, ends_old, length-after_change, live_down, live_old, live_was, one_entry}
-use Rattle.protocol.specs.Common.{words_of, EndsAt, IsLegal, IsLiveAt, after_change, HeldStay, IsIn, Leads, LinksStay, ListShows, MarksHold, RowsShow, SlotsShow, SnapshotsStand, To_end, To_entry, row_at, Due, RecordWords}
+use Rattle.protocol.specs.Common.{words_of, EndsAt, IsLegal, IsLiveAt, after_change, HeldStay, IsIn, Leads, LinksStay, ListShows, MarksHold, RowsShow, SlotsShow, SnapshotsStand, To_end, To_entry}
+use Rattle.protocol.specs.Common.{row_at, Due, RecordWords}
 use Rattle.protocol.specs.History.{change_at}
 use Rattle.registry_values.specs.Common.{key_of, slot_at}
 use Rattle.registry_values.specs.Names.{are_name_words}
@@ -93,7 +94,8 @@ slots_attach h slots e legal lt vacant number show =
           (attached_old h (Attach e) f was.0, was.1, (was.2.0, ends_old h (Attach e) f.number was.2.0 was.2.1)));
     }
 
-pub rows_attach : (slots : List Slot) (rows : List RecordWords) (e : Entry) → e.slot < length slots → row_at rows e.slot ≡ words_of e → are_name_words e.rec.name.high e.rec.name.low ≡ true → RowsShow slots rows → RowsShow (set slots e.slot (Live e)) rows
+pub rows_attach : (slots : List Slot) (rows : List RecordWords) (e : Entry) → e.slot < length slots → row_at rows e.slot ≡ words_of e → are_name_words e.rec.name.high e.rec.name.low ≡ true
+    → RowsShow slots rows → RowsShow (set slots e.slot (Live e)) rows
 rows_attach slots rows e lt row name show u f is = either (slot_cases slots e.slot (Live e) u lt)
     (λ same.
     let one : f ≡ e = live_one f e (slot_at (set slots e.slot (Live e)) u) same.1 is in
@@ -128,7 +130,8 @@ held_attach h slots begins e lt vacant number held c b f is hold = either (cases
     in_other slots e.slot (Live e) f f.slot (λ same. not_vacant f (slot_at slots f.slot) (ap (slot_at slots) same ∙ vacant) was) was)
     (λ ge.
     let top : f.number ≤ length (after_change h (Attach e)) = (at_within (after_change h (Attach e)) f.number (Attach f) hold.attached).1 in
-    let one : f ≡ e = one_entry (after_change h (Attach e)) f e hold.attached (ap (change_at (after_change h (Attach e))) number ∙ at_new h (Attach e)) (omega (arith, length-after_change h (Attach e))) in
+    let one : f ≡ e =
+    one_entry (after_change h (Attach e)) f e hold.attached (ap (change_at (after_change h (Attach e))) number ∙ at_new h (Attach e)) (omega (arith, length-after_change h (Attach e))) in
     inl (subst (λ (g : Entry). slot_at (set slots e.slot (Live e)) g.slot ≡ Live g) (sym one) (get_or-set_same slots e.slot (Live e) Vacant lt)))
 
 -- what is retired after the publishing was so before
@@ -152,5 +155,6 @@ marks_attach h slots marks section begins e lt m = record {
   left = λ u c b w f is. m.left u c b w f (retired_before slots e u f lt is);
 }
 
-pub snapshots_attach : (cpus : ℕ) (slots : List Slot) (marks : List (List Mark)) (due : Due) (e : Entry) → e.slot < length slots → SnapshotsStand cpus slots marks due → SnapshotsStand cpus (set slots e.slot (Live e)) marks due
+pub snapshots_attach : (cpus : ℕ) (slots : List Slot) (marks : List (List Mark)) (due : Due) (e : Entry) → e.slot < length slots → SnapshotsStand cpus slots marks due
+    → SnapshotsStand cpus (set slots e.slot (Live e)) marks due
 snapshots_attach cpus slots marks due e lt stand u c f is = stand u c f (retired_before slots e u f lt is)

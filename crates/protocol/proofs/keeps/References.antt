@@ -1,10 +1,12 @@
 -- Each event keeps what is so of local references: places, hands, and what the keeper must do next.
-use Rattle.std.proofs.Common.{◌≡◌, ℕ, ◌+◌, ◌<◌, ◌≤◌, ◌==◌, ◌⊎◌, inl, inr, List, [], ◌∷◌, ◌++◌, length, get_or, set, replicate, nat_lt, if◌then◌else◌, Bool, true, false, Option, Some, None, position, refl, sym, ap, subst, ◌∙◌, arith, length-set, get_or-set_same, get_or-set_other}
+use Rattle.std.proofs.Common.{◌≡◌, ℕ, ◌+◌, ◌<◌, ◌≤◌, ◌==◌, ◌⊎◌, inl, inr, List, [], ◌∷◌, ◌++◌, length, get_or, set, replicate, nat_lt, if◌then◌else◌, Bool, true, false, Option, Some, None, position}
+use Rattle.std.proofs.Common.{refl, sym, ap, subst, ◌∙◌, arith, length-set, get_or-set_same, get_or-set_other}
 use Rattle.std.proofs.lemmas.List.{get_or_past, get_or_append_left, get_or_push, length_push}
 use Rattle.std.proofs.lemmas.List.Quantifiers.{position-Some}
 use Rattle.std.proofs.lemmas.Bool.{cases_lt, cases_eq, and_parts, eqb-true, cond_both, ltb-true, ltb-false}
 use Rattle.protocol.specs.Types.{Entry, Slot, Vacant, Live, Retired}
-use Rattle.protocol.specs.Common.{Search, Hand, Empty, Taking, Giving, Back, LocalPlace, Free, Standing, Lifted, Due, Rest, Snapshots, Adding, Subtracting, local_at, is_snapshot_due, number_standing, is_free, id_if, least_id, with_local, Occupies, held_at, HandHolds, DueHolds, ReferencesHold, SeatsShow}
+use Rattle.protocol.specs.Common.{Search, Hand, Empty, Taking, Giving, Back, LocalPlace, Free, Standing, Lifted, Due, Rest, Snapshots, Adding, Subtracting, local_at, is_snapshot_due, number_standing}
+use Rattle.protocol.specs.Common.{is_free, id_if, least_id, with_local, Occupies, held_at, HandHolds, DueHolds, ReferencesHold, SeatsShow}
 use Rattle.registry_values.specs.Common.{slot_at}
 use Rattle.protocol.proofs.slots.Occupied.{place_cases, place_within, written_cases, in_within, occupies_publish, occupies_unpublish, occupies_vacate}
 use Rattle.protocol.proofs.counts.HeldSums.{number_of, Unreferred, unreferred}
@@ -13,7 +15,8 @@ use Rattle.protocol.proofs.Either.{either}
 
 -- Slots change, places and hands stay.
 
-hand_slots : (slots others : List Slot) (locals : List LocalPlace) (c : ℕ) (h : Hand) → ((n : ℕ) → number_of h ≡ Some n → Occupies slots n → Occupies others n) → HandHolds slots locals c h → HandHolds others locals c h
+hand_slots : (slots others : List Slot) (locals : List LocalPlace) (c : ℕ) (h : Hand) → ((n : ℕ) → number_of h ≡ Some n → Occupies slots n → Occupies others n) → HandHolds slots locals c h
+    → HandHolds others locals c h
 hand_slots slots others locals c Empty stays holds = tt
 hand_slots slots others locals c (Taking n) stays holds = stays n refl holds
 hand_slots slots others locals c (Giving n id) stays holds = (stays n refl holds.0, holds.1)
@@ -56,7 +59,8 @@ references_unpublish cpus slots hands due locals t e some at refer =
     refer
 
 -- only what the keeper must do next changes
-pub references_due : (cpus : ℕ) (slots : List Slot) (hands : List Hand) (due next_due : Due) (locals : List LocalPlace) → DueHolds cpus slots next_due → ReferencesHold cpus slots hands due locals → ReferencesHold cpus slots hands next_due locals
+pub references_due : (cpus : ℕ) (slots : List Slot) (hands : List Hand) (due next_due : Due) (locals : List LocalPlace) → DueHolds cpus slots next_due → ReferencesHold cpus slots hands due locals
+    → ReferencesHold cpus slots hands next_due locals
 references_due cpus slots hands due next_due locals now refer = record { standing = refer.standing; in_hands = refer.in_hands; due_at = now }
 
 pub snapshot_due_tells : (due : Due) (t c : ℕ) → is_snapshot_due due t c ≡ true → due ≡ Snapshots t c
@@ -68,7 +72,8 @@ snapshot_due_tells (Snapshots a b) t c test =
 snapshot_due_tells _ t c test = absurd (let q : ◌≡◌ {A = Bool} false true = test in cc)
 
 -- the due snapshots of the slot t, from the CPU c on, are for a CPU and a retired entry
-pub due_snapshots : (cpus : ℕ) (slots : List Slot) (hands : List Hand) (due : Due) (locals : List LocalPlace) (t c : ℕ) → due ≡ Snapshots t c → ReferencesHold cpus slots hands due locals → (c < cpus) × ((e : Entry) × (slot_at slots t ≡ Retired e))
+pub due_snapshots : (cpus : ℕ) (slots : List Slot) (hands : List Hand) (due : Due) (locals : List LocalPlace) (t c : ℕ) → due ≡ Snapshots t c → ReferencesHold cpus slots hands due locals
+    → (c < cpus) × ((e : Entry) × (slot_at slots t ≡ Retired e))
 due_snapshots cpus slots hands due locals t c is refer = subst (DueHolds cpus slots) is refer.due_at
 
 pub references_snapshot : (cpus : ℕ) (slots : List Slot) (hands : List Hand) (due : Due) (locals : List LocalPlace) (t c : ℕ) → due ≡ Snapshots t c
@@ -81,7 +86,8 @@ references_snapshot cpus slots hands due locals t c is refer =
     refer
 
 -- nothing refers to the entry whose slot becomes vacant
-pub references_vacate : (cpus : ℕ) (slots : List Slot) (hands : List Hand) (keeps : List (Option ℕ)) (due : Due) (locals : List LocalPlace) (t : ℕ) (e : Entry) → slot_at slots t ≡ Retired e → due ≡ Rest → held_at locals hands keeps due e.number t ≡ 0
+pub references_vacate : (cpus : ℕ) (slots : List Slot) (hands : List Hand) (keeps : List (Option ℕ)) (due : Due) (locals : List LocalPlace) (t : ℕ) (e : Entry) → slot_at slots t ≡ Retired e
+    → due ≡ Rest → held_at locals hands keeps due e.number t ≡ 0
     → ReferencesHold cpus slots hands due locals → ReferencesHold cpus (set slots t Vacant) hands due locals
 references_vacate cpus slots hands keeps due locals t e at rest none refer =
     let free : Unreferred locals hands keeps e.number = unreferred locals hands keeps due e.number t none in
@@ -91,7 +97,8 @@ references_vacate cpus slots hands keeps due locals t e at rest none refer =
     (subst (DueHolds cpus (set slots t Vacant)) (sym rest) tt)
     refer
 
-pub references_kept_sub : (cpus : ℕ) (slots : List Slot) (hands : List Hand) (keeps : List (Option ℕ)) (due : Due) (locals : List LocalPlace) (t : ℕ) (e : Entry) → slot_at slots t ≡ Retired e → due ≡ Rest → held_at locals hands keeps due e.number t ≡ 0
+pub references_kept_sub : (cpus : ℕ) (slots : List Slot) (hands : List Hand) (keeps : List (Option ℕ)) (due : Due) (locals : List LocalPlace) (t : ℕ) (e : Entry) → slot_at slots t ≡ Retired e
+    → due ≡ Rest → held_at locals hands keeps due e.number t ≡ 0
     → ReferencesHold cpus slots hands due locals → ReferencesHold cpus (set slots t Vacant) hands due locals
 references_kept_sub cpus slots hands keeps due locals t e at rest none refer = references_vacate cpus slots hands keeps due locals t e at rest none refer
 
@@ -105,7 +112,8 @@ LeavesLifted c locals others = (d id : ℕ) → (d ≡ c → ⊥) → local_at l
 abbrev pub KeepsLifted : List LocalPlace → List LocalPlace → Type 0
 KeepsLifted locals others = (d id : ℕ) → local_at locals id ≡ Lifted d → local_at others id ≡ Lifted d
 
-hand_places : (slots : List Slot) (locals others : List LocalPlace) (c : ℕ) (h : Hand) → ((id : ℕ) → local_at locals id ≡ Lifted c → local_at others id ≡ Lifted c) → HandHolds slots locals c h → HandHolds slots others c h
+hand_places : (slots : List Slot) (locals others : List LocalPlace) (c : ℕ) (h : Hand) → ((id : ℕ) → local_at locals id ≡ Lifted c → local_at others id ≡ Lifted c) → HandHolds slots locals c h
+    → HandHolds slots others c h
 hand_places slots locals others c Empty stays holds = tt
 hand_places slots locals others c (Taking n) stays holds = holds
 hand_places slots locals others c (Giving n id) stays holds = (holds.0, stays id holds.1)
@@ -143,7 +151,8 @@ references_places cpus slots hands due next_due locals others placed leaves now 
 -- One place is written.
 
 -- a place that stands after a write is the one written, or stood before
-standing_set : (slots : List Slot) (locals : List LocalPlace) (id : ℕ) (p : LocalPlace) → ((n : ℕ) → p ≡ Standing n → Occupies slots n) → ((j n : ℕ) → local_at locals j ≡ Standing n → Occupies slots n)
+standing_set : (slots : List Slot) (locals : List LocalPlace) (id : ℕ) (p : LocalPlace) → ((n : ℕ) → p ≡ Standing n → Occupies slots n)
+    → ((j n : ℕ) → local_at locals j ≡ Standing n → Occupies slots n)
     → (j n : ℕ) → local_at (set locals id p) j ≡ Standing n → Occupies slots n
 standing_set slots locals id p new old j n at = either (written_cases Free locals id p j) (λ here. new n (sym here.1 ∙ at)) (λ off. old j n (sym off.1 ∙ at))
 
@@ -173,13 +182,16 @@ stands_still slots m n is same = subst (Occupies slots) (let q : Standing m ≡ 
 
 -- What a hand holds.
 
-pub taking_occupied : (cpus : ℕ) (slots : List Slot) (hands : List Hand) (due : Due) (locals : List LocalPlace) (c n : ℕ) → get_or hands c Empty ≡ Taking n → ReferencesHold cpus slots hands due locals → Occupies slots n
+pub taking_occupied : (cpus : ℕ) (slots : List Slot) (hands : List Hand) (due : Due) (locals : List LocalPlace) (c n : ℕ) → get_or hands c Empty ≡ Taking n → ReferencesHold cpus slots hands due locals
+    → Occupies slots n
 taking_occupied cpus slots hands due locals c n hand refer = subst (HandHolds slots locals c) hand (refer.in_hands c)
 
-pub giving_holds : (cpus : ℕ) (slots : List Slot) (hands : List Hand) (due : Due) (locals : List LocalPlace) (c n id : ℕ) → get_or hands c Empty ≡ Giving n id → ReferencesHold cpus slots hands due locals → Occupies slots n × (local_at locals id ≡ Lifted c)
+pub giving_holds : (cpus : ℕ) (slots : List Slot) (hands : List Hand) (due : Due) (locals : List LocalPlace) (c n id : ℕ) → get_or hands c Empty ≡ Giving n id
+    → ReferencesHold cpus slots hands due locals → Occupies slots n × (local_at locals id ≡ Lifted c)
 giving_holds cpus slots hands due locals c n id hand refer = subst (HandHolds slots locals c) hand (refer.in_hands c)
 
-pub back_holds : (cpus : ℕ) (slots : List Slot) (hands : List Hand) (due : Due) (locals : List LocalPlace) (c n id : ℕ) → get_or hands c Empty ≡ Back n id → ReferencesHold cpus slots hands due locals → Occupies slots n × (local_at locals id ≡ Lifted c)
+pub back_holds : (cpus : ℕ) (slots : List Slot) (hands : List Hand) (due : Due) (locals : List LocalPlace) (c n id : ℕ) → get_or hands c Empty ≡ Back n id → ReferencesHold cpus slots hands due locals
+    → Occupies slots n × (local_at locals id ≡ Lifted c)
 back_holds cpus slots hands due locals c n id hand refer = subst (HandHolds slots locals c) hand (refer.in_hands c)
 
 -- Events by CPUs
@@ -220,7 +232,8 @@ with_local_other locals id p j le off = cond_both (nat_lt id (length locals)) (s
     let gt : length locals < j = either (cases_eq j (length locals)) (λ same. absurd (off (same ∙ sym end))) (λ no. omega arith) in
     get_or_past (locals ++ p ∷ []) j Free (omega (arith, gt, length_push locals p)) ∙ sym (get_or_past locals j Free ge)))
 
-pub local_cases : (locals : List LocalPlace) (id : ℕ) (p : LocalPlace) (j : ℕ) → id ≤ length locals → ((j ≡ id) × (local_at (with_local locals id p) j ≡ p)) ⊎ ((j ≡ id → ⊥) × (local_at (with_local locals id p) j ≡ local_at locals j))
+pub local_cases : (locals : List LocalPlace) (id : ℕ) (p : LocalPlace) (j : ℕ) → id ≤ length locals
+    → ((j ≡ id) × (local_at (with_local locals id p) j ≡ p)) ⊎ ((j ≡ id → ⊥) × (local_at (with_local locals id p) j ≡ local_at locals j))
 local_cases locals id p j le = either (cases_eq j id)
     (λ same. inl (same, ap (local_at (with_local locals id p)) same ∙ with_local_same locals id p le))
     (λ off. inr (off, with_local_other locals id p j le off))
@@ -279,16 +292,20 @@ pub references_collect : (cpus : ℕ) (slots : List Slot) (hands : List Hand) (d
 references_collect cpus slots hands due locals t old e at refer = references_due cpus slots hands due (Adding t old) locals (e, at) refer
 
 -- after TotalAdd and TotalSub
-pub references_total : (cpus : ℕ) (slots : List Slot) (hands : List Hand) (due : Due) (locals : List LocalPlace) → ReferencesHold cpus slots hands due locals → ReferencesHold cpus slots hands Rest locals
+pub references_total : (cpus : ℕ) (slots : List Slot) (hands : List Hand) (due : Due) (locals : List LocalPlace) → ReferencesHold cpus slots hands due locals
+    → ReferencesHold cpus slots hands Rest locals
 references_total cpus slots hands due locals refer = references_due cpus slots hands due Rest locals tt refer
 
-pub due_adding : (cpus : ℕ) (slots : List Slot) (hands : List Hand) (due : Due) (locals : List LocalPlace) (t old : ℕ) → due ≡ Adding t old → ReferencesHold cpus slots hands due locals → (e : Entry) × (slot_at slots t ≡ Retired e)
+pub due_adding : (cpus : ℕ) (slots : List Slot) (hands : List Hand) (due : Due) (locals : List LocalPlace) (t old : ℕ) → due ≡ Adding t old → ReferencesHold cpus slots hands due locals
+    → (e : Entry) × (slot_at slots t ≡ Retired e)
 due_adding cpus slots hands due locals t old is refer = subst (DueHolds cpus slots) is refer.due_at
 
-pub due_subtracting : (cpus : ℕ) (slots : List Slot) (hands : List Hand) (due : Due) (locals : List LocalPlace) (t : ℕ) → due ≡ Subtracting t → ReferencesHold cpus slots hands due locals → (e : Entry) × (slot_at slots t ≡ Retired e)
+pub due_subtracting : (cpus : ℕ) (slots : List Slot) (hands : List Hand) (due : Due) (locals : List LocalPlace) (t : ℕ) → due ≡ Subtracting t → ReferencesHold cpus slots hands due locals
+    → (e : Entry) × (slot_at slots t ≡ Retired e)
 due_subtracting cpus slots hands due locals t is refer = subst (DueHolds cpus slots) is refer.due_at
 
-pub references_join_keeper : (cpus : ℕ) (slots : List Slot) (hands : List Hand) (due : Due) (locals : List LocalPlace) (id n t : ℕ) (e : Entry) → local_at locals id ≡ Standing n → slot_at slots t ≡ Retired e
+pub references_join_keeper : (cpus : ℕ) (slots : List Slot) (hands : List Hand) (due : Due) (locals : List LocalPlace) (id n t : ℕ) (e : Entry) → local_at locals id ≡ Standing n
+    → slot_at slots t ≡ Retired e
     → ReferencesHold cpus slots hands due locals → ReferencesHold cpus slots hands (Subtracting t) (set locals id Free)
 references_join_keeper cpus slots hands due locals id n t e at retired refer =
     references_places cpus slots hands due (Subtracting t) locals (set locals id Free)
@@ -320,7 +337,8 @@ references_opening cpus slots = record {
 -- Seats
 
 -- a CPU whose hand isn't empty has a seat
-pub hand_seated : (cpus seated : ℕ) (begins : List (Option ℕ)) (searches : List (Option Search)) (hands : List Hand) (c : ℕ) → (get_or hands c Empty ≡ Empty → ⊥) → SeatsShow cpus seated begins searches hands → c < seated
+pub hand_seated : (cpus seated : ℕ) (begins : List (Option ℕ)) (searches : List (Option Search)) (hands : List Hand) (c : ℕ) → (get_or hands c Empty ≡ Empty → ⊥)
+    → SeatsShow cpus seated begins searches hands → c < seated
 hand_seated cpus seated begins searches hands c off seats = either (cases_lt c seated) (λ lt. lt) (λ ge. absurd (off (seats.empty c ge)))
 
 pub seats_hand : (cpus seated : ℕ) (begins : List (Option ℕ)) (searches : List (Option Search)) (hands : List Hand) (c : ℕ) (h : Hand) → c < seated

@@ -3,10 +3,13 @@ use Rattle.std.proofs.Common.{◌≡◌, ℕ, zero, suc, ◌<◌, List, length, 
 use Rattle.std.proofs.lemmas.Bool.{and_parts}
 use Rattle.registry_values.specs.Common.{are_words_of}
 use Rattle.protocol.specs.Types.{Entry, Key, Change}
-use Rattle.protocol.specs.Common.{Reply, Done, Word, Found, Missed, Ref, Collected, SearchPlace, AtHead, AtNext, AtNumber, AtKind, AtHigh, AtLow, AtValue, Search, MayHold, IsLawful, State, begin_at, seen_at, search_at, row_at, entry_with, loaded_of_name, Outcome, is_idle, is_inside, may_seek, after_seek, after_seeing, with_search_at, search_over, link_loaded, load_link, load_searched, outcome_of, StandsOn, PlaceHolds, SearchHolds, FoundHold, Holds, Keeps}
+use Rattle.protocol.specs.Common.{Reply, Done, Word, Found, Missed, Ref, Collected, SearchPlace, AtHead, AtNext, AtNumber, AtKind, AtHigh, AtLow, AtValue, Search, MayHold, IsLawful, State, begin_at}
+use Rattle.protocol.specs.Common.{seen_at, search_at, row_at, entry_with, loaded_of_name, Outcome, is_idle, is_inside, may_seek, after_seek, after_seeing, with_search_at, search_over, link_loaded}
+use Rattle.protocol.specs.Common.{load_link, load_searched, outcome_of, StandsOn, PlaceHolds, SearchHolds, FoundHold, Holds, Keeps}
 use Rattle.protocol.proofs.keeps.Sections.{seats_search, seated_search}
 use Rattle.protocol.proofs.keeps.SectionKeeps.{some_from, idle_parts, see_keeps}
-use Rattle.protocol.proofs.keeps.Searching.{within_some, searches_over, searches_on, found_none, found_some, Walks, search_walks, head_ahead, next_ahead, LinkTells, link_tells, goes_on, found_is, weight, IsStep, Steps, load_link_steps, load_searched_steps}
+use Rattle.protocol.proofs.keeps.Searching.{within_some, searches_over, searches_on, found_none, found_some, Walks, search_walks, head_ahead, next_ahead, LinkTells, link_tells, goes_on, found_is}
+use Rattle.protocol.proofs.keeps.Searching.{weight, IsStep, Steps, load_link_steps, load_searched_steps}
 
 -- the invariant after an event, if it was allowed
 
@@ -51,7 +54,8 @@ going_on_keeps s c q place on is p =
     (record { begun = was.begun; started = was.started; stands = p })
 
 -- a search is over, without an entry or with one that the section may hold
-over_keeps : (s : State) (c : ℕ) (q : Search) (found : Option Entry) → Holds s → search_at s c ≡ Some q → (c < length s.found → FoundHold s.history s.begins (set s.found c found)) → Holds (search_over s c found)
+over_keeps : (s : State) (c : ℕ) (q : Search) (found : Option Entry) → Holds s → search_at s c ≡ Some q → (c < length s.found → FoundHold s.history s.begins (set s.found c found))
+    → Holds (search_over s c found)
 over_keeps s c q found on is last_found =
     let cs : c < length s.searches = within_some s.searches c q is in
     assumption (
@@ -93,7 +97,8 @@ pub link_keeps : (s : State) (c : ℕ) (q : Search) → Holds s → search_at s 
 link_keeps s c q on is = load_link_keeps s c q q.place on is (on.searches c q is).stands
 
 compared_keeps : (s : State) (c : ℕ) (q : Search) (t n l : ℕ) (b : Bool) → Holds s → search_at s c ≡ Some q
-    → (b ≡ true → PlaceHolds s.history q.start (seen_at s c) q.key (AtValue t n)) → (b ≡ false → PlaceHolds s.history q.start (seen_at s c) q.key (AtNext t)) → Keeps (outcome_of s c q (Some (loaded_of_name t n l b)))
+    → (b ≡ true → PlaceHolds s.history q.start (seen_at s c) q.key (AtValue t n)) → (b ≡ false → PlaceHolds s.history q.start (seen_at s c) q.key (AtNext t))
+    → Keeps (outcome_of s c q (Some (loaded_of_name t n l b)))
 compared_keeps s c q t n l true on is right wrong = going_on_keeps s c q (AtValue t n) on is (right refl)
 compared_keeps s c q t n l false on is right wrong = going_on_keeps s c q (AtNext t) on is (wrong refl)
 
@@ -137,4 +142,5 @@ link_answers s c q on is = step_answers c q (weight s q.place) (load_link s c q 
 
 pub record_answers : (s : State) (c : ℕ) (q : Search) → Holds s → search_at s c ≡ Some q → AnswersLookup c q (load_searched s c q q.place)
 record_answers s c q on is =
-    step_answers c q (weight s q.place) (load_searched s c q q.place) (load_searched_steps s c q.start q q.place on (search_walks s c q on is) (on.searches c q is).started is (on.searches c q is).stands)
+    step_answers c q (weight s q.place) (load_searched s c q q.place)
+    (load_searched_steps s c q.start q q.place on (search_walks s c q on is) (on.searches c q is).started is (on.searches c q is).stands)

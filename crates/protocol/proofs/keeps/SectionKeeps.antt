@@ -1,8 +1,11 @@
 -- Seats, sections and notes keep the invariant.
-use Rattle.std.proofs.Common.{◌≡◌, ℕ, ◌+◌, ◌*◌, ◌<◌, length, Option, Some, None, Bool, true, false, ◌&&◌, is_none, is_some, nat_eq, nat_lt, refl, sym, subst, ◌∙◌, arith, length-set, ltb-true, eqb-true}
+use Rattle.std.proofs.Common.{◌≡◌, ℕ, ◌+◌, ◌*◌, ◌<◌, length, Option, Some, None, Bool, true, false, ◌&&◌, is_none, is_some, nat_eq, nat_lt, refl, sym, subst, ◌∙◌, arith, length-set, ltb-true}
+use Rattle.std.proofs.Common.{eqb-true}
 use Rattle.std.proofs.lemmas.Bool.{and_parts}
-use Rattle.protocol.specs.Common.{Hand, Empty, State, section_at, begin_at, depth_at, search_at, hand_at, at_rest, is_empty, is_idle, is_outside, is_inside, may_seat, after_seat, may_enter, after_enter, may_exit, after_exit, after_seeing, SeatsShow, Holds}
-use Rattle.protocol.proofs.keeps.Sections.{seats_seat, seats_begin, sections_enter, held_enter, links_enter, marks_enter, searches_enter, found_enter, sections_exit, held_exit, links_exit, marks_exit, searches_exit, found_exit, sections_see, searches_see}
+use Rattle.protocol.specs.Common.{Hand, Empty, State, section_at, begin_at, depth_at, search_at, hand_at, at_rest, is_empty, is_idle, is_outside, is_inside, may_seat, after_seat, may_enter}
+use Rattle.protocol.specs.Common.{after_enter, may_exit, after_exit, after_seeing, SeatsShow, Holds}
+use Rattle.protocol.proofs.keeps.Sections.{seats_seat, seats_begin, sections_enter, held_enter, links_enter, marks_enter, searches_enter, found_enter, sections_exit, held_exit, links_exit, marks_exit}
+use Rattle.protocol.proofs.keeps.Sections.{searches_exit, found_exit, sections_see, searches_see}
 
 -- What the tests tell.
 pub none_from : {X : Type 0} (o : Option X) → is_none o ≡ true → o ≡ None

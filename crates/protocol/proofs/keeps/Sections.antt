@@ -3,7 +3,8 @@ use Rattle.std.proofs.Common.{◌≡◌, ◌≢◌, ℕ, suc, ◌+◌, ◌*◌, 
 use Rattle.std.proofs.lemmas.Option.{none-some, same_Some}
 use Rattle.std.proofs.lemmas.Bool.{cases_lt, cases_eq}
 use Rattle.protocol.specs.Types.{Entry, Change, Attach, Detach, Settings, Slot, Retired, Mark, Key}
-use Rattle.protocol.specs.Common.{SearchPlace, AtHead, AtNext, AtNumber, AtKind, AtHigh, AtLow, AtValue, Search, Hand, mark_at, EndsAt, MayHold, SlotsShow, HeldStay, IsIn, Leads, LinksStay, MarksHold, SectionsShow, SeatsShow, StandsOn, PlaceHolds, SearchHolds, SearchesHold, FoundHold}
+use Rattle.protocol.specs.Common.{SearchPlace, AtHead, AtNext, AtNumber, AtKind, AtHigh, AtLow, AtValue, Search, Hand, mark_at, EndsAt, MayHold, SlotsShow, HeldStay, IsIn, Leads, LinksStay, MarksHold}
+use Rattle.protocol.specs.Common.{SectionsShow, SeatsShow, StandsOn, PlaceHolds, SearchHolds, SearchesHold, FoundHold}
 use Rattle.registry_values.specs.Common.{slot_at}
 use Rattle.protocol.proofs.slots.Cells.{place_in, place_put}
 use Rattle.protocol.proofs.history.History.{at_within}
@@ -63,26 +64,34 @@ sections_enter z h section begins depths seen c cs cb cd cw out room s =
       limited = λ j. grind (arith, get_or-set_same, get_or-set_other, cases_eq j c, s.limited);
     }
 
-pub held_enter : (h : List Change) (slots : List Slot) (begins : List (Option ℕ)) (c : ℕ) → c < length begins → SlotsShow h slots → HeldStay h slots begins → HeldStay h slots (set begins c (Some (length h)))
+pub held_enter : (h : List Change) (slots : List Slot) (begins : List (Option ℕ)) (c : ℕ) → c < length begins → SlotsShow h slots → HeldStay h slots begins
+    → HeldStay h slots (set begins c (Some (length h)))
 held_enter h slots begins c cb show held j b e = place_put None begins c (Some (length h)) (λ i x. x ≡ Some b → MayHold h b e → IsIn e (slot_at slots e.slot)) j
-    (λ is hold. inl (show.placed e (record { attached = hold.attached; begun = (at_within h e.number (Attach e) hold.attached).1; unended = λ p x. omega (arith, hold.unended p x, same_Some (length h) b is) })))
+    (λ is hold. inl (show.placed e (record {
+      attached = hold.attached;
+      begun = (at_within h e.number (Attach e) hold.attached).1;
+      unended = λ p x. omega (arith, hold.unended p x, same_Some (length h) b is);
+    })))
     (held j b e)
 
 -- no entry ends after a section that begins now
 none_ends : (h : List Change) (b p n : ℕ) → ◌≡◌ {A = Option ℕ} (Some (length h)) (Some b) → EndsAt h n p → p ≤ b
 none_ends h b p n is ends = omega (arith, same_Some (length h) b is, (at_within h p (Detach n) ends).1)
 
-pub links_enter : (h : List Change) (slots : List Slot) (next : List ℕ) (begins : List (Option ℕ)) (c : ℕ) → c < length begins → LinksStay h slots next begins → LinksStay h slots next (set begins c (Some (length h)))
+pub links_enter : (h : List Change) (slots : List Slot) (next : List ℕ) (begins : List (Option ℕ)) (c : ℕ) → c < length begins → LinksStay h slots next begins
+    → LinksStay h slots next (set begins c (Some (length h)))
 links_enter h slots next begins c cb links t p j b e gone ends = place_put None begins c (Some (length h)) (λ i x. x ≡ Some b → b < p → Leads h p e.number (get_or next t 0)) j
     (λ is lt. absurd (omega (arith, lt, none_ends h b p e.number is ends))) (links t p j b e gone ends)
 
 -- a word that grows is above what it was at each snapshot
-pub older_grown : (h : List Change) (slots : List Slot) (marks : List (List Mark)) (section : List ℕ) (begins : List (Option ℕ)) (c w : ℕ) → c < length section → get_or section c 0 < w → MarksHold h slots marks section begins
+pub older_grown : (h : List Change) (slots : List Slot) (marks : List (List Mark)) (section : List ℕ) (begins : List (Option ℕ)) (c w : ℕ) → c < length section → get_or section c 0 < w
+    → MarksHold h slots marks section begins
     → (t j x : ℕ) (e : Entry) → slot_at slots t ≡ Retired e → (mark_at marks t j).snapshot ≡ Some x → x ≤ get_or (set section c w) j 0
 older_grown h slots marks section begins c w cs up m t j x e gone = place_put 0 section c w (λ i y. (mark_at marks t i).snapshot ≡ Some x → x ≤ y) j
     (λ snap. omega (arith, m.older t c x e gone snap, up)) (m.older t j x e gone)
 
-pub marks_enter : (h : List Change) (slots : List Slot) (marks : List (List Mark)) (section : List ℕ) (begins : List (Option ℕ)) (c w : ℕ) → c < length section → c < length begins → get_or section c 0 < w
+pub marks_enter : (h : List Change) (slots : List Slot) (marks : List (List Mark)) (section : List ℕ) (begins : List (Option ℕ)) (c w : ℕ) → c < length section → c < length begins
+    → get_or section c 0 < w
     → MarksHold h slots marks section begins → MarksHold h slots marks (set section c w) (set begins c (Some (length h)))
 marks_enter h slots marks section begins c w cs cb up m = record {
   passed = λ t p j b e gone ends. place_put None begins c (Some (length h)) (λ i y. y ≡ Some b → (mark_at marks t i).passed ≡ true → p ≤ b) j
@@ -90,7 +99,8 @@ marks_enter h slots marks section begins c w cs cb up m = record {
   changed = λ t p j b x e gone ends. place_in None begins c (Some (length h)) (λ i y. y ≡ Some b → (mark_at marks t i).snapshot ≡ Some x → (get_or (set section c w) i 0 ≡ x → ⊥) → p ≤ b) j cb
       (λ is snap off. none_ends h b p e.number is ends) (λ other is snap off. m.changed t p j b x e gone ends is snap (simp get_or-set_other at off));
   older = older_grown h slots marks section begins c w cs up m;
-  left = λ t j b x e gone. place_in None begins c (Some (length h)) (λ i y. y ≡ Some b → (mark_at marks t i).passed ≡ true → (mark_at marks t i).snapshot ≡ Some x → get_or (set section c w) i 0 ≡ x → ⊥) j cb
+  left = λ t j b x e gone. place_in None begins c (Some (length h))
+      (λ i y. y ≡ Some b → (mark_at marks t i).passed ≡ true → (mark_at marks t i).snapshot ≡ Some x → get_or (set section c w) i 0 ≡ x → ⊥) j cb
       (λ is yes snap now. omega (arith, m.older t c x e gone snap, up, get_or-set_same section c w 0 cs, now))
       (λ other is yes snap now. m.left t j b x e gone is yes snap (sym (get_or-set_other section c j w 0 other) ∙ now));
 }
@@ -101,7 +111,8 @@ searches_enter h begins seen searches c x w idle hold j q is = either (cases_eq 
     (λ same. absurd (none-some q (sym idle ∙ (ap (λ (k : ℕ). get_or searches k None) (sym same) ∙ is))))
     (λ other. simp get_or-set_other (hold j q is))
 
-pub found_enter : (h : List Change) (begins : List (Option ℕ)) (found : List (Option Entry)) (c : ℕ) (x : Option ℕ) → get_or begins c None ≡ None → FoundHold h begins found → FoundHold h (set begins c x) found
+pub found_enter : (h : List Change) (begins : List (Option ℕ)) (found : List (Option Entry)) (c : ℕ) (x : Option ℕ) → get_or begins c None ≡ None → FoundHold h begins found
+    → FoundHold h (set begins c x) found
 found_enter h begins found c x out hold j e = place_put None begins c x (λ i y. get_or found i None ≡ Some e → (b : ℕ) × (y ≡ Some b) × MayHold h b e) j
     (λ is. absurd (none-some (hold c e is).0 (sym out ∙ (hold c e is).1))) (hold j e)
 
@@ -130,10 +141,12 @@ sections_exit z h section begins depths seen c b cs cb cd in_ s =
 pub held_exit : (h : List Change) (slots : List Slot) (begins : List (Option ℕ)) (c : ℕ) → c < length begins → HeldStay h slots begins → HeldStay h slots (set begins c None)
 held_exit h slots begins c cb held j b e is hold = held j b e (open_before begins c j b cb is).1 hold
 
-pub links_exit : (h : List Change) (slots : List Slot) (next : List ℕ) (begins : List (Option ℕ)) (c : ℕ) → c < length begins → LinksStay h slots next begins → LinksStay h slots next (set begins c None)
+pub links_exit : (h : List Change) (slots : List Slot) (next : List ℕ) (begins : List (Option ℕ)) (c : ℕ) → c < length begins → LinksStay h slots next begins
+    → LinksStay h slots next (set begins c None)
 links_exit h slots next begins c cb links t p j b e gone ends is lt = links t p j b e gone ends (open_before begins c j b cb is).1 lt
 
-pub marks_exit : (h : List Change) (slots : List Slot) (marks : List (List Mark)) (section : List ℕ) (begins : List (Option ℕ)) (c w : ℕ) → c < length section → c < length begins → get_or section c 0 < w
+pub marks_exit : (h : List Change) (slots : List Slot) (marks : List (List Mark)) (section : List ℕ) (begins : List (Option ℕ)) (c w : ℕ) → c < length section → c < length begins
+    → get_or section c 0 < w
     → MarksHold h slots marks section begins → MarksHold h slots marks (set section c w) (set begins c None)
 marks_exit h slots marks section begins c w cs cb up m = record {
   passed = λ t p j b e gone ends is yes. m.passed t p j b e gone ends (open_before begins c j b cb is).1 yes;
@@ -152,7 +165,8 @@ searches_exit h begins seen searches c x idle hold j q is = either (cases_eq j c
     (λ same. absurd (none-some q (sym idle ∙ (ap (λ (k : ℕ). get_or searches k None) (sym same) ∙ is))))
     (λ other. simp get_or-set_other (hold j q is))
 
-pub found_exit : (h : List Change) (begins : List (Option ℕ)) (found : List (Option Entry)) (c : ℕ) (x : Option ℕ) → c < length found → FoundHold h begins found → FoundHold h (set begins c x) (set found c None)
+pub found_exit : (h : List Change) (begins : List (Option ℕ)) (found : List (Option Entry)) (c : ℕ) (x : Option ℕ) → c < length found → FoundHold h begins found
+    → FoundHold h (set begins c x) (set found c None)
 found_exit h begins found c x cf hold j e = place_in None found c None (λ i y. y ≡ Some e → (b : ℕ) × (get_or (set begins c x) i None ≡ Some b) × MayHold h b e) j cf
     (λ is. absurd (none-some e is)) (λ off is. simp get_or-set_other (hold j e is))
 

@@ -1,5 +1,6 @@
 -- An entry is unlinked, in the middle of the list or at its head.
-use Rattle.std.proofs.Common.{Bool, List, None, Option, Some, ap, arith, false, get_or, get_or-set_other, get_or-set_same, inl, inr, length, refl, set, subst, suc, sym, true, zero, ℕ, ◌+◌, ◌<◌, ◌∙◌, ◌≡◌, ◌≢◌, ◌≤◌, ◌⊎◌}
+use Rattle.std.proofs.Common.{Bool, List, None, Option, Some, ap, arith, false, get_or, get_or-set_other, get_or-set_same, inl, inr, length, refl, set, subst, suc, sym, true, zero, ℕ, ◌+◌, ◌<◌, ◌∙◌}
+use Rattle.std.proofs.Common.{◌≡◌, ◌≢◌, ◌≤◌, ◌⊎◌}
 use Rattle.std.proofs.lemmas.Bool.{and_from, and_parts, cases_eq, cases_lt, eq-eqb, eqb-true}
 use Rattle.std.proofs.lemmas.List.{get_or_past}
 use Rattle.std.proofs.lemmas.List.Quantifiers.{position-Some}
@@ -110,7 +111,8 @@ within_live slots t e is = either (cases_lt t (length slots)) (λ lt. lt) (λ ge
 pub within_retired : (slots : List Slot) (t : ℕ) (e : Entry) → slot_at slots t ≡ Retired e → t < length slots
 within_retired slots t e is = either (cases_lt t (length slots)) (λ lt. lt) (λ ge. absurd (let q : Vacant ≡ Retired e = sym (get_or_past slots t Vacant ge) ∙ is in cc))
 
-zip_at : (slots : List Slot) (next : List ℕ) (u : ℕ) → length next ≡ length slots → u < length slots → (u < length (zip slots next)) × (get_or (zip slots next) u (Vacant, 0) ≡ (slot_at slots u, get_or next u 0))
+zip_at : (slots : List Slot) (next : List ℕ) (u : ℕ) → length next ≡ length slots → u < length slots
+    → (u < length (zip slots next)) × (get_or (zip slots next) u (Vacant, 0) ≡ (slot_at slots u, get_or next u 0))
 zip_at slots next u size lt = (omega (arith, length-zip slots next), get_or-zip slots next u (Vacant, 0) lt (omega arith))
 
 -- the slot before t is a live one whose link leads to t
@@ -124,7 +126,8 @@ before_leads slots next t p size is =
     (g.0, g.1, omega (arith, eqb-true (get_or next p 0) (t + 1) parts.1))
 
 -- where there is none, the head leads to e
-pub head_leads : (h : List Change) (slots : List Slot) (head : ℕ) (next : List ℕ) (e : Entry) → SlotsShow h slots → ListShows h slots head next → length next ≡ length slots → slot_at slots e.slot ≡ Live e
+pub head_leads : (h : List Change) (slots : List Slot) (head : ℕ) (next : List ℕ) (e : Entry) → SlotsShow h slots → ListShows h slots head next → length next ≡ length slots
+    → slot_at slots e.slot ≡ Live e
     → slot_before slots next e.slot ≡ None → head ≡ suc e.slot
 head_leads h slots head next e show list size at none =
     let live : IsLiveAt h (length h) e = (show.live e.slot e at).0 in
@@ -157,7 +160,8 @@ gone_before slots e f u lt is = either (slot_cases slots e.slot (Retired e) u lt
     (λ same. inl (same.0, (let q : Retired f ≡ Retired e = sym is ∙ same.1 in cc)))
     (λ off. inr (off.0, sym off.1 ∙ is))
 
-pub slots_detach : (h : List Change) (slots : List Slot) (e : Entry) → IsLegal h → slot_at slots e.slot ≡ Live e → SlotsShow h slots → SlotsShow (after_change h (Detach e.number)) (set slots e.slot (Retired e))
+pub slots_detach : (h : List Change) (slots : List Slot) (e : Entry) → IsLegal h → slot_at slots e.slot ≡ Live e → SlotsShow h slots
+    → SlotsShow (after_change h (Detach e.number)) (set slots e.slot (Retired e))
 slots_detach h slots e legal at show =
     let lt : e.slot < length slots = within_live slots e.slot e at in
     let le : IsLiveAt h (length h) e = (show.live e.slot e at).0 in
@@ -200,7 +204,8 @@ held_detach h slots begins e at held c b f is hold =
     (λ off. subst (IsIn f) (sym off.1) was)
 
 -- The end of another entry is an older one.
-pub end_before : (h : List Change) (slots : List Slot) (e f : Entry) (u p : ℕ) → SlotsShow h slots → IsLiveAt h (length h) e → slot_at slots u ≡ Retired f → EndsAt (after_change h (Detach e.number)) f.number p
+pub end_before : (h : List Change) (slots : List Slot) (e f : Entry) (u p : ℕ) → SlotsShow h slots → IsLiveAt h (length h) e → slot_at slots u ≡ Retired f
+    → EndsAt (after_change h (Detach e.number)) f.number p
     → (p ≤ length h) × EndsAt h f.number p
 end_before h slots e f u p show le gone ends = either (at_cases h (Detach e.number) p (Detach f.number) ends)
     (λ old. (old.old, old.was))
@@ -211,7 +216,8 @@ end_before h slots e f u p show le gone ends = either (at_cases h (Detach e.numb
     absurd (omega (arith, le.unended was.0 x, (at_within h was.0 (Detach e.number) x).1)))
 
 -- the links of unlinked entries, where only links of live slots may have been written
-pub links_detach : (h : List Change) (slots : List Slot) (head : ℕ) (next now : List ℕ) (begins : List (Option ℕ)) (e : Entry) → IsLegal h → slot_at slots e.slot ≡ Live e → SlotsShow h slots → ListShows h slots head next
+pub links_detach : (h : List Change) (slots : List Slot) (head : ℕ) (next now : List ℕ) (begins : List (Option ℕ)) (e : Entry) → IsLegal h → slot_at slots e.slot ≡ Live e → SlotsShow h slots
+    → ListShows h slots head next
     → ((u : ℕ) (f : Entry) → IsIn f (slot_at slots u) → ((slot_at slots u ≡ Live f) → (u ≡ e.slot)) → get_or now u 0 ≡ get_or next u 0)
     → LinksStay h slots next begins → LinksStay (after_change h (Detach e.number)) (set slots e.slot (Retired e)) now begins
 links_detach h slots head next now begins e legal at show list kept links u p c b f is ends in_ low =
@@ -221,8 +227,10 @@ links_detach h slots head next now begins e legal at show list kept links u p c 
     (λ same.
     let there : slot_at slots u ≡ Live f = ap (slot_at slots) same.0 ∙ (at ∙ ap Live (sym same.1)) in
     let word : get_or now u 0 ≡ get_or next u 0 = kept u f (inl there) (λ x. same.0) in
-    let when : p ≡ suc (length h) = one_end (after_change h (Detach e.number)) (legal_detach h e legal le) f.number p (suc (length h)) ends (at_new h (Detach e.number) ∙ ap (λ (g : Entry). Some (Detach g.number)) (sym same.1)) in
-    let under : Leads (after_change h (Detach e.number)) (suc (length h)) f.number (get_or next u 0) = leads_under h e f.number (get_or next u 0) (omega (arith, ap (λ (g : Entry). g.number) same.1)) (list.links u f there) in
+    let when : p ≡ suc (length h) = one_end (after_change h (Detach e.number)) (legal_detach h e legal le) f.number p (suc (length h)) ends
+    (at_new h (Detach e.number) ∙ ap (λ (g : Entry). Some (Detach g.number)) (sym same.1)) in
+    let under : Leads (after_change h (Detach e.number)) (suc (length h)) f.number (get_or next u 0) =
+    leads_under h e f.number (get_or next u 0) (omega (arith, ap (λ (g : Entry). g.number) same.1)) (list.links u f there) in
     subst (λ (k : ℕ). Leads (after_change h (Detach e.number)) k f.number (get_or now u 0)) (sym when) (subst (Leads (after_change h (Detach e.number)) (suc (length h)) f.number) (sym word) under))
     (λ off.
     let was = end_before h slots e f u p show le off.1 ends in
@@ -230,7 +238,8 @@ links_detach h slots head next now begins e legal at show list kept links u p c 
     subst (Leads (after_change h (Detach e.number)) p f.number) (sym word) (leads_old h (Detach e.number) p f.number (get_or next u 0) was.0 (links u p c b f off.1 was.1 in_ low)))
 
 -- The list without e: e was the first.
-pub list_unlink_head : (h : List Change) (slots : List Slot) (head : ℕ) (next : List ℕ) (e : Entry) → slot_at slots e.slot ≡ Live e → SlotsShow h slots → head ≡ suc e.slot → ListShows h slots head next
+pub list_unlink_head : (h : List Change) (slots : List Slot) (head : ℕ) (next : List ℕ) (e : Entry) → slot_at slots e.slot ≡ Live e → SlotsShow h slots → head ≡ suc e.slot
+    → ListShows h slots head next
     → ListShows (after_change h (Detach e.number)) (set slots e.slot (Retired e)) (get_or next e.slot 0) next
 list_unlink_head h slots head next e at show is list =
     let lt : e.slot < length slots = within_live slots e.slot e at in
@@ -250,7 +259,8 @@ list_unlink_head h slots head next e at show is list =
     }
 
 -- The list without e: the link of the live entry before it was written.
-pub list_unlink_mid : (h : List Change) (slots : List Slot) (head : ℕ) (next : List ℕ) (e g : Entry) (q : ℕ) → slot_at slots e.slot ≡ Live e → SlotsShow h slots → length next ≡ length slots → (head ≡ suc e.slot → ⊥)
+pub list_unlink_mid : (h : List Change) (slots : List Slot) (head : ℕ) (next : List ℕ) (e g : Entry) (q : ℕ) → slot_at slots e.slot ≡ Live e → SlotsShow h slots → length next ≡ length slots
+    → (head ≡ suc e.slot → ⊥)
     → slot_at slots q ≡ Live g → get_or next q 0 ≡ suc e.slot → ListShows h slots head next
     → ListShows (after_change h (Detach e.number)) (set slots e.slot (Retired e)) head (set next q (get_or next e.slot 0))
 list_unlink_mid h slots head next e g q at show same_size off before_at before_to list =
@@ -270,7 +280,8 @@ list_unlink_mid h slots head next e g q at show same_size off before_at before_t
           (either (cases_eq u q)
           (λ same.
           let one : g ≡ f = let x : Live g ≡ Live f = sym before_at ∙ (ap (slot_at slots) (sym same) ∙ was.1) in cc in
-          let word : get_or (set next q (get_or next e.slot 0)) u 0 ≡ get_or next e.slot 0 = ap (λ (k : ℕ). get_or (set next q (get_or next e.slot 0)) k 0) same ∙ get_or-set_same next q (get_or next e.slot 0) 0 ql in
+          let word : get_or (set next q (get_or next e.slot 0)) u 0 ≡ get_or next e.slot 0 =
+          ap (λ (k : ℕ). get_or (set next q (get_or next e.slot 0)) k 0) same ∙ get_or-set_same next q (get_or next e.slot 0) 0 ql in
           subst (λ (i : Entry). Leads (after_change h (Detach e.number)) (suc (length h)) i.number (get_or (set next q (get_or next e.slot 0)) u 0)) one
           (subst (Leads (after_change h (Detach e.number)) (suc (length h)) g.number) (sym word) (leads_over h e g.number (get_or next e.slot 0) top.0 top.1 (list.links e.slot e at))))
           (λ other.

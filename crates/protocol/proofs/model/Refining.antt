@@ -2,7 +2,11 @@
 use Rattle.std.proofs.Common.{◌≡◌, ℕ, ◌+◌, ◌-◌, List, [], ◌∷◌, replicate, Option, Some, None, Bool, true, false, ◌&&◌, ◌==◌, nat_lt, if◌then◌else◌, refl, sym, ap, subst, ◌∙◌, arith, eqb-true}
 use Rattle.std.proofs.lemmas.Bool.{and_parts}
 use Rattle.protocol.specs.Types.{Entry, Settings, MOST_CPUS, Slot, Vacant, Live}
-use Rattle.protocol.specs.Common.{Event, Seat, Enter, Exit, Seek, LoadLink, LoadRecord, StoreSlot, StoreNext, Publish, Unpublish, Tell, Hear, Snapshot, Look, PassiveAdd, PassiveSub, PassiveLook, CountAdd, SplitRef, JoinRef, CountDown, SplitBack, Collect, TotalAdd, JoinKeeper, TotalSub, Keep, KeptSub, Vacate, RecordOf, Reply, Done, Word, Collected, Hand, Empty, Taking, Giving, Back, Lifted, Due, Adding, Subtracting, State, opening, section_at, search_at, found_at, row_at, passive_at, count_at, total_at, hand_at, kept_at, local_at, at_rest, Outcome, guard, some_outcome, step, Run, run_with_event, run_of_events, empty_run, Holds, Model, empty_model, IsModelRun, Stays, passive_in, lookup_of, number_in, picture, EveryRunIsModelRun}
+use Rattle.protocol.specs.Common.{Event, Seat, Enter, Exit, Seek, LoadLink, LoadRecord, StoreSlot, StoreNext, Publish, Unpublish, Tell, Hear, Snapshot, Look, PassiveAdd, PassiveSub, PassiveLook}
+use Rattle.protocol.specs.Common.{CountAdd, SplitRef, JoinRef, CountDown, SplitBack, Collect, TotalAdd, JoinKeeper, TotalSub, Keep, KeptSub, Vacate, RecordOf, Reply, Done, Word, Collected, Hand}
+use Rattle.protocol.specs.Common.{Empty, Taking, Giving, Back, Lifted, Due, Adding, Subtracting, State, opening, section_at, search_at, found_at, row_at, passive_at, count_at, total_at, hand_at}
+use Rattle.protocol.specs.Common.{kept_at, local_at, at_rest, Outcome, guard, some_outcome, step, Run, run_with_event, run_of_events, empty_run, Holds, Model, empty_model, IsModelRun, Stays}
+use Rattle.protocol.specs.Common.{passive_in, lookup_of, number_in, picture, EveryRunIsModelRun}
 use Rattle.protocol.specs.declared.event.RecordOf.TheVariants.{Search as OfSearch, Passive as OfPassive, Local as OfLocal}
 use Rattle.registry_values.specs.Common.{bias, slot_at, slot_of}
 use Rattle.protocol.specs.Events
@@ -14,7 +18,8 @@ use Rattle.protocol.proofs.slots.Cells.{get_or_all}
 use Rattle.protocol.proofs.counts.HeldSums.{number_of, no_hand}
 use Rattle.protocol.proofs.model.Picturing.{Makes, makes_guard, makes_some, same_model, join_runs}
 use Rattle.protocol.proofs.model.RefiningSections.{seat_refines, enter_refines, exit_refines, hear_refines, seek_refines, link_makes, record_makes}
-use Rattle.protocol.proofs.model.RefiningReferences.{add_refines, sub_refines, count_add_refines, split_refines, join_refines, count_down_refines, collected_refines, split_back_refines, snapshot_refines, look_refines, look_passive_refines, collect_refines, total_add_refines, total_sub_refines, join_keeper_refines}
+use Rattle.protocol.proofs.model.RefiningReferences.{add_refines, sub_refines, count_add_refines, split_refines, join_refines, count_down_refines, collected_refines, split_back_refines}
+use Rattle.protocol.proofs.model.RefiningReferences.{snapshot_refines, look_refines, look_passive_refines, collect_refines, total_add_refines, total_sub_refines, join_keeper_refines}
 use Rattle.protocol.proofs.model.RefiningEntries.{row_store_refines, count_store_refines, link_store_refines, publish_refines, unpublish_refines, keep_refines, vacate_refines, kept_sub_refines}
 
 -- The events that take cases.
@@ -41,13 +46,15 @@ load_record_makes s (OfPassive c n k) on =
     makes_some (picture s) (slot_of s.slots n) (λ t. guard (Events.is_idle s c && (nat_lt 0 (passive_at s.passive c t) && nat_lt k 5)) (some_outcome s (Word (Events.word (row_at s.rows t) k))))
     (λ t is. stays_make s s (Events.is_idle s c && (nat_lt 0 (passive_at s.passive c t) && nat_lt k 5)) (Word (Events.word (row_at s.rows t) k)) Stays)
 load_record_makes s (OfLocal id k) on =
-    makes_some (picture s) (Events.number_standing (local_at s.locals id)) (λ n. Events.with_some (slot_of s.slots n) (λ t. guard (nat_lt k 5) (some_outcome s (Word (Events.word (row_at s.rows t) k)))))
+    makes_some (picture s) (Events.number_standing (local_at s.locals id))
+    (λ n. Events.with_some (slot_of s.slots n) (λ t. guard (nat_lt k 5) (some_outcome s (Word (Events.word (row_at s.rows t) k)))))
     (λ n at. makes_some (picture s) (slot_of s.slots n) (λ t. guard (nat_lt k 5) (some_outcome s (Word (Events.word (row_at s.rows t) k))))
     (λ t is. stays_make s s (nat_lt k 5) (Word (Events.word (row_at s.rows t) k)) Stays))
 
 store_slot_makes : (s : State) (t k v : ℕ) → Makes (picture s) (Events.store_slot s t k v)
 store_slot_makes s t k v =
-    both_make (picture s) (nat_lt k 5) (guard (Events.may_write s t) (some_outcome (Events.after_row_store s t k v) Done)) (guard (Events.may_write s t && nat_lt (k - 5) s.settings.cpus) (some_outcome (Events.after_count_store s t (k - 5) v) Done))
+    both_make (picture s) (nat_lt k 5) (guard (Events.may_write s t) (some_outcome (Events.after_row_store s t k v) Done))
+    (guard (Events.may_write s t && nat_lt (k - 5) s.settings.cpus) (some_outcome (Events.after_count_store s t (k - 5) v) Done))
     (stays_make s (Events.after_row_store s t k v) (Events.may_write s t) Done (row_store_refines s t k v))
     (stays_make s (Events.after_count_store s t (k - 5) v) (Events.may_write s t && nat_lt (k - 5) s.settings.cpus) Done (count_store_refines s t (k - 5) v))
 
@@ -80,7 +87,8 @@ join_makes s c id on =
 
 count_down_makes : (s : State) (c : ℕ) (h : Hand) → Holds s → hand_at s c ≡ h → Makes (picture s) (Events.count_down s c h)
 count_down_makes s c (Giving n id) on hand = makes_some (picture s) (slot_of s.slots n) (Events.exchange s c n id)
-    (λ t of. both_make (picture s) (count_at s.counts c t == count_at s.nets c t) (some_outcome (Events.after_count_down s c t id) (Word (count_at s.counts c t))) (some_outcome (Events.after_collected s c n id) Collected)
+    (λ t of. both_make (picture s) (count_at s.counts c t == count_at s.nets c t) (some_outcome (Events.after_count_down s c t id) (Word (count_at s.counts c t)))
+    (some_outcome (Events.after_collected s c n id) Collected)
     (λ now. count_down_refines s c n id t on hand) (λ now. collected_refines s c n id on hand))
 count_down_makes s c _ on hand = tt
 
@@ -100,21 +108,24 @@ total_sub_makes s t _ on is = tt
 
 join_keeper_makes : (s : State) (id : ℕ) → Holds s → Makes (picture s) (Events.join_keeper s id)
 join_keeper_makes s id on =
-    makes_some (picture s) (Events.number_standing (local_at s.locals id)) (λ n. Events.with_some (slot_of s.slots n) (λ t. guard (Events.may_join_keeper s t) (some_outcome (Events.after_join_keeper s id t) Done)))
+    makes_some (picture s) (Events.number_standing (local_at s.locals id))
+    (λ n. Events.with_some (slot_of s.slots n) (λ t. guard (Events.may_join_keeper s t) (some_outcome (Events.after_join_keeper s id t) Done)))
     (λ n at. makes_some (picture s) (slot_of s.slots n) (λ t. guard (Events.may_join_keeper s t) (some_outcome (Events.after_join_keeper s id t) Done))
     (λ t of. makes_guard (picture s) (Events.may_join_keeper s t) (some_outcome (Events.after_join_keeper s id t) Done)
     (λ ok now. join_keeper_refines s id n t on (standing_tells (local_at s.locals id) n at) of ok)))
 
 keep_makes : (s : State) (t id : ℕ) → Holds s → Makes (picture s) (Events.keep s t id)
 keep_makes s t id on =
-    makes_some (picture s) (Events.number_standing (local_at s.locals id)) (λ n. Events.with_some (slot_of s.slots n) (λ u. guard (Events.may_keep s t u) (some_outcome (Events.after_keep s t id n) Done)))
+    makes_some (picture s) (Events.number_standing (local_at s.locals id))
+    (λ n. Events.with_some (slot_of s.slots n) (λ u. guard (Events.may_keep s t u) (some_outcome (Events.after_keep s t id n) Done)))
     (λ n at. makes_some (picture s) (slot_of s.slots n) (λ u. guard (Events.may_keep s t u) (some_outcome (Events.after_keep s t id n) Done))
     (λ u of. makes_guard (picture s) (Events.may_keep s t u) (some_outcome (Events.after_keep s t id n) Done)
     (λ ok now. keep_refines s t id n u on (standing_tells (local_at s.locals id) n at) of ok)))
 
 kept_sub_makes : (s : State) (t : ℕ) → Holds s → Makes (picture s) (Events.kept_sub s t)
 kept_sub_makes s t on =
-    makes_some (picture s) (kept_at s.keeps t) (λ d. Events.with_some (slot_of s.slots d) (λ u. guard (Events.is_iface_slot (slot_at s.slots t) && Events.is_drained s t) (some_outcome (Events.after_kept_sub s t u) Done)))
+    makes_some (picture s) (kept_at s.keeps t) (λ d. Events.with_some (slot_of s.slots d)
+    (λ u. guard (Events.is_iface_slot (slot_at s.slots t) && Events.is_drained s t) (some_outcome (Events.after_kept_sub s t u) Done)))
     (λ d kept. makes_some (picture s) (slot_of s.slots d) (λ u. guard (Events.is_iface_slot (slot_at s.slots t) && Events.is_drained s t) (some_outcome (Events.after_kept_sub s t u) Done))
     (λ u of. makes_guard (picture s) (Events.is_iface_slot (slot_at s.slots t) && Events.is_drained s t) (some_outcome (Events.after_kept_sub s t u) Done)
     (λ ok now. kept_sub_refines s t u d on now kept (and_parts (Events.is_iface_slot (slot_at s.slots t)) (Events.is_drained s t) ok).1)))
@@ -124,7 +135,8 @@ step_makes s (Seat c) on = stays_make s (Events.after_seat s c) (Events.may_seat
 step_makes s (Enter c) on = makes_guard (picture s) (Events.may_enter s c) (some_outcome (Events.after_enter s c) Done) (λ ok now. enter_refines s c on ok)
 step_makes s (Exit c) on = makes_guard (picture s) (Events.may_exit s c) (some_outcome (Events.after_exit s c) Done) (λ ok now. exit_refines s c on ok)
 step_makes s (Seek c kind name) on =
-    makes_guard (picture s) (Events.may_seek s c) (some_outcome (Events.after_seek s c (record { kind = kind; name = name })) Done) (λ ok now. seek_refines s c (record { kind = kind; name = name }) on ok)
+    makes_guard (picture s) (Events.may_seek s c) (some_outcome (Events.after_seek s c (record { kind = kind; name = name })) Done)
+    (λ ok now. seek_refines s c (record { kind = kind; name = name }) on ok)
 step_makes s (LoadLink c) on = makes_some (picture s) (search_at s c) (λ q. Events.load_link s c q q.place) (λ q is. link_makes s c q on is)
 step_makes s (LoadRecord of) on = load_record_makes s of on
 step_makes s (StoreSlot t k v) on = store_slot_makes s t k v
@@ -195,4 +207,5 @@ ran_refines r (e ∷ es) on =
     (turned_refines r (step r.state e) now (step_makes r.state e on)) (ran_refines (run_with_event r (step r.state e)) es now)
 
 pub every_run_is_model_run : EveryRunIsModelRun
-every_run_is_model_run z events fit = subst (λ (m : Model). IsModelRun m (picture (run_of_events (empty_run (opening z)) events).state)) (opening_pictured z) (ran_refines (empty_run (opening z)) events (opening_holds z fit))
+every_run_is_model_run z events fit =
+    subst (λ (m : Model). IsModelRun m (picture (run_of_events (empty_run (opening z)) events).state)) (opening_pictured z) (ran_refines (empty_run (opening z)) events (opening_holds z fit))

@@ -3,7 +3,10 @@ use Rattle.std.proofs.Common.{◌≡◌, ℕ, ◌+◌, ◌-◌, ◌<◌, ◌⊎�
 use Rattle.std.proofs.lemmas.Bool.{and_parts, cases_eq, cases_lt}
 use Rattle.std.proofs.lemmas.Option.{none-some, same_Some}
 use Rattle.protocol.specs.Types.{Entry, Change, Attach, Detach, Slot, Vacant, Live, Retired}
-use Rattle.protocol.specs.Common.{Free, Standing, Due, Rest, after_change, IsLegal, EndsAt, State, row_at, passive_at, kept_at, local_at, after_row_store, after_count_store, after_link_store, may_write, entry_of, may_publish, after_publish, with_retired, with_link_past, after_unpublish, is_driver_slot, may_keep, after_keep, is_drained, after_kept_sub, may_vacate, after_vacate, Holds, IsIn, SlotsShow, held_at, standing_of, in_hand, put, Model, IsUnheld, IsDriverHere, IsModelRun, Stays, number_in, passive_in, subtractions_due, locals_of, picture}
+use Rattle.protocol.specs.Common.{Free, Standing, Due, Rest, after_change, IsLegal, EndsAt, State, row_at, passive_at, kept_at, local_at, after_row_store, after_count_store, after_link_store}
+use Rattle.protocol.specs.Common.{may_write, entry_of, may_publish, after_publish, with_retired, with_link_past, after_unpublish, is_driver_slot, may_keep, after_keep, is_drained, after_kept_sub}
+use Rattle.protocol.specs.Common.{may_vacate, after_vacate, Holds, IsIn, SlotsShow, held_at, standing_of, in_hand, put, Model, IsUnheld, IsDriverHere, IsModelRun, Stays, number_in, passive_in}
+use Rattle.protocol.specs.Common.{subtractions_due, locals_of, picture}
 use Rattle.registry_values.specs.Common.{slot_at, slot_of, slot_before}
 use Rattle.protocol.specs.Model
 use Rattle.protocol.proofs.history.History.{one_entry}
@@ -80,17 +83,20 @@ publish_own s e on now ok =
           (λ u at. either (in_published s.slots e.slot u e at.0 told.within at.1)
           (λ new. inr (ap (passive_at s.passive c) new.0 ∙ on.passive.vacant c e.slot told.vacant))
           (λ old. inl (at.0, old, at.2)));
-      locals = λ n. ap (λ (w : ℕ). sum_by (standing_of n) s.locals + sum_by (in_hand n) s.hands + w) (waiting_rest s.slots n s.due told.rest ∙ sym (waiting_rest (set s.slots e.slot (Live e)) n s.due told.rest));
+      locals = λ n. ap (λ (w : ℕ). sum_by (standing_of n) s.locals + sum_by (in_hand n) s.hands + w)
+          (waiting_rest s.slots n s.due told.rest ∙ sym (waiting_rest (set s.slots e.slot (Live e)) n s.due told.rest));
       occupants = written number_in Vacant s.slots e.slot (Live e) told.within;
       keeps = λ t. refl;
     })
 
-pub publish_refines : (s : State) (t : ℕ) (e : Entry) → Holds s → Holds (after_publish s t e) → entry_of t (row_at s.rows t) ≡ Some e → may_publish s t e ≡ true → IsModelRun (picture s) (picture (after_publish s t e))
+pub publish_refines : (s : State) (t : ℕ) (e : Entry) → Holds s → Holds (after_publish s t e) → entry_of t (row_at s.rows t) ≡ Some e → may_publish s t e ≡ true
+    → IsModelRun (picture s) (picture (after_publish s t e))
 publish_refines s t e on now is ok =
     subst (λ (u : ℕ). Holds (after_publish s u e) → may_publish s u e ≡ true → IsModelRun (picture s) (picture (after_publish s u e)))
     (entry_shows t (row_at s.rows t) e is).0 (λ later may. publish_own s e on later may) now ok
 
-retiring_refines : (s : State) (t : ℕ) (e : Entry) → Holds s → s.due ≡ Rest → slot_at s.slots t ≡ Live e → IsLegal (after_change s.history (Detach e.number)) → SlotsShow (after_change s.history (Detach e.number)) (set s.slots t (Retired e))
+retiring_refines : (s : State) (t : ℕ) (e : Entry) → Holds s → s.due ≡ Rest → slot_at s.slots t ≡ Live e → IsLegal (after_change s.history (Detach e.number))
+    → SlotsShow (after_change s.history (Detach e.number)) (set s.slots t (Retired e))
     → IsModelRun (picture s) (picture (with_retired s t e))
 retiring_refines s t e on rest at legal later =
     one_step (picture s) _ (picture (with_retired s t e)) (Model.Detaches e.number legal) (record {
@@ -103,7 +109,11 @@ retiring_refines s t e on rest at legal later =
           (λ u was. either (cases_eq u t)
           (λ same.
           let one : was.0 ≡ e = live_one was.0 e (slot_at s.slots t) at (subst (λ (k : ℕ). IsIn was.0 (slot_at s.slots k)) same was.1) in
-          inl (e, subst (λ (k : ℕ). IsIn e (slot_at (set s.slots t (Retired e)) k)) (sym same) (in_written s.slots t (Retired e) e (in_within s.slots t e (inl at)) (inr refl)), ap (λ (f : Entry). f.number) (sym one) ∙ was.2))
+          inl (
+            e,
+            subst (λ (k : ℕ). IsIn e (slot_at (set s.slots t (Retired e)) k)) (sym same) (in_written s.slots t (Retired e) e (in_within s.slots t e (inl at)) (inr refl)),
+            ap (λ (f : Entry). f.number) (sym one) ∙ was.2,
+          ))
           (λ off. inl (was.0, in_other s.slots t (Retired e) was.0 u off was.1, was.2)))
           (λ u was. inl (was.0, in_unpublished s.slots t u e was.0 at was.1, was.2));
       locals = λ n. ap (λ (w : ℕ). sum_by (standing_of n) s.locals + sum_by (in_hand n) s.hands + w) (waiting_rest s.slots n s.due rest);
@@ -111,7 +121,8 @@ retiring_refines s t e on rest at legal later =
       keeps = λ u. refl;
     })
 
-unlinked_refines : (s : State) (t : ℕ) (e : Entry) (before : Option ℕ) → Holds s → Holds (with_retired (with_link_past s t before) t e) → s.due ≡ Rest → slot_at s.slots t ≡ Live e → IsModelRun (picture s) (picture (with_retired (with_link_past s t before) t e))
+unlinked_refines : (s : State) (t : ℕ) (e : Entry) (before : Option ℕ) → Holds s → Holds (with_retired (with_link_past s t before) t e) → s.due ≡ Rest → slot_at s.slots t ≡ Live e
+    → IsModelRun (picture s) (picture (with_retired (with_link_past s t before) t e))
 unlinked_refines s t e None on now rest at = retiring_refines s t e on rest at now.legal now.slots
 unlinked_refines s t e (Some p) on now rest at = retiring_refines s t e on rest at now.legal now.slots
 
@@ -123,7 +134,8 @@ unpublish_refines s t e on now rest at = unlinked_refines s t e (slot_before s.s
 pub number_of : (x : Slot) (e : Entry) → IsIn e x → number_in x ≡ Some e.number
 number_of x e is = either is (λ live. ap number_in live) (λ gone. ap number_in gone)
 
-pub keep_refines : (s : State) (t id n u : ℕ) → Holds s → local_at s.locals id ≡ Standing n → slot_of s.slots n ≡ Some u → may_keep s t u ≡ true → IsModelRun (picture s) (picture (after_keep s t id n))
+pub keep_refines : (s : State) (t id n u : ℕ) → Holds s → local_at s.locals id ≡ Standing n → slot_of s.slots n ≡ Some u → may_keep s t u ≡ true
+    → IsModelRun (picture s) (picture (after_keep s t id n))
 keep_refines s t id n u on at of ok =
     let p = and_parts (may_write s t) _ ok in
     let p1 = and_parts _ (is_driver_slot (slot_at s.slots u)) p.1 in
@@ -211,7 +223,8 @@ vacated_passive s t n on d later c i = passive_moved s.history s.history s.slots
     (λ u was. inl (was.0, (in_vacated s.slots t u d.entry was.0 d.gone was.1).1, was.2))
 
 vacated_locals : (s : State) (t n : ℕ) → Drained s t n → (i : ℕ) → locals_of s i ≡ locals_of (record s { slots = set s.slots t Vacant }) i
-vacated_locals s t n d i = ap (λ (w : ℕ). sum_by (standing_of i) s.locals + sum_by (in_hand i) s.hands + w) (waiting_rest s.slots i s.due d.due ∙ sym (waiting_rest (set s.slots t Vacant) i s.due d.due))
+vacated_locals s t n d i =
+    ap (λ (w : ℕ). sum_by (standing_of i) s.locals + sum_by (in_hand i) s.hands + w) (waiting_rest s.slots i s.due d.due ∙ sym (waiting_rest (set s.slots t Vacant) i s.due d.due))
 
 pub vacate_refines : (s : State) (t : ℕ) → Holds s → Holds (after_vacate s t) → may_vacate s t ≡ true → IsModelRun (picture s) (picture (after_vacate s t))
 vacate_refines s t on now ok =

@@ -1,8 +1,12 @@
 -- The events of passive and local references make steps of the model.
-use Rattle.std.proofs.Common.{◌≡◌, ℕ, ◌+◌, ◌-◌, ◌<◌, inr, List, [], length, get_or, set, Option, Some, None, Bool, true, false, ◌&&◌, ◌||◌, ◌==◌, nat_lt, if◌then◌else◌, refl, sym, ap, subst, ◌∙◌, arith, ltb-true}
+use Rattle.std.proofs.Common.{◌≡◌, ℕ, ◌+◌, ◌-◌, ◌<◌, inr, List, [], length, get_or, set, Option, Some, None, Bool, true, false, ◌&&◌, ◌||◌, ◌==◌, nat_lt, if◌then◌else◌, refl, sym, ap, subst, ◌∙◌}
+use Rattle.std.proofs.Common.{arith, ltb-true}
 use Rattle.std.proofs.lemmas.Bool.{and_parts, or_cases}
 use Rattle.protocol.specs.Types.{Entry, Slot, Retired}
-use Rattle.protocol.specs.Common.{Hand, Empty, Taking, Giving, Back, LocalPlace, Free, Standing, Lifted, Due, Rest, Snapshots, Adding, Subtracting, State, with_cell, found_at, hand_at, passive_at, count_at, local_at, is_idle, is_number, may_add, after_add, may_sub, after_sub, may_count, after_count_add, least_id, with_local, after_split, after_hand, after_count_down, after_collected, is_snapshot_due, after_snapshot, due_after, after_look, after_look_passive, may_collect, after_collect, after_total, may_join_keeper, may_join, after_join_keeper, Holds, DueHolds, one_if, put, Model, IsModelRun, Stays, passive_in, subtractions_due, locals_of, picture}
+use Rattle.protocol.specs.Common.{Hand, Empty, Taking, Giving, Back, LocalPlace, Free, Standing, Lifted, Due, Rest, Snapshots, Adding, Subtracting, State, with_cell, found_at, hand_at, passive_at}
+use Rattle.protocol.specs.Common.{count_at, local_at, is_idle, is_number, may_add, after_add, may_sub, after_sub, may_count, after_count_add, least_id, with_local, after_split, after_hand}
+use Rattle.protocol.specs.Common.{after_count_down, after_collected, is_snapshot_due, after_snapshot, due_after, after_look, after_look_passive, may_collect, after_collect, after_total}
+use Rattle.protocol.specs.Common.{may_join_keeper, may_join, after_join_keeper, Holds, DueHolds, one_if, put, Model, IsModelRun, Stays, passive_in, subtractions_due, locals_of, picture}
 use Rattle.registry_values.specs.Common.{slot_at, slot_of, has_number}
 use Rattle.protocol.specs.Model
 use Rattle.protocol.proofs.slots.Cells.{cell_here, cell_other}
@@ -31,7 +35,8 @@ one_slot slots m n t first second =
     sym b.1.2 ∙ (ap (λ (e : Entry). e.number) (one_in b.1.0 a.1.0 (slot_at slots t) a.1.1 b.1.1) ∙ a.1.2)
 
 pub passive_put : (s : State) (c n t v : ℕ) → Holds s → c < s.settings.cpus → slot_of s.slots n ≡ Some t
-    → (j m : ℕ) → put (λ k. λ i. passive_in s.passive k (slot_of s.slots i)) c (put (λ i. passive_in s.passive c (slot_of s.slots i)) n v) j m ≡ passive_in (with_cell s.passive t c v) j (slot_of s.slots m)
+    → (j m : ℕ) → put (λ k. λ i. passive_in s.passive k (slot_of s.slots i)) c (put (λ i. passive_in s.passive c (slot_of s.slots i)) n v) j m
+    ≡ passive_in (with_cell s.passive t c v) j (slot_of s.slots m)
 passive_put s c n t v on low is =
     let tp : t < length s.passive = omega (arith, (slot_has s.slots n t is).0, on.shape.slots, on.shape.passive) in
     let cp : c < length (get_or s.passive t []) = omega (arith, on.shape.passive_rows t tp, low, cpus_fit s.settings on.fit) in
@@ -45,13 +50,15 @@ add_refines s c n t on is ok =
     let p = and_parts (is_idle s c) ((is_number n (found_at s c) || nat_lt 0 (passive_at s.passive c t)) && nat_lt (passive_at s.passive c t) s.settings.passive_limit) ok in
     let q = and_parts (is_number n (found_at s c) || nat_lt 0 (passive_at s.passive c t)) (nat_lt (passive_at s.passive c t) s.settings.passive_limit) p.1 in
     let was : passive_in s.passive c (slot_of s.slots n) ≡ passive_at s.passive c t = ap (passive_in s.passive c) is in
-    let made : (m : ℕ) → m ≡ n → Alike (record (picture s) { passive = put (picture s).passive c (put ((picture s).passive c) m ((picture s).passive c m + 1)) }) (picture (after_add s c t)) = λ m same. record {
+    let made : (m : ℕ) → m ≡ n → Alike (record (picture s) { passive = put (picture s).passive c (put ((picture s).passive c) m ((picture s).passive c m + 1)) }) (picture (after_add s c t)) =
+    λ m same. record {
       history = refl;
       sections = λ j. refl;
       passes = λ j. refl;
       lookups = λ j. refl;
       found = λ j. refl;
-      passive = λ j i. ap (λ (k : ℕ). put (λ x. λ y. passive_in s.passive x (slot_of s.slots y)) c (put (λ y. passive_in s.passive c (slot_of s.slots y)) k (passive_in s.passive c (slot_of s.slots k) + 1)) j i) same
+      passive = λ j i. ap (λ (k : ℕ). put (λ x. λ y. passive_in s.passive x (slot_of s.slots y)) c
+          (put (λ y. passive_in s.passive c (slot_of s.slots y)) k (passive_in s.passive c (slot_of s.slots k) + 1)) j i) same
           ∙ (ap (λ (v : ℕ). put (λ x. λ y. passive_in s.passive x (slot_of s.slots y)) c (put (λ y. passive_in s.passive c (slot_of s.slots y)) n (v + 1)) j i) was
           ∙ passive_put s c n t (passive_at s.passive c t + 1) on (idle_tells s c on p.0).0 is j i);
       locals = λ i. refl;
@@ -192,7 +199,8 @@ total_sub_refines s t v on is =
     let gone : (e : Entry) × (slot_at s.slots t ≡ Retired e) = subst (DueHolds s.settings.cpus s.slots) is on.references.due_at in
     locals_less s gone.0.number s.hands Rest s.locals (λ i. omega (arith, waiting_one s.slots i t gone.0 s.due gone.1 is))
 
-pub join_keeper_refines : (s : State) (id n t : ℕ) → Holds s → local_at s.locals id ≡ Standing n → slot_of s.slots n ≡ Some t → may_join_keeper s t ≡ true → IsModelRun (picture s) (picture (after_join_keeper s id t))
+pub join_keeper_refines : (s : State) (id n t : ℕ) → Holds s → local_at s.locals id ≡ Standing n → slot_of s.slots n ≡ Some t → may_join_keeper s t ≡ true
+    → IsModelRun (picture s) (picture (after_join_keeper s id t))
 join_keeper_refines s id n t on at of ok =
     let p = and_parts _ (may_join s t) ok in
     let rest : s.due ≡ Rest = at_rest_tells s.due (and_parts _ _ p.1).0 in
@@ -201,4 +209,10 @@ join_keeper_refines s id n t on at of ok =
     let same : gone.0.number ≡ n = ap (λ (e : Entry). e.number) (one_in gone.0 has.1.0 (slot_at s.slots t) has.1.1 (inr gone.1)) ∙ has.1.2 in
     locals_same s s.hands (Subtracting t) (set s.locals id Free)
     (λ i. let one : one_if (gone.0.number == i) ≡ one_if (n == i) = ap (λ (k : ℕ). one_if (k == i)) same in
-    omega (arith, one, waiting_else s.slots i s.due Rest rest refl, waiting_one s.slots i t gone.0 (Subtracting t) gone.1 refl, local_changed i s.locals id (Standing n) Free (standing_within s.locals id n at) at))
+    omega (
+      arith,
+      one,
+      waiting_else s.slots i s.due Rest rest refl,
+      waiting_one s.slots i t gone.0 (Subtracting t) gone.1 refl,
+      local_changed i s.locals id (Standing n) Free (standing_within s.locals id n at) at,
+    ))

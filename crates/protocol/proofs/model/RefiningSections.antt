@@ -2,7 +2,9 @@
 use Rattle.std.proofs.Common.{◌≡◌, ℕ, zero, suc, ◌*◌, ◌<◌, length, Option, Some, None, true, ◌&&◌, nat_eq, nat_lt, ap, subst, arith}
 use Rattle.std.proofs.lemmas.Bool.{and_parts}
 use Rattle.protocol.specs.Types.{Entry, Key}
-use Rattle.protocol.specs.Common.{Loaded, On, Over, SearchPlace, AtHead, AtNumber, Search, IsLawful, State, section_at, begin_at, depth_at, seen_at, search_at, loaded_at, row_of_place, is_idle, is_outside, is_inside, after_seat, may_enter, after_enter, may_exit, after_exit, after_seeing, may_seek, after_seek, with_search_at, search_over, with_some, link_at, link_loaded, load_link, load_searched, outcome_of, Holds, Model, IsModelStep, IsModelRun, Stays, Goes_on, lookup_of, picture}
+use Rattle.protocol.specs.Common.{Loaded, On, Over, SearchPlace, AtHead, AtNumber, Search, IsLawful, State, section_at, begin_at, depth_at, seen_at, search_at, loaded_at, row_of_place, is_idle}
+use Rattle.protocol.specs.Common.{is_outside, is_inside, after_seat, may_enter, after_enter, may_exit, after_exit, after_seeing, may_seek, after_seek, with_search_at, search_over, with_some, link_at}
+use Rattle.protocol.specs.Common.{link_loaded, load_link, load_searched, outcome_of, Holds, Model, IsModelStep, IsModelRun, Stays, Goes_on, lookup_of, picture}
 use Rattle.protocol.specs.Model
 use Rattle.protocol.proofs.keeps.Searching.{within_some}
 use Rattle.protocol.proofs.keeps.SectionKeeps.{none_from, some_from, idle_parts, idle_tells}
@@ -79,7 +81,8 @@ going_on_refines s c q place is = no_step (picture s) (picture (with_search_at s
 
 -- The loads of a search.
 
-pub missed_refines : (s : State) (c : ℕ) (q : Search) → Holds s → search_at s c ≡ Some q → IsLawful s.history q.start (seen_at (after_seeing s c) c) q.key None → IsModelRun (picture s) (picture (search_over (after_seeing s c) c None))
+pub missed_refines : (s : State) (c : ℕ) (q : Search) → Holds s → search_at s c ≡ Some q → IsLawful s.history q.start (seen_at (after_seeing s c) c) q.key None
+    → IsModelRun (picture s) (picture (search_over (after_seeing s c) c None))
 missed_refines s c q on is lawful =
     let within = within_some s.searches c q is in
     Goes_on _ _ (seeing_refines s c on (omega (arith, within, on.shape.searches))) (over_step (after_seeing s c) c q None (omega (arith, within, on.shape.searches, on.shape.found)) is lawful)
@@ -93,7 +96,8 @@ link_loaded_makes : (s : State) (c : ℕ) (q : Search) (x : ℕ) → Holds s →
 link_loaded_makes s c q zero on is lawful = λ now. missed_refines s c q on is lawful
 link_loaded_makes s c q (suc t) on is lawful = λ now. followed_refines s c q t on is
 
-followed_makes : (s : State) (c : ℕ) (q : Search) (x : Option ℕ) → Holds s → search_at s c ≡ Some q → AnswersLookup c q (with_some x (link_loaded s c q)) → Makes (picture s) (with_some x (link_loaded s c q))
+followed_makes : (s : State) (c : ℕ) (q : Search) (x : Option ℕ) → Holds s → search_at s c ≡ Some q → AnswersLookup c q (with_some x (link_loaded s c q))
+    → Makes (picture s) (with_some x (link_loaded s c q))
 followed_makes s c q None on is lawful = tt
 followed_makes s c q (Some x) on is lawful = link_loaded_makes s c q x on is lawful
 

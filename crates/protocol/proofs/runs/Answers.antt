@@ -2,7 +2,8 @@
 use Rattle.std.proofs.Common.{◌≡◌, ℕ, ◌≤◌, inl, inr, List, [], ◌∷◌, ◌++◌, length, get_or, set, Option, Some, None, refl, sym, ap, subst, ◌∙◌, arith}
 use Rattle.std.proofs.lemmas.Option.{none-some, same_Some}
 use Rattle.protocol.specs.Types.{Entry, Change, Attach, Detach, Key}
-use Rattle.protocol.specs.Common.{Event, Seek, Reply, Found, Missed, Search, IsLawful, State, opening, seen_at, search_at, Outcome, step, state_after, Holds, after, after_event, answer_of, IsAnswered, HasBegun, AnswersLawfully, LawfulAnswers}
+use Rattle.protocol.specs.Common.{Event, Seek, Reply, Found, Missed, Search, IsLawful, State, opening, seen_at, search_at, Outcome, step, state_after, Holds, after, after_event, answer_of, IsAnswered}
+use Rattle.protocol.specs.Common.{HasBegun, AnswersLawfully, LawfulAnswers}
 use Rattle.protocol.proofs.slots.Occupied.{written_cases}
 use Rattle.protocol.proofs.keeps.SearchKeeps.{IsAnswer}
 use Rattle.protocol.proofs.runs.Steps.{IsOn, Sort, Refused, Left, Entered, Sought, Heard, Searched, Published, Unpublished, step_sort}

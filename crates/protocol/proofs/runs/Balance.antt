@@ -2,7 +2,8 @@
 use Rattle.std.proofs.Common.{◌≡◌, ℕ, ◌<◌, inl, inr, Some, None, Bool, true, false, refl, sym, ap, subst, arith}
 use Rattle.std.proofs.lemmas.Option.{none-some}
 use Rattle.protocol.specs.Types.{Entry, Slot, Vacant, Live, Retired}
-use Rattle.protocol.specs.Common.{Rest, State, opening, mark_at, count_at, total_at, at_rest, Holds, IsIn, IsCounting, held_at, subtraction_due_at, addition_due_at, is_adding_at, number_in, subtractions_due, after, occupant_of, held_of, IsBalanced, BalancesAtRest, BalanceAtRest}
+use Rattle.protocol.specs.Common.{Rest, State, opening, mark_at, count_at, total_at, at_rest, Holds, IsIn, IsCounting, held_at, subtraction_due_at, addition_due_at, is_adding_at, number_in}
+use Rattle.protocol.specs.Common.{subtractions_due, after, occupant_of, held_of, IsBalanced, BalancesAtRest, BalanceAtRest}
 use Rattle.registry_values.specs.Common.{bias, slot_at}
 use Rattle.protocol.proofs.runs.Reuse.{every_run_keeps, number_is}
 use Rattle.protocol.proofs.slots.Occupied.{at_rest_tells}
@@ -36,7 +37,8 @@ slot_balanced s t n on rest is =
 pub vacant_balanced : (s : State) (t : ℕ) → Holds s → t < s.settings.slots → occupant_of s t ≡ None → total_at s.totals t ≡ bias
 vacant_balanced s t on lt is = on.balance.vacant t (omega (arith, lt, on.shape.slots)) (vacant_number (slot_at s.slots t) is)
 
-emptied : (s : State) (c t : ℕ) (e : Entry) (b : Bool) → Holds s → slot_at s.slots t ≡ Retired e → (mark_at s.marks t c).collected ≡ b → (IsCounting s.slots s.marks c t → ⊥) → count_at s.counts c t ≡ 0
+emptied : (s : State) (c t : ℕ) (e : Entry) (b : Bool) → Holds s → slot_at s.slots t ≡ Retired e → (mark_at s.marks t c).collected ≡ b → (IsCounting s.slots s.marks c t → ⊥)
+    → count_at s.counts c t ≡ 0
 emptied s c t e true on gone is off = on.balance.emptied c t e gone is
 emptied s c t e false on gone is off = absurd (off (e, inr (gone, is)))
 

@@ -2,7 +2,8 @@
 use Rattle.std.proofs.Common.{◌≡◌, ℕ, inl, inr, List, Option, Some, None, refl, sym, ap, ◌∙◌, arith}
 use Rattle.std.proofs.lemmas.Option.{none-some}
 use Rattle.protocol.specs.Types.{Entry, Slot, Vacant, Live, Retired}
-use Rattle.protocol.specs.Common.{Event, Due, Subtracting, IsAttached, State, opening, Holds, IsIn, Occupies, one_if, IsUnheld, passive_in, subtractions_due, picture, after, IsAllowed, occupant_of, destroyed_slot, given_slot, IsSafe, Headline}
+use Rattle.protocol.specs.Common.{Event, Due, Subtracting, IsAttached, State, opening, Holds, IsIn, Occupies, one_if, IsUnheld, passive_in, subtractions_due, picture, after, IsAllowed, occupant_of}
+use Rattle.protocol.specs.Common.{destroyed_slot, given_slot, IsSafe, Headline}
 use Rattle.registry_values.specs.Common.{slot_at, slot_of, has_number}
 use Rattle.protocol.proofs.history.History.{one_entry}
 use Rattle.protocol.proofs.slots.Occupied.{attached_in, slot_occupied}

@@ -1,9 +1,12 @@
 -- Safe reuse: which events move an occupant, and what holds nothing then.
-use Rattle.std.proofs.Common.{◌≡◌, ℕ, suc, ◌+◌, ◌-◌, ◌⊎◌, inl, inr, List, length, set, Option, Some, None, Bool, true, false, not, ◌&&◌, ◌==◌, nat_lt, if◌then◌else◌, IsSome, refl, sym, ap, subst, ◌∙◌, arith, get_or-set_same, get_or-set_other}
+use Rattle.std.proofs.Common.{◌≡◌, ℕ, suc, ◌+◌, ◌-◌, ◌⊎◌, inl, inr, List, length, set, Option, Some, None, Bool, true, false, not, ◌&&◌, ◌==◌, nat_lt, if◌then◌else◌, IsSome, refl, sym, ap, subst, ◌∙◌}
+use Rattle.std.proofs.Common.{arith, get_or-set_same, get_or-set_other}
 use Rattle.std.proofs.lemmas.Bool.{and_parts, cases_eq, eqb-true}
 use Rattle.std.proofs.lemmas.Option.{none-some, same_Some}
 use Rattle.protocol.specs.Types.{Entry, Slot, Vacant, Live, Retired}
-use Rattle.protocol.specs.Common.{Event, StoreSlot, StoreNext, Publish, Keep, KeptSub, Vacate, EndsAt, State, opening, row_at, kept_at, local_at, Outcome, guard, with_some, step, state_after, may_write, may_publish, is_drained, may_vacate, entry_of, has_room, is_prepared, Holds, IsIn, IsUnheld, number_in, picture, empty_run, after, IsAllowed, occupant_of, destroyed_slot, given_slot, EveryRunKeeps}
+use Rattle.protocol.specs.Common.{Event, StoreSlot, StoreNext, Publish, Keep, KeptSub, Vacate, EndsAt, State, opening, row_at, kept_at, local_at, Outcome, guard, with_some, step, state_after}
+use Rattle.protocol.specs.Common.{may_write, may_publish, is_drained, may_vacate, entry_of, has_room, is_prepared, Holds, IsIn, IsUnheld, number_in, picture, empty_run, after, IsAllowed, occupant_of}
+use Rattle.protocol.specs.Common.{destroyed_slot, given_slot, EveryRunKeeps}
 use Rattle.registry_values.specs.Common.{key_of, slot_at, slot_of, is_taken}
 use Rattle.protocol.specs.Events
 use Rattle.protocol.proofs.keeps.Keeping.{ran_keeps, opening_holds}

@@ -1,6 +1,7 @@
 -- The worked rows, computed.
 use Rattle.std.proofs.Common.{refl, ◌++◌, ◌∷◌, [], Some}
-use Rattle.protocol.specs.Common.{Found, opening, FrozenLink, CollectRace, Gives, two_cpus, attaches, done_replies, loads, try_replies, first, all_three, search_begins, wm0, wm1, wm2, search_case, detaches, unlinked_case, search_goes_on, has_found}
+use Rattle.protocol.specs.Common.{Found, opening, FrozenLink, CollectRace, Gives, two_cpus, attaches, done_replies, loads, try_replies, first, all_three, search_begins, wm0, wm1, wm2, search_case}
+use Rattle.protocol.specs.Common.{detaches, unlinked_case, search_goes_on, has_found}
 use Rattle.registry_values.specs.Names.{are_name_words}
 
 attached : Gives (opening two_cpus) attaches (done_replies 35) all_three

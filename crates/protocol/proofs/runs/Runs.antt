@@ -8,7 +8,8 @@ ran_push r [] e = refl
 ran_push r (f ∷ es) e = ran_push (run_with_event r (step r.state f)) es e
 
 -- one event more, whose outcome is known
-pub ran_more : (r : Run) (es : List Event) (i : ℕ) (d : Event) (s : State) (k : Counted) (o : Option Outcome) → i < length es → run_of_events r (take i es) ≡ record { state = s; counted = k } → step s (get_or es i d) ≡ o
+pub ran_more : (r : Run) (es : List Event) (i : ℕ) (d : Event) (s : State) (k : Counted) (o : Option Outcome) → i < length es → run_of_events r (take i es) ≡ record { state = s; counted = k }
+    → step s (get_or es i d) ≡ o
     → run_of_events r (take (i + 1) es) ≡ run_with_event (record { state = s; counted = k }) o
 ran_more r es i d s k o below so_far is =
     ap (run_of_events r) (take_more es i d below) ∙ ran_push r (take i es) (get_or es i d) ∙ rw (so_far, is) refl

@@ -2,7 +2,12 @@
 use Rattle.std.proofs.Common.{◌≡◌, ℕ, zero, suc, ◌⊎◌, inl, inr, List, [], ◌∷◌, set, Option, Some, None, Bool, true, false, ◌==◌, nat_lt, if◌then◌else◌, refl, sym, ap, ◌∙◌}
 use Rattle.std.proofs.lemmas.Bool.{and_parts}
 use Rattle.protocol.specs.Types.{Kind, Entry, Detach, Name, Slot, Live, Retired}
-use Rattle.protocol.specs.Common.{Event, Seat, Enter, Exit, Seek, LoadLink, LoadRecord, StoreSlot, StoreNext, Publish, Unpublish, Tell, Hear, Snapshot, Look, PassiveAdd, PassiveSub, PassiveLook, CountAdd, SplitRef, JoinRef, CountDown, SplitBack, Collect, TotalAdd, JoinKeeper, TotalSub, Keep, KeptSub, Vacate, RecordOf, Reply, Done, Hand, Taking, Giving, Back, Due, Adding, Subtracting, Loaded, On, Over, SearchPlace, AtNumber, Search, after_change, State, search_at, found_at, hand_at, row_at, count_at, kept_at, local_at, loaded_at, row_of_place, Outcome, guard, some_outcome, with_some, step, state_after, is_idle, may_enter, after_enter, may_exit, after_exit, may_seek, after_seek, after_seeing, link_loaded, entry_of, may_publish, after_publish, with_link_past, with_retired, after_unpublish, may_keep, after_keep, is_drained, after_kept_sub, may_vacate, after_vacate, Holds, Run, run_of_events, empty_run, run_with_event, after, after_event, answer_of, IsLoadOf}
+use Rattle.protocol.specs.Common.{Event, Seat, Enter, Exit, Seek, LoadLink, LoadRecord, StoreSlot, StoreNext, Publish, Unpublish, Tell, Hear, Snapshot, Look, PassiveAdd, PassiveSub, PassiveLook}
+use Rattle.protocol.specs.Common.{CountAdd, SplitRef, JoinRef, CountDown, SplitBack, Collect, TotalAdd, JoinKeeper, TotalSub, Keep, KeptSub, Vacate, RecordOf, Reply, Done, Hand, Taking, Giving, Back}
+use Rattle.protocol.specs.Common.{Due, Adding, Subtracting, Loaded, On, Over, SearchPlace, AtNumber, Search, after_change, State, search_at, found_at, hand_at, row_at, count_at, kept_at, local_at}
+use Rattle.protocol.specs.Common.{loaded_at, row_of_place, Outcome, guard, some_outcome, with_some, step, state_after, is_idle, may_enter, after_enter, may_exit, after_exit, may_seek, after_seek}
+use Rattle.protocol.specs.Common.{after_seeing, link_loaded, entry_of, may_publish, after_publish, with_link_past, with_retired, after_unpublish, may_keep, after_keep, is_drained, after_kept_sub}
+use Rattle.protocol.specs.Common.{may_vacate, after_vacate, Holds, Run, run_of_events, empty_run, run_with_event, after, after_event, answer_of, IsLoadOf}
 use Rattle.protocol.specs.declared.event.RecordOf.TheVariants.{Search as OfSearch, Passive as OfPassive, Local as OfLocal}
 use Rattle.registry_values.specs.Common.{slot_at, slot_of, slot_before}
 use Rattle.protocol.specs.Events
@@ -86,29 +91,40 @@ on_loads : (s : State) (c : ℕ) (q : Search) (p : SearchPlace) → Loads s c q 
 on_loads s c q p = record { history = refl; slots = refl; keeps = refl; section = refl; begins = refl; seen = inl refl; searches = inr (p, refl) }
 
 link_loaded_sort : (s : State) (c : ℕ) (q : Search) (x : ℕ) → search_at s c ≡ Some q → AnswersLookup c q (link_loaded s c q x) → Sort s (LoadLink c) (link_loaded s c q x)
-link_loaded_sort s c q zero is answers = load_sort s _ (LoadLink c) c q _ (inl refl) is (record { history = refl; slots = refl; keeps = refl; section = refl; begins = refl; seen = inr refl; searches = inl refl }) answers
-link_loaded_sort s c q (suc t) is answers = load_sort s _ (LoadLink c) c q _ (inl refl) is (record { history = refl; slots = refl; keeps = refl; section = refl; begins = refl; seen = inr refl; searches = inr (AtNumber t, refl) }) answers
+link_loaded_sort s c q zero is answers =
+    load_sort s _ (LoadLink c) c q _ (inl refl) is (record { history = refl; slots = refl; keeps = refl; section = refl; begins = refl; seen = inr refl; searches = inl refl }) answers
+link_loaded_sort s c q (suc t) is answers =
+    load_sort s _ (LoadLink c) c q _ (inl refl) is (record { history = refl; slots = refl; keeps = refl; section = refl; begins = refl; seen = inr refl; searches = inr (AtNumber t, refl) }) answers
 
-followed_sort : (s : State) (c : ℕ) (q : Search) (x : Option ℕ) → search_at s c ≡ Some q → AnswersLookup c q (Events.with_some x (link_loaded s c q)) → Sort s (LoadLink c) (Events.with_some x (link_loaded s c q))
+followed_sort : (s : State) (c : ℕ) (q : Search) (x : Option ℕ) → search_at s c ≡ Some q → AnswersLookup c q (Events.with_some x (link_loaded s c q))
+    → Sort s (LoadLink c) (Events.with_some x (link_loaded s c q))
 followed_sort s c q None is answers = Refused (LoadLink c)
 followed_sort s c q (Some x) is answers = link_loaded_sort s c q x is answers
 
-outcome_sort : (s : State) (c : ℕ) (q : Search) (o : Option Loaded) → search_at s c ≡ Some q → AnswersLookup c q (Events.outcome_of s c q o) → Sort s (LoadRecord (OfSearch c)) (Events.outcome_of s c q o)
+outcome_sort : (s : State) (c : ℕ) (q : Search) (o : Option Loaded) → search_at s c ≡ Some q → AnswersLookup c q (Events.outcome_of s c q o)
+    → Sort s (LoadRecord (OfSearch c)) (Events.outcome_of s c q o)
 outcome_sort s c q None is answers = Refused (LoadRecord (OfSearch c))
 outcome_sort s c q (Some (On p w)) is answers = load_sort s _ (LoadRecord (OfSearch c)) c q _ (inr refl) is (on_loads s c q p) answers
 outcome_sort s c q (Some (Over e)) is answers = load_sort s _ (LoadRecord (OfSearch c)) c q _ (inr refl) is (over_loads s c q (Some e)) answers
 
 record_sort : (s : State) (of : RecordOf) → Holds s → Sort s (LoadRecord of) (Events.load_record s of)
 record_sort s (OfSearch c) on = sort_some s (LoadRecord (OfSearch c)) (search_at s c) _ (λ q is. outcome_sort s c q (loaded_at q q.place (row_of_place s.rows q.place)) is (record_answers s c q on is))
-record_sort s (OfPassive c n k) on = sort_some s (LoadRecord (OfPassive c n k)) (slot_of s.slots n) _ (λ t of. sort_guard s (LoadRecord (OfPassive c n k)) _ _ (λ may. left s s (LoadRecord (OfPassive c n k)) _ (record { history = refl; slots = refl; keeps = refl; section = refl; begins = refl; seen = refl; searches = refl; reply = refl })))
-record_sort s (OfLocal id k) on = sort_some s (LoadRecord (OfLocal id k)) (Events.number_standing (local_at s.locals id)) _ (λ n at. sort_some s (LoadRecord (OfLocal id k)) (slot_of s.slots n) _ (λ t of. sort_guard s (LoadRecord (OfLocal id k)) _ _ (λ may. left s s (LoadRecord (OfLocal id k)) _ (record { history = refl; slots = refl; keeps = refl; section = refl; begins = refl; seen = refl; searches = refl; reply = refl }))))
+record_sort s (OfPassive c n k) on = sort_some s (LoadRecord (OfPassive c n k)) (slot_of s.slots n) _
+    (λ t of. sort_guard s (LoadRecord (OfPassive c n k)) _ _ (λ may. left s s (LoadRecord (OfPassive c n k)) _
+    (record { history = refl; slots = refl; keeps = refl; section = refl; begins = refl; seen = refl; searches = refl; reply = refl })))
+record_sort s (OfLocal id k) on = sort_some s (LoadRecord (OfLocal id k)) (Events.number_standing (local_at s.locals id)) _
+    (λ n at. sort_some s (LoadRecord (OfLocal id k)) (slot_of s.slots n) _
+    (λ t of. sort_guard s (LoadRecord (OfLocal id k)) _ _ (λ may. left s s (LoadRecord (OfLocal id k)) _
+    (record { history = refl; slots = refl; keeps = refl; section = refl; begins = refl; seen = refl; searches = refl; reply = refl }))))
 
 -- The events that take cases
 
 store_sort : (s : State) (t k v : ℕ) → Sort s (StoreSlot t k v) (Events.store_slot s t k v)
 store_sort s t k v = sort_if s (StoreSlot t k v) (nat_lt k 5) _ _
-    (sort_guard s (StoreSlot t k v) _ _ (λ may. left s _ (StoreSlot t k v) Done (record { history = refl; slots = refl; keeps = refl; section = refl; begins = refl; seen = refl; searches = refl; reply = refl })))
-    (sort_guard s (StoreSlot t k v) _ _ (λ may. left s _ (StoreSlot t k v) Done (record { history = refl; slots = refl; keeps = refl; section = refl; begins = refl; seen = refl; searches = refl; reply = refl })))
+    (sort_guard s (StoreSlot t k v) _ _ (λ may. left s _ (StoreSlot t k v) Done
+    (record { history = refl; slots = refl; keeps = refl; section = refl; begins = refl; seen = refl; searches = refl; reply = refl })))
+    (sort_guard s (StoreSlot t k v) _ _ (λ may. left s _ (StoreSlot t k v) Done
+    (record { history = refl; slots = refl; keeps = refl; section = refl; begins = refl; seen = refl; searches = refl; reply = refl })))
 
 unlinking_retires : (s : State) (t : ℕ) (e : Entry) (before : Option ℕ) → Retires s t e (with_retired (with_link_past s t before) t e)
 unlinking_retires s t e None = record { history = refl; slots = refl; keeps = refl; section = refl; begins = refl; seen = refl; searches = refl }
@@ -119,20 +135,27 @@ unpublish_sort s t (Live e) is = sort_guard s (Unpublish t) _ _ (λ rest. Unpubl
 unpublish_sort s t _ is = Refused (Unpublish t)
 
 tell_sort : (s : State) (to : Option ℕ) → Sort s (Tell to) (Events.tell s to)
-tell_sort s None = sort_guard s (Tell None) _ _ (λ may. left s s (Tell None) Done (record { history = refl; slots = refl; keeps = refl; section = refl; begins = refl; seen = refl; searches = refl; reply = refl }))
-tell_sort s (Some c) = sort_guard s (Tell (Some c)) _ _ (λ may. left s s (Tell (Some c)) Done (record { history = refl; slots = refl; keeps = refl; section = refl; begins = refl; seen = refl; searches = refl; reply = refl }))
+tell_sort s None =
+    sort_guard s (Tell None) _ _ (λ may. left s s (Tell None) Done (record { history = refl; slots = refl; keeps = refl; section = refl; begins = refl; seen = refl; searches = refl; reply = refl }))
+tell_sort s (Some c) = sort_guard s (Tell (Some c)) _ _ (λ may. left s s (Tell (Some c)) Done
+    (record { history = refl; slots = refl; keeps = refl; section = refl; begins = refl; seen = refl; searches = refl; reply = refl }))
 
 hear_sort : (s : State) (to : Option ℕ) → Sort s (Hear to) (Events.hear s to)
-hear_sort s None = sort_guard s (Hear None) _ _ (λ may. left s s (Hear None) Done (record { history = refl; slots = refl; keeps = refl; section = refl; begins = refl; seen = refl; searches = refl; reply = refl }))
+hear_sort s None =
+    sort_guard s (Hear None) _ _ (λ may. left s s (Hear None) Done (record { history = refl; slots = refl; keeps = refl; section = refl; begins = refl; seen = refl; searches = refl; reply = refl }))
 hear_sort s (Some c) = sort_guard s (Hear (Some c)) _ _ (λ may. Heard c may)
 
 snapshot_sort : (s : State) (to : Option ℕ) (c : ℕ) → Sort s (Snapshot to c) (Events.snapshot s to c)
-snapshot_sort s None c = sort_guard s (Snapshot None c) _ _ (λ may. left s s (Snapshot None c) _ (record { history = refl; slots = refl; keeps = refl; section = refl; begins = refl; seen = refl; searches = refl; reply = refl }))
-snapshot_sort s (Some t) c = sort_guard s (Snapshot (Some t) c) _ _ (λ may. left s _ (Snapshot (Some t) c) _ (record { history = refl; slots = refl; keeps = refl; section = refl; begins = refl; seen = refl; searches = refl; reply = refl }))
+snapshot_sort s None c = sort_guard s (Snapshot None c) _ _ (λ may. left s s (Snapshot None c) _
+    (record { history = refl; slots = refl; keeps = refl; section = refl; begins = refl; seen = refl; searches = refl; reply = refl }))
+snapshot_sort s (Some t) c = sort_guard s (Snapshot (Some t) c) _ _
+    (λ may. left s _ (Snapshot (Some t) c) _ (record { history = refl; slots = refl; keeps = refl; section = refl; begins = refl; seen = refl; searches = refl; reply = refl }))
 
 look_sort : (s : State) (to : Option ℕ) (c : ℕ) → Sort s (Look to c) (Events.look s to c)
-look_sort s None c = sort_guard s (Look None c) _ _ (λ may. left s s (Look None c) _ (record { history = refl; slots = refl; keeps = refl; section = refl; begins = refl; seen = refl; searches = refl; reply = refl }))
-look_sort s (Some t) c = sort_guard s (Look (Some t) c) _ _ (λ may. left s _ (Look (Some t) c) _ (record { history = refl; slots = refl; keeps = refl; section = refl; begins = refl; seen = refl; searches = refl; reply = refl }))
+look_sort s None c =
+    sort_guard s (Look None c) _ _ (λ may. left s s (Look None c) _ (record { history = refl; slots = refl; keeps = refl; section = refl; begins = refl; seen = refl; searches = refl; reply = refl }))
+look_sort s (Some t) c = sort_guard s (Look (Some t) c) _ _ (λ may. left s _ (Look (Some t) c) _
+    (record { history = refl; slots = refl; keeps = refl; section = refl; begins = refl; seen = refl; searches = refl; reply = refl }))
 
 split_sort : (s : State) (c : ℕ) (h : Hand) → Sort s (SplitRef c) (Events.split_ref s c h)
 split_sort s c (Taking n) = left s _ (SplitRef c) _ (record { history = refl; slots = refl; keeps = refl; section = refl; begins = refl; seen = refl; searches = refl; reply = refl })
@@ -140,7 +163,8 @@ split_sort s c _ = Refused (SplitRef c)
 
 count_down_sort : (s : State) (c : ℕ) (h : Hand) → Sort s (CountDown c) (Events.count_down s c h)
 count_down_sort s c (Giving n id) = sort_some s (CountDown c) (slot_of s.slots n) _ (λ t of. sort_if s (CountDown c) (count_at s.counts c t == count_at s.nets c t) _ _
-    (left s _ (CountDown c) _ (record { history = refl; slots = refl; keeps = refl; section = refl; begins = refl; seen = refl; searches = refl; reply = refl })) (left s _ (CountDown c) _ (record { history = refl; slots = refl; keeps = refl; section = refl; begins = refl; seen = refl; searches = refl; reply = refl })))
+    (left s _ (CountDown c) _ (record { history = refl; slots = refl; keeps = refl; section = refl; begins = refl; seen = refl; searches = refl; reply = refl }))
+    (left s _ (CountDown c) _ (record { history = refl; slots = refl; keeps = refl; section = refl; begins = refl; seen = refl; searches = refl; reply = refl })))
 count_down_sort s c _ = Refused (CountDown c)
 
 split_back_sort : (s : State) (c : ℕ) (h : Hand) → Sort s (SplitBack c) (Events.split_back s c h)
@@ -148,44 +172,63 @@ split_back_sort s c (Back n id) = left s _ (SplitBack c) _ (record { history = r
 split_back_sort s c _ = Refused (SplitBack c)
 
 total_add_sort : (s : State) (t : ℕ) (due : Due) → Sort s (TotalAdd t) (Events.total_add s t due)
-total_add_sort s t (Adding u old) = sort_guard s (TotalAdd t) _ _ (λ may. left s _ (TotalAdd t) Done (record { history = refl; slots = refl; keeps = refl; section = refl; begins = refl; seen = refl; searches = refl; reply = refl }))
+total_add_sort s t (Adding u old) =
+    sort_guard s (TotalAdd t) _ _ (λ may. left s _ (TotalAdd t) Done (record { history = refl; slots = refl; keeps = refl; section = refl; begins = refl; seen = refl; searches = refl; reply = refl }))
 total_add_sort s t _ = Refused (TotalAdd t)
 
 total_sub_sort : (s : State) (t : ℕ) (due : Due) → Sort s (TotalSub t) (Events.total_sub s t due)
-total_sub_sort s t (Subtracting u) = sort_guard s (TotalSub t) _ _ (λ may. left s _ (TotalSub t) Done (record { history = refl; slots = refl; keeps = refl; section = refl; begins = refl; seen = refl; searches = refl; reply = refl }))
+total_sub_sort s t (Subtracting u) =
+    sort_guard s (TotalSub t) _ _ (λ may. left s _ (TotalSub t) Done (record { history = refl; slots = refl; keeps = refl; section = refl; begins = refl; seen = refl; searches = refl; reply = refl }))
 total_sub_sort s t _ = Refused (TotalSub t)
 
 -- Each event
 
 pub step_sort : (s : State) (e : Event) → Holds s → Sort s e (step s e)
-step_sort s (Seat c) on = sort_guard s (Seat c) _ _ (λ may. left s _ (Seat c) Done (record { history = refl; slots = refl; keeps = refl; section = refl; begins = refl; seen = refl; searches = refl; reply = refl }))
+step_sort s (Seat c) on =
+    sort_guard s (Seat c) _ _ (λ may. left s _ (Seat c) Done (record { history = refl; slots = refl; keeps = refl; section = refl; begins = refl; seen = refl; searches = refl; reply = refl }))
 step_sort s (Enter c) on = sort_guard s (Enter c) _ _ (λ may. Entered c may)
 step_sort s (Exit c) on = sort_guard s (Exit c) _ _ (λ may. Exited c may)
 step_sort s (Seek c kind name) on = sort_guard s (Seek c kind name) _ _ (λ may. Sought c kind name may)
 step_sort s (LoadLink c) on = sort_some s (LoadLink c) (search_at s c) _ (λ q is. followed_sort s c q (Events.link_at s q.place) is (link_answers s c q on is))
 step_sort s (LoadRecord of) on = record_sort s of on
 step_sort s (StoreSlot t k v) on = store_sort s t k v
-step_sort s (StoreNext t v) on = sort_guard s (StoreNext t v) _ _ (λ may. left s _ (StoreNext t v) Done (record { history = refl; slots = refl; keeps = refl; section = refl; begins = refl; seen = refl; searches = refl; reply = refl }))
+step_sort s (StoreNext t v) on = sort_guard s (StoreNext t v) _ _
+    (λ may. left s _ (StoreNext t v) Done (record { history = refl; slots = refl; keeps = refl; section = refl; begins = refl; seen = refl; searches = refl; reply = refl }))
 step_sort s (Publish t) on = sort_some s (Publish t) (entry_of t (row_at s.rows t)) _ (λ e is. sort_guard s (Publish t) _ _ (λ may. Published t e is may))
 step_sort s (Unpublish t) on = unpublish_sort s t (slot_at s.slots t) refl
 step_sort s (Tell to) on = tell_sort s to
 step_sort s (Hear to) on = hear_sort s to
 step_sort s (Snapshot to c) on = snapshot_sort s to c
 step_sort s (Look to c) on = look_sort s to c
-step_sort s (PassiveAdd c n) on = sort_some s (PassiveAdd c n) (slot_of s.slots n) _ (λ t of. sort_guard s (PassiveAdd c n) _ _ (λ may. left s _ (PassiveAdd c n) _ (record { history = refl; slots = refl; keeps = refl; section = refl; begins = refl; seen = refl; searches = refl; reply = refl })))
-step_sort s (PassiveSub c n) on = sort_some s (PassiveSub c n) (slot_of s.slots n) _ (λ t of. sort_guard s (PassiveSub c n) _ _ (λ may. left s _ (PassiveSub c n) _ (record { history = refl; slots = refl; keeps = refl; section = refl; begins = refl; seen = refl; searches = refl; reply = refl })))
-step_sort s (PassiveLook t c) on = sort_guard s (PassiveLook t c) _ _ (λ may. left s _ (PassiveLook t c) _ (record { history = refl; slots = refl; keeps = refl; section = refl; begins = refl; seen = refl; searches = refl; reply = refl }))
-step_sort s (CountAdd c) on = sort_some s (CountAdd c) (found_at s c) _ (λ e is. sort_some s (CountAdd c) (slot_of s.slots e.number) _ (λ t of. sort_guard s (CountAdd c) _ _ (λ may. left s _ (CountAdd c) _ (record { history = refl; slots = refl; keeps = refl; section = refl; begins = refl; seen = refl; searches = refl; reply = refl }))))
+step_sort s (PassiveAdd c n) on = sort_some s (PassiveAdd c n) (slot_of s.slots n) _
+    (λ t of. sort_guard s (PassiveAdd c n) _ _ (λ may. left s _ (PassiveAdd c n) _
+    (record { history = refl; slots = refl; keeps = refl; section = refl; begins = refl; seen = refl; searches = refl; reply = refl })))
+step_sort s (PassiveSub c n) on = sort_some s (PassiveSub c n) (slot_of s.slots n) _
+    (λ t of. sort_guard s (PassiveSub c n) _ _ (λ may. left s _ (PassiveSub c n) _
+    (record { history = refl; slots = refl; keeps = refl; section = refl; begins = refl; seen = refl; searches = refl; reply = refl })))
+step_sort s (PassiveLook t c) on = sort_guard s (PassiveLook t c) _ _
+    (λ may. left s _ (PassiveLook t c) _ (record { history = refl; slots = refl; keeps = refl; section = refl; begins = refl; seen = refl; searches = refl; reply = refl }))
+step_sort s (CountAdd c) on = sort_some s (CountAdd c) (found_at s c) _
+    (λ e is. sort_some s (CountAdd c) (slot_of s.slots e.number) _
+    (λ t of. sort_guard s (CountAdd c) _ _ (λ may. left s _ (CountAdd c) _
+    (record { history = refl; slots = refl; keeps = refl; section = refl; begins = refl; seen = refl; searches = refl; reply = refl }))))
 step_sort s (SplitRef c) on = split_sort s c (hand_at s c)
-step_sort s (JoinRef c id) on = sort_some s (JoinRef c id) (Events.number_standing (local_at s.locals id)) _ (λ n at. sort_guard s (JoinRef c id) _ _ (λ may. left s _ (JoinRef c id) Done (record { history = refl; slots = refl; keeps = refl; section = refl; begins = refl; seen = refl; searches = refl; reply = refl })))
+step_sort s (JoinRef c id) on = sort_some s (JoinRef c id) (Events.number_standing (local_at s.locals id)) _
+    (λ n at. sort_guard s (JoinRef c id) _ _ (λ may. left s _ (JoinRef c id) Done
+    (record { history = refl; slots = refl; keeps = refl; section = refl; begins = refl; seen = refl; searches = refl; reply = refl })))
 step_sort s (CountDown c) on = count_down_sort s c (hand_at s c)
 step_sort s (SplitBack c) on = split_back_sort s c (hand_at s c)
-step_sort s (Collect t c) on = sort_guard s (Collect t c) _ _ (λ may. left s _ (Collect t c) _ (record { history = refl; slots = refl; keeps = refl; section = refl; begins = refl; seen = refl; searches = refl; reply = refl }))
+step_sort s (Collect t c) on =
+    sort_guard s (Collect t c) _ _ (λ may. left s _ (Collect t c) _ (record { history = refl; slots = refl; keeps = refl; section = refl; begins = refl; seen = refl; searches = refl; reply = refl }))
 step_sort s (TotalAdd t) on = total_add_sort s t s.due
-step_sort s (JoinKeeper id) on = sort_some s (JoinKeeper id) (Events.number_standing (local_at s.locals id)) _ (λ n at. sort_some s (JoinKeeper id) (slot_of s.slots n) _ (λ t of. sort_guard s (JoinKeeper id) _ _ (λ may. left s _ (JoinKeeper id) Done (record { history = refl; slots = refl; keeps = refl; section = refl; begins = refl; seen = refl; searches = refl; reply = refl }))))
+step_sort s (JoinKeeper id) on = sort_some s (JoinKeeper id) (Events.number_standing (local_at s.locals id)) _
+    (λ n at. sort_some s (JoinKeeper id) (slot_of s.slots n) _ (λ t of. sort_guard s (JoinKeeper id) _ _
+    (λ may. left s _ (JoinKeeper id) Done (record { history = refl; slots = refl; keeps = refl; section = refl; begins = refl; seen = refl; searches = refl; reply = refl }))))
 step_sort s (TotalSub t) on = total_sub_sort s t s.due
-step_sort s (Keep t id) on = sort_some s (Keep t id) (Events.number_standing (local_at s.locals id)) _ (λ n at. sort_some s (Keep t id) (slot_of s.slots n) _ (λ u of. sort_guard s (Keep t id) _ _ (λ may. Kept t id n u may)))
-step_sort s (KeptSub t) on = sort_some s (KeptSub t) (kept_at s.keeps t) _ (λ d is. sort_some s (KeptSub t) (slot_of s.slots d) _ (λ u of. sort_guard s (KeptSub t) _ _ (λ may. Gave_up t d u is of (and_parts _ (is_drained s t) may).1)))
+step_sort s (Keep t id) on =
+    sort_some s (Keep t id) (Events.number_standing (local_at s.locals id)) _ (λ n at. sort_some s (Keep t id) (slot_of s.slots n) _ (λ u of. sort_guard s (Keep t id) _ _ (λ may. Kept t id n u may)))
+step_sort s (KeptSub t) on = sort_some s (KeptSub t) (kept_at s.keeps t) _
+    (λ d is. sort_some s (KeptSub t) (slot_of s.slots d) _ (λ u of. sort_guard s (KeptSub t) _ _ (λ may. Gave_up t d u is of (and_parts _ (is_drained s t) may).1)))
 step_sort s (Vacate t) on = sort_guard s (Vacate t) _ _ (λ may. Vacated t may)
 
 -- Runs

@@ -38,7 +38,8 @@ cell_other {X} d rows t c x u j off = either (cases_eq u t)
     (λ away. ap (λ (r : List X). get_or r j d) (row_other rows t c x u away))
 
 -- what was written, or what stood there
-pub cell_cases : {X : Type 0} (d : X) (rows : List (List X)) (t c : ℕ) (x : X) (u j : ℕ) → ((u ≡ t) × (j ≡ c) × (cell d (with_cell rows t c x) u j ≡ x)) ⊎ (cell d (with_cell rows t c x) u j ≡ cell d rows u j)
+pub cell_cases : {X : Type 0} (d : X) (rows : List (List X)) (t c : ℕ) (x : X) (u j : ℕ)
+    → ((u ≡ t) × (j ≡ c) × (cell d (with_cell rows t c x) u j ≡ x)) ⊎ (cell d (with_cell rows t c x) u j ≡ cell d rows u j)
 cell_cases {X} d rows t c x u j = either (cases_eq u t)
     (λ same. either (cases_eq j c)
     (λ too. either (cases_lt t (length rows))
@@ -46,7 +47,8 @@ cell_cases {X} d rows t c x u j = either (cases_eq u t)
     (λ cl.
     inl (same, too, ap (λ (k : ℕ). cell d (with_cell rows t c x) k j) same ∙ (ap (λ (k : ℕ). cell d (with_cell rows t c x) t k) too ∙ cell_here d rows t c x lt cl)))
     (λ ge.
-    inr (ap (λ (k : ℕ). cell d (with_cell rows t c x) k j) same ∙ (ap (λ (r : List X). get_or r j d) (row_here rows t c x lt ∙ set_past (get_or rows t []) c x ge) ∙ ap (λ (k : ℕ). cell d rows k j) (sym same)))))
+    inr (ap (λ (k : ℕ). cell d (with_cell rows t c x) k j) same
+    ∙ (ap (λ (r : List X). get_or r j d) (row_here rows t c x lt ∙ set_past (get_or rows t []) c x ge) ∙ ap (λ (k : ℕ). cell d rows k j) (sym same)))))
     (λ ge. inr (ap (λ (r : List (List X)). cell d r u j) (set_past rows t (set (get_or rows t []) c x) ge))))
     (λ off. inr (cell_other d rows t c x u j (λ _ is. off is))))
     (λ off. inr (cell_other d rows t c x u j (λ is _. off is)))

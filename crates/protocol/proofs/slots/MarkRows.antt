@@ -15,7 +15,8 @@ snapshot_stands s t c on rest gone lt =
     on.snapshots t c e.0 e.1 lt (λ due. let q : Rest ≡ Snapshots t due.0 = sym (at_rest_tells s.due rest) ∙ due.1 in cc)
 
 -- one mark of a row is written
-pub mark_written : (P : Mark → Mark → Type 0) (marks : List (List Mark)) (t c : ℕ) (m : Mark) → ((x : Mark) → P x x) → P (mark_at marks t c) m → (j : ℕ) → P (mark_at marks t j) (mark_at (with_cell marks t c m) t j)
+pub mark_written : (P : Mark → Mark → Type 0) (marks : List (List Mark)) (t c : ℕ) (m : Mark) → ((x : Mark) → P x x) → P (mark_at marks t c) m → (j : ℕ)
+    → P (mark_at marks t j) (mark_at (with_cell marks t c m) t j)
 mark_written P marks t c m same new j = cell_put no_mark marks t c m (λ v i x. v ≡ t → P (mark_at marks v i) x) t j (λ _. new) (λ _. same (mark_at marks t j)) refl
 
 pub row_elsewhere : {X : Type 0} (rows : List (List X)) (t c : ℕ) (x : X) → SameElsewhere rows (with_cell rows t c x) t

@@ -1,5 +1,6 @@
 -- Slots and the entries in them, and how a written slot changes which numbers are occupied.
-use Rattle.std.proofs.Common.{◌≡◌, ℕ, zero, suc, ◌+◌, ◌<◌, ◌≤◌, ◌⊎◌, inl, inr, List, [], ◌∷◌, length, get_or, set, cond, Bool, true, false, Some, None, position, refl, sym, ap, subst, ◌∙◌, arith, get_or-set_same, get_or-set_other}
+use Rattle.std.proofs.Common.{◌≡◌, ℕ, zero, suc, ◌+◌, ◌<◌, ◌≤◌, ◌⊎◌, inl, inr, List, [], ◌∷◌, length, get_or, set, cond, Bool, true, false, Some, None, position, refl, sym, ap, subst, ◌∙◌, arith}
+use Rattle.std.proofs.Common.{get_or-set_same, get_or-set_other}
 use Rattle.std.proofs.lemmas.List.{get_or_past, set_past}
 use Rattle.std.proofs.lemmas.Option.{slice_get_within}
 use Rattle.std.proofs.lemmas.List.Quantifiers.{position-Some}
@@ -22,7 +23,8 @@ pub place_within : {X : Type 0} (d : X) (xs : List X) (t : ℕ) → (get_or xs t
 place_within {X} d xs t off = either (cases_lt t (length xs)) (λ lt. lt) (λ ge. absurd (off (get_or_past xs t d ge)))
 
 -- a write past the end changes nothing, so a written place shows what was written or what it did
-pub written_cases : {X : Type 0} (d : X) (xs : List X) (t : ℕ) (x : X) (u : ℕ) → ((u ≡ t) × (get_or (set xs t x) u d ≡ x)) ⊎ (((u ≡ t → ⊥) ⊎ (length xs ≤ t)) × (get_or (set xs t x) u d ≡ get_or xs u d))
+pub written_cases : {X : Type 0} (d : X) (xs : List X) (t : ℕ) (x : X) (u : ℕ)
+    → ((u ≡ t) × (get_or (set xs t x) u d ≡ x)) ⊎ (((u ≡ t → ⊥) ⊎ (length xs ≤ t)) × (get_or (set xs t x) u d ≡ get_or xs u d))
 written_cases {X} d xs t x u = either (cases_lt t (length xs))
     (λ lt. either (place_cases d xs t x u lt) (λ here. inl here) (λ off. inr (inl off.0, off.1)))
     (λ ge. inr (inr ge, ap (λ (ys : List X). get_or ys u d) (set_past xs t x ge)))
@@ -54,7 +56,8 @@ pub one_in : (f e : Entry) (x : Slot) → IsIn e x → IsIn f x → f ≡ e
 one_in f e x at is = either at (λ live. live_one f e x live is) (λ gone. retired_one f e x gone is)
 
 -- Which numbers stay occupied where one slot is written: those whose entry the new slot still has.
-pub occupies_set : (slots : List Slot) (t : ℕ) (x : Slot) (n : ℕ) → t < length slots → ((f : Entry) → IsIn f (slot_at slots t) → f.number ≡ n → IsIn f x) → Occupies slots n → Occupies (set slots t x) n
+pub occupies_set : (slots : List Slot) (t : ℕ) (x : Slot) (n : ℕ) → t < length slots → ((f : Entry) → IsIn f (slot_at slots t) → f.number ≡ n → IsIn f x) → Occupies slots n
+    → Occupies (set slots t x) n
 occupies_set slots t x n lt stays was = either (cases_eq was.0 t)
     (λ same. (t, was.1, in_written slots t x was.1 lt (stays was.1 (subst (λ (k : ℕ). IsIn was.1 (slot_at slots k)) same was.2) was.3), was.3))
     (λ off. (was.0, was.1, in_other slots t x was.1 was.0 off was.2, was.3))

@@ -4,17 +4,21 @@ use Rattle.std.proofs.lemmas.Option.{same_Some}
 use Rattle.std.specs.Prelude.{[], is_ok, IsErr, IsErrAnd, IsTrue, Result, Ok, Err}
 use Rattle.registry_report.specs.Types.{Entry, Record, CorePsref, Refusal, NoMemory, Standing}
 use Rattle.passive_core.specs.Attaching as attaching
-use Rattle.passive_core.specs.Common.{IsAnswer, after_attach_iface, all_seated, IsCounted, after_acquire_local, after_counting, with_count_more, after_release_local, count_refusal, IsRecordOf, psref_to_found, psref_copy, passive_of, refusal_of}
+use Rattle.passive_core.specs.Common.{IsAnswer, after_attach_iface, all_seated, IsCounted, after_acquire_local, after_counting, with_count_more, after_release_local, count_refusal, IsRecordOf}
+use Rattle.passive_core.specs.Common.{psref_to_found, psref_copy, passive_of, refusal_of}
 use Rattle.protocol.specs.Common.{least_id, number_standing, with_local, Holds, State, found_at, local_at}
 use Rattle.registry_values.specs.Common.{is_lawful, Answers, is_iface}
 use Rattle.passive_core.specs.Passives as core
 use Rattle.passive_core.proofs.Passives.{found_slot}
-use Rattle.registry_report.specs.Common.{Hitch, NoLabel, Refused, copy_answer, count_answer, count_of_found, held_answer, command_answer, plug_answer, read_answer, reference_answer, release_answer, uncount_answer, with_label, Leaves, Registry, SessionState, label_answer, with_core, IsSession, Shows, after_plug, with_one_counted, on_ok, on_some, with_attached_iface, with_reference, without_reference, with_one_uncounted}
+use Rattle.registry_report.specs.Common.{Hitch, NoLabel, Refused, copy_answer, count_answer, count_of_found, held_answer, command_answer, plug_answer, read_answer, reference_answer, release_answer}
+use Rattle.registry_report.specs.Common.{uncount_answer, with_label, Leaves, Registry, SessionState, label_answer, with_core, IsSession, Shows, after_plug, with_one_counted, on_ok, on_some}
+use Rattle.registry_report.specs.Common.{with_attached_iface, with_reference, without_reference, with_one_uncounted}
 use Rattle.registry_report.proofs.calls.Changed.{plug_done}
 use Rattle.registry_report.proofs.shows.Counted.{Counts, acquire_local_shows, count_error, label_is, label_none, refuses, release_local_shows, uncount_answers}
 use Rattle.registry_report.proofs.calls.Done.{Does, seen}
 use Rattle.registry_report.proofs.calls.Giving.{gives, leaves}
-use Rattle.registry_report.proofs.shows.Referred.{acquire_shows, at_free_label, at_taken_label, copy_reference_answers, copy_shows, held_answers, number_if, image, read_of, read_reference_answers, read_shows, reference_answers, release_reference_answers, release_shows, seated_shows}
+use Rattle.registry_report.proofs.shows.Referred.{acquire_shows, at_free_label, at_taken_label, copy_reference_answers, copy_shows, held_answers, number_if, image, read_of, read_reference_answers}
+use Rattle.registry_report.proofs.shows.Referred.{read_shows, reference_answers, release_reference_answers, release_shows, seated_shows}
 use Rattle.registry_report.proofs.calls.Sessions.{live_place, new_place}
 use Rattle.protocol.proofs.Either.{either}
 
@@ -52,7 +56,8 @@ pub unanswered : {X : Type 0} (given answer : Result X Hitch) (h : Hitch) (s : S
 unanswered given answer h s r f is on = leaves given s (on_ok r answer f) (subst (λ (a : Result _ Hitch). Shows s (on_ok r a f)) (sym is) on)
 
 -- an answer that is refused gives and leaves nothing
-refused_does : {X : Type 0} (given answer : Result X Hitch) (f : Refusal) (s v : SessionState) (k : State) (r : Registry) (then : X → Registry) → given ≡ Err (Refused f) → answer ≡ Err (Refused f) → k ≡ s.core → Shows s r
+refused_does : {X : Type 0} (given answer : Result X Hitch) (f : Refusal) (s v : SessionState) (k : State) (r : Registry) (then : X → Registry) → given ≡ Err (Refused f) → answer ≡ Err (Refused f)
+    → k ≡ s.core → Shows s r
     → Does given answer (with_core s k) (on_ok r answer then)
 refused_does given answer f s v k r then told is left on =
     (gives given answer (is ∙ sym told), unanswered given answer (Refused f) (with_core s k) r then is (subst (λ (x : State). Shows (with_core s x) r) (sym left) on))
@@ -71,7 +76,8 @@ reference_does s v k r c a p view is on low small free due left =
           (subst (λ (x : State). Shows (record { core = x; passives = set s.passives a (Some p); locals = s.locals }) (with_reference r c a p.number)) (sym left) shows),
     )
 
-pub copy_fails : (s v : SessionState) (k : State) (r : Registry) (c a b : ℕ) (p : CorePsref) (f : Refusal) (given : Result ℕ Hitch) → s ≡ v → Shows v r → get_or s.passives a None ≡ Some p → get_or s.passives b None ≡ None
+pub copy_fails : (s v : SessionState) (k : State) (r : Registry) (c a b : ℕ) (p : CorePsref) (f : Refusal) (given : Result ℕ Hitch) → s ≡ v → Shows v r → get_or s.passives a None ≡ Some p
+    → get_or s.passives b None ≡ None
     → Err f ≡ psref_copy s.core c p.number (refusal_of s.core c p) → k ≡ core.after_acquire s.core c (Err f) → given ≡ Err (Refused f)
     → Does given (copy_answer r c a b) (with_core s k) (on_ok r (copy_answer r c a b) (with_reference r c b))
 copy_fails s v k r c a b p f given view on at free due left told =
@@ -79,7 +85,8 @@ copy_fails s v k r c a b p f given view on at free due left told =
     let answer : copy_answer r c a b ≡ Err (Refused f) = copy_reference_answers s r c a b p sees at free ∙ ap (λ (q : Result CorePsref Refusal). command_answer (number_if q)) (sym due) in
     refused_does given (copy_answer r c a b) f s v k r (with_reference r c b) told answer left sees
 
-pub copy_does : (s v : SessionState) (k : State) (r : Registry) (c a b : ℕ) (p q : CorePsref) → s ≡ v → IsSession s → Shows v r → c < s.core.settings.cpus → b < 26 → get_or s.passives a None ≡ Some p → get_or s.passives b None ≡ None
+pub copy_does : (s v : SessionState) (k : State) (r : Registry) (c a b : ℕ) (p q : CorePsref) → s ≡ v → IsSession s → Shows v r → c < s.core.settings.cpus → b < 26 → get_or s.passives a None ≡ Some p
+    → get_or s.passives b None ≡ None
     → Ok q ≡ psref_copy s.core c p.number (refusal_of s.core c p) → k ≡ core.after_acquire s.core c (Ok q)
     → Does (Ok q.number) (copy_answer r c a b) (record { core = k; passives = set s.passives b (Some q); locals = s.locals }) (on_ok r (copy_answer r c a b) (with_reference r c b))
 copy_does s v k r c a b p q view is on low small at free due left =
@@ -91,10 +98,12 @@ copy_does s v k r c a b p q view is on low small at free due left =
           (subst (λ (x : State). Shows (record { core = x; passives = set s.passives b (Some q); locals = s.locals }) (with_reference r c b q.number)) (sym left) shows),
     )
 
-pub held_gives : (s v : SessionState) (r : Registry) (c a : ℕ) (p : CorePsref) (answer : Bool) → s ≡ v → Shows v r → get_or s.passives a None ≡ Some p → answer ≡ nat_lt 0 (passive_of s.core c p.number) → held_answer r c a ≡ Ok answer
+pub held_gives : (s v : SessionState) (r : Registry) (c a : ℕ) (p : CorePsref) (answer : Bool) → s ≡ v → Shows v r → get_or s.passives a None ≡ Some p
+    → answer ≡ nat_lt 0 (passive_of s.core c p.number) → held_answer r c a ≡ Ok answer
 held_gives s v r c a p answer view on at is = held_answers s r c a p (seen s v r view on) at ∙ ap (λ (b : Bool). Ok b) (sym is)
 
-pub read_gives : (s v : SessionState) (r : Registry) (c a : ℕ) (p : CorePsref) (result : Result Record Refusal) → s ≡ v → Shows v r → get_or s.passives a None ≡ Some p → Answers (refusal_of s.core c p) (IsRecordOf s.core.history p.number) result
+pub read_gives : (s v : SessionState) (r : Registry) (c a : ℕ) (p : CorePsref) (result : Result Record Refusal) → s ≡ v → Shows v r → get_or s.passives a None ≡ Some p
+    → Answers (refusal_of s.core c p) (IsRecordOf s.core.history p.number) result
     → read_answer r c a ≡ command_answer (image (read_of p.number) result)
 read_gives s v r c a p result view on at is = read_reference_answers s r c a p result (seen s v r view on) at is
 
@@ -128,7 +137,8 @@ taken_leaves v r c x id on is at =
     let label = label_is v r x id n.0 on at (ap number_standing n.1) in
     subst (λ (a : Result ℕ Hitch). Shows v (on_ok r a (with_one_counted r c x))) (sym (at_taken_label (r.local_labels x) n.0 (command_answer (count_of_found r c (r.model.found c))) label)) on
 
-pub count_fails : (s v : SessionState) (k : State) (r : Registry) (c x : ℕ) (f : Refusal) (given : Result ℕ Hitch) → s ≡ v → IsSession s → Shows v r → c < s.core.settings.cpus → get_or s.locals x None ≡ None
+pub count_fails : (s v : SessionState) (k : State) (r : Registry) (c x : ℕ) (f : Refusal) (given : Result ℕ Hitch) → s ≡ v → IsSession s → Shows v r → c < s.core.settings.cpus
+    → get_or s.locals x None ≡ None
     → IsCounted s.core (count_refusal s.core c (found_at s.core c)) (Err f) → k ≡ after_acquire_local s.core c (Err f) → given ≡ Err (Refused f)
     → Does given (count_answer r c x) (with_core s k) (on_ok r (count_answer r c x) (with_one_counted r c x))
 count_fails s v k r c x f given view is on low free due left told =
@@ -138,11 +148,13 @@ count_fails s v k r c x f given view is on low free due left told =
     let none : given ≡ Err (Refused NoMemory) = told ∙ ap (λ (g : Refusal). Err (Refused g)) full in
     subst (λ (g : Result ℕ Hitch). Does g (count_answer r c x) (with_core s k) (on_ok r (count_answer r c x) (with_one_counted r c x))) (sym none) (tt, tt))
     (λ why.
-    let answer : count_answer r c x ≡ Err (Refused f) = at_free_label (r.local_labels x) (command_answer (count_of_found r c (r.model.found c))) (label_none s r x sees free) ∙ ap command_answer (refuses s r c f is.holds sees low why) in
+    let answer : count_answer r c x ≡ Err (Refused f) =
+    at_free_label (r.local_labels x) (command_answer (count_of_found r c (r.model.found c))) (label_none s r x sees free) ∙ ap command_answer (refuses s r c f is.holds sees low why) in
     refused_does given (count_answer r c x) f s v k r (with_one_counted r c x) told answer left sees)
 
 -- the place of the new reference says the number found
-new_number : (s k : State) (c id : ℕ) (e : Entry) → Holds s → found_at s c ≡ Some e → id ≡ least_id s.locals → k ≡ after_acquire_local s c (Ok id) → number_standing (local_at k.locals id) ≡ Some e.number
+new_number : (s k : State) (c id : ℕ) (e : Entry) → Holds s → found_at s c ≡ Some e → id ≡ least_id s.locals → k ≡ after_acquire_local s c (Ok id)
+    → number_standing (local_at k.locals id) ≡ Some e.number
 new_number s k c id e holds found least left =
     let at = found_slot s c e holds found in
     let places : k.locals ≡ with_local s.locals (least_id s.locals) (Standing e.number) =
@@ -155,31 +167,41 @@ pub count_does : (s v : SessionState) (k : State) (r : Registry) (c x id n : ℕ
 count_does s v k r c x id n view is on low small free due left live =
     let sees = seen s v r view on in
     let counts : Counts s r c x id = acquire_local_shows s r c x id is sees low (omega (arith, is.local_labels)) due in
-    let answer : count_answer r c x ≡ Ok counts.entry.number = at_free_label (r.local_labels x) (command_answer (count_of_found r c (r.model.found c))) (label_none s r x sees free) ∙ ap command_answer counts.answers in
+    let answer : count_answer r c x ≡ Ok counts.entry.number =
+    at_free_label (r.local_labels x) (command_answer (count_of_found r c (r.model.found c))) (label_none s r x sees free) ∙ ap command_answer counts.answers in
     let shows : Shows (record { core = k; passives = s.passives; locals = set s.locals x (Some id) }) (with_one_counted r c x counts.entry.number) =
     subst (λ (q : State). Shows (record { core = q; passives = s.passives; locals = set s.locals x (Some id) }) (with_one_counted r c x counts.entry.number)) (sym left) counts.shows in
-    let same : counts.entry.number ≡ n = same_Some counts.entry.number n (sym (new_number s.core k c id counts.entry is.holds counts.found due.1 left) ∙ live) in
-    (answer ∙ ap (λ (m : ℕ). Ok m) same, subst (λ (b : Result ℕ Hitch). Shows (record { core = k; passives = s.passives; locals = set s.locals x (Some id) }) (on_ok r b (with_one_counted r c x))) (sym answer) shows)
+    let same : counts.entry.number ≡ n = same_Some counts.entry.number n (sym (new_number s.core k c id counts.entry is.holds counts.found due.1 left) ∙ live) in (
+      answer ∙ ap (λ (m : ℕ). Ok m) same,
+      subst (λ (b : Result ℕ Hitch). Shows (record { core = k; passives = s.passives; locals = set s.locals x (Some id) }) (on_ok r b (with_one_counted r c x))) (sym answer) shows,
+    )
 
 pub peek_leaves : (s v : SessionState) (k : State) (r : Registry) → s ≡ v → Shows v r → k ≡ all_seated s.core → Shows (with_core s k) r
 peek_leaves s v k r view on left = subst (λ (x : State). Shows (with_core s x) r) (sym left) (seated_shows s r (seen s v r view on))
 
-pub uncount_none : (v : SessionState) (r : Registry) (c x : ℕ) (given : Result ℕ Hitch) → Shows v r → get_or v.locals x None ≡ None → Leaves given (Shows v (on_ok r (uncount_answer r x) (with_one_uncounted r c x)))
+pub uncount_none : (v : SessionState) (r : Registry) (c x : ℕ) (given : Result ℕ Hitch) → Shows v r → get_or v.locals x None ≡ None
+    → Leaves given (Shows v (on_ok r (uncount_answer r x) (with_one_uncounted r c x)))
 uncount_none v r c x given on none = unanswered given (uncount_answer r x) NoLabel v r (with_one_uncounted r c x) (ap (λ (o : Option ℕ). with_label o (λ n. Ok n)) (label_none v r x on none)) on
 
-pub uncount_leaves : (s v : SessionState) (k : State) (r : Registry) (c x id n : ℕ) → s ≡ v → IsSession s → Shows v r → c < s.core.settings.cpus → x < 26 → get_or s.locals x None ≡ Some id → number_standing (local_at s.core.locals id) ≡ Some n
+pub uncount_leaves : (s v : SessionState) (k : State) (r : Registry) (c x id n : ℕ) → s ≡ v → IsSession s → Shows v r → c < s.core.settings.cpus → x < 26 → get_or s.locals x None ≡ Some id
+    → number_standing (local_at s.core.locals id) ≡ Some n
     → k ≡ after_release_local s.core c id → Shows (record { core = k; passives = s.passives; locals = set s.locals x None }) (on_ok r (uncount_answer r x) (with_one_uncounted r c x))
 uncount_leaves s v k r c x id n view is on low small at live left =
     let sees = seen s v r view on in
-    subst (λ (b : Result ℕ Hitch). Shows (record { core = k; passives = s.passives; locals = set s.locals x None }) (on_ok r b (with_one_uncounted r c x))) (sym (uncount_answers s r x id n sees at live))
-    (subst (λ (q : State). Shows (record { core = q; passives = s.passives; locals = set s.locals x None }) (with_one_uncounted r c x n)) (sym left) (release_local_shows s r c x id n is sees low (omega (arith, is.local_labels)) at live))
+    subst (λ (b : Result ℕ Hitch). Shows (record { core = k; passives = s.passives; locals = set s.locals x None }) (on_ok r b (with_one_uncounted r c x)))
+    (sym (uncount_answers s r x id n sees at live))
+    (subst (λ (q : State). Shows (record { core = q; passives = s.passives; locals = set s.locals x None }) (with_one_uncounted r c x n)) (sym left)
+    (release_local_shows s r c x id n is sees low (omega (arith, is.local_labels)) at live))
 
 -- Plug
 
-pub plug_none : (v : SessionState) (r : Registry) (c x : ℕ) (rec : Record) (given : Result Entry Hitch) → Shows v r → get_or v.locals x None ≡ None → Leaves given (Shows v (after_plug r c x (plug_answer r c rec x)))
-plug_none v r c x rec given on none = leaves given v (after_plug r c x (plug_answer r c rec x)) (subst (λ (o : Option ℕ). Shows v (on_some r o (λ d. on_ok r (plug_answer r c rec x) (λ e. with_attached_iface r c e x d)))) (sym (label_none v r x on none)) on)
+pub plug_none : (v : SessionState) (r : Registry) (c x : ℕ) (rec : Record) (given : Result Entry Hitch) → Shows v r → get_or v.locals x None ≡ None
+    → Leaves given (Shows v (after_plug r c x (plug_answer r c rec x)))
+plug_none v r c x rec given on none = leaves given v (after_plug r c x (plug_answer r c rec x))
+    (subst (λ (o : Option ℕ). Shows v (on_some r o (λ d. on_ok r (plug_answer r c rec x) (λ e. with_attached_iface r c e x d)))) (sym (label_none v r x on none)) on)
 
-pub plug_fails : (s v : SessionState) (k : State) (r : Registry) (c x id : ℕ) (rec : Record) (f : Refusal) (given : Result Entry Hitch) → s ≡ v → IsSession s → Shows v r → x < 26 → get_or s.locals x None ≡ Some id
+pub plug_fails : (s v : SessionState) (k : State) (r : Registry) (c x id : ℕ) (rec : Record) (f : Refusal) (given : Result Entry Hitch) → s ≡ v → IsSession s → Shows v r → x < 26
+    → get_or s.locals x None ≡ Some id
     → is_iface rec.kind ≡ true → IsTrue (is_lawful rec.name) → IsAnswer (attaching.attach_iface_answer s.core c rec id) (Err f) → k ≡ after_attach_iface s.core c id (Err f) → given ≡ Err (Refused f)
     → Does given (plug_answer r c rec x) (with_core s k) (after_plug r c x (plug_answer r c rec x))
 plug_fails s v k r c x id rec f given view is on small at iface lawful due left told =

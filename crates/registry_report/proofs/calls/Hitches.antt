@@ -47,12 +47,14 @@ pub perform_refused : (s : State) (c : ℕ) → IfErr (perform_answer s c) IsOfP
 perform_refused s c = search (if_refused, waiting_refused)
 
 -- a call that was refused as its command may be
-pub hitch_is : {X : Type 0} (command : Command) (given : Result X Hitch) (result answer : Result X Refusal) → given ≡ command_answer result → result ≡ answer → IfErr answer (λ f. IsHitchOf command (Refused f)) → IfErr given (MayHitch command)
+pub hitch_is : {X : Type 0} (command : Command) (given : Result X Hitch) (result answer : Result X Refusal) → given ≡ command_answer result → result ≡ answer
+    → IfErr answer (λ f. IsHitchOf command (Refused f)) → IfErr given (MayHitch command)
 hitch_is command given result (Ok x) told is h = rw (told ∙ ap command_answer is) tt
 hitch_is command given result (Err f) told is h = rw (told ∙ ap command_answer is) (inr h)
 
 -- the same of a call that may want memory
-pub attach_hitch : (command : Command) (given : Result Entry Hitch) (result answer : Result Entry Refusal) → MayWantMemory command → given ≡ command_answer result → IsAnswer answer result → IfErr answer (λ f. IsHitchOf command (Refused f)) → IfErr given (MayHitch command)
+pub attach_hitch : (command : Command) (given : Result Entry Hitch) (result answer : Result Entry Refusal) → MayWantMemory command → given ≡ command_answer result → IsAnswer answer result
+    → IfErr answer (λ f. IsHitchOf command (Refused f)) → IfErr given (MayHitch command)
 attach_hitch command given result (Ok e) may told (inl is) h = rw (told ∙ ap command_answer is) tt
 attach_hitch command given result (Ok e) may told (inr none) h = rw (told ∙ ap command_answer none) (inl (may, refl))
 attach_hitch command given result (Err f) may told is h = rw (told ∙ ap command_answer is) (inr h)

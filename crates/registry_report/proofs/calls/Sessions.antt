@@ -1,5 +1,6 @@
 -- What keeps the labels of a session right.
-use Rattle.std.proofs.Common.{◌≡◌, ℕ, ◌<◌, ◌⊎◌, inl, inr, zero, suc, List, length, replicate, Bool, true, false, Option, Some, None, if◌then◌else◌, refl, sym, ap, ◌∙◌, arith, length-set, get_or-set_same, get_or-set_other, Ok}
+use Rattle.std.proofs.Common.{◌≡◌, ℕ, ◌<◌, ◌⊎◌, inl, inr, zero, suc, List, length, replicate, Bool, true, false, Option, Some, None, if◌then◌else◌, refl, sym, ap, ◌∙◌, arith, length-set}
+use Rattle.std.proofs.Common.{get_or-set_same, get_or-set_other, Ok}
 use Rattle.std.specs.Prelude.{is_some, slice_index_or, slice_set}
 use Rattle.std.proofs.lemmas.Bool.{cases_eq}
 use Rattle.registry_report.specs.Types.{Entry, LocalPlace, Free, Standing}
@@ -35,11 +36,13 @@ released_locals s c id n b on live =
     let t = live_slot s id n on live in
     rw (slot_is s id n t.0 live t.1) (released_at s c id t.0 b)
 
-counted_at : (s : State) (c : ℕ) (o : Option Entry) → Holds s → found_at s c ≡ o → count_refusal s c o ≡ None → (n : ℕ) × ((after_counting s c o).locals ≡ with_local s.locals (least_id s.locals) (Standing n))
+counted_at : (s : State) (c : ℕ) (o : Option Entry) → Holds s → found_at s c ≡ o → count_refusal s c o ≡ None
+    → (n : ℕ) × ((after_counting s c o).locals ≡ with_local s.locals (least_id s.locals) (Standing n))
 counted_at s c None on is h = let no : ⊥ = cc in absurd no
 counted_at s c (Some e) on is h = let t = found_slot s c e on is in (e.number, rw t.1 refl)
 
-pub counted_locals : (s : State) (c : ℕ) → Holds s → count_refusal s c (found_at s c) ≡ None → (n : ℕ) × ((after_counting s c (found_at s c)).locals ≡ with_local s.locals (least_id s.locals) (Standing n))
+pub counted_locals : (s : State) (c : ℕ) → Holds s → count_refusal s c (found_at s c) ≡ None
+    → (n : ℕ) × ((after_counting s c (found_at s c)).locals ≡ with_local s.locals (least_id s.locals) (Standing n))
 counted_locals s c on h = counted_at s c (found_at s c) on refl h
 
 -- Sessions
@@ -90,7 +93,8 @@ same_places s core on stays same = record {
 }
 
 -- what stands at the label that was written, or at another
-label_cases : (labels : List (Option ℕ)) (x y : ℕ) (o : Option ℕ) → x < length labels → ((y ≡ x) × (slice_index_or (slice_set labels x o) y None ≡ o)) ⊎ ((y ≡ x → ⊥) × (slice_index_or (slice_set labels x o) y None ≡ slice_index_or labels y None))
+label_cases : (labels : List (Option ℕ)) (x y : ℕ) (o : Option ℕ) → x < length labels
+    → ((y ≡ x) × (slice_index_or (slice_set labels x o) y None ≡ o)) ⊎ ((y ≡ x → ⊥) × (slice_index_or (slice_set labels x o) y None ≡ slice_index_or labels y None))
 label_cases labels x y o below = either (cases_eq y x)
     (λ same. inl (same, rw same (get_or-set_same labels x o None below)))
     (λ off. inr (off, get_or-set_other labels x y o None off))
@@ -131,14 +135,17 @@ some_same i j e = cc
 live_at : (s : State) (id j n : ℕ) → id ≡ j → local_at s.locals id ≡ Standing n → is_live_local s j ≡ true
 live_at s id j n same at = ap (λ (k : ℕ). is_some (number_standing (local_at s.locals k))) (sym same) ∙ ap (λ (p : LocalPlace). is_some (number_standing p)) at
 
-pub new_place : (s : SessionState) (core : State) (id n : ℕ) → id ≡ least_id s.core.locals → core.locals ≡ with_local s.core.locals (least_id s.core.locals) (Standing n) → local_at core.locals id ≡ Standing n
-new_place s core id n least is = ap (λ (l : List LocalPlace). local_at l id) is ∙ (ap (local_at (with_local s.core.locals (least_id s.core.locals) (Standing n))) least ∙ with_local_same s.core.locals (least_id s.core.locals) (Standing n) (least_within s.core.locals))
+pub new_place : (s : SessionState) (core : State) (id n : ℕ) → id ≡ least_id s.core.locals → core.locals ≡ with_local s.core.locals (least_id s.core.locals) (Standing n)
+    → local_at core.locals id ≡ Standing n
+new_place s core id n least is = ap (λ (l : List LocalPlace). local_at l id) is
+    ∙ (ap (local_at (with_local s.core.locals (least_id s.core.locals) (Standing n))) least ∙ with_local_same s.core.locals (least_id s.core.locals) (Standing n) (least_within s.core.locals))
 
 pub new_live : (s : SessionState) (core : State) (id n : ℕ) → id ≡ least_id s.core.locals → core.locals ≡ with_local s.core.locals (least_id s.core.locals) (Standing n) → is_live_local core id ≡ true
 new_live s core id n least is = live_at core id id n refl (new_place s core id n least is)
 
 -- the label stands for a new reference
-pub taken_up : (s : SessionState) (core : State) (x id n : ℕ) → IsSession s → Stays s.core core → x < 26 → id ≡ least_id s.core.locals → core.locals ≡ with_local s.core.locals (least_id s.core.locals) (Standing n)
+pub taken_up : (s : SessionState) (core : State) (x id n : ℕ) → IsSession s → Stays s.core core → x < 26 → id ≡ least_id s.core.locals
+    → core.locals ≡ with_local s.core.locals (least_id s.core.locals) (Standing n)
     → IsSession (record { core = core; passives = s.passives; locals = slice_set s.locals x (Some id) })
 taken_up s core x id n on stays low least is =
     let below : x < length s.locals = omega (arith, low, on.local_labels) in

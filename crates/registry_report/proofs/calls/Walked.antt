@@ -7,13 +7,15 @@ use Rattle.passive_core.specs.Entering as core
 use Rattle.protocol.specs.Events as events
 use Rattle.protocol.specs.Common.{Holds}
 use Rattle.protocol.proofs.model.Picturing.{put_here}
-use Rattle.registry_report.specs.Common.{Hitch, NotInside, enter_answer, exit_answer, find_answer, command_answer, is_inside, lookup_now, Gives, Leaves, Registry, SessionState, with_core, Shows, with_section_entered, with_section_exited, with_found, on_ok}
+use Rattle.registry_report.specs.Common.{Hitch, NotInside, enter_answer, exit_answer, find_answer, command_answer, is_inside, lookup_now, Gives, Leaves, Registry, SessionState, with_core, Shows}
+use Rattle.registry_report.specs.Common.{with_section_entered, with_section_exited, with_found, on_ok}
 use Rattle.registry_report.proofs.shows.Attached.{now_is}
 use Rattle.registry_report.proofs.calls.Giving.{gives, leaves}
 use Rattle.registry_report.proofs.shows.Sectioned.{enter_answers, enter_shows, exit_shows, found_shows, inside_is}
 
 pub enter_done : (s : SessionState) (r : Registry) (c : ℕ) (result : Result (Unit {0}) Refusal) → Holds s.core → Shows s r → c < s.core.settings.cpus → result ≡ core.enter_answer s.core c
-    → Gives (command_answer result) (command_answer (enter_answer r c)) × Leaves (command_answer result) (Shows (with_core s (after_enter_command s.core c)) (on_ok r (enter_answer r c) (λ done. with_section_entered r c)))
+    → Gives (command_answer result) (command_answer (enter_answer r c))
+    × Leaves (command_answer result) (Shows (with_core s (after_enter_command s.core c)) (on_ok r (enter_answer r c) (λ done. with_section_entered r c)))
 enter_done s r c result holds on low is = (
   gives (command_answer result) (command_answer (enter_answer r c)) (ap command_answer (sym (enter_answers s r c on) ∙ sym is)),
   leaves (command_answer result) (with_core s (after_enter_command s.core c)) (on_ok r (enter_answer r c) (λ done. with_section_entered r c)) (enter_shows s r c holds on low),
@@ -25,16 +27,22 @@ stays_open r c true in_ = in_
 stays_open r c false in_ = ap is_some (put_here r.model.sections c None)
 
 -- inside one, whether it stays open
-pub exit_inside : (s : SessionState) (r : Registry) (c : ℕ) (stays : Bool) → Holds s.core → Shows s r → c < s.core.settings.cpus → events.is_inside s.core c ≡ true → stays ≡ events.is_inside (after_exit_command s.core c) c
+pub exit_inside : (s : SessionState) (r : Registry) (c : ℕ) (stays : Bool) → Holds s.core → Shows s r → c < s.core.settings.cpus → events.is_inside s.core c ≡ true
+    → stays ≡ events.is_inside (after_exit_command s.core c) c
     → (exit_answer r c ≡ Ok stays) × Shows (with_core s (after_exit_command s.core c)) (on_ok r (exit_answer r c) (with_section_exited r c))
 exit_inside s r c stays holds on low in_ is =
     let shows = exit_shows s r c holds on low in_ in
     let answer : exit_answer r c ≡ Ok (not (r.depths c == 1)) = ap (λ (b : Bool). if b then Ok (not (r.depths c == 1)) else Err NotInside) (inside_is s r c on ∙ in_) in
-    let after : is_inside (with_section_exited r c (not (r.depths c == 1))) c ≡ stays = inside_is (with_core s (after_exit_command s.core c)) (with_section_exited r c (not (r.depths c == 1))) c shows ∙ sym is in
-    (answer ∙ ap (λ (b : Bool). Ok b) (sym (stays_open r c (not (r.depths c == 1)) (inside_is s r c on ∙ in_)) ∙ after), subst (λ (b : Result Bool Hitch). Shows (with_core s (after_exit_command s.core c)) (on_ok r b (with_section_exited r c))) (sym answer) shows)
+    let after : is_inside (with_section_exited r c (not (r.depths c == 1))) c ≡ stays =
+    inside_is (with_core s (after_exit_command s.core c)) (with_section_exited r c (not (r.depths c == 1))) c shows ∙ sym is in (
+      answer ∙ ap (λ (b : Bool). Ok b) (sym (stays_open r c (not (r.depths c == 1)) (inside_is s r c on ∙ in_)) ∙ after),
+      subst (λ (b : Result Bool Hitch). Shows (with_core s (after_exit_command s.core c)) (on_ok r b (with_section_exited r c))) (sym answer) shows,
+    )
 
-pub find_inside : (s : SessionState) (r : Registry) (c : ℕ) (key : Key) (found : Option Entry) → Holds s.core → Shows s r → c < s.core.settings.cpus → events.is_inside s.core c ≡ true → IsLookupNow s.core key found
+pub find_inside : (s : SessionState) (r : Registry) (c : ℕ) (key : Key) (found : Option Entry) → Holds s.core → Shows s r → c < s.core.settings.cpus → events.is_inside s.core c ≡ true
+    → IsLookupNow s.core key found
     → (find_answer r c key ≡ Ok found) × Shows (with_core s (after_find (all_seated s.core) c found)) (on_ok r (find_answer r c key) (with_found r c))
 find_inside s r c key found holds on low in_ is =
-    let answer : find_answer r c key ≡ Ok found = ap (λ (b : Bool). if b then Ok (lookup_now r key) else Err NotInside) (inside_is s r c on ∙ in_) ∙ ap (λ (a : Option Entry). Ok a) (now_is s r key holds on found is) in
+    let answer : find_answer r c key ≡ Ok found =
+    ap (λ (b : Bool). if b then Ok (lookup_now r key) else Err NotInside) (inside_is s r c on ∙ in_) ∙ ap (λ (a : Option Entry). Ok a) (now_is s r key holds on found is) in
     (answer, subst (λ (b : Result (Option Entry) Hitch). Shows (with_core s (after_find (all_seated s.core) c found)) (on_ok r b (with_found r c))) (sym answer) (found_shows s r c found holds on low))

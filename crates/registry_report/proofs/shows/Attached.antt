@@ -1,5 +1,6 @@
 -- Attach, plug and detach: the registry that the session shows answers and changes as the core does.
-use Rattle.std.proofs.Common.{◌≡◌, ℕ, suc, ◌-◌, ◌<◌, inl, inr, List, ◌∷◌, [], length, get_or, set, get_or-set_same, get_or-set_other, Option, Some, None, Bool, true, false, is_some, is_none, ◌&&◌, ◌||◌, refl, sym, ap, ◌∙◌, arith, sum_by}
+use Rattle.std.proofs.Common.{◌≡◌, ℕ, suc, ◌-◌, ◌<◌, inl, inr, List, ◌∷◌, [], length, get_or, set, get_or-set_same, get_or-set_other, Option, Some, None, Bool, true, false, is_some, is_none, ◌&&◌}
+use Rattle.std.proofs.Common.{◌||◌, refl, sym, ap, ◌∙◌, arith, sum_by}
 use Rattle.std.specs.Prelude.{not}
 use Rattle.std.specs.List.{list_any, zip}
 use Rattle.std.proofs.lemmas.Slice.Zip.{length-zip, get_or-zip}
@@ -19,7 +20,8 @@ use Rattle.protocol.proofs.model.Picturing.{put_is}
 use Rattle.protocol.proofs.counts.Sums.{local_changed, none_at, one_at, standing_within}
 use Rattle.protocol.proofs.model.RefiningEntries.{passive_moved}
 use Rattle.registry_values.proofs.Least.{least_agrees}
-use Rattle.registry_report.specs.Common.{lookup, live_entries, is_driver_entry, is_driver_number, attach_iface_answer, is_available, lookup_now, first_fit, room_of, given_entry, attach_answer, Registry, SessionState, with_core, IsSession, Shows, number_at, with_attached, with_reference_kept}
+use Rattle.registry_report.specs.Common.{lookup, live_entries, is_driver_entry, is_driver_number, attach_iface_answer, is_available, lookup_now, first_fit, room_of, given_entry, attach_answer}
+use Rattle.registry_report.specs.Common.{Registry, SessionState, with_core, IsSession, Shows, number_at, with_attached, with_reference_kept}
 use Rattle.registry_report.proofs.Below.{position_is}
 use Rattle.registry_report.proofs.Lookups.{entry_is, lookup_is, one_lookup}
 use Rattle.registry_report.proofs.shows.Published.{published_tallies, attach_counts, attach_follows}
@@ -96,7 +98,8 @@ attach_answers s r c rec holds on = λ i. answers.attach_answer (sym (inside_is 
 -- What an attach leaves
 
 -- passive references to who stands somewhere stay
-published_passive : (s : State) (e : Entry) (c n : ℕ) → Holds s → SlotsShow (after_change s.history (Attach e)) (set s.slots e.slot (Live e)) → e.slot < length s.slots → slot_at s.slots e.slot ≡ Vacant
+published_passive : (s : State) (e : Entry) (c n : ℕ) → Holds s → SlotsShow (after_change s.history (Attach e)) (set s.slots e.slot (Live e)) → e.slot < length s.slots
+    → slot_at s.slots e.slot ≡ Vacant
     → passive_in s.passive c (slot_of s.slots n) ≡ passive_in s.passive c (slot_of (set s.slots e.slot (Live e)) n)
 published_passive s e c n on later lt vacant = passive_moved s.history (after_change s.history (Attach e)) s.slots (set s.slots e.slot (Live e)) s.passive c n on.slots later
     (λ u at. inl (at.0, in_other s.slots e.slot (Live e) at.0 u (λ same. not_vacant at.0 (slot_at s.slots u) (ap (slot_at s.slots) same ∙ vacant) at.1) at.1, at.2))
@@ -105,7 +108,8 @@ published_passive s e c n on later lt vacant = passive_moved s.history (after_ch
     (λ old. inl (at.0, old, at.2)))
 
 -- an entry is linked in a vacant slot, under the next number
-pub linked_shows : (s : SessionState) (r : Registry) (c : ℕ) (e : Entry) → Holds s.core → Holds (with_linked s.core c e) → Shows s r → e.slot < length s.core.slots → slot_at s.core.slots e.slot ≡ Vacant → e.number ≡ suc (length s.core.history)
+pub linked_shows : (s : SessionState) (r : Registry) (c : ℕ) (e : Entry) → Holds s.core → Holds (with_linked s.core c e) → Shows s r → e.slot < length s.core.slots
+    → slot_at s.core.slots e.slot ≡ Vacant → e.number ≡ suc (length s.core.history)
     → Shows (with_core s (with_linked s.core c e)) (with_attached r c e)
 linked_shows s r c e holds later on lt vacant number = record {
   settings = on.settings;
@@ -124,7 +128,8 @@ linked_shows s r c e holds later on lt vacant number = record {
   live = attach_counts s.core.history s.core.slots e lt vacant on.live;
   grace = attach_follows s.core.history s.core.slots s.core.marks s.core.section s.core.begins e lt vacant on.grace;
   tallies = published_tallies s.core.settings.cpus s.core.history s.core.slots s.core.counts s.core.nets s.core.totals r.acquired r.released r.given_up r.is_collected e
-      (ranges s.core.settings holds.fit).cpus lt (omega (arith, holds.shape.slots, holds.shape.counts)) (omega (arith, holds.shape.slots, holds.shape.nets)) vacant number (holds.balance.vacant e.slot lt vacant) on.tallies;
+      (ranges s.core.settings holds.fit).cpus lt (omega (arith, holds.shape.slots, holds.shape.counts)) (omega (arith, holds.shape.slots, holds.shape.nets)) vacant number
+      (holds.balance.vacant e.slot lt vacant) on.tallies;
   labels = on.labels;
 }
 
@@ -147,7 +152,8 @@ driver_is s r id n holds on at =
     ap (λ (p : LocalPlace). core.is_driver_number s.core.slots (events.number_standing p)) at
     ∙ (driver_at s.core n holds (holds.references.standing id n at) ∙ ap (λ (h : List Change). is_driver_number h n) (sym on.model.history))
 
-pub attach_iface_answers : (s : SessionState) (r : Registry) (c : ℕ) (rec : Record) (id n : ℕ) → Holds s.core → Shows s r → local_at s.core.locals id ≡ Standing n → core.attach_iface_answer s.core c rec id ≡ attach_iface_answer r c rec n
+pub attach_iface_answers : (s : SessionState) (r : Registry) (c : ℕ) (rec : Record) (id n : ℕ) → Holds s.core → Shows s r → local_at s.core.locals id ≡ Standing n
+    → core.attach_iface_answer s.core c rec id ≡ attach_iface_answer r c rec n
 attach_iface_answers s r c rec id n holds on at = λ i. answers.attach_answer (sym (inside_is s r c on) i) (not (driver_is s r id n holds on at i)) (given_is s r rec holds on i)
 
 -- a label's reference is gone with its place, and the others stand
@@ -163,8 +169,10 @@ label_gone s r x id is on small at = put_is r.local_labels (λ y. number_at (set
     others y off (Some j) there = ap events.number_standing (sym (get_or-set_other s.core.locals id j Free Free (λ (same : j ≡ id). off (is.apart y x id (there ∙ ap (λ (k : ℕ). Some k) same) at))))
 
 -- the slot took the reference over
-pub keeping_shows : (s : SessionState) (r : Registry) (t x id n : ℕ) → IsSession s → Shows s r → t < s.core.settings.slots → x < 26 → get_or s.locals x None ≡ Some id → local_at s.core.locals id ≡ Standing n
-    → Shows (record s { core = core.with_reference_kept (all_seated s.core) t id; locals = set s.locals x None }) (record r { model = with_reference_kept r.model t n; local_labels = put r.local_labels x None })
+pub keeping_shows : (s : SessionState) (r : Registry) (t x id n : ℕ) → IsSession s → Shows s r → t < s.core.settings.slots → x < 26 → get_or s.locals x None ≡ Some id
+    → local_at s.core.locals id ≡ Standing n
+    → Shows (record s { core = core.with_reference_kept (all_seated s.core) t id; locals = set s.locals x None })
+    (record r { model = with_reference_kept r.model t n; local_labels = put r.local_labels x None })
 keeping_shows s r t x id n is on low small at place = assumption (
   put_is r.model.locals (λ m. sum_by (standing_of m) (set s.core.locals id Free)) n (r.model.locals n - 1)
       (omega (arith, on.model.counted n, local_changed n s.core.locals id (Standing n) Free (standing_within s.core.locals id n place) place, one_at n n refl))

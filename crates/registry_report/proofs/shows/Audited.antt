@@ -35,7 +35,8 @@ net_by s r t c e false is on in_ lt at =
     let some = is.holds.balance.used c t e lt in_ in
     used_word (count_at s.core.counts c t) (omega (arith, word, some)) ∙ omega (arith, ints, word, net)
 
-pub locals_are : (s : SessionState) (r : Registry) (t : ℕ) (e : Entry) → IsSession s → Shows s r → IsIn e (slot_at s.core.slots t) → core.locals_at s.core t ≡ list_below (net_count r e.number) r.settings.cpus
+pub locals_are : (s : SessionState) (r : Registry) (t : ℕ) (e : Entry) → IsSession s → Shows s r → IsIn e (slot_at s.core.slots t)
+    → core.locals_at s.core t ≡ list_below (net_count r e.number) r.settings.cpus
 locals_are s r t e is on in_ =
     row_below local_of (net_count r e.number) (get_or s.core.counts t []) s.core.settings.cpus (long s.core.settings.cpus refl) (λ c lt. net_by s r t c e (r.is_collected e.number) is on in_ lt refl)
     ∙ ap (λ z. list_below (net_count r e.number) z.cpus) (sym on.settings)
@@ -73,7 +74,8 @@ tallies_are : (s : SessionState) (r : Registry) (n : ℕ) → IsSession s → Sh
 tallies_are s r zero is on = refl
 tallies_are s r (suc t) is on =
     let before = tallies_are s r t is on in
-    let here : core.tallies_at s.core t (slot_at s.core.slots t) ≡ tallies_in r t (r.model.occupants t) = slot_tallies s r t (slot_at s.core.slots t) is on refl ∙ ap (tallies_in r t) (sym (on.model.occupants t)) in
+    let here : core.tallies_at s.core t (slot_at s.core.slots t) ≡ tallies_in r t (r.model.occupants t) =
+    slot_tallies s r t (slot_at s.core.slots t) is on refl ∙ ap (tallies_in r t) (sym (on.model.occupants t)) in
     λ i. before i ++ here i
 
 -- The answers of an audit are the same.

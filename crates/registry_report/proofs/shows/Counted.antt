@@ -1,12 +1,14 @@
 -- Local references: the registry that the session shows answers and changes as the core does.
-use Rattle.std.proofs.Common.{◌≡◌, ℕ, ◌+◌, ◌-◌, ◌<◌, ◌≤◌, ◌⊎◌, inl, inr, List, [], length, get_or, set, get_or-set_same, get_or-set_other, Option, Some, None, Bool, true, false, not, is_some, nat_lt, refl, sym, ap, subst, ◌∙◌, arith, sum_by}
+use Rattle.std.proofs.Common.{◌≡◌, ℕ, ◌+◌, ◌-◌, ◌<◌, ◌≤◌, ◌⊎◌, inl, inr, List, [], length, get_or, set, get_or-set_same, get_or-set_other, Option, Some, None, Bool, true, false, not, is_some, nat_lt}
+use Rattle.std.proofs.Common.{refl, sym, ap, subst, ◌∙◌, arith, sum_by}
 use Rattle.std.specs.Prelude.{if◌then◌else◌, Result, Ok, Err}
 use Rattle.std.proofs.lemmas.Bool.{cases_Bool, cases_eq, lt-ltb, le-ltb}
 use Rattle.std.proofs.lemmas.Option.{none-some}
 use Rattle.registry_report.specs.Types.{Entry, Refusal, NoMemory, NothingFound, LocalPlace, Free, Standing}
 use Rattle.protocol.specs.Common.{State, count_at, found_at, local_at, total_at, with_cell, least_id, number_standing, with_local, Holds, IsIn, SlotsShow, standing_of, put, with_locals}
 use Rattle.registry_values.specs.Common.{bias, slot_at, slot_of}
-use Rattle.passive_core.specs.Common.{all_seated, IsCounted, after_acquire_local, after_counting, after_release_local, count_in, count_refusal, is_counting, local_slot, with_count_less, with_count_more, with_total_less}
+use Rattle.passive_core.specs.Common.{all_seated, IsCounted, after_acquire_local, after_counting, after_release_local, count_in, count_refusal, is_counting, local_slot, with_count_less}
+use Rattle.passive_core.specs.Common.{with_count_more, with_total_less}
 use Rattle.protocol.proofs.slots.Cells.{by_cell, cell_here, cell_other, one_in}
 use Rattle.protocol.proofs.keeps.CountKeeps.{held_counting}
 use Rattle.registry_values.proofs.Answers.{uncounted_alike}
@@ -20,7 +22,8 @@ use Rattle.protocol.proofs.model.Picturing.{put_here, put_is, put_other}
 use Rattle.protocol.proofs.keeps.References.{least_free, least_within, standing_tells, with_local_other, with_local_same}
 use Rattle.protocol.proofs.counts.Sums.{local_added, local_changed, none_at, one_at, standing_within}
 use Rattle.registry_values.specs.Answers as answers
-use Rattle.registry_report.specs.Common.{count_of_found, uncount_answer, unless, why_uncounted, with_label, Registry, IsSession, SessionState, Shows, ShowsTallies, number_at, with_one_counted, put_at, with_one_uncounted}
+use Rattle.registry_report.specs.Common.{count_of_found, uncount_answer, unless, why_uncounted, with_label, Registry, IsSession, SessionState, Shows, ShowsTallies, number_at, with_one_counted, put_at}
+use Rattle.registry_report.specs.Common.{with_one_uncounted}
 use Rattle.protocol.proofs.Either.{either}
 
 -- In general
@@ -79,7 +82,8 @@ stands_there {s} {c} {n} {t} has show u f at same = (one_number s.history s.slot
 abbrev Tallied : State → (ℕ → ℕ → ℕ) → (ℕ → ℕ → ℕ) → (ℕ → ℕ) → (ℕ → Bool) → Type 0
 Tallied s acquired released given_up is_collected = ShowsTallies s.settings.cpus s.history s.slots s.counts s.nets s.totals acquired released given_up is_collected
 
-net_is : (s : State) (c n t : ℕ) (acquired released : ℕ → ℕ → ℕ) (given_up : ℕ → ℕ) (is_collected : ℕ → Bool) → c < s.settings.cpus → HasWords s c n t → Tallied s acquired released given_up is_collected
+net_is : (s : State) (c n t : ℕ) (acquired released : ℕ → ℕ → ℕ) (given_up : ℕ → ℕ) (is_collected : ℕ → Bool) → c < s.settings.cpus → HasWords s c n t
+    → Tallied s acquired released given_up is_collected
     → count_at s.nets c t + released c n ≡ bias + acquired c n
 net_is s c n t acquired released given_up is_collected low has on = subst (λ (m : ℕ). count_at s.nets c t + released c m ≡ bias + acquired c m) has.numbered (on.net t c has.entry has.there low)
 
@@ -101,7 +105,8 @@ recounted s c n t v w acquired released acquired_now released_now given_up is_co
           (λ off at low.
           let away : d ≡ c → f.number ≡ n → ⊥ = λ here is. off (stands_there has show u f at is) here in
           omega (arith, cell_other 0 s.nets t c w u d off, now.acquired_else d f.number away, now.released_else d f.number away, on.net u d f at low));
-      word = λ u d f. by_cell (λ u d. IsIn f (slot_at s.slots u) → d < s.settings.cpus → is_collected f.number ≡ false → count_at (with_cell s.counts t c v) d u ≡ count_at (with_cell s.nets t c w) d u) t c u d
+      word = λ u d f. by_cell (λ u d. IsIn f (slot_at s.slots u) → d < s.settings.cpus → is_collected f.number ≡ false
+          → count_at (with_cell s.counts t c v) d u ≡ count_at (with_cell s.nets t c w) d u) t c u d
           (λ at low dry. count_now ∙ (same ∙ sym net_now))
           (λ off at low dry. cell_other 0 s.counts t c v u d off ∙ (on.word u d f at low dry ∙ sym (cell_other 0 s.nets t c w u d off)));
       total = on.total;
@@ -226,10 +231,12 @@ labels_added places ids labels x n within live shows =
     ∙ ap (number_at now) (sym (get_or-set_other ids x y (Some (least_id places)) None off))))
 
 -- another label's reference stays where this one's is given up
-stays_removed : (places : List LocalPlace) (ids : List (Option ℕ)) (x id y k : ℕ) → get_or ids x None ≡ Some id → AreApart ids → (y ≡ x → ⊥) → get_or ids y None ≡ Some k → local_at (set places id Free) k ≡ local_at places k
+stays_removed : (places : List LocalPlace) (ids : List (Option ℕ)) (x id y k : ℕ) → get_or ids x None ≡ Some id → AreApart ids → (y ≡ x → ⊥) → get_or ids y None ≡ Some k
+    → local_at (set places id Free) k ≡ local_at places k
 stays_removed places ids x id y k here apart off at = get_or-set_other places id k Free Free (λ same. off (apart y x id (at ∙ ap (λ (j : ℕ). Some j) same) here))
 
-labels_removed : (places : List LocalPlace) (ids : List (Option ℕ)) (labels : ℕ → Option ℕ) (x id : ℕ) → x < length ids → get_or ids x None ≡ Some id → AreApart ids → ((y : ℕ) → labels y ≡ number_at places (get_or ids y None))
+labels_removed : (places : List LocalPlace) (ids : List (Option ℕ)) (labels : ℕ → Option ℕ) (x id : ℕ) → x < length ids → get_or ids x None ≡ Some id → AreApart ids
+    → ((y : ℕ) → labels y ≡ number_at places (get_or ids y None))
     → (y : ℕ) → put labels x None y ≡ number_at (set places id Free) (get_or (set ids x None) y None)
 labels_removed places ids labels x id within here apart shows = put_is labels (λ y. number_at (set places id Free) (get_or (set ids x None) y None)) x None
     (sym (ap (number_at (set places id Free)) (get_or-set_same ids x None None within)))
@@ -239,7 +246,8 @@ labels_removed places ids labels x id within here apart shows = put_is labels (�
 -- What is left
 
 -- counts, totals, live references and their labels change
-changed : (s : SessionState) (r : Registry) (counts nets : List (List ℕ)) (totals : List ℕ) (places : List LocalPlace) (ids : List (Option ℕ)) (n k : ℕ) (acquired released : ℕ → ℕ → ℕ) (given_up : ℕ → ℕ) (labels : ℕ → Option ℕ)
+changed : (s : SessionState) (r : Registry) (counts nets : List (List ℕ)) (totals : List ℕ) (places : List LocalPlace) (ids : List (Option ℕ)) (n k : ℕ) (acquired released : ℕ → ℕ → ℕ)
+    (given_up : ℕ → ℕ) (labels : ℕ → Option ℕ)
     → Shows s r → ((m : ℕ) → put r.model.locals n k m ≡ sum_by (standing_of m) places)
     → Tallied (record s.core { counts = counts; nets = nets; totals = totals }) acquired released given_up r.is_collected
     → ((y : ℕ) → labels y ≡ number_at places (get_or ids y None))
@@ -248,19 +256,22 @@ changed : (s : SessionState) (r : Registry) (counts nets : List (List ℕ)) (tot
 changed s r counts nets totals places ids n k acquired released given_up labels on number_standing tallies stand = assumption
 
 -- what a CPU has found isn't collected: its word for it still counts
-found_uncollected : (s : SessionState) (r : Registry) (c t : ℕ) (e : Entry) → Holds s.core → Shows s r → c < s.core.settings.cpus → found_at s.core c ≡ Some e → slot_of s.core.slots e.number ≡ Some t → r.is_collected e.number ≡ false
+found_uncollected : (s : SessionState) (r : Registry) (c t : ℕ) (e : Entry) → Holds s.core → Shows s r → c < s.core.settings.cpus → found_at s.core c ≡ Some e → slot_of s.core.slots e.number ≡ Some t
+    → r.is_collected e.number ≡ false
 found_uncollected s r c t e holds on low found of =
     let is = held_counting s.core c t e holds found of in
     let some = (holds.balance.counted c t low is.1).1 in
     either (cases_Bool (r.is_collected e.number)) (λ dry. absurd (omega (arith, some, on.tallies.collected t c e is.0 dry))) (λ live. live)
 
 -- the sum of the live references with one more
-more_standing : (s : SessionState) (r : Registry) (n : ℕ) → Shows s r → (m : ℕ) → put r.model.locals n (r.model.locals n + 1) m ≡ sum_by (standing_of m) (with_local s.core.locals (least_id s.core.locals) (Standing n))
+more_standing : (s : SessionState) (r : Registry) (n : ℕ) → Shows s r → (m : ℕ)
+    → put r.model.locals n (r.model.locals n + 1) m ≡ sum_by (standing_of m) (with_local s.core.locals (least_id s.core.locals) (Standing n))
 more_standing s r n on = put_is r.model.locals (λ m. sum_by (standing_of m) (with_local s.core.locals (least_id s.core.locals) (Standing n))) n (r.model.locals n + 1)
     (omega (arith, on.model.counted n, local_added n s.core.locals (Standing n), one_at n n refl))
     (λ m off. omega (arith, on.model.counted m, local_added m s.core.locals (Standing n), none_at n m (λ same. off (sym same))))
 
-less_standing : (s : SessionState) (r : Registry) (id n : ℕ) → Shows s r → local_at s.core.locals id ≡ Standing n → (m : ℕ) → put r.model.locals n (r.model.locals n - 1) m ≡ sum_by (standing_of m) (set s.core.locals id Free)
+less_standing : (s : SessionState) (r : Registry) (id n : ℕ) → Shows s r → local_at s.core.locals id ≡ Standing n → (m : ℕ)
+    → put r.model.locals n (r.model.locals n - 1) m ≡ sum_by (standing_of m) (set s.core.locals id Free)
 less_standing s r id n on at =
     let within = standing_within s.core.locals id n at in
     put_is r.model.locals (λ m. sum_by (standing_of m) (set s.core.locals id Free)) n (r.model.locals n - 1)
@@ -278,7 +289,8 @@ more_shows s r c x n t session on low within of live =
     (with_local s.core.locals (least_id s.core.locals) (Standing n)) (set s.locals x (Some (least_id s.core.locals))) n (r.model.locals n + 1)
     (put_at r.acquired c n (r.acquired c n + 1)) r.released r.given_up (put r.local_labels x (Some n)) on
     (more_standing s r n on)
-    (recounted s.core c n t (count_at s.core.counts c t + 1) (count_at s.core.nets c t + 1) r.acquired r.released (put_at r.acquired c n (r.acquired c n + 1)) r.released r.given_up r.is_collected session.holds.slots has live
+    (recounted s.core c n t (count_at s.core.counts c t + 1) (count_at s.core.nets c t + 1) r.acquired r.released
+    (put_at r.acquired c n (r.acquired c n + 1)) r.released r.given_up r.is_collected session.holds.slots has live
     (ap (λ (k : ℕ). k + 1) word)
     (record {
       net = omega (arith, net, put_at_here r.acquired c n (r.acquired c n + 1));
@@ -319,12 +331,14 @@ acquire_local_shows s r c x id session on low within is =
 -- Releases
 
 -- c's word counts a live reference's entry just until that is collected
-counting_by : (s : SessionState) (r : Registry) (c n t : ℕ) (b : Bool) → Holds s.core → Shows s r → c < s.core.settings.cpus → HasWords s.core c n t → r.is_collected n ≡ b → nat_lt 0 (count_at s.core.counts c t) ≡ not b
+counting_by : (s : SessionState) (r : Registry) (c n t : ℕ) (b : Bool) → Holds s.core → Shows s r → c < s.core.settings.cpus → HasWords s.core c n t → r.is_collected n ≡ b
+    → nat_lt 0 (count_at s.core.counts c t) ≡ not b
 counting_by s r c n t true holds on low has dry = le-ltb 0 (count_at s.core.counts c t) (omega (arith, on.tallies.collected t c has.entry has.there (ap r.is_collected has.numbered ∙ dry)))
 counting_by s r c n t false holds on low has live = lt-ltb 0 (count_at s.core.counts c t)
     (omega (arith, on.tallies.word t c has.entry has.there low (ap r.is_collected has.numbered ∙ live), holds.balance.used c t has.entry low has.there))
 
-pub counting_is : (s : SessionState) (r : Registry) (c id n : ℕ) → Holds s.core → Shows s r → c < s.core.settings.cpus → number_standing (local_at s.core.locals id) ≡ Some n → is_counting s.core c (local_slot s.core id) ≡ not (r.is_collected n)
+pub counting_is : (s : SessionState) (r : Registry) (c id n : ℕ) → Holds s.core → Shows s r → c < s.core.settings.cpus → number_standing (local_at s.core.locals id) ≡ Some n
+    → is_counting s.core c (local_slot s.core id) ≡ not (r.is_collected n)
 counting_is s r c id n holds on low live =
     let at = live_slot s.core id n holds live in
     ap (is_counting s.core c) (slot_is s.core id n at.0 live at.1)
@@ -339,7 +353,8 @@ uncounted_by b r c x n = record r {
   local_labels = put r.local_labels x None;
 }
 
-own_shows : (s : SessionState) (r : Registry) (c x id n t : ℕ) → IsSession s → Shows s r → c < s.core.settings.cpus → x < length s.locals → get_or s.locals x None ≡ Some id → local_at s.core.locals id ≡ Standing n → slot_of s.core.slots n ≡ Some t
+own_shows : (s : SessionState) (r : Registry) (c x id n t : ℕ) → IsSession s → Shows s r → c < s.core.settings.cpus → x < length s.locals → get_or s.locals x None ≡ Some id
+    → local_at s.core.locals id ≡ Standing n → slot_of s.core.slots n ≡ Some t
     → r.is_collected n ≡ false → Shows (record s { core = with_count_less (all_seated s.core) c id (Some t); locals = set s.locals x None }) (uncounted_by false r c x n)
 own_shows s r c x id n t session on low within label at of live =
     let has = has_words s.core c n t session.holds low of in
@@ -350,7 +365,8 @@ own_shows s r c x id n t session on low within label at of live =
     (set s.core.locals id Free) (set s.locals x None) n (r.model.locals n - 1)
     r.acquired (put_at r.released c n (r.released c n + 1)) r.given_up (put r.local_labels x None) on
     (less_standing s r id n on at)
-    (recounted s.core c n t (count_at s.core.counts c t - 1) (count_at s.core.nets c t - 1) r.acquired r.released r.acquired (put_at r.released c n (r.released c n + 1)) r.given_up r.is_collected session.holds.slots has live
+    (recounted s.core c n t (count_at s.core.counts c t - 1) (count_at s.core.nets c t - 1) r.acquired r.released r.acquired
+    (put_at r.released c n (r.released c n + 1)) r.given_up r.is_collected session.holds.slots has live
     (ap (λ (k : ℕ). k - 1) word)
     (record {
       net = omega (arith, net, used, put_at_here r.released c n (r.released c n + 1));
@@ -361,7 +377,8 @@ own_shows s r c x id n t session on low within label at of live =
     (labels_removed s.core.locals s.locals r.local_labels x id within label session.apart on.labels.local)
 
 -- the total of a collected entry is one less
-interlock_shows : (s : SessionState) (r : Registry) (c x id n t : ℕ) → IsSession s → Shows s r → c < s.core.settings.cpus → x < length s.locals → get_or s.locals x None ≡ Some id → local_at s.core.locals id ≡ Standing n → slot_of s.core.slots n ≡ Some t
+interlock_shows : (s : SessionState) (r : Registry) (c x id n t : ℕ) → IsSession s → Shows s r → c < s.core.settings.cpus → x < length s.locals → get_or s.locals x None ≡ Some id
+    → local_at s.core.locals id ≡ Standing n → slot_of s.core.slots n ≡ Some t
     → r.is_collected n ≡ true → Shows (record s { core = with_total_less (all_seated s.core) id (Some t); locals = set s.locals x None }) (uncounted_by true r c x n)
 interlock_shows s r c x id n t session on low within label at of dry =
     let has = has_words s.core c n t session.holds low of in
@@ -372,14 +389,17 @@ interlock_shows s r c x id n t session on low within label at of dry =
     (given s.core c n t (total_at s.core.totals t - 1) r.acquired r.released r.given_up r.is_collected session.holds.slots has dry on.tallies)
     (labels_removed s.core.locals s.locals r.local_labels x id within label session.apart on.labels.local)
 
-less_by : (s : SessionState) (r : Registry) (c x id n t : ℕ) (b : Bool) → IsSession s → Shows s r → c < s.core.settings.cpus → x < length s.locals → get_or s.locals x None ≡ Some id → local_at s.core.locals id ≡ Standing n → slot_of s.core.slots n ≡ Some t
+less_by : (s : SessionState) (r : Registry) (c x id n t : ℕ) (b : Bool) → IsSession s → Shows s r → c < s.core.settings.cpus → x < length s.locals → get_or s.locals x None ≡ Some id
+    → local_at s.core.locals id ≡ Standing n → slot_of s.core.slots n ≡ Some t
     → r.is_collected n ≡ b
-    → Shows (record s { core = if not b then with_count_less (all_seated s.core) c id (Some t) else with_total_less (all_seated s.core) id (Some t); locals = set s.locals x None }) (uncounted_by b r c x n)
+    → Shows (record s { core = if not b then with_count_less (all_seated s.core) c id (Some t) else with_total_less (all_seated s.core) id (Some t); locals = set s.locals x None })
+    (uncounted_by b r c x n)
 less_by s r c x id n t true session on low within label at of is = interlock_shows s r c x id n t session on low within label at of is
 less_by s r c x id n t false session on low within label at of is = own_shows s r c x id n t session on low within label at of is
 
 -- what a release leaves
-pub release_local_shows : (s : SessionState) (r : Registry) (c x id n : ℕ) → IsSession s → Shows s r → c < s.core.settings.cpus → x < length s.locals → get_or s.locals x None ≡ Some id → number_standing (local_at s.core.locals id) ≡ Some n
+pub release_local_shows : (s : SessionState) (r : Registry) (c x id n : ℕ) → IsSession s → Shows s r → c < s.core.settings.cpus → x < length s.locals → get_or s.locals x None ≡ Some id
+    → number_standing (local_at s.core.locals id) ≡ Some n
     → Shows (record s { core = after_release_local s.core c id; locals = set s.locals x None }) (with_one_uncounted r c x n)
 release_local_shows s r c x id n session on low within label live =
     let of = live_slot s.core id n session.holds live in

@@ -21,7 +21,8 @@ by_published P slots e t f lt vacant is new old = either (in_published slots e.s
     (λ there. old (λ same. not_vacant f (slot_at slots t) (ap (slot_at slots) same ∙ vacant) there) there)
 
 -- a retired entry stood there before an attach
-retired_before : (slots : List Slot) (e : Entry) (t : ℕ) (f : Entry) → e.slot < length slots → slot_at slots e.slot ≡ Vacant → slot_at (set slots e.slot (Live e)) t ≡ Retired f → slot_at slots t ≡ Retired f
+retired_before : (slots : List Slot) (e : Entry) (t : ℕ) (f : Entry) → e.slot < length slots → slot_at slots e.slot ≡ Vacant → slot_at (set slots e.slot (Live e)) t ≡ Retired f
+    → slot_at slots t ≡ Retired f
 retired_before slots e t f lt vacant is = either (slot_cases slots e.slot (Live e) t lt)
     (λ here. absurd (let q : Live e ≡ Retired f = sym here.1 ∙ is in cc))
     (λ there. sym there.1 ∙ is)
@@ -31,20 +32,24 @@ pub biases_at : (cpus c : ℕ) (row : List ℕ) → c < cpus → get_or (with_bi
 biases_at cpus c row lt = get_or_append_left (replicate cpus bias) (drop cpus row) 0 c (omega (arith, length-replicate cpus bias)) ∙ get_or-replicate cpus c bias 0 lt
 
 -- the net counts of a new entry are those of none
-pub published_tallies : (cpus : ℕ) (h : List Change) (slots : List Slot) (counts nets : List (List ℕ)) (totals : List ℕ) (acquired released : ℕ → ℕ → ℕ) (given_up : ℕ → ℕ) (is_collected : ℕ → Bool) (e : Entry)
+pub published_tallies : (cpus : ℕ) (h : List Change) (slots : List Slot) (counts nets : List (List ℕ)) (totals : List ℕ) (acquired released : ℕ → ℕ → ℕ) (given_up : ℕ → ℕ) (is_collected : ℕ → Bool)
+    (e : Entry)
     → cpus ≤ MOST_CPUS → e.slot < length slots → length counts ≡ length slots → length nets ≡ length slots → slot_at slots e.slot ≡ Vacant → e.number ≡ suc (length h) → total_at totals e.slot ≡ bias
     → ShowsTallies cpus h slots counts nets totals acquired released given_up is_collected
-    → ShowsTallies cpus (after_change h (Attach e)) (set slots e.slot (Live e)) (set counts e.slot (with_biases cpus (get_or counts e.slot []))) (set nets e.slot (replicate MOST_CPUS bias)) totals acquired released given_up is_collected
+    → ShowsTallies cpus (after_change h (Attach e)) (set slots e.slot (Live e)) (set counts e.slot (with_biases cpus (get_or counts e.slot [])))
+    (set nets e.slot (replicate MOST_CPUS bias)) totals acquired released given_up is_collected
 published_tallies cpus h slots counts nets totals acquired released given_up is_collected e few lt counts_size nets_size vacant number unused on =
     let row = with_biases cpus (get_or counts e.slot []) in
     let fresh : IsFresh acquired released given_up is_collected e.number = on.fresh e.number (omega arith) in
     let counted : (c : ℕ) → c < cpus → count_at (set counts e.slot row) c e.slot ≡ bias = λ c low. cell_in_new 0 counts e.slot row c (omega arith) ∙ biases_at cpus c (get_or counts e.slot []) low in
-    let net : (c : ℕ) → c < cpus → count_at (set nets e.slot (replicate MOST_CPUS bias)) c e.slot ≡ bias = λ c low. cell_in_new 0 nets e.slot (replicate MOST_CPUS bias) c (omega arith) ∙ get_or-replicate MOST_CPUS c bias 0 (omega arith) in
+    let net : (c : ℕ) → c < cpus → count_at (set nets e.slot (replicate MOST_CPUS bias)) c e.slot ≡ bias =
+    λ c low. cell_in_new 0 nets e.slot (replicate MOST_CPUS bias) c (omega arith) ∙ get_or-replicate MOST_CPUS c bias 0 (omega arith) in
     record {
       net = λ t c f is low. by_published (λ u g. count_at (set nets e.slot (replicate MOST_CPUS bias)) c u + released c g.number ≡ bias + acquired c g.number) slots e t f lt vacant is
           (omega (arith, net c low, fresh.unreleased c, fresh.unacquired c))
           (λ off was. ap (λ (w : ℕ). w + released c f.number) (cell_in_old 0 nets e.slot (replicate MOST_CPUS bias) t c off) ∙ on.net t c f was low);
-      word = λ t c f is low. by_published (λ u g. is_collected g.number ≡ false → count_at (set counts e.slot row) c u ≡ count_at (set nets e.slot (replicate MOST_CPUS bias)) c u) slots e t f lt vacant is
+      word = λ t c f is low. by_published (λ u g. is_collected g.number ≡ false → count_at (set counts e.slot row) c u ≡ count_at (set nets e.slot (replicate MOST_CPUS bias)) c u) slots e t f lt
+          vacant is
           (λ uncollected. counted c low ∙ sym (net c low))
           (λ off was uncollected. cell_in_old 0 counts e.slot row t c off ∙ (on.word t c f was low uncollected ∙ sym (cell_in_old 0 nets e.slot (replicate MOST_CPUS bias) t c off)));
       total = λ t f is. by_published (λ u g. is_collected g.number ≡ false → total_at totals u + given_up g.number ≡ bias) slots e t f lt vacant is
@@ -57,7 +62,8 @@ published_tallies cpus h slots counts nets totals acquired released given_up is_
     }
 
 -- what stood there is what stands there, once an entry is retired
-pub retired_tallies : (cpus : ℕ) (h : List Change) (slots : List Slot) (counts nets : List (List ℕ)) (totals : List ℕ) (acquired released : ℕ → ℕ → ℕ) (given_up : ℕ → ℕ) (is_collected : ℕ → Bool) (t : ℕ) (e : Entry) → slot_at slots t ≡ Live e
+pub retired_tallies : (cpus : ℕ) (h : List Change) (slots : List Slot) (counts nets : List (List ℕ)) (totals : List ℕ) (acquired released : ℕ → ℕ → ℕ) (given_up : ℕ → ℕ) (is_collected : ℕ → Bool)
+    (t : ℕ) (e : Entry) → slot_at slots t ≡ Live e
     → ShowsTallies cpus h slots counts nets totals acquired released given_up is_collected
     → ShowsTallies cpus (after_change h (Detach e.number)) (set slots t (Retired e)) counts nets totals acquired released given_up is_collected
 retired_tallies cpus h slots counts nets totals acquired released given_up is_collected t e at on = record {
@@ -69,7 +75,8 @@ retired_tallies cpus h slots counts nets totals acquired released given_up is_co
 }
 
 -- one attach more, and one live slot
-pub attach_counts : (h : List Change) (slots : List Slot) (e : Entry) → e.slot < length slots → slot_at slots e.slot ≡ Vacant → CountsLive h slots → CountsLive (after_change h (Attach e)) (set slots e.slot (Live e))
+pub attach_counts : (h : List Change) (slots : List Slot) (e : Entry) → e.slot < length slots → slot_at slots e.slot ≡ Vacant → CountsLive h slots
+    → CountsLive (after_change h (Attach e)) (set slots e.slot (Live e))
 attach_counts h slots e lt vacant on =
     let more = live_count_put slots e.slot Vacant (Live e) lt vacant in
     let attaches = sum_by-append (λ (c : Change). cond (is_attach c) 1 0) h (Attach e ∷ []) in
@@ -77,7 +84,8 @@ attach_counts h slots e lt vacant on =
     omega (arith, more, attaches, detaches, on)
 
 -- one detach more, and one live slot less
-pub detach_counts : (h : List Change) (slots : List Slot) (t : ℕ) (e : Entry) → t < length slots → slot_at slots t ≡ Live e → CountsLive h slots → CountsLive (after_change h (Detach e.number)) (set slots t (Retired e))
+pub detach_counts : (h : List Change) (slots : List Slot) (t : ℕ) (e : Entry) → t < length slots → slot_at slots t ≡ Live e → CountsLive h slots
+    → CountsLive (after_change h (Detach e.number)) (set slots t (Retired e))
 detach_counts h slots t e lt at on =
     let less = live_count_put slots t (Live e) (Retired e) lt at in
     let attaches = sum_by-append (λ (c : Change). cond (is_attach c) 1 0) h (Detach e.number ∷ []) in
@@ -94,7 +102,8 @@ attach_follows h slots marks section begins e lt vacant on t p c b w f at end be
     on t p c b w f (retired_before slots e t f lt vacant at) (ends_as_before h e f.number p end) begun snapshot same
 
 -- the new end comes after each open section's begin
-pub detach_follows : (h : List Change) (slots : List Slot) (marks : List (List Mark)) (section : List ℕ) (begins : List (Option ℕ)) (t : ℕ) (e : Entry) (row : List Mark) → t < length slots → slot_at slots t ≡ Live e
+pub detach_follows : (h : List Change) (slots : List Slot) (marks : List (List Mark)) (section : List ℕ) (begins : List (Option ℕ)) (t : ℕ) (e : Entry) (row : List Mark) → t < length slots
+    → slot_at slots t ≡ Live e
     → ((c b : ℕ) → get_or begins c None ≡ Some b → b ≤ length h)
     → ((u : ℕ) (f : Entry) → slot_at slots u ≡ Live f → (p : ℕ) → EndsAt h f.number p → ⊥)
     → SnapshotsFollow h slots marks section begins → SnapshotsFollow (after_change h (Detach e.number)) (set slots t (Retired e)) (set marks t row) section begins

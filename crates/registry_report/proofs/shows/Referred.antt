@@ -9,7 +9,8 @@ use Rattle.registry_values.specs.Common.{slot_of, Answers}
 use Rattle.passive_core.specs.Common.{IsQuiet, all_seated, IsRecordOf, psref_to_found, psref_copy, passive_of, refusal_of, with_one_less, with_one_more}
 use Rattle.passive_core.specs.Passives as core
 use Rattle.passive_core.proofs.Passives.{counted_less, counted_more}
-use Rattle.registry_report.specs.Common.{Hitch, LabelTaken, Reading, acquire_answer, copy_answer, held_answer, command_answer, if_free, misuse, one_more, read_answer, reading_of, reference_answer, release_answer, unless, with_label, value_in, value_of, Registry, IsSession, SessionState, with_core, Shows, with_reference, without_reference}
+use Rattle.registry_report.specs.Common.{Hitch, LabelTaken, Reading, acquire_answer, copy_answer, held_answer, command_answer, if_free, misuse, one_more, read_answer, reading_of, reference_answer}
+use Rattle.registry_report.specs.Common.{release_answer, unless, with_label, value_in, value_of, Registry, IsSession, SessionState, with_core, Shows, with_reference, without_reference}
 use Rattle.registry_report.proofs.Lookups.{entry_is}
 use Rattle.registry_report.proofs.shows.Showing.{put_shows}
 
@@ -106,7 +107,8 @@ seated_shows s r on = record { settings = on.settings; model = on.model; section
 -- the list of passive references and a label change
 relabelled : (s : SessionState) (r : Registry) (passive : List (List ℕ)) (c n k a : ℕ) (label : Option CorePsref) → Shows s r → a < length s.passives
     → ((d m : ℕ) → put r.model.passive c (put (r.model.passive c) n k) d m ≡ passive_in passive d (slot_of s.core.slots m))
-    → Shows (record s { core = record (all_seated s.core) { passive = passive }; passives = set s.passives a label }) (record r { model = with_passive r.model c n k; passive_labels = put r.passive_labels a label })
+    → Shows (record s { core = record (all_seated s.core) { passive = passive }; passives = set s.passives a label })
+    (record r { model = with_passive r.model c n k; passive_labels = put r.passive_labels a label })
 relabelled s r passive c n k a label on within held = assumption (put_shows r.passive_labels None s.passives a label label within on.labels.passive refl)
 
 more_by : (s : SessionState) (r : Registry) (c n a : ℕ) (o : Option ℕ) → Shows s r → a < length s.passives

@@ -1,5 +1,6 @@
 -- Enter, exit and find: the registry that the session shows answers and changes as the core does.
-use Rattle.std.proofs.Common.{◌≡◌, ℕ, ◌+◌, ◌-◌, ◌*◌, ◌<◌, ◌≤◌, List, length, get_or, set, get_or-set_same, get_or-set_other, Option, Some, None, Bool, true, false, not, ◌&&◌, is_some, is_none, refl, sym, ap, subst, ◌∙◌, arith}
+use Rattle.std.proofs.Common.{◌≡◌, ℕ, ◌+◌, ◌-◌, ◌*◌, ◌<◌, ◌≤◌, List, length, get_or, set, get_or-set_same, get_or-set_other, Option, Some, None, Bool, true, false, not, ◌&&◌, is_some, is_none, refl}
+use Rattle.std.proofs.Common.{sym, ap, subst, ◌∙◌, arith}
 use Rattle.std.specs.Prelude.{if◌then◌else◌, ◌==◌, Result, Ok, Err, is_ok}
 use Rattle.std.proofs.lemmas.Bool.{cases_eq}
 use Rattle.std.proofs.lemmas.Option.{none-some}
@@ -9,7 +10,8 @@ use Rattle.passive_core.specs.Common.{all_seated, with_depth, after_enter_comman
 use Rattle.passive_core.specs.Entering as core
 use Rattle.protocol.specs.Events as events
 use Rattle.protocol.proofs.keeps.SectionKeeps.{some_from}
-use Rattle.registry_report.specs.Common.{is_inside, enter_answer, may_begin, Registry, SessionState, with_core, Shows, SnapshotsFollow, on_ok, with_section_entered, with_section_exited, with_section_begun, with_section_ended, with_found}
+use Rattle.registry_report.specs.Common.{is_inside, enter_answer, may_begin, Registry, SessionState, with_core, Shows, SnapshotsFollow, on_ok, with_section_entered, with_section_exited}
+use Rattle.registry_report.specs.Common.{with_section_begun, with_section_ended, with_found}
 use Rattle.protocol.proofs.slots.Cells.{by_place}
 use Rattle.protocol.proofs.model.Picturing.{put_here, put_other}
 use Rattle.registry_report.proofs.shows.Showing.{put_shows, twice_less}
@@ -36,7 +38,8 @@ enter_answers s r c on =
 
 -- a section that begins has another word than any snapshot
 begun_follows : (h : List Change) (slots : List Slot) (marks : List (List Mark)) (section : List ℕ) (begins : List (Option ℕ)) (c w b : ℕ)
-    → MarksHold h slots marks section begins → c < length section → c < length begins → get_or section c 0 < w → SnapshotsFollow h slots marks section begins → SnapshotsFollow h slots marks (set section c w) (set begins c (Some b))
+    → MarksHold h slots marks section begins → c < length section → c < length begins → get_or section c 0 < w → SnapshotsFollow h slots marks section begins
+    → SnapshotsFollow h slots marks (set section c w) (set begins c (Some b))
 begun_follows h slots marks section begins c w b holds sc bc more was t p j d x e at end begun snapshot same = either (cases_eq j c)
     (λ here.
     let word : get_or (set section c w) j 0 ≡ w = ap (λ (k : ℕ). get_or (set section c w) k 0) here ∙ get_or-set_same section c w 0 sc in
@@ -84,10 +87,12 @@ ended_turns section begins begun c b sc bc in_ was j = by_place
 begun_shows : (s : SessionState) (r : Registry) (c : ℕ) → Holds s.core → Shows s r → c < s.core.settings.cpus → begin_at s.core c ≡ None
     → Shows (with_core s (events.after_enter (all_seated s.core) c)) (with_section_begun r c)
 begun_shows s r c holds on lt out = assumption (
-  put_shows r.model.sections None s.core.begins c (Some (length r.model.history)) (Some (length s.core.history)) (omega (arith, holds.shape.begins)) on.model.sections (ap (λ (h : List Change). Some (length h)) on.model.history),
+  put_shows r.model.sections None s.core.begins c (Some (length r.model.history)) (Some (length s.core.history)) (omega (arith, holds.shape.begins)) on.model.sections
+      (ap (λ (h : List Change). Some (length h)) on.model.history),
   put_shows r.depths 0 s.core.depths c 1 1 (omega (arith, holds.shape.depths)) on.sections.deep refl,
   begun_turns s.core.section s.core.begins r.begun c (length s.core.history) (omega (arith, holds.shape.sections)) (omega (arith, holds.shape.begins)) out on.sections.turns,
-  begun_follows s.core.history s.core.slots s.core.marks s.core.section s.core.begins c (section_at s.core c + 1) (length s.core.history) holds.grace (omega (arith, holds.shape.sections)) (omega (arith, holds.shape.begins)) (omega arith) on.grace,
+  begun_follows s.core.history s.core.slots s.core.marks s.core.section s.core.begins c (section_at s.core c + 1) (length s.core.history) holds.grace (omega (arith, holds.shape.sections))
+      (omega (arith, holds.shape.begins)) (omega arith) on.grace,
 )
 
 -- the outermost section ends
@@ -108,13 +113,16 @@ out_from None is = refl
 out_from (Some b) is = absurd (let q : ◌≡◌ {A = Bool} true false = is in cc)
 
 entered_by : (s : SessionState) (r : Registry) (c : ℕ) (b : Bool) → Holds s.core → Shows s r → c < s.core.settings.cpus → events.is_inside s.core c ≡ b
-    → Shows (with_core s (if b then with_depth s.core c (depth_at s.core c + 1) else events.after_enter (all_seated s.core) c)) (if b then record r { depths = put r.depths c (r.depths c + 1) } else with_section_begun r c)
+    → Shows (with_core s (if b then with_depth s.core c (depth_at s.core c + 1) else events.after_enter (all_seated s.core) c))
+    (if b then record r { depths = put r.depths c (r.depths c + 1) } else with_section_begun r c)
 entered_by s r c true holds on lt is = nested_shows s r c (r.depths c + 1) (depth_at s.core c + 1) holds on lt (ap (λ (d : ℕ). d + 1) (on.sections.deep c))
 entered_by s r c false holds on lt is = begun_shows s r c holds on lt (out_from (begin_at s.core c) is)
 
-pub entered_shows : (s : SessionState) (r : Registry) (c : ℕ) → Holds s.core → Shows s r → c < s.core.settings.cpus → Shows (with_core s (core.with_section_entered s.core c)) (with_section_entered r c)
+pub entered_shows : (s : SessionState) (r : Registry) (c : ℕ) → Holds s.core → Shows s r → c < s.core.settings.cpus
+    → Shows (with_core s (core.with_section_entered s.core c)) (with_section_entered r c)
 entered_shows s r c holds on lt =
-    subst (λ (b : Bool). Shows (with_core s (core.with_section_entered s.core c)) (if b then record r { depths = put r.depths c (r.depths c + 1) } else with_section_begun r c)) (sym (inside_is s r c on))
+    subst (λ (b : Bool). Shows (with_core s (core.with_section_entered s.core c)) (if b then record r { depths = put r.depths c (r.depths c + 1) } else with_section_begun r c))
+    (sym (inside_is s r c on))
     (entered_by s r c (events.is_inside s.core c) holds on lt refl)
 
 enter_by : (s : SessionState) (r : Registry) (c : ℕ) (a : Result (Unit {0}) Refusal) → Holds s.core → Shows s r → c < s.core.settings.cpus
@@ -147,5 +155,6 @@ exit_shows s r c holds on lt in_ =
 -- Find
 
 -- what a lookup leaves
-pub found_shows : (s : SessionState) (r : Registry) (c : ℕ) (answer : Option Entry) → Holds s.core → Shows s r → c < s.core.settings.cpus → Shows (with_core s (after_find (all_seated s.core) c answer)) (with_found r c answer)
+pub found_shows : (s : SessionState) (r : Registry) (c : ℕ) (answer : Option Entry) → Holds s.core → Shows s r → c < s.core.settings.cpus
+    → Shows (with_core s (after_find (all_seated s.core) c answer)) (with_found r c answer)
 found_shows s r c answer holds on lt = assumption (put_shows r.model.found None s.core.found c answer answer (omega (arith, holds.shape.found)) on.model.last_found refl)

@@ -1,5 +1,6 @@
 -- Advance, destroy and perform: the registry that the session shows answers and changes as the core does.
-use Rattle.std.proofs.Common.{◌≡◌, ℕ, zero, suc, ◌+◌, ◌<◌, ◌≤◌, inl, inr, List, length, get_or, set, get_or-set_same, get_or-set_other, Option, Some, None, Bool, true, false, ◌&&◌, nat_lt, refl, sym, ap, subst, ◌∙◌, arith, sum_by}
+use Rattle.std.proofs.Common.{◌≡◌, ℕ, zero, suc, ◌+◌, ◌<◌, ◌≤◌, inl, inr, List, length, get_or, set, get_or-set_same, get_or-set_other, Option, Some, None, Bool, true, false, ◌&&◌, nat_lt, refl, sym}
+use Rattle.std.proofs.Common.{ap, subst, ◌∙◌, arith, sum_by}
 use Rattle.std.specs.Prelude.{if◌then◌else◌, is_some, Result, Ok, Err}
 use Rattle.std.proofs.lemmas.Bool.{and_parts, cases_Bool, cases_eq, cases_lt, eq-eqb, ne_eqb, lt-ltb, le-ltb}
 use Rattle.std.proofs.lemmas.Option.{none-some}
@@ -7,7 +8,8 @@ use Rattle.registry_report.specs.Types.{Entry, Change, Attach, Detach, Refusal, 
 use Rattle.passive_core.specs.Advancing as core
 use Rattle.passive_core.specs.Common.{AdvanceLeaves, DestroyLeaves, LeavesFree, LeavesMarks, LeavesTotal, StageLeaves, is_open_since, is_snapshot, IsQuiet, all_seated, PerformLeaves}
 use Rattle.registry_values.specs.Common.{wait_answer, destroy_result, destroy_result_of, stage_of, is_retired_as, has_number, is_retired, slot_at, least_below, no_mark}
-use Rattle.protocol.specs.Common.{MarksGrow, SameElsewhere, Holds, IsIn, SlotsShow, held_at, in_hand, one_if, subtraction_due_at, put, number_in, passive_in, is_empty, State, begin_at, count_at, hand_at, kept_at, mark_at, passive_at, section_at, total_at}
+use Rattle.protocol.specs.Common.{MarksGrow, SameElsewhere, Holds, IsIn, SlotsShow, held_at, in_hand, one_if, subtraction_due_at, put, number_in, passive_in, is_empty, State, begin_at, count_at}
+use Rattle.protocol.specs.Common.{hand_at, kept_at, mark_at, passive_at, section_at, total_at}
 use Rattle.registry_values.specs.Slots as values
 use Rattle.protocol.specs.Events as events
 use Rattle.passive_core.specs.Performing as performing
@@ -23,7 +25,9 @@ use Rattle.protocol.proofs.slots.Occupied.{at_rest_tells, attached_in, has_it, i
 use Rattle.protocol.proofs.model.Picturing.{put_here, put_is, put_other, unwritten}
 use Rattle.protocol.proofs.model.RefiningEntries.{passive_moved}
 use Rattle.protocol.proofs.keeps.Searching.{within_some}
-use Rattle.registry_report.specs.Common.{advance_answer, count_below, destroy_answer, is_inside, perform_answer, has_passive, has_section, held_count, is_this, first_obstacle, retired_slot, stage_in, end_of, has_ended, may_hold, Registry, IsSession, SessionState, with_core, CountsLive, Shows, ShowsModel, ShowsTallies, SnapshotsFollow, after_advance, after_destroy, with_freed, on_ok, after_stage}
+use Rattle.registry_report.specs.Common.{advance_answer, count_below, destroy_answer, is_inside, perform_answer, has_passive, has_section, held_count, is_this, first_obstacle, retired_slot, stage_in}
+use Rattle.registry_report.specs.Common.{end_of, has_ended, may_hold, Registry, IsSession, SessionState, with_core, CountsLive, Shows, ShowsModel, ShowsTallies, SnapshotsFollow, after_advance}
+use Rattle.registry_report.specs.Common.{after_destroy, with_freed, on_ok, after_stage}
 use Rattle.registry_report.proofs.Below.{kept_is, position_is, same_count}
 use Rattle.registry_report.proofs.Lookups.{end_is, end_tells}
 use Rattle.registry_report.proofs.shows.Sectioned.{inside_is}
@@ -91,7 +95,8 @@ none_pass false p n = none_below (λ t. false) n (λ t lt. refl)
 
 pub retired_slot_is : (s : SessionState) (r : Registry) (n : ℕ) → Holds s.core → Shows s r → values.retired_slot s.core.slots n ≡ retired_slot r n
 retired_slot_is s r n holds on =
-    let here : (t : ℕ) → is_retired_as n (slot_at s.core.slots t) ≡ (has_ended s.core.history n && is_this n (number_in (slot_at s.core.slots t))) = λ t. retired_here n (has_ended s.core.history n) (slot_at s.core.slots t)
+    let here : (t : ℕ) → is_retired_as n (slot_at s.core.slots t) ≡ (has_ended s.core.history n && is_this n (number_in (slot_at s.core.slots t))) =
+    λ t. retired_here n (has_ended s.core.history n) (slot_at s.core.slots t)
     (λ e gone same. ap (has_ended s.core.history) (sym same) ∙ ended_is s.core t e holds gone)
     (λ e live same. ap (has_ended s.core.history) (sym same) ∙ unended_is s.core t e holds live) in
     let shown : (t : ℕ) → is_retired_as n (slot_at s.core.slots t) ≡ (has_ended r.model.history n && is_this n (r.model.occupants t)) = λ t. rw (on.model.history, on.model.occupants t) (here t) in
@@ -110,7 +115,8 @@ section_is (Some b) p w now same other = either (cases_eq now w)
     (λ yes. eq-eqb w now (sym yes) ∙ sym (lt-ltb b p (same b refl yes)))
     (λ no. ne_eqb w now (λ q. no (sym q)) ∙ sym (le-ltb b p (other b refl no)))
 
-pub open_is : (s : SessionState) (r : Registry) (t c : ℕ) (e : Entry) → IsSession s → Shows s r → slot_at s.core.slots t ≡ Retired e → c < s.core.settings.cpus → is_open_since s.core t c ≡ has_section r e.number c
+pub open_is : (s : SessionState) (r : Registry) (t c : ℕ) (e : Entry) → IsSession s → Shows s r → slot_at s.core.slots t ≡ Retired e → c < s.core.settings.cpus
+    → is_open_since s.core t c ≡ has_section r e.number c
 open_is s r t c e is on gone lt =
     let was = is.holds.slots.retired t e gone in
     let w = snapshot_stands s.core t c is.holds is.quiet.rest (ap is_retired gone) lt in
@@ -124,13 +130,15 @@ open_is s r t c e is on gone lt =
 pub passive_is : (s : SessionState) (r : Registry) (t c : ℕ) (e : Entry) → Holds s.core → Shows s r → IsIn e (slot_at s.core.slots t) → r.model.passive c e.number ≡ passive_at s.core.passive c t
 passive_is s r t c e holds on in_ = on.model.held c e.number ∙ ap (passive_in s.core.passive c) (slot_number s.core.history s.core.slots e t holds.slots in_)
 
-pub stage_is : (s : SessionState) (r : Registry) (t : ℕ) (e : Entry) → IsSession s → Shows s r → slot_at s.core.slots t ≡ Retired e → core.first_obstacle s.core t e.number ≡ first_obstacle r e.number t
+pub stage_is : (s : SessionState) (r : Registry) (t : ℕ) (e : Entry) → IsSession s → Shows s r → slot_at s.core.slots t ≡ Retired e
+    → core.first_obstacle s.core t e.number ≡ first_obstacle r e.number t
 stage_is s r t e is on gone =
     let cpus : s.core.settings.cpus ≡ r.settings.cpus = sym (ap (λ z. z.cpus) on.settings) in
     let first : least_below (is_open_since s.core t) s.core.settings.cpus ≡ least_below (has_section r e.number) r.settings.cpus =
     least_agrees (is_open_since s.core t) (has_section r e.number) s.core.settings.cpus (λ c lt. open_is s r t c e is on gone lt) ∙ ap (least_below (has_section r e.number)) cpus in
     let second : least_below (core.has_passive s.core t) s.core.settings.cpus ≡ least_below (has_passive r e.number) r.settings.cpus =
-    least_agrees (core.has_passive s.core t) (has_passive r e.number) s.core.settings.cpus (λ c lt. ap (nat_lt 0) (sym (passive_is s r t c e is.holds on (inr gone)))) ∙ ap (least_below (has_passive r e.number)) cpus in
+    least_agrees (core.has_passive s.core t) (has_passive r e.number) s.core.settings.cpus (λ c lt. ap (nat_lt 0) (sym (passive_is s r t c e is.holds on (inr gone))))
+    ∙ ap (least_below (has_passive r e.number)) cpus in
     rw (first, second, held_is s r e.number t is on) refl
 
 stage_by : (s : SessionState) (r : Registry) (n : ℕ) (o : Option ℕ) → IsSession s → Shows s r → values.retired_slot s.core.slots n ≡ o → core.stage_in s.core n o ≡ stage_in r n o
@@ -151,7 +159,8 @@ grown_snapshots old new t grow u c = either (cases_eq u t)
     (λ same. subst (λ k. (mark_at new k c).snapshot ≡ (mark_at old k c).snapshot) (sym same) (grow.here c).snapshot)
     (λ off. ap (λ (row : List Mark). (get_or row c no_mark).snapshot) (grow.elsewhere u off))
 
-grown_follows : (h : List Change) (slots : List Slot) (marks new : List (List Mark)) (section : List ℕ) (begins : List (Option ℕ)) → ((u c : ℕ) → (mark_at new u c).snapshot ≡ (mark_at marks u c).snapshot)
+grown_follows : (h : List Change) (slots : List Slot) (marks new : List (List Mark)) (section : List ℕ) (begins : List (Option ℕ))
+    → ((u c : ℕ) → (mark_at new u c).snapshot ≡ (mark_at marks u c).snapshot)
     → SnapshotsFollow h slots marks section begins → SnapshotsFollow h slots new section begins
 grown_follows h slots marks new section begins same was t p c b w e gone end begun snapshot word = was t p c b w e gone end begun (sym (same t c) ∙ snapshot) word
 
@@ -170,7 +179,8 @@ number_within : (h : List Change) (slots : List Slot) (t : ℕ) (e : Entry) → 
 number_within h slots t e show is = (at_within h e.number (Attach e) (attached_in h slots t e show is).0).1
 
 -- the words of one slot are collected
-collected_tallies : (cpus : ℕ) (h : List Change) (slots : List Slot) (counts now nets : List (List ℕ)) (totals left : List ℕ) (acquired released : ℕ → ℕ → ℕ) (given : ℕ → ℕ) (is_collected : ℕ → Bool) (t : ℕ) (e : Entry)
+collected_tallies : (cpus : ℕ) (h : List Change) (slots : List Slot) (counts now nets : List (List ℕ)) (totals left : List ℕ) (acquired released : ℕ → ℕ → ℕ) (given : ℕ → ℕ) (is_collected : ℕ → Bool)
+    (t : ℕ) (e : Entry)
     → SlotsShow h slots → IsIn e (slot_at slots t) → SameElsewhere counts now t → ((c : ℕ) → count_at now c t ≡ 0) → ((u : ℕ) → (u ≡ t → ⊥) → total_at left u ≡ total_at totals u)
     → ShowsTallies cpus h slots counts nets totals acquired released given is_collected → ShowsTallies cpus h slots now nets left acquired released given (put is_collected e.number true)
 collected_tallies cpus h slots counts now nets totals left acquired released given is_collected t e show in_ elsewhere emptied same was = record {
@@ -195,14 +205,16 @@ collected_shows : (s : SessionState) (r : Registry) (k : State) (t j : ℕ) (e :
     → Shows (with_core s k) (record r { is_collected = put r.is_collected e.number true })
 collected_shows s r k t j e holds on gone left = subst (λ (x : State). Shows (with_core s x) (record r { is_collected = put r.is_collected e.number true })) (sym left.only) (assumption (
   grown_follows s.core.history s.core.slots s.core.marks k.marks s.core.section s.core.begins (grown_snapshots s.core.marks k.marks t left.marks) on.grace,
-  collected_tallies s.core.settings.cpus s.core.history s.core.slots s.core.counts k.counts s.core.nets s.core.totals k.totals r.acquired r.released r.given_up r.is_collected t e holds.slots (inr gone)
+  collected_tallies s.core.settings.cpus s.core.history s.core.slots s.core.counts k.counts s.core.nets s.core.totals k.totals r.acquired r.released r.given_up r.is_collected t e holds.slots
+      (inr gone)
       left.counts left.collected left.totals on.tallies,
 ))
 
 -- Freed
 
 -- the slot is vacant: who was elsewhere stays, and what an other slot kept is given up
-freed_tallies : (cpus : ℕ) (h : List Change) (slots : List Slot) (counts now nets : List (List ℕ)) (totals left : List ℕ) (acquired released : ℕ → ℕ → ℕ) (given more : ℕ → ℕ) (is_collected : ℕ → Bool) (t : ℕ) (e : Entry) (kept : Option ℕ)
+freed_tallies : (cpus : ℕ) (h : List Change) (slots : List Slot) (counts now nets : List (List ℕ)) (totals left : List ℕ) (acquired released : ℕ → ℕ → ℕ) (given more : ℕ → ℕ) (is_collected : ℕ → Bool)
+    (t : ℕ) (e : Entry) (kept : Option ℕ)
     → slot_at slots t ≡ Retired e → SameElsewhere counts now t → ((u : ℕ) → (u ≡ t → ⊥) → total_at left u + core.count_given_up kept (slot_at slots u) ≡ total_at totals u)
     → ((u : ℕ) (f : Entry) → IsIn f (slot_at slots u) → more f.number ≡ given f.number + core.count_given_up kept (slot_at slots u)) → ((m : ℕ) → length h < m → more m ≡ given m)
     → ShowsTallies cpus h slots counts nets totals acquired released given is_collected → ShowsTallies cpus h (set slots t Vacant) now nets left acquired released more is_collected
@@ -248,8 +260,10 @@ record Unheld (s k : State) (t : ℕ) (e : Entry) : Type 0 where
   pub left : LeavesFree s k t
   pub now : Holds k
 
-freed_model : (s : SessionState) (r : Registry) (k : State) (t : ℕ) (e : Entry) (keeps : ℕ → Option ℕ) → Holds s.core → Shows s r → Unheld s.core k t e → ((u : ℕ) → keeps u ≡ kept_at (set s.core.keeps t None) u)
-    → ShowsModel s.core.history s.core.begins s.core.found s.core.passive (set s.core.slots t Vacant) s.core.locals (set s.core.keeps t None) (record r.model { occupants = put r.model.occupants t None; keeps = keeps })
+freed_model : (s : SessionState) (r : Registry) (k : State) (t : ℕ) (e : Entry) (keeps : ℕ → Option ℕ) → Holds s.core → Shows s r → Unheld s.core k t e
+    → ((u : ℕ) → keeps u ≡ kept_at (set s.core.keeps t None) u)
+    → ShowsModel s.core.history s.core.begins s.core.found s.core.passive (set s.core.slots t Vacant) s.core.locals (set s.core.keeps t None)
+    (record r.model { occupants = put r.model.occupants t None; keeps = keeps })
 freed_model s r k t e keeps holds on u kept = record {
   history = on.model.history;
   sections = on.model.sections;
@@ -268,14 +282,16 @@ freed_model s r k t e keeps holds on u kept = record {
 }
 
 freed_by : (s : SessionState) (r : Registry) (k : State) (t : ℕ) (e : Entry) (o : Option ℕ) → Holds s.core → Shows s r → Unheld s.core k t e → kept_at s.core.keeps t ≡ o
-    → Shows (with_core s (record s.core { seated = s.core.settings.cpus; marks = k.marks; counts = k.counts; totals = k.totals; slots = set s.core.slots t Vacant; keeps = set s.core.keeps t None })) (with_freed r t o)
+    → Shows (with_core s (record s.core { seated = s.core.settings.cpus; marks = k.marks; counts = k.counts; totals = k.totals; slots = set s.core.slots t Vacant; keeps = set s.core.keeps t None }))
+    (with_freed r t o)
 freed_by s r k t e None holds on u at = assumption (
   freed_model s r k t e r.model.keeps holds on u (λ v. on.model.kept v ∙ unwritten (λ (x : Option ℕ). x) None s.core.keeps t None at v),
   vacant_live s.core.history s.core.slots t e u.gone on.live,
   vacant_follows s.core.history s.core.slots k.marks s.core.section s.core.begins t e u.gone
       (grown_follows s.core.history s.core.slots s.core.marks k.marks s.core.section s.core.begins (grown_snapshots s.core.marks k.marks t u.left.marks) on.grace),
   freed_tallies s.core.settings.cpus s.core.history s.core.slots s.core.counts k.counts s.core.nets s.core.totals k.totals r.acquired r.released r.given_up r.given_up r.is_collected t e None
-      u.gone u.left.counts (λ v off. ap (λ (x : Option ℕ). total_at k.totals v + core.count_given_up x (slot_at s.core.slots v)) (sym at) ∙ u.left.totals v off) (λ v f is. omega arith) (λ m above. refl) on.tallies,
+      u.gone u.left.counts (λ v off. ap (λ (x : Option ℕ). total_at k.totals v + core.count_given_up x (slot_at s.core.slots v)) (sym at) ∙ u.left.totals v off) (λ v f is. omega arith)
+      (λ m above. refl) on.tallies,
 )
 freed_by s r k t e (Some d) holds on u at =
     let driver = holds.kept_drivers.drivers t d at in
@@ -285,14 +301,17 @@ freed_by s r k t e (Some d) holds on u at =
       vacant_live s.core.history s.core.slots t e u.gone on.live,
       vacant_follows s.core.history s.core.slots k.marks s.core.section s.core.begins t e u.gone
           (grown_follows s.core.history s.core.slots s.core.marks k.marks s.core.section s.core.begins (grown_snapshots s.core.marks k.marks t u.left.marks) on.grace),
-      freed_tallies s.core.settings.cpus s.core.history s.core.slots s.core.counts k.counts s.core.nets s.core.totals k.totals r.acquired r.released r.given_up (put r.given_up d (r.given_up d + 1)) r.is_collected t e (Some d)
+      freed_tallies s.core.settings.cpus s.core.history s.core.slots s.core.counts k.counts s.core.nets s.core.totals k.totals r.acquired r.released r.given_up
+          (put r.given_up d (r.given_up d + 1)) r.is_collected t e (Some d)
           u.gone u.left.counts (λ v off. ap (λ (x : Option ℕ). total_at k.totals v + core.count_given_up x (slot_at s.core.slots v)) (sym at) ∙ u.left.totals v off)
           (λ v f is. gives_one s.core.slots r.given_up d v f is)
-          (λ m above. put_other r.given_up d (r.given_up d + 1) m (λ same. omega (arith, same, above, driver.3, number_within s.core.history s.core.slots driver.0 driver.1 holds.slots driver.2))) on.tallies,
+          (λ m above. put_other r.given_up d (r.given_up d + 1) m (λ same. omega (arith, same, above, driver.3, number_within s.core.history s.core.slots driver.0 driver.1 holds.slots driver.2)))
+          on.tallies,
     )
 
 freed_shows : (s : SessionState) (r : Registry) (k : State) (t : ℕ) (e : Entry) → Holds s.core → Shows s r → Unheld s.core k t e → Shows (with_core s k) (with_freed r t (r.model.keeps t))
-freed_shows s r k t e holds on u = subst (λ (x : State). Shows (with_core s x) (with_freed r t (r.model.keeps t))) (sym u.left.only) (freed_by s r k t e (r.model.keeps t) holds on u (sym (on.model.kept t)))
+freed_shows s r k t e holds on u =
+    subst (λ (x : State). Shows (with_core s x) (with_freed r t (r.model.keeps t))) (sym u.left.only) (freed_by s r k t e (r.model.keeps t) holds on u (sym (on.model.kept t)))
 
 -- What an advance leaves
 
@@ -307,7 +326,8 @@ no_words : (w : ℕ) → nat_lt 0 w ≡ false → w ≡ 0
 no_words zero is = refl
 no_words (suc w) is = absurd (let q : ◌≡◌ {A = Bool} true false = sym (lt-ltb 0 (suc w) (omega arith)) ∙ is in cc)
 
-unheld_at : (s : SessionState) (k : State) (n t u : ℕ) (e : Entry) → Holds s.core → Holds k → core.first_obstacle s.core t n ≡ Freed u → slot_at s.core.slots t ≡ Retired e → LeavesFree s.core k t → Unheld s.core k t e
+unheld_at : (s : SessionState) (k : State) (n t u : ℕ) (e : Entry) → Holds s.core → Holds k → core.first_obstacle s.core t n ≡ Freed u → slot_at s.core.slots t ≡ Retired e → LeavesFree s.core k t
+    → Unheld s.core k t e
 unheld_at s k n t u e holds now stage gone left = record {
   gone = gone;
   passive = λ c. either (cases_lt c s.core.settings.cpus)
@@ -317,7 +337,8 @@ unheld_at s k n t u e holds now stage gone left = record {
   now = now;
 }
 
-staged_shows : (s : SessionState) (r : Registry) (k : State) (n t : ℕ) (stage : Stage) → Holds s.core → Holds k → Shows s r → core.first_obstacle s.core t n ≡ stage → values.retired_slot s.core.slots n ≡ Some t → StageLeaves s.core k t stage
+staged_shows : (s : SessionState) (r : Registry) (k : State) (n t : ℕ) (stage : Stage) → Holds s.core → Holds k → Shows s r → core.first_obstacle s.core t n ≡ stage
+    → values.retired_slot s.core.slots n ≡ Some t → StageLeaves s.core k t stage
     → Shows (with_core s k) (after_stage r n stage)
 staged_shows s r k n t (Local j) holds now on is at left =
     let told = retired_slot_tells s.core.slots n t at in
@@ -331,14 +352,16 @@ staged_shows s r k n t _ holds now on is at left = marks_shows s r k t on left
 same_stage : (a b : Stage) → ◌≡◌ {A = Result Stage Refusal} (Ok a) (Ok b) → a ≡ b
 same_stage a b is = cc
 
-advance_by : (s : SessionState) (r : Registry) (k : State) (n : ℕ) (answer : Result Stage Refusal) → Holds s.core → Holds k → Shows s r → core.advance_answer s.core n ≡ answer → AdvanceLeaves s.core k n answer
+advance_by : (s : SessionState) (r : Registry) (k : State) (n : ℕ) (answer : Result Stage Refusal) → Holds s.core → Holds k → Shows s r → core.advance_answer s.core n ≡ answer
+    → AdvanceLeaves s.core k n answer
     → Shows (with_core s k) (on_ok r answer (after_stage r n))
 advance_by s r k n (Err f) holds now on is left = subst (λ (x : State). Shows (with_core s x) r) (sym left) on
 advance_by s r k n (Ok stage) holds now on is left =
     staged_shows s r k n left.0 stage holds now on (same_stage (core.first_obstacle s.core left.0 n) stage (ap (core.stage_in s.core n) (sym left.1) ∙ is)) left.1 left.2
 
 -- What an advance leaves shows what it leaves of the registry.
-pub advance_shows : (s : SessionState) (r : Registry) (k : State) (n : ℕ) → IsSession s → Holds k → Shows s r → AdvanceLeaves s.core k n (core.advance_answer s.core n) → Shows (with_core s k) (after_advance r n)
+pub advance_shows : (s : SessionState) (r : Registry) (k : State) (n : ℕ) → IsSession s → Holds k → Shows s r → AdvanceLeaves s.core k n (core.advance_answer s.core n)
+    → Shows (with_core s k) (after_advance r n)
 advance_shows s r k n is now on left =
     subst (λ (a : Result Stage Refusal). Shows (with_core s k) (on_ok r a (after_stage r n))) (advance_answers s r n is on)
     (advance_by s r k n (core.advance_answer s.core n) is.holds now on refl left)
@@ -360,13 +383,15 @@ turn_leaves : (s k : State) (n : ℕ) (o : Option ℕ) → DestroyLeaves s k n (
 turn_leaves s k n None left = left
 turn_leaves s k n (Some t) left = stage_leaves s k n (core.first_obstacle s t n) left
 
-destroy_by : (s : SessionState) (r : Registry) (k : State) (n : ℕ) (b : Bool) → IsSession s → Holds k → Shows s r → DestroyLeaves s.core k n (if b then Err Inside else destroy_result_of (core.advance_answer s.core n))
+destroy_by : (s : SessionState) (r : Registry) (k : State) (n : ℕ) (b : Bool) → IsSession s → Holds k → Shows s r
+    → DestroyLeaves s.core k n (if b then Err Inside else destroy_result_of (core.advance_answer s.core n))
     → Shows (with_core s k) (if b then r else after_advance r n)
 destroy_by s r k n true is now on left = subst (λ (x : State). Shows (with_core s x) r) (sym left) on
 destroy_by s r k n false is now on left = advance_shows s r k n is now on (turn_leaves s.core k n (values.retired_slot s.core.slots n) left)
 
 -- What a destroy leaves shows what it leaves of the registry.
-pub destroy_shows : (s : SessionState) (r : Registry) (k : State) (c n : ℕ) → IsSession s → Holds k → Shows s r → DestroyLeaves s.core k n (core.destroy_answer s.core c n) → Shows (with_core s k) (after_destroy r c n)
+pub destroy_shows : (s : SessionState) (r : Registry) (k : State) (c n : ℕ) → IsSession s → Holds k → Shows s r → DestroyLeaves s.core k n (core.destroy_answer s.core c n)
+    → Shows (with_core s k) (after_destroy r c n)
 destroy_shows s r k c n is now on left =
     subst (λ (b : Bool). Shows (with_core s k) (if b then r else after_advance r n)) (sym (inside_is s r c on)) (destroy_by s r k n (events.is_inside s.core c) is now on left)
 

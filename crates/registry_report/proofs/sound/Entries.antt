@@ -16,7 +16,9 @@ use Rattle.protocol.proofs.model.Picturing.{put_here}
 use Rattle.protocol.proofs.keeps.Publishing.{legal_attach, live_cases}
 use Rattle.protocol.proofs.keeps.SectionKeeps.{none_from}
 use Rattle.protocol.proofs.keeps.Unlinking.{attached_before, legal_detach, was_there}
-use Rattle.registry_report.specs.Common.{attach_answer, attach_iface_answer, detach_answer, given_entry, command_answer, is_inside, is_available, lookup_now, first_fit, room_of, plug_answer, with_label, entry_of, is_driver_entry, is_driver_number, Registry, HasSlot, IsSound, IsSoundModel, IsLawfulTurn, after_plug, with_attached, with_detached, with_reference_kept, on_ok, on_some, with_attached_iface, with_all_seen, with_entry}
+use Rattle.registry_report.specs.Common.{attach_answer, attach_iface_answer, detach_answer, given_entry, command_answer, is_inside, is_available, lookup_now, first_fit, room_of, plug_answer}
+use Rattle.registry_report.specs.Common.{with_label, entry_of, is_driver_entry, is_driver_number, Registry, HasSlot, IsSound, IsSoundModel, IsLawfulTurn, after_plug, with_attached, with_detached}
+use Rattle.registry_report.specs.Common.{with_reference_kept, on_ok, on_some, with_attached_iface, with_all_seen, with_entry}
 use Rattle.registry_report.proofs.Lookups.{entry_is, lookup_is}
 use Rattle.registry_report.proofs.sound.Turns.{dropped_counts, else_ok, hitched_ok, idle_turn, labelled_counts, least_some, not_ok, ok_turn, put_capped, put_cases, put_none, same_ok, still_there}
 use Rattle.protocol.proofs.Either.{either}
@@ -127,7 +129,8 @@ attached_lawful r c rec e on is =
     let driver = else_ok (is_iface rec.kind) NeedsDriver (given_entry r rec) e outside.1 in
     let given = given_tells r rec e driver.1 in
     let legal = given_legal r rec e on given in
-    let rightly : keeps_rightly (r.model.keeps e.slot) e.rec.kind ≡ true = ap (λ (o : Option ℕ). keeps_rightly o e.rec.kind) given.keepless ∙ driver_from e.rec.kind (ap (λ (x : Record). is_iface x.kind) given.is ∙ driver.0) in
+    let rightly : keeps_rightly (r.model.keeps e.slot) e.rec.kind ≡ true =
+    ap (λ (o : Option ℕ). keeps_rightly o e.rec.kind) given.keepless ∙ driver_from e.rec.kind (ap (λ (x : Record). is_iface x.kind) given.is ∙ driver.0) in
     let le : r.model.passes c ≤ length (after_change r.model.history (Attach e)) = omega (arith, on.seen c, length-after_change r.model.history (Attach e)) in (
       attach_keeps r.settings r.model r.local_labels c e on given.vacant given.number legal,
       Goes_on (with_entry r.model e) _ (Goes_on r.model _ Stays (Attaches e given.vacant legal given.number rightly)) (Sees c (length (after_change r.model.history (Attach e))) le (omega arith)),
@@ -166,7 +169,8 @@ driver_here m d has is = record {
   occupant = has.occupant;
 }
 
-pub plugged_lawful : (r : Registry) (c : ℕ) (rec : Record) (x d : ℕ) (e : Entry) → IsSound r → is_iface rec.kind ≡ true → r.local_labels x ≡ Some d → attach_iface_answer r c rec d ≡ Ok e → IsLawfulTurn r (with_attached_iface r c e x d)
+pub plugged_lawful : (r : Registry) (c : ℕ) (rec : Record) (x d : ℕ) (e : Entry) → IsSound r → is_iface rec.kind ≡ true → r.local_labels x ≡ Some d → attach_iface_answer r c rec d ≡ Ok e
+    → IsLawfulTurn r (with_attached_iface r c e x d)
 plugged_lawful r c rec x d e on iface at is =
     let outside = else_ok (is_inside r c) Inside _ e is in
     let driver = else_ok (not (is_driver_number r.model.history d)) NeedsDriver (given_entry r rec) e outside.1 in
@@ -177,7 +181,8 @@ plugged_lawful r c rec x d e on iface at is =
     let rightly : keeps_rightly (put r.model.keeps e.slot (Some d) e.slot) e.rec.kind ≡ true =
     ap (λ (o : Option ℕ). keeps_rightly o e.rec.kind) (put_here r.model.keeps e.slot (Some d)) ∙ (ap (λ (y : Record). is_iface y.kind) given.is ∙ iface) in
     let le : r.model.passes c ≤ length (after_change r.model.history (Attach e)) = omega (arith, on.seen c, length-after_change r.model.history (Attach e)) in (
-      attach_keeps r.settings (with_reference_kept r.model e.slot d) (put r.local_labels x None) c e (keep_keeps r.settings r.model r.local_labels e.slot x d on given.within at) given.vacant given.number legal,
+      attach_keeps r.settings (with_reference_kept r.model e.slot d) (put r.local_labels x None) c e
+          (keep_keeps r.settings r.model r.local_labels e.slot x d on given.within at) given.vacant given.number legal,
       Goes_on (with_entry (with_reference_kept r.model e.slot d) e) _
           (Goes_on (with_reference_kept r.model e.slot d) _ (Goes_on r.model _ Stays (Keeps e.slot d given.vacant given.keepless here some)) (Attaches e given.vacant legal given.number rightly))
           (Sees c (length (after_change r.model.history (Attach e))) le (omega arith)),

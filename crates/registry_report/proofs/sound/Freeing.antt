@@ -9,7 +9,8 @@ use Rattle.protocol.specs.Common.{EndsAt, Model, put, with_locals, IsUnheld, Sta
 use Rattle.protocol.proofs.history.History.{at_within}
 use Rattle.registry_values.proofs.Least.{least_none}
 use Rattle.protocol.proofs.model.Picturing.{put_here, put_is, put_other, two_steps}
-use Rattle.registry_report.specs.Common.{advance_answer, has_passive, has_section, held_count, is_inside, is_this, first_obstacle, retired_slot, slot_of, stage_in, end_of, has_ended, may_hold, Registry, IsSound, IsSoundModel, IsLawfulTurn, after_advance, after_destroy, with_freed, after_stage}
+use Rattle.registry_report.specs.Common.{advance_answer, has_passive, has_section, held_count, is_inside, is_this, first_obstacle, retired_slot, slot_of, stage_in, end_of, has_ended, may_hold}
+use Rattle.registry_report.specs.Common.{Registry, IsSound, IsSoundModel, IsLawfulTurn, after_advance, after_destroy, with_freed, after_stage}
 use Rattle.registry_report.proofs.Lookups.{end_tells}
 use Rattle.registry_report.proofs.sound.Turns.{count_none, idle_turn, is_this_own, is_this_tells, labelled_counts, least_some, not_ok, ok_turn, put_none, same_ok, still_beside}
 use Rattle.protocol.proofs.keeps.SectionKeeps.{some_from}
@@ -116,7 +117,8 @@ freed_by r n t (Some d) on free at =
     let given : Model = record (with_locals m d (m.locals d + 1)) { occupants = put m.occupants t None; keeps = put m.keeps t None } in
     let more : put m.locals d (m.locals d + 1) d ≡ m.locals d + 1 = put_here m.locals d (m.locals d + 1) in (
       vacate_keeps r.settings r.model r.local_labels t n free.position (put m.keeps t None) on free.occupant free.ends free.unheld (λ u k is. (put_none m.keeps t u k is).1),
-      two_steps m given (with_locals given d (given.locals d - 1)) (with_freed r t (Some d)).model (Gives_up t n free.position d free.occupant free.ends free.unheld at) (Uncounts d (omega (arith, more)))
+      two_steps m given (with_locals given d (given.locals d - 1)) (with_freed r t (Some d)).model (Gives_up t n free.position d free.occupant free.ends free.unheld at)
+          (Uncounts d (omega (arith, more)))
           (assumption (put_is (put m.locals d (m.locals d + 1)) m.locals d (put m.locals d (m.locals d + 1) d - 1) (omega (arith, more)) (λ j off. put_other m.locals d (m.locals d + 1) j off))),
       refl,
     )

@@ -4,7 +4,9 @@ use Rattle.std.specs.Prelude.{Result, Ok, if◌then◌else◌, ◌==◌}
 use Rattle.std.proofs.lemmas.Option.{none-some, same_Some}
 use Rattle.registry_report.specs.Types.{Entry, CorePsref, Refusal, NothingFound, NotHeld, WrongCpu, Settings}
 use Rattle.protocol.specs.Common.{Model, put, with_locals, with_passive, Stays, Goes_on, Acquires, Copies, Counts, Releases, Uncounts}
-use Rattle.registry_report.specs.Common.{Hitch, LabelTaken, NoLabel, acquire_answer, copy_answer, count_answer, command_answer, if_free, misuse, one_more, reference_answer, release_answer, uncount_answer, unless, why_uncounted, with_label, Registry, HasSlot, IsSound, IsSoundModel, IsLawfulTurn, with_one_counted, on_ok, with_reference, without_reference, with_one_uncounted}
+use Rattle.registry_report.specs.Common.{Hitch, LabelTaken, NoLabel, acquire_answer, copy_answer, count_answer, command_answer, if_free, misuse, one_more, reference_answer, release_answer}
+use Rattle.registry_report.specs.Common.{uncount_answer, unless, why_uncounted, with_label, Registry, HasSlot, IsSound, IsSoundModel, IsLawfulTurn, with_one_counted, on_ok, with_reference}
+use Rattle.registry_report.specs.Common.{without_reference, with_one_uncounted}
 use Rattle.registry_report.specs.Answers as answers
 use Rattle.registry_values.specs.Common.{why_full}
 use Rattle.registry_report.proofs.sound.Turns.{added_counts, dropped_counts, hitched_ok, labelled_counts, not_ok, ok_turn, put_cases, put_none, same_ok}
@@ -98,7 +100,8 @@ release_turn r c a on = ok_turn r (release_answer r c a) (without_reference r c 
 
 -- Local references
 
-count_keeps : (z : Settings) (m : Model) (labels : ℕ → Option ℕ) (x n : ℕ) → IsSoundModel z m labels → labels x ≡ None → HasSlot m.history m.occupants n → IsSoundModel z (with_locals m n (m.locals n + 1)) (put labels x (Some n))
+count_keeps : (z : Settings) (m : Model) (labels : ℕ → Option ℕ) (x n : ℕ) → IsSoundModel z m labels → labels x ≡ None → HasSlot m.history m.occupants n
+    → IsSoundModel z (with_locals m n (m.locals n + 1)) (put labels x (Some n))
 count_keeps z m labels x n on free has = record {
   legal = on.legal;
   live = on.live;

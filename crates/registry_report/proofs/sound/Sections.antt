@@ -7,7 +7,8 @@ use Rattle.protocol.specs.Common.{IsLawful, IsLiveAt, IsLookup, Lookup, Model, p
 use Rattle.registry_values.proofs.Least.{none_is}
 use Rattle.protocol.proofs.history.History.{at_within}
 use Rattle.protocol.proofs.model.Picturing.{Alike, put_here, put_is, put_other, same_model}
-use Rattle.registry_report.specs.Common.{Hitch, NotInside, enter_answer, exit_answer, find_answer, is_inside, lookup_now, Registry, IsSound, IsSoundModel, IsLawfulTurn, with_section_begun, with_section_entered, with_section_exited, with_found, on_ok, with_all_seen}
+use Rattle.registry_report.specs.Common.{Hitch, NotInside, enter_answer, exit_answer, find_answer, is_inside, lookup_now, Registry, IsSound, IsSoundModel, IsLawfulTurn, with_section_begun}
+use Rattle.registry_report.specs.Common.{with_section_entered, with_section_exited, with_found, on_ok, with_all_seen}
 use Rattle.registry_report.proofs.Lookups.{lookup_is}
 use Rattle.registry_report.proofs.sound.Turns.{ok_turn, put_capped, put_cases, put_none, same_ok, still_there, then_ok}
 use Rattle.protocol.proofs.keeps.SectionKeeps.{some_from}
@@ -40,7 +41,8 @@ begin_keeps z m labels c on lt out = record {
   counted = on.counted;
 }
 
-entered_by : (r : Registry) (c : ℕ) (b : Bool) → IsSound r → c < r.settings.cpus → is_inside r c ≡ b → IsLawfulTurn r (if b then record r { depths = put r.depths c (r.depths c + 1) } else with_section_begun r c)
+entered_by : (r : Registry) (c : ℕ) (b : Bool) → IsSound r → c < r.settings.cpus → is_inside r c ≡ b
+    → IsLawfulTurn r (if b then record r { depths = put r.depths c (r.depths c + 1) } else with_section_begun r c)
 entered_by r c true on lt is = (on, Stays, refl)
 entered_by r c false on lt is =
     let out : r.model.sections c ≡ None = none_is (r.model.sections c) is in
@@ -84,7 +86,8 @@ exit_turn r c on = ok_turn r (exit_answer r c) (with_section_exited r c) on (λ 
 -- Find
 
 -- the open section may hold who is live now
-find_keeps : (z : Settings) (m : Model) (labels : ℕ → Option ℕ) (c b : ℕ) (answer : Option Entry) → IsSoundModel z m labels → m.sections c ≡ Some b → ((e : Entry) → answer ≡ Some e → IsLiveAt m.history (length m.history) e)
+find_keeps : (z : Settings) (m : Model) (labels : ℕ → Option ℕ) (c b : ℕ) (answer : Option Entry) → IsSoundModel z m labels → m.sections c ≡ Some b
+    → ((e : Entry) → answer ≡ Some e → IsLiveAt m.history (length m.history) e)
     → IsSoundModel z (record (with_all_seen m c) { found = put m.found c answer }) labels
 find_keeps z m labels c b answer on in_ live = record {
   legal = on.legal;
@@ -108,7 +111,8 @@ find_keeps z m labels c b answer on in_ live = record {
 -- what a lookup gives now is live now
 lookup_live : (r : Registry) (key : Key) (e : Entry) → IsSound r → lookup_now r key ≡ Some e → IsLiveAt r.model.history (length r.model.history) e
 lookup_live r key e on is =
-    let found : IsLookup r.model.history (length r.model.history) key (Some e) = subst (IsLookup r.model.history (length r.model.history) key) is (lookup_is r.model.history on.legal key (length r.model.history)) in
+    let found : IsLookup r.model.history (length r.model.history) key (Some e) =
+    subst (IsLookup r.model.history (length r.model.history) key) is (lookup_is r.model.history on.legal key (length r.model.history)) in
     found.0
 
 -- the lookup begins, the CPU sees the whole history, and the answer is the one now

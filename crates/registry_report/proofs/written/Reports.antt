@@ -19,13 +19,15 @@ report_at : (r : Registry) (ks : List Command) (i : ℕ) (d : Command) → i < l
 report_at r ks i d h = rw (add-one i, drop-cons ks i d) (report_cons r (get_or ks i d) (drop (suc i) ks))
 
 -- the next text is written
-pub report_step : (a b c : Option (List ℕ)) (whole : List ℕ) (r : Registry) (ks : List Command) (i : ℕ) (d : Command) (text : List ℕ) → i < length ks → Written a b whole (report_from r (drop i ks)) → text ≡ text_of r (get_or ks i d) → Appends b c text
+pub report_step : (a b c : Option (List ℕ)) (whole : List ℕ) (r : Registry) (ks : List Command) (i : ℕ) (d : Command) (text : List ℕ) → i < length ks → Written a b whole (report_from r (drop i ks))
+    → text ≡ text_of r (get_or ks i d) → Appends b c text
     → Written a c whole (report_from (after r (get_or ks i d)) (drop (i + 1) ks))
 report_step a b c whole r ks i d text h done is more =
     written_more a b c whole (text_of r (get_or ks i d)) (report_from (after r (get_or ks i d)) (drop (i + 1) ks)) (rw (report_at r ks i d h) at done) (rw is at more)
 
 -- a prefix of the next text is written
-pub report_stopped : (a b c : Option (List ℕ)) (whole : List ℕ) (r : Registry) (ks : List Command) (i : ℕ) (d : Command) (text : List ℕ) → i < length ks → Written a b whole (report_from r (drop i ks)) → text ≡ text_of r (get_or ks i d) → AppendsPrefix b c text → AppendsPrefix a c whole
+pub report_stopped : (a b c : Option (List ℕ)) (whole : List ℕ) (r : Registry) (ks : List Command) (i : ℕ) (d : Command) (text : List ℕ) → i < length ks → Written a b whole (report_from r (drop i ks))
+    → text ≡ text_of r (get_or ks i d) → AppendsPrefix b c text → AppendsPrefix a c whole
 report_stopped a b c whole r ks i d text h done is more =
     written_prefix a b c whole (text_of r (get_or ks i d)) (report_from (after r (get_or ks i d)) (drop (i + 1) ks)) (rw (report_at r ks i d h) at done) (rw is at more)
 

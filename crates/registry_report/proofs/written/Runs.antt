@@ -48,11 +48,13 @@ run_whole : (ks : List Command) (i : ℕ) (a b : List ℕ) → IsRunOf (take i k
 run_whole ks i a b run more = rw take-append-drop at (run_append (take i ks) (drop i ks) a b run more)
 
 -- the next text is written
-pub run_step : (a b c : Option (List ℕ)) (ks : List Command) (i : ℕ) (d : Command) (text : List ℕ) → i < length ks → WritesRun a b (take i ks) → IsLineOf (get_or ks i d) text → Appends b c text → WritesRun a c (take (i + 1) ks)
+pub run_step : (a b c : Option (List ℕ)) (ks : List Command) (i : ℕ) (d : Command) (text : List ℕ) → i < length ks → WritesRun a b (take i ks) → IsLineOf (get_or ks i d) text → Appends b c text
+    → WritesRun a c (take (i + 1) ks)
 run_step a b c ks i d text below (done, run, written) line more = (done ++ text, run_more ks i d done text below run line, appends_more a b c done text written more)
 
 -- a front of the next text is written
-pub run_stopped : (a b c : Option (List ℕ)) (ks : List Command) (i : ℕ) (d : Command) (text : List ℕ) → i < length ks → WritesRun a b (take i ks) → IsLineOf (get_or ks i d) text → AppendsPrefix b c text → WritesFront a c ks
+pub run_stopped : (a b c : Option (List ℕ)) (ks : List Command) (i : ℕ) (d : Command) (text : List ℕ) → i < length ks → WritesRun a b (take i ks) → IsLineOf (get_or ks i d) text
+    → AppendsPrefix b c text → WritesFront a c ks
 run_stopped a b c ks i d text below (done, run, written) line more =
     let left = some_run (drop (i + 1) ks) in (
       (done ++ text) ++ left.0,

@@ -1,5 +1,6 @@
 -- How what is written goes together.
-use Rattle.std.proofs.Common.{◌≡◌, ℕ, ℤ, ◌+◌, ◌<◌, List, [], ◌∷◌, ◌++◌, Option, None, Some, refl, ap, sym, ◌∙◌, append_assoc, append-nil, ◌≤◌, ◌-◌, get_or, length, map, take, drop, arith, length-drop, take-append-drop}
+use Rattle.std.proofs.Common.{◌≡◌, ℕ, ℤ, ◌+◌, ◌<◌, List, [], ◌∷◌, ◌++◌, Option, None, Some, refl, ap, sym, ◌∙◌, append_assoc, append-nil, ◌≤◌, ◌-◌, get_or, length, map, take, drop, arith, length-drop}
+use Rattle.std.proofs.Common.{take-append-drop}
 use Rattle.std.proofs.lemmas.List.{map-append, take_all, take_more}
 use Rattle.std.specs.Io.KnownBytes.{Appends, Keeps}
 use Rattle.std.specs.Prelude.{codes}
@@ -46,7 +47,8 @@ written_prefix a b c whole part rest h (left, k) = (
 )
 
 -- n bytes of the rest are written
-pub written_step : (a b c : Option (List ℕ)) (whole rest : List ℕ) (n : ℕ) → n ≤ length rest → Written a b whole rest → Appends b c (take n rest) → Written a c whole (take (length rest - n) (drop n rest))
+pub written_step : (a b c : Option (List ℕ)) (whole rest : List ℕ) (n : ℕ) → n ≤ length rest → Written a b whole rest → Appends b c (take n rest)
+    → Written a c whole (take (length rest - n) (drop n rest))
 written_step a b c whole rest n h done more =
     let e : take (length rest - n) (drop n rest) ≡ drop n rest = take_all (length rest - n) (drop n rest) (omega (arith, length-drop n rest)) in
     rw e (written_more a b c whole (take n rest) (drop n rest) (rw take-append-drop done) more)
@@ -66,12 +68,16 @@ pub spelled_spaced : (w : List ℕ) (ws : List (List ℕ)) (next : List ℕ) (re
 spelled_spaced w [] next rest = refl
 spelled_spaced w (v ∷ vs) next rest = ap (λ z. w ++ (32 ∷ z)) (spelled_spaced v vs next rest) ∙ ap (λ z. w ++ z) (sym (append_assoc (32 ∷ v) (spaced_words vs) (32 ∷ line_of_words (next ∷ rest))))
 
-pub spaced_step : (xs : List ℤ) (i : ℕ) (d : ℤ) → i < length xs → spaced_words (map signed_decimal (take (i + 1) xs)) ≡ spaced_words (map signed_decimal (take i xs)) ++ (32 ∷ signed_decimal (get_or xs i d))
+pub spaced_step : (xs : List ℤ) (i : ℕ) (d : ℤ) → i < length xs
+    → spaced_words (map signed_decimal (take (i + 1) xs)) ≡ spaced_words (map signed_decimal (take i xs)) ++ (32 ∷ signed_decimal (get_or xs i d))
 spaced_step xs i d below = rw (take_more xs i d below, map-append) (spaced_append (map signed_decimal (take i xs)) (signed_decimal (get_or xs i d)))
 
-pub lines_step : {X : Type 0} (f : X → Tally) (xs : List X) (i : ℕ) (d : X) → i < length xs → balance_lines (map f (take (i + 1) xs)) ≡ balance_lines (map f (take i xs)) ++ balance_line (f (get_or xs i d))
+pub lines_step : {X : Type 0} (f : X → Tally) (xs : List X) (i : ℕ) (d : X) → i < length xs
+    → balance_lines (map f (take (i + 1) xs)) ≡ balance_lines (map f (take i xs)) ++ balance_line (f (get_or xs i d))
 lines_step f xs i d below = rw (take_more xs i d below, map-append) (lines_append (map f (take i xs)) (f (get_or xs i d)))
 
-pub balance_is : (t : Tally) → balance_line t ≡ codes "slot " ++ (decimal t.slot ++ (codes " number " ++ (decimal t.number ++ (codes " held " ++ (signed_decimal t.held ++ (codes " locals" ++ (spaced_words (map signed_decimal t.locals) ++ (codes " total " ++ (signed_decimal t.total ++ (10 ∷ []))))))))))
+pub balance_is : (t : Tally) → balance_line t ≡ codes "slot "
+    ++ (decimal t.slot ++ (codes " number " ++ (decimal t.number
+    ++ (codes " held " ++ (signed_decimal t.held ++ (codes " locals" ++ (spaced_words (map signed_decimal t.locals) ++ (codes " total " ++ (signed_decimal t.total ++ (10 ∷ []))))))))))
 balance_is t = ap (λ (z : List ℕ). codes "slot " ++ (decimal t.slot ++ (codes " number " ++ (decimal t.number ++ (codes " held " ++ (signed_decimal t.held ++ (32 ∷ z)))))))
     (spelled_spaced (codes "locals") (map signed_decimal t.locals) (codes "total") (signed_decimal t.total ∷ []))

@@ -38,12 +38,15 @@ use Rattle.held.proofs.Held.take.Code as code
 
 pub take_spec : {M : Type 1} → statement M
 take_spec 𝓤 𝓛 𝓜 𝓡 wired T A L LA g d dd allocator glued =
-    let H = 𝓛.H in let 𝓣 = tables 𝓤 H 𝓜 𝓡 𝓡.env in let R : RattleType = param 0 T in let Z : RattleType = param 1 A in let LZ = param_laws 1 A LA in let En = ended T A g d dd in let c = clauses T A g d dd 𝓛 𝓜.mem 𝓡.returns in
-    let E : box.Bx = record { row = T; laws = L; al = record { row = A; laws = LA; g = g; d = d; drops = dd } } in let inst = bounded (a_type ∷ a_type ∷ []) (T, (A, tt)) (dcons d (dcons dd dnil)) in let fn = inst_fn inst code.function in
+    let H = 𝓛.H in let 𝓣 = tables 𝓤 H 𝓜 𝓡 𝓡.env in
+    let R : RattleType = param 0 T in let Z : RattleType = param 1 A in let LZ = param_laws 1 A LA in let En = ended T A g d dd in let c = clauses T A g d dd 𝓛 𝓜.mem 𝓡.returns in
+    let E : box.Bx = record { row = T; laws = L; al = record { row = A; laws = LA; g = g; d = d; drops = dd } } in
+    let inst = bounded (a_type ∷ a_type ∷ []) (T, (A, tt)) (dcons d (dcons dd dnil)) in let fn = inst_fn inst code.function in
     let V : RattleType = Vacant E.al R in
     let hs : Stays En.signature.params En.kept = (stay_dropped (plain (λ _. Held R Z LZ g)) no, tt) in
     proved_at 𝓛 En hs c 𝓜 𝓡 (Goes-blank 𝓛 2 (plain (λ _. Held R Z LZ g)) no (λ κs x f. tt), tt) (#self inst) fn (code.unfolded 𝓤 H 𝓜 𝓡 wired (T, (A, tt)) d dd) (λ z are.
-    let κs = z.0.0 in let qs = z.0.1 in let d = z.0.3.0 in let x = d.value in let a = d.alloc in let Post : Val → SProp 𝓤 = (walk_of 𝓛 En hs c).post z in let Run : List Val → SProp 𝓤 = λ ws. WpFn 𝓤 H 𝓣.C 𝓣.Λ fn ws Post in
+    let κs = z.0.0 in let qs =
+    z.0.1 in let d = z.0.3.0 in let x = d.value in let a = d.alloc in let Post : Val → SProp 𝓤 = (walk_of 𝓛 En hs c).post z in let Run : List Val → SProp 𝓤 = λ ws. WpFn 𝓤 H 𝓣.C 𝓣.Λ fn ws Post in
     let toks = ‵ (flft κs.0 qs.0) ⊛ ‵ (flft κs.1.0 qs.1.0) ⊛ ‵ ftrue in let asked = raw ((c κs z.0.3).requires z.1) in
     qed 𝓛 ((toks ⊛ ‵ (owns (types_at En.signature.params κs) z.0.3 z.0.4)) ∷ asked ∷ []) ∵ split ! $ move ! (1 ∷ []) $ fsplit ! $ held_out R Z LZ g ! d z.0.4.0 (λ b o h e ws fa.
     -- [what the box owned; the allocator; nothing; the tokens]
@@ -60,4 +63,5 @@ take_spec 𝓤 𝓛 𝓜 𝓡 wired T A L LA g d dd allocator glued =
     use1 𝓛 (‵ (froom (box.τ E) b o)) (𝓛.laws.at_room (box.τ E) b o v) $ as_raw ! (box.τ E) b o $ move ! (0 ∷ 2 ∷ 3 ∷ []) $ Vacant-made E.al R ! a b o $ move ! (1 ∷ []) $
     use2 𝓛 (‵ ((Tuple (R ∷ V ∷ [])).own_val (x, record { ptr = block_ptr b o; alloc = a }) (pair_val v u ∷ []))) (pair_of 𝓛 R V x (record { ptr = block_ptr b o; alloc = a }) v u) $
     use0 𝓛 (raw (fact 𝓤 (x ≡ x))) (fact_i 𝓤 (x ≡ x) (emp 𝓤) refl) $ nothing ! $ nothing ! $ fjoin ! $
-    returns ! (look_at ! 0 refl) $ free_all ! refl $ keep ! (3 ∷ 0 ∷ 2 ∷ 1 ∷ []) $ by ! (leaves 𝓛 En hs c z (pair_val v u) (x, record { ptr = block_ptr b o; alloc = a }) ((tt, (tt, tt)), tt) (tt, tt)))))))
+    returns ! (look_at ! 0 refl) $ free_all ! refl $ keep ! (3 ∷ 0 ∷ 2 ∷ 1 ∷ []) $ by !
+    (leaves 𝓛 En hs c z (pair_val v u) (x, record { ptr = block_ptr b o; alloc = a }) ((tt, (tt, tt)), tt) (tt, tt)))))))

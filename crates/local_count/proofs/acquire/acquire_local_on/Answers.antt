@@ -14,7 +14,8 @@ count_add-word-requires-clause-place c =
 
 pub count_add-word-requires-clause-may : goal.count_add-word-requires-clause-may
 count_add-word-requires-clause-may c =
-    may_count _ _ _ _ _ _ _ _ _ _ c.cpu.invariant (may_acquire _ _ _ _ c.cpu.invariant.is_shown c.cpu.invariant.found (ap (λ (o : OnPlainCpu). o.cpu.view) c.cpu.view_is) c.why_not_acquired_local.ensures c.in_default.not-Some)
+    may_count _ _ _ _ _ _ _ _ _ _ c.cpu.invariant (may_acquire _ _ _ _ c.cpu.invariant.is_shown c.cpu.invariant.found
+    (ap (λ (o : OnPlainCpu). o.cpu.view) c.cpu.view_is) c.why_not_acquired_local.ensures c.in_default.not-Some)
 
 pub bounds-cpu-inside-found : goal.bounds-cpu-inside-found
 bounds-cpu-inside-found c =
@@ -28,5 +29,7 @@ invariant_of-result c =
 pub invariant_of-cpu : goal.invariant_of-cpu
 invariant_of-cpu c =
     let may = may_acquire _ _ _ _ c.cpu.invariant.is_shown c.cpu.invariant.found (ap (λ (o : OnPlainCpu). o.cpu.view) c.cpu.view_is) c.why_not_acquired_local.ensures c.in_default.not-Some in
-    stored_agrees _ _ _ _ _ _ _ _ _ _ _ _ _ c.set_net.ensures (own_agrees _ _ _ _ _ _ _ _ _ _ (acquired_agrees _ _ _ _ _ _ _ _ _ _ _ _ _ _ _ c.cpu.invariant (cut_is_shown c.split_ref-seat.ensures.event (step_is_shown c.count_add-word.ensures.step.event)) may.kept (c.split_ref-seat.ensures.step.table ∙ c.count_add-word.ensures.step.table) c.count_add-word.ensures.change c.split_ref-seat.ensures.change c.count_add-word.ensures.word
+    stored_agrees _ _ _ _ _ _ _ _ _ _ _ _ _ c.set_net.ensures (own_agrees _ _ _ _ _ _ _ _ _ _
+    (acquired_agrees _ _ _ _ _ _ _ _ _ _ _ _ _ _ _ c.cpu.invariant (cut_is_shown c.split_ref-seat.ensures.event (step_is_shown c.count_add-word.ensures.step.event)) may.kept
+    (c.split_ref-seat.ensures.step.table ∙ c.count_add-word.ensures.step.table) c.count_add-word.ensures.change c.split_ref-seat.ensures.change c.count_add-word.ensures.word
     c.count_add-word.ensures.room c.count_add-word.ensures.alone))

@@ -17,7 +17,8 @@ bounds-cpu-inside-found c = (found_as _ _ c.cpu.invariant.is_shown c.cpu.invaria
 
 pub returns : goal.returns
 returns c =
-    let limit : c.settings.result.count_limit ≡ c.cpu.inside.seat.view.settings.count_limit = ap (λ (z : Settings). z.count_limit) (c.settings.ensures ∙ c.requires.words.1 ∙ ap (λ (o : OnPlainCpu). o.words.settings) (sym c.cpu.view_is)) in
+    let limit : c.settings.result.count_limit ≡ c.cpu.inside.seat.view.settings.count_limit =
+    ap (λ (z : Settings). z.count_limit) (c.settings.ensures ∙ c.requires.words.1 ∙ ap (λ (o : OnPlainCpu). o.words.settings) (sym c.cpu.view_is)) in
     let kept = found_as _ _ c.cpu.invariant.is_shown c.cpu.invariant.found c.if-found-eq0.false in
     c.why_uncounted.ensures.value
     ∙ subst (λ (o : OnPlainCpu). why_uncounted c.net_count-count.result (bias + c.settings.result.count_limit) ≡ why_not_acquired_local o.cpu.view o.cpu.view.found) c.cpu.view_is

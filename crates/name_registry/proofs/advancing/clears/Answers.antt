@@ -11,7 +11,8 @@ returns-then-mark-clause-leaves c = looked_none c.args.keeper.now.keeper c.args.
 
 pub returns-clause-sees : goal.returns-clause-sees
 returns-clause-sees c = λ unset. let change = c.look_passive.ensures.change in
-    sees_passive c.args.words.now.settings c.args.keeper.now.keeper c.look_passive.new.keeper.keeper c.args.slot c.args.cpu change.0 c.requires.works c.requires.cpu change.1 change.2 change.3 (sym c.look_passive.ensures.clear ∙ unset)
+    sees_passive c.args.words.now.settings c.args.keeper.now.keeper c.look_passive.new.keeper.keeper c.args.slot c.args.cpu change.0 c.requires.works c.requires.cpu change.1 change.2 change.3
+    (sym c.look_passive.ensures.clear ∙ unset)
 
 pub returns-clause-leaves : goal.returns-clause-leaves
 returns-clause-leaves c = let change = c.look_passive.ensures.change in

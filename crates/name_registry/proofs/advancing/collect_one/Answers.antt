@@ -11,7 +11,8 @@ pub returns-then-collected-clause-leaves : goal.returns-then-collected-clause-le
 returns-then-collected-clause-leaves c = worked_none c.args.keeper.now.keeper c.args.slot
 
 pub returns-clause-collected : goal.returns-clause-collected
-returns-clause-collected c = collection_marks c.args.words.now.settings c.args.keeper.now.keeper c.collect.new.keeper.keeper c.args.slot c.args.cpu c.requires.works c.requires.cpu c.collect.ensures.change
+returns-clause-collected c =
+    collection_marks c.args.words.now.settings c.args.keeper.now.keeper c.collect.new.keeper.keeper c.args.slot c.args.cpu c.requires.works c.requires.cpu c.collect.ensures.change
 
 pub returns-clause-leaves : goal.returns-clause-leaves
 returns-clause-leaves c = collection_leaves c.args.keeper.now.keeper c.collect.new.keeper.keeper c.args.slot c.args.cpu c.collect.ensures.change

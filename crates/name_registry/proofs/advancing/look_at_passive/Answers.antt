@@ -9,7 +9,8 @@ use Rattle.name_registry.proofs.advancing.look_at_passive.Goals as goal
 pub returns-then-not-clears-clause-met : goal.returns-then-not-clears-clause-met
 returns-then-not-clears-clause-met c =
     let l = c.loop-cpu in
-    passive_met c.args.words.now.settings c.args.keeper.now.keeper l.keeper.keeper c.clears.new.keeper.keeper c.args.slot l.cpu c.requires.works (subst (λ (z : Settings). l.cpu < z.cpus) (c.settings-cpu-end.ensures.value ∙ sym c.requires.words.1) c.loop-cpu-test.true) c.requires.passed
+    passive_met c.args.words.now.settings c.args.keeper.now.keeper l.keeper.keeper c.clears.new.keeper.keeper c.args.slot l.cpu c.requires.works
+    (subst (λ (z : Settings). l.cpu < z.cpus) (c.settings-cpu-end.ensures.value ∙ sym c.requires.words.1) c.loop-cpu-test.true) c.requires.passed
     l.invariant.leaves l.invariant.clear c.clears.ensures.leaves (c.clears.ensures.sees c.if-not-clears.true)
 
 pub returns-then-not-clears-clause-leaves : goal.returns-then-not-clears-clause-leaves

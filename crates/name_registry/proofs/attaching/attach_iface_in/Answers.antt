@@ -9,31 +9,37 @@ use Rattle.name_registry.proofs.attaching.attach_iface_in.Goals as goal
 
 pub publish_iface-entry-requires-clause-vacant : goal.publish_iface-entry-requires-clause-vacant
 publish_iface-entry-requires-clause-vacant c =
-    let takes = taken_tells c.args.keeper.now.words.settings c.args.keeper.now.keeper c.args.cpu.now.cpu c.hear_cpu.new.keeper.keeper c.args.rec c.in-Ok.entry c.hear_cpu.ensures.keeper (sym c.entry_for-given.ensures.value ∙ c.in-Ok.ensures.fit.2) in
+    let takes = taken_tells c.args.keeper.now.words.settings c.args.keeper.now.keeper c.args.cpu.now.cpu c.hear_cpu.new.keeper.keeper c.args.rec c.in-Ok.entry c.hear_cpu.ensures.keeper
+    (sym c.entry_for-given.ensures.value ∙ c.in-Ok.ensures.fit.2) in
     subst (λ (w : Named). (c.in-Ok.entry.slot < w.settings.slots) × (slot_at c.hear_cpu.new.keeper.keeper.slots c.in-Ok.entry.slot ≡ Vacant)) (sym c.hear_cpu.ensures.words.0)
     (subst (λ (r : Result Entry Refusal). IfOk r (λ e. e.slot < c.args.keeper.now.words.settings.slots)) c.in-Ok.ensures.fit.2 c.entry_for-given.ensures.within, takes.vacant)
 
 pub publish_iface-entry-requires-clause-free : goal.publish_iface-entry-requires-clause-free
 publish_iface-entry-requires-clause-free c =
-    (taken_tells c.args.keeper.now.words.settings c.args.keeper.now.keeper c.args.cpu.now.cpu c.hear_cpu.new.keeper.keeper c.args.rec c.in-Ok.entry c.hear_cpu.ensures.keeper (sym c.entry_for-given.ensures.value ∙ c.in-Ok.ensures.fit.2)).free
+    (taken_tells c.args.keeper.now.words.settings c.args.keeper.now.keeper c.args.cpu.now.cpu c.hear_cpu.new.keeper.keeper c.args.rec c.in-Ok.entry c.hear_cpu.ensures.keeper
+    (sym c.entry_for-given.ensures.value ∙ c.in-Ok.ensures.fit.2)).free
 
 pub publish_iface-entry-requires-clause-room : goal.publish_iface-entry-requires-clause-room
 publish_iface-entry-requires-clause-room c =
     subst (λ (w : Named). length c.hear_cpu.new.keeper.keeper.view.history + live_count c.hear_cpu.new.keeper.keeper.slots + 2 ≤ w.settings.change_limit) (sym c.hear_cpu.ensures.words.0)
-    (taken_tells c.args.keeper.now.words.settings c.args.keeper.now.keeper c.args.cpu.now.cpu c.hear_cpu.new.keeper.keeper c.args.rec c.in-Ok.entry c.hear_cpu.ensures.keeper (sym c.entry_for-given.ensures.value ∙ c.in-Ok.ensures.fit.2)).room
+    (taken_tells c.args.keeper.now.words.settings c.args.keeper.now.keeper c.args.cpu.now.cpu c.hear_cpu.new.keeper.keeper c.args.rec c.in-Ok.entry c.hear_cpu.ensures.keeper
+    (sym c.entry_for-given.ensures.value ∙ c.in-Ok.ensures.fit.2)).room
 
 pub publish_iface-entry-requires-clause-nothing : goal.publish_iface-entry-requires-clause-nothing
 publish_iface-entry-requires-clause-nothing c =
-    (taken_tells c.args.keeper.now.words.settings c.args.keeper.now.keeper c.args.cpu.now.cpu c.hear_cpu.new.keeper.keeper c.args.rec c.in-Ok.entry c.hear_cpu.ensures.keeper (sym c.entry_for-given.ensures.value ∙ c.in-Ok.ensures.fit.2)).nothing
+    (taken_tells c.args.keeper.now.words.settings c.args.keeper.now.keeper c.args.cpu.now.cpu c.hear_cpu.new.keeper.keeper c.args.rec c.in-Ok.entry c.hear_cpu.ensures.keeper
+    (sym c.entry_for-given.ensures.value ∙ c.in-Ok.ensures.fit.2)).nothing
 
 pub publish_iface-entry-requires-clause-driver : goal.publish_iface-entry-requires-clause-driver
 publish_iface-entry-requires-clause-driver c = a_driver _ (ap is_iface (sym c.kind.ensures) ∙ (sym c.is_iface.ensures ∙ c.in-Ok.ensures.fit.1))
 
 pub returns-clause-answer : goal.returns-clause-answer
 returns-clause-answer c =
-    let takes = taken_tells c.args.keeper.now.words.settings c.args.keeper.now.keeper c.args.cpu.now.cpu c.hear_cpu.new.keeper.keeper c.args.rec c.in-Ok.entry c.hear_cpu.ensures.keeper (sym c.entry_for-given.ensures.value ∙ c.in-Ok.ensures.fit.2) in
+    let takes = taken_tells c.args.keeper.now.words.settings c.args.keeper.now.keeper c.args.cpu.now.cpu c.hear_cpu.new.keeper.keeper c.args.rec c.in-Ok.entry c.hear_cpu.ensures.keeper
+    (sym c.entry_for-given.ensures.value ∙ c.in-Ok.ensures.fit.2) in
     let inside = inside_is c.inside.result c.args.cpu.now.cpu.view.begin c.inside.ensures in
-    sym (ap (λ (e : Entry). Ok e) (c.publish_iface-entry.ensures.entry ∙ takes.entry) ∙ (c.in-Ok.ensures.value ∙ (λ i. attach_answer (inside i) ((c.is_iface.ensures ∙ ap is_iface c.kind.ensures) i) (c.entry_for-given.ensures.value i))))
+    sym (ap (λ (e : Entry). Ok e) (c.publish_iface-entry.ensures.entry ∙ takes.entry)
+    ∙ (c.in-Ok.ensures.value ∙ (λ i. attach_answer (inside i) ((c.is_iface.ensures ∙ ap is_iface c.kind.ensures) i) (c.entry_for-given.ensures.value i))))
 
 pub returns-in-Err-clause-refused : goal.returns-in-Err-clause-refused
 returns-in-Err-clause-refused c =
@@ -50,11 +56,13 @@ returns-clause-ok c =
     let b = c.publish_iface-entry.new.keeper.keeper in
     let has = c.publish_iface-entry.ensures.change in
     let after = ap (λ (k : KeeperView). k.history) has.attached.entry.view in
-    let met = attach_met a x m c.hear_cpu.new.cpu.cpu e b c.show_cpu.new.cpu.cpu c.hear_cpu.ensures.keeper c.hear_cpu.ensures.cpu c.hear_cpu.ensures.seen (ap (λ x. x.number) c.publish_iface-entry.ensures.entry) after c.show_cpu.ensures.cpu c.show_cpu.ensures.log in
+    let met = attach_met a x m c.hear_cpu.new.cpu.cpu e b c.show_cpu.new.cpu.cpu c.hear_cpu.ensures.keeper c.hear_cpu.ensures.cpu c.hear_cpu.ensures.seen
+    (ap (λ x. x.number) c.publish_iface-entry.ensures.entry) after c.show_cpu.ensures.cpu c.show_cpu.ensures.log in
     subst (λ (k : OnKeeper). HasAttachedIfaceFor a x v e k c.show_cpu.new.cpu.cpu) (sym c.show_cpu.ensures.keeper) record {
       seen = met.0;
       keeper = keeping_told _ v e b (subst (λ (k : OnKeeper). HasAttachedKeeping k v e b) c.hear_cpu.ensures.keeper has);
-      keeping = keeping_more e.slot e.number v.entry.number b.log c.show_cpu.new.cpu.cpu.known_log (log_told b c.show_cpu.new.keeper.keeper c.show_cpu.new.cpu.cpu c.show_cpu.ensures.keeper c.show_cpu.ensures.told) has.keeping;
+      keeping = keeping_more e.slot e.number v.entry.number b.log c.show_cpu.new.cpu.cpu.known_log
+          (log_told b c.show_cpu.new.keeper.keeper c.show_cpu.new.cpu.cpu c.show_cpu.ensures.keeper c.show_cpu.ensures.told) has.keeping;
       cpu = met.1;
       own = met.2;
     }

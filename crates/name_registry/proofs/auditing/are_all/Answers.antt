@@ -14,5 +14,7 @@ pub loop-c-preserved : goal.loop-c-preserved
 loop-c-preserved g c = ids_more c.args.cpus.now c.loop-c.c c.index-cpus-c.result c.loop-c.invariant c.index-cpus-c.is (sym c.id.ensures ∙ c.if-id-c.false)
 
 pub returns : goal.returns
-returns g c =
-    (λ _. record { count = c.if-cpus-count.false; each = λ k x at. c.loop-c.invariant k x (omega (arith, (cpu_at c.args.cpus.now k x x at).0, c.if-cpus-count.false, c.loop-c-test.false)) at }, λ _. search rules)
+returns g c = (
+  λ _. record { count = c.if-cpus-count.false; each = λ k x at. c.loop-c.invariant k x (omega (arith, (cpu_at c.args.cpus.now k x x at).0, c.if-cpus-count.false, c.loop-c-test.false)) at },
+  λ _. search rules,
+)

@@ -10,25 +10,35 @@ use Rattle.name_registry.proofs.Tallies.{audit_right, known_keeper}
 use Rattle.name_registry.proofs.auditing.audit_in.Goals as goal
 
 pub returns-in-Ok-clause-places : goal.returns-in-Ok-clause-places
-returns-in-Ok-clause-places g c = places_met c.args.keeper.now.keeper c.args.cpus.now c.args.keeper.now.words.settings.slots c.in-Ok.list.items (c.in-Ok.ensures.value ∙ tallies_learned _ _ _ _ c.gather.new.keeper.words.settings.slots c.gather.ensures.keeper c.gather.ensures.cpus ∙ ap (λ (w : Named). tallies_met c.args.keeper.now.keeper c.args.cpus.now w.settings.slots) c.gather.ensures.words)
+returns-in-Ok-clause-places g c = places_met c.args.keeper.now.keeper c.args.cpus.now c.args.keeper.now.words.settings.slots c.in-Ok.list.items
+    (c.in-Ok.ensures.value ∙ tallies_learned _ _ _ _ c.gather.new.keeper.words.settings.slots c.gather.ensures.keeper c.gather.ensures.cpus
+    ∙ ap (λ (w : Named). tallies_met c.args.keeper.now.keeper c.args.cpus.now w.settings.slots) c.gather.ensures.words)
 
 pub returns-in-Ok-clause-sums : goal.returns-in-Ok-clause-sums
-returns-in-Ok-clause-sums g c = sums_met c.args.keeper.now.keeper c.args.cpus.now c.args.keeper.now.words.settings.slots c.in-Ok.list.items (c.in-Ok.ensures.value ∙ tallies_learned _ _ _ _ c.gather.new.keeper.words.settings.slots c.gather.ensures.keeper c.gather.ensures.cpus ∙ ap (λ (w : Named). tallies_met c.args.keeper.now.keeper c.args.cpus.now w.settings.slots) c.gather.ensures.words)
+returns-in-Ok-clause-sums g c = sums_met c.args.keeper.now.keeper c.args.cpus.now c.args.keeper.now.words.settings.slots c.in-Ok.list.items
+    (c.in-Ok.ensures.value ∙ tallies_learned _ _ _ _ c.gather.new.keeper.words.settings.slots c.gather.ensures.keeper c.gather.ensures.cpus
+    ∙ ap (λ (w : Named). tallies_met c.args.keeper.now.keeper c.args.cpus.now w.settings.slots) c.gather.ensures.words)
 
 pub returns-in-Ok-clause-locals : goal.returns-in-Ok-clause-locals
 returns-in-Ok-clause-locals g c =
     let all = subst (λ (z : Settings). AreAllCpus z.cpus c.args.cpus.now) c.settings.ensures.value (c.are_all.ensures.0 c.if-not-are_all.false) in
-    counts_met c.args.keeper.now.keeper c.args.cpus.now c.args.keeper.now.words.settings.cpus c.args.keeper.now.words.settings.slots c.in-Ok.list.items all (c.in-Ok.ensures.value ∙ tallies_learned _ _ _ _ c.gather.new.keeper.words.settings.slots c.gather.ensures.keeper c.gather.ensures.cpus ∙ ap (λ (w : Named). tallies_met c.args.keeper.now.keeper c.args.cpus.now w.settings.slots) c.gather.ensures.words)
+    counts_met c.args.keeper.now.keeper c.args.cpus.now c.args.keeper.now.words.settings.cpus c.args.keeper.now.words.settings.slots c.in-Ok.list.items all
+    (c.in-Ok.ensures.value ∙ tallies_learned _ _ _ _ c.gather.new.keeper.words.settings.slots c.gather.ensures.keeper c.gather.ensures.cpus
+    ∙ ap (λ (w : Named). tallies_met c.args.keeper.now.keeper c.args.cpus.now w.settings.slots) c.gather.ensures.words)
 
 pub returns-in-Ok-clause-answer : goal.returns-in-Ok-clause-answer
 returns-in-Ok-clause-answer g c =
     let all = subst (λ (z : Settings). AreAllCpus z.cpus c.args.cpus.now) c.settings.ensures.value (c.are_all.ensures.0 c.if-not-are_all.false) in
-    audit_right c.args.keeper.now.words.settings c.args.keeper.now.keeper c.args.cpus.now c.gather.new.cpus c.in-Ok.list.items (known_keeper _ _ _ _ _ c.settings.ensures.own.1.agree c.settings.ensures.own.1.are) all c.gather.ensures.alike (c.in-Ok.ensures.value ∙ tallies_learned _ _ _ _ c.gather.new.keeper.words.settings.slots c.gather.ensures.keeper c.gather.ensures.cpus ∙ ap (λ (w : Named). tallies_met c.args.keeper.now.keeper c.args.cpus.now w.settings.slots) c.gather.ensures.words)
+    audit_right c.args.keeper.now.words.settings c.args.keeper.now.keeper c.args.cpus.now c.gather.new.cpus c.in-Ok.list.items
+    (known_keeper _ _ _ _ _ c.settings.ensures.own.1.agree c.settings.ensures.own.1.are) all c.gather.ensures.alike
+    (c.in-Ok.ensures.value ∙ tallies_learned _ _ _ _ c.gather.new.keeper.words.settings.slots c.gather.ensures.keeper c.gather.ensures.cpus
+    ∙ ap (λ (w : Named). tallies_met c.args.keeper.now.keeper c.args.cpus.now w.settings.slots) c.gather.ensures.words)
 
 pub returns-in-Ok-clause-known : goal.returns-in-Ok-clause-known
 returns-in-Ok-clause-known g c =
     let all = subst (λ (z : Settings). AreAllCpus z.cpus c.args.cpus.now) c.settings.ensures.value (c.are_all.ensures.0 c.if-not-are_all.false) in
-    audit_known c.args.keeper.now.words.settings c.args.keeper.now.keeper c.args.cpus.now c.gather.new.cpus c.in-Ok.list.items (known_keeper _ _ _ _ _ c.settings.ensures.own.1.agree c.settings.ensures.own.1.are) all c.gather.ensures.alike (returns-in-Ok-clause-answer g c)
+    audit_known c.args.keeper.now.words.settings c.args.keeper.now.keeper c.args.cpus.now c.gather.new.cpus c.in-Ok.list.items
+    (known_keeper _ _ _ _ _ c.settings.ensures.own.1.agree c.settings.ensures.own.1.are) all c.gather.ensures.alike (returns-in-Ok-clause-answer g c)
 
 pub returns-then-not-are_all-clause-keeper : goal.returns-then-not-are_all-clause-keeper
 returns-then-not-are_all-clause-keeper g c = listened_none c.args.keeper.now.keeper

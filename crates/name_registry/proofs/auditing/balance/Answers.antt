@@ -26,4 +26,5 @@ returns g c =
     let had = has _ _ _ _ _ _ _ c.rows.ensures.agree (keeper_is c.rows.ensures.are) c.requires.entry in
     let total = c.less_bias-total.ensures ∙ ap less_bias had.total in
     let sum = c.sum.ensures.value ∙ ap sum_of c.deref.ensures.value in
-    tally_is c.args.keeper.now.keeper c.args.cpus.now c.args.number c.args.t _ _ _ c.in_ok-locals.ensures.value (omega (arith, ints, total, c.less_bias-total.type_inv)) (omega (arith, ints, sum, had.total, had.low, had.high, c.less_bias-total.ensures, c.sum.ensures.least, c.sum.ensures.most))
+    tally_is c.args.keeper.now.keeper c.args.cpus.now c.args.number c.args.t _ _ _ c.in_ok-locals.ensures.value (omega (arith, ints, total, c.less_bias-total.type_inv))
+    (omega (arith, ints, sum, had.total, had.low, had.high, c.less_bias-total.ensures, c.sum.ensures.least, c.sum.ensures.most))

@@ -16,6 +16,7 @@ loop-t-preserved g c =
     elim c.match-slot.branch [
       | in-Vacant w ↦ tallies_none k xs t x old new c.slot.ensures w.in-Vacant.is (ap (λ (v : Vec Balance Global). v.items) w.list-is) c.loop-t.invariant
       | in-Live+in_ok-balance-in-Live+in_ok-push-in-Live w ↦
-          tallies_more k xs t x w.in-Live.entry old w.push.new.self.items new w.in_ok-balance-in-Live.field-0 c.slot.ensures w.in-Live.is (ap (λ (v : Vec Balance Global). v.items) w.list-is) w.in_ok-push-in-Live.ensures.items
+          tallies_more k xs t x w.in-Live.entry old w.push.new.self.items new w.in_ok-balance-in-Live.field-0 c.slot.ensures w.in-Live.is
+          (ap (λ (v : Vec Balance Global). v.items) w.list-is) w.in_ok-push-in-Live.ensures.items
           c.loop-t.invariant w.in_ok-balance-in-Live.ensures
     ]

@@ -16,19 +16,22 @@ loop-c-preserved g c =
       keeper = l.invariant.keeper;
       note = e.note.0;
       words = l.invariant.words;
-      gathered = gathered_more c.args.cpus.now l.cpus l.c c.tell_keeper-note.new.keeper.keeper.log l.note.known_log c.pass_on-note.result.known_log l.note.view _ c.pass_on-note.new.cpu l.invariant.gathered at e.heard e.told e.shown e.note.1 (l.note.teller, e.log);
+      gathered = gathered_more c.args.cpus.now l.cpus l.c c.tell_keeper-note.new.keeper.keeper.log l.note.known_log c.pass_on-note.result.known_log l.note.view _ c.pass_on-note.new.cpu
+          l.invariant.gathered at e.heard e.told e.shown e.note.1 (l.note.teller, e.log);
     }
 
 pub returns-clause-alike : goal.returns-clause-alike
 returns-clause-alike g c =
     let l = c.loop-c in
-    gathered_alike _ c.args.keeper.now.keeper c.tell_keeper-note.new.keeper.keeper c.args.cpus.now l.cpus l.c _ l.note.known_log l.invariant.gathered (omega (arith, c.loop-c-test.false, l.auto.cpus)) l.invariant.keeper c.hear_keeper.ensures.known_log c.hear_keeper.ensures.own
+    gathered_alike _ c.args.keeper.now.keeper c.tell_keeper-note.new.keeper.keeper c.args.cpus.now l.cpus l.c _ l.note.known_log l.invariant.gathered
+    (omega (arith, c.loop-c-test.false, l.auto.cpus)) l.invariant.keeper c.hear_keeper.ensures.known_log c.hear_keeper.ensures.own
 
 pub returns-clause-keeper : goal.returns-clause-keeper
 returns-clause-keeper g c =
     let told = c.loop-c.invariant.keeper in
     let e = c.hear_keeper.ensures in
-    listened c.args.keeper.now.keeper c.hear_keeper.new.keeper.keeper c.loop-c.note.view _ _ (e.view ∙ ap (λ (k : OnKeeper). record k.view { noted_pass = c.loop-c.note.view }) told) (e.slots ∙ ap (λ (k : OnKeeper). k.slots) told) (e.log ∙ ap (λ (k : OnKeeper). k.log ++ heard_from None c.loop-c.note.teller) told)
+    listened c.args.keeper.now.keeper c.hear_keeper.new.keeper.keeper c.loop-c.note.view _ _ (e.view ∙ ap (λ (k : OnKeeper). record k.view { noted_pass = c.loop-c.note.view }) told)
+    (e.slots ∙ ap (λ (k : OnKeeper). k.slots) told) (e.log ∙ ap (λ (k : OnKeeper). k.log ++ heard_from None c.loop-c.note.teller) told)
 
 pub returns-clause-cpus : goal.returns-clause-cpus
 returns-clause-cpus g c = gathered_learned c.args.cpus.now c.loop-c.cpus c.loop-c.c _ _ c.loop-c.invariant.gathered (omega (arith, c.loop-c-test.false, c.loop-c.auto.cpus))

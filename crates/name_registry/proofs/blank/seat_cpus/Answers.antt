@@ -29,7 +29,13 @@ loop-seat-preserved g c =
     let more = length-append seen (c.in-Some.seat ∷ []) in
     let is = i.0 ∙ ap (λ (l : List (Seated CpuView)). seen ++ l) c.in-Some.ensures.steps.0 in
     let after = seat_after g.D.Domain.table z c.args.seats.items seen (into_iter_items c.next.new.self) c.in-Some.seat c.requires.seats is in
-    let new = c.of_seat.ensures ∙ (λ j. record { view = new_cpu z ((c.len-id.ensures ∙ i.2) j); depth = 0; made = c.split_off-share.ensures.amount j; known_log = ap (λ (s : Seated CpuView). s.known_log) after.1 j; log = ap (λ (s : Seated CpuView). s.log) after.1 j }) in
+    let new = c.of_seat.ensures ∙ (λ j. record {
+      view = new_cpu z ((c.len-id.ensures ∙ i.2) j);
+      depth = 0;
+      made = c.split_off-share.ensures.amount j;
+      known_log = ap (λ (s : Seated CpuView). s.known_log) after.1 j;
+      log = ap (λ (s : Seated CpuView). s.log) after.1 j;
+    }) in
     let are = subst (λ (l : List OnCpu). AreNewCpus z (n + 1) l) (sym c.push_reserved.ensures.items) (more_cpus z n c.loop-seat.cpus.items c.of_seat.result i.1 new) in (
       i.0 ∙ ap (λ (l : List (Seated CpuView)). seen ++ l) c.in-Some.ensures.steps.0 ∙ sym (append_assoc seen (c.in-Some.seat ∷ []) (into_iter_items c.next.new.self)),
       subst (λ k. AreNewCpus z k c.push_reserved.new.self.items) (sym more) are,

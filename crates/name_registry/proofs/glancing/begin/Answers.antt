@@ -10,9 +10,11 @@ returns-clause-begun c =
     let looked = c.snapshot_all-snapshots in
     let show = c.show_cpu.ensures in
     let z = c.args.words.now.settings in
-    subst (λ (s : Settings). HasBegun s c.args.keeper.now.keeper c.args.cpu.now.cpu looked.result c.retired_numbers-numbers.result c.show_cpu.new.keeper.keeper c.show_cpu.new.cpu.cpu) c.requires.words.1 record {
+    subst (λ (s : Settings). HasBegun s c.args.keeper.now.keeper c.args.cpu.now.cpu looked.result c.retired_numbers-numbers.result c.show_cpu.new.keeper.keeper c.show_cpu.new.cpu.cpu)
+    c.requires.words.1 record {
       own = hear.own;
-      hold = made_hold (SnapshotsBelow looked.result z.cpus) z c.args.keeper.now.keeper c.hear_cpu.new.keeper.keeper looked.new.keeper.keeper c.show_cpu.new.keeper.keeper c.args.cpu.now.cpu c.hear_cpu.new.cpu.cpu c.show_cpu.new.cpu.cpu
+      hold = made_hold (SnapshotsBelow looked.result z.cpus) z c.args.keeper.now.keeper c.hear_cpu.new.keeper.keeper looked.new.keeper.keeper c.show_cpu.new.keeper.keeper c.args.cpu.now.cpu
+          c.hear_cpu.new.cpu.cpu c.show_cpu.new.cpu.cpu
           hear.keeper hear.seen hear.known hear.own hear.cpu looked.ensures.looks looked.ensures.slots show.keeper show.cpu show.told show.log;
       numbers = c.retired_numbers-numbers.ensures;
     }

@@ -17,7 +17,8 @@ kept_sub-requires-clause-may c =
     let inside = c.keeper.inside in
     let k = inside.seat.view in
     let u = c.in-Some.driver_slot in
-    let keeps = keeps_at inside.settings k inside.rows inside.changes c.args.slot u c.args.keeper.now.keeper c.keeper.invariant (keeper_is c.keeper.view_is) c.requires.iface (sym c.kept_slot.ensures ∙ c.in-Some.is) in
+    let keeps = keeps_at inside.settings k inside.rows inside.changes c.args.slot u c.args.keeper.now.keeper c.keeper.invariant (keeper_is c.keeper.view_is) c.requires.iface
+    (sym c.kept_slot.ensures ∙ c.in-Some.is) in
     may_free inside.settings k inside.rows inside.changes c.args.slot u c.args.keeper.now.keeper c.keeper.invariant (keeper_is c.keeper.view_is) c.requires.iface c.requires.drained keeps
 
 pub overflow_sub-keeper : goal.overflow_sub-keeper
@@ -25,7 +26,8 @@ overflow_sub-keeper c =
     let inside = c.keeper.inside in
     let k = inside.seat.view in
     let u = c.in-Some.driver_slot in
-    let keeps = keeps_at inside.settings k inside.rows inside.changes c.args.slot u c.args.keeper.now.keeper c.keeper.invariant (keeper_is c.keeper.view_is) c.requires.iface (sym c.kept_slot.ensures ∙ c.in-Some.is) in
+    let keeps = keeps_at inside.settings k inside.rows inside.changes c.args.slot u c.args.keeper.now.keeper c.keeper.invariant (keeper_is c.keeper.view_is) c.requires.iface
+    (sym c.kept_slot.ensures ∙ c.in-Some.is) in
     (held_row inside.settings k inside.rows u c.keeper.invariant.view c.keeper.invariant.rows keeps.held).positive
 
 pub invariant_of-keeper : goal.invariant_of-keeper
@@ -35,11 +37,13 @@ invariant_of-keeper c =
     let l = c.kept_sub.new.keeper.view in
     let t = c.args.slot in
     let u = c.in-Some.driver_slot in
-    let keeps = keeps_at inside.settings k inside.rows inside.changes t u c.args.keeper.now.keeper c.keeper.invariant (keeper_is c.keeper.view_is) c.requires.iface (sym c.kept_slot.ensures ∙ c.in-Some.is) in
+    let keeps = keeps_at inside.settings k inside.rows inside.changes t u c.args.keeper.now.keeper c.keeper.invariant (keeper_is c.keeper.view_is) c.requires.iface
+    (sym c.kept_slot.ensures ∙ c.in-Some.is) in
     freed_keeper inside.settings k l inside.rows inside.changes t u c.args.keeper.now.keeper c.keeper.invariant (keeper_is c.keeper.view_is) c.requires.drained keeps
     c.kept_sub.ensures.change (step_is_shown c.kept_sub.ensures.step.event)
 
 pub returns-clause-change : goal.returns-clause-change
 returns-clause-change c =
     let inside = c.keeper.inside in
-    has_freed inside.settings inside.seat.view c.kept_sub.new.keeper.view inside.rows c.args.slot c.in-Some.driver_slot (row_at inside.rows c.args.slot) c.args.keeper.now.keeper (keeper_is c.keeper.view_is) c.keeper.invariant.rows c.kept_sub.ensures.step.event c.kept_sub.ensures.change c.kept_sub.ensures.step.log c.kept_sub.ensures.freed
+    has_freed inside.settings inside.seat.view c.kept_sub.new.keeper.view inside.rows c.args.slot c.in-Some.driver_slot (row_at inside.rows c.args.slot) c.args.keeper.now.keeper
+    (keeper_is c.keeper.view_is) c.keeper.invariant.rows c.kept_sub.ensures.step.event c.kept_sub.ensures.change c.kept_sub.ensures.step.log c.kept_sub.ensures.freed

@@ -14,12 +14,16 @@ pub invariant_of-cpu : goal.invariant_of-cpu
 invariant_of-cpu c =
     let shallow : c.cpu.inside.depth ≡ 0 = ap (λ (o : OnPlainCpu). o.cpu.depth) c.cpu.view_is ∙ c.requires.outside in
     let unended = subst (λ (o : OnPlainCpu). IsTrue (may_begin o.cpu.view)) (sym c.cpu.view_is) c.requires.room in
-    from_outside_agrees _ _ _ _ _ _ _ _ _ _ _ _ _ _ _ _ (key_with c.args.kind c.args.name) c.cpu.invariant (c.exit_counted.ensures.step.table ∙ c.in_default.ensures.table ∙ c.enter.ensures.step.table) shallow unended c.enter.ensures.step.event c.enter.ensures.change c.in_default.ensures.is_shown c.in_default.ensures.change (step_is_shown c.exit_counted.ensures.step.event) c.exit_counted.ensures.change c.exit_counted.ensures.count
+    from_outside_agrees _ _ _ _ _ _ _ _ _ _ _ _ _ _ _ _ (key_with c.args.kind c.args.name) c.cpu.invariant
+    (c.exit_counted.ensures.step.table ∙ c.in_default.ensures.table ∙ c.enter.ensures.step.table) shallow unended c.enter.ensures.step.event c.enter.ensures.change c.in_default.ensures.is_shown
+    c.in_default.ensures.change (step_is_shown c.exit_counted.ensures.step.event) c.exit_counted.ensures.change c.exit_counted.ensures.count
 
 pub returns-in_default-clause-found : goal.returns-in_default-clause-found
 returns-in_default-clause-found c =
     let shallow : c.cpu.inside.depth ≡ 0 = ap (λ (o : OnPlainCpu). o.cpu.depth) c.cpu.view_is ∙ c.requires.outside in
-    found_from_outside (key_with c.args.kind c.args.name) _ _ _ _ _ _ _ _ (ap (λ (o : OnPlainCpu). o.cpu) c.cpu.view_is) c.cpu.invariant.idle c.cpu.invariant.id shallow c.enter.ensures.step c.enter.ensures.change c.in_default.ensures.change c.in_default.ensures.known_log c.in_default.ensures.log c.exit_counted.ensures.step c.exit_counted.ensures.change
+    found_from_outside (key_with c.args.kind c.args.name) _ _ _ _ _ _ _ _
+    (ap (λ (o : OnPlainCpu). o.cpu) c.cpu.view_is) c.cpu.invariant.idle c.cpu.invariant.id shallow c.enter.ensures.step c.enter.ensures.change c.in_default.ensures.change
+    c.in_default.ensures.known_log c.in_default.ensures.log c.exit_counted.ensures.step c.exit_counted.ensures.change
 
 pub exit_counted-requires-2-clause-may : goal.exit_counted-requires-2-clause-may
 exit_counted-requires-2-clause-may c = may_exit (key_with c.args.kind c.args.name) _ _ _ (may_seek _ _ c.cpu.invariant.idle c.enter.ensures.change) c.in-Some.ensures.change
@@ -28,12 +32,16 @@ pub invariant_of-cpu-2 : goal.invariant_of-cpu-2
 invariant_of-cpu-2 c =
     let shallow : c.cpu.inside.depth ≡ 0 = ap (λ (o : OnPlainCpu). o.cpu.depth) c.cpu.view_is ∙ c.requires.outside in
     let unended = subst (λ (o : OnPlainCpu). IsTrue (may_begin o.cpu.view)) (sym c.cpu.view_is) c.requires.room in
-    from_outside_agrees _ _ _ _ _ _ _ _ _ _ _ _ _ _ _ _ (key_with c.args.kind c.args.name) c.cpu.invariant (c.exit_counted-2.ensures.step.table ∙ c.in-Some.ensures.table ∙ c.enter.ensures.step.table) shallow unended c.enter.ensures.step.event c.enter.ensures.change c.in-Some.ensures.is_shown c.in-Some.ensures.change (step_is_shown c.exit_counted-2.ensures.step.event) c.exit_counted-2.ensures.change c.exit_counted-2.ensures.count
+    from_outside_agrees _ _ _ _ _ _ _ _ _ _ _ _ _ _ _ _ (key_with c.args.kind c.args.name) c.cpu.invariant
+    (c.exit_counted-2.ensures.step.table ∙ c.in-Some.ensures.table ∙ c.enter.ensures.step.table) shallow unended c.enter.ensures.step.event c.enter.ensures.change c.in-Some.ensures.is_shown
+    c.in-Some.ensures.change (step_is_shown c.exit_counted-2.ensures.step.event) c.exit_counted-2.ensures.change c.exit_counted-2.ensures.count
 
 pub returns-clause-found : goal.returns-clause-found
 returns-clause-found c =
     let shallow : c.cpu.inside.depth ≡ 0 = ap (λ (o : OnPlainCpu). o.cpu.depth) c.cpu.view_is ∙ c.requires.outside in
-    found_from_outside (key_with c.args.kind c.args.name) _ _ _ _ _ _ _ _ (ap (λ (o : OnPlainCpu). o.cpu) c.cpu.view_is) c.cpu.invariant.idle c.cpu.invariant.id shallow c.enter.ensures.step c.enter.ensures.change c.in-Some.ensures.change c.in-Some.ensures.known_log c.in-Some.ensures.log c.exit_counted-2.ensures.step c.exit_counted-2.ensures.change
+    found_from_outside (key_with c.args.kind c.args.name) _ _ _ _ _ _ _ _
+    (ap (λ (o : OnPlainCpu). o.cpu) c.cpu.view_is) c.cpu.invariant.idle c.cpu.invariant.id shallow c.enter.ensures.step c.enter.ensures.change c.in-Some.ensures.change c.in-Some.ensures.known_log
+    c.in-Some.ensures.log c.exit_counted-2.ensures.step c.exit_counted-2.ensures.change
 
 pub returns-clause-slot : goal.returns-clause-slot
 returns-clause-slot c = slot_seen (key_with c.args.kind c.args.name) _ _ (Some c.in-Some.seen) c.in-Some.ensures.change

@@ -27,5 +27,6 @@ pub returns-clause-change : goal.returns-clause-change
 returns-clause-change c =
     let inside = c.keeper.inside in
     let v = c.args.reference.view in
-    has_given_up inside.seat.view c.join_keeper.new.keeper.view c.total_sub.new.keeper.view inside.rows c.args.slot v v c.args.keeper.now.keeper (keeper_is c.keeper.view_is) refl c.keeper.invariant.view.rest c.requires.slot.1
+    has_given_up inside.seat.view c.join_keeper.new.keeper.view c.total_sub.new.keeper.view inside.rows c.args.slot v v c.args.keeper.now.keeper
+    (keeper_is c.keeper.view_is) refl c.keeper.invariant.view.rest c.requires.slot.1
     c.join_keeper.ensures.change c.join_keeper.ensures.event c.total_sub.ensures.step.event c.total_sub.ensures.change c.join_keeper.ensures.step.log c.total_sub.ensures.step.log

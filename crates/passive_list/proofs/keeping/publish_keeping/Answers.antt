@@ -14,7 +14,8 @@ pub publish_entry-requires-clause-may : goal.publish_entry-requires-clause-may
 publish_entry-requires-clause-may c =
     let e : Entry = record { number = c.keeper.inside.changes + 1; slot = c.args.slot; rec = c.args.rec } in
     subst (λ (a : Settings). MayAttach a c.keep.new.keeper.view (rows_keeping c.keeper.inside.rows c.args.slot c.args.number) e) (settings_are c.keeper.view_is ∙ sym c.requires.words.1)
-    (may_attach _ _ _ _ _ _ _ _ c.args.reference.view _ c.keeper.invariant c.keeper.view_is c.keep.ensures.change c.requires.number c.requires.vacant c.requires.kind c.requires.name c.requires.free c.requires.room)
+    (may_attach _ _ _ _ _ _ _ _ c.args.reference.view _ c.keeper.invariant c.keeper.view_is c.keep.ensures.change c.requires.number c.requires.vacant c.requires.kind c.requires.name c.requires.free
+    c.requires.room)
 
 pub invariant_of-keeper : goal.invariant_of-keeper
 invariant_of-keeper c =
@@ -22,7 +23,8 @@ invariant_of-keeper c =
     let k = c.keep.new.keeper.view in
     let l = c.publish_entry.new.seat.view in
     let e : Entry = record { number = inside.changes + 1; slot = c.args.slot; rec = c.args.rec } in
-    let asked = may_attach _ _ _ _ _ _ _ _ c.args.reference.view _ c.keeper.invariant c.keeper.view_is c.keep.ensures.change c.requires.number c.requires.vacant c.requires.kind c.requires.name c.requires.free c.requires.room in
+    let asked = may_attach _ _ _ _ _ _ _ _ c.args.reference.view _ c.keeper.invariant c.keeper.view_is c.keep.ensures.change c.requires.number c.requires.vacant c.requires.kind c.requires.name
+    c.requires.free c.requires.room in
     let has = c.publish_entry.ensures.change in
     published_keeper inside.settings k l (rows_keeping inside.rows c.args.slot c.args.number) inside.changes e has.link
     (c.keeper.invariant.changes ∙ same_history inside.seat.view k e.slot c.args.reference.view c.keep.ensures.change) asked has.view
@@ -44,5 +46,6 @@ returns-clause-change c =
         entry = subst (λ (x : KeeperView). HasEntry x e l) c.keep.ensures.change c.publish_entry.ensures.change;
         slots = map-set state_of rows t (row_live (row_at rows t) e) ∙ ap (λ (xs : List Slot). set xs t (Live e)) (states_keeping inside.rows t c.args.number);
       };
-      keeping = c.publish_entry.ensures.attached v.entry.number (keeps_it _ _ _ _ _ t v c.keeper.invariant (subst (λ (z : Settings). t < z.slots) (sym (settings_are c.keeper.view_is)) c.requires.vacant.0) c.keep.ensures.change);
+      keeping = c.publish_entry.ensures.attached v.entry.number (keeps_it _ _ _ _ _ t v c.keeper.invariant
+          (subst (λ (z : Settings). t < z.slots) (sym (settings_are c.keeper.view_is)) c.requires.vacant.0) c.keep.ensures.change);
     }

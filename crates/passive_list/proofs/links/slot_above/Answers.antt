@@ -9,7 +9,8 @@ pub returns-clause-before : goal.returns-clause-before
 returns-clause-before c =
     let rows = c.args.rows.now in
     let end : c.loop-t.t ≡ MOST_SLOTS = omega (arith, c.loop-t.auto.t-end, c.loop-t-test.false) in
-    subst (IsBefore (states_of rows) c.args.number) (sym (c.place_of.ensures ∙ ap place_of (c.loop-t.invariant ∙ ap (oldest_to rows c.args.number) end))) (oldest_before rows c.args.number c.told-rows).0
+    subst (IsBefore (states_of rows) c.args.number) (sym (c.place_of.ensures ∙ ap place_of (c.loop-t.invariant ∙ ap (oldest_to rows c.args.number) end)))
+    (oldest_before rows c.args.number c.told-rows).0
 
 pub returns-clause-place : goal.returns-clause-place
 returns-clause-place c =

@@ -9,13 +9,15 @@ use Rattle.passive_list.proofs.looking.look_passive.Goals as goal
 pub invariant_of-keeper : goal.invariant_of-keeper
 invariant_of-keeper c =
     let retired = ap (λ (x : OnPlainKeeper). slot_at x.keeper.slots c.args.slot) c.keeper.view_is ∙ c.requires.retired.1 in
-    looked_keeper _ _ _ _ _ _ _ _ _ (λ m. mark_after_passive_look m c.passive_look-word.result) _ _ c.keeper.invariant retired c.cleared-mark.ensures c.passive_look-word.ensures.change c.passive_look-word.ensures.step.event
+    looked_keeper _ _ _ _ _ _ _ _ _ (λ m. mark_after_passive_look m c.passive_look-word.result) _ _ c.keeper.invariant retired c.cleared-mark.ensures c.passive_look-word.ensures.change
+    c.passive_look-word.ensures.step.event
 
 pub returns-clause-clear : goal.returns-clause-clear
 returns-clause-clear c =
     let retired = ap (λ (x : OnPlainKeeper). slot_at x.keeper.slots c.args.slot) c.keeper.view_is ∙ c.requires.retired.1 in
     let our = c.keeper.invariant in
-    ap (λ (m : Mark). m.clear) (looked_mark _ _ _ _ _ _ _ _ (λ m. mark_after_passive_look m c.passive_look-word.result) _ _ our.view our.rows retired (subst (λ (x : OnPlainKeeper). c.args.cpu < x.words.settings.cpus) (sym c.keeper.view_is) c.requires.cpu) c.cleared-mark.ensures c.passive_look-word.ensures.change)
+    ap (λ (m : Mark). m.clear) (looked_mark _ _ _ _ _ _ _ _ (λ m. mark_after_passive_look m c.passive_look-word.result) _ _ our.view our.rows retired
+    (subst (λ (x : OnPlainKeeper). c.args.cpu < x.words.settings.cpus) (sym c.keeper.view_is) c.requires.cpu) c.cleared-mark.ensures c.passive_look-word.ensures.change)
 
 pub returns-clause-slots : goal.returns-clause-slots
 returns-clause-slots c = looked_states c.keeper.inside.rows c.args.slot c.args.cpu c.cleared-mark.result ∙ ap (λ (x : OnPlainKeeper). x.keeper.slots) c.keeper.view_is

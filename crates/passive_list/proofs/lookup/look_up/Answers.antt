@@ -16,8 +16,10 @@ on : (c : After-visit-number) → IsOn (key_with c.args.kind c.args.name) c.args
 on c = on_slot _ _ _ _ _ c.loop-link-test.true c.loop-link.invariant.at
 
 -- what it loaded there, where the entry is the one sought and where it isn't
-had : (c : After-visit-number) (b : Bool) → c.visit-number.result.1 ≡ b → HasVisited c.loop-link.seat.view (key_with c.args.kind c.args.name) (c.loop-link.link - 1) c.visit-number.result.0 b c.visit-number.new.seat.view
-had c b is = subst (λ (b : Bool). HasVisited c.loop-link.seat.view (key_with c.args.kind c.args.name) (c.loop-link.link - 1) c.visit-number.result.0 b c.visit-number.new.seat.view) is c.visit-number.ensures.change
+had : (c : After-visit-number) (b : Bool) → c.visit-number.result.1 ≡ b
+    → HasVisited c.loop-link.seat.view (key_with c.args.kind c.args.name) (c.loop-link.link - 1) c.visit-number.result.0 b c.visit-number.new.seat.view
+had c b is = subst (λ (b : Bool). HasVisited c.loop-link.seat.view (key_with c.args.kind c.args.name) (c.loop-link.link - 1) c.visit-number.result.0 b c.visit-number.new.seat.view) is
+    c.visit-number.ensures.change
 
 its_cpu : (c : After-visit-number) → c.visit-number.new.seat.view.id ≡ c.args.cpu
 its_cpu c = visit_id _ _ _ _ _ _ _ _ (on c) c.visit-number.ensures.change ∙ c.loop-link.invariant.cpu
@@ -102,4 +104,5 @@ returns-clause-log c =
     let x = c.args.seat.now.view in
     let so_far = c.loop-link.invariant.visited in
     let missed = at_end key x c.loop-link.seat.view c.loop-link.link c.loop-link.last c.loop-link-test.false c.loop-link.invariant.at in
-    (search_missed c.args.cpu x.settings.slots key c.loop-link.link so_far.0 _ _ c.loop-link-test.false (few_missed key x c.loop-link.seat.view so_far.0 c.loop-link.last missed so_far.2) so_far.1 c.loop-link.invariant.ends).0
+    (search_missed c.args.cpu x.settings.slots key c.loop-link.link so_far.0 _ _ c.loop-link-test.false
+    (few_missed key x c.loop-link.seat.view so_far.0 c.loop-link.last missed so_far.2) so_far.1 c.loop-link.invariant.ends).0

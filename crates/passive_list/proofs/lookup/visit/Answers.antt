@@ -7,14 +7,18 @@ use Rattle.passive_list.proofs.Searches.{four_loaded}
 use Rattle.passive_list.proofs.lookup.visit.Goals as goal
 
 pub load_searched-found-requires-clause-may : goal.load_searched-found-requires-clause-may
-load_searched-found-requires-clause-may c = may_load _ (key_with c.args.kind c.args.name) _ _ 1 _ (at_kind _ _ (key_with c.args.kind c.args.name) _ _ _ c.requires.may.1 c.load_searched-number.ensures.change) (refl, refl)
+load_searched-found-requires-clause-may c =
+    may_load _ (key_with c.args.kind c.args.name) _ _ 1 _ (at_kind _ _ (key_with c.args.kind c.args.name) _ _ _ c.requires.may.1 c.load_searched-number.ensures.change) (refl, refl)
 
 pub load_searched-high-requires-clause-may : goal.load_searched-high-requires-clause-may
-load_searched-high-requires-clause-may c = may_load _ (key_with c.args.kind c.args.name) _ _ 2 _ (at_high _ _ (key_with c.args.kind c.args.name) _ _ _ _ (at_kind _ _ (key_with c.args.kind c.args.name) _ _ _ c.requires.may.1 c.load_searched-number.ensures.change) c.load_searched-found.ensures.change) (refl, refl)
+load_searched-high-requires-clause-may c = may_load _ (key_with c.args.kind c.args.name) _ _ 2 _
+    (at_high _ _ (key_with c.args.kind c.args.name) _ _ _ _ (at_kind _ _ (key_with c.args.kind c.args.name) _ _ _ c.requires.may.1 c.load_searched-number.ensures.change)
+    c.load_searched-found.ensures.change) (refl, refl)
 
 pub load_searched-low-requires-clause-may : goal.load_searched-low-requires-clause-may
 load_searched-low-requires-clause-may c =
-    let high = at_high _ _ (key_with c.args.kind c.args.name) _ _ _ _ (at_kind _ _ (key_with c.args.kind c.args.name) _ _ _ c.requires.may.1 c.load_searched-number.ensures.change) c.load_searched-found.ensures.change in
+    let high = at_high _ _ (key_with c.args.kind c.args.name) _ _ _ _
+    (at_kind _ _ (key_with c.args.kind c.args.name) _ _ _ c.requires.may.1 c.load_searched-number.ensures.change) c.load_searched-found.ensures.change in
     may_load _ (key_with c.args.kind c.args.name) _ _ 3 _ (at_low _ _ (key_with c.args.kind c.args.name) _ _ _ _ _ high c.load_searched-high.ensures.change) (refl, refl)
 
 pub returns-clause-change : goal.returns-clause-change
@@ -26,4 +30,5 @@ returns-clause-change c =
     subst (λ (b : Bool). HasVisited c.args.seat.now.view key c.args.slot c.load_searched-number.result b c.load_searched-low.new.seat.view) (sym c.are_words_of.ensures) all
 
 pub returns-clause-log : goal.returns-clause-log
-returns-clause-log c = four_loaded c.args.cpu _ _ _ _ _ _ _ _ _ c.load_searched-number.ensures.step.log c.load_searched-found.ensures.step.log c.load_searched-high.ensures.step.log c.load_searched-low.ensures.step.log
+returns-clause-log c =
+    four_loaded c.args.cpu _ _ _ _ _ _ _ _ _ c.load_searched-number.ensures.step.log c.load_searched-found.ensures.step.log c.load_searched-high.ensures.step.log c.load_searched-low.ensures.step.log

@@ -24,4 +24,5 @@ store_next-requires-clause-may c =
     counts_may l c.store_counts.new.seat.view t c.args.cpus (row_may k l t w c.requires.may c.store_row.ensures.row) c.store_counts.ensures.counts
 
 pub returns-clause-prepared : goal.returns-clause-prepared
-returns-clause-prepared c = prepared_from c.args.seat.now.view c.store_row.new.seat.view c.store_counts.new.seat.view c.store_next.new.keeper.view c.args.entry.now c.args.cpus c.args.link c.requires.fit.1 c.store_row.ensures.row c.store_counts.ensures.counts c.store_next.ensures.change
+returns-clause-prepared c = prepared_from c.args.seat.now.view c.store_row.new.seat.view c.store_counts.new.seat.view c.store_next.new.keeper.view c.args.entry.now c.args.cpus c.args.link
+    c.requires.fit.1 c.store_row.ensures.row c.store_counts.ensures.counts c.store_next.ensures.change

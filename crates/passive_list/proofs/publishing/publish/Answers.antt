@@ -28,7 +28,8 @@ pub returns-clause-change : goal.returns-clause-change
 returns-clause-change c =
     let inside = c.keeper.inside in
     let e : Entry = record { number = inside.changes + 1; slot = c.args.slot; rec = c.args.rec } in
-    let b : OnKeeper = record { view = c.publish_entry.new.seat.view; slots = states_of (set inside.rows c.args.slot (row_live (row_at inside.rows c.args.slot) e)); log = c.publish_entry.new.seat.log } in
+    let b : OnKeeper =
+    record { view = c.publish_entry.new.seat.view; slots = states_of (set inside.rows c.args.slot (row_live (row_at inside.rows c.args.slot) e)); log = c.publish_entry.new.seat.log } in
     subst (λ (x : OnPlainKeeper). HasAttached x.keeper e b) c.keeper.view_is record {
       entry = c.publish_entry.ensures.change;
       slots = map-set state_of inside.rows c.args.slot (row_live (row_at inside.rows c.args.slot) e);

@@ -7,8 +7,11 @@ use Rattle.passive_list.proofs.publishing.publish_entry.Goals as goal
 
 pub publish-requires-clause-may : goal.publish-requires-clause-may
 publish-requires-clause-may c =
-    let e = c.args.entry.now in
-    (e, subst (λ (x : KeeperView). MayPublish x e.slot e) (sym c.prepare.ensures.prepared) (may_publish c.args.words.now.settings c.args.seat.now.view c.args.rows.now e c.link_below-link.result c.requires.may c.link_below-link.ensures))
+    let e = c.args.entry.now in (
+      e,
+      subst (λ (x : KeeperView). MayPublish x e.slot e) (sym c.prepare.ensures.prepared)
+          (may_publish c.args.words.now.settings c.args.seat.now.view c.args.rows.now e c.link_below-link.result c.requires.may c.link_below-link.ensures),
+    )
 
 pub returns-clause-change : goal.returns-clause-change
 returns-clause-change c =
@@ -26,4 +29,5 @@ returns-clause-change c =
     }
 
 pub returns-clause-attached : goal.returns-clause-attached
-returns-clause-attached c d keeps = attached_as c.args.seat.now.view c.prepare.new.seat.view c.args.entry.now c.link_below-link.result d c.publish.new.keeper.log c.prepare.ensures.prepared c.requires.may.number (λ is. c.publish.ensures.attached d is) keeps
+returns-clause-attached c d keeps = attached_as c.args.seat.now.view c.prepare.new.seat.view c.args.entry.now c.link_below-link.result d c.publish.new.keeper.log c.prepare.ensures.prepared
+    c.requires.may.number (λ is. c.publish.ensures.attached d is) keeps

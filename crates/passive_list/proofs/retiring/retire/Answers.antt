@@ -11,7 +11,8 @@ use Rattle.passive_list.proofs.retiring.retire.Goals as goal
 pub unpublish-requires-clause-may : goal.unpublish-requires-clause-may
 unpublish-requires-clause-may c =
     let inside = c.keeper.inside in
-    may_unpublish inside.settings inside.seat.view inside.rows c.args.slot c.in-Live.entry c.slot_above-before.result c.link_below-link.result c.keeper.invariant.view c.keeper.invariant.rows c.in-Live.is c.slot_above-before.ensures.before c.link_below-link.ensures
+    may_unpublish inside.settings inside.seat.view inside.rows c.args.slot c.in-Live.entry c.slot_above-before.result c.link_below-link.result c.keeper.invariant.view c.keeper.invariant.rows
+    c.in-Live.is c.slot_above-before.ensures.before c.link_below-link.ensures
 
 pub snapshots-marks-requires-clause-is_shown : goal.snapshots-marks-requires-clause-is_shown
 snapshots-marks-requires-clause-is_shown c = step_is_shown c.unpublish.ensures.step.event
@@ -48,7 +49,8 @@ returns-clause-change c =
       is_before = before_in a k inside.rows e.number p our.view our.rows c.slot_above-before.ensures.before;
       link = v;
       leads = leads_in a k inside.rows e.number v our.view our.rows c.link_below-link.ensures;
-      made = subst (λ (x : KeeperView). Makes (Unpublish t) Done (Keeper k) (Keeper x)) (unpublished_is k c.unpublish.new.keeper.view t e p v live.1 c.unpublish.ensures.change) c.unpublish.ensures.step.event;
+      made = subst (λ (x : KeeperView). Makes (Unpublish t) Done (Keeper k) (Keeper x))
+          (unpublished_is k c.unpublish.new.keeper.view t e p v live.1 c.unpublish.ensures.change) c.unpublish.ensures.step.event;
       marks = marks;
       snapshots = subst (λ (z : Settings). AreSnapshots z.cpus marks) (sym our.view.settings) c.snapshots-marks.ensures.marks;
       view = detached_is k c.unpublish.new.keeper.view c.snapshots-marks.new.seat.view t e p v marks live.1 c.unpublish.ensures.change c.snapshots-marks.ensures.view;

@@ -13,7 +13,8 @@ loop-c-preserved c =
     let few = c.requires.fit.2 in
     let i = c.loop-c.invariant in (
       c.snapshot-word.ensures.step.table ∙ i.0,
-      taking_next c.args.seat.now.view c.loop-c.seat.view c.snapshot-word.new.keeper.view c.args.slot c.args.cpus c.loop-c.c c.snapshot-word.result c.loop-c.marks c.requires.fresh c.requires.fit.0 i.1 c.snapshot-word.ensures.change,
+      taking_next c.args.seat.now.view c.loop-c.seat.view c.snapshot-word.new.keeper.view c.args.slot c.args.cpus c.loop-c.c c.snapshot-word.result c.loop-c.marks c.requires.fresh c.requires.fit.0 i.1
+          c.snapshot-word.ensures.change,
       one_taken c.loop-c.c c.snapshot-word.result c.loop-c.marks (omega (arith, lt, few)) i.2,
       step_is_shown c.snapshot-word.ensures.step.event,
     )

@@ -22,4 +22,6 @@ invariant_of-keeper c =
 pub returns-clause-change : goal.returns-clause-change
 returns-clause-change c =
     let inside = c.keeper.inside in
-    has_vacated inside.settings inside.seat.view c.vacate.new.keeper.view inside.rows c.args.slot (row_at inside.rows c.args.slot) c.args.keeper.now.keeper (ap (λ (x : OnPlainKeeper). x.keeper) c.keeper.view_is) c.keeper.invariant.rows c.vacate.ensures.event c.vacate.ensures.hears c.vacate.ensures.change c.vacate.ensures.step.log c.vacate.ensures.freed
+    has_vacated inside.settings inside.seat.view c.vacate.new.keeper.view inside.rows c.args.slot (row_at inside.rows c.args.slot) c.args.keeper.now.keeper
+    (ap (λ (x : OnPlainKeeper). x.keeper) c.keeper.view_is) c.keeper.invariant.rows c.vacate.ensures.event c.vacate.ensures.hears c.vacate.ensures.change c.vacate.ensures.step.log
+    c.vacate.ensures.freed

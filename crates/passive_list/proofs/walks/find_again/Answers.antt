@@ -49,7 +49,8 @@ returns-in_err-seen-clause-log c = λ e is.
     let x = c.args.seat.now.view in
     let key = key_with c.noted_kind-kind.result c.of_words-name.result in
     let same = key_noted e c.args.noted c.noted_kind-kind.result c.of_words-name.result is c.noted_kind-kind.ensures c.of_words-name.ensures in
-    looked_up_again c.args.cpu x.settings.slots e key _ (entry_seen key c.look_up.result) _ _ same c.look_up.ensures.log (λ f q. let clash : ◌≡◌ {A = Option Entry} None (Some f) = sym c.from_residual.ensures ∙ q in cc)
+    looked_up_again c.args.cpu x.settings.slots e key _ (entry_seen key c.look_up.result) _ _ same c.look_up.ensures.log
+    (λ f q. let clash : ◌≡◌ {A = Option Entry} None (Some f) = sym c.from_residual.ensures ∙ q in cc)
 
 pub returns-then-seen-noted-clause-log : goal.returns-then-seen-noted-clause-log
 returns-then-seen-noted-clause-log c = λ e is.

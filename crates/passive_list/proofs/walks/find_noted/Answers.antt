@@ -2,7 +2,8 @@
 use Rattle.std.proofs.Common.{ℕ, List, ◌<◌, length, take, refl, ◌∙◌, subst, arith}
 use Rattle.passive_list.specs.Types.{Entry}
 use Rattle.passive_list.specs.Common.{Noted, HaveBeenFound, LooksUpAgain, LooksUpEach}
-use Rattle.passive_list.proofs.FoundAgain.{none_found, searched_none, searched_on, searched_id, may_seek_again, next_found, next_looked_up, all_taken, searched_slots, rest_stays, few_written, size_stays}
+use Rattle.passive_list.proofs.FoundAgain.{none_found, searched_none, searched_on, searched_id, may_seek_again, next_found, next_looked_up, all_taken, searched_slots, rest_stays, few_written}
+use Rattle.passive_list.proofs.FoundAgain.{size_stays}
 use Rattle.passive_list.proofs.Searches.{none_looked_up}
 use Rattle.passive_list.proofs.walks.find_noted.Goals as goal
 
@@ -45,7 +46,8 @@ loop-entry-preserved c =
       cpu = searched_id y w again.view ∙ so_far.cpu;
       known_log = again.known_log ∙ so_far.known_log;
       log = λ es are. next_looked_up c.args.cpu x.settings.slots y w x.pass c.args.noted.now no_words old new n next i answer _ _ _ c.loop-entry-test.true room so_far.view.pass
-          again.change (λ e is. subst (λ (slots : ℕ). LooksUpAgain c.args.cpu slots e answer c.loop-entry.seat.log c.find_again-found.new.seat.log) (searched_slots x y so_far.view) (again.log e is)) wrote es are (so_far.log es are);
+          again.change (λ e is. subst (λ (slots : ℕ). LooksUpAgain c.args.cpu slots e answer c.loop-entry.seat.log c.find_again-found.new.seat.log) (searched_slots x y so_far.view) (again.log e is))
+          wrote es are (so_far.log es are);
       few = few_written old new n next i answer wrote so_far.few;
       size = size_stays old new n next answer wrote ∙ so_far.size;
       view = searched_on x y w so_far.view again.view;

@@ -10,7 +10,8 @@ pub load_searched-kind-requires-clause-may : goal.load_searched-kind-requires-cl
 load_searched-kind-requires-clause-may c = may_load _ nobody _ _ 1 _ (at_kind _ _ nobody _ _ _ c.requires.may.1 c.load_searched-number.ensures.change) (refl, refl)
 
 pub load_searched-high-requires-clause-may : goal.load_searched-high-requires-clause-may
-load_searched-high-requires-clause-may c = may_load _ nobody _ _ 2 _ (at_high _ _ nobody _ _ _ _ (at_kind _ _ nobody _ _ _ c.requires.may.1 c.load_searched-number.ensures.change) c.load_searched-kind.ensures.change) (refl, refl)
+load_searched-high-requires-clause-may c =
+    may_load _ nobody _ _ 2 _ (at_high _ _ nobody _ _ _ _ (at_kind _ _ nobody _ _ _ c.requires.may.1 c.load_searched-number.ensures.change) c.load_searched-kind.ensures.change) (refl, refl)
 
 pub load_searched-low-requires-clause-may : goal.load_searched-low-requires-clause-may
 load_searched-low-requires-clause-may c =
@@ -24,4 +25,5 @@ returns-clause-change c =
     c.load_searched-number.ensures.change c.load_searched-kind.ensures.change c.load_searched-high.ensures.change c.load_searched-low.ensures.change
 
 pub returns-clause-log : goal.returns-clause-log
-returns-clause-log c = four_loaded c.args.cpu _ _ _ _ _ _ _ _ _ c.load_searched-number.ensures.step.log c.load_searched-kind.ensures.step.log c.load_searched-high.ensures.step.log c.load_searched-low.ensures.step.log
+returns-clause-log c =
+    four_loaded c.args.cpu _ _ _ _ _ _ _ _ _ c.load_searched-number.ensures.step.log c.load_searched-kind.ensures.step.log c.load_searched-high.ensures.step.log c.load_searched-low.ensures.step.log

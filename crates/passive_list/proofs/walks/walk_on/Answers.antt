@@ -23,4 +23,5 @@ returns-clause-walked c =
     let row = take c.go_over-count.result c.go_over-count.new.row in
     let by = c.go_over-count.ensures.log in
     let log = subst (λ (i : ℕ). HasGoneOverBy i x.view.settings.slots by.0 row x.log y.log) (sym c.cpu.invariant.id) by.2 in
-    subst (λ (v : OnPlainCpu). HasWalked v.cpu b row) c.cpu.view_is (walked a b row c.cpu.invariant.idle.search c.go_over-count.ensures.change refl refl c.go_over-count.ensures.known_log by.0 by.1 log)
+    subst (λ (v : OnPlainCpu). HasWalked v.cpu b row) c.cpu.view_is
+    (walked a b row c.cpu.invariant.idle.search c.go_over-count.ensures.change refl refl c.go_over-count.ensures.known_log by.0 by.1 log)

@@ -7,7 +7,9 @@ use Rattle.passive_ref.proofs.Places.{held_here, none_here}
 use Rattle.passive_ref.proofs.holding.slot_of.Goals as goal
 
 pub returns-in-Some-clause-some : goal.returns-in-Some-clause-some
-returns-in-Some-clause-some c = subst (λ (o : OnPlainCpu). IsHeldAt o.cpu.view c.in-Some.slot c.args.number) c.cpu.view_is (held_here _ _ _ _ c.cpu.invariant.passive (sym c.place_for.ensures.value ∙ c.in-Some.is))
+returns-in-Some-clause-some c =
+    subst (λ (o : OnPlainCpu). IsHeldAt o.cpu.view c.in-Some.slot c.args.number) c.cpu.view_is (held_here _ _ _ _ c.cpu.invariant.passive (sym c.place_for.ensures.value ∙ c.in-Some.is))
 
 pub returns-in-None-clause-none : goal.returns-in-None-clause-none
-returns-in-None-clause-none c = λ _. subst (λ (o : OnPlainCpu). references_to c.args.number o.cpu.view.references ≡ 0) c.cpu.view_is (none_here _ _ _ c.cpu.invariant.passive (sym c.place_for.ensures.value ∙ c.in-None.is))
+returns-in-None-clause-none c =
+    λ _. subst (λ (o : OnPlainCpu). references_to c.args.number o.cpu.view.references ≡ 0) c.cpu.view_is (none_here _ _ _ c.cpu.invariant.passive (sym c.place_for.ensures.value ∙ c.in-None.is))

@@ -40,7 +40,8 @@ returns-then-list-count c =
       notes = λ (done : NO_ROOM ≡ DONE). absurd (omega (arith, done));
       unchanged = λ _. (refl, c.are_all.ensures.same);
       place = c.put.ensures.same;
-      answer = no_room z c.args.keeper.now.keeper cs _ _ _ _ all (omega (arith, c.if-list-count.true, c.count_entries-count.ensures)) refl (c.put.ensures.value ∙ ap (put c.args.length.now.value) c.count_entries-count.ensures);
+      answer = no_room z c.args.keeper.now.keeper cs _ _ _ _ all (omega (arith, c.if-list-count.true, c.count_entries-count.ensures)) refl
+          (c.put.ensures.value ∙ ap (put c.args.length.now.value) c.count_entries-count.ensures);
     }
 
 pub gather-requires : goal.gather-requires
@@ -69,7 +70,10 @@ returns-clause-answer c =
     let all = subst (λ (a : Settings). AreAllHere a.cpus cs) c.settings.ensures.value (c.are_all.ensures.all c.if-not-are_all.false) in
     let known = known_keeper _ _ _ _ _ c.settings.ensures.own.1.agree c.settings.ensures.own.1.are in
     let after = c.gather.new.keeper.keeper in
-    let told = subst (λ (w : Named). AreTold w.settings after (bodies_of c.gather.new.cpus) w.settings.slots (occupied after w.settings.slots) c.args.list.now c.write_balances.new.list) c.gather.ensures.keeper.0 c.write_balances.ensures.list in
-    let writes = audit_told z c.gather.new.keeper.keeper k (cpus_in (bodies_of c.gather.new.cpus)) (bodies_of c.gather.new.cpus) ds c.args.list.now c.write_balances.new.list known (subst (AreAllHere z.cpus) (sym same) all) c.gather.ensures.alike c.gather.ensures.keeper.1 c.gather.ensures.cpus told in
+    let told = subst (λ (w : Named). AreTold w.settings after (bodies_of c.gather.new.cpus) w.settings.slots (occupied after w.settings.slots) c.args.list.now c.write_balances.new.list)
+    c.gather.ensures.keeper.0 c.write_balances.ensures.list in
+    let writes = audit_told z c.gather.new.keeper.keeper k (cpus_in (bodies_of c.gather.new.cpus)) (bodies_of c.gather.new.cpus) ds c.args.list.now c.write_balances.new.list known
+    (subst (AreAllHere z.cpus) (sym same) all) c.gather.ensures.alike c.gather.ensures.keeper.1 c.gather.ensures.cpus told in
     audited z k cs _ _ _ _ all (omega (arith, c.if-list-count.false, c.count_entries-count.ensures))
-    (subst (λ (l : List (Option OnPlainCpu)). AuditWrites z k l c.args.list.now c.write_balances.new.list) same writes) (c.put.ensures.value ∙ ap (put c.args.length.now.value) c.count_entries-count.ensures)
+    (subst (λ (l : List (Option OnPlainCpu)). AuditWrites z k l c.args.list.now c.write_balances.new.list) same writes)
+    (c.put.ensures.value ∙ ap (put c.args.length.now.value) c.count_entries-count.ensures)

@@ -31,5 +31,6 @@ returns-clause-tally c =
     let total = c.less_bias-total.ensures ∙ ap less_bias had.total in
     let its = ap (λ (z : Settings). sum_of (take z.cpus c.locals-locals.result)) c.settings.ensures.value in
     let sum = c.sum.ensures.value ∙ its in
-    tally_told c.args.keeper.now.keeper (cpus_in (bodies_of c.args.cpus.now)) c.args.keeper.now.words.settings.cpus c.args.number c.args.t c.from.result _ _ _ c.from.ensures c.locals-locals.ensures.value
+    tally_told c.args.keeper.now.keeper (cpus_in (bodies_of c.args.cpus.now)) c.args.keeper.now.words.settings.cpus c.args.number c.args.t c.from.result _ _ _ c.from.ensures
+    c.locals-locals.ensures.value
     (omega (arith, ints, total, c.less_bias-total.type_inv)) (omega (arith, ints, sum, had.total, had.low, had.high, c.less_bias-total.ensures, c.sum.ensures.least, c.sum.ensures.most))

@@ -36,5 +36,6 @@ returns c =
     let end : c.loop-t.t ≡ c.args.keeper.now.words.settings.slots = omega (arith, c.loop-t-test.false, c.loop-t.auto.t-end, ap (λ (z : Settings). z.slots) c.settings-t-end.ensures.value) in
     record {
       cpus = i.0;
-      list = subst (λ (p : ℕ × ℕ). AreTold c.args.keeper.now.words.settings k (bodies_of c.args.cpus.now) p.0 p.1 c.args.list.now c.loop-t.list) (λ j. (end j, (i.1.place ∙ ap (occupied k) end) j)) i.1;
+      list = subst (λ (p : ℕ × ℕ). AreTold c.args.keeper.now.words.settings k (bodies_of c.args.cpus.now) p.0 p.1 c.args.list.now c.loop-t.list)
+          (λ j. (end j, (i.1.place ∙ ap (occupied k) end) j)) i.1;
     }

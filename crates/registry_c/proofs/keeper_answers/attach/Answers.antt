@@ -20,8 +20,13 @@ returns-in-Ok-clause-call c =
     let made : Attaches (record_of Driver c.in-Some.name c.args.value) k x l y c.attach.result = record { answer = e.answer; ok = e.ok; refused = e.refused; words = e.words } in
     record {
       bad = λ none. absurd (no_name _ _ named none);
-      good = λ m is. subst (λ (n : Name). (r : Result Entry Refusal) × (0 ≡ number_of r) × Attaches (record_of Driver n c.args.value) k x l y r × Puts entry_out r c.args.made.now.value c.put.new.self.value) (one_name _ _ _ named is)
-          (Ok c.in-Ok.entry, refl, subst (λ (r : Result Entry Refusal). Attaches (record_of Driver c.in-Some.name c.args.value) k x l y r) c.in-Ok.is made, c.put.ensures.value ∙ ap (put c.args.made.now.value) c.entry_out.ensures);
+      good = λ m is. subst (λ (n : Name). (r : Result Entry Refusal) × (0 ≡ number_of r) × Attaches (record_of Driver n c.args.value) k x l y r
+          × Puts entry_out r c.args.made.now.value c.put.new.self.value) (one_name _ _ _ named is) (
+            Ok c.in-Ok.entry,
+            refl,
+            subst (λ (r : Result Entry Refusal). Attaches (record_of Driver c.in-Some.name c.args.value) k x l y r) c.in-Ok.is made,
+            c.put.ensures.value ∙ ap (put c.args.made.now.value) c.entry_out.ensures,
+          );
     }
 
 pub returns-in-Err-clause-call : goal.returns-in-Err-clause-call
@@ -35,6 +40,7 @@ returns-in-Err-clause-call c =
     let made : Attaches (record_of Driver c.in-Some.name c.args.value) k x l y c.attach.result = record { answer = e.answer; ok = e.ok; refused = e.refused; words = e.words } in
     record {
       bad = λ none. absurd (no_name _ _ named none);
-      good = λ m is. subst (λ (n : Name). (r : Result Entry Refusal) × (c.refused.result ≡ number_of r) × Attaches (record_of Driver n c.args.value) k x l y r × Puts entry_out r c.args.made.now.value c.args.made.now.value) (one_name _ _ _ named is)
+      good = λ m is. subst (λ (n : Name). (r : Result Entry Refusal) × (c.refused.result ≡ number_of r) × Attaches (record_of Driver n c.args.value) k x l y r
+          × Puts entry_out r c.args.made.now.value c.args.made.now.value) (one_name _ _ _ named is)
           (Err c.in-Err.refusal, c.refused.ensures, subst (λ (r : Result Entry Refusal). Attaches (record_of Driver c.in-Some.name c.args.value) k x l y r) c.in-Err.is made, refl);
     }

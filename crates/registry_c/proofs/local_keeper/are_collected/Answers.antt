@@ -12,7 +12,8 @@ pub mark-requires : goal.mark-requires
 mark-requires c =
     let k = c.args.keeper.now.keeper in
     let own = c.settings-cpus.ensures.own in
-    let test : is_retired_as c.args.number (slot_at k.slots c.args.slot) ≡ true = ap (is_retired_as c.args.number) (sym c.slot.ensures) ∙ (sym c.is_retired_as.ensures ∙ c.if-not-is_retired_as.false) in
+    let test : is_retired_as c.args.number (slot_at k.slots c.args.slot) ≡ true =
+    ap (is_retired_as c.args.number) (sym c.slot.ensures) ∙ (sym c.is_retired_as.ensures ∙ c.if-not-is_retired_as.false) in
     let gone = retired_of c.args.number (slot_at k.slots c.args.slot) test in (
       (retired_in _ k.view own.0 c.args.slot gone.0 own.1.agree.rows (ap (λ (x : OnPlainKeeper). slot_at x.keeper.slots c.args.slot) own.1.are ∙ gone.1)).0,
       omega (arith, c.loop-cpu-test.true, ap (λ (z : Settings). z.cpus) c.settings-cpus.ensures.value),

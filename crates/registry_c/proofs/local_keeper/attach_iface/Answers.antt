@@ -21,8 +21,12 @@ returns-in-Ok-clause-call c =
     let made : AttachesIface (record_of Iface c.in-Some.name c.args.value) v k x l y c.attach_iface.result = record { answer = e.answer; ok = e.ok; refused = e.refused; words = e.words } in
     record {
       bad = λ none. absurd (no_name _ _ named none);
-      good = λ m is. subst (λ (n : Name). (r : Result Entry (Refusal × OnLocalBody)) × AttachesIface (record_of Iface n c.args.value) v k x l y r × WritesIface r 0 None c.args.made.now.value c.put.new.self.value) (one_name _ _ _ named is)
-          (Ok c.in-Ok.entry, subst (λ (r : Result Entry (Refusal × OnLocalBody)). AttachesIface (record_of Iface c.in-Some.name c.args.value) v k x l y r) c.in-Ok.is made, (refl, refl, c.put.ensures.value ∙ ap (put c.args.made.now.value) c.entry_out.ensures));
+      good = λ m is. subst (λ (n : Name). (r : Result Entry (Refusal × OnLocalBody)) × AttachesIface (record_of Iface n c.args.value) v k x l y r
+          × WritesIface r 0 None c.args.made.now.value c.put.new.self.value) (one_name _ _ _ named is) (
+            Ok c.in-Ok.entry,
+            subst (λ (r : Result Entry (Refusal × OnLocalBody)). AttachesIface (record_of Iface c.in-Some.name c.args.value) v k x l y r) c.in-Ok.is made,
+            (refl, refl, c.put.ensures.value ∙ ap (put c.args.made.now.value) c.entry_out.ensures),
+          );
     }
 
 pub returns-in-Err-clause-call : goal.returns-in-Err-clause-call
@@ -37,6 +41,10 @@ returns-in-Err-clause-call c =
     let made : AttachesIface (record_of Iface c.in-Some.name c.args.value) v k x l y c.attach_iface.result = record { answer = e.answer; ok = e.ok; refused = e.refused; words = e.words } in
     record {
       bad = λ none. absurd (no_name _ _ named none);
-      good = λ m is. subst (λ (n : Name). (r : Result Entry (Refusal × OnLocalBody)) × AttachesIface (record_of Iface n c.args.value) v k x l y r × WritesIface r c.refused.result (Some c.in-Err.local) c.args.made.now.value c.args.made.now.value) (one_name _ _ _ named is)
-          (Err (c.in-Err.refusal, c.in-Err.local), subst (λ (r : Result Entry (Refusal × OnLocalBody)). AttachesIface (record_of Iface c.in-Some.name c.args.value) v k x l y r) c.in-Err.is made, (c.refused.ensures, refl, refl));
+      good = λ m is. subst (λ (n : Name). (r : Result Entry (Refusal × OnLocalBody)) × AttachesIface (record_of Iface n c.args.value) v k x l y r
+          × WritesIface r c.refused.result (Some c.in-Err.local) c.args.made.now.value c.args.made.now.value) (one_name _ _ _ named is) (
+            Err (c.in-Err.refusal, c.in-Err.local),
+            subst (λ (r : Result Entry (Refusal × OnLocalBody)). AttachesIface (record_of Iface c.in-Some.name c.args.value) v k x l y r) c.in-Err.is made,
+            (c.refused.ensures, refl, refl),
+          );
     }

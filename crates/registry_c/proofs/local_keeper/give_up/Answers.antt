@@ -9,4 +9,5 @@ spend-requires-clause-collected c = back_found c.args.keeper.now.keeper c.args.l
 
 pub spend-requires-then-are_collected-clause-collected : goal.spend-requires-then-are_collected-clause-collected
 spend-requires-then-are_collected-clause-collected c = subst (λ (k : OnPlainKeeper). IsFoundCollected k.keeper.slots k.keeper.view.marks c.args.local.reference) c.keeper.view_is
-    (collected_found c.keeper.inside.keeper.keeper c.slot.result c.number.result c.keeper.inside.keeper.words.settings.cpus c.args.local.reference (sym c.number.ensures) (sym c.are_collected.ensures ∙ c.if-are_collected.true))
+    (collected_found c.keeper.inside.keeper.keeper c.slot.result c.number.result c.keeper.inside.keeper.words.settings.cpus c.args.local.reference (sym c.number.ensures)
+    (sym c.are_collected.ensures ∙ c.if-are_collected.true))

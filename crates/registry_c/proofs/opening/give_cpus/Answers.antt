@@ -22,7 +22,8 @@ loop-c-preserved c =
     let hs = c.loop-c.cpus in
     let h = c.give_box.new.self in
     let b = c.in-Some.body in
-    let one = taken all (boxed c.pop.new.self.items) b.value (n - k) (sym (boxed_last _ b) ∙ (ap boxed (sym c.in-Some.ensures.items) ∙ i.0)) (omega (arith, c.requires.count, length-map c.args.bodies.items (λ x. x.value))) in
+    let one = taken all (boxed c.pop.new.self.items) b.value (n - k) (sym (boxed_last _ b) ∙ (ap boxed (sym c.in-Some.ensures.items) ∙ i.0))
+    (omega (arith, c.requires.count, length-map c.args.bodies.items (λ x. x.value))) in
     let left : one.left ≡ n - (k + 1) = omega (arith, one.more) in
     let at : get_elem? all (n - suc k) ≡ some b.value = ap (get_elem? all) (omega (arith, one.more)) ∙ one.is in (
       one.rest ∙ ap (λ m. take m all) left,

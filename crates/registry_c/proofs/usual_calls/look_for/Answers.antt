@@ -6,7 +6,8 @@ use Rattle.registry_c.proofs.usual_calls.look_for.Goals as goal
 
 pub returns-in_default-clause-call : goal.returns-in_default-clause-call
 returns-in_default-clause-call c = λ word is.
-    from_outside word c.args.kind c.args.name c.name_in.result _ _ None _ _ _ is c.name_in.ensures c.requires.outside c.requires.room c.in_default.ensures.words c.in_default.ensures.found (c.refused.ensures, refl)
+    from_outside word c.args.kind c.args.name c.name_in.result _ _ None _ _ _ is c.name_in.ensures c.requires.outside c.requires.room c.in_default.ensures.words c.in_default.ensures.found
+    (c.refused.ensures, refl)
 
 pub returns-clause-call : goal.returns-clause-call
 returns-clause-call c = λ word is.

@@ -14,4 +14,5 @@ returns c =
     let size : length made.result.1 ≡ MOST_SLOTS = search rules in
     let wait : CWait = record { snapshots = made.result.0; retired = c.numbers_out-wait.result; seen = replicate MOST_CPUS 0; begun = BEGUN } in
     subst (λ (p : OnPlainKeeper × OnPlainCpu). Begins p.0 p.1 made.new.keeper made.new.cpu wait) (λ i. (c.body.view_is i, c.cpu.view_is i))
-    (begins_by _ _ _ _ _ _ _ _ made.result.0 made.result.1 c.numbers_out-wait.result size c.settings-settings.ensures.own.1.agree (keeper_is c.settings-settings.ensures.own.1.are) made.ensures.words made.ensures.begun c.numbers_out-wait.ensures)
+    (begins_by _ _ _ _ _ _ _ _ made.result.0 made.result.1 c.numbers_out-wait.result size c.settings-settings.ensures.own.1.agree
+    (keeper_is c.settings-settings.ensures.own.1.are) made.ensures.words made.ensures.begun c.numbers_out-wait.ensures)

@@ -11,4 +11,5 @@ returns-in-Some-clause-all g c =
 
 pub returns-in-Some-clause-local : goal.returns-in-Some-clause-local
 returns-in-Some-clause-local g c =
-    lets_go _ c.args.cpus.now c.index-cpus-0.result c.release_local.new.cpu c.in-Some.reference c.args.place c.in-Some.is c.requires (ranges g.D.Domain.settings c.reference.invariant.1).some_cpu c.index-cpus-0.is c.release_local.ensures
+    lets_go _ c.args.cpus.now c.index-cpus-0.result c.release_local.new.cpu c.in-Some.reference c.args.place c.in-Some.is c.requires
+    (ranges g.D.Domain.settings c.reference.invariant.1).some_cpu c.index-cpus-0.is c.release_local.ensures

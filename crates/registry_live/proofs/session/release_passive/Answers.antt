@@ -22,11 +22,13 @@ returns-then-at-cpus-clause-labels g c = place_missing c.args.cpus.now c.cpu-at.
 
 pub returns-in-Err-clause-labels : goal.returns-in-Err-clause-labels
 returns-in-Err-clause-labels g c =
-    place_released _ c.args.cpus.now c.cpu-at.result c.index-cpus-at.result c.release.new.cpu c.in-Some.psref c.args.place c.release.result c.requires (omega (arith, c.if-at-cpus.false)) c.index-cpus-at.is c.in-Some.is c.cpu-at.ensures c.release.ensures.answer c.release.ensures.refused
+    place_released _ c.args.cpus.now c.cpu-at.result c.index-cpus-at.result c.release.new.cpu c.in-Some.psref c.args.place c.release.result c.requires
+    (omega (arith, c.if-at-cpus.false)) c.index-cpus-at.is c.in-Some.is c.cpu-at.ensures c.release.ensures.answer c.release.ensures.refused
 
 pub returns-in_default-release-clause-labels : goal.returns-in_default-release-clause-labels
 returns-in_default-release-clause-labels g c =
-    place_released _ c.args.cpus.now c.cpu-at.result c.index-cpus-at.result c.release.new.cpu c.in-Some.psref c.args.place c.release.result c.requires (omega (arith, c.if-at-cpus.false)) c.index-cpus-at.is c.in-Some.is c.cpu-at.ensures c.release.ensures.answer c.release.ensures.refused
+    place_released _ c.args.cpus.now c.cpu-at.result c.index-cpus-at.result c.release.new.cpu c.in-Some.psref c.args.place c.release.result c.requires
+    (omega (arith, c.if-at-cpus.false)) c.index-cpus-at.is c.in-Some.is c.cpu-at.ensures c.release.ensures.answer c.release.ensures.refused
 
 pub returns-then-at-cpus-clause-only : goal.returns-then-at-cpus-clause-only
 returns-then-at-cpus-clause-only g c = all_same c.args.cpus.now
@@ -35,4 +37,5 @@ pub returns-in-Err-clause-only : goal.returns-in-Err-clause-only
 returns-in-Err-clause-only g c = asked c.args.cpus.now c.cpu-at.result c.index-cpus-at.result c.release.new.cpu c.in-Some.psref _ c.release.result c.release.ensures.answer c.release.ensures.refused
 
 pub returns-in_default-release-clause-only : goal.returns-in_default-release-clause-only
-returns-in_default-release-clause-only g c = asked c.args.cpus.now c.cpu-at.result c.index-cpus-at.result c.release.new.cpu c.in-Some.psref _ c.release.result c.release.ensures.answer c.release.ensures.refused
+returns-in_default-release-clause-only g c =
+    asked c.args.cpus.now c.cpu-at.result c.index-cpus-at.result c.release.new.cpu c.in-Some.psref _ c.release.result c.release.ensures.answer c.release.ensures.refused

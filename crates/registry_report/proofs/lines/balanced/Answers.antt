@@ -11,6 +11,7 @@ returns-clause-line c =
     let t = tally_shown c.args.balance.now in
     let locals = c.in_ok-locals.ensures.words ∙ ap (λ (l : List ℤ). spaced_words (map signed_decimal l)) c.deref.ensures.value in
     c.in_ok-format.ensures.ok
-    ∙ (ap (λ (z : List ℕ). codes "slot " ++ (decimal t.slot ++ (codes " number " ++ (decimal t.number ++ (codes " held " ++ (signed_decimal t.held ++ (codes " locals" ++ (z ++ (codes " total " ++ (signed_decimal t.total ++ (10 ∷ [])))))))))))
+    ∙ (ap (λ (z : List ℕ). codes "slot " ++ (decimal t.slot ++ (codes " number "
+    ++ (decimal t.number ++ (codes " held " ++ (signed_decimal t.held ++ (codes " locals" ++ (z ++ (codes " total " ++ (signed_decimal t.total ++ (10 ∷ [])))))))))))
     locals
     ∙ sym (balance_is t))

@@ -7,7 +7,11 @@ use Rattle.registry_report.proofs.written.Writing.{appends_none, written_none}
 use Rattle.registry_report.proofs.run.run_commands.Goals as goal
 
 pub loop-command-init : goal.loop-command-init
-loop-command-init g c = record { kept = refl; so_far = λ r on. (r, on, written_none (g.W.Write.contents c.args.writer.now) (report_from r c.args.commands.now)); printed = ([], refl, appends_none (g.W.Write.contents c.args.writer.now)) }
+loop-command-init g c = record {
+  kept = refl;
+  so_far = λ r on. (r, on, written_none (g.W.Write.contents c.args.writer.now) (report_from r c.args.commands.now));
+  printed = ([], refl, appends_none (g.W.Write.contents c.args.writer.now));
+}
 
 pub loop-command-preserved : goal.loop-command-preserved
 loop-command-preserved g c =

@@ -7,6 +7,7 @@ use Rattle.registry_report.proofs.run.run_commands.Given as goal
 abbrev pub invariant-loop-command : goal.invariant-loop-command
 invariant-loop-command g l = record {
   kept : g.S.Session.kept l.session ≡ g.S.Session.kept l.fn.session;
-  so_far : (r : Registry) → g.S.Session.shows l.fn.session r → (q : Registry) × g.S.Session.shows l.session q × Written (g.W.Write.contents l.fn.writer) (g.W.Write.contents l.writer) (report_from r l.commands) (report_from q (drop l.command-index l.commands));
+  so_far : (r : Registry) → g.S.Session.shows l.fn.session r → (q : Registry) × g.S.Session.shows l.session q
+      × Written (g.W.Write.contents l.fn.writer) (g.W.Write.contents l.writer) (report_from r l.commands) (report_from q (drop l.command-index l.commands));
   printed : WritesRun (g.W.Write.contents l.fn.writer) (g.W.Write.contents l.writer) (take l.command-index l.commands);
 }

@@ -11,7 +11,8 @@ pub run_on-requires : goal.run_on-requires
 run_on-requires g c = rw (ap (λ (s : SessionState). s.core.settings) c.in_ok-session.ensures.opening ∙ c.settings.ensures.value, c.commands.ensures.value) c.commands.ensures.suited
 
 pub returns-in_err-session-clause-err : goal.returns-in_err-session-clause-err
-returns-in_err-session-clause-err g c = on_err (AppendsPrefix (g.W.Write.contents c.args.writer.now) (g.W.Write.contents c.args.writer.now) (report c.args.script.now)) _ (nothing_yet (g.W.Write.contents c.args.writer.now) (report c.args.script.now))
+returns-in_err-session-clause-err g c = on_err (AppendsPrefix (g.W.Write.contents c.args.writer.now) (g.W.Write.contents c.args.writer.now) (report c.args.script.now)) _
+    (nothing_yet (g.W.Write.contents c.args.writer.now) (report c.args.script.now))
 
 pub returns-clause-ok : goal.returns-clause-ok
 returns-clause-ok g c =

@@ -10,5 +10,6 @@ swap-requires g c =
     let table = ap (λ (s : Seated KeeperView). s.table) c.seat.view_is ∙ c.requires.table ∙ sym (ap (λ (w : Named). w.table) c.words.view_is) in (
       table,
       omega (arith, c.requires.place, c.words.invariant.1),
-      allows_keeper _ _ _ _ _ _ _ (λ (n : ℕ). c.args.value) g.T.KeeperTale.does g.T.KeeperTale.tells (record { slots = 0; word = 0; first = 0; second = 0; said = none }) same (sym (ap (λ (s : Seated KeeperView). s.view) c.seat.view_is)) c.seat.invariant c.requires.own c.requires.may,
+      allows_keeper _ _ _ _ _ _ _ (λ (n : ℕ). c.args.value) g.T.KeeperTale.does g.T.KeeperTale.tells (record { slots = 0; word = 0; first = 0; second = 0; said = none }) same
+          (sym (ap (λ (s : Seated KeeperView). s.view) c.seat.view_is)) c.seat.invariant c.requires.own c.requires.may,
     )

@@ -10,5 +10,6 @@ load-requires g c =
     let table = ap (λ (s : Seated ReferenceView). s.table) c.seat.view_is ∙ c.requires.table ∙ sym (ap (λ (w : Named). w.table) c.words.view_is) in (
       table,
       omega (arith, c.requires.place, c.words.invariant.1),
-      allows_reference _ _ _ _ _ _ _ g.T.ReferenceTale.does g.T.ReferenceTale.tells (record { slots = 0; word = 0; first = 0; second = 0; said = none }) same (sym (ap (λ (s : Seated ReferenceView). s.view) c.seat.view_is)) c.seat.invariant c.requires.own c.requires.may,
+      allows_reference _ _ _ _ _ _ _ g.T.ReferenceTale.does g.T.ReferenceTale.tells (record { slots = 0; word = 0; first = 0; second = 0; said = none }) same
+          (sym (ap (λ (s : Seated ReferenceView). s.view) c.seat.view_is)) c.seat.invariant c.requires.own c.requires.may,
     )

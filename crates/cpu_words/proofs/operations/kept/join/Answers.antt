@@ -10,10 +10,12 @@ join_seat-requires g c = (
   search rules,
   search rules,
   let w = c.words.invariant.1 in omega arith,
-  keeps_seats _ _ _ _ _ g.S.KeepingSlot.slot _ c.args.keeper.now.view c.args.reference.view c.requires.slot (ap (λ (m : Me ℕ Logged). m.0) c.keeper.invariant) (ap (λ (s : Seated KeeperView). s.view) c.keeper.view_is)
+  keeps_seats _ _ _ _ _ g.S.KeepingSlot.slot _ c.args.keeper.now.view c.args.reference.view c.requires.slot (ap (λ (m : Me ℕ Logged). m.0) c.keeper.invariant)
+      (ap (λ (s : Seated KeeperView). s.view) c.keeper.view_is)
       (ap (λ (m : Me ℕ Logged). m.0) c.reference.invariant) (ap (λ (s : Seated ReferenceView). s.view) c.reference.view_is) c.requires.may,
 )
 
 pub returns-clause-event : goal.returns-clause-event
-returns-clause-event g c = keep_by c.keeper.inside.token.me.0.view c.reference.inside.token.me.0.view c.join_seat.new.seat.me.0.view g.S.KeepingSlot.slot _ c.args.keeper.now.view c.args.reference.view c.requires.slot
+returns-clause-event g c =
+    keep_by c.keeper.inside.token.me.0.view c.reference.inside.token.me.0.view c.join_seat.new.seat.me.0.view g.S.KeepingSlot.slot _ c.args.keeper.now.view c.args.reference.view c.requires.slot
     (ap (λ (s : Seated KeeperView). s.view) c.keeper.view_is) (ap (λ (s : Seated ReferenceView). s.view) c.reference.view_is) (ap (λ (m : Me ℕ Logged). m.0.view) c.join_seat.ensures.2) c.requires.may

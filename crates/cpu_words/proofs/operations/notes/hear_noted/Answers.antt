@@ -11,5 +11,6 @@ load-requires c =
     let table = ap (λ (s : Seated KeeperView). s.table) c.keeper.view_is ∙ c.requires.table ∙ sym (ap (λ (w : Named). w.table) c.words.view_is) in (
       table,
       (let w = c.words.invariant.1 in omega arith),
-      allows_note_hearing _ _ _ _ _ _ _ KeeperHears (record { slots = 0; word = 0; first = 0; second = 0; said = none }) same (sym (ap (λ (s : Seated KeeperView). s.view) c.keeper.view_is)) c.keeper.invariant (hear_keeper_may _ _ c.requires.may),
+      allows_note_hearing _ _ _ _ _ _ _ KeeperHears (record { slots = 0; word = 0; first = 0; second = 0; said = none }) same
+          (sym (ap (λ (s : Seated KeeperView). s.view) c.keeper.view_is)) c.keeper.invariant (hear_keeper_may _ _ c.requires.may),
     )

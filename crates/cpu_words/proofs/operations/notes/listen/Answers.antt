@@ -11,6 +11,7 @@ load-requires c =
     let table = ap (λ (s : Seated CpuView). s.table) c.seat.view_is ∙ c.requires.table ∙ sym (ap (λ (w : Named). w.table) c.words.view_is) in (
       table,
       omega (arith, c.section_place.ensures.place, c.requires.cpu.0, c.words.invariant.1),
-      allows_hearing _ _ c.args.seat.now.view _ _ _ _ CpuHears (record { slots = 0; word = 0; first = 0; second = 0; said = none }) same (sym (ap (λ (s : Seated CpuView). s.view) c.seat.view_is)) c.seat.invariant
+      allows_hearing _ _ c.args.seat.now.view _ _ _ _ CpuHears (record { slots = 0; word = 0; first = 0; second = 0; said = none }) same
+          (sym (ap (λ (s : Seated CpuView). s.view) c.seat.view_is)) c.seat.invariant
           (own_hear_may _ c.args.seat.now.view _ _ c.requires.cpu.1 c.section_place.ensures.place c.requires.may),
     )

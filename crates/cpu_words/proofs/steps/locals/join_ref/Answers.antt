@@ -10,9 +10,11 @@ join_seat-requires c = (
   search rules,
   search rules,
   let w = c.words.invariant.1 in omega arith,
-  seat_joins _ _ _ _ _ c.args.seat.now.view (ap (λ (m : Me ℕ Logged). m.0) c.seat.invariant) (ap (λ (s : Seated CpuView). s.view) c.seat.view_is) (ap (λ (m : Me ℕ Logged). m.0) c.reference.invariant) c.requires.may,
+  seat_joins _ _ _ _ _ c.args.seat.now.view (ap (λ (m : Me ℕ Logged). m.0) c.seat.invariant) (ap (λ (s : Seated CpuView). s.view) c.seat.view_is)
+      (ap (λ (m : Me ℕ Logged). m.0) c.reference.invariant) c.requires.may,
 )
 
 pub returns-clause-event : goal.returns-clause-event
-returns-clause-event c = seat_joins_by c.seat.inside.token.me.0.view _ c.args.seat.now.view _ c.reference.inside.token.me.0.view c.args.reference.view (ap (λ (s : Seated CpuView). s.view) c.seat.view_is)
+returns-clause-event c =
+    seat_joins_by c.seat.inside.token.me.0.view _ c.args.seat.now.view _ c.reference.inside.token.me.0.view c.args.reference.view (ap (λ (s : Seated CpuView). s.view) c.seat.view_is)
     (ap (λ (s : Seated ReferenceView). s.view) c.reference.view_is) (ap (λ (m : Me ℕ Logged). m.0.view) c.join_seat.ensures.2) c.requires.cpu c.requires.may

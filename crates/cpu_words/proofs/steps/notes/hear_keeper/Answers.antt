@@ -14,4 +14,5 @@ pub returns-clause-change : goal.returns-clause-change
 returns-clause-change c = (keeper_heard c.args.keeper.now.view _ _ _ c.lay_by_keeper.ensures.change c.hear_noted.ensures.told.1).1
 
 pub returns-clause-own_log : goal.returns-clause-own_log
-returns-clause-own_log c = own_with_note c.args.keeper.now.log _ c.args.note.known_log _ c.args.keeper.now.view _ _ c.lay_by_keeper.ensures.change c.lay_by_keeper.ensures.log c.lay_by_keeper.ensures.known_log.0 c.hear_noted.ensures.own_log
+returns-clause-own_log c = own_with_note c.args.keeper.now.log _ c.args.note.known_log _ c.args.keeper.now.view _ _ c.lay_by_keeper.ensures.change c.lay_by_keeper.ensures.log
+    c.lay_by_keeper.ensures.known_log.0 c.hear_noted.ensures.own_log

@@ -20,5 +20,8 @@ returns g c =
     let b = c.advance_for in
     let m = c.cpu.inside.share.amount in
     let had = subst (λ (z : Settings). HasAdvancedFor z k c.cpu.inside.plain.cpu c.args.number b.result b.new.keeper.keeper b.new.cpu.cpu) named b.ensures.answer in
-    let does = subst (λ (x : OnCpu). HasAdvancedFor g.D.Domain.settings k x c.args.number b.result b.new.keeper.keeper (sharing m b.new.cpu.cpu)) c.cpu.view_is (advanced m _ _ _ _ _ _ _ had) in
-    ((k, b.new.keeper.keeper, does), subst (λ (z : Settings). IfOk b.result (λ stage. IsStageOf z stage)) named b.ensures.stage, told_turn g.D.Domain.settings k _ c.args.number b.result b.new.keeper.keeper _ does)
+    let does = subst (λ (x : OnCpu). HasAdvancedFor g.D.Domain.settings k x c.args.number b.result b.new.keeper.keeper (sharing m b.new.cpu.cpu)) c.cpu.view_is (advanced m _ _ _ _ _ _ _ had) in (
+      (k, b.new.keeper.keeper, does),
+      subst (λ (z : Settings). IfOk b.result (λ stage. IsStageOf z stage)) named b.ensures.stage,
+      told_turn g.D.Domain.settings k _ c.args.number b.result b.new.keeper.keeper _ does,
+    )

@@ -11,7 +11,8 @@ pub returns-clause-may : goal.returns-clause-may
 returns-clause-may g c =
     let k = c.args.self.now.keeper in
     let e = c.in_ok-entry.entry in
-    attach_may k.words.settings k.keeper c.args.cpu.now c.args.rec (Ok e) (subst (λ (x : OnCpu). Ok e ≡ attach_answer k.words.settings k.keeper x c.args.rec) c.cpu.view_is c.in_ok-entry.ensures.answer)
+    attach_may k.words.settings k.keeper c.args.cpu.now c.args.rec (Ok e)
+    (subst (λ (x : OnCpu). Ok e ≡ attach_answer k.words.settings k.keeper x c.args.rec) c.cpu.view_is c.in_ok-entry.ensures.answer)
 
 pub returns-clause-ok : goal.returns-clause-ok
 returns-clause-ok g c =

@@ -17,5 +17,10 @@ returns g c =
     let k = c.deref_mut.result.now.keeper.keeper in
     let b = c.glance_at_all in
     let m = c.cpu.inside.share.amount in
-    let had = subst (λ (z : Settings). HasGlanced z c.args.snapshots.now k c.cpu.inside.plain.cpu c.args.seen.now b.result b.new.seen b.new.keeper.keeper b.new.cpu.cpu) c.deref_mut.result.now.named.1 b.ensures.glanced in
-    (k, b.new.keeper.keeper, subst (λ (x : OnCpu). HasGlanced g.D.Domain.settings c.args.snapshots.now k x c.args.seen.now b.result b.new.seen b.new.keeper.keeper (sharing m b.new.cpu.cpu)) c.cpu.view_is (glanced m _ _ _ _ _ _ _ _ _ had))
+    let had = subst (λ (z : Settings). HasGlanced z c.args.snapshots.now k c.cpu.inside.plain.cpu c.args.seen.now b.result b.new.seen b.new.keeper.keeper b.new.cpu.cpu) c.deref_mut.result.now.named.1
+    b.ensures.glanced in (
+      k,
+      b.new.keeper.keeper,
+      subst (λ (x : OnCpu). HasGlanced g.D.Domain.settings c.args.snapshots.now k x c.args.seen.now b.result b.new.seen b.new.keeper.keeper (sharing m b.new.cpu.cpu)) c.cpu.view_is
+          (glanced m _ _ _ _ _ _ _ _ _ had),
+    )

@@ -7,7 +7,8 @@ use Rattle.name_registry.proofs.registry.Registry.destroy.Goals as goal
 
 pub returns-then-inside-clause-made : goal.returns-then-inside-clause-made
 returns-then-inside-clause-made g c =
-    destroys_inside g.D.Domain.settings c.args.number c.args.turns (is_inside c.args.cpu.now) c.args.cpu.now (sym (inside_is c.inside.result c.args.cpu.now.view.begin c.inside.ensures) ∙ c.if-inside.true)
+    destroys_inside g.D.Domain.settings c.args.number c.args.turns (is_inside c.args.cpu.now) c.args.cpu.now
+    (sym (inside_is c.inside.result c.args.cpu.now.view.begin c.inside.ensures) ∙ c.if-inside.true)
 
 pub returns-then-inside-clause-learned : goal.returns-then-inside-clause-learned
 returns-then-inside-clause-learned g c = learns_none c.args.cpu.now

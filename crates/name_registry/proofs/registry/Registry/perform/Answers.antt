@@ -22,15 +22,18 @@ returns-clause-refused g c =
     let z = g.D.Domain.settings in
     let outside : is_inside c.args.cpu.now ≡ false = sym (inside_is c.inside.result c.args.cpu.now.view.begin c.inside.ensures) ∙ c.if-inside.false in
     subst (λ (r : Result (Unit {0}) Refusal). IfErr r (λ f. IsPerformRefusal z (is_inside c.args.cpu.now) f)) (sym c.waiting_for.ensures.value)
-    (waiting_refused z (is_inside c.args.cpu.now) c.perform_in_turns.result outside (told_small z c.args.turns c.args.cpu.now c.perform_in_turns.new.cpu c.perform_in_turns.result c.perform_in_turns.ensures))
+    (waiting_refused z (is_inside c.args.cpu.now) c.perform_in_turns.result outside
+    (told_small z c.args.turns c.args.cpu.now c.perform_in_turns.new.cpu c.perform_in_turns.result c.perform_in_turns.ensures))
 
 pub returns-clause-waited : goal.returns-clause-waited
-returns-clause-waited g c = waited_ok g.D.Domain.settings c.args.turns c.args.cpu.now c.perform_in_turns.result c.perform_in_turns.new.cpu c.waiting_for.result c.waiting_for.ensures.value c.perform_in_turns.ensures
+returns-clause-waited g c =
+    waited_ok g.D.Domain.settings c.args.turns c.args.cpu.now c.perform_in_turns.result c.perform_in_turns.new.cpu c.waiting_for.result c.waiting_for.ensures.value c.perform_in_turns.ensures
 
 pub returns-clause-made : goal.returns-clause-made
 returns-clause-made g c =
     let outside : is_inside c.args.cpu.now ≡ false = sym (inside_is c.inside.result c.args.cpu.now.view.begin c.inside.ensures) ∙ c.if-inside.false in
-    performs_outside g.D.Domain.settings c.args.turns (is_inside c.args.cpu.now) c.args.cpu.now c.perform_in_turns.new.cpu c.perform_in_turns.result c.waiting_for.result outside c.waiting_for.ensures.value c.perform_in_turns.ensures
+    performs_outside g.D.Domain.settings c.args.turns (is_inside c.args.cpu.now) c.args.cpu.now c.perform_in_turns.new.cpu c.perform_in_turns.result c.waiting_for.result outside
+    c.waiting_for.ensures.value c.perform_in_turns.ensures
 
 pub returns-clause-learned : goal.returns-clause-learned
 returns-clause-learned g c = learns_performed g.D.Domain.settings c.args.turns c.args.cpu.now c.perform_in_turns.result c.perform_in_turns.new.cpu c.perform_in_turns.ensures

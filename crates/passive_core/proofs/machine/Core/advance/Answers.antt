@@ -33,10 +33,14 @@ pub returns-clause-ready : goal.returns-clause-ready
 returns-clause-ready c = λ d acts.
     let s = c.args.self.now in
     let seated : may_act c.seat_all.new.self d ≡ true = ap (λ (x : State). may_act x d) c.seat_all.ensures ∙ acting_on s d (subst Holds c.self.view_is c.self.invariant) acts in
-    stage_acts c.seat_all.new.self c.advance_slot.new.self c.in-Some.t d c.advance_slot.result (ap (λ (x : State). x.seated) c.seat_all.ensures ∙ sym (ap (λ (x : State). x.settings.cpus) c.seat_all.ensures)) c.advance_slot.ensures.after seated
+    stage_acts c.seat_all.new.self c.advance_slot.new.self c.in-Some.t d c.advance_slot.result
+    (ap (λ (x : State). x.seated) c.seat_all.ensures ∙ sym (ap (λ (x : State). x.settings.cpus) c.seat_all.ensures)) c.advance_slot.ensures.after seated
 
 pub returns-clause-made : goal.returns-clause-made
 returns-clause-made c =
     let s = c.args.self.now in
-    let on : Holds s = subst Holds c.self.view_is c.self.invariant in
-    (c.in-Some.t, sym c.in-Some.ensures.value, work_seated s c.seat_all.new.self c.advance_slot.new.self c.in-Some.t c.advance_slot.result (only_seats s c.seat_all.new.self on c.requires c.seat_all.ensures) c.advance_slot.ensures.made)
+    let on : Holds s = subst Holds c.self.view_is c.self.invariant in (
+      c.in-Some.t,
+      sym c.in-Some.ensures.value,
+      work_seated s c.seat_all.new.self c.advance_slot.new.self c.in-Some.t c.advance_slot.result (only_seats s c.seat_all.new.self on c.requires c.seat_all.ensures) c.advance_slot.ensures.made,
+    )

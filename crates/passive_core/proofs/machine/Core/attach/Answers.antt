@@ -16,7 +16,8 @@ returns-in_err-entry-clause-answer c = subst (λ (r : Result Entry Refusal). IsA
 
 -- the entry's words may be stored, and then it may be linked
 linking : (c : In_ok-entry) → MayLink (all_seated c.args.self.now) c.in_ok-entry.entry
-linking c = driver_links c.args.self.now c.args.rec c.in_ok-entry.entry (subst Holds c.self.view_is c.self.invariant) c.requires.rest (sym c.given_entry-given.ensures.value ∙ c.in_ok-entry.ensures.fit.2) (sym c.is_iface.ensures ∙ c.in_ok-entry.ensures.fit.1) c.requires.lawful
+linking c = driver_links c.args.self.now c.args.rec c.in_ok-entry.entry (subst Holds c.self.view_is c.self.invariant) c.requires.rest
+    (sym c.given_entry-given.ensures.value ∙ c.in_ok-entry.ensures.fit.2) (sym c.is_iface.ensures ∙ c.in_ok-entry.ensures.fit.1) c.requires.lawful
 
 pub prepare-requires : goal.prepare-requires
 prepare-requires c = rw (c.begin_change.ensures.after, c.in_ok-make_room.ensures.same) (linking (goal.at.prepare-requires c).In_ok-entry).writes
@@ -28,16 +29,19 @@ pub restore-requires-clause-holds : goal.restore-requires-clause-holds
 restore-requires-clause-holds c =
     let s = c.args.self.now in
     let on = subst Holds c.self.view_is c.self.invariant in
-    rw (call_restored s c.make_room.new.self c.begin_change.new.self c.prepare.new.self c.link.new.self c.in_ok-entry.entry c.words_before-before.result c.in_ok-make_room.ensures.same c.words_before-before.ensures c.begin_change.ensures.after c.prepare.ensures.after c.in-Err.ensures.err) on
+    rw (call_restored s c.make_room.new.self c.begin_change.new.self c.prepare.new.self c.link.new.self c.in_ok-entry.entry c.words_before-before.result c.in_ok-make_room.ensures.same
+    c.words_before-before.ensures c.begin_change.ensures.after c.prepare.ensures.after c.in-Err.ensures.err) on
 
 pub returns-in-Err-clause-after : goal.returns-in-Err-clause-after
 returns-in-Err-clause-after c =
-    c.restore.ensures ∙ call_restored c.args.self.now c.make_room.new.self c.begin_change.new.self c.prepare.new.self c.link.new.self c.in_ok-entry.entry c.words_before-before.result c.in_ok-make_room.ensures.same c.words_before-before.ensures c.begin_change.ensures.after c.prepare.ensures.after c.in-Err.ensures.err
+    c.restore.ensures ∙ call_restored c.args.self.now c.make_room.new.self c.begin_change.new.self c.prepare.new.self c.link.new.self c.in_ok-entry.entry c.words_before-before.result
+    c.in_ok-make_room.ensures.same c.words_before-before.ensures c.begin_change.ensures.after c.prepare.ensures.after c.in-Err.ensures.err
 
 pub returns-in-Ok-clause-ready : goal.returns-in-Ok-clause-ready
 returns-in-Ok-clause-ready c d may =
     let before : may_act c.make_room.new.self d ≡ true = rw c.in_ok-make_room.ensures.same may in
-    call_acts c.begin_change.new.self c.prepare.new.self c.link.new.self c.end_change.new.self c.in_ok-entry.entry c.args.c d c.prepare.ensures.after c.in-Ok.ensures.ok c.end_change.ensures.after (c.begin_change.ensures.ready d before)
+    call_acts c.begin_change.new.self c.prepare.new.self c.link.new.self c.end_change.new.self c.in_ok-entry.entry c.args.c d c.prepare.ensures.after c.in-Ok.ensures.ok c.end_change.ensures.after
+    (c.begin_change.ensures.ready d before)
 
 pub returns-in-Ok-clause-made : goal.returns-in-Ok-clause-made
 returns-in-Ok-clause-made c =
@@ -46,8 +50,10 @@ returns-in-Ok-clause-made c =
     let u = c.begin_change.new.self in
     let n = c.end_change.new.self in
     let seated : u ≡ all_seated s = c.begin_change.ensures.after ∙ ap all_seated c.in_ok-make_room.ensures.same in
-    let links = linking_makes u c.prepare.new.self c.link.new.self n e c.args.c c.prepare.ensures.made (rw (c.prepare.ensures.after, seated) (linking (goal.at.returns-in-Ok-clause-made c).In_ok-entry).links) c.in-Ok.ensures.ok c.end_change.ensures.made in
-    begun_makes s c.make_room.new.self u n c.args.c (linking_events s c.args.c e) c.in_ok-make_room.ensures.same c.begin_change.ensures.made (subst (λ (x : State). Makes u (linking_events x c.args.c e) n) seated links)
+    let links = linking_makes u c.prepare.new.self c.link.new.self n e c.args.c c.prepare.ensures.made
+    (rw (c.prepare.ensures.after, seated) (linking (goal.at.returns-in-Ok-clause-made c).In_ok-entry).links) c.in-Ok.ensures.ok c.end_change.ensures.made in
+    begun_makes s c.make_room.new.self u n c.args.c (linking_events s c.args.c e) c.in_ok-make_room.ensures.same c.begin_change.ensures.made
+    (subst (λ (x : State). Makes u (linking_events x c.args.c e) n) seated links)
 
 pub returns-in-Err-clause-made : goal.returns-in-Err-clause-made
 returns-in-Err-clause-made c = returns-in-Err-clause-after c

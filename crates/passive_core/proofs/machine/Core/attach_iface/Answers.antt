@@ -17,7 +17,8 @@ returns-in_err-entry-clause-answer c = subst (λ (r : Result Entry Refusal). IsA
 
 -- the slot may take the reference over, and then the entry may be linked
 plugging : (c : In_ok-entry) → MayPlug c.args.self.now c.in_ok-entry.entry c.args.id
-plugging c = iface_links c.args.self.now c.args.rec c.in_ok-entry.entry c.args.id (subst Holds c.self.view_is c.self.invariant) c.requires.rest (sym c.given_entry-given.ensures.value ∙ c.in_ok-entry.ensures.fit.2) (sym c.is_to_driver.ensures ∙ not-false c.is_to_driver.result c.in_ok-entry.ensures.fit.1) c.requires.iface c.requires.lawful
+plugging c = iface_links c.args.self.now c.args.rec c.in_ok-entry.entry c.args.id (subst Holds c.self.view_is c.self.invariant) c.requires.rest
+    (sym c.given_entry-given.ensures.value ∙ c.in_ok-entry.ensures.fit.2) (sym c.is_to_driver.ensures ∙ not-false c.is_to_driver.result c.in_ok-entry.ensures.fit.1) c.requires.iface c.requires.lawful
 
 -- where memory was refused the words come back, and then the reference
 words_back : (c : In-Err) → with_attach_undone c.link.new.self c.in_ok-entry.entry.slot c.words_before-before.result ≡ with_reference_kept c.args.self.now c.in_ok-entry.entry.slot c.args.id
@@ -27,7 +28,8 @@ words_back c =
 
 all_back : (c : After-restore) → kept_at c.args.self.now.keeps c.in_ok-entry.entry.slot ≡ None → c.restore.new.self ≡ with_reference_kept c.args.self.now c.in_ok-entry.entry.slot c.args.id
     → with_reference_given_back c.restore.new.self c.in_ok-entry.entry.slot c.args.id c.local_at-place.result ≡ c.args.self.now
-all_back c empty words = plug_restored c.args.self.now c.make_room.new.self c.restore.new.self c.in_ok-entry.entry.slot c.args.id c.local_at-place.result empty c.in_ok-make_room.ensures.same c.local_at-place.ensures words
+all_back c empty words =
+    plug_restored c.args.self.now c.make_room.new.self c.restore.new.self c.in_ok-entry.entry.slot c.args.id c.local_at-place.result empty c.in_ok-make_room.ensures.same c.local_at-place.ensures words
 
 pub keep-requires-clause-write : goal.keep-requires-clause-write
 keep-requires-clause-write c = rw (c.begin_change.ensures.after, c.in_ok-make_room.ensures.same) (plugging (goal.at.keep-requires-clause-write c).In_ok-entry).writes
@@ -71,7 +73,8 @@ returns-in-Ok-clause-made c =
     let n = c.end_change.new.self in
     let seated : u ≡ all_seated s = c.begin_change.ensures.after ∙ ap all_seated c.in_ok-make_room.ensures.same in
     let kept : k ≡ with_reference_kept (all_seated s) e.slot c.args.id = c.keep.ensures.after ∙ ap (λ (x : State). with_reference_kept x e.slot c.args.id) seated in
-    let links = linking_makes k c.prepare.new.self c.link.new.self n e c.args.c c.prepare.ensures.made (rw (c.prepare.ensures.after, kept) (plugging (goal.at.returns-in-Ok-clause-made c).In_ok-entry).links.links) c.in-Ok.ensures.ok c.end_change.ensures.made in
+    let links = linking_makes k c.prepare.new.self c.link.new.self n e c.args.c c.prepare.ensures.made
+    (rw (c.prepare.ensures.after, kept) (plugging (goal.at.returns-in-Ok-clause-made c).In_ok-entry).links.links) c.in-Ok.ensures.ok c.end_change.ensures.made in
     begun_makes s c.make_room.new.self u n c.args.c (Keep e.slot c.args.id ∷ linking_events s c.args.c e) c.in_ok-make_room.ensures.same c.begin_change.ensures.made
     (makes_more u k n (Keep e.slot c.args.id ∷ []) (linking_events s c.args.c e) c.keep.ensures.made (subst (λ (x : State). Makes k (linking_events x c.args.c e) n) kept links))
 

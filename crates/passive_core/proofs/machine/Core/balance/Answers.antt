@@ -16,7 +16,8 @@ less_bias-total-requires c =
     omega (arith, c.total_at.ensures, range.1)
 
 pub sum-requires-clause-few : goal.sum-requires-clause-few
-sum-requires-clause-few c = subst (λ (xs : List ℤ). length xs ≤ MOST_CPUS) (sym (c.deref.ensures.value ∙ c.in_ok-locals.ensures.value)) (few_locals c.args.self.now c.args.t (subst Holds c.self.view_is c.self.invariant))
+sum-requires-clause-few c =
+    subst (λ (xs : List ℤ). length xs ≤ MOST_CPUS) (sym (c.deref.ensures.value ∙ c.in_ok-locals.ensures.value)) (few_locals c.args.self.now c.args.t (subst Holds c.self.view_is c.self.invariant))
 
 pub sum-requires-clause-low : goal.sum-requires-clause-low
 sum-requires-clause-low c = subst (λ (xs : List ℤ). (k : ℕ) → k < length xs → neg_ℤ (pos (2 ^ 50)) ≤ℤ get_or xs k (pos 0)) (sym (c.deref.ensures.value ∙ c.in_ok-locals.ensures.value))
@@ -37,4 +38,5 @@ returns c =
     let range = total_range c.args.self.now c.args.t c.requires.occupied.0 (subst Holds c.self.view_is c.self.invariant) c.requires.rest c.requires.occupied.1 in
     let total : c.less_bias-total.result ≡ less_bias (total_at c.args.self.now.totals c.args.t) = c.less_bias-total.ensures ∙ ap less_bias c.total_at.ensures in
     let sum : c.sum.result ≡ sum_of (locals_at c.args.self.now c.args.t) = c.sum.ensures.value ∙ ap sum_of (c.deref.ensures.value ∙ c.in_ok-locals.ensures.value) in
-    tally_is c.args.self.now c.args.number c.args.t _ _ c.in_ok-locals.locals.items c.in_ok-locals.ensures.value (omega (arith, ints, total, range)) (omega (arith, ints, c.sum.ensures.least, c.sum.ensures.most, sum, total, range))
+    tally_is c.args.self.now c.args.number c.args.t _ _ c.in_ok-locals.locals.items c.in_ok-locals.ensures.value (omega (arith, ints, total, range))
+    (omega (arith, ints, c.sum.ensures.least, c.sum.ensures.most, sum, total, range))

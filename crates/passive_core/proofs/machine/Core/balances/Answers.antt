@@ -14,5 +14,6 @@ pub loop-t-preserved : goal.loop-t-preserved
 loop-t-preserved c = elim c.match-slot_at.branch [
   | in-Vacant w ↦ rw w.list-is (tallies_none c.args.self.now c.loop-t.t c.slot_at.result c.loop-t.list.items c.slot_at.ensures.value w.in-Vacant.is c.loop-t.invariant)
   | in-Live+in_ok-balance-in-Live+in_ok-push-in-Live w ↦
-      rw (w.list-is, w.in_ok-push-in-Live.ensures.items) (tallies_more c.args.self.now c.loop-t.t c.slot_at.result w.in-Live.entry c.loop-t.list.items w.in_ok-balance-in-Live.field-0 c.slot_at.ensures.value w.in-Live.is c.loop-t.invariant w.in_ok-balance-in-Live.ensures)
+      rw (w.list-is, w.in_ok-push-in-Live.ensures.items) (tallies_more c.args.self.now c.loop-t.t c.slot_at.result w.in-Live.entry c.loop-t.list.items w.in_ok-balance-in-Live.field-0
+      c.slot_at.ensures.value w.in-Live.is c.loop-t.invariant w.in_ok-balance-in-Live.ensures)
 ]

@@ -23,7 +23,8 @@ pub returns-clause-answer : goal.returns-clause-answer
 returns-clause-answer c =
     let s = c.args.self.now in
     let on : Holds s = subst Holds c.self.view_is c.self.invariant in
-    let new : c.make.new.self ≡ after_look_passive s c.args.t c.args.c = passive_look_is s c.make.new.self c.args.t c.args.c c.make.result c.requires.rest c.requires.retired c.requires.passed c.requires.cpu c.make.ensures in
+    let new : c.make.new.self ≡ after_look_passive s c.args.t c.args.c =
+    passive_look_is s c.make.new.self c.args.t c.args.c c.make.result c.requires.rest c.requires.retired c.requires.passed c.requires.cpu c.make.ensures in
     let m : Mark = mark_after_passive_look (mark_at s.marks c.args.t c.args.c) (passive_at s.passive c.args.c c.args.t) in
     let there : mark_at c.make.new.self.marks c.args.t c.args.c ≡ m = ap (λ (x : State). mark_at x.marks c.args.t c.args.c) new ∙ mark_there s c.args.t c.args.c m on c.requires.slot c.requires.cpu in
     ap (λ (x : Mark). x.clear) (c.mark_at-2.ensures ∙ there) ∙ passive_clears s c.args.t c.args.c on c.requires.retired
@@ -31,14 +32,17 @@ returns-clause-answer c =
 pub returns-clause-marks : goal.returns-clause-marks
 returns-clause-marks c =
     let s = c.args.self.now in
-    let new : c.make.new.self ≡ after_look_passive s c.args.t c.args.c = passive_look_is s c.make.new.self c.args.t c.args.c c.make.result c.requires.rest c.requires.retired c.requires.passed c.requires.cpu c.make.ensures in
+    let new : c.make.new.self ≡ after_look_passive s c.args.t c.args.c =
+    passive_look_is s c.make.new.self c.args.t c.args.c c.make.result c.requires.rest c.requires.retired c.requires.passed c.requires.cpu c.make.ensures in
     subst (λ (x : State). MarksClear s.marks x.marks c.args.t) (sym new) (passive_look_marks s c.args.t c.args.c)
 
 pub returns-clause-others : goal.returns-clause-others
 returns-clause-others c =
     let s = c.args.self.now in
-    let new : c.make.new.self ≡ after_look_passive s c.args.t c.args.c = passive_look_is s c.make.new.self c.args.t c.args.c c.make.result c.requires.rest c.requires.retired c.requires.passed c.requires.cpu c.make.ensures in
-    subst (λ (x : State). SameBut s.marks x.marks c.args.t c.args.c) (sym new) (mark_beside s.marks c.args.t c.args.c (mark_after_passive_look (mark_at s.marks c.args.t c.args.c) (passive_at s.passive c.args.c c.args.t)))
+    let new : c.make.new.self ≡ after_look_passive s c.args.t c.args.c =
+    passive_look_is s c.make.new.self c.args.t c.args.c c.make.result c.requires.rest c.requires.retired c.requires.passed c.requires.cpu c.make.ensures in
+    subst (λ (x : State). SameBut s.marks x.marks c.args.t c.args.c) (sym new)
+    (mark_beside s.marks c.args.t c.args.c (mark_after_passive_look (mark_at s.marks c.args.t c.args.c) (passive_at s.passive c.args.c c.args.t)))
 
 pub returns-then-mark_at-clause-made : goal.returns-then-mark_at-clause-made
 returns-then-mark_at-clause-made c = only_none (IsPassiveLookFor c.args.t) c.args.self.now

@@ -17,7 +17,8 @@ returns-clause-gathered c =
     let s = c.args.self.now in
     let yet : (mark_at s.marks c.args.t c.args.c).collected ≡ false = ap (λ (m : Mark). m.collected) (sym c.mark_at.ensures) ∙ c.if-mark_at.false in
     let first = collect_is s c.make.new.self c.args.t c.args.c c.make.result c.requires.rest c.requires.retired c.requires.passed c.requires.clear c.requires.cpu yet c.make.ensures in
-    added s c.make-2.new.self c.args.t c.args.c c.requires.rest (left_by (step c.make.new.self (TotalAdd c.args.t)) _ c.make-2.new.self Done c.make-2.result (adds s c.make.new.self c.args.t c.args.c first) c.make-2.ensures)
+    added s c.make-2.new.self c.args.t c.args.c c.requires.rest
+    (left_by (step c.make.new.self (TotalAdd c.args.t)) _ c.make-2.new.self Done c.make-2.result (adds s c.make.new.self c.args.t c.args.c first) c.make-2.ensures)
 
 pub returns-clause-collected : goal.returns-clause-collected
 returns-clause-collected c =
@@ -25,7 +26,8 @@ returns-clause-collected c =
     let on : Holds s = subst Holds c.self.view_is c.self.invariant in
     let yet : (mark_at s.marks c.args.t c.args.c).collected ≡ false = ap (λ (m : Mark). m.collected) (sym c.mark_at.ensures) ∙ c.if-mark_at.false in
     let first = collect_is s c.make.new.self c.args.t c.args.c c.make.result c.requires.rest c.requires.retired c.requires.passed c.requires.clear c.requires.cpu yet c.make.ensures in
-    collected_there s c.make-2.new.self c.args.t c.args.c on c.requires.slot c.requires.cpu (left_by (step c.make.new.self (TotalAdd c.args.t)) _ c.make-2.new.self Done c.make-2.result (adds s c.make.new.self c.args.t c.args.c first) c.make-2.ensures)
+    collected_there s c.make-2.new.self c.args.t c.args.c on c.requires.slot c.requires.cpu
+    (left_by (step c.make.new.self (TotalAdd c.args.t)) _ c.make-2.new.self Done c.make-2.result (adds s c.make.new.self c.args.t c.args.c first) c.make-2.ensures)
 
 pub returns-then-mark_at-clause-made : goal.returns-then-mark_at-clause-made
 returns-then-mark_at-clause-made c = only_none (IsCollectionFor c.args.t) c.args.self.now

@@ -65,7 +65,8 @@ returns-in_default c =
       value = sym (ap (is_counting s c.args.c) at ∙ went.0);
       counted = λ _. went.1 ∙ (counted_down s c.args.c n c.args.id t.0 told.1 ∙ ap (with_count_less s c.args.c c.args.id) (sym at));
       kept = λ no. absurd (let q = no in cc);
-      made = makes_first s c.make.new.self c.make-2.new.self (JoinRef c.args.c c.args.id) c.make.result (CountDown c.args.c ∷ []) c.make.ensures (makes_one c.make.new.self c.make-2.new.self (CountDown c.args.c) c.make-2.result c.make-2.ensures);
+      made = makes_first s c.make.new.self c.make-2.new.self (JoinRef c.args.c c.args.id) c.make.result (CountDown c.args.c ∷ []) c.make.ensures
+          (makes_one c.make.new.self c.make-2.new.self (CountDown c.args.c) c.make-2.result c.make-2.ensures);
     }
 
 pub returns-in-Collected-clause-made : goal.returns-in-Collected-clause-made

@@ -14,18 +14,21 @@ retire-requires-clause-idle c = acting_idle c.args.self.now c.args.c (subst Hold
 pub take_snapshots-requires-clause-blank : goal.take_snapshots-requires-clause-blank
 take_snapshots-requires-clause-blank c =
     let on : Holds c.args.self.now = subst Holds c.self.view_is c.self.invariant in
-    unlinked_blank c.args.self.now c.retire.new.self c.in_ok-entry.entry on (found_live c.args.self.now c.live_entry.result c.in_ok-entry.entry c.in_ok-entry.ensures.found.1 c.live_entry.ensures.live) c.in_ok-retire.ensures.ok
+    unlinked_blank c.args.self.now c.retire.new.self c.in_ok-entry.entry on
+    (found_live c.args.self.now c.live_entry.result c.in_ok-entry.entry c.in_ok-entry.ensures.found.1 c.live_entry.ensures.live) c.in_ok-retire.ensures.ok
 
 pub make-requires-2-clause-allowed : goal.make-requires-2-clause-allowed
 make-requires-2-clause-allowed c =
     let idle = acting_idle c.args.self.now c.args.c (subst Holds c.self.view_is c.self.invariant) c.requires.known c.requires.ready in
-    let told = snapped_told c.args.self.now c.retire.new.self c.take_snapshots.new.self c.make.new.self c.in_ok-entry.entry c.make.result c.in_ok-retire.ensures.ok c.take_snapshots.ensures.after c.make.ensures in
+    let told = snapped_told c.args.self.now c.retire.new.self c.take_snapshots.new.self c.make.new.self c.in_ok-entry.entry c.make.result c.in_ok-retire.ensures.ok c.take_snapshots.ensures.after
+    c.make.ensures in
     rw (snapped_idle c.args.self.now c.make.new.self c.in_ok-entry.entry c.args.c told idle) refl
 
 pub returns-clause-settings : goal.returns-clause-settings
 returns-clause-settings c =
     let idle = acting_idle c.args.self.now c.args.c (subst Holds c.self.view_is c.self.invariant) c.requires.known c.requires.ready in
-    let told = snapped_told c.args.self.now c.retire.new.self c.take_snapshots.new.self c.make.new.self c.in_ok-entry.entry c.make.result c.in_ok-retire.ensures.ok c.take_snapshots.ensures.after c.make.ensures in
+    let told = snapped_told c.args.self.now c.retire.new.self c.take_snapshots.new.self c.make.new.self c.in_ok-entry.entry c.make.result c.in_ok-retire.ensures.ok c.take_snapshots.ensures.after
+    c.make.ensures in
     let is = detached_is c.args.self.now c.make.new.self c.make-2.new.self c.in_ok-entry.entry c.args.c c.make-2.result told idle c.make-2.ensures in
     detached_settings c.args.self.now c.make-2.new.self c.in_ok-entry.entry c.args.c is
 
@@ -33,7 +36,8 @@ pub returns-clause-ready : goal.returns-clause-ready
 returns-clause-ready c =
     let on : Holds c.args.self.now = subst Holds c.self.view_is c.self.invariant in
     let idle = acting_idle c.args.self.now c.args.c on c.requires.known c.requires.ready in
-    let told = snapped_told c.args.self.now c.retire.new.self c.take_snapshots.new.self c.make.new.self c.in_ok-entry.entry c.make.result c.in_ok-retire.ensures.ok c.take_snapshots.ensures.after c.make.ensures in
+    let told = snapped_told c.args.self.now c.retire.new.self c.take_snapshots.new.self c.make.new.self c.in_ok-entry.entry c.make.result c.in_ok-retire.ensures.ok c.take_snapshots.ensures.after
+    c.make.ensures in
     let is = detached_is c.args.self.now c.make.new.self c.make-2.new.self c.in_ok-entry.entry c.args.c c.make-2.result told idle c.make-2.ensures in
     detached_ready c.args.self.now c.make-2.new.self c.in_ok-entry.entry c.args.c on is
 

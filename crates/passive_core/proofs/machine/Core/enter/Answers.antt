@@ -4,4 +4,5 @@ use Rattle.passive_core.proofs.Making.{makes_one, seated_and}
 use Rattle.passive_core.proofs.machine.Core.enter.Goals as goal
 
 pub returns-clause-made : goal.returns-clause-made
-returns-clause-made c = λ so. seated_and c.args.self.now c.seat_for.new.self c.make.new.self (Enter c.args.c ∷ []) c.seat_for.ensures.sound c.requires.rest c.seat_for.ensures.after (makes_one c.seat_for.new.self c.make.new.self (Enter c.args.c) c.make.result c.make.ensures)
+returns-clause-made c = λ so. seated_and c.args.self.now c.seat_for.new.self c.make.new.self (Enter c.args.c ∷ []) c.seat_for.ensures.sound c.requires.rest c.seat_for.ensures.after
+    (makes_one c.seat_for.new.self c.make.new.self (Enter c.args.c) c.make.result c.make.ensures)

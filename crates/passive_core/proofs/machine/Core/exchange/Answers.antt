@@ -46,5 +46,6 @@ invariant_of-self-else-word-net c =
     let place = ap (λ (x : State). slot_of x.slots c.args.number) c.self.view_is ∙ c.requires.slot in
     let word = c.count_at-word.ensures ∙ ap (λ (x : State). count_at x.counts c.args.c c.args.t) (sym c.self.view_is) in
     let net = c.net_at-net.ensures ∙ ap (λ (x : State). count_at x.nets c.args.c c.args.t) (sym c.self.view_is) in
-    let test : nat_eq (count_at (state_shown c.self.inside).counts c.args.c c.args.t) (count_at (state_shown c.self.inside).nets c.args.c c.args.t) ≡ false = ne_eqb _ _ (λ e. c.if-word-net.false (word ∙ (e ∙ sym net))) in
+    let test : nat_eq (count_at (state_shown c.self.inside).counts c.args.c c.args.t) (count_at (state_shown c.self.inside).nets c.args.c c.args.t) ≡ false =
+    ne_eqb _ _ (λ e. c.if-word-net.false (word ∙ (e ∙ sym net))) in
     step_holds (state_shown c.self.inside) _ (CountDown c.args.c) Collected c.self.invariant (rw (hand, place, test) refl)

@@ -16,4 +16,5 @@ set_depth-requires-clause-deep c =
     omega (arith, depth_range c.args.self.now c.args.c on c.requires.inside, c.depth-depth.ensures)
 
 pub returns-then-depth-eq1-clause-made : goal.returns-then-depth-eq1-clause-made
-returns-then-depth-eq1-clause-made c = λ so. seated_and c.args.self.now c.seat_for.new.self c.make.new.self (Exit c.args.c ∷ []) c.seat_for.ensures.sound c.requires.rest c.seat_for.ensures.after (makes_one c.seat_for.new.self c.make.new.self (Exit c.args.c) c.make.result c.make.ensures)
+returns-then-depth-eq1-clause-made c = λ so. seated_and c.args.self.now c.seat_for.new.self c.make.new.self (Exit c.args.c ∷ []) c.seat_for.ensures.sound c.requires.rest c.seat_for.ensures.after
+    (makes_one c.seat_for.new.self c.make.new.self (Exit c.args.c) c.make.result c.make.ensures)

@@ -38,7 +38,8 @@ turns b s t c key q r before lt ready on walks is made =
 -- what the load that ends the walk tells
 turned : (c : After-load_next) (r : Reply) → c.load_next.result ≡ r
     → IsTurn (all_seated c.args.self.now) c.args.c (record { kind = c.args.kind; name = c.args.name.now }) (left c.walk.self (search_at c.walk.self c.args.c)) c.load_next.new.self r
-turned c r is = turns c.args.self.now c.walk.self c.load_next.new.self c.args.c (record { kind = c.args.kind; name = c.args.name.now }) c.load_next.result r (subst Holds c.self.view_is c.self.invariant)
+turned c r is =
+    turns c.args.self.now c.walk.self c.load_next.new.self c.args.c (record { kind = c.args.kind; name = c.args.name.now }) c.load_next.result r (subst Holds c.self.view_is c.self.invariant)
     c.requires.known c.requires.ready c.load_next.ensures.holds c.walk.invariant.0 is c.load_next.ensures.made
 
 pub returns-in-Found-clause-answer : goal.returns-in-Found-clause-answer
@@ -57,10 +58,12 @@ ready_after : (s t : State) (c : ℕ) (answer : Option Entry) → Holds s → t 
 ready_after s t c answer on after d may = subst (λ (x : State). may_act x d ≡ true) (sym after) (acting_on s d on may)
 
 pub returns-in-Found-clause-ready : goal.returns-in-Found-clause-ready
-returns-in-Found-clause-ready c = ready_after c.args.self.now c.load_next.new.self c.args.c (Some c.in-Found.entry) (subst Holds c.self.view_is c.self.invariant) (turned (goal.at.returns-in-Found-clause-ready c).After-load_next (Found c.in-Found.entry) c.in-Found.is).1
+returns-in-Found-clause-ready c = ready_after c.args.self.now c.load_next.new.self c.args.c (Some c.in-Found.entry) (subst Holds c.self.view_is c.self.invariant)
+    (turned (goal.at.returns-in-Found-clause-ready c).After-load_next (Found c.in-Found.entry) c.in-Found.is).1
 
 pub returns-in-Missed-clause-ready : goal.returns-in-Missed-clause-ready
-returns-in-Missed-clause-ready c = ready_after c.args.self.now c.load_next.new.self c.args.c None (subst Holds c.self.view_is c.self.invariant) (turned (goal.at.returns-in-Missed-clause-ready c).After-load_next Missed c.in-Missed.is).1
+returns-in-Missed-clause-ready c = ready_after c.args.self.now c.load_next.new.self c.args.c None (subst Holds c.self.view_is c.self.invariant)
+    (turned (goal.at.returns-in-Missed-clause-ready c).After-load_next Missed c.in-Missed.is).1
 
 goes_on : (b s t : State) (c : ℕ) (key : Key) (r : Reply) → Holds b → c < b.settings.cpus → may_act b c ≡ true → Holds s → Walks (all_seated b) s c key
     → next_load s c (search_at s c) ≡ Some (record { state = t; reply = r }) → ((e : Entry) → r ≡ Found e → ⊥) → (r ≡ Missed → ⊥)

@@ -8,7 +8,8 @@ pub invariant_of-self-else-link-eq0 : goal.invariant_of-self-else-link-eq0
 invariant_of-self-else-link-eq0 c =
     let now = c.changes-now.ensures.value ∙ ap (λ (x : State). length x.history) (sym c.self.view_is) in
     let one : c.args.link ≡ suc (c.args.link - 1) = omega (arith, c.if-link-eq0.false) in
-    let kept = subst (λ (x : State). Keeps (link_loaded x c.args.c c.args.search (suc (c.args.link - 1)))) (sym c.self.view_is) (subst (λ (k : ℕ). Keeps (link_loaded c.args.self.now c.args.c c.args.search k)) one c.requires.holds) in
+    let kept = subst (λ (x : State). Keeps (link_loaded x c.args.c c.args.search (suc (c.args.link - 1)))) (sym c.self.view_is)
+    (subst (λ (k : ℕ). Keeps (link_loaded c.args.self.now c.args.c c.args.search k)) one c.requires.holds) in
     rw now kept
 
 pub returns-else-link-eq0 : goal.returns-else-link-eq0

@@ -39,7 +39,8 @@ returns-clause-after c =
     let s = c.args.self.now in
     let on : Holds s = subst Holds c.self.view_is c.self.invariant in
     let none : kept_at s.keeps c.args.t ≡ None = sym c.kept_at.ensures.value ∙ none_is c.kept_at.result (sym c.is_some.ensures ∙ c.if-is_some.false) in
-    vacated s c.make-2.new.self c.args.t on none c.requires.drained (made_is (may_vacate s c.args.t) (after_vacate s c.args.t) c.make-2.new.self Done c.make-2.result (vacates s c.args.t none c.requires.drained) c.make-2.ensures)
+    vacated s c.make-2.new.self c.args.t on none c.requires.drained
+    (made_is (may_vacate s c.args.t) (after_vacate s c.args.t) c.make-2.new.self Done c.make-2.result (vacates s c.args.t none c.requires.drained) c.make-2.ensures)
 
 pub returns-then-is_some-clause-made : goal.returns-then-is_some-clause-made
 returns-then-is_some-clause-made c = only_one (IsFreeingOf c.args.t) c.args.self.now c.make.new.self (KeptSub c.args.t) c.make.result (inr (inl refl)) c.make.ensures

@@ -15,13 +15,15 @@ row_of_place-row-requires c =
 pub go_on-requires-clause-holds : goal.go_on-requires-clause-holds
 go_on-requires-clause-holds c =
     let is = ap (λ (x : State). search_at x c.args.c) c.self.view_is ∙ sym c.in-Some.ensures.value in
-    let load = ap (λ (rows : List RecordWords). loaded_at c.in-Some.search c.in-Some.search.place (row_of_place rows c.in-Some.search.place)) (sym c.deref.ensures.value) ∙ ap (loaded_at c.in-Some.search c.in-Some.search.place) (sym c.row_of_place-row.ensures) ∙ (sym c.loaded.ensures ∙ (c.in-Some-On.is ∙ ap Some c.in-Some-On.field-0-is)) in
+    let load = ap (λ (rows : List RecordWords). loaded_at c.in-Some.search c.in-Some.search.place (row_of_place rows c.in-Some.search.place)) (sym c.deref.ensures.value)
+    ∙ ap (loaded_at c.in-Some.search c.in-Some.search.place) (sym c.row_of_place-row.ensures) ∙ (sym c.loaded.ensures ∙ (c.in-Some-On.is ∙ ap Some c.in-Some-On.field-0-is)) in
     subst (λ (x : State). Holds (with_search_at x c.args.c c.in-Some.search c.in-Some-On.place)) c.self.view_is
     (loaded_keeps (state_shown c.self.inside) c.args.c c.in-Some.search (Some (On c.in-Some-On.place c.in-Some-On.word)) c.self.invariant is load)
 
 pub end_search-requires-clause-holds : goal.end_search-requires-clause-holds
 end_search-requires-clause-holds c =
     let is = ap (λ (x : State). search_at x c.args.c) c.self.view_is ∙ sym c.in-Some.ensures.value in
-    let load = ap (λ (rows : List RecordWords). loaded_at c.in-Some.search c.in-Some.search.place (row_of_place rows c.in-Some.search.place)) (sym c.deref.ensures.value) ∙ ap (loaded_at c.in-Some.search c.in-Some.search.place) (sym c.row_of_place-row.ensures) ∙ (sym c.loaded.ensures ∙ (c.in-Some-Over.is ∙ ap Some c.in-Some-Over.field-0-is)) in
+    let load = ap (λ (rows : List RecordWords). loaded_at c.in-Some.search c.in-Some.search.place (row_of_place rows c.in-Some.search.place)) (sym c.deref.ensures.value)
+    ∙ ap (loaded_at c.in-Some.search c.in-Some.search.place) (sym c.row_of_place-row.ensures) ∙ (sym c.loaded.ensures ∙ (c.in-Some-Over.is ∙ ap Some c.in-Some-Over.field-0-is)) in
     subst (λ (x : State). Holds (search_over x c.args.c (Some c.in-Some-Over.entry))) c.self.view_is
     (loaded_keeps (state_shown c.self.inside) c.args.c c.in-Some.search (Some (Over c.in-Some-Over.entry)) c.self.invariant is load)

@@ -12,7 +12,8 @@ returns-then-not-passes-clause-answer c =
     let s = c.args.self.now in
     let l = c.loop-c in
     let open_ : is_open_since l.self c.args.t l.c ≡ true = not_false (is_open_since l.self c.args.t l.c) c.passes.result c.passes.ensures.answer c.if-not-passes.true in
-    sym (least_is (is_open_since s c.args.t) l.c s.settings.cpus (subst (λ (x : State). l.c < x.settings.cpus) c.self.view_is c.loop-c-test.true) (sym (open_same s l.self c.args.t l.c l.invariant.only l.invariant.marks) ∙ open_) l.invariant.closed)
+    sym (least_is (is_open_since s c.args.t) l.c s.settings.cpus (subst (λ (x : State). l.c < x.settings.cpus) c.self.view_is c.loop-c-test.true)
+    (sym (open_same s l.self c.args.t l.c l.invariant.only l.invariant.marks) ∙ open_) l.invariant.closed)
 
 pub returns-then-not-passes-clause-marks : goal.returns-then-not-passes-clause-marks
 returns-then-not-passes-clause-marks c = marks_pass_more c.args.self.now.marks c.loop-c.self.marks c.passes.new.self.marks c.args.t c.loop-c.invariant.marks c.passes.ensures.marks
@@ -44,7 +45,8 @@ loop-c-preserved c =
     }
 
 pub returns-clause-answer : goal.returns-clause-answer
-returns-clause-answer c = sym (none_below (is_open_since c.args.self.now c.args.t) c.args.self.now.settings.cpus (λ d lt. c.loop-c.invariant.closed d (omega (arith, lt, subst (λ (x : State). x.settings.cpus ≤ c.loop-c.c) c.self.view_is c.loop-c-test.false))))
+returns-clause-answer c = sym (none_below (is_open_since c.args.self.now c.args.t) c.args.self.now.settings.cpus
+    (λ d lt. c.loop-c.invariant.closed d (omega (arith, lt, subst (λ (x : State). x.settings.cpus ≤ c.loop-c.c) c.self.view_is c.loop-c-test.false))))
 
 pub loop-c-init : goal.loop-c-init
 loop-c-init c = record {

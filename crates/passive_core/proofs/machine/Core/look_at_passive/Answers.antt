@@ -13,7 +13,8 @@ returns-then-not-clears-clause-answer c =
     let s = c.args.self.now in
     let l = c.loop-c in
     let has : has_passive l.self c.args.t l.c ≡ true = not_false (has_passive l.self c.args.t l.c) c.clears.result c.clears.ensures.answer c.if-not-clears.true in
-    sym (least_is (has_passive s c.args.t) l.c s.settings.cpus (subst (λ (x : State). l.c < x.settings.cpus) c.self.view_is c.loop-c-test.true) (sym (passive_same s l.self c.args.t l.c l.invariant.only) ∙ has) l.invariant.none)
+    sym (least_is (has_passive s c.args.t) l.c s.settings.cpus (subst (λ (x : State). l.c < x.settings.cpus) c.self.view_is c.loop-c-test.true)
+    (sym (passive_same s l.self c.args.t l.c l.invariant.only) ∙ has) l.invariant.none)
 
 pub returns-then-not-clears-clause-marks : goal.returns-then-not-clears-clause-marks
 returns-then-not-clears-clause-marks c = marks_clear_more c.args.self.now.marks c.loop-c.self.marks c.clears.new.self.marks c.args.t c.loop-c.invariant.marks c.clears.ensures.marks
@@ -48,7 +49,8 @@ loop-c-preserved c =
     }
 
 pub returns-clause-answer : goal.returns-clause-answer
-returns-clause-answer c = sym (none_below (has_passive c.args.self.now c.args.t) c.args.self.now.settings.cpus (λ d lt. c.loop-c.invariant.none d (omega (arith, lt, subst (λ (x : State). x.settings.cpus ≤ c.loop-c.c) c.self.view_is c.loop-c-test.false))))
+returns-clause-answer c = sym (none_below (has_passive c.args.self.now c.args.t) c.args.self.now.settings.cpus
+    (λ d lt. c.loop-c.invariant.none d (omega (arith, lt, subst (λ (x : State). x.settings.cpus ≤ c.loop-c.c) c.self.view_is c.loop-c-test.false))))
 
 pub loop-c-init : goal.loop-c-init
 loop-c-init c = record {

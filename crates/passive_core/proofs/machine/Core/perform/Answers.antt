@@ -15,14 +15,16 @@ returns-in_err-waiting_for-clause-ready c = λ d acts.
 
 pub returns-in_err-waiting_for-clause-answer : goal.returns-in_err-waiting_for-clause-answer
 returns-in_err-waiting_for-clause-answer c =
-    let least : c.wait_for_sections.result ≡ least_below (is_inside c.args.self.now) c.args.self.now.settings.cpus = c.wait_for_sections.ensures.answer ∙ ap (λ (x : State). least_below (is_inside x) x.settings.cpus) c.seat_all.ensures in
+    let least : c.wait_for_sections.result ≡ least_below (is_inside c.args.self.now) c.args.self.now.settings.cpus =
+    c.wait_for_sections.ensures.answer ∙ ap (λ (x : State). least_below (is_inside x) x.settings.cpus) c.seat_all.ensures in
     let outside : is_inside c.args.self.now c.args.c ≡ false = sym c.inside.ensures ∙ c.if-inside.false in
     rw outside (handed_on c.from_residual.result c.in_err-waiting_for.field-0.0 c.from_residual.ensures.0 c.from_residual.ensures.1 ∙ (c.in_err-waiting_for.ensures.value ∙ ap wait_answer least))
 
 pub pass_all-requires-clause-outside : goal.pass_all-requires-clause-outside
 pass_all-requires-clause-outside c =
     let s = c.args.self.now in
-    let none : least_below (is_inside s) s.settings.cpus ≡ None = ap (λ (x : State). least_below (is_inside x) x.settings.cpus) (sym c.seat_all.ensures) ∙ (sym c.wait_for_sections.ensures.answer ∙ c.in_ok-waiting_for.ensures.none) in
+    let none : least_below (is_inside s) s.settings.cpus ≡ None =
+    ap (λ (x : State). least_below (is_inside x) x.settings.cpus) (sym c.seat_all.ensures) ∙ (sym c.wait_for_sections.ensures.answer ∙ c.in_ok-waiting_for.ensures.none) in
     subst AllOutside (sym (c.wait_for_sections.ensures.same ∙ c.seat_all.ensures)) (least_none (is_inside s) s.settings.cpus none)
 
 pub pass_all-requires-clause-numbers : goal.pass_all-requires-clause-numbers
@@ -35,7 +37,8 @@ pub returns-clause-answer : goal.returns-clause-answer
 returns-clause-answer c =
     let s = c.args.self.now in
     let seated : c.wait_for_sections.new.self ≡ all_seated s = c.wait_for_sections.ensures.same ∙ c.seat_all.ensures in
-    let none : least_below (is_inside s) s.settings.cpus ≡ None = ap (λ (x : State). least_below (is_inside x) x.settings.cpus) (sym c.seat_all.ensures) ∙ (sym c.wait_for_sections.ensures.answer ∙ c.in_ok-waiting_for.ensures.none) in
+    let none : least_below (is_inside s) s.settings.cpus ≡ None =
+    ap (λ (x : State). least_below (is_inside x) x.settings.cpus) (sym c.seat_all.ensures) ∙ (sym c.wait_for_sections.ensures.answer ∙ c.in_ok-waiting_for.ensures.none) in
     rw (sym c.inside.ensures ∙ c.if-inside.false, none) refl
 
 pub returns-clause-after : goal.returns-clause-after
@@ -68,4 +71,5 @@ pub returns-clause-made : goal.returns-clause-made
 returns-clause-made c =
     let s = c.args.self.now in
     only_after IsWaiting s c.wait_for_sections.new.self c.pass_all.new.self
-    (seats_wait s c.seat_all.new.self c.wait_for_sections.new.self (subst Holds c.self.view_is c.self.invariant) c.requires.rest c.seat_all.ensures c.wait_for_sections.ensures.same) c.pass_all.ensures.made
+    (seats_wait s c.seat_all.new.self c.wait_for_sections.new.self (subst Holds c.self.view_is c.self.invariant) c.requires.rest c.seat_all.ensures c.wait_for_sections.ensures.same)
+    c.pass_all.ensures.made

@@ -12,7 +12,8 @@ returns-clause-made c =
     let m = c.store_record_words.new.self in
     let v = c.store_counts.new.self in
     let n = c.make.new.self in
-    let counts : Makes m (count_stores_from e.slot 0 s.settings.cpus) v = subst (λ (x : State). Makes m (count_stores_from e.slot 0 x.settings.cpus) v) c.store_record_words.ensures.after c.store_counts.ensures.made in
+    let counts : Makes m (count_stores_from e.slot 0 s.settings.cpus) v =
+    subst (λ (x : State). Makes m (count_stores_from e.slot 0 x.settings.cpus) v) c.store_record_words.ensures.after c.store_counts.ensures.made in
     let head : c.self.inside.head ≡ s.head = ap (λ (x : State). x.head) (c.self.view_is ∙ c.store_counts.ensures.after) ∙ ap (λ (x : State). x.head) c.store_record_words.ensures.after in
     let links = subst (λ (w : ℕ). step v (StoreNext e.slot w) ≡ Some (record { state = n; reply = c.make.result })) head c.make.ensures in
     makes_more s m n (record_stores e) (count_stores_from e.slot 0 s.settings.cpus ++ StoreNext e.slot s.head ∷ []) c.store_record_words.ensures.made

@@ -14,16 +14,20 @@ shown : (c : After-number-number) → ShowsRecord c.args.self.now c.number-numbe
 shown c = local_shows c.args.self.now c.args.id c.number-number.result (subst Holds c.self.view_is c.self.invariant) c.number-number.ensures
 
 pub load_word-kind-requires : goal.load_word-kind-requires
-load_word-kind-requires c = load_ok c.args.self.now c.args.self.now c.number-number.result 1 (λ (x : State) (k : ℕ). load_local x c.args.id k) (shown (goal.at.load_word-kind-requires c).After-number-number) refl refl
+load_word-kind-requires c =
+    load_ok c.args.self.now c.args.self.now c.number-number.result 1 (λ (x : State) (k : ℕ). load_local x c.args.id k) (shown (goal.at.load_word-kind-requires c).After-number-number) refl refl
 
 pub load_word-high-requires : goal.load_word-high-requires
-load_word-high-requires c = load_ok c.args.self.now c.load_word-kind.new.self c.number-number.result 2 (λ (x : State) (k : ℕ). load_local x c.args.id k) (shown (goal.at.load_word-high-requires c).After-number-number) c.load_word-kind.ensures.same refl
+load_word-high-requires c = load_ok c.args.self.now c.load_word-kind.new.self c.number-number.result 2 (λ (x : State) (k : ℕ). load_local x c.args.id k)
+    (shown (goal.at.load_word-high-requires c).After-number-number) c.load_word-kind.ensures.same refl
 
 pub load_word-low-requires : goal.load_word-low-requires
-load_word-low-requires c = load_ok c.args.self.now c.load_word-high.new.self c.number-number.result 3 (λ (x : State) (k : ℕ). load_local x c.args.id k) (shown (goal.at.load_word-low-requires c).After-number-number) (c.load_word-high.ensures.same ∙ c.load_word-kind.ensures.same) refl
+load_word-low-requires c = load_ok c.args.self.now c.load_word-high.new.self c.number-number.result 3 (λ (x : State) (k : ℕ). load_local x c.args.id k)
+    (shown (goal.at.load_word-low-requires c).After-number-number) (c.load_word-high.ensures.same ∙ c.load_word-kind.ensures.same) refl
 
 pub load_word-value-requires : goal.load_word-value-requires
-load_word-value-requires c = load_ok c.args.self.now c.load_word-low.new.self c.number-number.result 4 (λ (x : State) (k : ℕ). load_local x c.args.id k) (shown (goal.at.load_word-value-requires c).After-number-number) (c.load_word-low.ensures.same ∙ (c.load_word-high.ensures.same ∙ c.load_word-kind.ensures.same)) refl
+load_word-value-requires c = load_ok c.args.self.now c.load_word-low.new.self c.number-number.result 4 (λ (x : State) (k : ℕ). load_local x c.args.id k)
+    (shown (goal.at.load_word-value-requires c).After-number-number) (c.load_word-low.ensures.same ∙ (c.load_word-high.ensures.same ∙ c.load_word-kind.ensures.same)) refl
 
 pub record_from-requires : goal.record_from-requires
 record_from-requires c =
@@ -55,7 +59,12 @@ returns-clause-record c = λ n live.
 
 pub returns-clause-made : goal.returns-clause-made
 returns-clause-made c =
-    makes_load c.args.self.now c.load_word-kind.new.self (OfLocal c.args.id 1) c.load_word-kind.result (LoadRecord (OfLocal c.args.id 2) ∷ LoadRecord (OfLocal c.args.id 3) ∷ LoadRecord (OfLocal c.args.id 4) ∷ []) c.load_word-value.new.self c.load_word-kind.ensures.word c.load_word-kind.ensures.same
-    (makes_load c.load_word-kind.new.self c.load_word-high.new.self (OfLocal c.args.id 2) c.load_word-high.result (LoadRecord (OfLocal c.args.id 3) ∷ LoadRecord (OfLocal c.args.id 4) ∷ []) c.load_word-value.new.self c.load_word-high.ensures.word c.load_word-high.ensures.same
-    (makes_load c.load_word-high.new.self c.load_word-low.new.self (OfLocal c.args.id 3) c.load_word-low.result (LoadRecord (OfLocal c.args.id 4) ∷ []) c.load_word-value.new.self c.load_word-low.ensures.word c.load_word-low.ensures.same
-    (makes_load c.load_word-low.new.self c.load_word-value.new.self (OfLocal c.args.id 4) c.load_word-value.result ([]) c.load_word-value.new.self c.load_word-value.ensures.word c.load_word-value.ensures.same refl)))
+    makes_load c.args.self.now c.load_word-kind.new.self (OfLocal c.args.id 1) c.load_word-kind.result
+    (LoadRecord (OfLocal c.args.id 2) ∷ LoadRecord (OfLocal c.args.id 3) ∷ LoadRecord (OfLocal c.args.id 4) ∷ []) c.load_word-value.new.self c.load_word-kind.ensures.word
+    c.load_word-kind.ensures.same
+    (makes_load c.load_word-kind.new.self c.load_word-high.new.self (OfLocal c.args.id 2) c.load_word-high.result
+    (LoadRecord (OfLocal c.args.id 3) ∷ LoadRecord (OfLocal c.args.id 4) ∷ []) c.load_word-value.new.self c.load_word-high.ensures.word c.load_word-high.ensures.same
+    (makes_load c.load_word-high.new.self c.load_word-low.new.self (OfLocal c.args.id 3) c.load_word-low.result
+    (LoadRecord (OfLocal c.args.id 4) ∷ []) c.load_word-value.new.self c.load_word-low.ensures.word c.load_word-low.ensures.same
+    (makes_load c.load_word-low.new.self c.load_word-value.new.self (OfLocal c.args.id 4) c.load_word-value.result
+    ([]) c.load_word-value.new.self c.load_word-value.ensures.word c.load_word-value.ensures.same refl)))

@@ -13,16 +13,20 @@ shown : (c : After-self) → ShowsRecord c.args.self.now c.args.number (load_pas
 shown c = passive_shows c.args.self.now c.args.c c.args.number (subst Holds c.self.view_is c.self.invariant) c.requires.idle c.requires.held
 
 pub load_word-kind-requires : goal.load_word-kind-requires
-load_word-kind-requires c = load_ok c.args.self.now c.args.self.now c.args.number 1 (λ (x : State) (k : ℕ). load_passive x c.args.c c.args.number k) (shown (goal.at.load_word-kind-requires c).After-self) refl refl
+load_word-kind-requires c =
+    load_ok c.args.self.now c.args.self.now c.args.number 1 (λ (x : State) (k : ℕ). load_passive x c.args.c c.args.number k) (shown (goal.at.load_word-kind-requires c).After-self) refl refl
 
 pub load_word-high-requires : goal.load_word-high-requires
-load_word-high-requires c = load_ok c.args.self.now c.load_word-kind.new.self c.args.number 2 (λ (x : State) (k : ℕ). load_passive x c.args.c c.args.number k) (shown (goal.at.load_word-high-requires c).After-self) c.load_word-kind.ensures.same refl
+load_word-high-requires c = load_ok c.args.self.now c.load_word-kind.new.self c.args.number 2 (λ (x : State) (k : ℕ). load_passive x c.args.c c.args.number k)
+    (shown (goal.at.load_word-high-requires c).After-self) c.load_word-kind.ensures.same refl
 
 pub load_word-low-requires : goal.load_word-low-requires
-load_word-low-requires c = load_ok c.args.self.now c.load_word-high.new.self c.args.number 3 (λ (x : State) (k : ℕ). load_passive x c.args.c c.args.number k) (shown (goal.at.load_word-low-requires c).After-self) (c.load_word-high.ensures.same ∙ c.load_word-kind.ensures.same) refl
+load_word-low-requires c = load_ok c.args.self.now c.load_word-high.new.self c.args.number 3 (λ (x : State) (k : ℕ). load_passive x c.args.c c.args.number k)
+    (shown (goal.at.load_word-low-requires c).After-self) (c.load_word-high.ensures.same ∙ c.load_word-kind.ensures.same) refl
 
 pub load_word-value-requires : goal.load_word-value-requires
-load_word-value-requires c = load_ok c.args.self.now c.load_word-low.new.self c.args.number 4 (λ (x : State) (k : ℕ). load_passive x c.args.c c.args.number k) (shown (goal.at.load_word-value-requires c).After-self) (c.load_word-low.ensures.same ∙ (c.load_word-high.ensures.same ∙ c.load_word-kind.ensures.same)) refl
+load_word-value-requires c = load_ok c.args.self.now c.load_word-low.new.self c.args.number 4 (λ (x : State) (k : ℕ). load_passive x c.args.c c.args.number k)
+    (shown (goal.at.load_word-value-requires c).After-self) (c.load_word-low.ensures.same ∙ (c.load_word-high.ensures.same ∙ c.load_word-kind.ensures.same)) refl
 
 pub record_from-requires : goal.record_from-requires
 record_from-requires c =
@@ -53,7 +57,12 @@ returns-clause-record c =
 
 pub returns-clause-made : goal.returns-clause-made
 returns-clause-made c =
-    makes_load c.args.self.now c.load_word-kind.new.self (OfPassive c.args.c c.args.number 1) c.load_word-kind.result (LoadRecord (OfPassive c.args.c c.args.number 2) ∷ LoadRecord (OfPassive c.args.c c.args.number 3) ∷ LoadRecord (OfPassive c.args.c c.args.number 4) ∷ []) c.load_word-value.new.self c.load_word-kind.ensures.word c.load_word-kind.ensures.same
-    (makes_load c.load_word-kind.new.self c.load_word-high.new.self (OfPassive c.args.c c.args.number 2) c.load_word-high.result (LoadRecord (OfPassive c.args.c c.args.number 3) ∷ LoadRecord (OfPassive c.args.c c.args.number 4) ∷ []) c.load_word-value.new.self c.load_word-high.ensures.word c.load_word-high.ensures.same
-    (makes_load c.load_word-high.new.self c.load_word-low.new.self (OfPassive c.args.c c.args.number 3) c.load_word-low.result (LoadRecord (OfPassive c.args.c c.args.number 4) ∷ []) c.load_word-value.new.self c.load_word-low.ensures.word c.load_word-low.ensures.same
-    (makes_load c.load_word-low.new.self c.load_word-value.new.self (OfPassive c.args.c c.args.number 4) c.load_word-value.result ([]) c.load_word-value.new.self c.load_word-value.ensures.word c.load_word-value.ensures.same refl)))
+    makes_load c.args.self.now c.load_word-kind.new.self (OfPassive c.args.c c.args.number 1) c.load_word-kind.result
+    (LoadRecord (OfPassive c.args.c c.args.number 2) ∷ LoadRecord (OfPassive c.args.c c.args.number 3) ∷ LoadRecord (OfPassive c.args.c c.args.number 4) ∷ []) c.load_word-value.new.self
+    c.load_word-kind.ensures.word c.load_word-kind.ensures.same
+    (makes_load c.load_word-kind.new.self c.load_word-high.new.self (OfPassive c.args.c c.args.number 2) c.load_word-high.result
+    (LoadRecord (OfPassive c.args.c c.args.number 3) ∷ LoadRecord (OfPassive c.args.c c.args.number 4) ∷ []) c.load_word-value.new.self c.load_word-high.ensures.word c.load_word-high.ensures.same
+    (makes_load c.load_word-high.new.self c.load_word-low.new.self (OfPassive c.args.c c.args.number 3) c.load_word-low.result
+    (LoadRecord (OfPassive c.args.c c.args.number 4) ∷ []) c.load_word-value.new.self c.load_word-low.ensures.word c.load_word-low.ensures.same
+    (makes_load c.load_word-low.new.self c.load_word-value.new.self (OfPassive c.args.c c.args.number 4) c.load_word-value.result
+    ([]) c.load_word-value.new.self c.load_word-value.ensures.word c.load_word-value.ensures.same refl)))

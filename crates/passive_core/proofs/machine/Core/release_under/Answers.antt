@@ -16,13 +16,15 @@ pub make-requires-clause-allowed : goal.make-requires-clause-allowed
 make-requires-clause-allowed c =
     let s = c.args.self.now in
     let of = sym c.in-Some.ensures.value in
-    is_some (step s (JoinKeeper c.args.id)) _ (joined_keeper s c.args.c c.args.id c.number-number.result c.in-Some.t (subst Holds c.self.view_is c.self.invariant) c.requires.known c.requires.rest c.number-number.ensures of c.requires.collected) refl
+    is_some (step s (JoinKeeper c.args.id)) _ (joined_keeper s c.args.c c.args.id c.number-number.result c.in-Some.t
+    (subst Holds c.self.view_is c.self.invariant) c.requires.known c.requires.rest c.number-number.ensures of c.requires.collected) refl
 
 pub make-requires-2-clause-allowed : goal.make-requires-2-clause-allowed
 make-requires-2-clause-allowed c =
     let s = c.args.self.now in
     let of = sym c.in-Some.ensures.value in
-    let joined = joined_keeper s c.args.c c.args.id c.number-number.result c.in-Some.t (subst Holds c.self.view_is c.self.invariant) c.requires.known c.requires.rest c.number-number.ensures of c.requires.collected in
+    let joined = joined_keeper s c.args.c c.args.id c.number-number.result c.in-Some.t
+    (subst Holds c.self.view_is c.self.invariant) c.requires.known c.requires.rest c.number-number.ensures of c.requires.collected in
     sub_allowed s c.make.new.self c.args.id c.in-Some.t (made s (step s (JoinKeeper c.args.id)) _ c.make.new.self _ joined c.make.ensures)
 
 pub returns-clause-made : goal.returns-clause-made
@@ -30,4 +32,5 @@ returns-clause-made c =
     let s = c.args.self.now in
     let at = slot_is s c.args.id c.number-number.result c.in-Some.t c.number-number.ensures (sym c.in-Some.ensures.value) in
     subst (λ (o : Option ℕ). Makes s (under_events c.args.id o) c.make-2.new.self) (sym at)
-    (makes_first s c.make.new.self c.make-2.new.self (JoinKeeper c.args.id) c.make.result (TotalSub c.in-Some.t ∷ []) c.make.ensures (makes_one c.make.new.self c.make-2.new.self (TotalSub c.in-Some.t) c.make-2.result c.make-2.ensures))
+    (makes_first s c.make.new.self c.make-2.new.self (JoinKeeper c.args.id) c.make.result (TotalSub c.in-Some.t ∷ []) c.make.ensures
+    (makes_one c.make.new.self c.make-2.new.self (TotalSub c.in-Some.t) c.make-2.result c.make-2.ensures))

@@ -51,7 +51,8 @@ returns-clause-stage c = λ e is.
     c.settled-stage.ensures ∙ ap (stage_of c.args.t None None) (omega (arith, total, c.total_at-held.ensures))
 
 pub returns-clause-after : goal.returns-clause-after
-returns-clause-after c = subst (Settles c.args.self.now c.free.new.self c.args.t) (sym c.settled-stage.ensures) (settled_free c.args.self.now c.free.new.self c.args.t _ c.if-held-ne0.false c.free.ensures.after)
+returns-clause-after c =
+    subst (Settles c.args.self.now c.free.new.self c.args.t) (sym c.settled-stage.ensures) (settled_free c.args.self.now c.free.new.self c.args.t _ c.if-held-ne0.false c.free.ensures.after)
 
 pub returns-clause-emptied : goal.returns-clause-emptied
 returns-clause-emptied c = gathered_words c.args.self.now c.args.t (subst Holds c.self.view_is c.self.invariant) c.requires.retired c.requires.collected
@@ -60,4 +61,5 @@ pub returns-then-held-ne0-clause-made : goal.returns-then-held-ne0-clause-made
 returns-then-held-ne0-clause-made c = only_none (IsWork c.settled-stage.result c.args.t) c.args.self.now
 
 pub returns-clause-made : goal.returns-clause-made
-returns-clause-made c = subst (λ (x : Stage). MakesOnly (IsWork x c.args.t) c.args.self.now c.free.new.self) (sym (c.settled-stage.ensures ∙ ap (stage_of c.args.t None None) c.if-held-ne0.false)) c.free.ensures.made
+returns-clause-made c =
+    subst (λ (x : Stage). MakesOnly (IsWork x c.args.t) c.args.self.now c.free.new.self) (sym (c.settled-stage.ensures ∙ ap (stage_of c.args.t None None) c.if-held-ne0.false)) c.free.ensures.made

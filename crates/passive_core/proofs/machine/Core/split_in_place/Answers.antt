@@ -9,5 +9,6 @@ pub invariant_of-self : goal.invariant_of-self
 invariant_of-self c =
     let hand = ap (λ (x : State). hand_at x c.args.c) c.self.view_is ∙ c.requires.hand in
     let id = c.least_id-id.ensures.value ∙ ap (λ (x : State). least_id x.locals) (sym c.self.view_is) in
-    let room : nat_lt (least_id (state_shown c.self.inside).locals) (length (state_shown c.self.inside).locals) ≡ true = subst (λ (x : State). nat_lt (least_id x.locals) (length x.locals) ≡ true) (sym c.self.view_is) (lt-ltb (least_id c.args.self.now.locals) (length c.args.self.now.locals) c.requires.room) in
+    let room : nat_lt (least_id (state_shown c.self.inside).locals) (length (state_shown c.self.inside).locals) ≡ true =
+    subst (λ (x : State). nat_lt (least_id x.locals) (length x.locals) ≡ true) (sym c.self.view_is) (lt-ltb (least_id c.args.self.now.locals) (length c.args.self.now.locals) c.requires.room) in
     step_holds (state_shown c.self.inside) _ (SplitRef c.args.c) (Ref c.least_id-id.result) c.self.invariant (rw (hand, id, room) refl)

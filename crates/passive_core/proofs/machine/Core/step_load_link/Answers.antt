@@ -14,7 +14,8 @@ follow-requires-clause-slot c =
 pub follow-requires-clause-holds : goal.follow-requires-clause-holds
 follow-requires-clause-holds c =
     let is = ap (λ (x : State). search_at x c.args.c) c.self.view_is ∙ sym c.in-Some.ensures.value in
-    subst (λ (x : State). Keeps (link_loaded x c.args.c c.in-Some.search c.self.inside.head)) c.self.view_is (head_keeps (state_shown c.self.inside) c.args.c c.in-Some.search c.self.invariant is c.in-AtHead.is)
+    subst (λ (x : State). Keeps (link_loaded x c.args.c c.in-Some.search c.self.inside.head)) c.self.view_is
+    (head_keeps (state_shown c.self.inside) c.args.c c.in-Some.search c.self.invariant is c.in-AtHead.is)
 
 pub index-link-requires : goal.index-link-requires
 index-link-requires c =
@@ -37,7 +38,8 @@ follow-requires-in-AtNext-clause-holds c =
     let low : c.in-AtNext.t < length c.self.inside.next.items = omega (arith, bound.0, c.self.invariant.shape.links) in
     let word = get_or_read c.self.inside.next.items c.in-AtNext.t c.index-link.result.now low c.index-link.ensures 0 in
     subst (λ (x : State). Keeps (link_loaded x c.args.c c.in-Some.search c.index-link.result.now)) c.self.view_is
-    (subst (λ (k : ℕ). Keeps (link_loaded (state_shown c.self.inside) c.args.c c.in-Some.search k)) (sym word) (next_keeps (state_shown c.self.inside) c.args.c c.in-AtNext.t c.in-Some.search c.self.invariant is c.in-AtNext.is))
+    (subst (λ (k : ℕ). Keeps (link_loaded (state_shown c.self.inside) c.args.c c.in-Some.search k)) (sym word)
+    (next_keeps (state_shown c.self.inside) c.args.c c.in-AtNext.t c.in-Some.search c.self.invariant is c.in-AtNext.is))
 
 pub returns-in-AtNext : goal.returns-in-AtNext
 returns-in-AtNext c =

@@ -7,12 +7,15 @@ use Rattle.passive_core.proofs.Making.{makes_one, seated_and}
 use Rattle.passive_core.proofs.machine.Core.subtract_passive.Goals as goal
 
 pub make-requires-clause-allowed : goal.make-requires-clause-allowed
-make-requires-clause-allowed c = sub_allowed c.args.self.now c.begin.new.self c.args.c c.args.number c.begin.ensures.seated (c.begin.ensures.idle c.args.c c.requires.known c.requires.ready) c.requires.held
+make-requires-clause-allowed c =
+    sub_allowed c.args.self.now c.begin.new.self c.args.c c.args.number c.begin.ensures.seated (c.begin.ensures.idle c.args.c c.requires.known c.requires.ready) c.requires.held
 
 pub returns-clause-counted : goal.returns-clause-counted
 returns-clause-counted c =
-    let is = subbed c.args.self.now c.begin.new.self c.make.new.self c.args.c c.args.number _ c.begin.ensures.seated (c.begin.ensures.idle c.args.c c.requires.known c.requires.ready) c.requires.held c.make.ensures in
+    let is = subbed c.args.self.now c.begin.new.self c.make.new.self c.args.c c.args.number _ c.begin.ensures.seated
+    (c.begin.ensures.idle c.args.c c.requires.known c.requires.ready) c.requires.held c.make.ensures in
     subst (λ (x : State). IsOneLess c.args.self.now x c.args.c c.args.number) (sym is) (counted_less c.args.self.now c.args.c c.args.number c.begin.ensures.sound c.requires.known c.requires.held)
 
 pub returns-clause-made : goal.returns-clause-made
-returns-clause-made c = seated_and c.args.self.now c.begin.new.self c.make.new.self (PassiveSub c.args.c c.args.number ∷ []) c.begin.ensures.sound c.requires.rest c.begin.ensures.seated (makes_one c.begin.new.self c.make.new.self (PassiveSub c.args.c c.args.number) c.make.result c.make.ensures)
+returns-clause-made c = seated_and c.args.self.now c.begin.new.self c.make.new.self (PassiveSub c.args.c c.args.number ∷ []) c.begin.ensures.sound c.requires.rest c.begin.ensures.seated
+    (makes_one c.begin.new.self c.make.new.self (PassiveSub c.args.c c.args.number) c.make.result c.make.ensures)

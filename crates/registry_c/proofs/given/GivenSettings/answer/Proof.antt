@@ -12,4 +12,5 @@ use Rattle.registry_c.proofs.given.GivenSettings.answer.Code as code
 
 pub answer_spec : {M : Type 1} → statement M
 answer_spec 𝓤 𝓛 𝓜 𝓡 wired = answered w32 from into (λ p. (p.at, tt)) (λ a. a.number) 𝓛 𝓜 𝓡 (λ p n. record { number = n; settings = p })
-    (λ p n. refl) (λ p n. refl) (f.clauses 𝓛 𝓜.mem 𝓡.returns) (λ y. fact_i 𝓤 (record { number = y.0.3.1.0; settings = y.0.3.0 } ≡ record { number = y.0.3.1.0; settings = y.0.3.0 }) (emp 𝓤) refl) f.Key.name (code.unfolded 𝓤 𝓛.H 𝓜 𝓡 wired)
+    (λ p n. refl) (λ p n. refl) (f.clauses 𝓛 𝓜.mem 𝓡.returns) (λ y. fact_i 𝓤 (record { number = y.0.3.1.0; settings = y.0.3.0 } ≡ record { number = y.0.3.1.0; settings = y.0.3.0 }) (emp 𝓤) refl)
+    f.Key.name (code.unfolded 𝓤 𝓛.H 𝓜 𝓡 wired)

@@ -12,5 +12,6 @@ use Rattle.registry_c.proofs.given.GivenSettings.settings.Statement.{statement}
 use Rattle.registry_c.proofs.given.GivenSettings.settings.Code as code
 
 pub settings_spec : {M : Type 1} → statement M
-settings_spec {M} 𝓤 𝓛 𝓜 𝓡 wired = given for_c (λ g. (g.at, tt)) row (λ g. g.share) (λ g. g.settings) (λ g. refl) refl 𝓛 (the_row_copy.copies M 𝓤 𝓛) (the_row_laws.lawful 𝓛) (f.clauses 𝓛 𝓜.mem 𝓡.returns)
+settings_spec {M} 𝓤 𝓛 𝓜 𝓡 wired =
+    given for_c (λ g. (g.at, tt)) row (λ g. g.share) (λ g. g.settings) (λ g. refl) refl 𝓛 (the_row_copy.copies M 𝓤 𝓛) (the_row_laws.lawful 𝓛) (f.clauses 𝓛 𝓜.mem 𝓡.returns)
     (λ y. let g : GivenSettings = y.0.3.0.now in fact_i 𝓤 ((g ≡ g) × (g.settings ≡ g.settings)) (emp 𝓤) (refl, refl)) 𝓜 𝓡 f.Key.name (code.unfolded 𝓤 𝓛.H 𝓜 𝓡 wired)

@@ -12,4 +12,5 @@ use Rattle.registry_c.proofs.handle.LocalHandleCHandle.body_mut.Statement.{state
 use Rattle.registry_c.proofs.handle.LocalHandleCHandle.body_mut.Code as code
 
 pub body_mut_spec : {M : Type 1} → statement M
-body_mut_spec 𝓤 𝓛 𝓜 𝓡 wired = lent (token (raw (lone body.mir))) (token_tests body) for_c (λ h. (h.at, tt)) body (λ h. h.body) (λ h x. record { at = h.at; body = Some x }) (λ h. refl) (λ h x. refl) (λ h x. refl) 𝓛 𝓜 𝓡 f.Key.name (code.unfolded 𝓤 𝓛.H 𝓜 𝓡 wired)
+body_mut_spec 𝓤 𝓛 𝓜 𝓡 wired = lent (token (raw (lone body.mir))) (token_tests body) for_c (λ h. (h.at, tt)) body (λ h. h.body) (λ h x. record { at = h.at; body = Some x }) (λ h. refl) (λ h x. refl)
+    (λ h x. refl) 𝓛 𝓜 𝓡 f.Key.name (code.unfolded 𝓤 𝓛.H 𝓜 𝓡 wired)

@@ -10,4 +10,5 @@ use Rattle.registry_c.proofs.place.NamePlace.value_mut.Statement.{statement}
 use Rattle.registry_c.proofs.place.NamePlace.value_mut.Code as code
 
 pub value_mut_spec : {M : Type 1} → statement M
-value_mut_spec 𝓤 𝓛 𝓜 𝓡 wired = lent is_testable lent_tests for_c (λ p. (p.at, tt)) name_row (λ p. p.value) (λ p x. record { at = p.at; value = Some x }) (λ p. refl) (λ p x. refl) (λ p x. refl) 𝓛 𝓜 𝓡 f.Key.name (code.unfolded 𝓤 𝓛.H 𝓜 𝓡 wired)
+value_mut_spec 𝓤 𝓛 𝓜 𝓡 wired = lent is_testable lent_tests for_c (λ p. (p.at, tt)) name_row (λ p. p.value) (λ p x. record { at = p.at; value = Some x }) (λ p. refl) (λ p x. refl)
+    (λ p x. refl) 𝓛 𝓜 𝓡 f.Key.name (code.unfolded 𝓤 𝓛.H 𝓜 𝓡 wired)

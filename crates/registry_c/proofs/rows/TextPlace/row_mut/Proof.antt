@@ -8,4 +8,5 @@ use Rattle.registry_c.proofs.rows.TextPlace.row_mut.Statement.{statement}
 use Rattle.registry_c.proofs.rows.TextPlace.row_mut.Code as code
 
 pub row_mut_spec : {M : Type 1} → statement M
-row_mut_spec 𝓤 𝓛 𝓜 𝓡 wired = lent for_c (λ p. (p.at, tt)) u8 tt (λ p. p.value) (λ p xs. record { at = p.at; value = Some xs }) (λ p. refl) (λ p xs. refl) (λ p xs. refl) 𝓛 𝓜 𝓡 f.Key.name (code.unfolded 𝓤 𝓛.H 𝓜 𝓡 wired)
+row_mut_spec 𝓤 𝓛 𝓜 𝓡 wired =
+    lent for_c (λ p. (p.at, tt)) u8 tt (λ p. p.value) (λ p xs. record { at = p.at; value = Some xs }) (λ p. refl) (λ p xs. refl) (λ p xs. refl) 𝓛 𝓜 𝓡 f.Key.name (code.unfolded 𝓤 𝓛.H 𝓜 𝓡 wired)

@@ -5,10 +5,12 @@ use Rattle.registry_live.proofs.session.LiveSessionSession.detach.Goals as goal
 
 pub invariant_of-self : goal.invariant_of-self
 invariant_of-self g c =
-    let stays = detached_stays (get_or c.args.self.now.cpus.now c.args.cpu c.index-cpus-cpu.result) c.detach.new.cpu c.args.kind c.args.name _ c.detach.result c.detach.ensures.ok c.detach.ensures.refused in
+    let stays = detached_stays (get_or c.args.self.now.cpus.now c.args.cpu c.index-cpus-cpu.result) c.detach.new.cpu c.args.kind c.args.name _ c.detach.result c.detach.ensures.ok
+    c.detach.ensures.refused in
     record { all = all_with _ c.args.self.now.cpus.now c.args.cpu c.index-cpus-cpu.result c.detach.new.cpu c.args.self.now.all c.requires c.index-cpus-cpu.is stays.id }
 
 pub returns-clause-kept : goal.returns-clause-kept
 returns-clause-kept g c =
-    let stays = detached_stays (get_or c.args.self.now.cpus.now c.args.cpu c.index-cpus-cpu.result) c.detach.new.cpu c.args.kind c.args.name _ c.detach.result c.detach.ensures.ok c.detach.ensures.refused in
+    let stays = detached_stays (get_or c.args.self.now.cpus.now c.args.cpu c.index-cpus-cpu.result) c.detach.new.cpu c.args.kind c.args.name _ c.detach.result c.detach.ensures.ok
+    c.detach.ensures.refused in
     lent _ _ _ _ refl (goes_on c.args.self.now.cpus.now c.args.self.now.passives c.args.cpu c.index-cpus-cpu.result c.detach.new.cpu stays.references)

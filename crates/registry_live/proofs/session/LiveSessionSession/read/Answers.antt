@@ -4,7 +4,8 @@ use Rattle.registry_live.proofs.Labelled.{goes_on, lent}
 use Rattle.registry_live.proofs.session.LiveSessionSession.read.Goals as goal
 
 pub invariant_of-self : goal.invariant_of-self
-invariant_of-self g c = record { all = all_with _ c.args.self.now.cpus.now c.args.cpu c.index-cpus-cpu.result c.read_by.new.cpu c.args.self.now.all c.requires.known c.index-cpus-cpu.is c.read_by.ensures.id }
+invariant_of-self g c =
+    record { all = all_with _ c.args.self.now.cpus.now c.args.cpu c.index-cpus-cpu.result c.read_by.new.cpu c.args.self.now.all c.requires.known c.index-cpus-cpu.is c.read_by.ensures.id }
 
 pub returns-clause-kept : goal.returns-clause-kept
 returns-clause-kept g c =

@@ -4,7 +4,8 @@ use Rattle.registry_live.proofs.Labelled.{lent, named_id, refers}
 use Rattle.registry_live.proofs.session.LiveSessionSession.reference.Goals as goal
 
 pub invariant_of-self : goal.invariant_of-self
-invariant_of-self g c = record { all = all_with _ c.args.self.now.cpus.now c.args.cpu c.index-cpus-cpu.result c.refer.new.cpu c.args.self.now.all c.requires.known c.index-cpus-cpu.is c.refer.ensures.id }
+invariant_of-self g c =
+    record { all = all_with _ c.args.self.now.cpus.now c.args.cpu c.index-cpus-cpu.result c.refer.new.cpu c.args.self.now.all c.requires.known c.index-cpus-cpu.is c.refer.ensures.id }
 
 pub returns-clause-kept : goal.returns-clause-kept
 returns-clause-kept g c =

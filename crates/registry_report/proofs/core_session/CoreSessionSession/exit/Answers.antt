@@ -9,8 +9,11 @@ pub invariant_of-self : goal.invariant_of-self
 invariant_of-self c =
     let before = c.self.inside in
     let left = c.exit.ensures in
-    same_places (record { core = before.core; passives = before.passives; locals = before.locals }) c.exit.new.self c.self.invariant (record { rest = left.rest; ready = left.ready; holds = c.at_rest.ensures.holds })
+    same_places (record { core = before.core; passives = before.passives; locals = before.locals }) c.exit.new.self c.self.invariant
+    (record { rest = left.rest; ready = left.ready; holds = c.at_rest.ensures.holds })
     (ap (λ (s : State). s.locals) left.after ∙ exited_locals before.core c.args.cpu _ _)
 
 pub returns-clause-shows : goal.returns-clause-shows
-returns-clause-shows c = λ r on. (exit_does (record { core = c.self.inside.core; passives = c.self.inside.passives; locals = c.self.inside.locals }) c.args.self.now c.exit.new.self r c.args.cpu c.inside-2.result c.self.view_is c.self.invariant on (subst (λ (x : SessionState). c.args.cpu < x.core.settings.cpus) (sym c.self.view_is) c.requires) (sym c.inside.ensures ∙ c.if-not-inside.false) c.exit.ensures.after c.inside-2.ensures).1
+returns-clause-shows c = λ r on. (exit_does (record { core = c.self.inside.core; passives = c.self.inside.passives; locals = c.self.inside.locals }) c.args.self.now c.exit.new.self r c.args.cpu
+    c.inside-2.result c.self.view_is c.self.invariant on (subst (λ (x : SessionState). c.args.cpu < x.core.settings.cpus) (sym c.self.view_is) c.requires)
+    (sym c.inside.ensures ∙ c.if-not-inside.false) c.exit.ensures.after c.inside-2.ensures).1

@@ -8,5 +8,6 @@ all_joined p n k s all was = let long : p * (n + 1) ≡ p * n + p = grind arith 
 pub returns : goal.returns
 returns g c =
     let started = c.loop-cpu.invariant.0 in
-    let all : vec_len c.loop-cpu.started + 1 ≡ c.captures.shared.now.plan.cpus = let others = c.requires.others in let end = c.loop-cpu-test.false in let most = c.loop-cpu.auto.cpu-index-end in omega (arith, started, others, end, most) in
+    let all : vec_len c.loop-cpu.started + 1 ≡ c.captures.shared.now.plan.cpus =
+    let others = c.requires.others in let end = c.loop-cpu-test.false in let most = c.loop-cpu.auto.cpu-index-end in omega (arith, started, others, end, most) in
     record { ok = all_joined (2 * c.captures.shared.now.plan.turns) (vec_len c.loop-cpu.started) _ _ all c.join_all.ensures; err = tt }
