@@ -62,6 +62,7 @@ fn walked_and_changed<D: Domain, R: Wait + Abort>(
     requires { IsBlankOf blank D.table D.settings D.name D.parts }
 {
     let mut bench = Bench::<D>::open(alloc, blank)?;
+    assert!(rt; 1 <= bench.cpus.len());
     let missing = bench.registry.audit(rt, alloc, &mut bench.cpus[..1]);
     assert!(rt; matches!(missing, Err(Refusal::MissingCpu)));
     bench.run(rt, "walks", WALKS);

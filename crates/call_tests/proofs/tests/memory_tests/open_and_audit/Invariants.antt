@@ -1,5 +1,5 @@
 use Rattle.registry_values.specs.declared.settings.TheConstants.{MOST_CPUS}
-use Rattle.call_tests.proofs.tests.memory_tests.audit.Given as goal
+use Rattle.call_tests.proofs.tests.memory_tests.open_and_audit.Given as goal
 
 -- the registry that was just made
 abbrev pub ghosts-audited_again-D-Domain : goal.ghosts-audited_again-D-Domain
