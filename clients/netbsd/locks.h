@@ -138,7 +138,7 @@ void rw_enter(krwlock_t *rw, const krw_t how);
 /* rw_tryenter - the same without a wait. Whether it was taken. */
 int rw_tryenter(krwlock_t *rw, const krw_t how);
 
-/* rw_exit - give it back. Stops where nobody has it, or another thread as its writer. */
+/* rw_exit - give it back. Stops where nobody has it, where another thread has it as its writer, and where this thread has no lock. */
 void rw_exit(krwlock_t *rw);
 
 /* rw_tryupgrade - from reader to writer, where there is no other reader. Whether it is now the writer. */
