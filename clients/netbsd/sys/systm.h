@@ -21,7 +21,7 @@ static inline unsigned long ulmin(unsigned long a, unsigned long b) { return a <
 static inline unsigned long ulmax(unsigned long a, unsigned long b) { return a > b ? a : b; }
 #endif
 
-/* strlcpy, strlcat - strings that are cut to their room, with a zero. They answer how long the whole string is. */
+/* strlcpy, strlcat - strings that are cut to their room, with a zero. They return how long the whole string is. */
 #ifndef strlcpy
 static inline size_t kupaldiz_strlcpy(char *to, const char *from, size_t room)
 {
