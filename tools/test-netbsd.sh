@@ -57,7 +57,7 @@ watched() {
 for header in $(cd $folder && ls ./*.h sys/*.h net/*.h); do
     check "${header#./} alone, in four C standards" header_alone "${header#./}"
 done
-for way in plain sanitized raced small late; do
+for way in plain sanitized raced small late busy; do
     check "the layer and its tests are built, no warning: $way" make -s -C $folder $way
     for test in $(programs $way); do
         check "$test, $way" "$out/$way/$test"

@@ -2,7 +2,7 @@
  * cpu.h - threads, and the CPUs that they run on
  *
  * A CPU is virtual, one of KUPALDIZ_CPUS. Any number of threads share them: a thread has its CPU for the length of a call, of a read section, of
- * a spin lock, or of a raised level, and the other threads of that CPU wait meanwhile. Outside of these all threads run at once, on whatever
+ * a spin lock, or of a raised level, and the other threads of that CPU wait meanwhile. Outside of these all threads run at once, on any
  * processor.
  *
  * A thread that isn't bound gets a CPU that is free whenever it needs one, and may get another the next time. One that is bound keeps its CPU.
@@ -41,7 +41,7 @@ typedef struct lwp lwp_t;
 
 static const int ncpu = KUPALDIZ_CPUS;
 
-/* kupaldiz_curlwp - this thread: curlwp of the kernel. Stops where memory is refused. */
+/* kupaldiz_curlwp - this thread: curlwp of the kernel. Stops where memory runs out. */
 struct lwp *kupaldiz_curlwp(void);
 #define curlwp	kupaldiz_curlwp()
 
@@ -69,7 +69,7 @@ void kupaldiz_unbind(void);
 /*
  * curlwp_bind - keep this thread on its CPU
  *
- * It waits for nobody. The answer is for curlwp_bindx: 0 where this call bound the thread, 1 where it was bound before.
+ * It waits for nobody. Returns what curlwp_bindx takes: 0 where this call bound the thread, 1 where it was bound before.
  */
 int curlwp_bind(void);
 

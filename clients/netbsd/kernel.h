@@ -47,7 +47,7 @@ int getticks(void);
 void delay(unsigned microseconds);
 #define DELAY(microseconds)	delay(microseconds)
 
-/* kpause - sleep for so many ticks, without the lock meanwhile, which may be NULL. Answers EWOULDBLOCK. Stops where the thread mustn't sleep. */
+/* kpause - sleep for so many ticks, without the lock meanwhile, which may be NULL. Returns EWOULDBLOCK. Stops where the thread mustn't sleep. */
 int kpause(const char *name, bool interruptible, int ticks, kmutex_t *mutex);
 
 /* ---- kthread(9) ---- */
@@ -59,7 +59,7 @@ int kpause(const char *name, bool interruptible, int ticks, kmutex_t *mutex);
 #define KTHREAD_TS	0x08
 #define KTHREAD_MUSTJOIN	0x10
 
-/* kthread_create - a thread that runs `body(arg)`, bound to `cpu` where that isn't NULL. Answers 0 or an errno; the thread is written to `made`. */
+/* kthread_create - a thread that runs `body(arg)`, bound to `cpu` where that isn't NULL. Returns 0 or an errno; the thread is written to `made`. */
 int kthread_create(int priority, int flags, struct cpu_info *cpu, void (*body)(void *), void *arg, lwp_t **made, const char *format, ...) __attribute__((format(printf, 7, 8)));
 
 /* kthread_exit - end this thread. Stops where kthread_create didn't make it. */
@@ -70,7 +70,7 @@ int kthread_join(lwp_t *thread);
 
 /* ---- copy(9) ---- */
 
-/* copyin, copyout - copy from or to the user's memory. Answer 0 or EFAULT. Stop where the thread mustn't sleep. */
+/* copyin, copyout - copy from or to the user's memory. Return 0 or EFAULT. Stop where the thread mustn't sleep. */
 int copyin(const void *user, void *kernel, size_t length);
 int copyout(const void *kernel, void *user, size_t length);
 

@@ -50,12 +50,12 @@ void localcount_drain(struct localcount *lc, kcondvar_t *cv, kmutex_t *interlock
  * localcount_acquire - acquire a reference
  *
  * The caller is inside a read section in which it found the object, or keeps it by a lock or a reference.
- * Stops where the count isn't live or is being drained, and where memory is refused.
+ * Stops where the count isn't live or is being drained, and where memory runs out.
  */
 void localcount_acquire(struct localcount *lc);
 
 /*
- * localcount_release - release a reference, on whatever CPU
+ * localcount_release - release a reference, on any CPU
  *
  * It takes the interlock where a drain waits for this reference, and wakes the drain by `cv`.
  * Stops where the caller has the interlock; where the count isn't live; where no reference to it is held; and where `cv` or `interlock` are

@@ -78,7 +78,7 @@ typedef struct kcondvar {
 	uint32_t cv_waiters;
 } kcondvar_t;
 
-/* cv_init - make a condition variable. Its name stands in lines and isn't copied. */
+/* cv_init - make a condition variable. Its name appears in lines and isn't copied. */
 void cv_init(kcondvar_t *cv, const char *name);
 
 /* cv_destroy - end a condition variable. Stops where a thread waits for it. */
@@ -91,10 +91,10 @@ void cv_destroy(kcondvar_t *cv);
  */
 void cv_wait(kcondvar_t *cv, kmutex_t *mutex);
 
-/* cv_wait_sig - cv_wait; it answers 0, since no signal ends it. */
+/* cv_wait_sig - cv_wait; it returns 0, since no signal ends it. */
 int cv_wait_sig(kcondvar_t *cv, kmutex_t *mutex);
 
-/* cv_timedwait - cv_wait for at most so many ticks of 1/hz second, 0 for ever. Answers 0 where it was woken, EWOULDBLOCK after the time. */
+/* cv_timedwait - cv_wait for at most so many ticks of 1/hz second, 0 for ever. Returns 0 where it was woken, EWOULDBLOCK after the time. */
 int cv_timedwait(kcondvar_t *cv, kmutex_t *mutex, int ticks);
 
 /* cv_timedwait_sig - cv_timedwait. */
@@ -138,7 +138,7 @@ void rw_enter(krwlock_t *rw, const krw_t how);
 /* rw_tryenter - the same without a wait. Whether it was taken. */
 int rw_tryenter(krwlock_t *rw, const krw_t how);
 
-/* rw_exit - give it back. Stops where nobody has it, or another thread as its writer. */
+/* rw_exit - give it back. Stops where nobody has it, where another thread has it as its writer, and where this thread has no lock. */
 void rw_exit(krwlock_t *rw);
 
 /* rw_tryupgrade - from reader to writer, where there is no other reader. Whether it is now the writer. */

@@ -1,8 +1,8 @@
 /*
  * memory.h - kmem(9), pool(9), pool_cache(9) and percpu(9), over the heap
  *
- * Each block knows its size, and what is given back with another one stops. Memory with KM_SLEEP or PR_WAITOK is never refused: the call stops
- * where the heap refuses it, and where the thread mustn't sleep.
+ * Each block knows its size, and what is given back with another one stops. Memory with KM_SLEEP or PR_WAITOK never fails: the call stops
+ * where the heap has none, and where the thread mustn't sleep.
  */
 #ifndef KUPALDIZ_NETBSD_MEMORY_H
 #define KUPALDIZ_NETBSD_MEMORY_H
@@ -17,7 +17,7 @@ typedef unsigned km_flag_t;
 #define KM_SLEEP	0x01u
 #define KM_NOSLEEP	0x02u
 
-/* kmem_alloc - a block of that size. With KM_NOSLEEP it answers NULL where memory is refused. Stops with size 0 and in a soft interrupt. */
+/* kmem_alloc - a block of that size. With KM_NOSLEEP it returns NULL where memory runs out. Stops with size 0 and in a soft interrupt. */
 void *kmem_alloc(size_t size, km_flag_t flags);
 
 /* kmem_zalloc - the same, of zeros. */
@@ -61,7 +61,7 @@ void pool_init(struct pool *pool, size_t size, unsigned align, unsigned offset, 
 /* pool_destroy - end it. Stops where an object is in use. */
 void pool_destroy(struct pool *pool);
 
-/* pool_get - an object. With PR_NOWAIT it answers NULL where memory is refused. */
+/* pool_get - an object. With PR_NOWAIT it returns NULL where memory runs out. */
 void *pool_get(struct pool *pool, int flags);
 
 /* pool_put - give an object back. Stops where it is none of the pool's. */
@@ -73,7 +73,7 @@ pool_cache_t pool_cache_init(size_t size, unsigned align, unsigned offset, unsig
 /* pool_cache_destroy - end it. Stops where an object is in use. */
 void pool_cache_destroy(pool_cache_t cache);
 
-/* pool_cache_get - an object, made. NULL where memory is refused, or `make` fails. */
+/* pool_cache_get - an object, made. NULL where memory runs out, or `make` fails. */
 void *pool_cache_get(pool_cache_t cache, int flags);
 
 /* pool_cache_put - give an object back, which is ended. */

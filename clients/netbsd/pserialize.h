@@ -26,7 +26,7 @@ extern "C" {
 
 typedef struct pserialize *pserialize_t;
 
-/* pserialize_create - what the writers of one list perform with. Stops where memory is refused. */
+/* pserialize_create - what the writers of one list perform with. Stops where memory runs out. */
 pserialize_t pserialize_create(void);
 
 /* pserialize_destroy - end it. Stops while a thread performs with it. */
@@ -35,16 +35,16 @@ void pserialize_destroy(pserialize_t psz);
 /*
  * pserialize_read_enter - enter a read section, or the open one once more
  *
- * The answer is for the pserialize_read_exit that belongs to it: how many sections of this thread were open before. It waits where another
+ * Returns what the matching pserialize_read_exit takes: how many sections of this thread were open before. It waits where another
  * thread of this CPU is inside a section.
  */
 int pserialize_read_enter(void);
 
-/* pserialize_read_exit - exit the section that was entered last. Stops outside, and where `s` is what another enter answered. */
+/* pserialize_read_exit - exit the section that was entered last. Stops outside, and where `s` is what another enter returned. */
 void pserialize_read_exit(int s);
 
 /*
- * pserialize_perform - wait until each read section that is open now, on whatever CPU, has ended
+ * pserialize_perform - wait until each read section that is open now, on any CPU, has ended
  *
  * It may sleep. Nothing is said of sections that begin during the call.
  * Stops where the thread mustn't sleep: inside a read section, with a spin lock or at a raised level, and in a soft interrupt.

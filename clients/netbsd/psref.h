@@ -32,7 +32,7 @@ struct psref_target {
 	uint64_t prt_row;
 };
 
-/* A passive reference, in the storage of its holder. Only the calls look into it; it isn't copied but by psref_copy. */
+/* A passive reference, in the storage of its holder. Only the calls look into it; it isn't copied except by psref_copy. */
 struct psref {
 	const struct psref_target *psref_target;	/* NULL once released */
 	uint64_t psref_serial;
@@ -40,7 +40,7 @@ struct psref {
 	uint32_t psref_cpu;
 };
 
-/* psref_class_create - a class of targets. Its name, which stands in lines, isn't copied. Stops where memory is refused. */
+/* psref_class_create - a class of targets. Its name appears in lines and isn't copied. Stops where memory runs out. */
 struct psref_class *psref_class_create(const char *name, ipl_cookie_t level);
 
 /* psref_class_destroy - end a class. Stops while a target of it is live or is being destroyed. */
@@ -50,7 +50,7 @@ void psref_class_destroy(struct psref_class *psref_class);
 void psref_target_init(struct psref_target *target, struct psref_class *psref_class);
 
 /*
- * psref_target_destroy - wait until no reference to the target is held, on whatever CPU
+ * psref_target_destroy - wait until no reference to the target is held, on any CPU
  *
  * It may sleep. The sections that were open as the last reference was released have ended, too. The target may be freed or initialised again
  * after it.

@@ -23,7 +23,7 @@ extern "C" {
 #define SOFTINT_MPSAFE	0x0100u
 #define SOFTINT_LVLMASK	0x00ffu
 
-/* softint_establish - a soft interrupt of this level that runs `handler(arg)`. NULL where memory is refused. */
+/* softint_establish - a soft interrupt of this level that runs `handler(arg)`. NULL where memory runs out. */
 void *softint_establish(unsigned flags, void (*handler)(void *), void *arg);
 
 /*
@@ -36,7 +36,7 @@ void softint_disestablish(void *cookie);
 /* softint_schedule - have its handler run once on this CPU. Where it is scheduled there already nothing changes. */
 void softint_schedule(void *cookie);
 
-/* kupaldiz_splraise - the CPU's level is at least this one until splx, and the thread keeps its CPU. Answers the level before. */
+/* kupaldiz_splraise - the CPU's level is at least this one until splx, and the thread keeps its CPU. Returns the level before. */
 int kupaldiz_splraise(int level);
 
 /* splx - the level before. Stops where a spin lock is held that keeps it higher. */
@@ -67,7 +67,7 @@ typedef void (*xcfunc_t)(void *, void *);
  * xc_broadcast - have each CPU run `body(arg1, arg2)` once
  *
  * This thread runs it, on each CPU in turn, once no other thread of that CPU is inside a section; it has ended when the call returns. With
- * XC_HIGHPRI it mustn't sleep. The answer is for xc_wait. Stops where the thread mustn't sleep.
+ * XC_HIGHPRI it mustn't sleep. Returns what xc_wait takes. Stops where the thread mustn't sleep.
  */
 uint64_t xc_broadcast(unsigned flags, xcfunc_t body, void *arg_a, void *arg_b);
 
@@ -114,10 +114,12 @@ void callout_schedule(callout_t *callout, int ticks);
 /* callout_stop - it isn't pending any more; it may run. Whether it had expired. */
 bool callout_stop(callout_t *callout);
 
-/* callout_halt - the same, and it doesn't run: the call waits for it, without the lock meanwhile, which may be NULL. Stops where the thread mustn't sleep. */
+/* callout_halt - the same, and it doesn't run: the call waits for it, without the lock meanwhile, which may be NULL. Stops where the thread mustn't
+ * sleep. */
 bool callout_halt(callout_t *callout, void *interlock);
 
-/* callout_pending, callout_expired, callout_active, callout_invoking - for assertions: it waits for its time; its time came; either; it runs or is about to, until callout_ack. */
+/* callout_pending, callout_expired, callout_active, callout_invoking - for assertions: it waits for its time; its time came; one of the two; it runs, until
+ * callout_ack. */
 bool callout_pending(callout_t *callout);
 bool callout_expired(callout_t *callout);
 bool callout_active(callout_t *callout);

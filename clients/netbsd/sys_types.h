@@ -1,7 +1,7 @@
 /*
  * sys_types.h - what all headers of the layer share: the place of a call, priority levels, and where a test bench may look in
  *
- * Each call that can stop or wait is also a macro of its own name, which notes file and line for the lines on standard error. Code that wants
+ * Each call that can stop or wait is also a macro of its own name, which notes file and line for the lines on standard error. Code that needs
  * the plain functions defines KUPALDIZ_WITHOUT_PLACES before it includes anything of the layer.
  */
 #ifndef KUPALDIZ_NETBSD_SYS_TYPES_H
@@ -20,7 +20,7 @@ extern "C" {
 #define KUPALDIZ_TEXT(line)	KUPALDIZ_TEXT_OF(line)
 #define KUPALDIZ_HERE		__FILE__ ":" KUPALDIZ_TEXT(__LINE__)
 
-/* kupaldiz_at - the next call of this thread stands there. The text isn't copied. */
+/* kupaldiz_at - the next call of this thread is at this place. The text isn't copied. */
 void kupaldiz_at(const char *place);
 
 /* KUPALDIZ_POINT - before an atomic access or a barrier of the code's own. Nothing here; a library that tries schedules defines it. */

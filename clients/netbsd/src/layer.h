@@ -57,7 +57,8 @@
 #include "../softint.h"
 #include "registry.h"
 
-/* The limits, which a test may change: of a bank; after how many nanoseconds a drain looks again; after how many milliseconds a wait says for whom. */
+/* The limits, which a test may change: of a bank; how many nanoseconds a drain waits before it looks again; how many milliseconds a wait lasts before it
+ * tells for whom. */
 #ifndef KUPALDIZ_ROWS
 #define KUPALDIZ_ROWS		REGISTRY_MOST_SLOTS
 #endif

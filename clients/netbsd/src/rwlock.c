@@ -119,6 +119,8 @@ void rw_exit(krwlock_t *rw)
 		stop(me, "another thread has the lock as its writer");
 	if (rw->rw_writer == 0 && rw->rw_readers == 0)
 		stop(me, "nobody has the lock");
+	if (me->locks == 0)
+		stop(me, "the thread does not have the lock");
 	if (rw->rw_writer != 0)
 		rw->rw_writer = 0;
 	else

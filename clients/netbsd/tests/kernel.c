@@ -387,6 +387,15 @@ static void test_copies(void)
 	EXPECT(copyoutstr("xy", user, sizeof(user), NULL) == 0 && strcmp(user, "xy") == 0 && copyoutstr("xy", NULL, 3, NULL) == EFAULT);
 }
 
+static void test_strings(void)
+{
+	char text[5] = "";
+	EXPECT(strlcpy(text, "bridge", sizeof(text)) == 6 && strcmp(text, "brid") == 0 && strlcpy(text, "wm", sizeof(text)) == 2);
+	EXPECT(strlcat(text, "0123", sizeof(text)) == 6 && strcmp(text, "wm01") == 0 && strlcpy(text, "wm", 0) == 2);
+	EXPECT(imin(-1, 2) == -1 && imax(-1, 2) == 2 && min(1, 2) == 1 && ulmax(1, 2) == 2 && lmin(-3, 3) == -3);
+	EXPECT(__arraycount(text) == 5 && __BITS(4, 2) == 0x1c && __SHIFTOUT(0x1cul, __BITS(4, 2)) == 7 && howmany(9, 4) == 3);
+}
+
 int main(void)
 {
 	mutex_init(&lock, MUTEX_DEFAULT, IPL_SOFTCLOCK);
@@ -404,6 +413,7 @@ int main(void)
 	test_lists();
 	test_atomics();
 	test_copies();
+	test_strings();
 	cv_destroy(&cv);
 	rw_destroy(&rw);
 	mutex_destroy(&spin);

@@ -123,7 +123,7 @@ static void *read_all(void *arg)
 	return arg;
 }
 
-/* A perform waits for sections in whatever registry they are. */
+/* A perform waits for sections in any registry. */
 static void test_sections(unsigned rounds)
 {
 	pthread_t readers[READERS];

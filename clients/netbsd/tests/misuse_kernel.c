@@ -232,6 +232,23 @@ static void rw_exit_anothers(void)
 	rw_exit(&rw);
 }
 
+static void *read_it(void *arg)
+{
+	rw_enter(&rw, RW_READER);
+	atomic_store(&ready, true);
+	sleep_for(20000000);
+	return arg;
+}
+
+static void rw_exit_readers(void)
+{
+	pthread_t reader;
+	start_thread(&reader, read_it, NULL);
+	while (!atomic_load(&ready))
+		sleep_for(100);
+	rw_exit(&rw);
+}
+
 static void rw_enter_twice(void)
 {
 	rw_enter(&rw, RW_WRITER);
@@ -512,6 +529,7 @@ static const struct stop_case cases[] = {
     {cv_never_made, "cv_broadcast: the condition variable was never initialised, at PLACE"},
     {rw_exit_free, "rw_exit: nobody has the lock, at PLACE"},
     {rw_exit_anothers, "rw_exit: another thread has the lock as its writer, at PLACE"},
+    {rw_exit_readers, "rw_exit: the thread does not have the lock, at PLACE"},
     {rw_enter_twice, "rw_enter: the thread has the lock already, at PLACE"},
     {rw_enter_inside, "rw_enter: inside a read section, entered at PLACE, at PLACE"},
     {rw_destroy_held, "rw_destroy: the lock is held, at PLACE"},

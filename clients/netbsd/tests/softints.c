@@ -16,7 +16,7 @@ static atomic_uint runs, waits;
 static atomic_int ran_on;
 static unsigned order[4], ordered;
 
-/* Reads and refers, as a handler does, nested in whatever section is open. */
+/* Reads and refers, as a handler does, nested in the section that is open. */
 static void handle(void *arg)
 {
 	struct psref psref;
