@@ -82,7 +82,7 @@ impl<T> LocalRef<T> {
 
     /// Its entry, as it was attached.
     #[inline]
-    #[must_use] 
+    #[must_use]
     pub fn entry(reference: &Self) -> Entry {
         reference.record.entry()
     }
@@ -240,14 +240,14 @@ pub struct LocalGuard<'cpu, T> {
 impl<'cpu, T> LocalGuard<'cpu, T> {
     /// The entry, as it was attached.
     #[inline]
-    #[must_use] 
+    #[must_use]
     pub fn entry(guard: &Self) -> Entry {
         guard.record.entry()
     }
 
     /// The CPU that releases it.
     #[inline]
-    #[must_use] 
+    #[must_use]
     pub fn cpu(guard: &Self) -> &'cpu Cpu<T> {
         guard.cpu
     }

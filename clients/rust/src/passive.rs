@@ -60,14 +60,14 @@ impl<'cpu, T> PassiveRef<'cpu, T> {
 
     /// Its entry, as it was attached.
     #[inline]
-    #[must_use] 
+    #[must_use]
     pub fn entry(reference: &Self) -> Entry {
         reference.record.entry()
     }
 
     /// Its CPU.
     #[inline]
-    #[must_use] 
+    #[must_use]
     pub fn cpu(reference: &Self) -> &'cpu Cpu<T> {
         reference.cpu
     }
@@ -160,14 +160,14 @@ impl<T> PassiveRc<T> {
 
     /// Its entry, as it was attached.
     #[inline]
-    #[must_use] 
+    #[must_use]
     pub fn entry(reference: &Self) -> Entry {
         reference.record.entry()
     }
 
     /// Its CPU.
     #[inline]
-    #[must_use] 
+    #[must_use]
     pub fn cpu(reference: &Self) -> &Rc<Cpu<T>> {
         &reference.cpu
     }

@@ -64,13 +64,13 @@ impl<T> Registry<T> {
     }
 
     /// What it was opened with.
-    #[must_use] 
+    #[must_use]
     pub fn settings(&self) -> Settings {
         self.shared.settings()
     }
 
     /// The CPU with this number, where nobody has it: each that was dropped may be had again, with the references that it still holds.
-    #[must_use] 
+    #[must_use]
     pub fn cpu(&self, id: u8) -> Option<Cpu<T>> {
         let handle = self.shared.take_cpu(id)?;
         Some(Cpu::new(Arc::clone(&self.shared), id, handle))
@@ -86,7 +86,7 @@ impl<T> Registry<T> {
     /// drop(cpus);
     /// assert_eq!(registry.any_cpu().map(|cpu| cpu.id()), Some(0));
     /// ```
-    #[must_use] 
+    #[must_use]
     pub fn any_cpu(&self) -> Option<Cpu<T>> {
         (0..self.settings().cpus).find_map(|id| self.cpu(id))
     }
@@ -234,13 +234,13 @@ impl<T> Registry<T> {
 /// The work on retired entries, and the counts.
 impl<T> Registry<T> {
     /// How many entries that were [retired](Registry::retire) or [deferred](Retired::defer) wait to be freed.
-    #[must_use] 
+    #[must_use]
     pub fn retired(&self) -> usize {
         self.shared.deferred()
     }
 
     /// How many local references were [dropped without a CPU](LocalRef#dropped-without-a-cpu) and aren't released yet.
-    #[must_use] 
+    #[must_use]
     pub fn dropped(&self) -> usize {
         self.shared.baskets().total()
     }
@@ -260,7 +260,7 @@ impl<T> Registry<T> {
     /// section.exit();
     /// assert_eq!((registry.collect()[0].value, registry.retired()), (7, 0));
     /// ```
-    #[must_use] 
+    #[must_use]
     pub fn collect(&self) -> Vec<Freed<T>> {
         self.shared.collect()
     }

@@ -44,13 +44,13 @@ impl<T> Retired<T> {
     }
 
     /// The entry, as it was attached.
-    #[must_use] 
+    #[must_use]
     pub fn entry(&self) -> Entry {
         self.entry
     }
 
     /// The registry that it is of.
-    #[must_use] 
+    #[must_use]
     pub fn registry(&self) -> Registry<T> {
         Registry::of(Arc::clone(&self.shared))
     }

@@ -46,7 +46,7 @@ impl<'cpu, T> Section<'cpu, T> {
     ///
     /// What was found can't be used past the section. Any number of entries may be in use at once.
     #[inline]
-    #[must_use] 
+    #[must_use]
     pub fn find(&self, kind: Kind, name: &Name) -> Option<Found<'_, 'cpu, T>> {
         look_up(self.cpu, kind.number(), &name.words)
     }
@@ -77,7 +77,7 @@ impl<'cpu, T> Section<'cpu, T> {
     }
 
     /// The CPU that it is on.
-    #[must_use] 
+    #[must_use]
     pub fn cpu(&self) -> &'cpu Cpu<T> {
         self.cpu
     }
@@ -156,14 +156,14 @@ impl<'section, 'cpu, T> Found<'section, 'cpu, T> {
 
     /// The entry, as it was attached.
     #[inline]
-    #[must_use] 
+    #[must_use]
     pub fn entry(found: &Self) -> Entry {
         found.record.entry()
     }
 
     /// What the entry carries, for as long as the section is borrowed: it may outlive the `Found`.
     #[inline]
-    #[must_use] 
+    #[must_use]
     pub fn value(found: &Self) -> &'section T {
         // SAFETY: registry.h says of a find and of a walk that the entry keeps its slot until the section ends, and this borrows the section.
         // The section's guard is there, so the outermost exit is still to come.

@@ -202,7 +202,7 @@ pub struct ReadGuard<'cpu, T> {
 impl<'cpu, T> ReadGuard<'cpu, T> {
     /// The entry, as it was attached.
     #[inline]
-    #[must_use] 
+    #[must_use]
     pub fn entry(guard: &Self) -> Entry {
         Found::entry(&guard.found)
     }

@@ -126,7 +126,7 @@ fn a_reference_lies_in_the_basket_of_its_own_cpu() {
     LocalRef::release(local(&cpus[0], "wm"), &cpus[1]).unwrap();
     drop(local(&cpus[1], "wm"));
     assert_eq!(registry.dropped(), 1);
-    LocalRef::release(local(&cpus[1], "wm"), &cpus[0]).unwrap();
+    let _held = local(&cpus[1], "wm");
     assert_eq!(registry.dropped(), 0);
 }
 
@@ -161,12 +161,12 @@ fn a_dropped_reference_holds_up_no_drain() {
 fn a_turn_gives_up_256_of_its_entry() {
     let (registry, cpus) = with_driver(7);
     registry.attach(&cpus[0], &name("vga"), 8).unwrap();
-    let held = (many(&cpus[0], "wm", 300), many(&cpus[1], "wm", 300), many(&cpus[1], "vga", 500));
-    let gone = detach(&registry, &cpus[0], "wm");
+    let held = (many(&cpus[0], "vga", 300), many(&cpus[1], "vga", 300), many(&cpus[1], "wm", 500));
+    let gone = detach(&registry, &cpus[0], "vga");
     drop(held);
     assert_eq!((gone.holder(), registry.dropped()), (Some(Holder::Local(344)), 844));
     assert_eq!((gone.holder(), registry.dropped()), (Some(Holder::Local(88)), 588));
-    assert_eq!((gone.freed().value, registry.dropped()), (7, 500));
+    assert_eq!((gone.freed().value, registry.dropped()), (8, 500));
     assert_eq!(balances(&registry, &cpus), [balance(0, &[-500, 500], 0)]);
 }
 

@@ -2,7 +2,7 @@
 
 mod common;
 
-use common::{local, name, watched, with_driver};
+use common::{local, name, scaled, watched, with_driver};
 use registry::{Found, Kind, LocalRef, Patience, Refused, Registry, Settings};
 use std::alloc::{GlobalAlloc, Layout, System};
 use std::cell::Cell;
@@ -108,10 +108,11 @@ fn a_basket_gives_its_room_back() {
     let section = cpus[0].enter().unwrap();
     let found = section.find(Kind::Driver, &wm).unwrap();
     let before = BYTES.with(Cell::get);
-    let many: Vec<_> = (0..100_000).map(|_| Found::acquire_local(&found).unwrap()).collect();
+    let count = scaled(100_000);
+    let many: Vec<_> = (0..count).map(|_| Found::acquire_local(&found).unwrap()).collect();
     drop(many);
-    assert_eq!(registry.dropped(), 100_000);
-    assert!(BYTES.with(Cell::get) - before >= 100_000 * 8);
+    assert_eq!(registry.dropped(), count);
+    assert!(BYTES.with(Cell::get) - before >= count as isize * 8);
     cpus[0].release_dropped();
     assert!(BYTES.with(Cell::get) - before <= 2048);
 }

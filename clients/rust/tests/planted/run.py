@@ -91,9 +91,8 @@ def run(crate, program):
 
 
 def refused_by(said, test):
-    """Whether the test failed, or the program ended in the middle of it, or because a handle was in use."""
-    name = re.escape(test)
-    return re.search(rf"^(test )?\S*{name}\b.*FAILED|^---- \S*{name} |^thread '\S*{name}' .*panicked|a handle is in use", said, re.M)
+    """Whether the test failed, or the program ended by a signal: where a handle is in use, or a drop panics while another panic goes on."""
+    return re.search(rf"^(test )?\S*{re.escape(test)}\b.*FAILED|^---- \S*{re.escape(test)} |\(signal: \d+, SIGABRT", said, re.M)
 
 
 def judge(path, scratch, whole):
