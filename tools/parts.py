@@ -140,6 +140,7 @@ def run_beside(parts, tell):
         try:
             return list(pool.map(one, parts))
         except BaseException:
+            pool.shutdown(wait=False, cancel_futures=True)
             stop_running()
             raise
 

@@ -1,2 +1,37 @@
+"""Faults of pictures: tools/picture.py."""
+from .trees import Case, Fault, real
+
+LAYERS = ('data-from="high" data-to="low"', 'data-crate="high"')
+DRAWING = """<svg><rect data-crate="low"/><rect data-crate="high"/><path data-from="high" data-to="low"/></svg>
+"""
+PAGE = """# A page
+
+```script
+domain 1 1
+enter 0
+```
+```report
+domain 1 1
+inside
+```
+"""
+
+
 def cases():
-    return []
+    examples = real("examples/audit.*", "examples/limits.*")
+    tree = {**examples, "docs/layers.svg": DRAWING, "docs/page.md": PAGE, "crates.txt": "# NAME: ON\nlow: std\nhigh staticlib: low std\n"}
+    faults = (
+        Fault("another picture", "examples/audit.svg: it isn't what tools/picture.py make writes", (("examples/audit.svg", "</svg>", "<g/></svg>"),)),
+        Fault("another picture in text", "examples/limits.picture: it isn't", (("examples/limits.picture", None, "text\n"),)),
+        Fault("a picture that is gone", "examples/audit.picture: it isn't", (("examples/audit.picture", "", None),)),
+        Fault("a picture without a script", "examples/other.svg: there is no such script", (("examples/other.svg", None, "<svg/>"),)),
+        Fault("a report that isn't the script's", "examples/audit.svg", (("examples/audit.report", None, "domain 1 1\n"),)),
+        Fault("a report of a document that isn't its script's", "page.md, script 1", (("docs/page.md", "\ninside", "\noutside"),)),
+        Fault("a crate that is no box", "docs/layers.svg, crates: more", (("crates.txt", "low: std\n", "low: std\nmore: std\n"),)),
+        Fault("a box that is no crate", "docs/layers.svg, crates: less", (("docs/layers.svg", "<svg>", '<svg><rect data-crate="less"/>'),)),
+        Fault("an arrow that is missing", "docs/layers.svg, arrows: high-low", (("docs/layers.svg", LAYERS[0], ""),)),
+        Fault("an arrow too many", "docs/layers.svg, arrows: low-high", (("docs/layers.svg", "<svg>", '<svg><path data-from="low" data-to="high"/>'),)),
+        Fault("a report that is another script's", "audit.txt: ", command=["tools/picture.py", "svg", "examples/audit.txt", "examples/limits.report"]),
+        Fault("no report", "audit.txt: ", (("examples/audit.report", "", None),), command=["tools/picture.py", "text", "examples/audit.txt"]),
+    )
+    return [Case("picture", ["picture.py", "picture", "counts.py"], tree, ["tools/picture.py", "check"], faults)]
