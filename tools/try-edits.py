@@ -147,7 +147,7 @@ class Night:
     def __init__(self, crates):
         self.kit = kit_line()
         self.known = json.loads(KNOWN.read_text()) if KNOWN.exists() else {}
-        self.edits = {it: self.name(it) for crate in crates for folder in ("must-fail", *FOLDERS.values()) for it in edits_of(crate, folder)}
+        self.edits = {it: self.name(it) for crate in crates for folder in ("must-fail-gate", *FOLDERS.values()) for it in edits_of(crate, folder)}
 
     def name(self, edit):
         """The sum of all that the edit is tried on."""
