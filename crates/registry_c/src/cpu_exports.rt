@@ -1,18 +1,16 @@
-//! The calls of one CPU, through its handle.
+//! The calls of one CPU.
 
-ghost use Rattle.std.specs.Prelude.{◌≡◌, None};
+ghost use Rattle.std.specs.Prelude.{◌≡◌};
 ghost use Rattle.name_registry.specs.Common.{is_inside};
-ghost use Rattle.registry_c.specs.Places.{put};
-ghost use Rattle.registry_c.specs.Calls.{Acquires, Copies, CpuCloses, Enters, Exits, FindsNamed, HoldsSay, Reads, Releases, Through};
+ghost use Rattle.c_values.specs.declared.values.TheConstants.{DONE};
+ghost use Rattle.c_values.specs.Places.{put};
+ghost use Rattle.c_calls.specs.Calls.{Acquires, Copies, CpuCloses, Enters, Exits, FindsNamed, HoldsSay, Reads, Releases, Through};
 
-use crate::answer::{EntryAnswer, FlagAnswer, NamedAnswer, NumberAnswer};
-use crate::cpu_calls;
-use crate::given::GivenName;
-use crate::handle::CpuHandle;
-use crate::place::{EntryPlace, FlagPlace, NumberPlace};
-use crate::values::{DONE, EMPTY_HANDLE, refused};
-use held::CHandle;
-use registry_values::Refusal;
+use c_bodies::handle::CpuHandle;
+use c_calls::through_cpu;
+use c_values::answer::{EntryAnswer, FlagAnswer, NamedAnswer, NumberAnswer};
+use c_values::given::GivenName;
+use c_values::place::{EntryPlace, FlagPlace, NumberPlace};
 use std::alloc::Global;
 
 /// `registry_close_cpu` of the header.
@@ -20,14 +18,7 @@ use std::alloc::Global;
 pub extern "C" fn registry_close_cpu(alloc: Global, cpu: &mut CpuHandle) -> u32
     ensures { CpuCloses cpu.old.body cpu.new.body result }
 {
-    let Some(body) = cpu.body_mut() else {
-        return EMPTY_HANDLE;
-    };
-    if body.inside() {
-        return refused(Refusal::Inside);
-    }
-    drop(cpu.take_box(alloc));
-    DONE
+    through_cpu::close(alloc, cpu)
 }
 
 /// `registry_enter` of the header.
@@ -35,10 +26,7 @@ pub extern "C" fn registry_close_cpu(alloc: Global, cpu: &mut CpuHandle) -> u32
 pub extern "C" fn registry_enter(cpu: &mut CpuHandle) -> u32
     ensures { Through cpu.old.body cpu.new.body result (Unit {0}) (λ a b. Enters a b result) }
 {
-    let Some(body) = cpu.body_mut() else {
-        return EMPTY_HANDLE;
-    };
-    cpu_calls::enter(body)
+    through_cpu::enter(cpu)
 }
 
 /// `registry_exit` of the header.
@@ -46,38 +34,27 @@ pub extern "C" fn registry_enter(cpu: &mut CpuHandle) -> u32
 pub extern "C" fn registry_exit(cpu: &mut CpuHandle) -> u32
     ensures { Through cpu.old.body cpu.new.body result (Unit {0}) (λ a b. Exits a b result) }
 {
-    let Some(body) = cpu.body_mut() else {
-        return EMPTY_HANDLE;
-    };
-    cpu_calls::exit(body)
+    through_cpu::exit(cpu)
 }
 
 /// `registry_inside` of the header.
 #[unsafe(no_mangle)]
-pub extern "C" fn registry_inside(cpu: &mut CpuHandle, mut inside: FlagPlace) -> FlagAnswer
+pub extern "C" fn registry_inside(cpu: &mut CpuHandle, inside: FlagPlace) -> FlagAnswer
     ensures place { result.place.at ≡ inside.at }
     ensures call { Through cpu.old.body cpu.new.body result.number (result.place.value ≡ inside.value)
         (λ a b. (result.number ≡ DONE) × (b ≡ a) × (result.place.value ≡ put inside.value (is_inside a.cpu))) }
 {
-    let Some(body) = cpu.body_mut() else {
-        return inside.answer(EMPTY_HANDLE);
-    };
-    inside.put(body.is_inside());
-    inside.answer(DONE)
+    through_cpu::inside(cpu, inside)
 }
 
 /// `registry_depth` of the header.
 #[unsafe(no_mangle)]
-pub extern "C" fn registry_depth(cpu: &mut CpuHandle, mut depth: NumberPlace) -> NumberAnswer
+pub extern "C" fn registry_depth(cpu: &mut CpuHandle, depth: NumberPlace) -> NumberAnswer
     ensures place { result.place.at ≡ depth.at }
     ensures call { Through cpu.old.body cpu.new.body result.number (result.place.value ≡ depth.value)
         (λ a b. (result.number ≡ DONE) × (b ≡ a) × (result.place.value ≡ put depth.value a.cpu.depth)) }
 {
-    let Some(body) = cpu.body_mut() else {
-        return depth.answer(EMPTY_HANDLE);
-    };
-    depth.put(u64::from(body.depth()));
-    depth.answer(DONE)
+    through_cpu::depth(cpu, depth)
 }
 
 /// `registry_find` of the header.
@@ -85,32 +62,24 @@ pub extern "C" fn registry_depth(cpu: &mut CpuHandle, mut depth: NumberPlace) ->
 pub extern "C" fn registry_find(
     cpu: &mut CpuHandle,
     kind: u64,
-    mut name: GivenName,
-    mut found: EntryPlace,
+    name: GivenName,
+    found: EntryPlace,
 ) -> NamedAnswer
     ensures places { (result.name ≡ name) × (result.place.at ≡ found.at) }
     ensures call { Through cpu.old.body cpu.new.body result.number (result.place.value ≡ found.value)
         (λ a b. FindsNamed kind name.name a b result.number found.value result.place.value) }
 {
-    let Some(body) = cpu.body_mut() else {
-        return found.answer(EMPTY_HANDLE).with_name(name);
-    };
-    let answer = cpu_calls::find_named(body, kind, name.name(), &mut found);
-    found.answer(answer).with_name(name)
+    through_cpu::find(cpu, kind, name, found)
 }
 
 /// `registry_acquire` of the header.
 #[unsafe(no_mangle)]
-pub extern "C" fn registry_acquire(cpu: &mut CpuHandle, mut number: NumberPlace) -> NumberAnswer
+pub extern "C" fn registry_acquire(cpu: &mut CpuHandle, number: NumberPlace) -> NumberAnswer
     ensures place { result.place.at ≡ number.at }
     ensures call { Through cpu.old.body cpu.new.body result.number (result.place.value ≡ number.value)
         (λ a b. Acquires a b result.number number.value result.place.value) }
 {
-    let Some(body) = cpu.body_mut() else {
-        return number.answer(EMPTY_HANDLE);
-    };
-    let answer = cpu_calls::acquire(body, &mut number);
-    number.answer(answer)
+    through_cpu::acquire(cpu, number)
 }
 
 /// `registry_copy` of the header.
@@ -118,42 +87,27 @@ pub extern "C" fn registry_acquire(cpu: &mut CpuHandle, mut number: NumberPlace)
 pub extern "C" fn registry_copy(cpu: &mut CpuHandle, number: u64) -> u32
     ensures { Through cpu.old.body cpu.new.body result (Unit {0}) (λ a b. Copies number a b result) }
 {
-    let Some(body) = cpu.body_mut() else {
-        return EMPTY_HANDLE;
-    };
-    cpu_calls::copy(body, number)
+    through_cpu::copy(cpu, number)
 }
 
 /// `registry_held` of the header.
 #[unsafe(no_mangle)]
-pub extern "C" fn registry_held(cpu: &mut CpuHandle, number: u64, mut held: FlagPlace) -> FlagAnswer
+pub extern "C" fn registry_held(cpu: &mut CpuHandle, number: u64, held: FlagPlace) -> FlagAnswer
     ensures place { result.place.at ≡ held.at }
     ensures call { Through cpu.old.body cpu.new.body result.number (result.place.value ≡ held.value)
         (λ a b. (result.number ≡ DONE) × (b ≡ a) × HoldsSay number a held.value result.place.value) }
 {
-    let Some(body) = cpu.body_mut() else {
-        return held.answer(EMPTY_HANDLE);
-    };
-    held.put(body.held(number));
-    held.answer(DONE)
+    through_cpu::held(cpu, number, held)
 }
 
 /// `registry_read` of the header.
 #[unsafe(no_mangle)]
-pub extern "C" fn registry_read(
-    cpu: &mut CpuHandle,
-    number: u64,
-    mut entry: EntryPlace,
-) -> EntryAnswer
+pub extern "C" fn registry_read(cpu: &mut CpuHandle, number: u64, entry: EntryPlace) -> EntryAnswer
     ensures place { result.place.at ≡ entry.at }
     ensures call { Through cpu.old.body cpu.new.body result.number (result.place.value ≡ entry.value)
         (λ a b. Reads number a b result.number entry.value result.place.value) }
 {
-    let Some(body) = cpu.body_mut() else {
-        return entry.answer(EMPTY_HANDLE);
-    };
-    let answer = cpu_calls::read(body, number, &mut entry);
-    entry.answer(answer)
+    through_cpu::read(cpu, number, entry)
 }
 
 /// `registry_release` of the header.
@@ -161,8 +115,5 @@ pub extern "C" fn registry_read(
 pub extern "C" fn registry_release(cpu: &mut CpuHandle, number: u64) -> u32
     ensures { Through cpu.old.body cpu.new.body result (Unit {0}) (λ a b. Releases number a b result) }
 {
-    let Some(body) = cpu.body_mut() else {
-        return EMPTY_HANDLE;
-    };
-    cpu_calls::release(body, number)
+    through_cpu::release(cpu, number)
 }

@@ -1,19 +1,18 @@
-//! The calls of whoever holds the keeper, through the handles.
+//! The calls of whoever holds the keeper.
 
 ghost use Rattle.std.specs.Prelude.{◌≡◌};
 ghost use Rattle.name_registry.specs.Common.{is_inside};
-ghost use Rattle.registry_c.specs.Calls.{AreOfOne, Through, ThroughBoth};
-ghost use Rattle.registry_c.specs.KeeperCalls.{AdvanceAnswers, AttachesNamed, DestroyAnswers, DetachesNamed, KeeperCloses, PerformCalls, TurnCalls};
-ghost use Rattle.registry_c.specs.Places.{put};
-ghost use Rattle.registry_c.specs.Values.{settings_out};
+ghost use Rattle.c_calls.specs.Calls.{AreOfOne, Through, ThroughBoth};
+ghost use Rattle.c_calls.specs.KeeperCalls.{AdvanceAnswers, AttachesNamed, DestroyAnswers, DetachesNamed, KeeperCloses, PerformCalls, TurnCalls};
+ghost use Rattle.c_values.specs.declared.values.TheConstants.{DONE};
+ghost use Rattle.c_values.specs.Places.{put};
+ghost use Rattle.c_values.specs.Values.{settings_out};
 
-use crate::answer::{NamedAnswer, SettingsAnswer, StageAnswer, TurnAnswer, WaitAnswer};
-use crate::given::GivenName;
-use crate::handle::{CpuHandle, KeeperHandle};
-use crate::keeper_answers;
-use crate::place::{EntryPlace, NumberPlace, SettingsPlace, StagePlace, WaitPlace};
-use crate::values::{DONE, EMPTY_HANDLE, settings_out};
-use held::CHandle;
+use c_bodies::handle::{CpuHandle, KeeperHandle};
+use c_calls::through_keeper;
+use c_values::answer::{NamedAnswer, SettingsAnswer, StageAnswer, TurnAnswer, WaitAnswer};
+use c_values::given::GivenName;
+use c_values::place::{EntryPlace, NumberPlace, SettingsPlace, StagePlace, WaitPlace};
 use std::alloc::Global;
 
 /// `registry_close_keeper` of the header.
@@ -21,29 +20,20 @@ use std::alloc::Global;
 pub extern "C" fn registry_close_keeper(alloc: Global, keeper: &mut KeeperHandle) -> u32
     ensures { KeeperCloses keeper.old.body keeper.new.body result }
 {
-    let Some((body, room)) = keeper.take(alloc) else {
-        return EMPTY_HANDLE;
-    };
-    drop(body);
-    room.free();
-    DONE
+    through_keeper::close(alloc, keeper)
 }
 
 /// `registry_settings_of` of the header.
 #[unsafe(no_mangle)]
 pub extern "C" fn registry_settings_of(
     keeper: &mut KeeperHandle,
-    mut settings: SettingsPlace,
+    settings: SettingsPlace,
 ) -> SettingsAnswer
     ensures place { result.place.at ≡ settings.at }
     ensures call { Through keeper.old.body keeper.new.body result.number (result.place.value ≡ settings.value)
         (λ k l. (result.number ≡ DONE) × (l ≡ k) × (result.place.value ≡ put settings.value (settings_out k.words.settings))) }
 {
-    let Some(body) = keeper.body_mut() else {
-        return settings.answer(EMPTY_HANDLE);
-    };
-    settings.put(settings_out(body.settings()));
-    settings.answer(DONE)
+    through_keeper::settings_of(keeper, settings)
 }
 
 /// `registry_attach` of the header.
@@ -51,23 +41,16 @@ pub extern "C" fn registry_settings_of(
 pub extern "C" fn registry_attach(
     keeper: &mut KeeperHandle,
     cpu: &mut CpuHandle,
-    mut name: GivenName,
+    name: GivenName,
     value: u64,
-    mut made: EntryPlace,
+    made: EntryPlace,
 ) -> NamedAnswer
     requires { AreOfOne keeper.old.body cpu.old.body }
     ensures places { (result.name ≡ name) × (result.place.at ≡ made.at) }
     ensures call { ThroughBoth keeper.old.body keeper.new.body cpu.old.body cpu.new.body result.number (result.place.value ≡ made.value)
         (λ k c l d. AttachesNamed name.name value k c l d result.number made.value result.place.value) }
 {
-    let Some(k) = keeper.body_mut() else {
-        return made.answer(EMPTY_HANDLE).with_name(name);
-    };
-    let Some(c) = cpu.body_mut() else {
-        return made.answer(EMPTY_HANDLE).with_name(name);
-    };
-    let answer = keeper_answers::attach_named(k, c, name.name(), value, &mut made);
-    made.answer(answer).with_name(name)
+    through_keeper::attach(keeper, cpu, name, value, made)
 }
 
 /// `registry_detach` of the header.
@@ -76,22 +59,15 @@ pub extern "C" fn registry_detach(
     keeper: &mut KeeperHandle,
     cpu: &mut CpuHandle,
     kind: u64,
-    mut name: GivenName,
-    mut gone: EntryPlace,
+    name: GivenName,
+    gone: EntryPlace,
 ) -> NamedAnswer
     requires { AreOfOne keeper.old.body cpu.old.body }
     ensures places { (result.name ≡ name) × (result.place.at ≡ gone.at) }
     ensures call { ThroughBoth keeper.old.body keeper.new.body cpu.old.body cpu.new.body result.number (result.place.value ≡ gone.value)
         (λ k c l d. DetachesNamed kind name.name k c l d result.number gone.value result.place.value) }
 {
-    let Some(k) = keeper.body_mut() else {
-        return gone.answer(EMPTY_HANDLE).with_name(name);
-    };
-    let Some(c) = cpu.body_mut() else {
-        return gone.answer(EMPTY_HANDLE).with_name(name);
-    };
-    let answer = keeper_answers::detach_named(k, c, kind, name.name(), &mut gone);
-    gone.answer(answer).with_name(name)
+    through_keeper::detach(keeper, cpu, kind, name, gone)
 }
 
 /// `registry_advance` of the header.
@@ -99,17 +75,13 @@ pub extern "C" fn registry_detach(
 pub extern "C" fn registry_advance(
     keeper: &mut KeeperHandle,
     number: u64,
-    mut met: StagePlace,
+    met: StagePlace,
 ) -> StageAnswer
     ensures place { result.place.at ≡ met.at }
     ensures call { Through keeper.old.body keeper.new.body result.number (result.place.value ≡ met.value)
         (λ k l. AdvanceAnswers number k l result.number met.value result.place.value) }
 {
-    let Some(k) = keeper.body_mut() else {
-        return met.answer(EMPTY_HANDLE);
-    };
-    let answer = keeper_answers::advance(k, number, &mut met);
-    met.answer(answer)
+    through_keeper::advance(keeper, number, met)
 }
 
 /// `registry_destroy` of the header.
@@ -118,21 +90,14 @@ pub extern "C" fn registry_destroy(
     keeper: &mut KeeperHandle,
     cpu: &mut CpuHandle,
     number: u64,
-    mut met: StagePlace,
+    met: StagePlace,
 ) -> StageAnswer
     requires { AreOfOne keeper.old.body cpu.old.body }
     ensures place { result.place.at ≡ met.at }
     ensures call { ThroughBoth keeper.old.body keeper.new.body cpu.old.body cpu.new.body result.number (result.place.value ≡ met.value)
         (λ k c l d. DestroyAnswers (is_inside c.cpu) number k c l d result.number met.value result.place.value) }
 {
-    let Some(k) = keeper.body_mut() else {
-        return met.answer(EMPTY_HANDLE);
-    };
-    let Some(c) = cpu.body_mut() else {
-        return met.answer(EMPTY_HANDLE);
-    };
-    let answer = keeper_answers::destroy(k, c, number, &mut met);
-    met.answer(answer)
+    through_keeper::destroy(keeper, cpu, number, met)
 }
 
 /// `registry_perform_begin` of the header.
@@ -140,20 +105,13 @@ pub extern "C" fn registry_destroy(
 pub extern "C" fn registry_perform_begin(
     keeper: &mut KeeperHandle,
     cpu: &mut CpuHandle,
-    mut wait: WaitPlace,
+    wait: WaitPlace,
 ) -> WaitAnswer
     requires { AreOfOne keeper.old.body cpu.old.body }
     ensures place { result.place.at ≡ wait.at }
     ensures call { PerformCalls keeper.old.body cpu.old.body keeper.new.body cpu.new.body result.number wait.value result.place.value }
 {
-    let Some(k) = keeper.body_mut() else {
-        return wait.answer(EMPTY_HANDLE);
-    };
-    let Some(c) = cpu.body_mut() else {
-        return wait.answer(EMPTY_HANDLE);
-    };
-    let answer = keeper_answers::perform_at(k, c, &mut wait);
-    wait.answer(answer)
+    through_keeper::perform_begin(keeper, cpu, wait)
 }
 
 /// `registry_perform_turn` of the header.
@@ -161,19 +119,12 @@ pub extern "C" fn registry_perform_begin(
 pub extern "C" fn registry_perform_turn(
     keeper: &mut KeeperHandle,
     cpu: &mut CpuHandle,
-    mut wait: WaitPlace,
-    mut waited: NumberPlace,
+    wait: WaitPlace,
+    waited: NumberPlace,
 ) -> TurnAnswer
     requires { AreOfOne keeper.old.body cpu.old.body }
     ensures places { (result.wait.at ≡ wait.at) × (result.place.at ≡ waited.at) }
     ensures call { TurnCalls keeper.old.body cpu.old.body keeper.new.body cpu.new.body result.number wait.value result.wait.value waited.value result.place.value }
 {
-    let Some(k) = keeper.body_mut() else {
-        return waited.answer(EMPTY_HANDLE).with_wait(wait);
-    };
-    let Some(c) = cpu.body_mut() else {
-        return waited.answer(EMPTY_HANDLE).with_wait(wait);
-    };
-    let answer = keeper_answers::turn_at(k, c, &mut wait, &mut waited);
-    waited.answer(answer).with_wait(wait)
+    through_keeper::perform_turn(keeper, cpu, wait, waited)
 }

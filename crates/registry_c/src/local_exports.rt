@@ -1,22 +1,18 @@
-//! The calls of local references, through the handles.
+//! The calls of local references.
 
-ghost use Rattle.std.specs.Prelude.{◌≡◌, None};
-ghost use Rattle.registry_c.specs.Calls.{AreOfOne, IsOfCpu, IsOfKeeper, Through};
-ghost use Rattle.registry_c.specs.LocalCalls.{AttachesIfaceNamed, LocalAcquireAnswers, LocalForgets, LocalGivesUp, LocalReleases, ThroughAll, ThroughLocal};
-ghost use Rattle.registry_c.specs.Places.{put};
-ghost use Rattle.registry_c.specs.Values.{entry_out};
+ghost use Rattle.std.specs.Prelude.{◌≡◌};
+ghost use Rattle.c_calls.specs.Calls.{AreOfOne, IsOfCpu, IsOfKeeper, Through};
+ghost use Rattle.c_calls.specs.LocalCalls.{AttachesIfaceNamed, LocalAcquireAnswers, LocalForgets, LocalGivesUp, LocalReleases, ThroughAll, ThroughLocal};
+ghost use Rattle.c_values.specs.declared.values.TheConstants.{DONE};
+ghost use Rattle.c_values.specs.Places.{put};
+ghost use Rattle.c_values.specs.Values.{entry_out};
 
-use crate::answer::{EntryAnswer, NamedAnswer};
-use crate::cpu_body::CpuBody;
-use crate::given::GivenName;
-use crate::handle::{CpuHandle, KeeperHandle, LocalHandle};
-use crate::local_body::{LocalBody, acquire_local, release_local};
-use crate::local_keeper::{attach_iface_named, give_up};
-use crate::place::EntryPlace;
-use crate::values::{DONE, EMPTY_HANDLE, FULL_HANDLE, refused};
-use held::CHandle;
+use c_bodies::handle::{CpuHandle, KeeperHandle, LocalHandle};
+use c_calls::through_local;
+use c_values::answer::{EntryAnswer, NamedAnswer};
+use c_values::given::GivenName;
+use c_values::place::EntryPlace;
 use std::alloc::Global;
-use std_alloc::room::Vacant;
 
 /// `registry_local_acquire` of the header.
 #[unsafe(no_mangle)]
@@ -27,33 +23,17 @@ pub extern "C" fn registry_local_acquire(
 ) -> u32
     ensures { LocalAcquireAnswers cpu.old.body cpu.new.body local.old.body local.new.body result }
 {
-    let Some(body) = cpu.body_mut() else {
-        return EMPTY_HANDLE;
-    };
-    if !local.is_empty() {
-        return FULL_HANDLE;
-    }
-    match acquire_local(alloc, body) {
-        Ok((reference, room)) => {
-            local.give(reference, room);
-            DONE
-        }
-        Err(refusal) => refused(refusal),
-    }
+    through_local::acquire(alloc, cpu, local)
 }
 
 /// `registry_local_read` of the header.
 #[unsafe(no_mangle)]
-pub extern "C" fn registry_local_read(local: &mut LocalHandle, mut entry: EntryPlace) -> EntryAnswer
+pub extern "C" fn registry_local_read(local: &mut LocalHandle, entry: EntryPlace) -> EntryAnswer
     ensures place { result.place.at ≡ entry.at }
     ensures call { Through local.old.body local.new.body result.number (result.place.value ≡ entry.value)
         (λ v w. (result.number ≡ DONE) × (w ≡ v) × (result.place.value ≡ put entry.value (entry_out v.reference.entry))) }
 {
-    let Some(reference) = local.body_mut() else {
-        return entry.answer(EMPTY_HANDLE);
-    };
-    entry.put(reference.entry());
-    entry.answer(DONE)
+    through_local::read(local, entry)
 }
 
 /// `registry_local_release` of the header.
@@ -66,32 +46,7 @@ pub extern "C" fn registry_local_release(
     requires { IsOfCpu cpu.old.body local.old.body }
     ensures { ThroughLocal cpu.old.body cpu.new.body local.old.body local.new.body result (λ a v b l. LocalReleases a v b result l) }
 {
-    let Some(body) = cpu.body_mut() else {
-        return EMPTY_HANDLE;
-    };
-    let Some((reference, room)) = local.take(alloc) else {
-        return EMPTY_HANDLE;
-    };
-    let (answer, back) = release_local(body, reference);
-    settle_on(body, local, back, room);
-    answer
-}
-
-/// Puts what came back behind its handle again, in its block; with nothing, the CPU keeps the block. Condition: the handle is empty.
-fn settle_on(
-    cpu: &mut CpuBody,
-    local: &mut LocalHandle,
-    back: Option<LocalBody>,
-    room: Vacant<LocalBody, Global>,
-)
-    requires { local.old.body ≡ None }
-    ensures handle { local.new.body ≡ back }
-    ensures cpu { cpu.new ≡ cpu.old }
-{
-    match back {
-        None => cpu.keep_room(room),
-        Some(reference) => local.give(reference, room),
-    }
+    through_local::release(alloc, cpu, local)
 }
 
 /// `registry_local_give_up` of the header.
@@ -104,15 +59,7 @@ pub extern "C" fn registry_local_give_up(
     requires { IsOfKeeper keeper.old.body local.old.body }
     ensures { ThroughLocal keeper.old.body keeper.new.body local.old.body local.new.body result (λ k v j l. LocalGivesUp k v j result l) }
 {
-    let Some(k) = keeper.body_mut() else {
-        return EMPTY_HANDLE;
-    };
-    let Some((reference, room)) = local.take(alloc) else {
-        return EMPTY_HANDLE;
-    };
-    let (answer, back) = give_up(k, reference);
-    local.settle(back, room);
-    answer
+    through_local::give_up(alloc, keeper, local)
 }
 
 /// `registry_local_forget` of the header.
@@ -120,12 +67,7 @@ pub extern "C" fn registry_local_give_up(
 pub extern "C" fn registry_local_forget(alloc: Global, local: &mut LocalHandle) -> u32
     ensures { LocalForgets local.old.body local.new.body result }
 {
-    let Some((reference, room)) = local.take(alloc) else {
-        return EMPTY_HANDLE;
-    };
-    reference.forget();
-    room.free();
-    DONE
+    through_local::forget(alloc, local)
 }
 
 /// `registry_attach_iface` of the header.
@@ -135,9 +77,9 @@ pub extern "C" fn registry_attach_iface(
     keeper: &mut KeeperHandle,
     cpu: &mut CpuHandle,
     driver: &mut LocalHandle,
-    mut name: GivenName,
+    name: GivenName,
     value: u64,
-    mut made: EntryPlace,
+    made: EntryPlace,
 ) -> NamedAnswer
     requires same { AreOfOne keeper.old.body cpu.old.body }
     requires driver { IsOfKeeper keeper.old.body driver.old.body }
@@ -145,16 +87,5 @@ pub extern "C" fn registry_attach_iface(
     ensures call { ThroughAll keeper.old.body keeper.new.body cpu.old.body cpu.new.body driver.old.body driver.new.body result.number (result.place.value ≡ made.value)
         (λ k c v j d l. AttachesIfaceNamed name.name value k c v j d l result.number made.value result.place.value) }
 {
-    let Some(k) = keeper.body_mut() else {
-        return made.answer(EMPTY_HANDLE).with_name(name);
-    };
-    let Some(c) = cpu.body_mut() else {
-        return made.answer(EMPTY_HANDLE).with_name(name);
-    };
-    let Some((reference, room)) = driver.take(alloc) else {
-        return made.answer(EMPTY_HANDLE).with_name(name);
-    };
-    let (answer, back) = attach_iface_named(k, c, reference, name.name(), value, &mut made);
-    settle_on(c, driver, back, room);
-    made.answer(answer).with_name(name)
+    through_local::attach_iface(alloc, keeper, cpu, driver, name, value, made)
 }

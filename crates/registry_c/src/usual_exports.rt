@@ -1,56 +1,28 @@
-//! The calls of the usual path, through a CPU's handle.
+//! The calls of the usual path.
 
 ghost use Rattle.std.specs.Prelude.{◌≡◌};
-ghost use Rattle.registry_c.specs.Calls.{Through};
-ghost use Rattle.registry_c.specs.UsualCalls.{EntersAndFinds, Gets, LooksUp};
+ghost use Rattle.c_calls.specs.Calls.{Through};
+ghost use Rattle.c_calls.specs.UsualCalls.{EntersAndFinds, Gets, LooksUp};
 
-use crate::answer::NamedAnswer;
-use crate::cpu_body::CpuBody;
-use crate::given::GivenName;
-use crate::handle::CpuHandle;
-use crate::place::EntryPlace;
-use crate::usual_calls;
-use crate::values::{EMPTY_HANDLE, kind_in};
-use held::CHandle;
+use c_bodies::handle::CpuHandle;
+use c_calls::through_usual;
+use c_values::answer::NamedAnswer;
+use c_values::given::GivenName;
+use c_values::place::EntryPlace;
 
 /// `registry_look_up` of the header.
 #[unsafe(no_mangle)]
 pub extern "C" fn registry_look_up(
     cpu: &mut CpuHandle,
     kind: u64,
-    mut name: GivenName,
-    mut found: EntryPlace,
+    name: GivenName,
+    found: EntryPlace,
 ) -> NamedAnswer
     ensures places { (result.name ≡ name) × (result.place.at ≡ found.at) }
     ensures call { Through cpu.old.body cpu.new.body result.number (result.place.value ≡ found.value)
         (λ a b. LooksUp kind name.name a b result.number found.value result.place.value) }
 {
-    let Some(body) = cpu.body_mut() else {
-        return found.answer(EMPTY_HANDLE).with_name(name);
-    };
-    match (name.name(), kind_in(kind)) {
-        (Some(sought), Some(kind)) if body.may_begin() => {
-            let answer = usual_calls::look_from_outside(body, kind, sought, &mut found);
-            found.answer(answer).with_name(name)
-        }
-        _ => look_up_by_calls(body, kind, name, found),
-    }
-}
-
-/// What `registry_look_up` does in an open section, or where it is refused: an enter, a find and an exit. It stands apart, so that a lookup from
-/// outside saves no register for it.
-#[inline(never)]
-fn look_up_by_calls(
-    cpu: &mut CpuBody,
-    kind: u64,
-    mut name: GivenName,
-    mut found: EntryPlace,
-) -> NamedAnswer
-    ensures places { (result.name ≡ name) × (result.place.at ≡ found.at) }
-    ensures call { LooksUp kind name.name cpu.old cpu.new result.number found.value result.place.value }
-{
-    let answer = usual_calls::look_up(cpu, kind, name.name(), &mut found);
-    found.answer(answer).with_name(name)
+    through_usual::look_up(cpu, kind, name, found)
 }
 
 /// `registry_get` of the header.
@@ -58,18 +30,14 @@ fn look_up_by_calls(
 pub extern "C" fn registry_get(
     cpu: &mut CpuHandle,
     kind: u64,
-    mut name: GivenName,
-    mut found: EntryPlace,
+    name: GivenName,
+    found: EntryPlace,
 ) -> NamedAnswer
     ensures places { (result.name ≡ name) × (result.place.at ≡ found.at) }
     ensures call { Through cpu.old.body cpu.new.body result.number (result.place.value ≡ found.value)
         (λ a b. Gets kind name.name a b result.number found.value result.place.value) }
 {
-    let Some(body) = cpu.body_mut() else {
-        return found.answer(EMPTY_HANDLE).with_name(name);
-    };
-    let answer = usual_calls::get(body, kind, name.name(), &mut found);
-    found.answer(answer).with_name(name)
+    through_usual::get(cpu, kind, name, found)
 }
 
 /// `registry_enter_find` of the header.
@@ -77,16 +45,12 @@ pub extern "C" fn registry_get(
 pub extern "C" fn registry_enter_find(
     cpu: &mut CpuHandle,
     kind: u64,
-    mut name: GivenName,
-    mut found: EntryPlace,
+    name: GivenName,
+    found: EntryPlace,
 ) -> NamedAnswer
     ensures places { (result.name ≡ name) × (result.place.at ≡ found.at) }
     ensures call { Through cpu.old.body cpu.new.body result.number (result.place.value ≡ found.value)
         (λ a b. EntersAndFinds kind name.name a b result.number found.value result.place.value) }
 {
-    let Some(body) = cpu.body_mut() else {
-        return found.answer(EMPTY_HANDLE).with_name(name);
-    };
-    let answer = usual_calls::enter_find(body, kind, name.name(), &mut found);
-    found.answer(answer).with_name(name)
+    through_usual::enter_find(cpu, kind, name, found)
 }

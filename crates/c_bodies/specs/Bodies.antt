@@ -1,0 +1,23 @@
+-- What stands behind the handles, to a contract. Behind a CPU's handle stands an `OnPlainCpu`, behind the keeper's an `OnPlainKeeper`.
+use Rattle.std.specs.Prelude.{◌≡◌, ◌<◌, ℕ, Option, None, Some}
+use Rattle.atomic_table.specs.Seated.{TableId}
+use Rattle.c_bodies.specs.Types.{ReferenceView, MOST_SLOTS}
+use Rattle.c_values.specs.declared.values.CEntry.{CEntry}
+use Rattle.c_values.specs.Values.{entry_out}
+
+-- a local reference, and its table
+pub record OnLocalBody : Type 0 where
+  pub table : TableId
+  pub reference : ReferenceView
+
+-- 1 where a release found its CPU's count collected, and else 0
+abbrev pub back_word : Option ℕ → ℕ
+back_word None = 0
+back_word (Some place) = 1
+
+-- What is kept beside the seat: the entry, which is the reference's, and whether it came back. Number and slot are an entry's.
+pub record IsOurLocal (v : ReferenceView) (e : CEntry) (b : ℕ) : Type 0 where
+  pub entry : e ≡ entry_out v.entry
+  pub back : b ≡ back_word v.collected
+  pub begun : 0 < v.entry.number
+  pub few : v.entry.slot < MOST_SLOTS

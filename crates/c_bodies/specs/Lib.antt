@@ -1,0 +1,5 @@
+pub mod Bodies
+pub mod Handles
+pub mod Lent
+pub mod Places
+pub mod Types

@@ -1,0 +1,247 @@
+//! What stands behind a CPU's handle.
+
+ghost use Rattle.std.specs.Prelude.{◌≡◌, ◌≢◌, ◌↔◌, ◌<◌, ◌≤◌, ◌++◌, IsTrue, None, IfOk, IfErr, IfSome, is_some, take};
+ghost use Rattle.registry_values.specs.Common.{Answers};
+ghost use Rattle.cpu_words.specs.Common.{AreWordsOf, key_with, references_to};
+ghost use mathlib.Core.List.{IsPrefix};
+ghost use Rattle.passive_list.specs.Common.{HasFound, HasFoundFromOutside, HasHeardOn, WasShown, has_heard, has_told, entry_seen, HasWalked, AnswersEnter, HasExitedOn, may_begin};
+ghost use Rattle.passive_ref.specs.Psrefs.{GivesBack, HasOneLess, IsAcquired, IsCopied, IsReadAs, why_not_acquired, why_not_copied, why_unusable};
+
+use crate::local_body::LocalBody;
+use cpu_words::{NoteSeat, Words};
+use held::Spare;
+use passive_list::{
+    PlainCpu, Seen, enter_on, exit_on, find_from_outside, find_on, hear_on, may_begin_on, tell_on,
+    walk_on,
+};
+use passive_ref::{Psref, acquire_on, copy_on, held_on, read_entry_on, release_on};
+use registry_values::{Entry, Kind, MOST_SLOTS, Name, Refusal};
+use std::alloc::{AllocError, Global};
+use std::marker::Model;
+use std::sync::Arc;
+use std_alloc::room::Vacant;
+
+/// A CPU, its share of its table's words, and a block that it keeps for its next local reference. To a contract it is what the CPU is.
+#[derive(Drop)]
+pub struct CpuBody {
+    pub words: Arc<Words, Global>,
+    pub cpu: PlainCpu,
+    /// The block of a local reference that was released here, for the next one that is acquired here. It is freed as the CPU is.
+    spare: Spare<LocalBody>,
+    /// Never written: it keeps the CPU's data off the cache lines of the body in the next block.
+    pub apart: [u64; 16],
+}
+
+impl Model for CpuBody {
+    ghost use Rattle.std.specs.Prelude.{◌≡◌};
+    ghost use Rattle.cpu_words.specs.Common.{AreWordsOf};
+    ghost use Rattle.passive_list.specs.Common.{OnPlainCpu};
+
+    ghost Value = { OnPlainCpu };
+
+    ghost view = { λ b. b.cpu };
+
+    ghost invariant = { λ b. AreWordsOf b.words.value b.cpu.words.table b.cpu.words.settings };
+}
+
+impl CpuBody {
+    /// The CPU with a share of its own of the words. Condition: the words are its table's.
+    pub fn share(words: &Arc<Words, Global>, cpu: PlainCpu) -> Result<CpuBody, AllocError>
+        requires words { AreWordsOf words.now.value cpu.words.table cpu.words.settings }
+        ensures { IfOk result (λ body. body ≡ cpu) }
+    {
+        let words = Arc::try_clone(words)?;
+        Ok(CpuBody {
+            words,
+            cpu,
+            spare: Spare::empty(),
+            apart: [0; 16],
+        })
+    }
+
+    /// The CPU's number, from 0.
+    pub fn id(&self) -> u8
+        ensures { result ≡ self.now.cpu.view.id }
+    {
+        self.cpu.id()
+    }
+
+    /// The CPU itself.
+    pub fn plain(&self) -> &PlainCpu
+        ensures { result.now ≡ self.now }
+    {
+        &self.cpu
+    }
+
+    /// A block for a local reference: the one that the CPU keeps, or a new one where it keeps none.
+    pub fn take_room(&mut self, alloc: Global) -> Result<Vacant<LocalBody, Global>, AllocError>
+        ensures { self.new ≡ self.old }
+    {
+        self.spare.take(alloc)
+    }
+
+    /// Keeps a block for the next local reference. One that the CPU kept already is freed.
+    pub fn keep_room(&mut self, room: Vacant<LocalBody, Global>)
+        ensures { self.new ≡ self.old }
+    {
+        self.spare.keep(room);
+    }
+
+    /// The CPU's own passive reference to that number.
+    pub fn own(&self, number: u64) -> Psref
+        ensures { result ≡ record { cpu = self.now.cpu.view.id; number = number } }
+    {
+        Psref::remembered(self.cpu.id(), number)
+    }
+
+    /// The test for being inside a section.
+    pub fn inside(&self) -> bool
+        ensures { IsTrue result ↔ self.now.cpu.view.begin ≢ None }
+    {
+        self.cpu.inside()
+    }
+
+    /// The same, as an exact answer.
+    pub fn is_inside(&self) -> bool
+        ensures { result ≡ is_some self.now.cpu.view.begin }
+    {
+        self.inside()
+    }
+
+    /// Hears a note, and tells on what it knows then. Condition: the note is of its table.
+    pub fn pass_on(&mut self, note: NoteSeat) -> NoteSeat
+        requires { note.table ≡ self.old.words.table }
+        ensures words { self.new.words ≡ self.old.words }
+        ensures heard { HasHeardOn note.view self.old.cpu self.new.cpu }
+        ensures knows { IsPrefix note.known_log self.new.cpu.known_log }
+        ensures shown { WasShown note.view self.old.cpu self.new.cpu }
+        ensures log { self.new.cpu.log ≡ self.old.cpu.log ++ has_heard self.old.cpu note.teller ++ has_told self.old.cpu }
+        ensures note { (result.table ≡ self.old.words.table) × (result.known_log ≡ self.new.cpu.known_log) }
+    {
+        hear_on(&self.words, &mut self.cpu, note);
+        tell_on(&self.words, &mut self.cpu)
+    }
+
+    /// How many enters are open.
+    pub fn depth(&self) -> u8
+        ensures { result ≡ self.now.cpu.depth }
+    {
+        self.cpu.depth()
+    }
+
+    /// Enters a section, or the open one once more.
+    /// Refused: `TooDeep`, `SectionsSpent`.
+    pub fn enter(&mut self) -> Result<(), Refusal>
+        ensures entered { AnswersEnter self.old.cpu self.new.cpu result }
+        ensures words { self.new.words ≡ self.old.words }
+    {
+        enter_on(&self.words, &mut self.cpu)
+    }
+
+    /// Exits the section, or one nesting of it. Condition: inside.
+    pub fn exit(&mut self)
+        requires inside { self.old.cpu.view.begin ≢ None }
+        ensures exited { HasExitedOn self.old.cpu self.new.cpu }
+        ensures words { self.new.words ≡ self.old.words }
+    {
+        exit_on(&self.words, &mut self.cpu);
+    }
+
+    /// Looks an entry up. Condition: inside.
+    pub fn find(&mut self, kind: Kind, name: &Name) -> Option<Entry>
+        requires inside { self.old.cpu.view.begin ≢ None }
+        ensures found { HasFound (key_with kind name.now) self.old.cpu self.new.cpu result }
+        ensures words { self.new.words ≡ self.old.words }
+    {
+        find_on(&self.words, &mut self.cpu, kind, name)
+    }
+
+    /// Whether an enter would begin a section: the CPU is outside, and has one left.
+    pub fn may_begin(&self) -> bool
+        ensures { IsTrue result ↔ (self.now.cpu.depth ≡ 0) × IsTrue (may_begin self.now.cpu.view) }
+    {
+        may_begin_on(&self.words, &self.cpu)
+    }
+
+    /// Looks an entry up in a section of its own, and answers its words. Conditions: outside; a section is left.
+    #[inline(always)]
+    pub fn find_from_outside(&mut self, kind: Kind, name: Name) -> Option<Seen>
+        requires outside { self.old.cpu.depth ≡ 0 }
+        requires room { IsTrue (may_begin self.old.cpu.view) }
+        ensures found { HasFoundFromOutside (key_with kind name) self.old.cpu self.new.cpu (entry_seen (key_with kind name) result) }
+        ensures slot { IfSome result (λ seen. seen.slot < MOST_SLOTS) }
+        ensures words { self.new.words ≡ self.old.words }
+    {
+        find_from_outside(&self.words, &mut self.cpu, kind, name)
+    }
+
+    /// Walks over all entries, and answers how many it wrote. Condition: inside.
+    pub fn walk(&mut self, row: &mut [Entry; MOST_SLOTS]) -> usize
+        requires inside { self.old.cpu.view.begin ≢ None }
+        ensures count { result ≤ MOST_SLOTS }
+        ensures walked { HasWalked self.old.cpu self.new.cpu (take result row.new) }
+        ensures words { self.new.words ≡ self.old.words }
+    {
+        walk_on(&self.words, &mut self.cpu, row)
+    }
+
+    /// Acquires a passive reference to the last found entry.
+    /// Refused: `NothingFound`, `PassiveFull`.
+    pub fn acquire(&mut self) -> Result<Psref, Refusal>
+        ensures answer { Answers (why_not_acquired self.old.cpu.view self.old.cpu.view.found) (IsAcquired self.old.cpu self.new.cpu) result }
+        ensures refused { IfErr result (λ _. self.new ≡ self.old) }
+        ensures words { self.new.words ≡ self.old.words }
+    {
+        acquire_on(&self.words, &mut self.cpu)
+    }
+
+    /// Acquires a second one.
+    /// Refused: `WrongCpu`, `NotHeld`, `PassiveFull`.
+    pub fn copy(&mut self, psref: &Psref) -> Result<Psref, Refusal>
+        ensures answer { Answers (why_not_copied self.old.cpu.view psref.now.number (why_unusable self.old.cpu.view psref.now)) (IsCopied psref.now.number self.old.cpu self.new.cpu) result }
+        ensures refused { IfErr result (λ _. self.new ≡ self.old) }
+        ensures words { self.new.words ≡ self.old.words }
+    {
+        copy_on(&self.words, &mut self.cpu, psref)
+    }
+
+    /// Whether the CPU holds a passive reference to that number.
+    pub fn held(&self, number: u64) -> bool
+        ensures { IsTrue result ↔ 0 < references_to number self.now.cpu.view.references }
+    {
+        held_on(&self.cpu, number)
+    }
+
+    /// The entry that the reference is to.
+    /// Refused: `WrongCpu`, `NotHeld`.
+    pub fn read(&mut self, psref: &Psref) -> Result<Entry, Refusal>
+        ensures answer { Answers (why_unusable self.old.cpu.view psref.now) (IsReadAs psref.now.number self.old.cpu self.new.cpu) result }
+        ensures refused { IfErr result (λ _. self.new ≡ self.old) }
+        ensures words { self.new.words ≡ self.old.words }
+    {
+        read_entry_on(&self.words, &mut self.cpu, psref)
+    }
+
+    /// Releases a passive reference.
+    /// Refused: `WrongCpu`, `NotHeld`; the reference comes back then.
+    pub fn release(&mut self, psref: Psref) -> Result<(), (Refusal, Psref)>
+        ensures answer { GivesBack (why_unusable self.old.cpu.view psref) psref (λ _. HasOneLess psref.number self.old.cpu self.new.cpu) result }
+        ensures refused { IfErr result (λ _. self.new ≡ self.old) }
+        ensures words { self.new.words ≡ self.old.words }
+    {
+        release_on(&self.words, &mut self.cpu, psref)
+    }
+}
+
+fn crosses<T: Send>(value: T) -> T
+    ensures { result ≡ value }
+{
+    value
+}
+
+/// The same body: that it may go to another thread is what counts.
+pub fn same_cpu(body: CpuBody) -> CpuBody
+    ensures { result ≡ body }
+{
+    crosses(body)
+}

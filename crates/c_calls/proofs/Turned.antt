@@ -1,0 +1,77 @@
+-- What the calls through the bodies answer, from what the calls beneath them say of the keeper and the CPU.
+use Rattle.std.proofs.Common.{◌≡◌, ⊎_elim, ℕ, ◌<◌, ◌≤◌, Bool, true, false, List, length, get_or, map, replicate, Option, Some, None, is_some, Result, IfOk, refl, sym, ap, subst, ◌∙◌, arith}
+use Rattle.std.proofs.lemmas.Bool.{cases_lt}
+use Rattle.std.proofs.lemmas.List.{get_or_past}
+use Rattle.c_calls.specs.Types.{Refusal, Settings, Stage, MOST_CPUS, MOST_SLOTS, LogItem, KeeperView, KeptSlot}
+use Rattle.passive_list.specs.Common.{OnCpu, OnPlainCpu, OnKeeper, states_of, IsOurKeeper, OnPlainKeeper}
+use Rattle.name_registry.specs.Common.{HasAdvanced, HasAdvancedFor, IsStageOf, KeepsWords, Finishes, HasBegun, HasGlanced, HasPassedAll, IsTurn}
+use Rattle.c_values.specs.declared.wait.CWait.{CWait}
+use Rattle.c_values.specs.declared.wait.TheConstants.{BEGUN}
+use Rattle.c_values.specs.Flags.{flag_of, is_set, none_or_number, number_or_none}
+use Rattle.c_calls.specs.KeeperCalls.{Advances, AdvancesFor, Begins, PassesHeld, Turns}
+use Rattle.c_calls.proofs.Gone.{advanced_gone, advanced_for_gone}
+use Rattle.c_calls.proofs.Numbered.{numbered}
+
+pub advances_by : (number : ℕ) (k l : OnPlainKeeper) (r : Result Stage Refusal) → l.words ≡ k.words → HasAdvanced k.keeper number r l.keeper → IfOk r (λ stage. IsStageOf k.words.settings stage)
+    → Advances number k l r
+advances_by number k l r same made stage = record { answer = made; stage = stage; gone = advanced_gone k.keeper number r l.keeper made; words = same }
+
+pub advances_for_by : (number : ℕ) (k l : OnPlainKeeper) (c d : OnPlainCpu) (r : Result Stage Refusal) → KeepsWords k c l d → HasAdvancedFor k.words.settings k.keeper c.cpu number r l.keeper d.cpu
+    → IfOk r (λ stage. IsStageOf k.words.settings stage)
+    → IsTurn k.words.settings number c.cpu r d.cpu → AdvancesFor number k c l d r
+advances_for_by number k l c d r same made stage turn = record {
+  answer = made;
+  stage = stage;
+  gone = advanced_for_gone k.words.settings k.keeper c.cpu number r l.keeper d.cpu made stage turn;
+  turn = turn;
+  words = same;
+}
+
+-- past the last there is no number
+named_by : {log : List LogItem} (a : Settings) (k : KeeperView) (rows : List KeptSlot) (n : ℕ) (s : Settings) (m b : OnKeeper) (x y : OnCpu) (snapshots : List ℕ) (numbers : List (Option ℕ))
+    → length numbers ≡ MOST_SLOTS
+    → IsOurKeeper a k rows n → record { view = k; slots = states_of rows; log = log } ≡ m → HasBegun s m x snapshots numbers b y → (t j : ℕ) → get_or numbers t None ≡ Some j → 0 < j
+named_by a k rows n s m b x y snapshots numbers size our is begun t j at = ⊎_elim
+    (λ (lt : t < MOST_SLOTS). numbered a k rows n m t j our is (sym (begun.numbers t lt) ∙ at))
+    (λ (past : MOST_SLOTS ≤ t). absurd (let q : ◌≡◌ {A = Option ℕ} None (Some j) = sym (get_or_past numbers t None (omega (arith, size, past))) ∙ at in cc))
+    (cases_lt t MOST_SLOTS)
+
+pub begins_by : {log : List LogItem} (a : Settings) (view : KeeperView) (rows : List KeptSlot) (n : ℕ) (k l : OnPlainKeeper) (c d : OnPlainCpu) (snapshots : List ℕ) (numbers : List (Option ℕ))
+    (retired : List ℕ) → length numbers ≡ MOST_SLOTS
+    → IsOurKeeper a view rows n → record { view = view; slots = states_of rows; log = log } ≡ k.keeper → KeepsWords k c l d → HasBegun k.words.settings k.keeper c.cpu snapshots numbers l.keeper d.cpu
+    → retired ≡ map number_or_none numbers
+    → Begins k c l d (record { snapshots = snapshots; retired = retired; seen = replicate MOST_CPUS 0; begun = BEGUN })
+begins_by a view rows n k l c d snapshots numbers retired size our at same begun out = record {
+  numbers = numbers;
+  begun = begun;
+  retired = out;
+  named = named_by a view rows n k.words.settings k.keeper l.keeper c.cpu d.cpu snapshots numbers size our at begun;
+  seen = refl;
+  marked = refl;
+  words = same;
+}
+
+-- what follows a turn's glances: where they told of no CPU what was retired is passed, and else nothing more is done
+pub finishes_passed : (z y : Settings) (numbers made : List (Option ℕ)) (p q : OnKeeper × OnCpu) (told : Option ℕ) → y ≡ z → made ≡ numbers → is_some told ≡ false → HasPassedAll y p.0 p.1 made q.0 q.1
+    → Finishes (PassesHeld z) numbers p told q
+finishes_passed z y numbers made p q None same is none passed =
+    subst (λ (x : Settings). HasPassedAll x p.0 p.1 numbers q.0 q.1) same (subst (λ (n : List (Option ℕ)). HasPassedAll y p.0 p.1 n q.0 q.1) is passed)
+finishes_passed z y numbers made p q (Some c) same is none passed = absurd (let no : true ≡ false = none in cc)
+
+pub finishes_waiting : (z : Settings) (numbers : List (Option ℕ)) (p : OnKeeper × OnCpu) (told : Option ℕ) → is_some told ≡ true → Finishes (PassesHeld z) numbers p told p
+finishes_waiting z numbers p None some = absurd (let no : false ≡ true = some in cc)
+finishes_waiting z numbers p (Some c) some = refl
+
+-- the keeper m and the CPU d are as the glances left them
+pub turns_by : (k m l : OnPlainKeeper) (c d e : OnPlainCpu) (told : Option ℕ) (old : CWait) (before seen : List Bool) (flags : List ℕ) → before ≡ map is_set old.seen → flags ≡ map flag_of seen
+    → HasGlanced k.words.settings old.snapshots k.keeper c.cpu before told seen m.keeper d.cpu
+    → Finishes (PassesHeld k.words.settings) (map none_or_number old.retired) (m.keeper, d.cpu) told (l.keeper, e.cpu) → KeepsWords k c l e → Turns k c l e told old (record old { seen = flags })
+turns_by k m l c d e told old before seen flags was are glanced finished same = record {
+  seen = seen;
+  keeper = m.keeper;
+  cpu = d.cpu;
+  glanced = subst (λ (x : List Bool). HasGlanced k.words.settings old.snapshots k.keeper c.cpu x told seen m.keeper d.cpu) was glanced;
+  finished = finished;
+  wait = ap (λ (x : List ℕ). record old { seen = x }) are;
+  words = same;
+}

@@ -1,0 +1,166 @@
+-- A section that a call of the usual path has entered is still open as it exits.
+use Rattle.std.proofs.Common.{◌≡◌, ◌≢◌, ℕ, Bool, IsTrue, Option, Some, None, Result, Ok, Err, IfErr, refl, sym, ap, subst, ◌∙◌}
+use Rattle.std.specs.Prelude.{◌↔◌, ◌==◌}
+use Rattle.std.specs.Result.{result_err}
+use mathlib.Core.Logic.{dite}
+use native.Mathlib.Decide.{ℕ_discrete}
+use Rattle.c_calls.specs.Types.{Entry, Kind, Name, Refusal, CpuView, Seen}
+use Rattle.registry_values.specs.Common.{enter_answer, Answers}
+use Rattle.cpu_words.specs.Common.{key_with}
+use Rattle.passive_list.specs.Common.{OnCpu, OnPlainCpu, HasFound, HasFoundFromOutside, AnswersEnter, may_begin, entry_seen}
+use Rattle.passive_ref.specs.Psrefs.{IsAcquired, OnPsref, why_not_acquired}
+use Rattle.c_values.specs.declared.values.TheConstants.{DONE}
+use Rattle.c_values.specs.declared.values.CEntry.{CEntry}
+use Rattle.c_values.specs.declared.values.CName.{CName}
+use Rattle.c_calls.specs.Calls.{Acquires, Enters, Exits, Finds, FindsNamed, TellsFound, WritesFound}
+use Rattle.c_values.specs.Places.{put}
+use Rattle.c_calls.specs.UsualCalls.{Between, EntersAndFinds, FindsAndAcquires, LooksUp}
+use Rattle.c_values.specs.Values.{entry_out, kind_in, name_in, number_of}
+use Rattle.c_calls.proofs.Gone.{refused_not}
+
+-- the end of the history as the open section began
+abbrev pub begin_of : OnPlainCpu → Option ℕ
+begin_of a = a.cpu.view.begin
+
+some_not : (x : ℕ) (o : Option ℕ) → o ≡ Some x → o ≡ None → ⊥
+some_not x o is none = let clash : ◌≡◌ {A = Option ℕ} (Some x) None = sym is ∙ none in cc
+
+entered_by : (a b : OnPlainCpu) (r : Result (Unit {0}) Refusal) → (begin_of a ≡ None) ↔ (a.cpu.depth ≡ 0) → DONE ≡ number_of r → AnswersEnter a.cpu b.cpu r → begin_of b ≢ None
+entered_by a b (Ok tt) kept is entered = dite (ℕ_discrete a.cpu.depth 0)
+    (λ (outermost : a.cpu.depth ≡ 0). some_not _ (begin_of b) (ap (λ (x : CpuView). x.begin) (entered.answer.1.begun outermost).1))
+    (λ (nested : a.cpu.depth ≢ 0) none. nested (kept.0 (sym (ap (λ (x : CpuView). x.begin) (entered.answer.1.inner nested)) ∙ none)))
+entered_by a b (Err f) kept is entered = absurd (refused_not f is)
+
+-- an enter that is done
+pub entered_inside : (a b : OnPlainCpu) (n : ℕ) → (begin_of a ≡ None) ↔ (a.cpu.depth ≡ 0) → Enters a b n → n ≡ DONE → begin_of b ≢ None
+entered_inside a b n kept enters is = entered_by a b enters.r kept (sym is ∙ enters.number) enters.entered
+
+found_by : (kind : ℕ) (m : CName) (a b : OnPlainCpu) (n : ℕ) (old new : Option CEntry) (k : Option Kind) (o : Option ℕ) → kind_in kind ≡ k → begin_of a ≡ o → Finds kind m a b n old new
+    → begin_of b ≡ begin_of a
+found_by kind m a b n old new None o is at finds = ap begin_of (finds.bad is).1
+found_by kind m a b n old new (Some k) None is at finds = ap begin_of (finds.outside k is at).1
+found_by kind m a b n old new (Some k) (Some x) is at finds = ap (λ (c : OnCpu). c.view.begin) (finds.inside k is (some_not x (begin_of a) at)).1.is
+
+-- a find
+pub found_same : (kind : ℕ) (name : Option CName) (a b : OnPlainCpu) (n : ℕ) (old new : Option CEntry) → FindsNamed kind name a b n old new → begin_of b ≡ begin_of a
+found_same kind None a b n old new finds = ap begin_of (finds.null refl).1
+found_same kind (Some m) a b n old new finds = found_by kind m a b n old new (kind_in kind) (begin_of a) refl refl (finds.named m refl)
+
+acquired_by : (a b : OnPlainCpu) (r : Result OnPsref Refusal) → Answers (why_not_acquired a.cpu.view a.cpu.view.found) (IsAcquired a.cpu b.cpu) r → IfErr r (λ _. b ≡ a) → begin_of b ≡ begin_of a
+acquired_by a b (Ok p) answer refused = ap (λ (c : OnCpu). c.view.begin) answer.1.2.after
+acquired_by a b (Err f) answer refused = ap begin_of refused
+
+-- a find and an acquire
+pub acquired_same : (kind : ℕ) (name : Option CName) (a b : OnPlainCpu) (n : ℕ) (old new : Option CEntry) → FindsAndAcquires kind name a b n old new → begin_of b ≡ begin_of a
+acquired_same kind name a b n old new both =
+    let found : begin_of both.found ≡ begin_of a = found_same kind name a both.found both.answer old both.entry both.finds in
+    dite (ℕ_discrete both.answer DONE)
+    (λ (done : both.answer ≡ DONE). let it = (both.acquires done).0 in acquired_by both.found b it.r it.answer it.refused ∙ found)
+    (λ (off : both.answer ≢ DONE). ap begin_of (both.refused off).1 ∙ found)
+
+-- so the exit is done
+pub between : (a first last b : OnPlainCpu) (entered n left : ℕ) (Same : Type 0) (P : OnPlainCpu → OnPlainCpu → Type 0) → Enters a first entered → entered ≡ DONE → begin_of first ≢ None → P first last
+    → begin_of last ≡ begin_of first → Exits last b left → Between a b n Same P
+between a first last b entered n left Same P enters is inside does same exits = record {
+  first = first;
+  entered = entered;
+  enters = enters;
+  refused = λ off. absurd (off is);
+  inside = λ done. (last, does, subst (λ (k : ℕ). Exits last b k) (exits.inside (λ none. inside (sym same ∙ none))).0 exits);
+}
+
+-- A look-up from outside
+
+-- outside an enter isn't refused where the CPU may begin a section
+unrefused : (depth : ℕ) (may : Bool) → depth ≡ 0 → IsTrue may → result_err (enter_answer depth (depth == 0) may) ≡ None
+unrefused depth may shallow room = rw (shallow, room) refl
+
+-- what is written of a find's answer
+abbrev pub writes : Kind → CName → Option Seen → ℕ → Option CEntry → Option CEntry → Type 0
+writes k m s n old new = WritesFound (entry_seen (key_with k (name_in m)) s) n old new
+
+found_inside : (kind : ℕ) (k : Kind) (m : CName) (a b : OnPlainCpu) (s : Option Seen) (n : ℕ) (old new : Option CEntry) → kind_in kind ≡ Some k → begin_of a ≢ None → b.words ≡ a.words
+    → HasFound (key_with k (name_in m)) a.cpu b.cpu (entry_seen (key_with k (name_in m)) s) → writes k m s n old new → Finds kind m a b n old new
+found_inside kind k m a b s n old new is some words had written = record {
+  bad = λ none. let clash : ◌≡◌ {A = Option Kind} (Some k) None = sym is ∙ none in cc;
+  outside = λ j at none. absurd (some none);
+  inside = λ j at begun.
+      let one : Some k ≡ Some j = sym is ∙ at in
+      let same : k ≡ j = cc in
+      subst (λ (i : Kind). (answer : Option Entry) × HasFound (key_with i (name_in m)) a.cpu b.cpu answer × (b.words ≡ a.words) × WritesFound answer n old new) same
+      (entry_seen (key_with k (name_in m)) s, had, words, written);
+}
+
+-- what C is told of an entry by its words
+abbrev pub told : CName → Seen → ℕ → CEntry
+told m s kind = record { number = s.number; slot = s.slot; kind = kind; name = m; value = s.value }
+
+-- it is an enter, a find and an exit, each done
+pub from_outside : (kind : ℕ) (k : Kind) (m : CName) (name : Name) (a b : OnPlainCpu) (s : Option Seen) (n : ℕ) (old new : Option CEntry)
+    → kind_in kind ≡ Some k → name ≡ name_in m → a.cpu.depth ≡ 0 → IsTrue (may_begin a.cpu.view) → b.words ≡ a.words
+    → HasFoundFromOutside (key_with k name) a.cpu b.cpu (entry_seen (key_with k name) s) → writes k m s n old new → LooksUp kind (Some m) a b n old new
+from_outside kind k m name a b s n old new is named shallow room words seen written =
+    let had = subst (λ (i : Name). HasFoundFromOutside (key_with k i) a.cpu b.cpu (entry_seen (key_with k i) s)) named seen in
+    let first : OnPlainCpu = record { words = a.words; cpu = had.first } in
+    let last : OnPlainCpu = record { words = a.words; cpu = had.last } in
+    let inside : begin_of first ≢ None = some_not _ (begin_of first) (ap (λ (x : CpuView). x.begin) (had.enters.begun shallow).1) in
+    let same : begin_of last ≡ begin_of first = ap (λ (c : OnCpu). c.view.begin) had.finds.is in
+    record {
+      first = first;
+      entered = DONE;
+      enters = record {
+        r = Ok tt;
+        number = refl;
+        entered = record { answer = (unrefused a.cpu.depth (may_begin a.cpu.view) shallow room, had.enters); refused = tt };
+        words = refl;
+      };
+      refused = λ off. absurd (off refl);
+      inside = λ done. (
+        last,
+        record {
+          null = λ (q : Some m ≡ None). cc;
+          named = λ i (q : Some m ≡ Some i).
+              let one : m ≡ i = cc in
+              subst (λ (j : CName). Finds kind j first last n old new) one (found_inside kind k m first last s n old new is inside refl had.finds written);
+        },
+        record {
+          outside = λ none. absurd (inside (sym same ∙ none));
+          inside = λ some. (refl, had.exits, words);
+        },
+      );
+    }
+
+-- A find and an acquire
+
+-- The find is done. The acquire is done or refused, and only where it is done is the entry told.
+pub looked : (kind : ℕ) (name : Option CName) (a m b : OnPlainCpu) (e : Entry) (n : ℕ) (old new : Option CEntry)
+    → ((k : ℕ) (x y : Option CEntry) → TellsFound (Ok e) k x y → FindsNamed kind name a m k x y) → Acquires m b n None None → (n ≡ DONE → new ≡ put old (entry_out e)) → (n ≢ DONE → new ≡ old)
+    → FindsAndAcquires kind name a b n old new
+looked kind name a m b e n old new finds acquires done other = record {
+  found = m;
+  answer = DONE;
+  entry = put old (entry_out e);
+  finds = finds DONE old (put old (entry_out e)) (refl, refl);
+  refused = λ off. absurd (off refl);
+  acquires = λ is. (acquires, done, other);
+}
+
+-- An enter and a find
+
+-- The enter is done, and the find done or refused: a refused one is exited.
+pub entered_and_found : (kind : ℕ) (name : Option CName) (a first last b : OnPlainCpu) (entered n : ℕ) (old new : Option CEntry) → Enters a first entered → entered ≡ DONE
+    → FindsNamed kind name first last n old new → (n ≡ DONE → b ≡ last) → (n ≢ DONE → Exits last b DONE) → EntersAndFinds kind name a b n old new
+entered_and_found kind name a first last b entered n old new enters is finds stays exits = record {
+  first = first;
+  entered = entered;
+  enters = enters;
+  refused = λ off. absurd (off is);
+  inside = λ done. (last, finds, stays, exits);
+}
+
+-- the exit of a find that was refused, in a section that is still open
+pub exited : (kind : ℕ) (name : Option CName) (first last b : OnPlainCpu) (n left : ℕ) (old new : Option CEntry) → begin_of first ≢ None → FindsNamed kind name first last n old new → Exits last b left
+    → Exits last b DONE
+exited kind name first last b n left old new inside finds exits =
+    let same = found_same kind name first last n old new finds in
+    subst (λ (k : ℕ). Exits last b k) (exits.inside (λ none. inside (sym same ∙ none))).0 exits

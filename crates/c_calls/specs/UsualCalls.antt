@@ -1,0 +1,40 @@
+-- What the calls of the usual path answer and leave. Each is the calls that it takes the place of, one after the other.
+use Rattle.std.specs.Prelude.{◌≡◌, ◌≢◌, ℕ, Option, None}
+use Rattle.passive_list.specs.Common.{OnPlainCpu}
+use Rattle.c_values.specs.declared.values.TheConstants.{DONE}
+use Rattle.c_values.specs.declared.values.CEntry.{CEntry}
+use Rattle.c_values.specs.declared.values.CName.{CName}
+use Rattle.c_calls.specs.Calls.{Acquires, Enters, Exits, FindsNamed}
+
+-- P between an enter and an exit. An enter that is refused is the answer, and nothing else is done: `Same` says so of what the call writes. Else P
+-- holds of the CPU as it entered and as it exits, and the exit is done.
+pub record Between (a b : OnPlainCpu) (n : ℕ) (Same : Type 0) (P : OnPlainCpu → OnPlainCpu → Type 0) : Type 0 where
+  pub first : OnPlainCpu
+  pub entered : ℕ
+  pub enters : Enters a first entered
+  pub refused : entered ≢ DONE → (n ≡ entered) × (b ≡ first) × Same
+  pub inside : entered ≡ DONE → (last : OnPlainCpu) × P first last × Exits last b DONE
+
+-- A find, and an acquire where it has found; a find that is refused is the answer. What is found is written where the acquire is done.
+pub record FindsAndAcquires (kind : ℕ) (name : Option CName) (a b : OnPlainCpu) (n : ℕ) (old new : Option CEntry) : Type 0 where
+  pub found : OnPlainCpu
+  pub answer : ℕ
+  pub entry : Option CEntry
+  pub finds : FindsNamed kind name a found answer old entry
+  pub refused : answer ≢ DONE → (n ≡ answer) × (b ≡ found) × (new ≡ old)
+  pub acquires : answer ≡ DONE → Acquires found b n None None × (n ≡ DONE → new ≡ entry) × (n ≢ DONE → new ≡ old)
+
+abbrev pub LooksUp : ℕ → Option CName → OnPlainCpu → OnPlainCpu → ℕ → Option CEntry → Option CEntry → Type 0
+LooksUp kind name a b n old new = Between a b n (new ≡ old) (λ x y. FindsNamed kind name x y n old new)
+
+abbrev pub Gets : ℕ → Option CName → OnPlainCpu → OnPlainCpu → ℕ → Option CEntry → Option CEntry → Type 0
+Gets kind name a b n old new = Between a b n (new ≡ old) (λ x y. FindsAndAcquires kind name x y n old new)
+
+-- An enter and a find. An enter that is refused is the answer, and nothing else is done. Else the find's answer is the answer: where it is done the CPU
+-- stays as the find leaves it, inside, and where it is refused an exit is done.
+pub record EntersAndFinds (kind : ℕ) (name : Option CName) (a b : OnPlainCpu) (n : ℕ) (old new : Option CEntry) : Type 0 where
+  pub first : OnPlainCpu
+  pub entered : ℕ
+  pub enters : Enters a first entered
+  pub refused : entered ≢ DONE → (n ≡ entered) × (b ≡ first) × (new ≡ old)
+  pub inside : entered ≡ DONE → (last : OnPlainCpu) × FindsNamed kind name first last n old new × (n ≡ DONE → b ≡ last) × (n ≢ DONE → Exits last b DONE)

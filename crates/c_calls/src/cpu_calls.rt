@@ -1,0 +1,153 @@
+//! The calls of one CPU, by what stands behind its handle: each answers its number, and writes what it finds.
+
+ghost use Rattle.std.specs.Prelude.{◌≡◌, ◌≢◌, ℕ, Option, IfErr};
+ghost use Rattle.c_values.specs.declared.values.TheConstants.{DONE};
+ghost use Rattle.c_values.specs.declared.values.CEntry.{CEntry};
+ghost use Rattle.c_calls.specs.Calls.{Acquires, Copies, Enters, Exits, Finds, FindsNamed, Reads, Releases, TellsFound};
+
+use c_bodies::CpuBody;
+use c_values::place::{EntryPlace, NumberPlace};
+use c_values::values::{
+    BAD_KIND, CName, DONE, NULL, OUTSIDE, answered, entry_out, kind_in, name_in, refused,
+};
+use registry_values::{Entry, Kind, Refusal};
+
+/// Enters a section, or the open one once more.
+pub fn enter(cpu: &mut CpuBody) -> u32
+    ensures { Enters cpu.old cpu.new result }
+{
+    answered(cpu.enter())
+}
+
+/// Exits the section, or one nesting of it.
+pub fn exit(cpu: &mut CpuBody) -> u32
+    ensures { Exits cpu.old cpu.new result }
+{
+    if !cpu.inside() {
+        return OUTSIDE;
+    }
+    cpu.exit();
+    DONE
+}
+
+/// Looks an entry up by the name, if one is given.
+pub fn find_named(cpu: &mut CpuBody, kind: u64, name: Option<CName>, found: &mut EntryPlace) -> u32
+    ensures place { found.new.at ≡ found.old.at }
+    ensures call { FindsNamed kind name cpu.old cpu.new result found.old.value found.new.value }
+{
+    let answer = look(cpu, kind, name);
+    tell(answer, found)
+}
+
+/// Looks an entry up by the name, if one is given: the entry, or the number of the refusal.
+#[inline(always)]
+pub fn look(cpu: &mut CpuBody, kind: u64, name: Option<CName>) -> Result<Entry, u32>
+    ensures call { (n : ℕ) (old new : Option CEntry) → TellsFound result n old new → FindsNamed kind name cpu.old cpu.new n old new }
+    ensures refused { IfErr result (λ refusal. refusal ≢ DONE) }
+{
+    match name {
+        None => Err(NULL),
+        Some(name) => find(cpu, kind, &name),
+    }
+}
+
+/// Looks an entry up.
+#[inline(always)]
+fn find(cpu: &mut CpuBody, kind: u64, name: &CName) -> Result<Entry, u32>
+    ensures call { (n : ℕ) (old new : Option CEntry) → TellsFound result n old new → Finds kind name.now cpu.old cpu.new n old new }
+    ensures refused { IfErr result (λ refusal. refusal ≢ DONE) }
+{
+    let Some(kind) = kind_in(kind) else {
+        return Err(BAD_KIND);
+    };
+    if !cpu.inside() {
+        return Err(OUTSIDE);
+    }
+    let name = name_in(name);
+    // A search for each kind: a loop that knows the kind needs no register for it, and a call saves fewer registers as it begins.
+    let found = match kind {
+        Kind::Iface => cpu.find(Kind::Iface, &name),
+        Kind::Driver => cpu.find(Kind::Driver, &name),
+    };
+    match found {
+        None => Err(refused(Refusal::NotFound)),
+        Some(entry) => Ok(entry),
+    }
+}
+
+/// Writes the entry of a call that is done, and answers its number.
+#[inline(always)]
+pub fn tell(answer: Result<Entry, u32>, found: &mut EntryPlace) -> u32
+    ensures place { found.new.at ≡ found.old.at }
+    ensures told { TellsFound answer result found.old.value found.new.value }
+{
+    match answer {
+        Ok(entry) => {
+            found.put(entry_out(entry));
+            DONE
+        }
+        Err(refusal) => refusal,
+    }
+}
+
+/// Acquires a passive reference to the last found entry.
+pub fn acquire(cpu: &mut CpuBody, number: &mut NumberPlace) -> u32
+    ensures place { number.new.at ≡ number.old.at }
+    ensures call { Acquires cpu.old cpu.new result number.old.value number.new.value }
+{
+    match cpu.acquire() {
+        Ok(psref) => {
+            number.put(psref.number());
+            psref.forget();
+            DONE
+        }
+        Err(refusal) => refused(refusal),
+    }
+}
+
+/// Acquires one more.
+pub fn copy(cpu: &mut CpuBody, number: u64) -> u32
+    ensures { Copies number cpu.old cpu.new result }
+{
+    let psref = cpu.own(number);
+    let made = cpu.copy(&psref);
+    psref.forget();
+    match made {
+        Ok(psref) => {
+            psref.forget();
+            DONE
+        }
+        Err(refusal) => refused(refusal),
+    }
+}
+
+/// The entry that the CPU refers to.
+pub fn read(cpu: &mut CpuBody, number: u64, entry: &mut EntryPlace) -> u32
+    ensures place { entry.new.at ≡ entry.old.at }
+    ensures call { Reads number cpu.old cpu.new result entry.old.value entry.new.value }
+{
+    let psref = cpu.own(number);
+    let answer = cpu.read(&psref);
+    psref.forget();
+    match answer {
+        Ok(read) => {
+            entry.put(entry_out(read));
+            DONE
+        }
+        Err(refusal) => refused(refusal),
+    }
+}
+
+/// Releases a passive reference.
+pub fn release(cpu: &mut CpuBody, number: u64) -> u32
+    ensures { Releases number cpu.old cpu.new result }
+{
+    let psref = cpu.own(number);
+    match cpu.release(psref) {
+        Ok(()) => DONE,
+        Err((refusal, psref)) => {
+            psref.forget();
+            refused(refusal)
+        }
+    }
+}

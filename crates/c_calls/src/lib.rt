@@ -1,0 +1,20 @@
+//! The calls of the running registry for C, on what stands behind the handles that C holds between calls, and through these.
+#![tactic(auto)]
+
+pub mod audit;
+mod cpu_calls;
+mod keeper_answers;
+mod keeper_calls;
+mod law;
+mod local_calls;
+mod local_keeper;
+pub mod opening;
+pub mod through_cpu;
+pub mod through_keeper;
+pub mod through_local;
+pub mod through_usual;
+mod usual_calls;
+mod waiting;
+pub mod walks;
+
+pub use law::waits_law;

@@ -1,0 +1,126 @@
+//! The calls of the usual path, by what stands behind the CPU's handle: each makes several calls of `cpu_calls`, and opens a section for them. A lookup
+//! from outside is one call of the CPU's, which does the same.
+//! It writes to C's place last: stores before the addition that ends the section would have to be done before it is.
+
+ghost use Rattle.std.specs.Prelude.{◌≡◌, ◌≢◌, ℕ, IsTrue, Option, Some, None};
+ghost use Rattle.passive_list.specs.Common.{may_begin};
+ghost use Rattle.c_values.specs.declared.values.CEntry.{CEntry};
+ghost use Rattle.c_values.specs.declared.values.TheConstants.{DONE};
+ghost use Rattle.c_calls.specs.Calls.{Enters, TellsFound};
+ghost use Rattle.c_calls.specs.UsualCalls.{EntersAndFinds, FindsAndAcquires, Gets, LooksUp};
+ghost use Rattle.c_values.specs.Values.{kind_in};
+
+use crate::cpu_calls::{enter, exit, look, tell};
+use c_bodies::CpuBody;
+use c_values::place::EntryPlace;
+use c_values::values::{CEntry, CName, DONE, entry_out, name_in, refused};
+use registry_values::{Entry, Kind, Refusal, kind_word};
+
+/// Looks an entry up, in a section of the call's own, as one call of the CPU's. Conditions: outside; a section is left.
+/// A search for each kind, as in `find` of `cpu_calls`, and what is written after it, too: so no register keeps the kind.
+#[inline(always)]
+pub fn look_from_outside(cpu: &mut CpuBody, kind: Kind, name: CName, found: &mut EntryPlace) -> u32
+    requires outside { cpu.old.cpu.depth ≡ 0 }
+    requires room { IsTrue (may_begin cpu.old.cpu.view) }
+    ensures place { found.new.at ≡ found.old.at }
+    ensures call { (word : ℕ) → kind_in word ≡ Some kind → LooksUp word (Some name) cpu.old cpu.new result found.old.value found.new.value }
+{
+    match kind {
+        Kind::Iface => look_for(cpu, Kind::Iface, name, found),
+        Kind::Driver => look_for(cpu, Kind::Driver, name, found),
+    }
+}
+
+/// The same, of a kind that is known where it is called.
+#[inline(always)]
+fn look_for(cpu: &mut CpuBody, kind: Kind, name: CName, found: &mut EntryPlace) -> u32
+    requires outside { cpu.old.cpu.depth ≡ 0 }
+    requires room { IsTrue (may_begin cpu.old.cpu.view) }
+    ensures place { found.new.at ≡ found.old.at }
+    ensures call { (word : ℕ) → kind_in word ≡ Some kind → LooksUp word (Some name) cpu.old cpu.new result found.old.value found.new.value }
+{
+    let Some(seen) = cpu.find_from_outside(kind, name_in(&name)) else {
+        return refused(Refusal::NotFound);
+    };
+    found.put(CEntry {
+        number: seen.number,
+        slot: seen.slot,
+        kind: kind_word(kind),
+        name,
+        value: seen.value,
+    });
+    DONE
+}
+
+/// Looks an entry up, in a section of the call's own, by an enter, a find and an exit: where a section is open, or the call is refused.
+pub fn look_up(cpu: &mut CpuBody, kind: u64, name: Option<CName>, found: &mut EntryPlace) -> u32
+    ensures place { found.new.at ≡ found.old.at }
+    ensures call { LooksUp kind name cpu.old cpu.new result found.old.value found.new.value }
+{
+    let entered = enter_inside(cpu);
+    if entered != DONE {
+        return entered;
+    }
+    let looked = look(cpu, kind, name);
+    exit(cpu);
+    tell(looked, found)
+}
+
+/// Looks an entry up and acquires a passive reference to it, in a section of the call's own.
+pub fn get(cpu: &mut CpuBody, kind: u64, name: Option<CName>, found: &mut EntryPlace) -> u32
+    ensures place { found.new.at ≡ found.old.at }
+    ensures call { Gets kind name cpu.old cpu.new result found.old.value found.new.value }
+{
+    let entered = enter_inside(cpu);
+    if entered != DONE {
+        return entered;
+    }
+    let got = look_and_acquire(cpu, kind, name);
+    exit(cpu);
+    tell(got, found)
+}
+
+/// Enters a section and looks an entry up in it: done leaves the CPU inside, and a refusal as deep as it was.
+pub fn enter_find(cpu: &mut CpuBody, kind: u64, name: Option<CName>, found: &mut EntryPlace) -> u32
+    ensures place { found.new.at ≡ found.old.at }
+    ensures call { EntersAndFinds kind name cpu.old cpu.new result found.old.value found.new.value }
+{
+    let entered = enter_inside(cpu);
+    if entered != DONE {
+        return entered;
+    }
+    match look(cpu, kind, name) {
+        Ok(entry) => {
+            found.put(entry_out(entry));
+            DONE
+        }
+        Err(refusal) => {
+            exit(cpu);
+            refusal
+        }
+    }
+}
+
+/// Enters a section, or the open one once more: done leaves the CPU inside.
+fn enter_inside(cpu: &mut CpuBody) -> u32
+    ensures call { Enters cpu.old cpu.new result }
+    ensures inside { result ≡ DONE → cpu.new.cpu.view.begin ≢ None }
+{
+    // Reading it opens what the CPU says of itself: that a section is open where its depth isn't 0.
+    let _depth = cpu.cpu.depth;
+    enter(cpu)
+}
+
+/// Looks an entry up and acquires a passive reference to it: the entry, or the number of the refusal.
+fn look_and_acquire(cpu: &mut CpuBody, kind: u64, name: Option<CName>) -> Result<Entry, u32>
+    ensures { (n : ℕ) (old new : Option CEntry) → TellsFound result n old new → FindsAndAcquires kind name cpu.old cpu.new n old new }
+{
+    let entry = look(cpu, kind, name)?;
+    match cpu.acquire() {
+        Ok(psref) => {
+            psref.forget();
+            Ok(entry)
+        }
+        Err(refusal) => Err(refused(refusal)),
+    }
+}

@@ -1,0 +1,90 @@
+//! The walk over all entries, through a CPU's handle. It takes no memory.
+
+ghost use Rattle.std.specs.Prelude.{◌≡◌, ◌≤◌, length};
+ghost use Rattle.c_calls.specs.Calls.{Through};
+ghost use Rattle.held.specs.Rows.{IsLong};
+ghost use Rattle.c_calls.specs.Walks.{HasFirst, Walks, WalksBy};
+
+use c_bodies::CpuBody;
+use c_bodies::handle::CpuHandle;
+use c_values::answer::WalkAnswer;
+use c_values::place::NumberPlace;
+use c_values::rows::EntriesPlace;
+use c_values::values::{CEntry, DONE, EMPTY_HANDLE, NO_ROOM, NULL, OUTSIDE, entry_out};
+use held::CHandle;
+use registry_values::{Entry, Kind, MOST_SLOTS, Name, Record};
+
+/// `registry_walk` of the header.
+pub fn walk_entries(
+    cpu: &mut CpuHandle,
+    mut row: EntriesPlace,
+    room: usize,
+    mut count: NumberPlace,
+) -> WalkAnswer
+    requires room { IsLong row.value room }
+    ensures places { (result.row.at ≡ row.at) × (result.place.at ≡ count.at) }
+    ensures call { Through cpu.old.body cpu.new.body result.number ((result.row.value ≡ row.value) × (result.place.value ≡ count.value))
+        (λ a b. WalksBy a b result.number room row.value result.row.value count.value result.place.value) }
+{
+    let Some(body) = cpu.body_mut() else {
+        return count.answer(EMPTY_HANDLE).with_row(row);
+    };
+    let answer = walk_into(body, &mut row, room, &mut count);
+    count.answer(answer).with_row(row)
+}
+
+/// Walks over all entries, into the row, if there is one or needn't be.
+fn walk_into(cpu: &mut CpuBody, row: &mut EntriesPlace, room: usize, count: &mut NumberPlace) -> u32
+    requires room { IsLong row.old.value room }
+    ensures places { (row.new.at ≡ row.old.at) × (count.new.at ≡ count.old.at) }
+    ensures call { WalksBy cpu.old cpu.new result room row.old.value row.new.value count.old.value count.new.value }
+{
+    if !row.is_null() {
+        return walk(cpu, row.row_mut(room), count);
+    }
+    if room != 0 {
+        return NULL;
+    }
+    walk(cpu, &mut [], count)
+}
+
+/// Walks over all entries, and writes them where the row has room.
+fn walk(cpu: &mut CpuBody, row: &mut [CEntry], count: &mut NumberPlace) -> u32
+    ensures place { count.new.at ≡ count.old.at }
+    ensures call { Walks cpu.old cpu.new result row.old row.new count.old.value count.new.value }
+{
+    if !cpu.inside() {
+        return OUTSIDE;
+    }
+    let mut walked = [no_entry(); MOST_SLOTS];
+    let met = cpu.walk(&mut walked);
+    count.put(met as u64);
+    if row.len() < met {
+        return NO_ROOM;
+    }
+    write_all(&walked[..met], row);
+    DONE
+}
+
+/// What stands in a row before the walk.
+fn no_entry() -> Entry {
+    Entry {
+        number: 0,
+        slot: 0,
+        rec: Record {
+            kind: Kind::Driver,
+            name: Name::of_words(0, 0),
+            value: 0,
+        },
+    }
+}
+
+/// Writes the entries to the first places. Condition: there is room.
+fn write_all(walked: &[Entry], row: &mut [CEntry])
+    requires room { length walked.now ≤ length row.old }
+    ensures { HasFirst walked.now row.old row.new }
+{
+    for (place, entry) in walked.iter().enumerate() {
+        row[place] = entry_out(*entry);
+    }
+}

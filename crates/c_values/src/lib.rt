@@ -1,0 +1,11 @@
+//! What crosses between C and a call: plain values, the places and rows of C's that a call reads and writes, and what it answers with them. And the
+//! calls that need no more: a name from bytes, the text of an answer.
+#![tactic(auto)]
+
+pub mod answer;
+pub mod given;
+pub mod place;
+pub mod rows;
+pub mod texts;
+pub mod values;
+pub mod wait;

@@ -1,0 +1,72 @@
+//! The calls that take a row of C's with its length beside it.
+
+ghost use Rattle.std.specs.Prelude.{◌≡◌};
+ghost use Rattle.held.specs.Rows.{IsLong};
+ghost use Rattle.c_calls.specs.Opening.{OpensInto, bodies_of};
+ghost use Rattle.c_calls.specs.Calls.{Through};
+ghost use Rattle.c_calls.specs.Walks.{WalksBy};
+ghost use Rattle.c_calls.specs.Audits.{AreAllOf, AuditsRows};
+ghost use Rattle.c_values.specs.Places.{row_in};
+
+use c_bodies::answer::{AuditAnswer, OpenedAnswer};
+use c_bodies::handle::{CpuHandle, KeeperHandle};
+use c_bodies::rows::CpusPlace;
+use c_calls::{audit, opening, walks};
+use c_values::answer::WalkAnswer;
+use c_values::given::GivenSettings;
+use c_values::place::NumberPlace;
+use c_values::rows::{BalancesPlace, EntriesPlace};
+use std::alloc::Global;
+
+/// `registry_open` of the header.
+#[unsafe(no_mangle)]
+pub extern "C" fn registry_open(
+    alloc: Global,
+    settings: GivenSettings,
+    keeper: &mut KeeperHandle,
+    cpus: CpusPlace,
+    count: usize,
+) -> OpenedAnswer
+    requires count { IsLong cpus.value count }
+    ensures given { result.settings ≡ settings }
+    ensures place { result.cpus.at ≡ cpus.at }
+    ensures call { OpensInto settings.settings keeper.old.body keeper.new.body count cpus.value result.cpus.value result.number }
+{
+    opening::open_registry(alloc, settings, keeper, cpus, count)
+}
+
+/// `registry_walk` of the header.
+#[unsafe(no_mangle)]
+pub extern "C" fn registry_walk(
+    cpu: &mut CpuHandle,
+    row: EntriesPlace,
+    room: usize,
+    count: NumberPlace,
+) -> WalkAnswer
+    requires room { IsLong row.value room }
+    ensures places { (result.row.at ≡ row.at) × (result.place.at ≡ count.at) }
+    ensures call { Through cpu.old.body cpu.new.body result.number ((result.row.value ≡ row.value) × (result.place.value ≡ count.value))
+        (λ a b. WalksBy a b result.number room row.value result.row.value count.value result.place.value) }
+{
+    walks::walk_entries(cpu, row, room, count)
+}
+
+/// `registry_audit` of the header.
+#[unsafe(no_mangle)]
+pub extern "C" fn registry_audit(
+    keeper: &mut KeeperHandle,
+    cpus: CpusPlace,
+    count: usize,
+    list: BalancesPlace,
+    room: usize,
+    length: NumberPlace,
+) -> AuditAnswer
+    requires count { IsLong cpus.value count }
+    requires room { IsLong list.value room }
+    requires words { AreAllOf keeper.old.body (bodies_of (row_in cpus.value)) }
+    ensures places { (result.cpus.at ≡ cpus.at) × (result.list.at ≡ list.at) × (result.place.at ≡ length.at) }
+    ensures call { Through keeper.old.body keeper.new.body result.number ((result.cpus.value ≡ cpus.value) × (result.list.value ≡ list.value) × (result.place.value ≡ length.value))
+        (λ a b. AuditsRows a b result.number count cpus.value result.cpus.value room list.value result.list.value length.value result.place.value) }
+{
+    audit::audit_registry(keeper, cpus, count, list, room, length)
+}
