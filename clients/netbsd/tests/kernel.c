@@ -135,7 +135,9 @@ static void test_condvars(void)
 	mutex_enter(&lock);
 	EXPECT(cv_has_waiters(&cv) && cv_is_valid(&cv));
 	cv_signal(&cv);
-	EXPECT(cv_timedwait(&cv, &lock, 2) == EWOULDBLOCK && plain == 1);
+	while (plain == 0)
+		EXPECT(cv_timedwait(&cv, &lock, 1) == EWOULDBLOCK);
+	EXPECT(cv_timedwait(&cv, &lock, 1) == EWOULDBLOCK && plain == 1);
 	cv_broadcast(&cv);
 	while (plain < THREADS)
 		EXPECT(cv_timedwait_sig(&cv, &lock, 1) == EWOULDBLOCK);
@@ -270,13 +272,14 @@ static void fire(void *arg)
 static void test_callouts(void)
 {
 	callout_init(&callout, CALLOUT_MPSAFE);
-	callout_reset(&callout, 1, fire, &fired);
+	callout_reset(&callout, 100000, fire, &fired);
 	EXPECT(callout_pending(&callout) && callout_active(&callout));
+	callout_reset(&callout, 1, fire, &fired);
 	while (atomic_load(&fired) == 0)
 		sleep_for(100);
 	EXPECT(callout_expired(&callout) && !callout_pending(&callout) && !callout_invoking(&callout));
 	EXPECT(callout_stop(&callout) && !callout_expired(&callout));
-	callout_schedule(&callout, 1000);
+	callout_schedule(&callout, 100000);
 	EXPECT(!callout_stop(&callout) && !callout_pending(&callout));
 	/* It runs, and waits for the lock that the halt lets go of. */
 	mutex_enter(&lock);
