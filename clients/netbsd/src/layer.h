@@ -154,6 +154,7 @@ struct thread {
 	unsigned spins;			/* spin locks */
 	int level, level_before;	/* the CPU's level, and what it was before the first spin lock */
 	bool softint;
+	bool kept;			/* its memory is used again once it was joined */
 	struct thread *lender;		/* of a soft interrupt: the thread whose CPU it has */
 	struct thread *next;		/* in the list of those that are free, or in a wait */
 	const void *waits_for;		/* under the bucket's lock */
@@ -210,6 +211,7 @@ static inline const char *take_place(void)
 struct thread *new_thread(const char *call);
 struct thread *named_thread(const char *call, const char *name);
 void end_of_thread(struct thread *me);
+void reuse_thread(struct thread *ended);
 void hold_cpu(struct thread *me);
 void unhold_cpu(struct thread *me);
 void bind_to(struct thread *me, struct cpu *cpu);

@@ -299,6 +299,28 @@ static void exit_at_once(void *arg)
 	kthread_exit(0);
 }
 
+static void end_as(void *arg)
+{
+	atomic_fetch_add((atomic_uint *)arg, 1);
+}
+
+/* Of threads that ended long ago each is joined once, by its own name. */
+static void test_joins(void)
+{
+	atomic_uint ran[4] = {0};
+	lwp_t *workers[4];
+	for (unsigned i = 0; i < 4; i++) {
+		EXPECT(kthread_create(PRI_NONE, KTHREAD_MUSTJOIN, NULL, end_as, &ran[i], &workers[i], "worker%u", i) == 0);
+		while (atomic_load(&ran[i]) == 0)
+			sleep_for(100);
+		sleep_for(1000);
+		for (unsigned other = 0; other < i; other++)
+			EXPECT(workers[other] != workers[i]);
+	}
+	for (unsigned i = 0; i < 4; i++)
+		EXPECT(kthread_join(workers[i]) == 0);
+}
+
 static void test_threads(void)
 {
 	atomic_uint ran = 0;
@@ -413,6 +435,7 @@ int main(void)
 	test_depth();
 	test_callouts();
 	test_threads();
+	test_joins();
 	test_lists();
 	test_atomics();
 	test_copies();
