@@ -259,7 +259,7 @@ void kupaldiz_unbind(void)
 	unbind(me);
 }
 
-/* The CPU to which the fewest threads are bound; of several the one at which the thread was last, or the next one. */
+/* The CPU with the fewest bound threads; of several the one where the thread was last, or the next one. */
 static struct cpu *least_bound(struct thread *me)
 {
 	struct cpu *least = cpu_of(me);

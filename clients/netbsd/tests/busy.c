@@ -28,7 +28,7 @@ static void lose_processor(void)
 		nanosleep(&moment, NULL);
 }
 
-/* Marks a handle. It stands at its place, or behind others that are marked. */
+/* Marks a handle, at its place or behind others that are marked. */
 static void begin(const void *handle)
 {
 	for (size_t place = place_of(handle);; place = (place + 1) % PLACES) {
