@@ -30,9 +30,9 @@
  *
  * psref_target_destroy and localcount_drain detach the entry, and then make turns of destroying it until it is freed, without the interlock between
  * two. psref_target_destroy then performs: the sections in which the last references were released have ended as well. A drain waits for the
- * caller's condition variable between two turns once the counts are collected. A release on a CPU whose count was collected is told so while its reference is still held: only
- * then it takes the caller's lock, gives the reference up, and wakes the drain, which can't return before that lock is free. After any other
- * release the count isn't touched again, for the drain may have returned.
+ * caller's condition variable between two turns once the counts are collected. A release on a CPU whose count was collected is told so while its
+ * reference is still held: only then it takes the caller's lock, gives the reference up, and wakes the drain, which can't return before that lock is
+ * free. After any other release the count isn't touched again, for the drain may have returned.
  *
  * A soft interrupt is a thread of its CPU's. It takes the CPU, or gets it from the thread that has it, which waits meanwhile.
  *
