@@ -1,9 +1,8 @@
 /*
  * cpu.h - threads, and the CPUs that they run on
  *
- * A CPU is virtual, one of KUPALDIZ_CPUS. Any number of threads share them: a thread has its CPU for the length of a call, of a read section, of
- * a spin lock, or of a raised level, and the other threads of that CPU wait meanwhile. Outside of these all threads run at once, on any
- * processor.
+ * A CPU is virtual, one of KUPALDIZ_CPUS. Any number of threads share them. A thread has its CPU during a call, a read section, a spin lock or a raised
+ * level; the other threads of that CPU wait meanwhile. Outside of these all threads run at once, on any processor.
  *
  * A thread that isn't bound gets a CPU that is free whenever it needs one, and may get another the next time. One that is bound keeps its CPU.
  * Whoever holds a passive reference is bound.

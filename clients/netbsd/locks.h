@@ -32,7 +32,7 @@ typedef enum {
 	MUTEX_NODEBUG = 4
 } kmutex_type_t;
 
-/* mutex_init - make a lock that is free. `level` is the highest level from which it is taken. */
+/* mutex_init - make a lock that is free. `level` is the highest level that takes it. */
 void mutex_init(kmutex_t *mutex, kmutex_type_t type, int level);
 
 /* mutex_destroy - end a lock. Stops where it is held, and where it isn't a lock. */

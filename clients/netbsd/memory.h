@@ -79,7 +79,7 @@ void *pool_cache_get(pool_cache_t cache, int flags);
 /* pool_cache_put - give an object back, which is ended. */
 void pool_cache_put(pool_cache_t cache, void *object);
 
-/* ---- percpu(9): memory of which each CPU has its own. ---- */
+/* ---- percpu(9): memory that each CPU has a part of. ---- */
 
 typedef struct percpu percpu_t;
 typedef void (*percpu_callback_t)(void *, void *, struct cpu_info *);

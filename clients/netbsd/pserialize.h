@@ -8,7 +8,7 @@
  * - A section keeps the thread on its CPU (cpu.h), and the other threads of that CPU out of theirs. It raises no level: soft interrupts run
  *   inside it too, between two calls.
  * - A wait looks at the section word of each CPU, again and again with ever longer pauses, up to a millisecond; no CPU runs anything for it. After
- *   some seconds it says on standard error for whom it waits.
+ *   five seconds it says on standard error which thread it waits for.
  * - What a reader loads and a writer stores in the list itself are atomics of the caller's: release on the writer's side, acquire or consume on
  *   the reader's, as the kernel's atomic_store_release(9) and atomic_load_consume(9) are.
  *

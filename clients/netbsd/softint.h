@@ -1,9 +1,12 @@
 /*
  * softint.h - softint(9), spl(9), xcall(9) and callout(9), for threads of user space
  *
- * Each CPU has a thread for its soft interrupts. It runs a handler on the CPU where the handler was scheduled: at once, where no thread has that
- * CPU; else between two calls of the thread that has it, inside that thread's section too, and that thread goes on when the handlers have ended or
- * one of them waits for a lock. Handlers of one CPU run one after another, those of the highest level first.
+ * Each CPU has a thread for its soft interrupts. It runs a handler on the CPU where the handler was scheduled:
+ * - at once, where no thread has that CPU;
+ * - else between two calls of the thread that has it, inside that thread's section too. That thread goes on when the handlers have ended, or when one of
+ *   them waits for a lock.
+ *
+ * Handlers of one CPU run one after another, those of the highest level first.
  *
  * What differs from the page: a read section doesn't keep soft interrupts off. spl.. and spin locks do, up to their level.
  */

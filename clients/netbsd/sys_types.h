@@ -23,7 +23,8 @@ extern "C" {
 /* kupaldiz_at - the next call of this thread is at this place. The text isn't copied. */
 void kupaldiz_at(const char *place);
 
-/* KUPALDIZ_POINT - before an atomic access or a barrier of the code's own. Nothing here; a library that tries schedules defines it. */
+/* KUPALDIZ_POINT - before an atomic access or a barrier of the code's own, with the address, which is NULL for a barrier. It is evaluated once more for the
+ * access. Nothing here; a library that tries schedules defines it. */
 #ifndef KUPALDIZ_POINT
 #define KUPALDIZ_POINT(address)	((void)0)
 #endif

@@ -1,4 +1,4 @@
-/* counters.c - counters of which each CPU has its own, in the idiom of net_stats.h */
+/* counters.c - counters that each CPU has a part of, in the idiom of net_stats.h */
 #include <sys/cdefs.h>
 __KERNEL_RCSID(0, "$NetBSD$");
 

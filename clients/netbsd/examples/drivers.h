@@ -56,14 +56,14 @@ void rx_interrupt(unsigned packet);
 void *rx_listen(void (*input)(void *, unsigned), void *arg);
 void rx_unlisten(void *listener);
 
-/* counters.c - counters of which each CPU has its own. */
+/* counters.c - counters that each CPU has a part of. */
 enum { COUNT_IN, COUNT_OUT, COUNT_DROPPED, COUNTERS };
 void counters_init(void);
 void counters_fini(void);
 void counters_add(unsigned which, unsigned number);
 void counters_sum(uint64_t sums[COUNTERS]);
 
-/* unload.c - a module with a hook, a worker and a callout, all of which are gone once it is unloaded. Its command is kupaldiz_ticker_modcmd. */
+/* unload.c - a module with a hook, a worker and a callout: unloading ends all three. Its command is kupaldiz_ticker_modcmd. */
 int ticker_call(unsigned value, unsigned *answer);
 
 #endif

@@ -1,4 +1,4 @@
-/* ioctl.c - an ioctl that copies from and to the user, which may sleep, while it keeps an entry by a psref */
+/* ioctl.c - an ioctl with copies from and to the user, which may sleep: a psref keeps the entry meanwhile */
 #include <sys/cdefs.h>
 __KERNEL_RCSID(0, "$NetBSD$");
 

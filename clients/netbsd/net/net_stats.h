@@ -1,4 +1,4 @@
-/* net/net_stats.h - counters of which each CPU has its own: words in memory of percpu_alloc */
+/* net/net_stats.h - counters that each CPU has a part of: words in memory of percpu_alloc */
 #ifndef KUPALDIZ_NETBSD_NET_STATS_H
 #define KUPALDIZ_NETBSD_NET_STATS_H
 

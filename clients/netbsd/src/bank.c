@@ -170,7 +170,7 @@ bool find_row(const void *owner, uint64_t serial, uint64_t place, struct found_r
 	return row->serial == serial;
 }
 
-/* Whether any row is the owner's, whatever the owner noted. The caller has the interlock. */
+/* Whether any row is the owner's. What the owner noted isn't asked. The caller has the interlock. */
 static bool is_live(const void *owner)
 {
 	for (unsigned bank = 0; bank < bank_count; bank++)
@@ -288,7 +288,7 @@ static bool is_past(const struct timespec *time)
 	return now.tv_sec > time->tv_sec || (now.tv_sec == time->tv_sec && now.tv_nsec >= time->tv_nsec);
 }
 
-/* Whether it is time to say for whom: once. */
+/* Whether it is time to say what the wait waits for: once. */
 bool pauses_are_over(struct pauses *pauses)
 {
 	if (pauses->tells.tv_sec == 0 || !is_past(&pauses->tells))
@@ -297,7 +297,7 @@ bool pauses_are_over(struct pauses *pauses)
 	return true;
 }
 
-/* Lets others run: at first at once, then for a time that doubles up to the longest pause. Whether it is time to say for whom. */
+/* Lets others run: at first at once, then for a time that doubles up to the longest pause. Whether it is time to say what it waits for. */
 bool pause_longer(struct pauses *pauses)
 {
 	const struct timespec pause = {0, pauses->nanoseconds};

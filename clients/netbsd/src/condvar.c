@@ -26,7 +26,7 @@ void cv_destroy(kcondvar_t *cv)
 	cv->cv_made = ENDED;
 }
 
-/* Stops where the thread mustn't sleep, but for this lock, which may spin. */
+/* Stops where the thread mustn't sleep. It may have this lock, which may spin. */
 static void want_sleepable_with(struct thread *me, const kmutex_t *mutex)
 {
 	if (!mutex->mtx_spins) {

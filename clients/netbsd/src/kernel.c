@@ -103,6 +103,7 @@ static void *run_kthread(void *of)
 	void *arg = kthread->arg;
 	struct thread *me = named_thread("kthread_create", kthread->name);
 	is_kthread = true;
+	me->kept = kthread->joined;
 	if (kthread->cpu != NULL)
 		bind_to(me, &cpus[kthread->cpu->ci_index]);
 	pthread_mutex_lock(&kthreads_lock);
@@ -183,6 +184,7 @@ int kthread_join(lwp_t *thread)
 	int waits = begin_wait();
 	pthread_join(found->id, NULL);
 	end_wait(waits);
+	reuse_thread(found->thread);
 	free(found);
 	return 0;
 }

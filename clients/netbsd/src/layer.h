@@ -3,9 +3,9 @@
  *
  * HOW THE PAGES ARE MAPPED
  *
- * A registry and its CPUs are a bank. A bank has eight CPUs: seven are those of cpu.h, and the eighth is the writers', on which whoever attaches,
- * detaches, or makes a turn of a wait does it, under the one lock `interlock`, which is also the keepers'. There is one bank at first. Further ones
- * are opened where all slots are taken; one whose changes are used up gets no new target, and is opened anew once it is empty.
+ * A registry and its CPUs are a bank. A bank has eight CPUs: seven are those of cpu.h, and the eighth is the writers'. Attaches, detaches and turns of waits
+ * are made on that one, under the one lock `interlock`, which is also the keepers'. There is one bank at first. Further ones are opened where all slots
+ * are taken; one whose changes are used up gets no new target, and is opened anew once it is empty.
  *
  * A thread has a CPU by taking the CPU's lock `hold`, for as long as it has a reason: a call, a section, a spin lock, a raised level. Whoever has
  * the CPU alone uses its handles, its table of references, and its place among the banks. So each handle is used by one call at a time.
@@ -20,8 +20,8 @@
  * value. The slot that the registry gives it is also its row in the bank; the owner notes row and serial, and the row notes the owner. A call
  * is right in what it is given where both notes agree.
  *
- * psref_acquire is registry_get: a section of its own, nested in the open one if that is of the same bank, in which the entry is found by its name and
- * acquired. What isn't found is being destroyed. That a reader who met a target in the caller's list finds its entry, too, lies in the
+ * psref_acquire is registry_get: a section of its own, nested in the open one if that is of the same bank, finds the entry by its name and acquires it.
+ * What isn't found is being destroyed. That a reader who met a target in the caller's list finds its entry, too, lies in the
  * order of the atomic steps: the attach came before the list had the target. No contract says it, since the reader's CPU hasn't heard of the
  * attach. Each reference is noted in a table of its CPU: whose it is, where it lies, and from which place it was acquired.
  *
@@ -30,9 +30,11 @@
  *
  * psref_target_destroy and localcount_drain detach the entry, and then make turns of destroying it until it is freed, without the interlock between
  * two. psref_target_destroy then performs: the sections in which the last references were released have ended as well. A drain waits for the
- * caller's condition variable between two turns once the counts are collected. A release on a CPU whose count was collected is told so while its reference is still held: only
- * then it takes the caller's lock, gives the reference up, and wakes the drain, which can't return before that lock is free. After any other
- * release the count isn't touched again, for the drain may have returned.
+ * caller's condition variable between two turns once the counts are collected. A release on a CPU whose count was collected is told so while its
+ * reference is still held: only then it takes the caller's lock, gives the reference up, and wakes the drain, which can't return before that lock is
+ * free. After any other release the count isn't touched again, for the drain may have returned.
+ *
+ * A soft interrupt is a thread of its CPU's. It takes the CPU, or gets it from the thread that has it, which waits meanwhile.
  *
  * The order of locks: the caller's, then a CPU's hold, then the row's or the interlock, and a bucket of lock.c. No other lock is taken under the
  * last three.
@@ -58,7 +60,7 @@
 #include "registry.h"
 
 /* The limits, which a test may change: of a bank; how many nanoseconds a drain waits before it looks again; how many milliseconds a wait lasts before it
- * tells for whom. */
+ * says what it waits for. */
 #ifndef KUPALDIZ_ROWS
 #define KUPALDIZ_ROWS		REGISTRY_MOST_SLOTS
 #endif
@@ -116,7 +118,7 @@ struct lock {
 	uintptr_t word;
 };
 
-/* Says for whom a wait for the lock lasts. */
+/* Says which thread a wait for the lock waits for. */
 typedef void tell_fn(struct thread *me, const uintptr_t *word);
 
 bool lock_try(uintptr_t *word, struct thread *me);
@@ -154,6 +156,7 @@ struct thread {
 	unsigned spins;			/* spin locks */
 	int level, level_before;	/* the CPU's level, and what it was before the first spin lock */
 	bool softint;
+	bool kept;			/* its memory is used again once it was joined */
 	struct thread *lender;		/* of a soft interrupt: the thread whose CPU it has */
 	struct thread *next;		/* in the list of those that are free, or in a wait */
 	const void *waits_for;		/* under the bucket's lock */
@@ -210,6 +213,7 @@ static inline const char *take_place(void)
 struct thread *new_thread(const char *call);
 struct thread *named_thread(const char *call, const char *name);
 void end_of_thread(struct thread *me);
+void reuse_thread(struct thread *ended);
 void hold_cpu(struct thread *me);
 void unhold_cpu(struct thread *me);
 void bind_to(struct thread *me, struct cpu *cpu);
@@ -338,7 +342,7 @@ void exit_section(struct thread *me);
 void perform_all(struct thread *me);
 void sweep_banks(struct thread *me);
 
-/* A wait's pauses: how long the next one is, and when it says for whom it waits. */
+/* A wait's pauses: how long the next one is, and when it says what it waits for. */
 struct pauses {
 	long nanoseconds;
 	struct timespec tells;

@@ -29,13 +29,13 @@ static struct found_row count_row(const struct thread *me, const struct localcou
 	return found;
 }
 
-/* Stops where the condition variable or the interlock is another than before. The row is locked. */
+/* Stops where the condition variable or the interlock differs from the one before. The row is locked. */
 static void want_same(struct thread *me, struct row *row, const kcondvar_t *cv, const kmutex_t *interlock)
 {
 	if (row->interlock != NULL && row->interlock != interlock)
-		stop(me, "the interlock is another than before");
+		stop(me, "the interlock differs from the one before");
 	if (row->cv != NULL && row->cv != cv)
-		stop(me, "the condition variable is another than before");
+		stop(me, "the condition variable differs from the one before");
 	row->interlock = interlock;
 	row->cv = cv;
 }
@@ -143,7 +143,7 @@ void localcount_release(struct localcount *lc, kcondvar_t *cv, kmutex_t *interlo
 
 /* ---- Draining. ---- */
 
-/* Says for whom a drain waits. */
+/* Says what a drain waits for. */
 static void tell(struct thread *me, struct row *row, const struct registry_stage *met)
 {
 	char where[256];
@@ -160,7 +160,7 @@ static void tell(struct thread *me, struct row *row, const struct registry_stage
 }
 
 /* Lets others run, without the interlock: until the last release wakes it, or for a while where a section is waited for, whose end wakes nobody. Whether it
- * is time to say for whom. */
+ * is time to say what it waits for. */
 static bool wait_once(struct thread *me, const struct registry_stage *met, kcondvar_t *cv, kmutex_t *interlock, struct pauses *pauses)
 {
 	if (met->stage == REGISTRY_LOCAL) {

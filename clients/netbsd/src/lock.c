@@ -2,7 +2,7 @@
  * lock.c - a lock that knows its owner, and where threads wait
  *
  * A lock is one word: its owner, and a bit that says that somebody waits. Taking and giving a lock that nobody waits for is one atomic step. Whoever
- * waits stands in the bucket of the lock's address, in the order of arrival.
+ * waits is in the bucket of the lock's address, in the order of arrival.
  */
 #include <stdio.h>
 

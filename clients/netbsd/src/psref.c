@@ -56,7 +56,7 @@ static uint32_t *chain_of(struct cpu *cpu, const struct psref *psref)
 	return &cpu->chains[(address >> 3 ^ address >> 10) % CHAINS];
 }
 
-/* The reference that lies in this storage, whatever the storage says, which may never have been written; NULL where none does. */
+/* The reference that lies in this storage; NULL where none does. The storage itself isn't read: it may never have been written. */
 static struct reference *reference_at(struct cpu *cpu, const struct psref *psref)
 {
 	for (uint32_t place = *chain_of(cpu, psref); place != NOTHING; place = cpu->references[place].next)
@@ -277,7 +277,7 @@ static void want_none_of_own(struct thread *me, const struct psref_target *targe
 	unhold_cpu(me);
 }
 
-/* Says for whom the end of a target waits. */
+/* Says what the end of a target waits for. */
 static void tell_of_stage(struct thread *me, const struct registry_stage *met, const struct psref_target *target)
 {
 	if (met->stage == REGISTRY_GRACE)

@@ -1,4 +1,4 @@
-/* report.c - lines on standard error: what stops the process, and for whom a wait lasts */
+/* report.c - lines on standard error: what stops the process, and what a wait waits for */
 #include <errno.h>
 #include <fcntl.h>
 #include <stdarg.h>

@@ -24,7 +24,7 @@ struct softint_thread {
 	bool blocked;		/* an atomic: a handler waits for a lock */
 };
 
-/* Of all that follows, and of each CPU's `pending` as it is written. */
+/* The lock of all that follows. Each CPU's `pending` is written under it, too. */
 static pthread_mutex_t list = PTHREAD_MUTEX_INITIALIZER;
 static pthread_cond_t changed = PTHREAD_COND_INITIALIZER;
 static struct softint *softints;
@@ -74,7 +74,7 @@ void splx(int level)
 
 /* ---- The threads of soft interrupts. ---- */
 
-/* Writes down of which levels soft interrupts wait on a CPU. The caller has the list. */
+/* Writes down which levels have a soft interrupt that waits on a CPU. The caller has the list. */
 static void note_pending(struct cpu *cpu)
 {
 	uint32_t pending = 0;

@@ -108,6 +108,16 @@ static void unbind(struct thread *me)
 	__atomic_fetch_sub(&me->cpu->bound, 1, __ATOMIC_RELAXED);
 }
 
+/* The memory of a thread that has ended is for the next one. */
+void reuse_thread(struct thread *ended)
+{
+	ended->kept = false;
+	pthread_mutex_lock(&free_lock);
+	ended->next = free_threads;
+	free_threads = ended;
+	pthread_mutex_unlock(&free_lock);
+}
+
 /* A thread has ended: what it still has nobody else can give back. */
 void end_of_thread(struct thread *me)
 {
@@ -122,10 +132,8 @@ void end_of_thread(struct thread *me)
 	if (is_bound(me))
 		unbind(me);
 	kupaldiz_self = NULL;
-	pthread_mutex_lock(&free_lock);
-	me->next = free_threads;
-	free_threads = me;
-	pthread_mutex_unlock(&free_lock);
+	if (!me->kept)
+		reuse_thread(me);
 }
 
 /* ---- Having a CPU. ---- */
@@ -251,7 +259,7 @@ void kupaldiz_unbind(void)
 	unbind(me);
 }
 
-/* The CPU to which the fewest threads are bound; of several the one at which the thread was last, or the next one. */
+/* The CPU with the fewest bound threads; of several the one where the thread was last, or the next one. */
 static struct cpu *least_bound(struct thread *me)
 {
 	struct cpu *least = cpu_of(me);

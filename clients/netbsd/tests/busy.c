@@ -4,8 +4,8 @@
  * The linker leads each call of the layer's to the archive here (--wrap). A handle is marked while a call has it. Some calls lose their processor
  * with the mark, so that two that may meet do meet.
  */
-#include <sched.h>
 #include <stdatomic.h>
+#include <time.h>
 
 #include "../../c/expect.h"
 #include "registry.h"
@@ -20,7 +20,15 @@ static size_t place_of(const void *handle)
 	return ((uintptr_t)handle >> 3 ^ (uintptr_t)handle >> 17) % PLACES;
 }
 
-/* Marks a handle. It stands at its place, or behind others that are marked. */
+/* Now and then, before the call or after it, for long enough that others go on. */
+static void lose_processor(void)
+{
+	const struct timespec moment = {0, 50000};
+	if (atomic_fetch_add_explicit(&calls, 1, memory_order_relaxed) % OFTEN == 0)
+		nanosleep(&moment, NULL);
+}
+
+/* Marks a handle, at its place or behind others that are marked. */
 static void begin(const void *handle)
 {
 	for (size_t place = place_of(handle);; place = (place + 1) % PLACES) {
@@ -29,13 +37,13 @@ static void begin(const void *handle)
 			break;
 		EXPECT(nobody != handle);
 	}
-	if (atomic_fetch_add_explicit(&calls, 1, memory_order_relaxed) % OFTEN == 0)
-		sched_yield();
+	lose_processor();
 }
 
 static void end(const void *handle)
 {
 	size_t place = place_of(handle);
+	lose_processor();
 	while (atomic_load(&marked[place]) != handle)
 		place = (place + 1) % PLACES;
 	atomic_store(&marked[place], NULL);

@@ -21,7 +21,7 @@ struct member {
 static struct psref_class *members;
 static pserialize_t psz;
 static _Atomic(struct member *) first;
-static atomic_uint held, released;
+static atomic_uint shown, held, released;
 
 static struct member *new_member(struct member *next)
 {
@@ -55,11 +55,9 @@ static void *send_all(void *arg)
 {
 	int bound = curlwp_bind();
 	for (unsigned round = 0; round < ROUNDS; round++) {
-		while (atomic_load(&first) == NULL)
+		while (atomic_load(&shown) <= round)
 			sleep_for(50);
 		send_by_first();
-		while (atomic_load(&first) != NULL)
-			sleep_for(50);
 	}
 	curlwp_bindx(bound);
 	return arg;
@@ -74,6 +72,7 @@ int main(void)
 	for (unsigned round = 0; round < ROUNDS; round++) {
 		struct member *member = new_member(NULL);
 		atomic_store(&first, member);
+		atomic_fetch_add(&shown, 1);
 		while (atomic_load(&held) <= round)
 			sleep_for(50);
 		atomic_store(&first, NULL);

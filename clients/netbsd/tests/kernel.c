@@ -135,7 +135,9 @@ static void test_condvars(void)
 	mutex_enter(&lock);
 	EXPECT(cv_has_waiters(&cv) && cv_is_valid(&cv));
 	cv_signal(&cv);
-	EXPECT(cv_timedwait(&cv, &lock, 2) == EWOULDBLOCK && plain == 1);
+	while (plain == 0)
+		EXPECT(cv_timedwait(&cv, &lock, 1) == EWOULDBLOCK);
+	EXPECT(cv_timedwait(&cv, &lock, 1) == EWOULDBLOCK && plain == 1);
 	cv_broadcast(&cv);
 	while (plain < THREADS)
 		EXPECT(cv_timedwait_sig(&cv, &lock, 1) == EWOULDBLOCK);
@@ -270,13 +272,14 @@ static void fire(void *arg)
 static void test_callouts(void)
 {
 	callout_init(&callout, CALLOUT_MPSAFE);
-	callout_reset(&callout, 1, fire, &fired);
+	callout_reset(&callout, 100000, fire, &fired);
 	EXPECT(callout_pending(&callout) && callout_active(&callout));
+	callout_reset(&callout, 1, fire, &fired);
 	while (atomic_load(&fired) == 0)
 		sleep_for(100);
 	EXPECT(callout_expired(&callout) && !callout_pending(&callout) && !callout_invoking(&callout));
 	EXPECT(callout_stop(&callout) && !callout_expired(&callout));
-	callout_schedule(&callout, 1000);
+	callout_schedule(&callout, 100000);
 	EXPECT(!callout_stop(&callout) && !callout_pending(&callout));
 	/* It runs, and waits for the lock that the halt lets go of. */
 	mutex_enter(&lock);
@@ -294,6 +297,28 @@ static void exit_at_once(void *arg)
 	EXPECT((curlwp->l_pflag & LP_BOUND) != 0);
 	atomic_fetch_add((atomic_uint *)arg, 1);
 	kthread_exit(0);
+}
+
+static void end_as(void *arg)
+{
+	atomic_fetch_add((atomic_uint *)arg, 1);
+}
+
+/* Of threads that ended long ago each is joined once, by its own name. */
+static void test_joins(void)
+{
+	atomic_uint ran[4] = {0};
+	lwp_t *workers[4];
+	for (unsigned i = 0; i < 4; i++) {
+		EXPECT(kthread_create(PRI_NONE, KTHREAD_MUSTJOIN, NULL, end_as, &ran[i], &workers[i], "worker%u", i) == 0);
+		while (atomic_load(&ran[i]) == 0)
+			sleep_for(100);
+		sleep_for(1000);
+		for (unsigned other = 0; other < i; other++)
+			EXPECT(workers[other] != workers[i]);
+	}
+	for (unsigned i = 0; i < 4; i++)
+		EXPECT(kthread_join(workers[i]) == 0);
 }
 
 static void test_threads(void)
@@ -410,6 +435,7 @@ int main(void)
 	test_depth();
 	test_callouts();
 	test_threads();
+	test_joins();
 	test_lists();
 	test_atomics();
 	test_copies();

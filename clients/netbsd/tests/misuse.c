@@ -687,8 +687,8 @@ static const struct stop_case cases[] = {
     {drain_inside, "localcount_drain: inside a read section, entered at PLACE, at PLACE"},
     {drain_without_lock, "localcount_drain: the thread does not have the interlock, at PLACE"},
     {drain_with_anothers_lock, "localcount_drain: the thread does not have the interlock, at PLACE"},
-    {drain_by_other_lock, "localcount_drain: the interlock is another than before, at PLACE"},
-    {drain_by_other_cv, "localcount_drain: the condition variable is another than before, at PLACE"},
+    {drain_by_other_lock, "localcount_drain: the interlock differs from the one before, at PLACE"},
+    {drain_by_other_cv, "localcount_drain: the condition variable differs from the one before, at PLACE"},
     {fini_undrained, "localcount_fini: the count is not drained, at PLACE"},
     {fini_while_drained, "localcount_fini: the count is not drained, at PLACE"},
     {fini_twice, "localcount_fini: the count is not drained, at PLACE"},
@@ -697,8 +697,8 @@ static const struct stop_case cases[] = {
     {release_uncounted, "localcount_release: no reference to the count is held, at PLACE"},
     {release_drained, "localcount_release: the count is not live, at PLACE"},
     {release_locked, "localcount_release: the thread has the interlock, at PLACE"},
-    {release_by_other_lock, "localcount_release: the interlock is another than before, at PLACE"},
-    {release_by_other_cv, "localcount_release: the condition variable is another than before, at PLACE"},
+    {release_by_other_lock, "localcount_release: the interlock differs from the one before, at PLACE"},
+    {release_by_other_cv, "localcount_release: the condition variable differs from the one before, at PLACE"},
     {init_count_twice, "localcount_init: it is live already, at PLACE"},
 };
 

@@ -1,7 +1,8 @@
 /*
  * tells - a wait that lasts says for whom, once, by one line: over a layer whose patience is short
  *
- * Each case runs in a child, which ends well. The last line counts the cases.
+ * Each case runs in a child, which ends well. What is waited for ends once the line was written: the linker leads write here (--wrap). The last line counts
+ * the cases.
  */
 #include <sys/condvar.h>
 #include <sys/intr.h>
@@ -21,7 +22,17 @@ static pserialize_t psz;
 static kmutex_t lock, countlock;
 static kcondvar_t cv;
 static krwlock_t rw;
-static atomic_bool ready;
+static atomic_bool ready, told;
+
+ssize_t __real_write(int file, const void *bytes, size_t length);
+ssize_t __wrap_write(int file, const void *bytes, size_t length);
+
+ssize_t __wrap_write(int file, const void *bytes, size_t length)
+{
+	ssize_t written = __real_write(file, bytes, length);
+	atomic_store(&told, true);
+	return written;
+}
 
 static void begin(void)
 {
@@ -53,11 +64,12 @@ static void name_it(void *of)
 	kupaldiz_bind(3);
 }
 
-/* It has it now, and keeps it for longer than the patience, of which the layer has 150 milliseconds. */
+/* It has it now, and keeps it until the line was written. */
 static void keep(void)
 {
 	atomic_store(&ready, true);
-	sleep_for(400000);
+	for (unsigned turn = 0; turn < 10000 && !atomic_load(&told); turn++)
+		sleep_for(1000);
 }
 
 static void *read_long(void *of)

@@ -1,0 +1,92 @@
+/*
+ * reopened - a registry whose changes are used up is opened anew once it is empty, and no earlier than the last call on it has returned
+ *
+ * Over a layer whose registries have four rows and forty changes. A release of the last reference loses its processor just before it returns. The linker leads
+ * registry_release and registry_close_cpu here (--wrap).
+ */
+#include <sys/pserialize.h>
+#include <sys/psref.h>
+
+#include "registry.h"
+#include "test.h"
+
+uint32_t __real_registry_release(struct registry_cpu *cpu, uint64_t number);
+uint32_t __wrap_registry_release(struct registry_cpu *cpu, uint64_t number);
+uint32_t __real_registry_close_cpu(struct registry_cpu *cpu);
+uint32_t __wrap_registry_close_cpu(struct registry_cpu *cpu);
+
+enum { ROUNDS = 10, FIRST_ROWS = 4, PAIRS = 30 };
+
+static struct psref_class *things;
+static struct psref_target first[FIRST_ROWS], last, passing;
+static atomic_bool held, destroying, returning;
+static atomic_uint closed;
+static _Thread_local bool is_slow;
+
+uint32_t __wrap_registry_release(struct registry_cpu *cpu, uint64_t number)
+{
+	if (is_slow)
+		atomic_store(&returning, true);
+	uint32_t answer = __real_registry_release(cpu, number);
+	if (is_slow)
+		sleep_for(20000);
+	atomic_store(&returning, false);
+	return answer;
+}
+
+uint32_t __wrap_registry_close_cpu(struct registry_cpu *cpu)
+{
+	EXPECT(!atomic_load(&returning));
+	atomic_fetch_add(&closed, 1);
+	return __real_registry_close_cpu(cpu);
+}
+
+static void *hold(void *arg)
+{
+	struct psref psref;
+	kupaldiz_bind(3);
+	psref_acquire(&psref, &last, things);
+	atomic_store(&held, true);
+	while (!atomic_load(&destroying))
+		sleep_for(50);
+	sleep_for(2000);
+	is_slow = true;
+	psref_release(&psref, &last, things);
+	is_slow = false;
+	return arg;
+}
+
+/* The last target of a registry that is used up ends while its last release returns. */
+static void end_last(void)
+{
+	pthread_t holder;
+	psref_target_init(&last, things);
+	for (unsigned pair = 0; pair < PAIRS; pair++) {
+		psref_target_init(&passing, things);
+		psref_target_destroy(&passing, things);
+	}
+	atomic_store(&held, false);
+	atomic_store(&destroying, false);
+	start_thread(&holder, hold, NULL);
+	while (!atomic_load(&held))
+		sleep_for(50);
+	atomic_store(&destroying, true);
+	psref_target_destroy(&last, things);
+	end_thread(holder);
+}
+
+int main(void)
+{
+	things = psref_class_create("thing", IPL_NONE);
+	/* The first registry has the sections of all CPUs, and stays. */
+	for (unsigned i = 0; i < FIRST_ROWS; i++)
+		psref_target_init(&first[i], things);
+	for (unsigned round = 0; round < ROUNDS; round++)
+		end_last();
+	for (unsigned i = 0; i < FIRST_ROWS; i++)
+		psref_target_destroy(&first[i], things);
+	EXPECT(atomic_load(&closed) >= ROUNDS);
+	psref_class_destroy(things);
+	printf("%u handles were closed, none while a call used it\n", atomic_load(&closed));
+	return 0;
+}
