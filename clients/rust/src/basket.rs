@@ -5,9 +5,9 @@
 //! bounded number, and an acquire takes more than it adds: so no basket has ever more in it than references were held at once.
 
 use crate::ffi;
-use crate::shared::locked;
-use std::sync::atomic::{AtomicU32, AtomicUsize, Ordering};
-use std::sync::{Mutex, MutexGuard};
+use crate::lock::{locked, Mutex};
+use alloc::vec::Vec;
+use core::sync::atomic::{AtomicU32, AtomicUsize, Ordering};
 
 /// How many references an acquire of a local reference releases before, of those that its CPU acquired.
 pub const BY_ACQUIRE: usize = 2;
@@ -103,7 +103,7 @@ impl Basket {
 
 impl Baskets {
     /// Does something with the basket of a CPU, and notes then how many lie in it.
-    fn with<R>(&self, cpu: u8, change: impl FnOnce(&mut MutexGuard<'_, Dropped>) -> R) -> R {
+    fn with<R>(&self, cpu: u8, change: impl FnOnce(&mut Dropped) -> R) -> R {
         let basket = &self.of_cpu[usize::from(cpu)];
         let mut dropped = locked(&basket.dropped);
         let done = change(&mut dropped);

@@ -7,10 +7,10 @@ use crate::registry::Registry;
 use crate::section::Section;
 use crate::shared::{Lease, Shared};
 use crate::values::{Entry, Holder};
-use std::cell::{Cell, UnsafeCell};
-use std::fmt;
-use std::mem;
-use std::sync::Arc;
+use alloc::sync::Arc;
+use core::cell::{Cell, UnsafeCell};
+use core::fmt;
+use core::mem;
 
 /// One of the registry's CPUs, for the thread that has it. It owns a share of its registry: it may be stored, and go to another thread; one
 /// thread at a time uses it. Sections and passive references borrow it, so it can't go while one is there.

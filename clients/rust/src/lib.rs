@@ -90,11 +90,21 @@
 //! what the calls ask of their caller, or a test at run time refuses it by name ([`Refusal::OtherRegistry`]). Its uses of `unsafe` are the
 //! calls themselves, and the way from the word that an entry carries to the `T`; each says which sentence of registry.h makes it sound.
 
+//!
+//! # Without the standard library
+//!
+//! The feature `std`, which is on unless `default-features` is false, is for [`CpuPool`], for a [`Patience`] with a deadline or without an end, and for
+//! the trait `Error`. What is left without it is all else, over `core` and `alloc`; [`Patience::Turns`] spins between two turns, and so do the
+//! registry's locks. The archive needs glibc in either case.
+
 #![warn(missing_docs)]
+#![cfg_attr(not(feature = "std"), no_std)]
 #![deny(unsafe_op_in_unsafe_fn)]
 
 #[cfg(not(all(target_os = "linux", target_arch = "x86_64", target_env = "gnu")))]
 compile_error!("the archive libregistry.a is built for Linux on x86-64 with glibc alone");
+
+extern crate alloc;
 
 mod basket;
 mod carried;
@@ -102,10 +112,12 @@ mod cpu;
 mod entries;
 mod ffi;
 mod local;
+mod lock;
 mod mapped;
 mod name;
 mod passive;
 mod patience;
+#[cfg(feature = "std")]
 mod pool;
 mod refusal;
 mod registry;
@@ -123,6 +135,7 @@ pub use mapped::Mapped;
 pub use name::{Name, NameFault};
 pub use passive::{PassiveRc, PassiveRef};
 pub use patience::Patience;
+#[cfg(feature = "std")]
 pub use pool::{CpuPool, Lent};
 pub use refusal::{Refusal, Refused};
 pub use registry::Registry;

@@ -8,10 +8,10 @@ use crate::refusal::{Refusal, Refused};
 use crate::shared::{Lease, Shared};
 use crate::usual::ReadGuard;
 use crate::values::Entry;
-use std::fmt;
-use std::mem;
-use std::ops::Deref;
-use std::sync::Arc;
+use alloc::sync::Arc;
+use core::fmt;
+use core::mem;
+use core::ops::Deref;
 
 /// A local reference, of localcount(9): its entry keeps its slot, and what it carries, until it is released on any CPU of the registry. It
 /// derefs to what the entry carries. It owns a share of its registry: it may be stored, shared and sent to other threads.

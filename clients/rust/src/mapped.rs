@@ -1,7 +1,7 @@
 //! Guards of a part of what an entry carries.
 
-use std::fmt;
-use std::ops::Deref;
+use core::fmt;
+use core::ops::Deref;
 
 /// A reference or a guard together with a part of what its entry carries, to which it derefs: what `map` of [`ReadGuard`](crate::ReadGuard),
 /// [`PassiveRef`](crate::PassiveRef), [`PassiveRc`](crate::PassiveRc), [`LocalRef`](crate::LocalRef) and [`LocalGuard`](crate::LocalGuard)

@@ -6,11 +6,11 @@ use crate::ffi;
 use crate::mapped::Mapped;
 use crate::refusal::{checked, Refusal, Refused};
 use crate::values::Entry;
-use std::fmt;
-use std::mem;
-use std::ops::Deref;
-use std::ptr;
-use std::rc::Rc;
+use alloc::rc::Rc;
+use core::fmt;
+use core::mem;
+use core::ops::Deref;
+use core::ptr;
 
 /// A passive reference, of psref(9): its entry keeps its slot, and what it carries, until the reference is dropped. It outlives the section,
 /// and its holder may sleep; but it borrows its CPU, so neither can leave the thread. It derefs to what the entry carries.

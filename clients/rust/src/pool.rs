@@ -1,8 +1,8 @@
 //! CPUs that are lent, for programs with more threads than CPUs.
 
 use crate::cpu::Cpu;
+use crate::lock::locked;
 use crate::refusal::Refusal;
-use crate::shared::locked;
 use std::fmt;
 use std::ops::Deref;
 use std::sync::{Condvar, Mutex, MutexGuard, PoisonError};

@@ -2,8 +2,10 @@
 
 use crate::ffi;
 use crate::values::Holder;
+use alloc::string::String;
+use core::fmt;
+#[cfg(feature = "std")]
 use std::error::Error;
-use std::fmt;
 
 /// Why a call was refused. A call that is refused has changed nothing, unless it says so; each names what it refuses, in the order in which
 /// it tests it. What each asks of its caller stands in `docs/DRIVERS.md` of the repository, and in registry(3).
@@ -131,6 +133,7 @@ impl fmt::Display for Refusal {
     }
 }
 
+#[cfg(feature = "std")]
 impl Error for Refusal {}
 
 /// Why a call was refused to which something was given away, and what was given, which comes back as it was.
@@ -183,6 +186,7 @@ impl<G> fmt::Display for Refused<G> {
     }
 }
 
+#[cfg(feature = "std")]
 impl<G> Error for Refused<G> {
     fn source(&self) -> Option<&(dyn Error + 'static)> {
         Some(&self.refusal)

@@ -12,9 +12,10 @@ use crate::settings::Settings;
 use crate::shared::{Shared, NO_CPUS};
 use crate::values::{Balance, Entry, Freed, Kind};
 use crate::Name;
-use std::fmt;
-use std::hash::{Hash, Hasher};
-use std::sync::Arc;
+use alloc::sync::Arc;
+use alloc::vec::Vec;
+use core::fmt;
+use core::hash::{Hash, Hasher};
 
 /// An open registry, each entry of which carries a `T` of the caller's. A clone is one more handle of the same registry; threads share them,
 /// and a `static` may have one.

@@ -7,8 +7,8 @@ use crate::refusal::{Refusal, Refused};
 use crate::registry::Registry;
 use crate::shared::{Shared, Turned};
 use crate::values::{Entry, Freed};
-use std::fmt;
-use std::sync::Arc;
+use alloc::sync::Arc;
+use core::fmt;
 
 /// An entry that was detached: what [`Registry::detach`] answers. Lookups don't find it any more; it has its slot, and what it carries, until
 /// nothing holds it and it is freed: by [`destroy`](Retired::destroy), which waits, or [`advance`](Retired::advance), which doesn't. Whoever wants

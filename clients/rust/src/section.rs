@@ -9,9 +9,9 @@ use crate::passive::PassiveRef;
 use crate::refusal::{checked, Refusal};
 use crate::values::{Entry, Kind};
 use crate::Name;
-use std::fmt;
-use std::marker::PhantomData;
-use std::ops::Deref;
+use core::fmt;
+use core::marker::PhantomData;
+use core::ops::Deref;
 
 /// An open section, or one nesting of it: what is found in it keeps its slot, and what it carries, while it is open. Dropping it exits.
 ///

@@ -5,12 +5,14 @@
 use crate::basket::{Baskets, BY_RELEASE, BY_TURN};
 use crate::carried::Carried;
 use crate::ffi;
+use crate::lock::{locked, locked_mut, try_locked, Mutex, MutexGuard};
 use crate::refusal::{checked, Refusal};
 use crate::settings::Settings;
 use crate::values::{Entry, Freed, Holder, Met};
-use std::mem;
-use std::sync::atomic::{AtomicUsize, Ordering};
-use std::sync::{Arc, Mutex, MutexGuard, PoisonError};
+use alloc::sync::Arc;
+use alloc::vec::Vec;
+use core::mem;
+use core::sync::atomic::{AtomicUsize, Ordering};
 
 /// A place for each CPU, all of them empty.
 pub const NO_CPUS: [ffi::Cpu; ffi::MOST_CPUS] = [ffi::Cpu::EMPTY; ffi::MOST_CPUS];
@@ -51,11 +53,6 @@ pub enum Turned<T> {
     Held(Holder),
     /// Nothing: its slot is vacant from now on.
     Freed(Freed<T>),
-}
-
-/// A lock's value. Nothing panics under our locks, and if it did, what they guard would be whole.
-pub fn locked<T>(mutex: &Mutex<T>) -> MutexGuard<'_, T> {
-    mutex.lock().unwrap_or_else(PoisonError::into_inner)
 }
 
 impl<T> Kept<T> {
@@ -214,7 +211,7 @@ impl<T> Shared<T> {
         if !self.baskets.is_heavy(cpu) {
             return;
         }
-        if let Ok(mut spare) = self.spare.try_lock() {
+        if let Some(mut spare) = try_locked(&self.spare) {
             if let Some(handle) = spare.iter_mut().find(|handle| !handle.is_empty()) {
                 // SAFETY: nobody has this CPU, and nobody gets it before the lock is let go. This thread holds no interlock: no handle is
                 // dropped under it.
@@ -324,7 +321,7 @@ impl<T> Drop for Shared<T> {
             // SAFETY: nobody else has this CPU, and nobody holds the interlock.
             unsafe { self.release_dropped(cpu, 0, self.baskets.total()) };
         }
-        let kept = self.kept.get_mut().unwrap_or_else(PoisonError::into_inner);
+        let kept = locked_mut(&mut self.kept);
         let rows = mem::take(&mut kept.rows);
         let left: Vec<Carried<T>> = rows
             .into_iter()

@@ -10,9 +10,9 @@ use crate::refusal::{refusal_of, Refusal};
 use crate::section::{Found, Section};
 use crate::values::{Entry, Kind};
 use crate::Name;
-use std::fmt;
-use std::ops::Deref;
-use std::rc::Rc;
+use alloc::rc::Rc;
+use core::fmt;
+use core::ops::Deref;
 
 impl<T> Cpu<T> {
     /// A passive reference to the live entry with this kind and name, by one call: what [`enter`](Cpu::enter),

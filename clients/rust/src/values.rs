@@ -2,7 +2,8 @@
 
 use crate::ffi;
 use crate::name::Name;
-use std::fmt;
+use alloc::vec::Vec;
+use core::fmt;
 
 /// What an entry is.
 ///

@@ -1,4 +1,5 @@
 //! Local references that were dropped without a CPU: which call releases how many, and that they are in nobody's way.
+#![cfg(feature = "std")]
 
 mod common;
 

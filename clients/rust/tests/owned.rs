@@ -1,4 +1,5 @@
 //! References that own a share of their CPU, parts of what an entry carries, and methods of `T` that are called as the crate's functions are.
+#![cfg(feature = "std")]
 
 mod common;
 
