@@ -25,11 +25,10 @@ pub const BY_TURN: usize = 256;
 const HEAVY: usize = 64;
 
 /// What lies in the basket of a CPU, by the slots of the entries. While a reference lies there its entry keeps its slot.
-#[derive(Default)]
 struct Dropped {
     of_slot: [Vec<ffi::Local>; ffi::MOST_SLOTS],
     /// A bit for each slot of which something lies there.
-    filled: u32,
+    filled: u64,
     count: usize,
 }
 
@@ -55,6 +54,19 @@ struct Heavy {
 pub struct Baskets {
     of_cpu: [Basket; ffi::MOST_CPUS],
     heavy: Heavy,
+}
+
+/// There is a bit for each slot, and for each CPU.
+const _: () = assert!(ffi::MOST_SLOTS <= 64 && ffi::MOST_CPUS <= 32);
+
+impl Default for Dropped {
+    fn default() -> Dropped {
+        Dropped {
+            of_slot: [(); ffi::MOST_SLOTS].map(|()| Vec::new()),
+            filled: 0,
+            count: 0,
+        }
+    }
 }
 
 impl Dropped {

@@ -57,8 +57,8 @@ impl<T> Cpu<T> {
             lease: Arc::new(Lease { shared, id }),
             given_back: Cell::new(None),
             id,
-            bound: Default::default(),
-            unbound: Default::default(),
+            bound: [(); ffi::MOST_SLOTS].map(|()| Cell::new(0)),
+            unbound: [(); ffi::MOST_SLOTS].map(|()| Cell::new(0)),
         }
     }
 
