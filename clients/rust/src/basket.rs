@@ -1,8 +1,8 @@
 //! Local references that were dropped where no CPU was at hand.
 //!
-//! A CPU alone can release a reference to a live entry, and a drop has none. So what is dropped lies in the basket of the CPU that acquired it,
-//! by the slot of its entry, until a call with a CPU releases it there, or a turn of the work on the entry gives it up. Each such call takes a
-//! bounded number, and an acquire takes more than it adds: so no basket has ever more in it than references were held at once.
+//! A CPU alone can release a reference to a live entry, and a drop has none. So what is dropped lies in the basket of the CPU that acquired it, by
+//! the slot of its entry. A call with a CPU releases it there, or a turn of the work on the entry gives it up. Each such call takes a bounded
+//! number, and an acquire takes more than it adds: so no basket has ever more in it than references were held at once.
 
 use crate::ffi;
 use crate::lock::{locked, Mutex};
@@ -27,7 +27,7 @@ const HEAVY: usize = 64;
 /// What lies in the basket of a CPU, by the slots of the entries. While a reference lies there its entry keeps its slot.
 struct Dropped {
     of_slot: [Vec<ffi::Local>; ffi::MOST_SLOTS],
-    /// A bit for each slot of which something lies there.
+    /// A bit for each slot that has something there.
     filled: u64,
     count: usize,
 }

@@ -68,7 +68,7 @@ impl<T> Cpu<T> {
         self.handle.get()
     }
 
-    /// The handle, taken out for a call that wants several in a row. `put_back` follows before anything else of this CPU.
+    /// The handle, taken out for a call that needs several in a row. `put_back` follows before anything else of this CPU.
     pub(crate) fn take_out(&self) -> ffi::Cpu {
         // SAFETY: this thread alone has the CPU, and no reference into the cell outlives this line.
         unsafe { mem::replace(&mut *self.handle.get(), ffi::Cpu::EMPTY) }
@@ -163,7 +163,7 @@ impl<T> Cpu<T> {
         Ok(Section::new(self))
     }
 
-    /// Exits whatever is still open: sections whose guards were forgotten, since a guard that lives borrows the CPU.
+    /// Exits all that is still open: sections whose guards were forgotten, since a guard that lives borrows the CPU.
     ///
     /// ```
     /// use registry::{Registry, Settings};
@@ -190,7 +190,7 @@ impl<T> Cpu<T> {
 
 /// Local references that were dropped without a CPU.
 impl<T> Cpu<T> {
-    /// Releases all local references that were dropped without a CPU before the call, on whatever thread, and waits for the interlock where a drain has
+    /// Releases all local references that were dropped without a CPU before the call, on any thread, and waits for the interlock where a drain has
     /// collected this CPU's count. No program needs it: [other calls](crate::LocalRef#dropped-without-a-cpu) release some each.
     pub fn release_dropped(&self) {
         self.release_some(self.shared().baskets().total());

@@ -47,8 +47,8 @@ use core::ops::Deref;
 /// | a CPU that is dropped | 64, of its own basket |
 /// | a turn of the work on a retired entry that nothing but local references holds | 256, of those to this entry |
 ///
-/// So a basket never has more in it than references of its CPU were held at once, and a CPU's net count reaches `LocalFull` by such as are held
-/// alone, or were released elsewhere. [`Registry::dropped`](crate::Registry::dropped) says how many there are. One that is forgotten stays held,
+/// So a basket never has more in it than references of its CPU were held at once. A CPU's net count reaches `LocalFull` by references that are held,
+/// or were released elsewhere, and by no other. [`Registry::dropped`](crate::Registry::dropped) says how many there are. One that is forgotten stays held,
 /// and keeps its registry open.
 #[must_use = "a reference that is dropped at once holds nothing"]
 pub struct LocalRef<T> {
@@ -103,7 +103,7 @@ impl<T> LocalRef<T> {
         let slot = reference.record.slot();
         let local = mem::replace(&mut reference.handle, ffi::Local::EMPTY);
         let lease = reference.lease.take();
-        // Nothing is left in it to drop. A drop would want its address, and so its fields in memory.
+        // Nothing is left in it to drop. A drop would need its address, and so its fields in memory.
         mem::forget(reference);
         release_on(cpu, slot, local, lease);
         Ok(())

@@ -8,7 +8,7 @@ use core::fmt;
 use std::error::Error;
 
 /// Why a call was refused. A call that is refused has changed nothing, unless it says so; each names what it refuses, in the order in which
-/// it tests it. What each asks of its caller stands in `docs/DRIVERS.md` of the repository, and in registry(3).
+/// it tests it. What each asks of its caller is in `docs/DRIVERS.md` of the repository, and in registry(3).
 ///
 /// ```
 /// use registry::{Refusal, Registry, Settings};
@@ -82,7 +82,7 @@ impl Refusal {
     }
 }
 
-/// An answer as a result.
+/// What a call of C returned, as a result.
 #[inline]
 pub(crate) fn checked(answer: u32) -> Result<(), Refusal> {
     if answer == ffi::DONE {
@@ -136,10 +136,10 @@ impl fmt::Display for Refusal {
 #[cfg(feature = "std")]
 impl Error for Refusal {}
 
-/// Why a call was refused to which something was given away, and what was given, which comes back as it was.
+/// Why a call was refused that takes something, and what it was given: that comes back as it was.
 ///
-/// In a function that answers a [`Refusal`], `?` makes it one, and drops what was given. In one that answers a boxed error, or the like, that
-/// has to be `Send` and `'static`, [`Refused::into_refusal`] does before.
+/// In a function that returns a [`Refusal`], `?` makes it one, and drops what was given. Where the error has to be `Send` and `'static`, as a boxed
+/// one, [`Refused::into_refusal`] makes it one before.
 ///
 /// ```
 /// use registry::{Cpu, Name, Refusal, Refused, Registry, Settings};

@@ -87,7 +87,7 @@ impl<'cpu, T> Section<'cpu, T> {
     pub fn exit(self) {}
 }
 
-/// Looks a live entry up on the CPU, which is inside a section for as long as the answer lives. The answer is its last found entry.
+/// Looks a live entry up on the CPU, which is inside a section for as long as what is found lives. That is the CPU's last found entry then.
 #[inline]
 fn look_up<'section, 'cpu, T>(cpu: &'cpu Cpu<T>, kind: u64, name: &ffi::Name) -> Option<Found<'section, 'cpu, T>> {
     // SAFETY: this thread alone has the CPU, whose handle isn't empty.

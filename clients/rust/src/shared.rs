@@ -86,7 +86,7 @@ impl<T> Kept<T> {
     ///
     /// # Safety
     ///
-    /// The turn just made has answered that it freed the entry with this number.
+    /// The turn just made has freed the entry with this number.
     unsafe fn take(&mut self, number: u64) -> Freed<T> {
         let place = self.rows.iter().position(|row| row.0.number == number);
         let (entry, carried) = self.rows.swap_remove(place.expect("a row of each entry that isn't freed"));
@@ -100,7 +100,7 @@ impl<T> Kept<T> {
 }
 
 impl<T> Shared<T> {
-    /// A new registry, all CPUs of which nobody has. Refused: `BadSettings`, `NoMemory`.
+    /// A new registry. Nobody has any of its CPUs. Refused: `BadSettings`, `NoMemory`.
     pub fn open(settings: Settings) -> Result<Shared<T>, Refusal> {
         let mut keeper = ffi::Keeper::EMPTY;
         let mut cpus = NO_CPUS;
@@ -238,7 +238,7 @@ impl<T> Shared<T> {
         }
     }
 
-    /// Releases on a CPU some of what lies in the basket of the CPU with this number, and answers how many.
+    /// Releases on a CPU some of what lies in the basket of the CPU with this number, and returns how many.
     ///
     /// # Safety
     ///
@@ -345,7 +345,7 @@ impl<T> Drop for Shared<T> {
 /// Whether a CPU that nobody has holds a passive reference to the entry with that number.
 fn holds(cpu: &mut ffi::Cpu, number: u64) -> bool {
     let mut held = false;
-    // SAFETY: the caller alone has the CPU. Of an empty handle the call answers so, and writes nothing.
+    // SAFETY: the caller alone has the CPU. Of an empty handle the call says so, and writes nothing.
     unsafe { ffi::registry_held(cpu, number, &mut held) };
     held
 }
