@@ -115,6 +115,7 @@ impl Basket {
 
 impl Baskets {
     /// Does something with the basket of a CPU, and notes then how many lie in it.
+    #[inline]
     fn with<R>(&self, cpu: u8, change: impl FnOnce(&mut Dropped) -> R) -> R {
         let basket = &self.of_cpu[usize::from(cpu)];
         let mut dropped = locked(&basket.dropped);

@@ -215,6 +215,12 @@ impl<T> Drop for LocalRef<T> {
     }
 }
 
+impl<T: fmt::Display> fmt::Display for LocalRef<T> {
+    fn fmt(&self, f: &mut fmt::Formatter<'_>) -> fmt::Result {
+        (**self).fmt(f)
+    }
+}
+
 impl<T: fmt::Debug> fmt::Debug for LocalRef<T> {
     fn fmt(&self, f: &mut fmt::Formatter<'_>) -> fmt::Result {
         f.debug_struct("LocalRef")
@@ -288,6 +294,12 @@ impl<T> Drop for LocalGuard<'_, T> {
             self.cpu.unbind(self.record.slot());
             release_on(self.cpu, self.record.slot(), handle, self.lease.take());
         }
+    }
+}
+
+impl<T: fmt::Display> fmt::Display for LocalGuard<'_, T> {
+    fn fmt(&self, f: &mut fmt::Formatter<'_>) -> fmt::Result {
+        (**self).fmt(f)
     }
 }
 

@@ -129,6 +129,12 @@ impl<T> Drop for PassiveRef<'_, T> {
     }
 }
 
+impl<T: fmt::Display> fmt::Display for PassiveRef<'_, T> {
+    fn fmt(&self, f: &mut fmt::Formatter<'_>) -> fmt::Result {
+        (**self).fmt(f)
+    }
+}
+
 impl<T: fmt::Debug> fmt::Debug for PassiveRef<'_, T> {
     fn fmt(&self, f: &mut fmt::Formatter<'_>) -> fmt::Result {
         f.debug_struct("PassiveRef")
@@ -210,6 +216,12 @@ impl<T> Drop for PassiveRc<T> {
     #[inline]
     fn drop(&mut self) {
         release(&self.cpu, &self.record);
+    }
+}
+
+impl<T: fmt::Display> fmt::Display for PassiveRc<T> {
+    fn fmt(&self, f: &mut fmt::Formatter<'_>) -> fmt::Result {
+        (**self).fmt(f)
     }
 }
 
