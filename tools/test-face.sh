@@ -121,14 +121,14 @@ guarded_rust() {
 
 # The programs of the crate's tests, as cargo names them where it isn't told to be quiet; but for those that run the compiler or themselves, or look at types.
 rust_tests() {
-    (cd clients/rust && CARGO_TERM_QUIET=false cargo test --offline --no-run --tests 2>&1) | grep -oE '/[^ ()]*/(basket|carried|entries|face|memory|model|owned|pool|retired|sections|threads|together|two|usual)-[0-9a-f]+'
+    (cd clients/rust && CARGO_TERM_QUIET=false cargo test --offline --no-run --tests 2>&1) | grep -oE '/[^ ()]*/(basket|carried|edges|entries|face|memory|model|owned|pool|retired|sections|threads|together|two|usual)-[0-9a-f]+'
 }
 
 # Each of them under valgrind, but for what forgets on purpose; the stress with fewer changes.
 guarded_tests() {
     local program programs
     programs=$(rust_tests)
-    [ "$(wc -w <<<"$programs")" -eq 14 ] || return 1
+    [ "$(wc -w <<<"$programs")" -eq 15 ] || return 1
     for program in $programs; do
         REGISTRY_CHANGES=60 guarded_rust "$program" --test-threads=1 --skip forgotten --skip had_again --skip static || return 1
     done
@@ -260,10 +260,12 @@ test_rust() {
     check "Rust: no warning" env RUSTFLAGS="-D warnings" cargo check --offline --all-targets
     if cargo clippy --version >/dev/null 2>&1; then
         check "Rust: clippy says nothing" cargo clippy --offline --all-targets -- -D warnings
+        check "Rust: clippy says nothing without the standard library" cargo clippy --offline --no-default-features --lib -- -D warnings
     fi
     check "Rust: the documents, no warning" env RUSTDOCFLAGS="-D warnings" cargo doc --offline --no-deps
     check "Rust: a package of it is verified" cargo package --allow-dirty --offline
     counted "Rust: tests" cargo test --offline --no-fail-fast --lib --tests
+    counted "Rust: a test without the standard library" cargo test --offline --no-default-features --test edges
     counted "Rust: the docs' examples" cargo test --offline --doc
     check "Rust: the examples are built" cargo build --offline --release --examples
     cd ../.. || return

@@ -3,7 +3,7 @@
 //! `lookup` reads what the entry found carries, a number in a block of its own; `plain` is the same lookup that leaves it alone, and reads the
 //! entry's number. `read` is `lookup` by a guard, which is two calls; `look_up` is `plain` by one call; `get` gets a reference by one call,
 //! reads what the entry carries, and releases it. `local` releases each local reference on the CPU, `guarded` drops it bound to the CPU, and
-//! `dropped` drops it unbound, and the next acquire releases it.
+//! `dropped` drops it unbound and has the CPU release it then.
 //! The operations are those of `bench/` of the repository, whose README says what one is. It prints a line as the programs there do.
 
 use registry::{Cpu, Found, Kind, LocalRef, Name, PassiveRef, Refusal, Registry, Settings};
@@ -99,6 +99,7 @@ fn drops(cpu: &Cpu<u64>, names: &[Name], count: u64) -> Result<u64, Refusal> {
     let found = section.find(Kind::Driver, &names[0]).ok_or(Refusal::NotFound)?;
     for _ in 0..count {
         drop(Found::acquire_local(&found)?);
+        cpu.release_dropped();
     }
     Ok(count)
 }

@@ -1,13 +1,13 @@
 //! Local references that were dropped where no CPU was at hand.
 //!
-//! A CPU alone can release a reference to a live entry, and a drop has none. So what is dropped lies in the basket of the CPU that acquired it,
-//! by the slot of its entry, until a call with a CPU releases it there, or a turn of the work on the entry gives it up. Each such call takes a
-//! bounded number, and an acquire takes more than it adds: so no basket has ever more in it than references were held at once.
+//! A CPU alone can release a reference to a live entry, and a drop has none. So what is dropped lies in the basket of the CPU that acquired it, by
+//! the slot of its entry. A call with a CPU releases it there, or a turn of the work on the entry gives it up. Each such call takes a bounded
+//! number, and an acquire takes more than it adds: so no basket has ever more in it than references were held at once.
 
 use crate::ffi;
-use crate::shared::locked;
-use std::sync::atomic::{AtomicU32, AtomicUsize, Ordering};
-use std::sync::{Mutex, MutexGuard};
+use crate::lock::{locked, Mutex};
+use alloc::vec::Vec;
+use core::sync::atomic::{AtomicU32, AtomicUsize, Ordering};
 
 /// How many references an acquire of a local reference releases before, of those that its CPU acquired.
 pub const BY_ACQUIRE: usize = 2;
@@ -25,11 +25,10 @@ pub const BY_TURN: usize = 256;
 const HEAVY: usize = 64;
 
 /// What lies in the basket of a CPU, by the slots of the entries. While a reference lies there its entry keeps its slot.
-#[derive(Default)]
 struct Dropped {
     of_slot: [Vec<ffi::Local>; ffi::MOST_SLOTS],
-    /// A bit for each slot of which something lies there.
-    filled: u32,
+    /// A bit for each slot that has something there.
+    filled: u64,
     count: usize,
 }
 
@@ -55,6 +54,19 @@ struct Heavy {
 pub struct Baskets {
     of_cpu: [Basket; ffi::MOST_CPUS],
     heavy: Heavy,
+}
+
+/// There is a bit for each slot, and for each CPU.
+const _: () = assert!(ffi::MOST_SLOTS <= 64 && ffi::MOST_CPUS <= 32);
+
+impl Default for Dropped {
+    fn default() -> Dropped {
+        Dropped {
+            of_slot: [(); ffi::MOST_SLOTS].map(|()| Vec::new()),
+            filled: 0,
+            count: 0,
+        }
+    }
 }
 
 impl Dropped {
@@ -103,7 +115,8 @@ impl Basket {
 
 impl Baskets {
     /// Does something with the basket of a CPU, and notes then how many lie in it.
-    fn with<R>(&self, cpu: u8, change: impl FnOnce(&mut MutexGuard<'_, Dropped>) -> R) -> R {
+    #[inline]
+    fn with<R>(&self, cpu: u8, change: impl FnOnce(&mut Dropped) -> R) -> R {
         let basket = &self.of_cpu[usize::from(cpu)];
         let mut dropped = locked(&basket.dropped);
         let done = change(&mut dropped);

@@ -3,8 +3,9 @@
 use crate::ffi;
 use crate::name::Name;
 use crate::values::{Entry, Kind};
-use std::fmt;
-use std::mem::MaybeUninit;
+use alloc::boxed::Box;
+use core::fmt;
+use core::mem::MaybeUninit;
 
 /// The address of a value that was attached. C keeps it in the entry; what is found and each reference has a copy.
 ///

@@ -1,16 +1,16 @@
 //! A CPU of a registry.
 
-use crate::basket::{BY_ACQUIRE, BY_CHANGE, BY_RELEASE};
+use crate::basket::{Baskets, BY_ACQUIRE, BY_CHANGE, BY_RELEASE};
 use crate::ffi;
 use crate::refusal::{checked, Refusal};
 use crate::registry::Registry;
 use crate::section::Section;
 use crate::shared::{Lease, Shared};
 use crate::values::{Entry, Holder};
-use std::cell::{Cell, UnsafeCell};
-use std::fmt;
-use std::mem;
-use std::sync::Arc;
+use alloc::sync::Arc;
+use core::cell::{Cell, UnsafeCell};
+use core::fmt;
+use core::mem;
 
 /// One of the registry's CPUs, for the thread that has it. It owns a share of its registry: it may be stored, and go to another thread; one
 /// thread at a time uses it. Sections and passive references borrow it, so it can't go while one is there.
@@ -57,8 +57,8 @@ impl<T> Cpu<T> {
             lease: Arc::new(Lease { shared, id }),
             given_back: Cell::new(None),
             id,
-            bound: Default::default(),
-            unbound: Default::default(),
+            bound: [(); ffi::MOST_SLOTS].map(|()| Cell::new(0)),
+            unbound: [(); ffi::MOST_SLOTS].map(|()| Cell::new(0)),
         }
     }
 
@@ -68,7 +68,7 @@ impl<T> Cpu<T> {
         self.handle.get()
     }
 
-    /// The handle, taken out for a call that wants several in a row. `put_back` follows before anything else of this CPU.
+    /// The handle, taken out for a call that needs several in a row. `put_back` follows before anything else of this CPU.
     pub(crate) fn take_out(&self) -> ffi::Cpu {
         // SAFETY: this thread alone has the CPU, and no reference into the cell outlives this line.
         unsafe { mem::replace(&mut *self.handle.get(), ffi::Cpu::EMPTY) }
@@ -163,7 +163,7 @@ impl<T> Cpu<T> {
         Ok(Section::new(self))
     }
 
-    /// Exits whatever is still open: sections whose guards were forgotten, since a guard that lives borrows the CPU.
+    /// Exits all that is still open: sections whose guards were forgotten, since a guard that lives borrows the CPU.
     ///
     /// ```
     /// use registry::{Registry, Settings};
@@ -190,10 +190,15 @@ impl<T> Cpu<T> {
 
 /// Local references that were dropped without a CPU.
 impl<T> Cpu<T> {
-    /// Releases all local references that were dropped without a CPU before the call, on whatever thread, and waits for the interlock where a drain has
+    /// Releases all local references that were dropped without a CPU before the call, on any thread, and waits for the interlock where a drain has
     /// collected this CPU's count. No program needs it: [other calls](crate::LocalRef#dropped-without-a-cpu) release some each.
     pub fn release_dropped(&self) {
-        self.release_some(self.shared().baskets().total());
+        for of in Baskets::cpus_from(self.id) {
+            let lying = self.shared().baskets().count(of);
+            if lying > 0 {
+                self.release_of(of, lying);
+            }
+        }
     }
 
     /// Releases some of those in all baskets, its own first.
@@ -226,7 +231,7 @@ impl<T> Cpu<T> {
         }
     }
 
-    #[cold]
+    #[inline(never)]
     fn release_of(&self, of: u8, most: usize) {
         // SAFETY: as for `release_some`.
         unsafe { self.shared().release_of(self.handle(), of, most) };

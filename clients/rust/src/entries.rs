@@ -4,9 +4,9 @@ use crate::carried::Record;
 use crate::cpu::Cpu;
 use crate::ffi;
 use crate::section::{Found, Section};
-use std::fmt;
-use std::iter::FusedIterator;
-use std::marker::PhantomData;
+use core::fmt;
+use core::iter::FusedIterator;
+use core::marker::PhantomData;
 
 /// The live entries, the newest first: what [`Section::entries`] met.
 #[must_use = "an iterator does nothing until it is asked"]

@@ -1,8 +1,8 @@
 //! The calls of registry.h that this crate makes, as C declares them. What the caller must keep is written there; the modules above say how
 //! they keep it.
 
-use std::os::raw::c_void;
-use std::ptr;
+use core::ffi::c_void;
+use core::ptr;
 
 /// Done.
 pub const DONE: u32 = 0;

@@ -1,4 +1,4 @@
-//! A registry of network interfaces and device drivers over virtual CPUs, each entry of which carries a value of the caller's.
+//! A registry of network interfaces and device drivers over virtual CPUs. Each entry carries a value of the caller's.
 //!
 //! # The problem
 //!
@@ -11,7 +11,7 @@
 //! A lookup writes one word of its own CPU as it begins and as it ends. Whoever removes an entry unlinks it, notes the word of each CPU, and
 //! looks again until each has changed or says that its CPU is outside: no lookup that began afterwards can have found the entry. References
 //! are counted on the CPU that acquires them, and the counts are looked at, or collected, after that. Only then is the entry freed: its slot
-//! is given again, and its `T` comes back.
+//! is reused, and its `T` comes back.
 //!
 //! # The notions
 //!
@@ -34,7 +34,7 @@
 //! | look up | [`Cpu::enter`], [`Section::find`], and drop the section |
 //! | go over all | [`Section::entries`] in a section |
 //! | hold longer | [`Found::acquire`] on this CPU, [`Found::acquire_local`] for any thread |
-//! | look up by one call | [`Cpu::read`] answers the entry with its section, [`Cpu::get`], [`Cpu::get_rc`] and [`Cpu::get_local`] a reference, [`Cpu::look_up`] the record alone |
+//! | look up by one call | [`Cpu::read`] returns the entry with its section, [`Cpu::get`], [`Cpu::get_rc`] and [`Cpu::get_local`] a reference, [`Cpu::look_up`] the record alone |
 //! | go on with a part | [`ReadGuard::map`], [`PassiveRef::map`], [`LocalRef::map`] |
 //! | change | [`Registry::attach`], [`Registry::attach_iface`], [`Registry::detach`] |
 //! | free | [`Retired::destroy`] waits, [`Retired::advance`] doesn't; after [`Registry::retire`] or [`Retired::defer`] later changes do it, or [`Registry::collect`] |
@@ -73,9 +73,8 @@
 //! # The order of memory
 //!
 //! Whoever finds an entry sees what was written before its attach; and what was done with its `T` comes before the `T` is given back. Each
-//! step on a word that CPUs share is a sequentially consistent atomic operation of the archive: the attach stores the link that the lookup
-//! loads, and a section's exit, a passive reference's release or a local one's writes the word that the turn which frees the entry has loaded
-//! or swapped.
+//! step on a word that CPUs share is a sequentially consistent atomic operation of the archive. The attach stores the link that the lookup
+//! loads. A section's exit, and the release of a reference, write the word that is loaded or swapped by the turn that frees the entry.
 //!
 //! # What is dropped, forgotten, or panics
 //!
@@ -90,11 +89,21 @@
 //! what the calls ask of their caller, or a test at run time refuses it by name ([`Refusal::OtherRegistry`]). Its uses of `unsafe` are the
 //! calls themselves, and the way from the word that an entry carries to the `T`; each says which sentence of registry.h makes it sound.
 
+//!
+//! # Without the standard library
+//!
+//! The feature `std`, which is on unless `default-features` is false, is for [`CpuPool`], for a [`Patience`] with a deadline or without an end, and for
+//! the trait `Error`. What is left without it is all else, over `core` and `alloc`; [`Patience::Turns`] spins between two turns, and so do the
+//! registry's locks. The archive needs glibc in either case.
+
 #![warn(missing_docs)]
+#![cfg_attr(not(feature = "std"), no_std)]
 #![deny(unsafe_op_in_unsafe_fn)]
 
 #[cfg(not(all(target_os = "linux", target_arch = "x86_64", target_env = "gnu")))]
 compile_error!("the archive libregistry.a is built for Linux on x86-64 with glibc alone");
+
+extern crate alloc;
 
 mod basket;
 mod carried;
@@ -102,10 +111,12 @@ mod cpu;
 mod entries;
 mod ffi;
 mod local;
+mod lock;
 mod mapped;
 mod name;
 mod passive;
 mod patience;
+#[cfg(feature = "std")]
 mod pool;
 mod refusal;
 mod registry;
@@ -123,6 +134,7 @@ pub use mapped::Mapped;
 pub use name::{Name, NameFault};
 pub use passive::{PassiveRc, PassiveRef};
 pub use patience::Patience;
+#[cfg(feature = "std")]
 pub use pool::{CpuPool, Lent};
 pub use refusal::{Refusal, Refused};
 pub use registry::Registry;

@@ -8,10 +8,10 @@ use crate::refusal::{Refusal, Refused};
 use crate::shared::{Lease, Shared};
 use crate::usual::ReadGuard;
 use crate::values::Entry;
-use std::fmt;
-use std::mem;
-use std::ops::Deref;
-use std::sync::Arc;
+use alloc::sync::Arc;
+use core::fmt;
+use core::mem;
+use core::ops::Deref;
 
 /// A local reference, of localcount(9): its entry keeps its slot, and what it carries, until it is released on any CPU of the registry. It
 /// derefs to what the entry carries. It owns a share of its registry: it may be stored, shared and sent to other threads.
@@ -47,8 +47,8 @@ use std::sync::Arc;
 /// | a CPU that is dropped | 64, of its own basket |
 /// | a turn of the work on a retired entry that nothing but local references holds | 256, of those to this entry |
 ///
-/// So a basket never has more in it than references of its CPU were held at once, and a CPU's net count reaches `LocalFull` by such as are held
-/// alone, or were released elsewhere. [`Registry::dropped`](crate::Registry::dropped) says how many there are. One that is forgotten stays held,
+/// So a basket never has more in it than references of its CPU were held at once. A CPU's net count reaches `LocalFull` by references that are held,
+/// or were released elsewhere, and by no other. [`Registry::dropped`](crate::Registry::dropped) says how many there are. One that is forgotten stays held,
 /// and keeps its registry open.
 #[must_use = "a reference that is dropped at once holds nothing"]
 pub struct LocalRef<T> {
@@ -103,7 +103,7 @@ impl<T> LocalRef<T> {
         let slot = reference.record.slot();
         let local = mem::replace(&mut reference.handle, ffi::Local::EMPTY);
         let lease = reference.lease.take();
-        // Nothing is left in it to drop. A drop would want its address, and so its fields in memory.
+        // Nothing is left in it to drop. A drop would need its address, and so its fields in memory.
         mem::forget(reference);
         release_on(cpu, slot, local, lease);
         Ok(())
@@ -215,6 +215,12 @@ impl<T> Drop for LocalRef<T> {
     }
 }
 
+impl<T: fmt::Display> fmt::Display for LocalRef<T> {
+    fn fmt(&self, f: &mut fmt::Formatter<'_>) -> fmt::Result {
+        (**self).fmt(f)
+    }
+}
+
 impl<T: fmt::Debug> fmt::Debug for LocalRef<T> {
     fn fmt(&self, f: &mut fmt::Formatter<'_>) -> fmt::Result {
         f.debug_struct("LocalRef")
@@ -288,6 +294,12 @@ impl<T> Drop for LocalGuard<'_, T> {
             self.cpu.unbind(self.record.slot());
             release_on(self.cpu, self.record.slot(), handle, self.lease.take());
         }
+    }
+}
+
+impl<T: fmt::Display> fmt::Display for LocalGuard<'_, T> {
+    fn fmt(&self, f: &mut fmt::Formatter<'_>) -> fmt::Result {
+        (**self).fmt(f)
     }
 }
 

@@ -1,11 +1,11 @@
 //! Guards of a part of what an entry carries.
 
-use std::fmt;
-use std::ops::Deref;
+use core::fmt;
+use core::ops::Deref;
 
-/// A reference or a guard together with a part of what its entry carries, to which it derefs: what `map` of [`ReadGuard`](crate::ReadGuard),
-/// [`PassiveRef`](crate::PassiveRef), [`PassiveRc`](crate::PassiveRc), [`LocalRef`](crate::LocalRef) and [`LocalGuard`](crate::LocalGuard)
-/// answers. Dropping it drops what it was made of.
+/// A reference or a guard of a part of what its entry carries: `map` of [`ReadGuard`](crate::ReadGuard), [`PassiveRef`](crate::PassiveRef),
+/// [`PassiveRc`](crate::PassiveRc), [`LocalRef`](crate::LocalRef) and [`LocalGuard`](crate::LocalGuard) returns it. It derefs to the part, and
+/// dropping it drops what it was made of.
 #[must_use = "what is dropped at once holds nothing"]
 pub struct Mapped<G, U: ?Sized> {
     part: *const U,

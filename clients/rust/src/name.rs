@@ -1,10 +1,11 @@
 //! Names of entries.
 
 use crate::ffi;
-use std::convert::TryFrom;
+use core::convert::TryFrom;
+use core::fmt;
+use core::str::{self, FromStr};
+#[cfg(feature = "std")]
 use std::error::Error;
-use std::fmt;
-use std::str::{self, FromStr};
 
 /// The name of an entry: a lower-case ASCII letter, and then lower-case letters and digits, 15 bytes at most. It is parsed once, and used in
 /// any number of lookups. Names are ordered as their texts are.
@@ -191,6 +192,7 @@ impl fmt::Display for NameFault {
     }
 }
 
+#[cfg(feature = "std")]
 impl Error for NameFault {}
 
 #[cfg(test)]

@@ -6,11 +6,11 @@ use crate::ffi;
 use crate::mapped::Mapped;
 use crate::refusal::{checked, Refusal, Refused};
 use crate::values::Entry;
-use std::fmt;
-use std::mem;
-use std::ops::Deref;
-use std::ptr;
-use std::rc::Rc;
+use alloc::rc::Rc;
+use core::fmt;
+use core::mem;
+use core::ops::Deref;
+use core::ptr;
 
 /// A passive reference, of psref(9): its entry keeps its slot, and what it carries, until the reference is dropped. It outlives the section,
 /// and its holder may sleep; but it borrows its CPU, so neither can leave the thread. It derefs to what the entry carries.
@@ -129,6 +129,12 @@ impl<T> Drop for PassiveRef<'_, T> {
     }
 }
 
+impl<T: fmt::Display> fmt::Display for PassiveRef<'_, T> {
+    fn fmt(&self, f: &mut fmt::Formatter<'_>) -> fmt::Result {
+        (**self).fmt(f)
+    }
+}
+
 impl<T: fmt::Debug> fmt::Debug for PassiveRef<'_, T> {
     fn fmt(&self, f: &mut fmt::Formatter<'_>) -> fmt::Result {
         f.debug_struct("PassiveRef")
@@ -210,6 +216,12 @@ impl<T> Drop for PassiveRc<T> {
     #[inline]
     fn drop(&mut self) {
         release(&self.cpu, &self.record);
+    }
+}
+
+impl<T: fmt::Display> fmt::Display for PassiveRc<T> {
+    fn fmt(&self, f: &mut fmt::Formatter<'_>) -> fmt::Result {
+        (**self).fmt(f)
     }
 }
 

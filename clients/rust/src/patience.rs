@@ -1,6 +1,8 @@
 //! How long a call waits for others, and what it does between two turns.
 
+#[cfg(feature = "std")]
 use std::thread;
+#[cfg(feature = "std")]
 use std::time::{Duration, Instant};
 
 /// How long [`Retired::destroy`](crate::Retired::destroy) and [`Registry::perform`](crate::Registry::perform) wait. Each makes one turn at
@@ -28,11 +30,14 @@ pub enum Patience {
     /// For so many turns; 0 is 1.
     Turns(u32),
     /// Until a turn that was made at this time or later.
+    #[cfg(feature = "std")]
     Until(Instant),
     /// Until it is done.
+    #[cfg(feature = "std")]
     Forever,
 }
 
+#[cfg(feature = "std")]
 impl Patience {
     /// Until a turn that was made when so much time has passed, from now on.
     #[must_use]
@@ -44,9 +49,11 @@ impl Patience {
     }
 }
 
+#[cfg(feature = "std")]
 /// How often the processor is given up before sleeping begins.
 const YIELDS: u32 = 16;
 
+#[cfg(feature = "std")]
 /// The longest sleep is 2 to this power of microseconds.
 const LONGEST: u32 = 10;
 
@@ -64,11 +71,23 @@ impl Pauses {
     /// Whether another turn may be made, after a pause that has passed then. Call it after each turn.
     pub fn another(&mut self) -> bool {
         self.made = self.made.saturating_add(1);
-        let left = match self.patience {
-            Patience::Turns(turns) if self.made >= turns => return false,
-            Patience::Turns(_) | Patience::Forever => Duration::MAX,
-            Patience::Until(deadline) => deadline.saturating_duration_since(Instant::now()),
-        };
+        match self.patience {
+            Patience::Turns(turns) if self.made >= turns => false,
+            #[cfg(not(feature = "std"))]
+            Patience::Turns(_) => {
+                core::hint::spin_loop();
+                true
+            }
+            #[cfg(feature = "std")]
+            Patience::Turns(_) | Patience::Forever => self.pause(Duration::MAX),
+            #[cfg(feature = "std")]
+            Patience::Until(deadline) => self.pause(deadline.saturating_duration_since(Instant::now())),
+        }
+    }
+
+    /// Gives the processor up, for so long at most. Whether there was any time.
+    #[cfg(feature = "std")]
+    fn pause(&self, left: Duration) -> bool {
         if left == Duration::ZERO {
             return false;
         }
@@ -82,7 +101,7 @@ impl Pauses {
     }
 }
 
-#[cfg(test)]
+#[cfg(all(test, feature = "std"))]
 mod tests {
     use super::{Patience, Pauses};
     use std::time::{Duration, Instant};

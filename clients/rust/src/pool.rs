@@ -1,8 +1,8 @@
 //! CPUs that are lent, for programs with more threads than CPUs.
 
 use crate::cpu::Cpu;
+use crate::lock::locked;
 use crate::refusal::Refusal;
-use crate::shared::locked;
 use std::fmt;
 use std::ops::Deref;
 use std::sync::{Condvar, Mutex, MutexGuard, PoisonError};
@@ -126,7 +126,7 @@ pub struct Lent<'pool, T> {
 }
 
 impl<T> Lent<'_, T> {
-    /// Exits whatever is still open, as [`Cpu::leave`] does: what the CPU has found in sections whose guards were forgotten.
+    /// Exits all that is still open, as [`Cpu::leave`] does: sections whose guards were forgotten.
     ///
     /// ```
     /// use registry::{CpuPool, Registry, Settings};

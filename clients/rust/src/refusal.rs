@@ -2,11 +2,13 @@
 
 use crate::ffi;
 use crate::values::Holder;
+use alloc::string::String;
+use core::fmt;
+#[cfg(feature = "std")]
 use std::error::Error;
-use std::fmt;
 
 /// Why a call was refused. A call that is refused has changed nothing, unless it says so; each names what it refuses, in the order in which
-/// it tests it. What each asks of its caller stands in `docs/DRIVERS.md` of the repository, and in registry(3).
+/// it tests it. What each asks of its caller is in `docs/DRIVERS.md` of the repository, and in registry(3).
 ///
 /// ```
 /// use registry::{Refusal, Registry, Settings};
@@ -80,7 +82,7 @@ impl Refusal {
     }
 }
 
-/// An answer as a result.
+/// What a call of C returned, as a result.
 #[inline]
 pub(crate) fn checked(answer: u32) -> Result<(), Refusal> {
     if answer == ffi::DONE {
@@ -131,12 +133,13 @@ impl fmt::Display for Refusal {
     }
 }
 
+#[cfg(feature = "std")]
 impl Error for Refusal {}
 
-/// Why a call was refused to which something was given away, and what was given, which comes back as it was.
+/// Why a call was refused that takes something, and what it was given: that comes back as it was.
 ///
-/// In a function that answers a [`Refusal`], `?` makes it one, and drops what was given. In one that answers a boxed error, or the like, that
-/// has to be `Send` and `'static`, [`Refused::into_refusal`] does before.
+/// In a function that returns a [`Refusal`], `?` makes it one, and drops what was given. Where the error has to be `Send` and `'static`, as a boxed
+/// one, [`Refused::into_refusal`] makes it one before.
 ///
 /// ```
 /// use registry::{Cpu, Name, Refusal, Refused, Registry, Settings};
@@ -183,6 +186,7 @@ impl<G> fmt::Display for Refused<G> {
     }
 }
 
+#[cfg(feature = "std")]
 impl<G> Error for Refused<G> {
     fn source(&self) -> Option<&(dyn Error + 'static)> {
         Some(&self.refusal)

@@ -12,11 +12,12 @@ use crate::settings::Settings;
 use crate::shared::{Shared, NO_CPUS};
 use crate::values::{Balance, Entry, Freed, Kind};
 use crate::Name;
-use std::fmt;
-use std::hash::{Hash, Hasher};
-use std::sync::Arc;
+use alloc::sync::Arc;
+use alloc::vec::Vec;
+use core::fmt;
+use core::hash::{Hash, Hasher};
 
-/// An open registry, each entry of which carries a `T` of the caller's. A clone is one more handle of the same registry; threads share them,
+/// An open registry. Each entry carries a `T` of the caller's. A clone is one more handle of the same registry; threads share them,
 /// and a `static` may have one.
 ///
 /// The registry is open as long as somebody has a handle of it: a `Registry`, a [`Cpu`], a [`LocalRef`] or a [`Retired`]. As the last one goes
@@ -194,7 +195,7 @@ impl<T> Registry<T> {
     }
 
     /// Detaches the live entry with this kind and name. Lookups that begin afterwards don't find it; it has its slot and what it carries until
-    /// the [`Retired`] that is answered has freed it, or later changes have.
+    /// the [`Retired`] that is returned has freed it, or later changes have.
     ///
     /// ```
     /// use registry::{Kind, Name, Patience, Registry, Settings};
@@ -245,7 +246,7 @@ impl<T> Registry<T> {
         self.shared.baskets().total()
     }
 
-    /// Frees what was [retired](Registry::retire) and nobody holds any more, the oldest first, and answers what was freed. It makes one turn
+    /// Frees what was [retired](Registry::retire) and nobody holds any more, the oldest first, and returns what was freed. It makes one turn
     /// for each that waits, and waits for nobody except for the interlock.
     ///
     /// ```
@@ -309,7 +310,7 @@ impl<T> Registry<T> {
         }
     }
 
-    /// What the counts say of each live or retired entry, the least slot first. It needs all CPUs, in any order: a `Cpu`, a [`Lent`](crate::Lent)
+    /// What the counts say of each live or retired entry, the lowest-numbered slot first. It needs all CPUs, in any order: a `Cpu`, a [`Lent`](crate::Lent)
     /// or a reference to either of each. All local references that were dropped are released first.
     ///
     /// ```
@@ -345,7 +346,7 @@ impl<T> Registry<T> {
         Ok(list[..length].iter().map(|balance| Balance::of(balance, count)).collect())
     }
 
-    /// Writes the balances, and answers how many. The CPUs are all of this registry's, in their order.
+    /// Writes the balances, and returns how many. The CPUs are all of this registry's, in their order.
     fn audit_into(&self, cpus: &[&Cpu<T>], list: &mut [ffi::Balance]) -> Result<usize, Refusal> {
         let mut kept = self.shared.kept();
         let mut length = 0;

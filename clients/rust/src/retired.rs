@@ -7,11 +7,11 @@ use crate::refusal::{Refusal, Refused};
 use crate::registry::Registry;
 use crate::shared::{Shared, Turned};
 use crate::values::{Entry, Freed};
-use std::fmt;
-use std::sync::Arc;
+use alloc::sync::Arc;
+use core::fmt;
 
-/// An entry that was detached: what [`Registry::detach`] answers. Lookups don't find it any more; it has its slot, and what it carries, until
-/// nothing holds it and it is freed: by [`destroy`](Retired::destroy), which waits, or [`advance`](Retired::advance), which doesn't. Whoever wants
+/// An entry that was detached: [`Registry::detach`] returns it. Lookups don't find it any more; it has its slot, and what it carries, until
+/// nothing holds it and it is freed: by [`destroy`](Retired::destroy), which waits, or [`advance`](Retired::advance), which doesn't. Whoever needs
 /// neither drops it or calls [`defer`](Retired::defer), which is the same: later changes free it.
 ///
 /// It owns a share of its registry: it may be stored, and go to other threads.
@@ -71,7 +71,7 @@ impl<T> Retired<T> {
     /// Makes turns until it is freed: `psref_target_destroy`, `localcount_drain`. Nobody holds it then, now or later, and what it carried comes
     /// back. After each turn the CPU has seen every change so far.
     ///
-    /// What this CPU itself holds the entry by, nobody can let go while this thread waits: then the call makes one turn and no more, whatever the
+    /// What this CPU itself holds the entry by, nobody can let go while this thread waits: then the call makes one turn and no more, with any
     /// patience. It can't see a local reference that this thread keeps without a guard, nor a section of this thread on another CPU: with
     /// [`Patience::Forever`] it waits for these for ever.
     ///
@@ -116,7 +116,7 @@ impl<T> Retired<T> {
         }
     }
 
-    /// What a call answers that ended so.
+    /// What a call returns that ended so.
     fn after(mut self, done: Result<Freed<T>, Refusal>) -> Result<Freed<T>, Refused<Retired<T>>> {
         match done {
             Ok(freed) => {

@@ -9,9 +9,9 @@ use crate::passive::PassiveRef;
 use crate::refusal::{checked, Refusal};
 use crate::values::{Entry, Kind};
 use crate::Name;
-use std::fmt;
-use std::marker::PhantomData;
-use std::ops::Deref;
+use core::fmt;
+use core::marker::PhantomData;
+use core::ops::Deref;
 
 /// An open section, or one nesting of it: what is found in it keeps its slot, and what it carries, while it is open. Dropping it exits.
 ///
@@ -87,7 +87,7 @@ impl<'cpu, T> Section<'cpu, T> {
     pub fn exit(self) {}
 }
 
-/// Looks a live entry up on the CPU, which is inside a section for as long as the answer lives. The answer is its last found entry.
+/// Looks a live entry up on the CPU, which is inside a section for as long as what is found lives. That is the CPU's last found entry then.
 #[inline]
 fn look_up<'section, 'cpu, T>(cpu: &'cpu Cpu<T>, kind: u64, name: &ffi::Name) -> Option<Found<'section, 'cpu, T>> {
     // SAFETY: this thread alone has the CPU, whose handle isn't empty.
@@ -280,6 +280,12 @@ impl<T> Deref for Found<'_, '_, T> {
     #[inline]
     fn deref(&self) -> &T {
         Found::value(self)
+    }
+}
+
+impl<T: fmt::Display> fmt::Display for Found<'_, '_, T> {
+    fn fmt(&self, f: &mut fmt::Formatter<'_>) -> fmt::Result {
+        (**self).fmt(f)
     }
 }
 

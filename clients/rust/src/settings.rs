@@ -2,7 +2,7 @@
 
 use crate::ffi;
 
-/// How large a registry is, and how far its counts may go. Each method sets one limit and answers the settings.
+/// How large a registry is, and how far its counts may go. Each method sets one limit and returns the settings.
 ///
 /// ```
 /// use registry::{Registry, Settings};

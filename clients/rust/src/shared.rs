@@ -5,12 +5,14 @@
 use crate::basket::{Baskets, BY_RELEASE, BY_TURN};
 use crate::carried::Carried;
 use crate::ffi;
+use crate::lock::{locked, locked_mut, try_locked, Mutex, MutexGuard};
 use crate::refusal::{checked, Refusal};
 use crate::settings::Settings;
 use crate::values::{Entry, Freed, Holder, Met};
-use std::mem;
-use std::sync::atomic::{AtomicUsize, Ordering};
-use std::sync::{Arc, Mutex, MutexGuard, PoisonError};
+use alloc::sync::Arc;
+use alloc::vec::Vec;
+use core::mem;
+use core::sync::atomic::{AtomicUsize, Ordering};
 
 /// A place for each CPU, all of them empty.
 pub const NO_CPUS: [ffi::Cpu; ffi::MOST_CPUS] = [ffi::Cpu::EMPTY; ffi::MOST_CPUS];
@@ -53,11 +55,6 @@ pub enum Turned<T> {
     Freed(Freed<T>),
 }
 
-/// A lock's value. Nothing panics under our locks, and if it did, what they guard would be whole.
-pub fn locked<T>(mutex: &Mutex<T>) -> MutexGuard<'_, T> {
-    mutex.lock().unwrap_or_else(PoisonError::into_inner)
-}
-
 impl<T> Kept<T> {
     /// Notes what a new entry carries.
     pub fn note(&mut self, entry: Entry, carried: Carried<T>) {
@@ -89,7 +86,7 @@ impl<T> Kept<T> {
     ///
     /// # Safety
     ///
-    /// The turn just made has answered that it freed the entry with this number.
+    /// The turn just made has freed the entry with this number.
     unsafe fn take(&mut self, number: u64) -> Freed<T> {
         let place = self.rows.iter().position(|row| row.0.number == number);
         let (entry, carried) = self.rows.swap_remove(place.expect("a row of each entry that isn't freed"));
@@ -103,7 +100,7 @@ impl<T> Kept<T> {
 }
 
 impl<T> Shared<T> {
-    /// A new registry, all CPUs of which nobody has. Refused: `BadSettings`, `NoMemory`.
+    /// A new registry. Nobody has any of its CPUs. Refused: `BadSettings`, `NoMemory`.
     pub fn open(settings: Settings) -> Result<Shared<T>, Refusal> {
         let mut keeper = ffi::Keeper::EMPTY;
         let mut cpus = NO_CPUS;
@@ -214,7 +211,7 @@ impl<T> Shared<T> {
         if !self.baskets.is_heavy(cpu) {
             return;
         }
-        if let Ok(mut spare) = self.spare.try_lock() {
+        if let Some(mut spare) = try_locked(&self.spare) {
             if let Some(handle) = spare.iter_mut().find(|handle| !handle.is_empty()) {
                 // SAFETY: nobody has this CPU, and nobody gets it before the lock is let go. This thread holds no interlock: no handle is
                 // dropped under it.
@@ -241,7 +238,7 @@ impl<T> Shared<T> {
         }
     }
 
-    /// Releases on a CPU some of what lies in the basket of the CPU with this number, and answers how many.
+    /// Releases on a CPU some of what lies in the basket of the CPU with this number, and returns how many.
     ///
     /// # Safety
     ///
@@ -324,7 +321,7 @@ impl<T> Drop for Shared<T> {
             // SAFETY: nobody else has this CPU, and nobody holds the interlock.
             unsafe { self.release_dropped(cpu, 0, self.baskets.total()) };
         }
-        let kept = self.kept.get_mut().unwrap_or_else(PoisonError::into_inner);
+        let kept = locked_mut(&mut self.kept);
         let rows = mem::take(&mut kept.rows);
         let left: Vec<Carried<T>> = rows
             .into_iter()
@@ -348,7 +345,7 @@ impl<T> Drop for Shared<T> {
 /// Whether a CPU that nobody has holds a passive reference to the entry with that number.
 fn holds(cpu: &mut ffi::Cpu, number: u64) -> bool {
     let mut held = false;
-    // SAFETY: the caller alone has the CPU. Of an empty handle the call answers so, and writes nothing.
+    // SAFETY: the caller alone has the CPU. Of an empty handle the call says so, and writes nothing.
     unsafe { ffi::registry_held(cpu, number, &mut held) };
     held
 }

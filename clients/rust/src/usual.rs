@@ -10,9 +10,9 @@ use crate::refusal::{refusal_of, Refusal};
 use crate::section::{Found, Section};
 use crate::values::{Entry, Kind};
 use crate::Name;
-use std::fmt;
-use std::ops::Deref;
-use std::rc::Rc;
+use alloc::rc::Rc;
+use core::fmt;
+use core::ops::Deref;
 
 impl<T> Cpu<T> {
     /// A passive reference to the live entry with this kind and name, by one call: what [`enter`](Cpu::enter),
@@ -120,7 +120,7 @@ impl<T> Cpu<T> {
 
     /// The live entry with this kind and name, by one call: what [`enter`](Cpu::enter), [`find`](crate::Section::find) and
     /// [`exit`](crate::Section::exit) give together. The entry was live at some point during the call, and nothing holds it afterwards: so its
-    /// record is all that is answered, and not what it carries.
+    /// record is all that is returned, and not what it carries.
     ///
     /// ```
     /// use registry::{Kind, Name, Refusal, Registry, Settings};
@@ -142,7 +142,7 @@ impl<T> Cpu<T> {
         Ok(self.found_by(looked)?.entry())
     }
 
-    /// The record of an entry to which a passive reference is acquired.
+    /// Acquires a passive reference, and returns the record of its entry.
     #[inline]
     fn get_record(&self, kind: Kind, name: &Name) -> Result<Record<T>, Refusal> {
         // SAFETY: as for `read`.
@@ -150,8 +150,8 @@ impl<T> Cpu<T> {
         self.found_by(got)
     }
 
-    /// What such a call answered, whose find has changed the last found entry of an open section. Refused, the CPU may have found an entry that
-    /// the answer doesn't tell, so none counts as found; but `TooDeep` comes before the find.
+    /// What such a call returned, whose find has changed the last found entry of an open section. Refused, the CPU may have found an entry that
+    /// isn't told, so none counts as found; but `TooDeep` comes before the find.
     #[inline]
     fn found_by(&self, answer: Result<Record<T>, u32>) -> Result<Record<T>, Refusal> {
         match answer {
@@ -169,7 +169,7 @@ impl<T> Cpu<T> {
     }
 }
 
-/// An entry together with the section in which it was found: what [`Cpu::read`] answers. It derefs to what the entry carries, and dropping it
+/// An entry together with the section in which it was found: [`Cpu::read`] returns it. It derefs to what the entry carries, and dropping it
 /// exits. The entry keeps its slot, and what it carries, until then. Whoever needs it longer acquires a reference.
 ///
 /// It stays with its thread, as a [`Section`] does. One that is forgotten leaves its section open, as a forgotten [`Section`] does.
@@ -262,6 +262,12 @@ impl<T> Deref for ReadGuard<'_, T> {
     #[inline]
     fn deref(&self) -> &T {
         &self.found
+    }
+}
+
+impl<T: fmt::Display> fmt::Display for ReadGuard<'_, T> {
+    fn fmt(&self, f: &mut fmt::Formatter<'_>) -> fmt::Result {
+        (**self).fmt(f)
     }
 }
 

@@ -2,7 +2,8 @@
 
 use crate::ffi;
 use crate::name::Name;
-use std::fmt;
+use alloc::vec::Vec;
+use core::fmt;
 
 /// What an entry is.
 ///
@@ -56,9 +57,9 @@ impl fmt::Display for Kind {
 #[derive(Clone, Copy, Debug, PartialEq, Eq, Hash)]
 #[non_exhaustive]
 pub struct Entry {
-    /// From 1, and never given again in its registry.
+    /// From 1, and never reused in its registry.
     pub number: u64,
-    /// From 0, and given again once the entry is freed.
+    /// From 0, and reused once the entry is freed.
     pub slot: u8,
     /// What it is.
     pub kind: Kind,

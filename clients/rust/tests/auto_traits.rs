@@ -2,6 +2,7 @@
 //!
 //! Each type is looked at with four kinds of `T`. What a column lists are the kinds for which the type has the trait: `b` a `T` that is both `Send`
 //! and `Sync`, `y` one that is `Sync` alone, `s` one that is `Send` alone, `n` one that is neither.
+#![cfg(feature = "std")]
 
 use registry::{
     Balance, Cpu, CpuPool, Entries, Entry, Found, Freed, Holder, Kind, Lent, LocalGuard, LocalRef, Mapped, Name, NameFault, PassiveRc,

@@ -1,4 +1,5 @@
 //! Local references that were dropped without a CPU: which call releases how many, and that they are in nobody's way.
+#![cfg(feature = "std")]
 
 mod common;
 
@@ -178,6 +179,26 @@ fn a_destroy_gives_all_of_its_entry_up() {
     drop(held);
     assert_eq!(retired.destroy(&cpus[0], patience()).unwrap().value, 7);
     assert_eq!(registry.dropped(), 0);
+}
+
+/// While it waits it releases what was dropped, of other entries too.
+#[test]
+fn a_destroy_that_waits_releases_others_too() {
+    let (registry, cpus) = with_driver(7);
+    registry.attach(&cpus[0], &name("vga"), 8).unwrap();
+    let kept = local(&cpus[1], "vga");
+    let retired = registry.detach(&cpus[0], Kind::Driver, &name("vga")).unwrap();
+    lay(&cpus[1], "wm", 200);
+    let refused = retired.destroy(&cpus[0], Patience::Turns(3)).unwrap_err();
+    assert_eq!((refused.refusal, registry.dropped()), (Refusal::StillHeld(Holder::Local(1)), 72));
+    drop(kept);
+}
+
+#[test]
+fn a_guard_is_released_as_it_is_dropped() {
+    let (registry, cpus) = with_driver(7);
+    drop(LocalRef::guard(local(&cpus[0], "wm"), &cpus[1]).unwrap());
+    assert_eq!((registry.dropped(), balances(&registry, &cpus)), (0, vec![balance(0, &[1, -1], 0)]));
 }
 
 /// What waits to be freed goes, though nothing but dropped references hold it.

@@ -1,4 +1,5 @@
 //! What entries carry: each value is dropped once, not before nobody can hold its entry, and never under a lock.
+#![cfg(feature = "std")]
 
 mod common;
 

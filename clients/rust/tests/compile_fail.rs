@@ -3,6 +3,7 @@
 //! Each file of `compile_fail/` is a small library. As it stands the compiler takes it; with `--cfg fails`, which adds or changes a line, the
 //! compiler refuses it, with no other error than the one that the head of the file names: `// error:` and its code, or its text where it has
 //! no code. `// says:` is a text that the compiler's message has too. The crate is compiled for it as metadata alone, so no archive is needed.
+#![cfg(feature = "std")]
 
 use std::env;
 use std::fs;
@@ -76,7 +77,7 @@ fn crate_in(out: &Path) -> PathBuf {
     let at = out.join("libregistry.rmeta");
     let source = Path::new(env!("CARGO_MANIFEST_DIR")).join("src/lib.rs");
     let output = rustc()
-        .args(["--crate-name", "registry"])
+        .args(["--crate-name", "registry", "--cfg", "feature=\"std\""])
         .arg(source)
         .arg("-o")
         .arg(&at)

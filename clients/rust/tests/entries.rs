@@ -1,4 +1,5 @@
 //! Walks over all entries of a section.
+#![cfg(feature = "std")]
 
 mod common;
 

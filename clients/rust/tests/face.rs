@@ -1,4 +1,5 @@
 //! The calls: what each does, and each of its refusals.
+#![cfg(feature = "std")]
 
 mod common;
 

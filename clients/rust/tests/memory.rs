@@ -1,4 +1,5 @@
 //! What memory of the crate's own is left: none after a refusal or a closing, and little after many drops.
+#![cfg(feature = "std")]
 
 mod common;
 

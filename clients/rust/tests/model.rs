@@ -1,4 +1,5 @@
 //! Random calls beside a plain model: each answer of each call is the one that the model gives.
+#![cfg(feature = "std")]
 
 mod common;
 

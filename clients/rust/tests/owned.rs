@@ -1,4 +1,5 @@
 //! References that own a share of their CPU, parts of what an entry carries, and methods of `T` that are called as the crate's functions are.
+#![cfg(feature = "std")]
 
 mod common;
 
@@ -195,5 +196,10 @@ fn guards_show_what_they_hold() {
     for (told, expected) in shown {
         assert_eq!(told, expected.replace('_', &entry));
     }
+    let local = Found::acquire_local(&found).unwrap();
+    assert_eq!(
+        format!("{found} {local} {}", Found::acquire(&found).unwrap()),
+        "gigabit gigabit gigabit"
+    );
     assert!(entry.contains("Name(wm)") && format!("{:?}", section.entries()).contains(&entry));
 }

@@ -1,4 +1,5 @@
 //! A pool lends each CPU to one thread at a time, and takes it back outside of any section.
+#![cfg(feature = "std")]
 
 mod common;
 

@@ -1,4 +1,5 @@
 //! Retired entries: what frees one, what holds it, and what becomes of it that nobody destroys.
+#![cfg(feature = "std")]
 
 mod common;
 

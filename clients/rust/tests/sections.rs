@@ -1,4 +1,5 @@
 //! Several entries in one section: each is used and acquired as if it were alone there.
+#![cfg(feature = "std")]
 
 mod common;
 

@@ -1,4 +1,5 @@
 //! All CPUs at work at once, on values that are poisoned as they are dropped: whoever holds one finds it whole, and each is dropped once.
+#![cfg(feature = "std")]
 
 mod common;
 

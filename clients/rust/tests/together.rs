@@ -1,5 +1,6 @@
 //! Random calls of threads that share a registry. Each thread alone changes its own names, so of these each answer is known; of the others' what
 //! is found is whole and has the name that was asked for.
+#![cfg(feature = "std")]
 
 mod common;
 

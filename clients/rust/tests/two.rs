@@ -1,4 +1,5 @@
 //! Handles of two registries don't meet: each call that takes two handles refuses it by name, and nothing has changed.
+#![cfg(feature = "std")]
 
 mod common;
 

@@ -1,4 +1,5 @@
 //! The usual path in few calls: what `Cpu::get`, `Cpu::look_up` and `Cpu::read` answer and leave.
+#![cfg(feature = "std")]
 
 mod common;
 

@@ -1,4 +1,5 @@
 //! The tests' own eyes: who watches the archive's calls names each that the crate makes, and sees two that are made at once.
+#![cfg(feature = "std")]
 
 mod common;
 

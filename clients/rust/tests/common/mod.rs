@@ -3,7 +3,7 @@
 
 pub mod watched;
 
-use registry::{Cpu, Entry, Freed, Holder, Kind, LocalRef, Name, PassiveRef, Patience, Refusal, Refused, Registry, Retired, Settings};
+use registry::{Cpu, Entry, Freed, Holder, Kind, LocalRef, Name, PassiveRef, Refusal, Refused, Registry, Retired, Settings};
 use std::cell::RefCell;
 use std::sync::atomic::{AtomicBool, AtomicU64, AtomicUsize, Ordering};
 use std::sync::Arc;
@@ -17,8 +17,9 @@ pub fn name(text: &str) -> Name {
 pub const LONG: Duration = Duration::from_secs(20);
 
 /// A patience that ends, so that a test fails where it would wait for ever.
-pub fn patience() -> Patience {
-    Patience::at_most(LONG)
+#[cfg(feature = "std")]
+pub fn patience() -> registry::Patience {
+    registry::Patience::at_most(LONG)
 }
 
 /// So many steps; few where a tool watches each access.

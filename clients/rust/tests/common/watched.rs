@@ -1,3 +1,4 @@
+#![allow(unknown_lints, unexpected_cfgs)]
 //! Who is in which call of the archive. No sanitizer looks into it, so what registry.h asks of its caller is watched here: one call at a time uses
 //! a handle, and so a keeper is used under a lock, and a CPU by one thread at a time.
 //!
@@ -81,9 +82,93 @@ fn count(before: Word, local: Handle) {
     LOCALS.with(|locals| locals.set(locals.get() + change));
 }
 
-/// Wraps calls. Behind the handles stands the one of a local reference, if the call may fill or empty it.
+/// The order of memory that a registry makes between its callers, told to the thread sanitizer, which sees no atomic step of the archive: what was
+/// written before an attach is seen by whoever finds the entry, and the last use before the exit or the release comes before the answer that it is
+/// freed. These two edges and no other; REGISTRY_WITHOUT says `find` or `freed`, and then that edge is left out. tests/sanitized.sh has the runs.
+#[cfg(registry_edges)]
+mod edges {
+    use super::{Handle, Word};
+    use std::cell::RefCell;
+    use std::env;
+
+    extern "C" {
+        fn __tsan_acquire(at: Word);
+        fn __tsan_release(at: Word);
+    }
+
+    // What is found in the section of this thread: numbers of entries.
+    thread_local! {
+        static FOUND: RefCell<Vec<u64>> = const { RefCell::new(Vec::new()) };
+    }
+
+    const PLACES: usize = 1 << 16;
+    static ATTACHED: [u8; PLACES] = [0; PLACES];
+    static LET_GO: [u8; PLACES] = [0; PLACES];
+
+    fn place(of: &'static [u8; PLACES], key: u64) -> Word {
+        std::ptr::addr_of!(of[key as usize % PLACES]) as Word
+    }
+
+    fn is_without(edge: &str) -> bool {
+        env::var_os("REGISTRY_WITHOUT").map_or(false, |without| without == edge)
+    }
+
+    pub fn before_attach(value: u64) {
+        // SAFETY: it is an address of memory that nobody else uses.
+        unsafe { __tsan_release(place(&ATTACHED, value >> 4)) };
+    }
+
+    /// # Safety
+    ///
+    /// An entry lies there.
+    pub unsafe fn found(entry: Word) {
+        let entry = entry as *const u64;
+        // SAFETY: the caller sees to it: a number, four words, and the value.
+        let (number, value) = unsafe { (*entry, *entry.add(5)) };
+        FOUND.with(|found| found.borrow_mut().push(number));
+        if !is_without("find") {
+            // SAFETY: as above.
+            unsafe { __tsan_acquire(place(&ATTACHED, value >> 4)) };
+        }
+    }
+
+    pub fn before_exit() {
+        // An inner exit tells more than it should, of what this thread found alone.
+        FOUND.with(|found| found.borrow_mut().drain(..).for_each(before_release));
+    }
+
+    pub fn before_release(number: u64) {
+        // SAFETY: as above.
+        unsafe { __tsan_release(place(&LET_GO, number)) };
+    }
+
+    pub fn before_local(local: Handle) {
+        let mut entry = [0u64; 6];
+        // SAFETY: the caller of the wrapped call sees to the handle.
+        if unsafe { super::__real_registry_local_read(local, entry.as_mut_ptr() as Word) } == super::DONE {
+            before_release(entry[0]);
+        }
+    }
+
+    pub fn after_freed(number: u64) {
+        if !is_without("freed") {
+            // SAFETY: as above.
+            unsafe { __tsan_acquire(place(&LET_GO, number)) };
+        }
+    }
+
+    /// # Safety
+    ///
+    /// A stage lies there.
+    pub unsafe fn is_freed(met: Word) -> bool {
+        // SAFETY: the caller sees to it.
+        unsafe { *(met as *const u64) == 3 }
+    }
+}
+
+/// Wraps calls. Behind the handles stands the one of a local reference, if the call may fill or empty it, and what is told to the sanitizer.
 macro_rules! wrapped {
-    ($($wrap:ident($($name:ident: $type:ty),*) = $real:ident, [$($handle:ident),*] $($local:ident)?;)*) => {$(
+    ($($wrap:ident($($name:ident: $type:ty),*) = $real:ident, [$($handle:ident),*] $(once [$($once:ident),*])? $(($local:ident))? $(before $before:block)? $(after $after:block)?;)*) => {$(
         extern "C" {
             fn $real($($name: $type),*) -> u32;
         }
@@ -94,42 +179,61 @@ macro_rules! wrapped {
         #[no_mangle]
         #[deny(unsafe_op_in_unsafe_fn)]
         pub unsafe extern "C" fn $wrap($($name: $type),*) -> u32 {
-            let _in_use = InUse::take(stringify!($real), &[$($handle),*]);
+            #[cfg(not(registry_edges))]
+            let _in_use = {
+                // What the call frees may be another thread's before it is back, so it is looked at once.
+                $(drop(InUse::take(stringify!($real), &[$($once),*]));)?
+                InUse::take(stringify!($real), &[$($handle),*])
+            };
             // SAFETY: the caller sees to it.
             $(let before = unsafe { *$local };)?
+            #[cfg(registry_edges)]
+            {
+                $($before)?
+            }
             // SAFETY: the caller sees to it.
             let answer = unsafe { $real($($name),*) };
+            #[cfg(registry_edges)]
+            if answer == DONE {
+                $($after)?
+            }
             $(count(before, $local);)?
             answer
         }
     )*};
 }
 
+// SAFETY of what is told: the caller sees to the pointers, and a call that is done has written what it writes.
 wrapped! {
-    __wrap_registry_close_cpu(cpu: Handle) = __real_registry_close_cpu, [cpu];
-    __wrap_registry_close_keeper(keeper: Handle) = __real_registry_close_keeper, [keeper];
+    __wrap_registry_close_cpu(cpu: Handle) = __real_registry_close_cpu, [] once [cpu];
+    __wrap_registry_close_keeper(keeper: Handle) = __real_registry_close_keeper, [] once [keeper];
     __wrap_registry_enter(cpu: Handle) = __real_registry_enter, [cpu];
-    __wrap_registry_exit(cpu: Handle) = __real_registry_exit, [cpu];
+    __wrap_registry_exit(cpu: Handle) = __real_registry_exit, [cpu] before { edges::before_exit() };
     __wrap_registry_depth(cpu: Handle, depth: Word) = __real_registry_depth, [cpu];
-    __wrap_registry_find(cpu: Handle, kind: u64, name: Word, found: Word) = __real_registry_find, [cpu];
-    __wrap_registry_walk(cpu: Handle, row: Word, room: usize, count: Word) = __real_registry_walk, [cpu];
+    __wrap_registry_find(cpu: Handle, kind: u64, name: Word, found: Word) = __real_registry_find, [cpu] after { unsafe { edges::found(found) } };
+    __wrap_registry_walk(cpu: Handle, row: Word, room: usize, count: Word) = __real_registry_walk, [cpu]
+        after { (0..unsafe { *(count as *const usize) }).for_each(|place| unsafe { edges::found((row as *mut u64).add(6 * place) as Word) }) };
     __wrap_registry_acquire(cpu: Handle, number: Word) = __real_registry_acquire, [cpu];
     __wrap_registry_copy(cpu: Handle, number: u64) = __real_registry_copy, [cpu];
     __wrap_registry_held(cpu: Handle, number: u64, held: Word) = __real_registry_held, [cpu];
-    __wrap_registry_release(cpu: Handle, number: u64) = __real_registry_release, [cpu];
+    __wrap_registry_release(cpu: Handle, number: u64) = __real_registry_release, [cpu] before { edges::before_release(number) };
     __wrap_registry_look_up(cpu: Handle, kind: u64, name: Word, found: Word) = __real_registry_look_up, [cpu];
-    __wrap_registry_get(cpu: Handle, kind: u64, name: Word, found: Word) = __real_registry_get, [cpu];
-    __wrap_registry_enter_find(cpu: Handle, kind: u64, name: Word, found: Word) = __real_registry_enter_find, [cpu];
-    __wrap_registry_local_acquire(cpu: Handle, local: Handle) = __real_registry_local_acquire, [cpu] local;
-    __wrap_registry_local_release(cpu: Handle, local: Handle) = __real_registry_local_release, [cpu, local] local;
-    __wrap_registry_local_give_up(keeper: Handle, local: Handle) = __real_registry_local_give_up, [keeper, local] local;
-    __wrap_registry_local_forget(local: Handle) = __real_registry_local_forget, [local] local;
+    __wrap_registry_get(cpu: Handle, kind: u64, name: Word, found: Word) = __real_registry_get, [cpu] after { unsafe { edges::found(found) } };
+    __wrap_registry_enter_find(cpu: Handle, kind: u64, name: Word, found: Word) = __real_registry_enter_find, [cpu] after { unsafe { edges::found(found) } };
+    __wrap_registry_local_acquire(cpu: Handle, local: Handle) = __real_registry_local_acquire, [cpu] (local);
+    __wrap_registry_local_release(cpu: Handle, local: Handle) = __real_registry_local_release, [cpu] once [local] (local) before { edges::before_local(local) };
+    __wrap_registry_local_give_up(keeper: Handle, local: Handle) = __real_registry_local_give_up, [keeper] once [local] (local) before { edges::before_local(local) };
+    __wrap_registry_local_forget(local: Handle) = __real_registry_local_forget, [] once [local] (local);
     __wrap_registry_local_read(local: Handle, entry: Word) = __real_registry_local_read, [local];
-    __wrap_registry_attach(keeper: Handle, cpu: Handle, name: Word, value: u64, made: Word) = __real_registry_attach, [keeper, cpu];
-    __wrap_registry_attach_iface(keeper: Handle, cpu: Handle, driver: Handle, name: Word, value: u64, made: Word) = __real_registry_attach_iface, [keeper, cpu, driver] driver;
+    __wrap_registry_attach(keeper: Handle, cpu: Handle, name: Word, value: u64, made: Word) = __real_registry_attach, [keeper, cpu]
+        before { edges::before_attach(value) };
+    __wrap_registry_attach_iface(keeper: Handle, cpu: Handle, driver: Handle, name: Word, value: u64, made: Word) = __real_registry_attach_iface,
+        [keeper, cpu] once [driver] (driver) before { edges::before_attach(value) };
     __wrap_registry_detach(keeper: Handle, cpu: Handle, kind: u64, name: Word, gone: Word) = __real_registry_detach, [keeper, cpu];
-    __wrap_registry_advance(keeper: Handle, number: u64, met: Word) = __real_registry_advance, [keeper];
-    __wrap_registry_destroy(keeper: Handle, cpu: Handle, number: u64, met: Word) = __real_registry_destroy, [keeper, cpu];
+    __wrap_registry_advance(keeper: Handle, number: u64, met: Word) = __real_registry_advance, [keeper]
+        after { if unsafe { edges::is_freed(met) } { edges::after_freed(number) } };
+    __wrap_registry_destroy(keeper: Handle, cpu: Handle, number: u64, met: Word) = __real_registry_destroy, [keeper, cpu]
+        after { edges::after_freed(number) };
     __wrap_registry_perform_begin(keeper: Handle, cpu: Handle, wait: Word) = __real_registry_perform_begin, [keeper, cpu];
     __wrap_registry_perform_turn(keeper: Handle, cpu: Handle, wait: Word, waited: Word) = __real_registry_perform_turn, [keeper, cpu];
     __wrap_registry_audit(keeper: Handle, cpus: Handle, many: usize, list: Word, room: usize, length: Word) = __real_registry_audit, [keeper, cpus];

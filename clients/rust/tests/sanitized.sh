@@ -1,0 +1,45 @@
+#!/bin/sh
+# Runs tests/edges.rs under the thread sanitizer: it reports no race; and without either of the two edges of the memory order, of which nobody tells it
+# then, it reports one. So it would see a value that is read before its attach, or after it was freed. The crate is built without the standard
+# library's locks, into which the sanitizer doesn't see. It wants a nightly rustc, and the archive in the folder that REGISTRY_LIB_DIR names. By hand.
+set -u
+cd "$(dirname "$0")/.." || exit
+export REGISTRY_LIB_DIR="${REGISTRY_LIB_DIR:-$PWD/../out}" CARGO_TARGET_DIR="${CARGO_TARGET_DIR:-$PWD/target}/sanitized"
+export RUSTFLAGS="--cfg registry_edges -Zsanitizer=thread -Cunsafe-allow-abi-mismatch=sanitizer"
+mkdir -p "$CARGO_TARGET_DIR"
+# What the sanitizer can't see of libtest, and of the fence by which the last share of an Arc goes.
+printf 'race:CompletedTest\nrace:drop_slow\n' >"$CARGO_TARGET_DIR/suppressed"
+export TSAN_OPTIONS="suppressions=$CARGO_TARGET_DIR/suppressed"
+
+# races EDGE: whether a run without this edge reports a race of a value.
+races() {
+    REGISTRY_WITHOUT=$1 cargo +nightly test -q --offline --target x86_64-unknown-linux-gnu --no-default-features --test edges >"$CARGO_TARGET_DIR/said" 2>&1
+    status=$?
+    grep -q 'data race.*edges::Plain' "$CARGO_TARGET_DIR/said"
+}
+
+# Whether a run with both edges reports nothing.
+is_quiet() {
+    ! races none && [ "$status" -eq 0 ]
+}
+
+failed=0
+# judge TEXT: says whether the command before it was right.
+judge() {
+    if [ $? -eq 0 ]; then
+        echo "ok      $1"
+    else
+        failed=$((failed + 1))
+        echo "FAILED  $1"
+        tail -n 30 "$CARGO_TARGET_DIR/said"
+    fi
+}
+
+is_quiet
+judge "no race is reported"
+races find
+judge "a race is reported where a find isn't after its attach"
+races freed
+judge "a race is reported where a value isn't freed after its last use"
+echo "$((3 - failed)) passed, $failed failed"
+exit "$failed"
