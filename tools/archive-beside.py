@@ -21,6 +21,7 @@ import time
 
 sys.dont_write_bytecode = True
 
+from counts import ended
 from kit import below, kit, over_libraries
 from parts import GIGABYTE, LAST_LINE, ROOT, free_memory, guard, minutes, running, say, stop_running
 
@@ -150,8 +151,8 @@ def main():
     if not counted:
         sys.exit(last)
     passed, failed = int(counted[1]) + stands, int(counted[2]) + (not stands)
-    print(f"{'ok     ' if stands else 'FAILED '} the archive, proved and built\n{passed} passed, {failed} failed")
-    return status or int(failed > 0)
+    say(f"{'ok     ' if stands else 'FAILED '} the archive, proved and built\n")
+    return ended(passed, failed or int(status != 0))
 
 
 if __name__ == "__main__":
