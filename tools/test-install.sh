@@ -189,16 +189,14 @@ has() {
     nm "$@" 2>/dev/null | grep -E " T $name(@|\$)" >/dev/null
 }
 
-# The library and what stands on it are built anew of what has changed: each has a mark of it.
-marked() {
-    local name
-    for name in registry_mark_of_archive registry_mark_of_waiting; do
-        has "$name" "$stage$libdir/libkupaldiz.a" && has "$name" -D "$stage$libdir/libkupaldiz.so" || return
-    done
-    has kupaldiz_mark "$stage$libdir/libkupaldiz_netbsd.a" && has kupaldiz_mark -D "$stage$libdir/libkupaldiz_netbsd.so"
+# relinks MARK LIBRARY COMMAND..: once the command has put a function MARK into a source, what is installed has it, static and shared.
+relinks() {
+    local name=$1 library=$2
+    shift 2
+    "$@" "$name" && made install && has "$name" "$stage$libdir/$library.a" && has "$name" -D "$stage$libdir/$library.so"
 }
 
-# A copy of the clients that has been built and installed, and is then made a later version: its number, and each thing that is compiled or linked.
+# A copy of the clients, which is changed as the work on them goes on: from here on it is what is installed from.
 copy_clients() {
     local copy=$room/a\ copy
     mkdir -p "$copy/clients/out" "$copy/crates/registry_c"
@@ -212,12 +210,20 @@ mark() {
     printf '\nvoid %s(void);\nvoid %s(void)\n{\n}\n' "$2" "$2" >>"$1"
 }
 
+change_archive() {
+    : >"$room/mark.c" && mark "$room/mark.c" "$1" && gcc -fPIC -c -o "$room/mark.o" "$room/mark.c" && ar r "$clients/out/libregistry.a" "$room/mark.o"
+}
+
+change_waiting() {
+    mark "$clients/c/waiting.c" "$1"
+}
+
+change_layer() {
+    mark "$(find "$clients/netbsd" -maxdepth 2 -name '*.c' -not -path '*/tests/*' | sort | head -n 1)" "$1"
+}
+
 make_later() {
-    local source
-    source=$(find "$clients/netbsd" -maxdepth 2 -name '*.c' -not -path '*/tests/*' | sort | head -n 1)
-    sed -i -E 's/^(#define REGISTRY_VERSION_PATCH[[:blank:]]+).*/\17/' "$header" &&
-        mark "$clients/c/waiting.c" registry_mark_of_waiting && mark "$source" kupaldiz_mark &&
-        echo 'void registry_mark_of_archive(void) {}' | gcc -fPIC -xc -c -o "$room/mark.o" - && ar r "$clients/out/libregistry.a" "$room/mark.o"
+    sed -i -E 's/^(#define REGISTRY_VERSION_PATCH[[:blank:]]+).*/\17/' "$header"
 }
 
 check "install" made install
@@ -265,10 +271,12 @@ older=$(version)
 check "an upgrade: the older version" copy_clients
 check "an upgrade: it is installed" made install
 check "an upgrade: each of its files" holds_files "$older"
+check "no stale object is linked: a changed archive" relinks registry_mark_of_archive libkupaldiz change_archive
+check "no stale object is linked: changed waits" relinks registry_mark_of_waiting libkupaldiz change_waiting
+check "no stale object is linked: changed names of the pages" relinks kupaldiz_mark libkupaldiz_netbsd change_layer
 check "an upgrade: the later version" make_later
 check "an upgrade: it is installed over the older one" made install
 check "an upgrade: each file, and none of the older version" holds_files "${older%.*}.7"
-check "an upgrade: no stale object is linked" marked
 check "an upgrade: uninstall" made uninstall
 check "an upgrade: uninstall leaves nothing" leaves_nothing
 finish
