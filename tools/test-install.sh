@@ -141,7 +141,7 @@ wanted() {
     for file in "$libdir"/pkgconfig/{kupaldiz,kupaldiz-netbsd}.pc "$prefix"/include/kupaldiz/{registry,registry_waiting}.h "$prefix/share/doc/kupaldiz/CHANGELOG.md"; do
         echo "f 644 $me $file"
     done
-    (cd "$clients/netbsd" && find . -name '*.h' -not -path './tests/*' -not -path './src/*') | sed "s|^\.|f 644 $me $prefix/include/kupaldiz/netbsd|"
+    (cd "$clients/netbsd" && find . -name '*.h' -not -path './tests/*' -not -path './src/*' -not -path './examples/*') | sed "s|^\.|f 644 $me $prefix/include/kupaldiz/netbsd|"
 }
 
 installed() {
@@ -219,7 +219,7 @@ change_waiting() {
 }
 
 change_layer() {
-    mark "$(find "$clients/netbsd" -maxdepth 2 -name '*.c' -not -path '*/tests/*' | sort | head -n 1)" "$1"
+    mark "$(find "$clients/netbsd" -name '*.c' -not -path '*/tests/*' -not -path '*/examples/*' | sort | head -n 1)" "$1"
 }
 
 make_later() {
