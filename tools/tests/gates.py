@@ -31,6 +31,21 @@ def parts():
     return Case("parts", ["parts.py", "counts.py"], tree, ["./gate"], faults)
 
 
+# A gate of more parts than run at once is told to end, twice, as timeout(1) does it. It ends, and so does each part.
+WAITS = GATE.replace('Part("two", "./two")', '*[Part("two", "./two")] * 20')
+ENDS = """#!/bin/sh
+timeout -k 8 1 ./gate
+[ $? = 124 ] || { echo "it does not end"; exit 1; }
+! grep -lz "^WAITS=$PWD/wait" /proc/[0-9]*/environ 2>/dev/null || { echo "a part goes on"; exit 1; }
+"""
+
+
+def ending():
+    tree = {"gate": WAITS, "one": PASSES, "two": "#!/bin/sh\nexec env WAITS=$PWD/wait sleep 20\n", "alone": PASSES, "ends": ENDS}
+    faults = (Fault("parts that aren't ended", "it does not end", (("tools/parts.py", "os.kill(pid, number)", "pass"),)),)
+    return Case("ending", ["parts.py", "counts.py"], tree, ["./ends"], faults, counts=False)
+
+
 SHELL = """#!/usr/bin/env bash
 . tools/checks.sh
 check "true is" test 1 = 1
@@ -98,4 +113,4 @@ def archive():
 
 
 def cases():
-    return [parts(), shell(), archive()]
+    return [parts(), ending(), shell(), archive()]
