@@ -11,6 +11,16 @@ DOCDIR = $(PREFIX)/share/doc/kupaldiz
 INSTALL = install
 AR = ar
 
+# A path may have blanks: from here on each is as a shell wants it. PREFIX comes last, as the others may be made of it.
+blank := $(subst ,, )
+escaped = $(subst $(blank),\$(blank),$(1))
+override DESTDIR := $(call escaped,$(DESTDIR))
+override LIBDIR := $(call escaped,$(LIBDIR))
+override INCLUDEDIR := $(call escaped,$(INCLUDEDIR))
+override MANDIR := $(call escaped,$(MANDIR))
+override DOCDIR := $(call escaped,$(DOCDIR))
+override PREFIX := $(call escaped,$(PREFIX))
+
 version_part = $(shell sed -n 's/^\#define REGISTRY_VERSION_$(1)[[:blank:]]*//p' $(HEADER)/registry.h)
 MAJOR := $(call version_part,MAJOR)
 VERSION := $(MAJOR).$(call version_part,MINOR).$(call version_part,PATCH)
@@ -78,12 +88,21 @@ install: library
 	$(INSTALL) -m 644 man/kupaldiz_netbsd.7 $(DESTDIR)$(MANDIR)/man7/kupaldiz_netbsd.7
 	$(INSTALL) -m 644 CHANGELOG.md $(DESTDIR)$(DOCDIR)/CHANGELOG.md
 
-filled = sed -e 's|@PREFIX@|$(PREFIX)|' -e 's|@LIBDIR@|$(LIBDIR)|' -e 's|@INCLUDEDIR@|$(INCLUDEDIR)|' -e 's|@VERSION@|$(VERSION)|'
+# In a .pc file a blank is written as in a shell, and sed takes a \ of its own. Whatever umask there is, everyone may read what is installed.
+in_sed = $(subst \,\\,$(1))
+filled = umask 022; sed -e 's|@PREFIX@|$(call in_sed,$(PREFIX))|' -e 's|@LIBDIR@|$(call in_sed,$(LIBDIR))|' \
+    -e 's|@INCLUDEDIR@|$(call in_sed,$(INCLUDEDIR))|' -e 's|@VERSION@|$(VERSION)|'
+
+# What an older version with the same soname has left: nothing asks for it by its whole number.
+install: without_older
+without_older: library
+	rm -f $(DESTDIR)$(LIBDIR)/libkupaldiz.so.$(MAJOR).* $(DESTDIR)$(LIBDIR)/libkupaldiz_netbsd.so.$(MAJOR).*
+	rm -f $(DESTDIR)$(LIBDIR)/pkgconfig/kupaldiz.pc $(DESTDIR)$(LIBDIR)/pkgconfig/kupaldiz-netbsd.pc
 
 # install_page PAGE,CALLS: a page, and for each call that it names a page of one line that leads to it.
 define install_page
 $(INSTALL) -m 644 man/$(1).3 $(DESTDIR)$(MANDIR)/man3/$(1).3
-for call in $(2); do echo ".so man3/$(1).3" >$(DESTDIR)$(MANDIR)/man3/$$call.3; done
+umask 022; for call in $(2); do echo ".so man3/$(1).3" >$(DESTDIR)$(MANDIR)/man3/$$call.3; done
 
 endef
 
@@ -99,4 +118,4 @@ uninstall:
 	rm -f $(DESTDIR)$(DOCDIR)/CHANGELOG.md
 	-rmdir $(NETBSD_FOLDERS:%=$(DESTDIR)$(INCLUDEDIR)/kupaldiz/netbsd/%) $(DESTDIR)$(INCLUDEDIR)/kupaldiz/netbsd $(DESTDIR)$(INCLUDEDIR)/kupaldiz $(DESTDIR)$(DOCDIR)
 
-.PHONY: library install uninstall
+.PHONY: library install without_older uninstall

@@ -8,6 +8,7 @@ proved, `rattle build` proves registry_c over these same libraries and compiles 
 archive if no file that it was proved from was touched since; else, or where it was killed for want of memory, tools/build-archive.sh proves the
 archive once `rt ci` is done. The last line is that of `rt ci` with one check more, the archive.
 """
+import contextlib
 import os
 import pathlib
 import re
@@ -21,6 +22,7 @@ import time
 
 sys.dont_write_bytecode = True
 
+from counts import ended
 from kit import below, kit, over_libraries
 from parts import GIGABYTE, LAST_LINE, ROOT, free_memory, guard, minutes, running, say, stop_running
 
@@ -89,6 +91,9 @@ class Proof(threading.Thread):
         with open(self.log, "w") as log:
             ran = subprocess.Popen(words, cwd=self.room / LIBRARY, stdin=subprocess.DEVNULL, stdout=log, stderr=log, start_new_session=True)
             running.add(ran.pid)
+            # Where memory runs out, this is what ends, and no check of rt ci.
+            with contextlib.suppress(OSError):
+                pathlib.Path(f"/proc/{ran.pid}/oom_score_adj").write_text("1000")
             status = ran.wait()
             running.discard(ran.pid)
         return status
@@ -150,8 +155,8 @@ def main():
     if not counted:
         sys.exit(last)
     passed, failed = int(counted[1]) + stands, int(counted[2]) + (not stands)
-    print(f"{'ok     ' if stands else 'FAILED '} the archive, proved and built\n{passed} passed, {failed} failed")
-    return status or int(failed > 0)
+    say(f"{'ok     ' if stands else 'FAILED '} the archive, proved and built\n")
+    return ended(passed, failed or int(status != 0))
 
 
 if __name__ == "__main__":

@@ -35,6 +35,7 @@ Part = collections.namedtuple("Part", "name command count folder memory", defaul
 Ended = collections.namedtuple("Ended", "name passed failed clock processor text")
 
 running = set()
+ENDINGS = (signal.SIGTERM, signal.SIGHUP, signal.SIGINT)
 
 
 def of_session(leader):
@@ -55,11 +56,18 @@ def stop_running():
         time.sleep(seconds if left else 0)
 
 
+def end(number, _frame):
+    """Ends this process, once: timeout(1), for one, signals it twice, and the second signal would cut off the ending of its parts."""
+    for it in ENDINGS:
+        signal.signal(it, signal.SIG_IGN)
+    sys.exit(128 + number)
+
+
 def guard():
     """However this process is told to end, its parts end with it."""
     atexit.register(stop_running)
-    for number in (signal.SIGTERM, signal.SIGHUP):
-        signal.signal(number, lambda number, _: sys.exit(128 + number))
+    for it in ENDINGS:
+        signal.signal(it, end)
 
 
 def judged(part, text, status):

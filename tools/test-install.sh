@@ -1,43 +1,52 @@
 #!/usr/bin/env bash
-# Installs libkupaldiz and libkupaldiz_netbsd into a scratch folder, builds and runs a program over each that knows it by pkg-config alone, looks at
-# what stands there, and uninstalls them. It wants clients/out/libregistry.a; the last line is 'N passed, M failed'.
+# Installs libkupaldiz and libkupaldiz_netbsd into scratch folders, looks at each file that is there, builds and runs programs that know the libraries by
+# pkg-config alone, and uninstalls them: under a folder of its own, as Debian has it, in a path with blanks, and over an older version.
+# It wants clients/out/libregistry.a; the last line is 'N passed, M failed'.
 set -uo pipefail
-cd "$(dirname "$0")/.."
+cd "$(dirname "$0")/.." || exit
 # shellcheck source=tools/checks.sh
 . tools/checks.sh
 room=$(mktemp -d)
 trap 'rm -rf "$room"; forget_log' EXIT
-prefix=/kupaldiz
-root=$room/root$prefix
 header=crates/registry_c/include/registry.h
 module=kupaldiz
 program=installed
+# What is installed from, and where to.
+clients=clients
+stage=$room/root
+prefix=/kupaldiz
+libdir=$prefix/lib
 
+# Whoever installs may have a umask that shuts others out.
 made() {
-    make -s -C clients "$1" PREFIX="$prefix" DESTDIR="$room/root"
+    (umask 077 && make -s -C "$clients" "$1" DESTDIR="$stage" PREFIX="$prefix" LIBDIR="$libdir")
 }
 
 # Like a user's own pkg-config, which finds what stands below the scratch folder.
 config() {
-    PKG_CONFIG_PATH=$root/lib/pkgconfig PKG_CONFIG_SYSROOT_DIR=$room/root pkg-config "$@" "$module"
+    PKG_CONFIG_PATH=$stage$libdir/pkgconfig PKG_CONFIG_SYSROOT_DIR=$stage pkg-config "$@" "$module"
+}
+
+version_of() {
+    sed -nE 's/^#define REGISTRY_VERSION_(MAJOR|MINOR|PATCH)[[:blank:]]+//p' "$1" | paste -sd .
 }
 
 version() {
-    sed -nE 's/^#define REGISTRY_VERSION_(MAJOR|MINOR|PATCH)[[:blank:]]+//p' "$header" | paste -sd .
+    version_of "$header"
 }
 
-# built NAME COMPILER LANGUAGE STANDARD WORDS..: the program, built with these words of pkg-config's beside the compiler's, and none of its own.
+# built NAME COMPILER LANGUAGE STANDARD LINK WORDS..: the program, built with the words that pkg-config gives for these of its own, and none beside them.
+# A path with blanks comes from it as a shell writes it.
 built() {
-    local name=$1 compiler=$2 language=$3 standard=$4
-    shift 4
-    # shellcheck disable=SC2046
-    (cd "$room" && "$compiler" -std="$standard" -Wall -Wextra -Werror -x "$language" "$OLDPWD/clients/c/$program.c" -x none -o "$name" \
-        $(config --cflags) "$@")
+    local name=$1 compiler=$2 language=$3 standard=$4 link=$5 words
+    shift 5
+    words=$(config --cflags) && words+=" $(config "$@")" || return
+    (cd "$room" && eval "\"$compiler\" -std=$standard -Wall -Wextra -Werror -x $language \"\$OLDPWD/clients/c/$program.c\" -x none -o $name $link $words")
 }
 
 # runs NAME LINE: the program ends with status 0 and this line.
 runs() {
-    [ "$(LD_LIBRARY_PATH=$root/lib "$room/$1")" = "$2" ]
+    [ "$(LD_LIBRARY_PATH=$stage$libdir "$room/$1")" = "$2" ]
 }
 
 # asks_for NAME LIBRARY..: whether the program asks for each of these shared libraries by its name with the version.
@@ -45,29 +54,37 @@ asks_for() {
     local name=$1 library
     shift
     for library; do
-        readelf -d "$room/$name" | grep -qF "[$library.so.$(version | cut -d. -f1)]" || return 1
+        readelf -d "$room/$name" | grep -F "[$library.so.$(version | cut -d. -f1)]" || return 1
     done
 }
 
 asks_for_none() {
-    ! readelf -d "$room/$1" | grep -qF kupaldiz
+    ! readelf -d "$room/$1" | grep -F kupaldiz
+}
+
+# has_soname LIBRARY: the shared library names itself without the lesser numbers.
+has_soname() {
+    readelf -d "$stage$libdir/$1.so" | grep -F "Library soname: [$1.so.$(version | cut -d. -f1)]"
 }
 
 # shown LIBRARY: the names that a shared library shows, without its version's own.
 shown() {
-    nm -D --defined-only "$root/lib/$1.so" | awk '$2 != "A" { sub(/@.*/, "", $3); print $3 }' | sort
+    nm -D --defined-only "$stage$libdir/$1.so" | awk '$2 != "A" { sub(/@.*/, "", $3); print $3 }' | sort
+}
+
+calls_of_headers() {
+    grep -hoE '^(uint32_t|size_t|struct registry_lock) registry_[a-z_]+\(' "$stage$prefix"/include/kupaldiz/*.h | grep -oE 'registry_[a-z_]+\(' | tr -d '('
 }
 
 # The shared library shows the calls of both headers and no other name.
 shows_calls_alone() {
-    diff <(grep -hoE '^(uint32_t|size_t|struct registry_lock) registry_[a-z_]+\(' "$root"/include/kupaldiz/*.h | grep -oE 'registry_[a-z_]+\(' | tr -d '(' | sort) \
-        <(shown libkupaldiz)
+    diff <(calls_of_headers | sort) <(shown libkupaldiz)
 }
 
 # That of the pages' names shows the calls that its headers declare at the head of a line and no other name.
 shows_pages_calls_alone() {
-    diff <(grep -hE '^[a-z].*\);$' "$root"/include/kupaldiz/netbsd/*.h | grep -vE '^(static|typedef) ' | sed -E 's/^[^(]*[ *]([a-z_]+)\(.*/\1/' | sort) \
-        <(shown libkupaldiz_netbsd)
+    diff <(find "$stage$prefix/include/kupaldiz/netbsd" -maxdepth 1 -name '*.h' -exec grep -hE '^[a-z].*\);$' {} + | grep -vE '^(static|typedef) ' |
+        sed -E 's/^[^(]*[ *]([a-z_]+)\(.*/\1/' | sort) <(shown libkupaldiz_netbsd)
 }
 
 # test_programs LINE LIBRARY..: the program of this module in C and in C++, over the shared libraries that it asks for and over the static ones.
@@ -79,40 +96,187 @@ test_programs() {
         set -- $each "$@"
         local name=$1 compiler=$2 language=$3 standard=$4 tongue=$5
         shift 5
-        # shellcheck disable=SC2046
-        check "$module, $tongue: built over the shared library" built "$name-shared" "$compiler" "$language" "$standard" $(config --libs)
+        check "$module, $tongue: built over the shared library" built "$name-shared" "$compiler" "$language" "$standard" "" --libs
         check "$module, $tongue: it runs" runs "$name-shared" "$tongue, $line"
         check "$module, $tongue: it asks for the library by its soname" asks_for "$name-shared" "$@"
-        # shellcheck disable=SC2046
-        check "$module, $tongue: built over the static library" built "$name-static" "$compiler" "$language" "$standard" -static $(config --static --libs)
+        check "$module, $tongue: built over the static library" built "$name-static" "$compiler" "$language" "$standard" -static --static --libs
         check "$module, $tongue: it runs" runs "$name-static" "$tongue, $line"
         check "$module, $tongue: it asks for no library" asks_for_none "$name-static"
     done
 }
 
+# A program of each module over the shared library, which is enough where the place alone differs.
+test_places() {
+    module=kupaldiz program=installed
+    check "$1: a program is built" built c gcc c c99 "" --libs
+    check "$1: it runs" runs c "C, version $(version)"
+    module=kupaldiz-netbsd program=installed_netbsd
+    check "$1: a program of the pages' names is built" built c gcc c c99 "" --libs
+    check "$1: it runs" runs c "C, by the pages' names"
+    module=kupaldiz program=installed
+}
+
 # The page of each call is found by its name, and is the one that names it.
 pages_are_found() {
     local call page
-    for call in $(grep -hoE '^(uint32_t|size_t|struct registry_lock) registry_[a-z_]+\(' "$root"/include/kupaldiz/*.h | grep -oE 'registry_[a-z_]+\(' | tr -d '('); do
-        page=$(MANPAGER=cat MANROFFOPT='' man -M "$root/share/man" 3 "$call" 2>/dev/null | col -b)
-        grep -q "$call" <<<"$page" && grep -qE '^NAME' <<<"$page" || { echo "no page $call(3)"; return 1; }
+    for call in $(calls_of_headers); do
+        page=$(MANPAGER=cat MANROFFOPT='' man -M "$stage$prefix/share/man" 3 "$call" 2>/dev/null | col -b)
+        if ! grep -q "$call" <<<"$page" || ! grep -qE '^NAME' <<<"$page"; then
+            echo "no page $call(3)"
+            return 1
+        fi
     done
 }
 
+# What is installed, but for the manual pages: kind, mode, owner and path of each file, and where a link leads.
+wanted() {
+    local me major=${1%%.*} file library
+    me=$(id -un)
+    for library in libkupaldiz libkupaldiz_netbsd; do
+        echo "f 644 $me $libdir/$library.a"
+        echo "f 755 $me $libdir/$library.so.$1"
+        echo "l 777 $me $libdir/$library.so.$major -> $library.so.$1"
+        echo "l 777 $me $libdir/$library.so -> $library.so.$major"
+    done
+    for file in "$libdir"/pkgconfig/{kupaldiz,kupaldiz-netbsd}.pc "$prefix"/include/kupaldiz/{registry,registry_waiting}.h "$prefix/share/doc/kupaldiz/CHANGELOG.md"; do
+        echo "f 644 $me $file"
+    done
+    (cd "$clients/netbsd" && find . -name '*.h' -not -path './tests/*' -not -path './src/*' -not -path './examples/*') | sed "s|^\.|f 644 $me $prefix/include/kupaldiz/netbsd|"
+}
+
+installed() {
+    find "$stage" -type f -printf '%y %m %u /%P\n' -o -type l -printf '%y %m %u /%P -> %l\n' | grep -vF "$prefix/share/man/"
+}
+
+# holds_files VERSION: those files and no others.
+holds_files() {
+    diff <(wanted "$1" | sort) <(installed | sort)
+}
+
+# Pages and folders can be read by everyone.
+open_to_all() {
+    local shut
+    shut=$(find "$stage$prefix" \( -type d -not -perm 755 \) -o \( -type f -path '*/share/man/*' -not -perm 644 \))
+    [ -z "$shut" ] || { echo "$shut"; return 1; }
+}
+
+# Nothing that is read names the scratch folder or the repository.
+names_no_place() {
+    ! grep -rlF -e "$stage" -e "$PWD" "$stage$prefix" --include='*.pc' --include='*.3' --include='*.h'
+}
+
+# asked WORDS..: what the .pc file of the module says where it is in place, as this test wants it: without a blank at the end.
+asked() {
+    PKG_CONFIG_PATH=$stage$libdir/pkgconfig pkg-config "$@" "$module" | sed 's/ *$//'
+}
+
+# pc_says LIBS STATIC: the .pc file of the module names its version, its folders and, for a shared and for a static program, these libraries.
+pc_says() {
+    diff <(printf '%s\n' "$(version)" "$libdir" "$prefix/include" "-L$libdir $1" "-L$libdir $2") \
+        <(asked --validate && asked --modversion && asked --variable=libdir && asked --variable=includedir && asked --libs && asked --static --libs)
+}
+
 leaves_nothing() {
-    [ -z "$(find "$room/root" \( -type f -o -type l \) -print)" ] && [ ! -e "$root/include/kupaldiz" ] && [ ! -e "$root/share/doc/kupaldiz" ]
+    local left
+    left=$(find "$stage" \( -type f -o -type l \) -o -type d -path '*/include/kupaldiz*' -o -type d -path '*/doc/kupaldiz*')
+    [ -z "$left" ] || { echo "$left"; return 1; }
+}
+
+# has NAME FILE WORDS..: `nm` with these words lists a function of this name. It is read to its end: nm would fail where nobody reads on.
+has() {
+    local name=$1
+    shift
+    nm "$@" 2>/dev/null | grep -E " T $name(@|\$)" >/dev/null
+}
+
+# relinks MARK LIBRARY COMMAND..: once the command has put a function MARK into a source, what is installed has it, static and shared.
+relinks() {
+    local name=$1 library=$2
+    shift 2
+    "$@" "$name" && made install && has "$name" "$stage$libdir/$library.a" && has "$name" -D "$stage$libdir/$library.so"
+}
+
+# A copy of the clients, which is changed as the work on them goes on: from here on it is what is installed from.
+copy_clients() {
+    local copy=$room/a\ copy
+    mkdir -p "$copy/clients/out" "$copy/crates/registry_c"
+    (cd clients && cp -r Makefile ./*.mk ./*.in ./*.map CHANGELOG.md c man netbsd "$copy/clients") || return
+    cp clients/out/libregistry.a "$copy/clients/out" && cp -r crates/registry_c/include "$copy/crates/registry_c"
+    clients=$copy/clients header=$copy/$header
+}
+
+# mark FILE NAME: a function more.
+mark() {
+    printf '\nvoid %s(void);\nvoid %s(void)\n{\n}\n' "$2" "$2" >>"$1"
+}
+
+change_archive() {
+    : >"$room/mark.c" && mark "$room/mark.c" "$1" && gcc -fPIC -c -o "$room/mark.o" "$room/mark.c" && ar r "$clients/out/libregistry.a" "$room/mark.o"
+}
+
+change_waiting() {
+    mark "$clients/c/waiting.c" "$1"
+}
+
+change_layer() {
+    mark "$(find "$clients/netbsd" -name '*.c' -not -path '*/tests/*' -not -path '*/examples/*' | sort | head -n 1)" "$1"
+}
+
+make_later() {
+    sed -i -E 's/^(#define REGISTRY_VERSION_PATCH[[:blank:]]+).*/\17/' "$header"
 }
 
 check "install" made install
 check "the version is the header's" test "$(config --modversion)" = "$(version)"
+check "each file, with its mode, owner and link" holds_files "$(version)"
+check "pages and folders are open to all" open_to_all
+check "nothing names the place that it was built in" names_no_place
+check "the sonames" has_soname libkupaldiz
+check "the sonames of the pages' names" has_soname libkupaldiz_netbsd
+check "what kupaldiz.pc says" pc_says "-lkupaldiz" "-lkupaldiz -pthread"
 test_programs "version $(config --modversion)" libkupaldiz
 module=kupaldiz-netbsd
 program=installed_netbsd
+check "what kupaldiz-netbsd.pc says" pc_says "-lkupaldiz_netbsd -lkupaldiz" "-lkupaldiz_netbsd -pthread -lkupaldiz -pthread"
 test_programs "by the pages' names" libkupaldiz_netbsd
 check "the shared library shows the calls alone" shows_calls_alone
 check "the shared library of the pages' names shows their calls alone" shows_pages_calls_alone
 check "each call has a page" pages_are_found
-check "the change log names the version" grep -q "^## $(version)\$" "$root/share/doc/kupaldiz/CHANGELOG.md"
+check "the change log names the version" grep -q "^## $(version)\$" "$stage$prefix/share/doc/kupaldiz/CHANGELOG.md"
 check "uninstall" made uninstall
 check "uninstall leaves nothing" leaves_nothing
+
+prefix=/usr libdir=/usr/lib/x86_64-linux-gnu stage=$room/debian
+check "a folder of Debian's: install" made install
+check "a folder of Debian's: each file" holds_files "$(version)"
+test_places "a folder of Debian's"
+check "a folder of Debian's: uninstall" made uninstall
+check "a folder of Debian's: uninstall leaves nothing" leaves_nothing
+
+prefix="/opt/a place" libdir="/opt/a place/lib" stage=$room/blanks
+check "a path with blanks: install" made install
+check "a path with blanks: each file" holds_files "$(version)"
+test_places "a path with blanks"
+check "a path with blanks: uninstall" made uninstall
+check "a path with blanks: uninstall leaves nothing" leaves_nothing
+# pkg-config takes no such root, but a package may be made in one.
+prefix=/usr libdir=/usr/lib stage="$room/a root"
+check "a root with blanks: install" made install
+check "a root with blanks: each file" holds_files "$(version)"
+check "a root with blanks: uninstall" made uninstall
+check "a root with blanks: uninstall leaves nothing" leaves_nothing
+
+prefix=/usr libdir=/usr/lib stage=$room/later
+older=$(version)
+check "an upgrade: the older version" copy_clients
+check "an upgrade: it is installed" made install
+check "an upgrade: each of its files" holds_files "$older"
+check "no stale object is linked: a changed archive" relinks registry_mark_of_archive libkupaldiz change_archive
+check "no stale object is linked: changed waits" relinks registry_mark_of_waiting libkupaldiz change_waiting
+check "no stale object is linked: changed names of the pages" relinks kupaldiz_mark libkupaldiz_netbsd change_layer
+check "an upgrade: the later version" make_later
+check "an upgrade: it is installed over the older one" made install
+check "an upgrade: each file, and none of the older version" holds_files "${older%.*}.7"
+check "an upgrade: uninstall" made uninstall
+check "an upgrade: uninstall leaves nothing" leaves_nothing
 finish

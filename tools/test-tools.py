@@ -4,7 +4,7 @@
     tools/test-tools.py [WORD]..    the tools whose names have one of the words, or all
 
 The trees and the faults are tools/tests/. A fault passes where the tool ends with another status than 0, says what the fault names, and counts a failure
-if it counts. What takes the proved program is left out where that isn't built. The last line is 'N passed, M failed'.
+if it counts. tools/test-program.py is left out, and that is said, where the proved program isn't built. The last line is 'N passed, M failed'.
 """
 import os
 import pathlib
@@ -16,10 +16,10 @@ from concurrent.futures import ThreadPoolExecutor
 sys.dont_write_bytecode = True
 
 from counts import ended
-from tests import compares, documents, pictures, programs, sources, stack
+from tests import compares, documents, gates, pictures, programs, sources, stack
 from tests.trees import lay, said_by, spoil
 
-MODULES = (documents, sources, programs, compares, pictures, stack)
+MODULES = (programs, documents, sources, gates, compares, pictures, stack)
 COUNT = re.compile(r"^(\d+) passed, (\d+) failed\s*\Z", re.MULTILINE)
 
 
@@ -65,6 +65,8 @@ def run(job):
 def main():
     cases = [case for module in MODULES for case in module.cases()]
     chosen = [it for it in cases if not sys.argv[1:] or any(word in it.name for word in sys.argv[1:])]
+    if not programs.PROVED.is_file():
+        print(f"NOT RUN: test-program, as there is no {programs.PROVED.name} that was proved and built")
     jobs = [(case, fault) for case in chosen for fault in [None, *case.faults]]
     passed = 0
     with ThreadPoolExecutor(len(os.sched_getaffinity(0))) as pool:

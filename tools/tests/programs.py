@@ -3,6 +3,7 @@ import sys
 
 from .trees import ROOT, Case, Fault, said_by
 
+PROVED = ROOT / "crates/registry_run/out/registry_run"
 VERBS = "domain,limits,attach,detach,enter,exit,find,ref,copy,held,read,drop,advance"
 # It answers for the program of the repository, too: whoever writes a kit asks that for its reports.
 FOREIGN = "#!/bin/sh\nexec tools/foreign-registry.py\n"
@@ -87,5 +88,4 @@ def test_program(proved):
 
 
 def cases():
-    proved = ROOT / "crates/registry_run/out/registry_run"
-    return [conformance_run(), conformance_write(), *([test_program(proved)] if proved.is_file() else [])]
+    return [conformance_run(), conformance_write(), *([test_program(PROVED)] if PROVED.is_file() else [])]

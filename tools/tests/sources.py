@@ -29,6 +29,8 @@ IMPORTS = {
     "crates/low/specs/Words.antt": "pub data Word\n",
     "crates/one/specs/Counts.antt": "pub data Count\n",
     "crates/one/specs/Common.antt": "pub use Rattle.one.specs.Counts.{Count};\npub use Rattle.low.specs.Words.{Word};\n",
+    # A crate's own specs can't take from there what its own other specs define.
+    "crates/one/specs/More.antt": "use Rattle.one.specs.Counts.{Count};\n",
     "crates/two/src/lib.rt": "ghost use Rattle.one.specs.Common.{Count};\n",
     "crates/two/proofs/Lemma.antt": "use Rattle.one.specs.Common.{Word};\n",
 }
@@ -41,6 +43,8 @@ def check_imports():
               (("crates/two/src/lib.rt", "ghost use", "ghost use Rattle.one.specs.Counts.{Count};\nghost use"),)),
         Fault("a name of a lower crate that is taken past it", "two/proofs/Lemma.antt imports Word of Rattle.low.specs.Words",
               (("crates/two/proofs/Lemma.antt", "use Rattle", "use Rattle.low.specs.Words.{Word};\nuse Rattle"),)),
+        Fault("a name of its own that a proof takes past it", "one/proofs/Own.antt imports Count",
+              (("crates/one/proofs/Own.antt", None, "use Rattle.one.specs.Counts.{Count};\n"),)),
         Fault("one of several names", "imports Count", (("crates/two/src/lib.rt", "ghost use", "ghost use Rattle.one.specs.Counts.{Other, Count};\nghost use"),)),
         Fault("a type that no one takes", "one/specs/Types.antt: no one imports Count",
               (("crates/one/specs/Types.antt", None, "pub use Rattle.one.specs.Counts.{Count};\n"),)),

@@ -1,0 +1,116 @@
+"""Faults that the gate itself is to see: how parts and shell tests are counted, and the archive beside `rt ci`."""
+from .trees import Case, Fault
+
+GATE = """#!/usr/bin/env python3
+import sys
+
+sys.path.insert(0, "tools")
+
+from parts import Part, gate
+
+sys.exit(gate([Part("one", "./one"), Part("two", "./two")], [Part("alone", "./alone")]))
+"""
+PASSES = "#!/bin/sh\necho begun\necho 3 passed, 0 failed\n"
+
+
+def parts():
+    """A fault of the part that runs beside another one, and of the part that is alone."""
+    tree = {"gate": GATE, "one": PASSES, "two": PASSES, "alone": PASSES}
+    faults = []
+    for part in ("one", "alone"):
+        faults += [
+            Fault(f"{part}: a failure", "8 passed, 1 failed", ((part, "3 passed, 0", "2 passed, 1"),)),
+            Fault(f"{part}: no check", "6 passed, 1 failed", ((part, "3 passed, 0", "0 passed, 0"),)),
+            Fault(f"{part}: no count", "6 passed, 1 failed", ((part, "echo 3 passed, 0 failed\n", ""),)),
+            Fault(f"{part}: a count that isn't last", "6 passed, 1 failed", ((part, "0 failed\n", "0 failed\necho more\n"),)),
+            Fault(f"{part}: another status", "9 passed, 1 failed", ((part, "0 failed\n", "0 failed\nexit 2\n"),)),
+            Fault(f"{part}: it is killed", "6 passed, 1 failed", ((part, "echo 3", "kill -KILL $$; echo 3"),)),
+            Fault(f"{part}: it isn't there", f"./{part}", ((part, PASSES, None),)),
+        ]
+    faults.append(Fault("no parts", "0 passed, 1 failed", (("gate", 'gate([Part("one", "./one"), Part("two", "./two")], [Part("alone", "./alone")])', "gate()"),)))
+    return Case("parts", ["parts.py", "counts.py"], tree, ["./gate"], faults)
+
+
+# A gate of more parts than run at once is told to end, twice, as timeout(1) does it. It ends, and so does each part.
+WAITS = GATE.replace('Part("two", "./two")', '*[Part("two", "./two")] * 20')
+ENDS = """#!/bin/sh
+timeout -k 8 1 ./gate
+[ $? = 124 ] || { echo "it does not end"; exit 1; }
+! grep -lz "^WAITS=$PWD/wait" /proc/[0-9]*/environ 2>/dev/null || { echo "a part goes on"; exit 1; }
+"""
+
+
+def ending():
+    tree = {"gate": WAITS, "one": PASSES, "two": "#!/bin/sh\nexec env WAITS=$PWD/wait sleep 20\n", "alone": PASSES, "ends": ENDS}
+    faults = (Fault("parts that aren't ended", "it does not end", (("tools/parts.py", "os.kill(pid, number)", "pass"),)),)
+    return Case("ending", ["parts.py", "counts.py"], tree, ["./ends"], faults, counts=False)
+
+
+SHELL = """#!/usr/bin/env bash
+. tools/checks.sh
+check "true is" test 1 = 1
+counted "counts" ./one
+finish
+"""
+
+
+def shell():
+    check, counted = 'check "true is" test 1 = 1\n', 'counted "counts" ./one\n'
+    faults = (
+        Fault("a check that fails", "FAILED  true is", (("shell", "test 1 = 1", "test 1 = 2"),)),
+        Fault("a command that isn't there", "FAILED  true is", (("shell", "test 1 = 1", "./gone"),)),
+        Fault("a count with a failure", "FAILED  counts: 1 of 4", (("one", "0 failed", "1 failed"),)),
+        Fault("a count of nothing", "FAILED  counts", (("one", "3 passed", "0 passed"),)),
+        Fault("no count", "FAILED  counts", (("one", "echo 3 passed, 0 failed\n", ""),)),
+        Fault("another status", "FAILED  counts", (("one", "0 failed\n", "0 failed\nexit 1\n"),)),
+        Fault("no checks", "0 passed, 1 failed", (("shell", check, ""), ("shell", counted, ""))),
+    )
+    return Case("checks.sh", ["checks.sh"], {"shell": SHELL, "one": PASSES}, ["./shell"], faults)
+
+
+# `rt ci`, the kit and what makes an archive, as far as tools/archive-beside.py sees them.
+BESIDE = {
+    "crates.txt": "low: std\nregistry_c staticlib: low std\n",
+    "crates/low/src/lib.rt": "low\n",
+    "crates/low/out/rlib/low.rlib/format": "low\n",
+    "crates/registry_c/src/lib.rt": "face\n",
+    "crates/registry_c/specs/Lib.antt": "\n",
+    "crates/registry_c/proofs/Lib.antt": "\n",
+    "clients/out/libregistry.a": "older\n",
+    "ci": '#!/bin/sh\necho "rt: low proved"\nsleep 1\necho "rt: registry_c proved"\necho 5 passed, 0 failed\n',
+    "bin/rt": '#!/bin/sh\necho "$PWD/kit/START-HERE.md"\n',
+    # It proves over the library that stands beside it, and writes what -o names.
+    "kit/bin/rattle": '#!/bin/sh\n[ "$(cat src/lib.rt ../low.rlib/format)" = "face\nlow" ] || exit 7\nfor made; do :; done\necho proved >"$made"\n',
+    "tools/build-archive.sh": '#!/bin/sh\n[ $# = 1 ] && cp "$1" clients/out/libregistry.a\n',
+    # The archive is what was proved, or there is none: else nothing else is said, and the fault goes untold.
+    "beside": """#!/bin/sh
+PATH=$PWD/bin:$PATH tools/archive-beside.py ./ci
+status=$?
+if [ -e clients/out/libregistry.a ] && [ "$(cat clients/out/libregistry.a)" != proved ]; then
+    echo "an archive that isn't proved"
+    exit 0
+fi
+exit $status
+""",
+}
+
+
+def archive():
+    ci, rattle, made = "ci", "kit/bin/rattle", 'echo proved >"$made"'
+    faults = (
+        Fault("a library beneath that isn't proved", "the archive is not built", ((ci, "low proved", "low NOT PROVED"),)),
+        Fault("a library that is never named", "the archive is not built", ((ci, "rt: low proved", "rt: low: its tests are proved"),)),
+        Fault("a proof that fails", "the archive is not proved, status 1:\nnot proved", ((rattle, made, "echo not proved; exit 1"),)),
+        Fault("a library that isn't there", "No such file or directory", (("crates/low/out/rlib/low.rlib/format", "low", None), (ci, "sleep", "rmdir crates/low/out/rlib/low.rlib; sleep"))),
+        Fault("a source that is touched meanwhile", "a file that it is proved from was touched", ((ci, "sleep", "touch crates/low/src/lib.rt; sleep"),)),
+        Fault("a source that is added meanwhile", "a file that it is proved from was touched", ((ci, "sleep", "echo >crates/low/src/more.rt; sleep"),)),
+        Fault("a proof that is killed", "its proof was killed", ((rattle, made, "kill -KILL $$"),)),
+        Fault("a failure of rt ci", "5 passed, 2 failed", ((ci, "5 passed, 0", "4 passed, 2"),)),
+        Fault("another status of rt ci", "6 passed, 1 failed", ((ci, "0 failed\n", "0 failed\nexit 2\n"),)),
+        Fault("rt ci without its count", "nothing", ((ci, "echo 5 passed, 0 failed", "echo nothing"),)),
+    )
+    return Case("archive-beside", ["archive-beside.py", "kit.py", "parts.py", "counts.py"], BESIDE, ["./beside"], faults)
+
+
+def cases():
+    return [parts(), ending(), shell(), archive()]
