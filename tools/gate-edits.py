@@ -49,7 +49,9 @@ def asked_for(edit):
     found = [it for it in functions_of(path) if it.first <= line <= it.last] if path.suffix == ".rt" else []
     if not found:
         return []
-    return ["::".join(filter(None, (module_of(path, edit.parents[1] / "src"), found[-1].name)))]
+    # A method has its type's path, wherever its `impl` stands: its end names it.
+    is_method = "::" in found[-1].name
+    return [found[-1].name if is_method else "::".join(filter(None, (module_of(path, edit.parents[1] / "src"), found[-1].name)))]
 
 
 def sources(crate):

@@ -158,6 +158,10 @@ const ROWS: &[Row] = &[
         "domain 3 4; attach 0 driver wm 7; enter 0; attach 1 driver vga 8; enter 1; enter 1; find 1 driver wm; ref 1 a; count 1 x; find 1 driver vga; ref 1 b; count 1 y; exit 1; exit 1; find 1 driver wm; copy 1 b c; held 1 c; held 0 c; read 1 a; read 1 b; drop 1 a; read 1 c; drop 1 c; peek x; peek y; plug 1 em0 9 y; uncount 2 x; audit; perform 1 1; drop 1 b; detach 1 driver wm; destroy 1 1 1; exit 0; destroy 1 1 1",
         "domain 3 4; attached 1 slot 0; inside; attached 2 slot 1; inside; inside; found 1 slot 0 value 7; ref a 1; count x 1; found 2 slot 1 value 8; ref b 2; count y 2; inside; outside; not inside; ref c 2; yes; no; read 1 value 7; read 2 value 8; dropped a 1; read 2 value 8; dropped c 2; peek 1 value 7; peek 2 value 8; attached 3 slot 2; uncounted x 1; slot 0 number 1 held 0 locals 0 1 -1 total 0; slot 1 number 2 held 1 locals 0 1 0 total 0; slot 2 number 3 held 0 locals 0 0 0 total 0; refused Waiting cpu 0; dropped b 2; retired 1 slot 0; refused StillHeld grace cpu 0; outside; destroyed slot 0",
     ),
+];
+
+/// What one call answers and leaves, and that it does nothing else.
+const ROWS_OF_CALLS: &[Row] = &[
     // Three CPUs, and an entry in slot 1: the least CPU is told, and an attach frees nothing.
     (
         "three-cpus",
@@ -224,9 +228,14 @@ const ROWS: &[Row] = &[
     ),
 ];
 
-/// Runs each row.
-fn run_rows<R: Wait + Abort>(rt: &R, alloc: Global, engine: Engine) -> Result<(), Fail> {
-    for (name, script, report) in ROWS {
+/// Runs each of the rows.
+fn run_each<R: Wait + Abort>(
+    rt: &R,
+    alloc: Global,
+    engine: Engine,
+    rows: &[Row],
+) -> Result<(), Fail> {
+    for (name, script, report) in rows {
         let (script, report) = (lines(alloc, script)?, lines(alloc, report)?);
         assert!(rt;
             writes(rt, alloc, engine, &script, &report, Ok(())),
@@ -236,12 +245,22 @@ fn run_rows<R: Wait + Abort>(rt: &R, alloc: Global, engine: Engine) -> Result<()
     Ok(())
 }
 
+fn run_rows<R: Wait + Abort>(rt: &R, alloc: Global, engine: Engine) -> Result<(), Fail> {
+    run_each(rt, alloc, engine, ROWS)
+}
+
+fn run_rows_of_calls<R: Wait + Abort>(rt: &R, alloc: Global, engine: Engine) -> Result<(), Fail> {
+    run_each(rt, alloc, engine, ROWS_OF_CALLS)
+}
+
 #[test]
 fn rows_of_the_core(rt: HostRuntime) -> Result<(), Fail> {
-    run_rows(&rt, rt.alloc(), Engine::Core)
+    run_rows(&rt, rt.alloc(), Engine::Core)?;
+    run_rows_of_calls(&rt, rt.alloc(), Engine::Core)
 }
 
 #[test]
 fn rows_of_the_live_engine(rt: HostRuntime) -> Result<(), Fail> {
-    run_rows(&rt, rt.alloc(), Engine::Live)
+    run_rows(&rt, rt.alloc(), Engine::Live)?;
+    run_rows_of_calls(&rt, rt.alloc(), Engine::Live)
 }
