@@ -66,7 +66,8 @@ class Proof(threading.Thread):
     def take(self):
         """Copies what is proved and what it is proved over: `rt ci` puts its folders out/ back as they were when it ends."""
         for part in ("src", "specs", "proofs"):
-            shutil.copytree(ROOT / "crates" / LIBRARY / part, self.room / LIBRARY / part)
+            if (ROOT / "crates" / LIBRARY / part).is_dir():
+                shutil.copytree(ROOT / "crates" / LIBRARY / part, self.room / LIBRARY / part)
         for name in below(LIBRARY):
             made = f"{name}.rlib"
             shutil.copytree(ROOT / "crates" / name / "out/rlib" / made, self.room / made, copy_function=link_or_copy)
