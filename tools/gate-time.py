@@ -50,6 +50,9 @@ def kept_of(words):
 
 def phase_of(words, folder):
     """What a check does, by its arguments and the folder that it runs in."""
+    if "--only" in words:
+        # tools/gate-edits.py: what edits begin with is kept in a folder with the crate's name.
+        return "seeds" if kept_of(words).endswith("/" + words[words.index("--crate-name") + 1]) else "edits"
     if "rt-edit" in folder:
         return "seeds" if kept_of(words).endswith("/seed") else "edits"
     if words[1] == "build" and "staticlib" in words:
