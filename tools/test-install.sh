@@ -253,7 +253,7 @@ test_places "a folder of Debian's"
 check "a folder of Debian's: uninstall" made uninstall
 check "a folder of Debian's: uninstall leaves nothing" leaves_nothing
 
-prefix="/opt/a place" libdir="/opt/a place/lib" stage=$room/blanks
+prefix="/usr/a place" libdir="/usr/a place/lib" stage=$room/blanks
 check "a path with blanks: install" made install
 check "a path with blanks: each file" holds_files "$(version)"
 test_places "a path with blanks"
