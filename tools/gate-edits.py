@@ -110,19 +110,22 @@ def copied(crate, room):
 
 
 def seeded(crate, names, room):
-    """A folder with what is proved of these functions as they stand."""
+    """A folder with what is proved of these functions as they stand, or None where they aren't: then a refusal would say nothing of an edit."""
     kept = pathlib.Path(room) / crate
     kept.mkdir()
     with tempfile.TemporaryDirectory() as scratch:
         ran = check(crate, names, copied(crate, scratch), kept)
     if ran.returncode:
         print(f"{crate}: the functions of its edits aren't proved as they stand: {ran.stdout[-600:]}", flush=True)
+        return None
     return kept
 
 
 def try_edit(crate, edit, kept):
     """Checks the functions of the edited crate, in a copy of it; what is kept there goes with the copy."""
     names = asked_for(edit)
+    if kept is None:
+        return Try(False, "NOT TRIED: the functions of this crate's edits aren't proved as they stand")
     with tempfile.TemporaryDirectory() as room:
         tree = copied(crate, room)
         _, misfit = apply(edit, tree)
