@@ -73,7 +73,8 @@ shown() {
 }
 
 calls_of_headers() {
-    grep -hoE '^(uint32_t|size_t|struct registry_lock) registry_[a-z_]+\(' "$stage$prefix"/include/kupaldiz/*.h | grep -oE 'registry_[a-z_]+\(' | tr -d '('
+    local header
+    for header in "$stage$prefix"/include/kupaldiz/*.h; do tools/face-page.py calls "$header"; done
 }
 
 # The shared library shows the calls of both headers and no other name.
