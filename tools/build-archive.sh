@@ -60,7 +60,7 @@ cp "$room/registry_c.o" "$room/compiled.o"
 [ "$processor" != x86_64 ] || tools/unwind-tables.py "$room/registry_c.o"
 heap
 "${tools}ld" -r -o "$room/whole.o" "$room/registry_c.o" "$room/heap.o"
-tools/calls-of.sh crates/registry_c/include/registry.h >"$room/calls"
+clients/calls-of.sh crates/registry_c/include/registry.h >"$room/calls"
 "${tools}objcopy" --keep-global-symbols="$room/calls" "$room/whole.o" "$room/registry.o"
 (cd "$room" && "${tools}ar" rcsD libregistry.a registry.o)
 tools/proof-record.py write "$processor" "$log" "$room/compiled.o" "$room/registry.o" >"$room/libregistry.proved"

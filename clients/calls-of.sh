@@ -1,5 +1,5 @@
 #!/usr/bin/env bash
-# Prints the calls that headers declare, sorted, one a line: tools/calls-of.sh HEADER..
+# Prints the calls that headers declare, sorted, one a line: clients/calls-of.sh HEADER..
 # A declaration begins a line, and what it answers is one or more words: `uint32_t registry_enter(..`, `const char *registry_strerror(..`.
 set -euo pipefail
 if [ $# -eq 0 ]; then
