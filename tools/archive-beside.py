@@ -129,7 +129,7 @@ def archive(proof, before):
     waited = time.monotonic() - began
     if proof.status == 0 and state() == before:
         say(f"the archive: proved beside rt ci in {minutes(proof.seconds)} minutes; rt ci had ended {minutes(waited)} minutes before\n")
-        command = ["tools/build-archive.sh", proof.made]
+        command = ["tools/build-archive.sh", proof.made, proof.log]
     elif proof.status in (0, -signal.SIGKILL):
         say(f"the archive is proved again: {'a file that it is proved from was touched' if proof.status == 0 else 'its proof was killed'}\n")
         command = ["tools/build-archive.sh"]
