@@ -3,7 +3,6 @@
 
     tools/face-page.py header registry.h        each call with its parameters, a line each and sorted
     tools/face-page.py page registry.3          the same, as the page gives it
-    tools/face-page.py calls registry.h         the names of the header's calls, a line each and sorted
     tools/face-page.py examples registry.3 C..  the examples of the page that stand in none of these sources; its status is 1 where one is left
 """
 import pathlib
@@ -22,10 +21,6 @@ def of_header(text):
     text = re.sub(r"/\*.*?\*/", "", text, flags=re.S)
     for result, name, parameters in DECLARED.findall(text):
         yield f"{result} {name}({', '.join(plain(it) for it in parameters.split(','))})"
-
-
-def calls(text):
-    return (name for _, name, _ in DECLARED.findall(text))
 
 
 def of_page(text):
@@ -52,7 +47,7 @@ def main():
         found = list(strayed(text, [pathlib.Path(source).read_text() for source in sources]))
         print("\n".join(found))
         sys.exit(len(found) > 0)
-    print("\n".join(sorted({"header": of_header, "page": of_page, "calls": calls}[kind](text))))
+    print("\n".join(sorted({"header": of_header, "page": of_page}[kind](text))))
 
 
 if __name__ == "__main__":

@@ -31,7 +31,7 @@ install_missing() {
 }
 
 declared() {
-    tools/face-page.py calls "$header"
+    clients/calls-of.sh "$header"
 }
 
 # The page names each call of the header, and no other.

@@ -73,8 +73,7 @@ shown() {
 }
 
 calls_of_headers() {
-    local header
-    for header in "$stage$prefix"/include/kupaldiz/*.h; do tools/face-page.py calls "$header"; done
+    clients/calls-of.sh "$stage$prefix"/include/kupaldiz/*.h
 }
 
 # The shared library shows the calls of both headers and no other name.
