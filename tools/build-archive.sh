@@ -55,8 +55,7 @@ compile() {
 [ -n "$library" ] || prove
 (cd "$room" && ar x "$library")
 cp "$room/registry_c.o" "$room/compiled.o"
-# The tables are read off x86-64's instructions.
-[ "$processor" != x86_64 ] || tools/unwind-tables.py "$room/registry_c.o"
+tools/unwind-tables.py "$room/registry_c.o"
 compile
 "${tools}ld" -r -o "$room/whole.o" "$room/registry_c.o" "$room/heap.o" "$room/composed.o" "$room/strings.o"
 clients/calls-of.sh crates/registry_c/include/registry.h >"$room/calls"

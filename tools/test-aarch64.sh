@@ -77,6 +77,13 @@ sees_plain_load() {
     ! ORDERED_PLANT=1 emulated "$out/ordered-layout" >"$log.said" 2>&1 && grep -q 'comes to byte 0 of a table' "$log.said"
 }
 
+# A step that isn't sequentially consistent is seen.
+sees_weaker_step() {
+    echo 'unsigned long word; unsigned long add(void) { return __atomic_fetch_add(&word, 1, __ATOMIC_RELAXED); }' |
+        "${cross}gcc" -O1 -mno-outline-atomics -c -o "$out/weaker.o" -xc - || return 1
+    ! tools/atomics.py "$out/weaker.o" "$out/ordered-layout" >"$log.said" 2>&1 && grep -q '^another instruction: ldxr' "$log.said"
+}
+
 test_clients() {
     local storm
     check "the clients in C are built, no warning" make_for clients all "out/$processor/heap_stress-none-right"
@@ -116,6 +123,7 @@ test_order() {
     check "misuse does" ordered misuse
     check "history does" ordered history 2000 1
     check "a plain load is seen" sees_plain_load
+    check "a weaker step is seen" sees_weaker_step
     check "the archive's atomic instructions are these, and all were met" tools/atomics.py "$out/libregistry.a" "$out"/ordered-{layout,misuse,history}
 }
 

@@ -6,10 +6,13 @@
  * on after it. Any instruction but the four of sequentially consistent steps on a word ends the program with status 1: a plain load or store, one
  * that is weaker, and one that works on a part of a word or on two.
  *
+ * From each of these instructions, as it is met for the first time, the unwind tables have to lead on to where the program began.
+ *
  * What is done before the opening returns isn't looked at, nor what frees the table: nobody else has it then. At its end the program says how often
  * each of the four came to a table. Where ORDERED_SITES names a file, the places of the instructions that came are written there, a line each.
  * With ORDERED_PLANT the program itself makes a plain load, which has to be seen.
  */
+#include <execinfo.h>
 #include <signal.h>
 #include <sys/mman.h>
 #include <ucontext.h>
@@ -22,7 +25,7 @@
 #endif
 
 /* The words of a table, of whatever settings: `WORDS` of cpu_words. They are one block, and no other block is as long. */
-enum { WORDS = 960, TABLE_BYTES = 8 * WORDS, MOST_TABLES = 16, MOST_CODE = 1 << 18, ZERO_REGISTER = 31 };
+enum { WORDS = 960, TABLE_BYTES = 8 * WORDS, MOST_TABLES = 16, MOST_CODE = 1 << 18, ZERO_REGISTER = 31, DEEPEST = 64 };
 
 /* What an instruction does with a word. */
 enum kind { LOAD, STORE, LOAD_EXCLUSIVE, STORE_EXCLUSIVE, KINDS };
@@ -46,6 +49,10 @@ static struct table {
 } tables[MOST_TABLES];
 
 static unsigned long counts[KINDS];
+
+/* Where the program began, as a stack tells it that needs no table of the library's; and how many places didn't lead there, of how many. */
+static void *home;
+static unsigned long lost, places_met;
 
 /* By an instruction's distance from the beginning of the program's code, in instructions. */
 static unsigned char met[MOST_CODE];
@@ -147,6 +154,25 @@ static void step(mcontext_t *machine, enum kind kind, uint32_t instruction, uint
 	machine->pc += sizeof instruction;
 }
 
+/* The last place to which the stack leads. */
+static void *outermost(void)
+{
+	void *places[DEEPEST];
+	int depth = backtrace(places, DEEPEST);
+	return depth > 0 ? places[depth - 1] : NULL;
+}
+
+/* The instruction came to a table. The first time it is seen whether the stack leads home from there. */
+static void meet(uint64_t place, uint64_t address)
+{
+	if (met[place] != 0)
+		return;
+	met[place] = 1;
+	places_met++;
+	if (outermost() != home && lost++ == 0)
+		fprintf(stderr, "ordered: no way home from %#lx\n", (unsigned long)address);
+}
+
 static void on_access(int number, siginfo_t *info, void *context)
 {
 	mcontext_t *machine = &((ucontext_t *)context)->uc_mcontext;
@@ -163,7 +189,7 @@ static void on_access(int number, siginfo_t *info, void *context)
 	if (kind == KINDS || distance % 8 != 0 || place >= MOST_CODE)
 		refuse(table, info->si_addr, machine->pc, instruction);
 	counts[kind]++;
-	met[place] = 1;
+	meet(place, machine->pc);
 	step(machine, kind, instruction, (uint64_t *)(void *)(table->behind + distance));
 }
 
@@ -184,6 +210,7 @@ static unsigned close_tables(void)
 
 registry_answer __wrap_registry_open(const struct registry_settings *settings, struct registry_keeper *keeper, struct registry_cpu *cpus, size_t count)
 {
+	home = outermost();
 	registry_answer answer = __real_registry_open(settings, keeper, cpus, count);
 	EXPECT(close_tables() == (answer == REGISTRY_DONE ? 1 : 0));
 	return answer;
@@ -204,8 +231,12 @@ static void report(void)
 	const char *path = getenv("ORDERED_SITES");
 	if (path != NULL)
 		write_sites(path);
-	fprintf(stderr, "ordered: %s %lu, %s %lu, %s %lu, %s %lu, and no other instruction\n", FORMS[LOAD].name, counts[LOAD], FORMS[STORE].name,
-	    counts[STORE], FORMS[LOAD_EXCLUSIVE].name, counts[LOAD_EXCLUSIVE], FORMS[STORE_EXCLUSIVE].name, counts[STORE_EXCLUSIVE]);
+	fprintf(stderr, "ordered: %s %lu, %s %lu, %s %lu, %s %lu, and no other instruction, at %lu places\n", FORMS[LOAD].name, counts[LOAD], FORMS[STORE].name,
+	    counts[STORE], FORMS[LOAD_EXCLUSIVE].name, counts[LOAD_EXCLUSIVE], FORMS[STORE_EXCLUSIVE].name, counts[STORE_EXCLUSIVE], places_met);
+	if (lost != 0) {
+		fprintf(stderr, "ordered: %lu of these places have no way home\n", lost);
+		_exit(1);
+	}
 }
 
 __attribute__((constructor)) static void watch(void)
