@@ -1,11 +1,12 @@
 #!/usr/bin/env bash
-# Proves and builds the static library of the C face, gives it unwind tables, and joins it with the three functions of the heap into one object, in
-# which only the calls of registry.h are seen from outside. That object alone is the archive libregistry.a. Beside it lies libregistry.proved, the record
-# of the proof. A C program needs registry.h, the archive and nothing else of the repository.
+# Proves and builds the static library of the C face, gives it unwind tables, and joins it with what is C of the archive into one object, in which only the
+# calls of registry.h are seen from outside: the three functions of the heap, and the few calls that are made of the others. That object alone is the
+# archive libregistry.a. Beside it lies libregistry.proved, the record of the proof. A C program needs registry.h, the archive and nothing else of the
+# repository.
 #
-#     tools/build-archive.sh                     proves and builds the library first: clients/out/libregistry.a
-#     tools/build-archive.sh --for PROCESSOR     the same for that processor: clients/out/PROCESSOR/libregistry.a
-#     tools/build-archive.sh LIBRARY LOG         takes libregistry_c.a as tools/archive-beside.py has proved and built it, and what the proof said
+#     tools/build-archive.sh                  proves and builds the library first: clients/out/libregistry.a
+#     tools/build-archive.sh LIBRARY LOG      takes libregistry_c.a as tools/archive-beside.py has proved and built it, and what the proof said
+#     tools/build-archive.sh --for PROCESSOR [LIBRARY LOG]     the same for that processor: clients/out/PROCESSOR/libregistry.a
 set -euo pipefail
 processor=x86_64 out=clients/out tools='' library='' log=''
 
@@ -14,17 +15,17 @@ refuse() {
     exit 2
 }
 
+if [ "${1-}" = --for ] && [ $# -gt 1 ]; then
+    [[ $2 =~ ^[a-z0-9_]+$ ]] || refuse "'$2' is no processor: x86_64 or aarch64"
+    processor=$2
+    shift 2
+fi
 case $# in
 0) ;;
-2) if [ "$1" = --for ]; then
-       [[ $2 =~ ^[a-z0-9_]+$ ]] || refuse "'$2' is no processor: x86_64 or aarch64"
-       processor=$2
-   else
-       [ -f "$1" ] || refuse "there is no library $1"
-       [ -f "$2" ] || refuse "there is no log $2"
-       library=$(realpath "$1") log=$(realpath "$2")
-   fi ;;
-*) refuse "it takes nothing, --for PROCESSOR, or LIBRARY LOG" ;;
+2) [ -f "$1" ] || refuse "there is no library $1"
+   [ -f "$2" ] || refuse "there is no log $2"
+   library=$(realpath "$1") log=$(realpath "$2") ;;
+*) refuse "it takes nothing, --for PROCESSOR, LIBRARY LOG, or both" ;;
 esac
 cd "$(dirname "$0")/.."
 if [ "$processor" != x86_64 ]; then
@@ -43,14 +44,12 @@ prove() {
     (cd crates/registry_c && rt lib "${target[@]}") 2>&1 | tee "$log"
 }
 
-# The functions of the heap, as an object: of a C file of the repository, else the kit's.
-heap() {
-    if [ -f clients/c/heap.c ]; then
-        "${tools}gcc" -O2 -fPIC -ffunction-sections -ffile-prefix-map="$PWD"=. -c -o "$room/heap.o" clients/c/heap.c
-    else
-        [ "$processor" = x86_64 ] || refuse "the kit's functions of the heap are for x86_64 alone"
-        (cd "$room" && ar x "$(dirname "$(rt doc)")/c/liblibc_c.a" && mv heap.pic.o heap.o)
-    fi
+# What is C of the archive, as objects: the functions of the heap, and the calls of the header that are made of its others.
+compile() {
+    local part
+    for part in heap composed strings; do
+        "${tools}gcc" -std=c11 -O2 -fPIC -ffunction-sections -ffile-prefix-map="$PWD"=. -Icrates/registry_c/include -c -o "$room/$part.o" "clients/c/$part.c"
+    done
 }
 
 [ -n "$library" ] || prove
@@ -58,8 +57,8 @@ heap() {
 cp "$room/registry_c.o" "$room/compiled.o"
 # The tables are read off x86-64's instructions.
 [ "$processor" != x86_64 ] || tools/unwind-tables.py "$room/registry_c.o"
-heap
-"${tools}ld" -r -o "$room/whole.o" "$room/registry_c.o" "$room/heap.o"
+compile
+"${tools}ld" -r -o "$room/whole.o" "$room/registry_c.o" "$room/heap.o" "$room/composed.o" "$room/strings.o"
 clients/calls-of.sh crates/registry_c/include/registry.h >"$room/calls"
 "${tools}objcopy" --keep-global-symbols="$room/calls" "$room/whole.o" "$room/registry.o"
 (cd "$room" && "${tools}ar" rcsD libregistry.a registry.o)

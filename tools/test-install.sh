@@ -73,7 +73,7 @@ shown() {
 }
 
 calls_of_headers() {
-    grep -hoE '^(uint32_t|size_t|struct registry_lock) registry_[a-z_]+\(' "$stage$prefix"/include/kupaldiz/*.h | grep -oE 'registry_[a-z_]+\(' | tr -d '('
+    clients/calls-of.sh "$stage$prefix"/include/kupaldiz/*.h
 }
 
 # The shared library shows the calls of both headers and no other name.
