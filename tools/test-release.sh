@@ -62,7 +62,7 @@ inside() {
     # shellcheck disable=SC2016
     timeout 1500 unshare --net --mount --pid --fork sh -c '
         if [ -n "$3" ]; then mount --bind -o ro "$3" "$1/opt/rust" || exit; fi
-        mount -t proc proc "$1/proc" && exec chroot "$1" env -i HOME=/root PATH=/usr/sbin:/usr/bin:/sbin:/bin LC_ALL=C.UTF-8 VERSION="$2" bash -eux /try' \
+        mount -t proc proc "$1/proc" && exec chroot "$1" env -i HOME=/root PATH=/usr/sbin:/usr/bin:/sbin:/bin LC_ALL=C.UTF-8 VERSION="$2" bash -eux -o pipefail /try' \
         sh "$at" "$version" "${rust-}"
     local status=$?
     rm -rf --one-file-system "$at"

@@ -1,6 +1,6 @@
 # In a root with gcc, make, pkg-config and cargo: the packages are installed by apt, programs are built over them, and all is removed to nothing.
 # tools/test-release.sh runs it.
-! command -v rt
+if command -v rt; then exit 1; fi
 export DEBIAN_FRONTEND=noninteractive
 # Everything but what dpkg and apt keep for themselves.
 files() {
@@ -28,5 +28,5 @@ echo "done: a program over librust-kupaldiz-dev"
 apt-get purge -y libkupaldiz0 libkupaldiz-dev kupaldiz-tools librust-kupaldiz-dev
 files >/tmp/after
 diff /tmp/before /tmp/after
-[ -z "$(dpkg -l | grep kupaldiz)" ]
+if dpkg -l | grep kupaldiz; then exit 1; fi
 echo "done: apt removes them to nothing"

@@ -1,5 +1,5 @@
 # In a root with gcc, make and pkg-config: the release is unpacked, its examples are built and run, and so is its source. tools/test-release.sh runs it.
-! command -v rt
+if command -v rt; then exit 1; fi
 [ "$(grep -c : /proc/net/dev)" -eq 1 ]
 ls /release
 cd /root

@@ -1,5 +1,5 @@
 # In a root with gcc, make and cmake: the examples find the release by find_package. tools/test-release.sh runs it.
-! command -v rt
+if command -v rt; then exit 1; fi
 cd /root
 tar -xf "/release/kupaldiz-$VERSION-linux-x86_64.tar.xz"
 cmake -S "kupaldiz-$VERSION-linux-x86_64/examples" -B out -DCMAKE_PREFIX_PATH="/root/kupaldiz-$VERSION-linux-x86_64"
