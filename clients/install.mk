@@ -8,6 +8,7 @@ LIBDIR = $(PREFIX)/lib
 INCLUDEDIR = $(PREFIX)/include
 MANDIR = $(PREFIX)/share/man
 DOCDIR = $(PREFIX)/share/doc/kupaldiz
+EXAMPLESDIR = $(DOCDIR)/examples
 # What the .pc files say of the prefix. A release that is unpacked anywhere says '${pcfiledir}/../..', and gives RUNPATH='$$ORIGIN', by which
 # libkupaldiz_netbsd finds libkupaldiz beside it.
 PC_PREFIX = $(PREFIX)
@@ -25,6 +26,7 @@ override DESTDIR := $(call escaped,$(DESTDIR))
 override LIBDIR := $(call escaped,$(LIBDIR))
 override INCLUDEDIR := $(call escaped,$(INCLUDEDIR))
 override MANDIR := $(call escaped,$(MANDIR))
+override EXAMPLESDIR := $(call escaped,$(EXAMPLESDIR))
 override DOCDIR := $(call escaped,$(DOCDIR))
 override PC_PREFIX := $(call escaped,$(PC_PREFIX))
 override PREFIX := $(call escaped,$(PREFIX))
@@ -135,6 +137,9 @@ umask 022; for call in $(2); do echo ".so man3/$(1).3" >$(DESTDIR)$(MANDIR)/man3
 
 endef
 
+install-examples:
+	./examples.sh $(DESTDIR)$(EXAMPLESDIR)
+
 # Builds programs over what is installed, by pkg-config alone, and runs them: with the words that `make install` had.
 installcheck:
 	CC='$(CC)' RUN='$(RUN)' ./installcheck.sh $(DESTDIR) $(LIBDIR) $(VERSION)
@@ -163,4 +168,4 @@ version:
 licence:
 	@echo $(LICENCE)
 
-.PHONY: library symbols install without_older installcheck uninstall dist version licence
+.PHONY: library symbols install install-examples without_older installcheck uninstall dist version licence

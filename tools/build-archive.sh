@@ -47,7 +47,7 @@ prove() {
 # What is C of the archive, as objects: the functions of the heap, and the calls of the header that are made of its others.
 compile() {
     local part
-    for part in heap composed strings; do
+    for part in $parts; do
         "${tools}gcc" -std=c11 -O2 -fPIC -ffunction-sections -ffile-prefix-map="$PWD"=. -Icrates/registry_c/include -c -o "$room/$part.o" "clients/c/$part.c"
     done
 }
@@ -56,8 +56,10 @@ compile() {
 (cd "$room" && ar x "$library")
 cp "$room/registry_c.o" "$room/compiled.o"
 tools/unwind-tables.py "$room/registry_c.o"
+parts=$(tools/proof-record.py parts)
 compile
-"${tools}ld" -r -o "$room/whole.o" "$room/registry_c.o" "$room/heap.o" "$room/composed.o" "$room/strings.o"
+# shellcheck disable=SC2086
+(cd "$room" && "${tools}ld" -r -o whole.o registry_c.o ${parts// /.o }.o)
 clients/calls-of.sh crates/registry_c/include/registry.h >"$room/calls"
 "${tools}objcopy" --keep-global-symbols="$room/calls" "$room/whole.o" "$room/registry.o"
 (cd "$room" && "${tools}ar" rcsD libregistry.a registry.o)

@@ -2,7 +2,8 @@
 """The record of an archive's proof, which lies beside the archive as libregistry.proved.
 
     tools/proof-record.py write PROCESSOR LOG COMPILED OBJECT    prints the record of an archive that was just made
-    tools/proof-record.py check ARCHIVE                          whether the archive is the recorded one, proved from the sources as they stand
+    tools/proof-record.py check ARCHIVE                          whether the archive is the recorded one, made from the sources as they stand
+    tools/proof-record.py parts                                  the names of the C files in clients/c that are joined with the proved object
 
 LOG is what the proof said, COMPILED the object as the compiler wrote it, OBJECT the one that is in the archive. Each line of a record is `NAME: TEXT`. `check`
 prints one line and ends with status 2 where something differs.
@@ -19,6 +20,7 @@ sys.dont_write_bytecode = True
 from kit import ROOT, below
 
 LIBRARY = "registry_c"
+PARTS = ("heap", "composed", "strings")
 VERDICT = re.compile(r"^logic=proved .*$", re.M)
 NAMES = ("processor", "kit", "verdict", "sources", "commit", "compiled", "object")
 MAKE = "tools/build-archive.sh{} proves and builds it"
@@ -39,8 +41,8 @@ def sum_of(path):
 
 
 def sources():
-    """The files that the archive is proved from."""
-    files = [ROOT / "crates.txt"]
+    """The files that the archive is proved from, and those in C that are joined with it."""
+    files = [ROOT / "crates.txt", ROOT / "crates" / LIBRARY / "include/registry.h", *(ROOT / f"clients/c/{part}.c" for part in PARTS)]
     for crate in sorted([LIBRARY, *below(LIBRARY)]):
         files += [it for part in ("src", "specs", "proofs") for it in sorted((ROOT / "crates" / crate / part).rglob("*")) if it.is_file()]
     return files
@@ -101,13 +103,17 @@ def check(name):
     if sum_in(archive) != record["object"]:
         raise Fault(f"{archive} isn't the archive that {path} tells of: {remedy}")
     if record["sources"] != sum_of_sources():
-        raise Fault(f"{archive} was proved from other sources than those that stand: {remedy}")
+        raise Fault(f"{archive} was made from other sources than those that stand: {remedy}")
+
+
+def parts():
+    print(*PARTS)
 
 
 def main(words):
-    uses = {"write": (write, 4), "check": (check, 1)}
+    uses = {"write": (write, 4), "check": (check, 1), "parts": (parts, 0)}
     if not words or words[0] not in uses or len(words) != 1 + uses[words[0]][1]:
-        print("usage: proof-record.py write PROCESSOR LOG COMPILED OBJECT | check ARCHIVE", file=sys.stderr)
+        print("usage: proof-record.py write PROCESSOR LOG COMPILED OBJECT | check ARCHIVE | parts", file=sys.stderr)
         return 2
     try:
         uses[words[0]][0](*words[1:])
