@@ -55,8 +55,7 @@ compile() {
 [ -n "$library" ] || prove
 (cd "$room" && ar x "$library")
 cp "$room/registry_c.o" "$room/compiled.o"
-# The tables are read off x86-64's instructions.
-[ "$processor" != x86_64 ] || tools/unwind-tables.py "$room/registry_c.o"
+tools/unwind-tables.py "$room/registry_c.o"
 parts=$(tools/proof-record.py parts)
 compile
 # shellcheck disable=SC2086

@@ -15,7 +15,7 @@ out=clients/out
 warnings=(-Wall -Wextra -Werror -Wpedantic -Wconversion -Wcast-qual -Wwrite-strings)
 # shellcheck source=tools/checks.sh
 . tools/checks.sh
-trap 'forget_log; rm -f "$log.said" "$log.wanted"' EXIT
+trap forget_log EXIT
 
 # Installs each package whose command is missing.
 install_missing() {
@@ -101,25 +101,6 @@ warned() {
     printf "$call" '(void)entry; registry_exit(cpu);' | gcc -O1 "${warnings[@]}" -Icrates/registry_c/include -c -o /dev/null -xc - || return 1
     # shellcheck disable=SC2059
     ! printf "$call" "$2" | gcc -O1 "${warnings[@]}" -Icrates/registry_c/include -c -o /dev/null -xc - 2>"$log.said" && grep -qe "-Werror=$1" "$log.said"
-}
-
-# says FILE COMMAND..: the command's status is 0, and it prints what stands in the file.
-says() {
-    local wanted=$1
-    shift
-    limited "$@" >"$log.said" && diff "$log.said" "$wanted"
-}
-
-row_says() {
-    says examples/retire-under-section.report "$@"
-}
-
-# A storm of so many CPUs and turns counts each lookup and reference, and nothing wrong.
-storm_says() {
-    local cpus=$1 turns=$2
-    shift 2
-    printf 'storm %d %d\nlookups %d\nreferences %d\nwrong 0\nheld 0\n' "$cpus" "$turns" $((2 * cpus * turns)) $((cpus * turns)) >"$log.wanted"
-    says "$log.wanted" "$@" "$cpus" "$turns"
 }
 
 # valgrind runs one thread at a time: in turn, where it can. Else the threads that want on may keep one from it for minutes, while the rest wait for it.
