@@ -127,12 +127,12 @@ PROJECT
 # Another version is asked for than the one that is there.
 refused_by_cmake() {
     sed -i 's/find_package(kupaldiz 0.1/find_package(kupaldiz 0.9/' "$room/cmake/CMakeLists.txt"
-    ! cmake -S "$room/cmake" -B "$room/cmake/later" -DCMAKE_PREFIX_PATH="$stage$prefix" 2>&1 | tee /dev/stderr | grep -q 'Configuring done'
+    ! cmake -S "$room/cmake" -B "$room/cmake/later" -DCMAKE_PREFIX_PATH="$stage$prefix" >"$room/said" 2>&1 && grep 'compatible with requested version "0.9"' "$room/said"
 }
 
 # What is installed with a .pc file that names no place, and moved: programs are built where it is now.
 moved() {
-    made install PC_PREFIX='${pcfiledir}/../..' && mv "$stage$prefix" "$room/moved" && stage=$room/moved prefix='' libdir=/lib PKG_CONFIG_SYSROOT_DIR='' in_place
+    made install PC_PREFIX='$${pcfiledir}/../..' && mv "$stage$prefix" "$room/moved" && stage=$room/moved prefix='' libdir=/lib PKG_CONFIG_SYSROOT_DIR='' in_place
 }
 
 in_place() {
