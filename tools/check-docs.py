@@ -4,8 +4,8 @@ turns of phrase that tools/phrases.py refuses.
 
     tools/check-docs.py            says what is wrong, and ends with 'N passed, M failed'
 
-For each document there is a check of its links and one of its names, and for a page that tools/phrases.py lists one of its phrases. How many phrases the
-other documents have is printed, and fails nothing. A name counts if it is a word of some file that isn't a document, or of a path, or if FOREIGN lists it
+For each document there is a check of its links and one of its names, and for a page that tools/phrases.py lists, a header or a manual page too, one of
+its phrases. How many phrases the other documents have is printed, and fails nothing. A name counts if it is a word of some file that isn't a document, or of a path, or if FOREIGN lists it
 with its origin.
 """
 import pathlib
@@ -123,23 +123,27 @@ def words_of(files):
     return words
 
 
+def checks_of(path, words):
+    """The checks of a page: what each is of, and what it finds."""
+    text, name = text_of(path), str(path.relative_to(ROOT))
+    if path.suffix == ".md":
+        prose = FENCED.sub("", text)
+        yield "links", list(broken(path, prose))
+        yield "names", sorted(set(unknown(prose, words)))
+    if held_to(name):
+        yield "phrases", list(awkward(name, text))
+
+
 def main():
     files = tracked()
-    documents = [path for path in files if path.suffix == ".md"]
     words = words_of(files)
     passed = failed = 0
-    for path in documents:
-        text = text_of(path)
-        prose = FENCED.sub("", text)
-        name = str(path.relative_to(ROOT))
-        checks = [("links", list(broken(path, prose))), ("names", sorted(set(unknown(prose, words))))]
-        if held_to(name):
-            checks.append(("phrases", list(awkward(name, text))))
-        for kind, found in checks:
+    for path in files:
+        for kind, found in checks_of(path, words):
             passed, failed = passed + (not found), failed + bool(found)
             for line in found:
-                print(f"{name}: {kind}: {line}")
-    say_rest(documents)
+                print(f"{path.relative_to(ROOT)}: {kind}: {line}")
+    say_rest([path for path in files if path.suffix == ".md"])
     sys.exit(ended(passed, failed))
 
 

@@ -1,5 +1,6 @@
 """Turns of phrase that readers stumble over, with what to write instead; and our private words, which a page for users does without."""
 import re
+from fnmatch import fnmatch
 
 # What is refused, and what to write.
 BANNED = (
@@ -23,16 +24,24 @@ BANNED = (
 )
 PRIVATE = ((r"\b(?:seats?|ledgers?|deeds?|hears?|heard)\b", "no private word"),)
 
-# Pages for users: neither sort is accepted. Pages that explain the protocol: only private words are.
-USERS = ("README.md", "bench/README.md", "docs/CHOOSING.md", "docs/COMMANDS.md", "docs/SCRIPTS.md")
+# Pages for users, headers and manual pages among them: neither sort is accepted. Pages that explain the protocol: only private words are.
+USERS = ("README.md", "bench/README.md", "clients/man/kupaldiz_*", "clients/netbsd/*.h", "clients/rust/README.md", "docs/CHOOSING.md", "docs/COMMANDS.md",
+         "docs/SCRIPTS.md")
 EXPLAINING = ("docs/ARCHITECTURE.md", "docs/DRIVERS.md", "docs/GUARANTEES.md", "docs/NETBSD.md", "docs/RATTLE.md", "docs/TOUR.md")
 
 FORMS = {forms: [(re.compile(form, re.IGNORECASE), better) for form, better in forms] for forms in (BANNED, PRIVATE)}
 
 
+def is_page(name, pattern):
+    """Whether the pattern names the page; its stars are for names, not for folders."""
+    return name.count("/") == pattern.count("/") and fnmatch(name, pattern)
+
+
 def held_to(name):
     """The phrases that a page of that name may not have."""
-    return BANNED + PRIVATE if name in USERS else BANNED if name in EXPLAINING else ()
+    if any(is_page(name, pattern) for pattern in USERS):
+        return BANNED + PRIVATE
+    return BANNED if name in EXPLAINING else ()
 
 
 def places(prose, phrases=BANNED):

@@ -56,6 +56,10 @@ def check_docs():
         Fault("a private word in a page for users", "line 3: 'seat': no private word", (("README.md", "is here.", "is here, by a seat."),)),
         Fault("a banned phrase where private words may be", "docs/TOUR.md: phrases: line 1: 'made up': invented",
               (("docs/TOUR.md", None, "A seat that is made up.\n"),)),
+        Fault("a banned phrase in a header", "clients/netbsd/walk.h: phrases: line 1: 'stands for': is in, contains, or means",
+              (("clients/netbsd/walk.h", None, "/* It stands for all. */\n"),)),
+        Fault("a private word in a manual page", "clients/man/kupaldiz_walk.3: phrases: line 2: 'ledger': no private word",
+              (("clients/man/kupaldiz_walk.3", None, ".Sh NAME\nA ledger.\n"),)),
         Fault("phrases elsewhere are counted", "1 phrases of tools/phrases.py in other documents: docs/page.md 1",
               (("docs/page.md", "Back to", "Whatever page, back to"), ("README.md", "is here.", "is here, but for one."))),
     )
