@@ -1,19 +1,17 @@
-# Draws a chart in SVG from the table that bench/run prints: for each contender a bar with one thread and one with the most, for one lookup on a
-# list of 8 in a section of its own and, where it was measured, in an open section. The variable `title` says which run it is.
+# Draws a chart in SVG from the table that bench/run prints: a dot for each contender on one thread, the fastest first, for one lookup on a list of 8
+# in a section of its own and, where it was measured, in an open section. The variable `title` says which run it is.
 
 BEGIN {
-    left = 130
-    scale = 170
-    line_height = 22
-    least = 1
+    left = 150
+    right = 690
+    line_height = 20
 }
 
 /^(lookup|batch), list of/ {
-    panel = $1 == "lookup," ? "a section with one lookup" : "a lookup in an open section"
+    panel = $1 == "lookup," ? "a lookup in a section of its own" : "a lookup in an open section"
     inside = $4 == 8
     if (inside)
         panels[++panel_count] = panel
-    most = $(NF - 1)
     next
 }
 
@@ -22,50 +20,83 @@ NF == 0 || /^(passive|local|aims)/ {
 }
 
 inside {
-    ++count[panel]
-    names[panel, count[panel]] = $1
-    one[panel, count[panel]] = $2
-    all[panel, count[panel]] = $5
+    insert(panel, $1, $2)
+    if ($2 > most)
+        most = $2
 }
 
 END {
-    height = 60
+    ticks = int(most / 10) + 1
+    height = 62
     for (p = 1; p <= panel_count; p++)
-        height += 30 + line_height * count[panels[p]]
-    printf "<svg xmlns=\"http://www.w3.org/2000/svg\" width=\"720\" height=\"%d\" font-family=\"sans-serif\" font-size=\"12\">\n", height
-    print "<rect width=\"100%\" height=\"100%\" fill=\"white\"/>"
-    text(10, 20, "Nanoseconds of one thread's operation, list of 8, logarithmic", "font-weight=\"bold\"")
-    text(10, 38, title "; light: 1 thread, dark: " most " threads", "fill=\"#555\"")
-    y = 50
+        height += 66 + line_height * count[panels[p]]
+    printf "<svg xmlns=\"http://www.w3.org/2000/svg\" width=\"720\" height=\"%d\" viewBox=\"0 0 720 %d\" role=\"img\">\n", height, height
+    print "<title>Nanoseconds of one lookup on one thread, list of 8</title>"
+    style()
+    print "<rect class=\"paper\" width=\"100%\" height=\"100%\"/>"
+    text(10, 22, "title", "Nanoseconds of one lookup on one thread, list of 8")
+    text(10, 40, "faint", title "; less is better")
+    y = 54
     for (p = 1; p <= panel_count; p++)
         draw(panels[p])
     print "</svg>"
 }
 
-function draw(panel,    n, top) {
-    text(10, y + 16, panel, "font-weight=\"bold\"")
-    y += 24
-    top = y
-    for (n = 1; n <= count[panel]; n++) {
-        text(10, y + 13, names[panel, n], names[panel, n] == "registry_bench" ? "font-weight=\"bold\"" : "")
-        bar(y + 2, one[panel, n], names[panel, n] == "registry_bench" ? "#f0a860" : "#a8c4e0")
-        bar(y + 10, all[panel, n], names[panel, n] == "registry_bench" ? "#d06000" : "#3a6ea5")
-        y += line_height
+# Keeps the contenders of a panel in the order of their times.
+function insert(panel, name, time,    place) {
+    for (place = ++count[panel]; place > 1 && times[panel, place - 1] + 0 > time + 0; place--) {
+        names[panel, place] = names[panel, place - 1]
+        times[panel, place] = times[panel, place - 1]
     }
-    for (n = 10; n <= 100; n *= 10)
-        printf "<line x1=\"%.1f\" y1=\"%d\" x2=\"%.1f\" y2=\"%d\" stroke=\"#ccc\"/>\n", place(n), top, place(n), y
-    y += 6
+    names[panel, place] = name
+    times[panel, place] = time
+}
+
+function draw(panel,    n, top, bottom) {
+    text(10, y + 16, "name", panel)
+    top = y + 26
+    bottom = top + line_height * count[panel]
+    axis(top, bottom)
+    for (n = 1; n <= count[panel]; n++)
+        dot(top + line_height * (n - 0.5), names[panel, n], times[panel, n])
+    y = bottom + 40
+}
+
+# A line for every ten nanoseconds, with its number under it.
+function axis(top, bottom,    n) {
+    for (n = 0; n <= ticks; n++) {
+        printf "<line class=\"grid\" x1=\"%.1f\" y1=\"%d\" x2=\"%.1f\" y2=\"%d\"/>\n", place(10 * n), top, place(10 * n), bottom
+        printf "<text class=\"faint\" text-anchor=\"middle\" x=\"%.1f\" y=\"%d\">%d</text>\n", place(10 * n), bottom + 16, 10 * n
+    }
+    printf "<text class=\"faint\" x=\"%d\" y=\"%d\">ns</text>\n", right + 14, bottom + 16
+}
+
+# A dot on its line, with the contender's name before the axis and its time beside the dot.
+function dot(middle, name, time,    kind) {
+    kind = name == "registry_bench" ? "ours" : "other"
+    text(10, middle + 4, kind == "ours" ? "name" : "", kind == "ours" ? "this library" : name)
+    printf "<line class=\"base\" x1=\"%d\" y1=\"%.1f\" x2=\"%.1f\" y2=\"%.1f\"/>\n", left, middle, place(time), middle
+    printf "<circle class=\"%s\" cx=\"%.1f\" cy=\"%.1f\" r=\"4.5\"/>\n", kind, place(time), middle
+    text(place(time) + 9, middle + 4, "faint", time)
 }
 
 function place(time) {
-    return left + scale * log(time < least ? least : time) / log(10)
+    return left + (right - left) * time / (10 * ticks)
 }
 
-function bar(top, time, colour) {
-    printf "<rect x=\"%d\" y=\"%d\" width=\"%.1f\" height=\"7\" fill=\"%s\"/>\n", left, top, place(time) - left, colour
-    printf "<text x=\"%.1f\" y=\"%d\" font-size=\"8\" fill=\"#333\">%s</text>\n", place(time) + 4, top + 7, time
+function text(x, y, kind, what) {
+    printf "<text x=\"%.1f\" y=\"%.1f\"%s>%s</text>\n", x, y, kind == "" ? "" : " class=\"" kind "\"", what
 }
 
-function text(x, y, what, how) {
-    printf "<text x=\"%d\" y=\"%d\" %s>%s</text>\n", x, y, how, what
+function style() {
+    print "<style>"
+    print "text { font: 12px sans-serif; fill: #1f2328 } .title { font: bold 15px sans-serif } .name { font: bold 12px sans-serif }"
+    print ".paper { fill: #ffffff } .faint { fill: #59636e } .grid { stroke: #e4e8ec } .base { stroke: #d0d7de }"
+    print ".ours { fill: #bc4c00 } .other { fill: #0969da }"
+    print "@media (prefers-color-scheme: dark) {"
+    print "text { fill: #e6edf3 }"
+    print ".paper { fill: #0d1117 } .faint { fill: #9da7b1 } .grid { stroke: #21262d } .base { stroke: #30363d }"
+    print ".ours { fill: #f0883e } .other { fill: #58a6ff }"
+    print "}"
+    print "</style>"
 }

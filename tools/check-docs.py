@@ -1,9 +1,12 @@
 #!/usr/bin/env python3
-"""Finds what the documents name and the tree doesn't have: links to files and headings, and names in backquotes; and tables that a line cuts off.
+"""Finds what the documents name and the tree doesn't have: links to files and headings, and names in backquotes. Also tables that a line cuts off, and
+turns of phrase that tools/phrases.py refuses.
 
-    tools/check-docs.py            says what is missing, and ends with 'N passed, M failed': one check for each document's links, one for its names
+    tools/check-docs.py            says what is wrong, and ends with 'N passed, M failed'
 
-A name counts where it stands as a word in some file that isn't a document, in a path, or where FOREIGN lists it with the place that it is from.
+For each document there is a check of its links and one of its names, and for a page that tools/phrases.py lists, a header or a manual page too, one of
+its phrases. How many phrases the other documents have is printed, and fails nothing. A name counts if it is a word of some file that isn't a document, or of a path, or if FOREIGN lists it
+with its origin.
 """
 import pathlib
 import re
@@ -13,6 +16,7 @@ import sys
 sys.dont_write_bytecode = True
 
 from counts import ended
+from phrases import held_to, places
 
 ROOT = pathlib.Path(__file__).resolve().parent.parent
 
@@ -26,7 +30,7 @@ FOREIGN = {
     "ck": "ck_epoch_section_2",
     "crossbeam": "Collector register",
     "Debian": "libck",
-    "rt": "RT_JOBS logbook logic plant unsupported dac8208d650f15bf",
+    "rt": "RT_JOBS axioms logbook logic plant trusted unsupported dac8208d650f15bf",
 }
 FOREIGN_WORDS = {word for words in FOREIGN.values() for word in words.split()}
 
@@ -91,6 +95,24 @@ def unknown(text, words):
         yield from (f"`{quoted}`: {name}" for name in named(quoted) if name not in words and name not in FOREIGN_WORDS)
 
 
+def unlinked(text):
+    """The prose with code blanked and without the targets of links, line by line as it was."""
+    without_code = FENCED.sub(lambda block: "\n" * block[0].count("\n"), text)
+    return INLINE.sub(lambda link: link[0][: link[0].rindex("](")], without_code)
+
+
+def awkward(name, text):
+    """The phrases of a document that its page may not have."""
+    yield from (f"line {number}: '{words}': {better}" for number, words, better in places(unlinked(text), held_to(name)))
+
+
+def say_rest(documents):
+    """Says how many phrases the documents have that are held to nothing."""
+    counts = {path: len(list(places(unlinked(text_of(path))))) for path in documents if not held_to(str(path.relative_to(ROOT)))}
+    found = [f"{path.relative_to(ROOT)} {count}" for path, count in sorted(counts.items(), key=lambda row: -row[1]) if count]
+    print(f"{sum(counts.values())} phrases of tools/phrases.py in other documents: {', '.join(found) or 'none'}")
+
+
 def words_of(files):
     """All words of the paths, and of the files that aren't documents."""
     words = set()
@@ -101,18 +123,27 @@ def words_of(files):
     return words
 
 
+def checks_of(path, words):
+    """The checks of a page: what each is of, and what it finds."""
+    text, name = text_of(path), str(path.relative_to(ROOT))
+    if path.suffix == ".md":
+        prose = FENCED.sub("", text)
+        yield "links", list(broken(path, prose))
+        yield "names", sorted(set(unknown(prose, words)))
+    if held_to(name):
+        yield "phrases", list(awkward(name, text))
+
+
 def main():
     files = tracked()
-    documents = [path for path in files if path.suffix == ".md"]
     words = words_of(files)
     passed = failed = 0
-    for path in documents:
-        text = text_of(path)
-        prose = FENCED.sub("", text)
-        for kind, found in (("links", list(broken(path, prose))), ("names", sorted(set(unknown(prose, words))))):
+    for path in files:
+        for kind, found in checks_of(path, words):
             passed, failed = passed + (not found), failed + bool(found)
             for line in found:
                 print(f"{path.relative_to(ROOT)}: {kind}: {line}")
+    say_rest([path for path in files if path.suffix == ".md"])
     sys.exit(ended(passed, failed))
 
 

@@ -10,7 +10,8 @@ since without it ./registry_run says on standard error that nothing is proved. W
 program anew for each engine. The last line counts the runs.
 
 Code in the documents must be part of a source, up to blank lines; what isn't is said, and fails. A fenced block `rust` is looked for in
-crates/registry_examples/src and in clients/rust/examples, a block `c` in clients/c or clients/netbsd/tests.
+crates/registry_examples/src and in clients/rust/examples, a block `c` in clients/c or clients/netbsd/tests. A block `LANGUAGE PATH` is looked for
+in that file alone, whatever the language.
 """
 import argparse
 import pathlib
@@ -71,14 +72,20 @@ def examples(path):
         sys.exit(f"{path.name}:{waiting[0]}: a script without a report or a fault after it")
 
 
+def sources_of(word):
+    """The texts of the sources that a block with this word is part of; None for a block that isn't code of ours."""
+    _, _, path = word.partition(" ")
+    files = [ROOT / path] if path else SOURCES.get(word)
+    return None if files is None else [file.read_text() for file in files if file.is_file()]
+
+
 def strayed():
-    """The place and the text of each part of code in the documents that stands in no source of the examples."""
-    sources = {word: [source.read_text() for source in files] for word, files in SOURCES.items()}
+    """The place and the text of each part of code in the documents that is in no source."""
     for page in PAGES:
         for line, word, text in blocks(page.read_text()):
-            parts = text.split("\n\n") if word in sources else []
-            for part in parts:
-                if not any(part.strip("\n") in source for source in sources[word]):
+            sources = sources_of(word)
+            for part in [] if sources is None else text.split("\n\n"):
+                if not any(part.strip("\n") in source for source in sources):
                     yield f"{page.name}:{line}", part
 
 

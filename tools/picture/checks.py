@@ -6,6 +6,7 @@ from counts import ended
 
 from .commands import Unfit
 from .drawn import FORMS, drawn
+from .svg import LETTER
 
 ROOT = pathlib.Path(__file__).resolve().parent.parent.parent
 ENDINGS = {"svg": ".svg", "text": ".picture"}
@@ -59,12 +60,24 @@ PLANTED = {
 REFUSED = ("domain 1 1\nattach 0 driver wm 7\nenter 0\nref 0 a\n", "domain 1 1\nattached 1 slot 0\ninside\nrefused NothingFound\n")
 TEXTS = {
     "a refused reference draws no bar": (*REFUSED, "NothingFound", "├─"),
+    "a failed command is told apart from its result": (*REFUSED, "ref a: NothingFound", "refused"),
+    "an advance is named where its result is": (SCRIPT, REPORT, "advance: grace cpu 0", "destroy"),
     "a reference that is acquired draws one": (SCRIPT, REPORT, "├a: wm─", "├b"),
     "the section that held a slot is named": (SCRIPT, REPORT, "grace cpu 0", "grace cpu 1"),
     "the passive reference that held it is named": (SCRIPT, REPORT, "passive cpu 0", "×"),
     "the local references that held it are counted": (SCRIPT, REPORT, "local 1", "local 2"),
     "a reference released elsewhere is marked there": (SCRIPT, REPORT, "uncount x", "uncount a"),
 }
+
+
+# What a picture's legend has and what it has not.
+LEGENDS = {
+    "the legend has a failed command, and no reference": (*REFUSED, "failed", "passive reference"),
+    "the legend has references, and no failed command": (SCRIPT, REPORT, "passive reference", "failed"),
+}
+# Commands of every sort that no bar shows: each must have a mark at its place.
+UNBARRED = ("domain 1 1\nadvance 1\npeek x\naudit\nperform 0 1\nattach 0 driver wm 7\naudit\n",
+            "domain 1 1\nrefused NotRetired\nno label\nempty\nperformed\nattached 1 slot 0\nslot 0 number 1 held 0 locals 0 total 0\n")
 
 
 def examples():
@@ -132,6 +145,40 @@ def said():
         yield name, "" if there in rows and missing not in rows else f"it should say {there}, and not {missing}"
 
 
+def legends():
+    """A legend lists what occurs, and nothing else."""
+    for name, (script, report, there, missing) in LEGENDS.items():
+        texts = re.findall(r"<text[^>]*>([^<]*)</text>", drawn("svg", "planted", script, report))
+        yield name, "" if there in texts and missing not in texts else f"it should say {there}, and not {missing}"
+
+
+def unmarked(drawing):
+    """The columns of a picture in which nothing is marked."""
+    columns = re.findall(r'<line class="grid" x1="([\d.]+)"', drawing)
+    marks = set(re.findall(r'<circle class="\w+" cx="([\d.]+)"', drawing))
+    marks.update(f"{float(x) + 4:.1f}".removesuffix(".0") for x in re.findall(r'<line class="cross" x1="([\d.]+)"', drawing))
+    return [column for column in columns if column not in marks]
+
+
+def crossed(drawing):
+    """The labels that a dotted line goes through."""
+    found = re.findall(r'<text x="([\d.]+)" y="([\d.]+)" class="label[^"]*">([^<]*)<', drawing)
+    labels = [(float(x), float(y), words) for x, y, words in found]
+    for x, *ends in re.findall(r'<line class="holds" x1="([\d.]+)" y1="([\d.]+)" x2="[\d.]+" y2="([\d.]+)"', drawing):
+        low, high = sorted(map(float, ends))
+        yield from (words for left, y, words in labels if left <= float(x) <= left + LETTER * len(words) and low < y and y - 9 < high)
+
+
+def legible():
+    """In each picture every column has a mark, and no dotted line goes through a label. One that can't be drawn `standing` has told."""
+    drawings = {script.stem: drawn_again("svg", script) for script in examples() if not differs(script.with_suffix(".svg"), "svg", script)}
+    drawings["commands that no bar shows"] = drawn("svg", "planted", *UNBARRED)
+    drawings["one of each"] = drawn("svg", "planted", SCRIPT, REPORT)
+    for name, drawing in drawings.items():
+        yield f"{name}, columns", ", ".join(f"nothing is marked at {place}" for place in unmarked(drawing))
+        yield f"{name}, dotted lines", ", ".join(f"one goes through {words}" for words in crossed(drawing))
+
+
 def nearest(crates):
     """Of each crate the crates that it stands on, without those that another of them stands on."""
     return {(crate, on) for crate, below in crates.items() for on in below if not any(on in crates.get(it, ()) for it in below)}
@@ -155,7 +202,7 @@ def layers():
 def check():
     """All checks; 1 where one failed."""
     passed = failed = 0
-    for group in (standing, documents, planted, said, layers):
+    for group in (standing, documents, planted, said, legends, legible, layers):
         for name, fault in group():
             passed, failed = passed + (not fault), failed + bool(fault)
             if fault:

@@ -1,8 +1,11 @@
 """What stands on which row of a picture: the rows of a story with their bars and marks, whichever way they are drawn."""
 from dataclasses import dataclass, field
 
-# Commands of a CPU that a bar of its row shows, so that they get no mark unless they are refused.
-BARRED = {"enter", "exit", "ref", "copy", "count", "drop"}
+# Commands of a CPU that a bar of its row shows: their marks have no label unless they failed.
+BARRED = {"enter", "exit", "ref", "copy", "count", "drop", "uncount"}
+# Which of a command's words its label has, by its place, where that isn't the word after the CPU.
+SUBJECTS = {"find": 2, "attach": 2, "detach": 2, "advance": 0, "peek": 0}
+WITHOUT_SUBJECT = {"enter", "exit", "perform", "audit"}
 
 
 @dataclass(frozen=True)
@@ -18,7 +21,7 @@ class Bar:
 
 @dataclass(frozen=True)
 class Mark:
-    """A mark at one place, with its text."""
+    """A mark at one place, with its label; an empty one is none."""
 
     kind: str
     place: int
@@ -56,6 +59,11 @@ class Scene:
     last: int
 
 
+def labelled(row):
+    """The marks of a row that have a label."""
+    return [mark for mark in row.marks if mark.text]
+
+
 def lanes(extents):
     """The first lane in which each extent, from and to, meets none before it."""
     ends, chosen = [], []
@@ -72,19 +80,21 @@ def clear_until(row, bar):
     return min((stop for stop in stops if stop > bar.start and (bar.end is None or stop < bar.end)), default=bar.end)
 
 
+def command_text(command):
+    """What a label says of a command: its word, and what it is about."""
+    if command.verb in WITHOUT_SUBJECT:
+        return command.verb
+    return f"{command.verb} {command.taken[SUBJECTS.get(command.verb, 1)]}"
+
+
 def act_text(act):
-    """What a CPU's mark says of its command."""
-    command, line = act.command, act.lines[0]
+    """What a mark says of its command: the command, and after a colon the result that the picture doesn't show."""
+    line = act.lines[0]
     if act.refused:
-        return line.removeprefix("refused ").split(" ", 1)[0] if "StillHeld" in line else line.removeprefix("refused ")
-    if command.verb == "find":
-        return f"find {command.taken[2]}" + (": none" if line == "none" else "")
-    if command.verb == "held":
-        return f"held {command.taken[1]}: {line}"
-    if command.verb == "perform":
-        return line
-    subject = command.taken[2] if command.verb in ("attach", "detach") else command.taken[1]
-    return f"{command.verb} {subject}"
+        refusal = line.removeprefix("refused ")
+        return f"{command_text(act.command)}: {'StillHeld' if refusal.startswith('StillHeld') else refusal}"
+    shown = line if line == "none" or act.command.verb == "held" else ""
+    return command_text(act.command) + (f": {shown}" if shown else "")
 
 
 def act_kind(act):
@@ -101,13 +111,40 @@ def add_sections(story, rows, bars):
 
 
 def add_acts(story, rows):
-    """Marks of each CPU's commands, but for those whose bars say it."""
+    """A mark of each command of a CPU on its row; those whose bars say it have no label."""
     away = {it.end for it in story.references if it.sort == "local" and it.released_by not in (None, it.cpu)}
     for act in story.acts:
         command = act.command
-        shown = act.refused or command.verb not in BARRED | {"uncount"} or command.place in away
-        if command.cpu is not None and shown:
-            rows[command.cpu].marks.append(Mark(act_kind(act), command.place, act_text(act)))
+        labelled = act.refused or command.verb not in BARRED or command.place in away
+        if command.cpu is not None:
+            rows[command.cpu].marks.append(Mark(act_kind(act), command.place, act_text(act) if labelled else ""))
+
+
+def row_of_advance(story, slots, number):
+    """The row of the slot that the entry of that number has or had."""
+    return next((slots[it.slot] for it in story.entries if it.number == number), None)
+
+
+def row_of_peek(story, rows, slots, label):
+    """The row of the last local reference with that label: its CPU's, or the slot's that keeps it."""
+    found = [it for it in story.references if (it.sort, it.label) == ("local", label)]
+    if not found:
+        return None
+    return slots[found[-1].keeper.slot] if found[-1].keeper else rows[found[-1].cpu]
+
+
+def add_others(story, rows, slots):
+    """The marks of commands that name no CPU, where no slot's mark shows them: a failed advance, a peek, an audit of nothing."""
+    for act in story.acts:
+        command, row = act.command, None
+        if command.verb == "advance" and act.refused:
+            row = row_of_advance(story, slots, command.taken[0])
+        elif command.verb == "peek":
+            row = row_of_peek(story, rows, slots, command.taken[0])
+        elif command.verb != "audit" or act.lines != ("empty",):
+            continue
+        text = act_text(act) if command.verb != "audit" else "audit: empty"
+        (row or [*slots.values(), *rows][0]).marks.append(Mark(act_kind(act), command.place, text))
 
 
 def add_references(story, rows, slots, bars, links):
@@ -126,8 +163,14 @@ def add_references(story, rows, slots, bars, links):
             links.append(Link("moved", it.end, row, bar, rows[it.released_by]))
 
 
+def advances(story):
+    """The places of the commands `advance`: the slot's label names them, as no CPU's row does."""
+    return {act.command.place for act in story.acts if act.command.verb == "advance"}
+
+
 def add_entries(story, slots):
     """Of each entry the bar while it is live, the bar of its wait, and the marks of both ends."""
+    turns = advances(story)
     for it in story.entries:
         row = slots[it.slot]
         row.thick.append(Bar("live", f"{it.name}, {it.number}", it.attached, it.retired))
@@ -136,14 +179,15 @@ def add_entries(story, slots):
             row.thick.append(Bar("wait", "retired", it.retired, it.freed))
             row.marks.append(Mark("retired", it.retired, "detached"))
         if it.freed:
-            row.marks.append(Mark("freed", it.freed, "freed"))
+            row.marks.append(Mark("freed", it.freed, "advance: freed" if it.freed in turns else "freed"))
 
 
 def add_obstacles(story, slots, bars, links):
     """Why a slot wasn't freed, and a link from each of its holders."""
+    turns = advances(story)
     for it in story.obstacles:
         row = slots[it.entry.slot]
-        row.marks.append(Mark("obstacle", it.place, it.text))
+        row.marks.append(Mark("obstacle", it.place, f"advance: {it.text}" if it.place in turns else it.text))
         for holder in it.holders:
             links.append(Link("holds", it.place, *bars[id(holder)], row))
 
@@ -153,7 +197,7 @@ def add_audits(story, slots):
         for line in act.lines if act.command.verb == "audit" else ():
             if line != "empty":
                 _, slot, _, _, _, held, *_ = line.split()
-                slots[int(slot)].marks.append(Mark("audit", act.command.place, f"held {held}"))
+                slots[int(slot)].marks.append(Mark("audit", act.command.place, f"audit: held {held}"))
 
 
 def scene_of(story):
@@ -167,6 +211,7 @@ def scene_of(story):
     add_entries(story, slots)
     add_obstacles(story, slots, bars, links)
     add_audits(story, slots)
+    add_others(story, rows, slots)
     every = [*rows, *slots.values()]
     for row in every:
         row.thin.sort(key=lambda bar: bar.start)

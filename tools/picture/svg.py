@@ -1,9 +1,9 @@
 """A scene as SVG, 900 wide: time to the right, a row for each CPU and slot, and the script with its report underneath."""
 from xml.sax.saxutils import escape
 
-from .scene import clear_until, lanes
+from .scene import clear_until, labelled, lanes
 
-WIDTH, LEFT, RIGHT, TOP = 900, 76, 18, 56
+WIDTH, LEFT, RIGHT, TOP = 900, 76, 18, 68
 LETTER = 6.7  # of 11 pixels, in the widest of the monospace fonts
 LABEL, BAR, THIN, NEST, GAP = 15, 22, 19, 5, 16
 LINE = 17
@@ -13,7 +13,7 @@ text { font: 11px ui-monospace, 'DejaVu Sans Mono', Menlo, Consolas, monospace; 
 .paper { fill: #ffffff } .title { font: bold 15px sans-serif } .row { font: bold 12px sans-serif }
 .label { paint-order: stroke; stroke: #ffffff; stroke-width: 4px; stroke-linejoin: round }
 .faint { fill: #59636e } .refused { fill: #b3141d }
-.grid { stroke: #e4e8ec } .base { stroke: #8c959f } .tick { stroke: #59636e }
+.grid { stroke: #e4e8ec } .base { stroke: #8c959f } .tick { stroke: #59636e } .cross { stroke: #b3141d; stroke-width: 2 }
 .section { fill: #cfe5ff; stroke: #0969da } .nested { fill: #a9d0ff } .live { fill: #c9f2d0; stroke: #1a7f37 } .wait { fill: #ffe3c7; stroke: #bc4c00 }
 .passive { fill: #8250df } .local, .kept { fill: #9a6700 }
 .holds { stroke: #bc4c00; stroke-dasharray: 2 3 } .moved { stroke: #9a6700; stroke-width: 2 }
@@ -21,14 +21,16 @@ text { font: 11px ui-monospace, 'DejaVu Sans Mono', Menlo, Consolas, monospace; 
 @media (prefers-color-scheme: dark) {
 text { fill: #e6edf3 }
 .paper { fill: #0d1117 } .label { stroke: #0d1117 } .faint { fill: #9da7b1 } .refused { fill: #ff8182 }
-.grid { stroke: #21262d } .base { stroke: #6e7681 } .tick { stroke: #9da7b1 }
+.grid { stroke: #21262d } .base { stroke: #6e7681 } .tick { stroke: #9da7b1 } .cross { stroke: #ff8182 }
 .section { fill: #14365f; stroke: #58a6ff } .nested { fill: #21568f } .live { fill: #123d20; stroke: #3fb950 } .wait { fill: #4d2a0b; stroke: #f0883e }
 .passive { fill: #bc8cff } .local, .kept { fill: #e3b341 }
 .holds { stroke: #f0883e } .moved { stroke: #e3b341 }
 .act, .audit { fill: #9da7b1 } .found { fill: #58a6ff } .attached, .freed { fill: #3fb950 } .retired, .obstacle { fill: #f0883e }
 }
 """
-LEGEND = [("wait", "retired, waiting"), ("live", "live"), ("local", "local reference"), ("passive", "passive reference"), ("section", "section")]
+# What the legend says of each sort of bar, line and mark, from the right to the left; it lists those that occur.
+LEGEND = (("refused", "failed"), ("holds", "holds the slot"), ("moved", "handed over"), ("kept", "kept by a slot"), ("wait", "retired, waiting"), ("live", "live"),
+          ("local", "local reference"), ("passive", "passive reference"), ("nested", "nested"), ("section", "section"))
 
 
 def number(value):
@@ -57,7 +59,7 @@ class Place:
 
     def __init__(self, drawing, row, top):
         self.row = row
-        self.marks = list(zip(row.marks, lanes([drawing.label_extent(mark) for mark in row.marks])))
+        self.marks = list(zip(labelled(row), lanes([drawing.label_extent(mark) for mark in labelled(row)])))
         self.levels = max((bar.depth for bar in row.thick), default=1)
         self.bar = top + LABEL * (1 + max((lane for _, lane in self.marks), default=0))
         self.height = BAR + NEST * (self.levels - 1)
@@ -129,23 +131,33 @@ class Drawing:
         if bar.end is None:
             yield text(WIDTH - RIGHT + 1, y + 5, "…", "faint")
 
-    def mark(self, place, mark, lane):
-        """The mark on the bar, its label above, and a line between them."""
-        x, label = self.x(mark.place), place.bar - 5 - LABEL * lane
-        start, _ = self.label_extent(mark)
-        yield line("tick", x, label + 2, x, place.middle)
-        yield text(start, label, mark.text, "label refused" if mark.kind == "refused" else "label")
+    def label_y(self, place, lane):
+        """The line that a label of that lane is written on."""
+        return place.bar - 5 - LABEL * lane
+
+    def dot(self, place, mark):
+        """The mark on the bar; a failed command is a cross."""
+        x, y = self.x(mark.place), place.middle
         if mark.kind == "refused":
-            yield from (line("tick", x - 4, place.middle - 4 * side, x + 4, place.middle + 4 * side) for side in (1, -1))
+            yield from (line("cross", x - 4, y - 4 * side, x + 4, y + 4 * side) for side in (1, -1))
         else:
-            yield tag("circle", mark.kind, cx=x, cy=place.middle, r=4)
+            yield tag("circle", mark.kind, cx=x, cy=y, r=4 if mark.text else 3)
+
+    def label(self, place, mark, lane):
+        start, _ = self.label_extent(mark)
+        yield text(start, self.label_y(place, lane), mark.text, "label refused" if mark.kind == "refused" else "label")
+
+    def link_end(self, link, to, y):
+        """Where a link ends: at the thin bar that begins there, above the label of its mark, or at the middle of the row's thick bar."""
+        begun = [to.thin[id(bar)] + 2 for bar in link.to.thin if link.kind == "moved" and bar.kind == "kept" and bar.start == link.place]
+        above = [self.label_y(to, lane) - 12 for mark, lane in to.marks if mark.place == link.place and y < to.bar]
+        return (begun or above or [to.middle])[0]
 
     def link(self, link):
-        """A line from a bar to another row: to the middle of the row's thick bar, or to the thin bar that begins there."""
+        """A line from a bar to another row. It crosses no label of its own."""
         start, to, x = self.of[id(link.row)], self.of[id(link.to)], self.x(link.place)
         y = start.thin[id(link.bar)] + 2 if id(link.bar) in start.thin else start.middle
-        begun = [to.thin[id(bar)] + 2 for bar in link.to.thin if link.kind == "moved" and bar.kind == "kept" and bar.start == link.place]
-        yield line(link.kind, x, y, x, begun[0] if begun else to.middle)
+        yield line(link.kind, x, y, x, self.link_end(link, to, y))
         yield tag("circle", "obstacle" if link.kind == "holds" else "local", cx=x, cy=y, r=3)
 
     def row(self, place):
@@ -157,24 +169,51 @@ class Drawing:
             yield from self.thin(place, bar)
 
     def rows(self):
+        """The rows and the links, then the lines and dots of all marks, and their labels on top."""
         for place in self.places:
             yield from self.row(place)
         for link in self.scene.links:
             yield from self.link(link)
         for place in self.places:
             for mark, lane in place.marks:
-                yield from self.mark(place, mark, lane)
+                yield line("tick", self.x(mark.place), self.label_y(place, lane) + 2, self.x(mark.place), place.middle)
+        for place in self.places:
+            for mark in place.row.marks:
+                yield from self.dot(place, mark)
+        for place in self.places:
+            for mark, lane in place.marks:
+                yield from self.label(place, mark, lane)
 
 
-def legend(x, y):
-    """What the colours mean, to the left of x."""
+def kinds(scene):
+    """The sorts of bars, lines and marks that a scene has."""
+    for row in scene.rows:
+        yield from ("nested" if bar.depth > 1 else bar.kind for bar in [*row.thick, *row.thin])
+        yield from (mark.kind for mark in row.marks)
+    yield from (link.kind for link in scene.links)
+
+
+def sample(kind, x, y):
+    """A piece of the bar or line of that kind, or its mark, on a line of text."""
+    if kind == "refused":
+        return "".join(line("cross", x + 6, y - 4 - 4 * side, x + 14, y - 4 + 4 * side) for side in (1, -1))
+    if kind in ("holds", "moved"):
+        return line(kind, x, y - 4, x + 18, y - 4)
+    if kind in ("local", "passive", "kept"):
+        return tag("rect", kind, x=x, y=y - 6, width=18, height=4, rx=1)
+    return tag("rect", "section nested" if kind == "nested" else kind, x=x, y=y - 9, width=18, height=10, rx=1)
+
+
+def legend(scene, x, y):
+    """What the bars and lines mean that occur, to the left of x."""
+    there = set(kinds(scene))
     for kind, words in LEGEND:
-        thick = kind not in ("local", "passive")
-        x -= LETTER * len(words)
-        yield text(x, y, words)
-        x -= 24
-        yield tag("rect", kind, x=x, y=y - (9 if thick else 6), width=18, height=10 if thick else 4, rx=1)
-        x -= 14
+        if kind in there:
+            x -= LETTER * len(words)
+            yield text(x, y, words)
+            x -= 24
+            yield sample(kind, x, y)
+            x -= 14
 
 
 def listing(story, top):
@@ -204,6 +243,6 @@ def svg(name, story, scene):
         tag("rect", "paper", width="100%", height="100%"),
         text(14, 24, name, "title"),
         text(LEFT - 12, TOP, "command", "faint", "end"),
-        *legend(WIDTH - RIGHT, 24), *drawing.grid(), *drawing.rows(), *drawn, "</svg>",
+        *legend(scene, WIDTH - RIGHT, 38), *drawing.grid(), *drawing.rows(), *drawn, "</svg>",
     ]
     return "\n".join(parts) + "\n"

@@ -1,12 +1,13 @@
 """A scene as text for a terminal: at most 100 columns where the script has at most thirty commands."""
-from .scene import clear_until, lanes
+from .scene import clear_until, labelled, lanes
 
 COLUMNS, LEFT, LEAST, MOST = 100, 9, 3, 10
 # The first, the middle and the last letter of each sort of bar; the letter of each sort of mark, where it has one; and those of links.
 BARS = {"section": "┣━┫", "live": "╠═╣", "wait": "╟░╢", "passive": "├─┤", "local": "├╌┤", "kept": "├╌┤"}
 MARKS = {"act": "●", "found": "●", "refused": "×", "obstacle": "●", "audit": "●"}
 LINKS = {"moved": "│", "holds": "┊"}
-LEGEND = "┣━┫ section   ├─┤ passive   ├╌┤ local   ╠═╣ live   ╟░╢ retired   ┊ holds the slot   × refused\n"
+MIDDLES = " ━═░"
+LEGEND = "┣━┫ section   ├─┤ passive   ├╌┤ local   ╠═╣ live   ╟░╢ retired   ┊ holds the slot   × failed\n"
 
 
 class Grid:
@@ -23,6 +24,10 @@ class Grid:
         row.extend(" " * (column + len(words) - len(row)))
         row[column:column + len(words)] = words
 
+    def at(self, line, column):
+        """The letter at a place; a blank where nothing was written."""
+        return self.lines[line][column] if line < len(self.lines) and column < len(self.lines[line]) else " "
+
     def text(self):
         return "".join("".join(row).rstrip() + "\n" for row in self.lines)
 
@@ -32,9 +37,9 @@ class Lines:
 
     def __init__(self, drawing, row, top):
         self.row = row
-        chosen = lanes([drawing.label_extent(mark) for mark in row.marks])
+        chosen = lanes([drawing.label_extent(mark) for mark in labelled(row)])
         self.bar = top + max(chosen, default=-1) + 1
-        self.marks = [(mark, self.bar - 1 - lane) for mark, lane in zip(row.marks, chosen)]
+        self.marks = [(mark, self.bar - 1 - lane) for mark, lane in zip(labelled(row), chosen)]
         under = self.bar + max((bar.depth for bar in row.thick), default=1)
         thin = lanes([drawing.bar_extent(bar) for bar in row.thin])
         self.of = {id(bar): self.bar + bar.depth - 1 for bar in row.thick}
@@ -89,7 +94,10 @@ class Text:
             self.bar(place.of[id(bar)], bar, bar.end, True)
         for mark, line in place.marks:
             self.grid.put(line, self.label_extent(mark)[0], mark.text)
-            self.grid.put(place.bar, self.x(mark.place), MARKS.get(mark.kind, ""))
+        for mark in place.row.marks:
+            # The ends of a bar show their commands themselves.
+            if mark.text or self.grid.at(place.bar, self.x(mark.place)) in MIDDLES:
+                self.grid.put(place.bar, self.x(mark.place), MARKS.get(mark.kind, ""))
 
     def link(self, link):
         """A line down or up from a bar to another row, under all that rows have there."""

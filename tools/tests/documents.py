@@ -50,8 +50,20 @@ def check_docs():
         Fault("a table that is cut off", "a table ends at:  | 1 2", (("README.md", "| 1 | 2 |", " | 1 2"),)),
         Fault("a new page", "docs/new.md: links: no file gone.md", (("docs/new.md", None, "[gone](gone.md)\n"),)),
         Fault("no documents", "0 passed, 1 failed", (("README.md", README, None), ("docs/page.md", PAGE, None))),
+        Fault("a banned phrase", "README.md: phrases: line 3: 'but for': except", (("README.md", "is here.", "is here, but for one."),)),
+        Fault("a banned phrase in other letters", "line 3: 'Whatever slot': any", (("README.md", "is here.", "is here. Whatever slot."),)),
+        Fault("a banned phrase in a table", "line 7: 'wants': needs", (("README.md", "| 1 | 2 |", "| 1 | wants 2 |"),)),
+        Fault("a private word in a page for users", "line 3: 'seat': no private word", (("README.md", "is here.", "is here, by a seat."),)),
+        Fault("a banned phrase where private words may be", "docs/TOUR.md: phrases: line 1: 'made up': invented",
+              (("docs/TOUR.md", None, "A seat that is made up.\n"),)),
+        Fault("a banned phrase in a header", "clients/netbsd/walk.h: phrases: line 1: 'stands for': is in, contains, or means",
+              (("clients/netbsd/walk.h", None, "/* It stands for all. */\n"),)),
+        Fault("a private word in a manual page", "clients/man/kupaldiz_walk.3: phrases: line 2: 'ledger': no private word",
+              (("clients/man/kupaldiz_walk.3", None, ".Sh NAME\nA ledger.\n"),)),
+        Fault("phrases elsewhere are counted", "1 phrases of tools/phrases.py in other documents: docs/page.md 1",
+              (("docs/page.md", "Back to", "Whatever page, back to"), ("README.md", "is here.", "is here, but for one."))),
     )
-    return Case("check-docs", ["check-docs.py", "counts.py"], DOCUMENTS, ["tools/check-docs.py"], faults, prepare=listed)
+    return Case("check-docs", ["check-docs.py", "counts.py", "phrases.py"], DOCUMENTS, ["tools/check-docs.py"], faults, prepare=listed)
 
 
 SCRIPT = "domain 1 1\nenter 0\n"
@@ -82,6 +94,12 @@ int walk_all(void);
 ```rust
 fn walk_all();
 ```
+
+```antt crates/low/specs/Walks.antt
+HasWalked = all
+
+there = so
+```
 """
 # It prints the report of the one script, and the fault of any other.
 PROGRAM = f"""#!/bin/sh
@@ -102,6 +120,7 @@ PAGES = {
     "examples/inside.report": REPORT,
     "clients/c/walk.c": "int walk_all(void);\nint walk_some(void);\n",
     "clients/rust/examples/walk.rs": "fn walk_all();\n",
+    "crates/low/specs/Walks.antt": "HasWalked = all\nhere = so\nthere = so\n",
     "program": PROGRAM,
 }
 
@@ -130,6 +149,9 @@ def run_examples():
         Fault("C code of no source", "README.md:24: no example has this code", (("clients/c/walk.c", "walk_all", "walk_none"),)),
         Fault("Rust code of no source", "README.md:28: no example has this code", (("clients/rust/examples/walk.rs", "walk_all", "walk_none"),)),
         Fault("code of another language's source", "no example has this code", (("README.md", "fn walk_all();", "int walk_some(void);"),)),
+        Fault("code that its file doesn't have", "README.md:32: no example has this code", (("crates/low/specs/Walks.antt", "there = so", "there = no"),)),
+        Fault("code of a file that is gone", "README.md:32: no example has this code", (("README.md", "low/specs/Walks.antt", "low/specs/Gone.antt"),)),
+        Fault("code of another file than the one that is named", "no example has this code", (("README.md", "```c\n", "```c crates/low/specs/Walks.antt\n"),)),
         Fault("no examples", "0 passed, 1 failed", command=["tools/run-examples.py", "--program", "program", "docs/page.md"]),
     )
     return Case("run-examples", ["run-examples.py", "counts.py"], PAGES, ["tools/run-examples.py", "--program", "program"], faults)
