@@ -19,6 +19,7 @@ sys.exit(gate(
         Part("documents", "tools/check-docs.py"),
         Part("limits", "tools/check-limits.py"),
         Part("imports", "tools/check-imports.py"),
+        Part("table of the events", "tools/event-table.py check"),
     ],
     # Every proof and test of the crates, from nothing.
     [Part("rt ci, and the archive", "tools/archive-beside.py rt ci")],
