@@ -20,7 +20,7 @@ from edits import ROOT, changes
 from functions import functions_of
 
 PAGE = ROOT / "docs/EVENTS.md"
-BEGIN, END = "<!-- tools/event-table.py make -->\n", "<!-- end -->\n"
+BEGIN, END = "<!-- tools/event-table.py make -->\n\n", "\n<!-- end -->\n"
 EVENTS = ROOT / "crates/protocol/src/event.rt"
 DEFINITIONS = ROOT / "crates/protocol/specs/Events.antt"
 KEEPING = ROOT / "crates/protocol/proofs/keeps/Keeping.antt"
