@@ -5,7 +5,7 @@
     tools/event-table.py check    makes it again and compares
 
 A row is an event and a step of `cpu_words` that makes it. Every event needs a row; every row needs a definition, a lemma of each kind and an edit.
-The last line of check is 'N passed, M failed'.
+The last line is 'N passed, M failed', and the status is 1 where one failed.
 """
 import collections
 import pathlib
@@ -27,7 +27,7 @@ KEEPING = ROOT / "crates/protocol/proofs/keeps/Keeping.antt"
 MACHINE = ROOT / "crates/passive_core/src/machine/run.rt"
 WORDS = ROOT / "crates/cpu_words"
 HEAD = "| Event | What it does | Definition | Step | What its contract cites | Lemmas | Pure machine | Edits |"
-# What `step` and `step_keeps` use for every event, and names nothing of one.
+# What `step` and `step_keeps` use for every event.
 SHARED = {"guard", "with_some", "some_outcome", "guard_keeps", "some_keeps", "standing_keeps", "step_keeps"}
 IMPORT = re.compile(r"use Rattle\.cpu_words\.((?:specs|proofs)\.[\w.]+)\.\{([^}]*)\}")
 LEMMAS = ("proofs.by_", "proofs.seats.")
@@ -82,14 +82,14 @@ def steps(known):
 
 
 def imported(path, kinds):
-    """The names that a file imports from files of `cpu_words`, with these."""
+    """The names that a file imports from modules of `cpu_words` that begin so, each with its file."""
     for module, names in IMPORT.findall(path.read_text()):
         if module.startswith(kinds):
             yield from ((name.strip(), WORDS / (module.replace(".", "/") + ".antt")) for name in names.split(","))
 
 
 def cited(step):
-    """The definitions of the crate that the step's `ensures` cite, but for those that every step cites."""
+    """The definitions of the crate that the step's `ensures` cite, except those that every step cites."""
     text = " ".join(step.ensures)
     return [link(name, path) for name, path in imported(step.function.path, "specs.")
             if re.search(rf"\b{name}\b", text) and path.stem not in ("Steps", "Rule", "Types") and "declared" not in path.parts]
@@ -157,7 +157,7 @@ def table(found):
 
 
 def faults(found):
-    """What the rows lack: a row for each event, and in a row a name for each cell but the contract's."""
+    """What the rows lack: a row for each event, and in a row a name for each cell except the contract's."""
     names = {cells[0] for cells in found}
     yield from (f"{event}: no step makes it" for event in events() if f"`{event}`" not in names)
     for cells in found:
