@@ -13,11 +13,11 @@ use crate::detaching::detach_in;
 use cpu_words::{Domain, Words};
 use local_count::LocalRef;
 use passive_list::{Cpu, Keeper};
-use registry_values::{Entry, Kind, Name, Record, Refusal};
+use registry_values::{Entry, Kind, MOST_CHANGES, Name, Record, Refusal};
 use std::sync::ledger::Book;
 
 /// More than twice the greatest number of an entry.
-const UNIT: u64 = 4_294_967_296;
+const UNIT: u64 = 2 * MOST_CHANGES + 2;
 
 /// The keeper of D's table, and the book. The book's total is what all changes of the history weigh, so a change is made only where it is counted, to the
 /// share of some CPU. The book takes no bytes.
