@@ -4,9 +4,9 @@ use Rattle.std.proofs.Common.{arith}
 use Rattle.std.proofs.lemmas.Int.{ints}
 use lib.ListN.{get_elem?}
 use Rattle.name_registry.specs.Types.{Balance, Entry, Settings, Slot, Vacant, Live, Retired, Rest, LogItem}
-use Rattle.registry_values.specs.Common.{Tally, less_bias, is_retired, slot_at}
+use Rattle.registry_values.specs.Common.{Tally, bias, less_bias, is_retired, slot_at}
 use Rattle.protocol.specs.Common.{IsIn, addition_due_at, is_adding_at, subtraction_due_at, State, count_at, mark_at, total_at}
-use Rattle.cpu_words.specs.Common.{given_up, is_drawn, occupant, occupant_of, word_if, keeper_with_note, number_at}
+use Rattle.cpu_words.specs.Common.{given_up, sum_collected, words_collected, is_drawn, occupant, occupant_of, word_if, keeper_with_note, number_at}
 use Rattle.cpu_words.proofs.by_keeper.KeeperSees.{SeenByKeeper, seen_by_keeper}
 use Rattle.cpu_words.proofs.logs.Totalled.{given_by_log}
 use Rattle.passive_list.specs.Common.{OnCpu, OnKeeper}
@@ -18,6 +18,11 @@ use Rattle.name_registry.proofs.Tallies.{alike_held, in_occupant, locals_same}
 unless_if : (b : Bool) (w : ℕ) (net : ℤ) → net_unless (word_if b w) net ≡ (if b then pos 0 else net)
 unless_if true w net = refl
 unless_if false w net = refl
+
+-- the total as plain numbers: so the arithmetic takes as long whatever the limits are
+total_sum : (total add given words due sum sub seen : ℕ) → total + add + given + bias * words ≡ bias * (1 + due) + sum + sub → seen ≡ total → add ≡ 0 → due ≡ 0 → sub ≡ 0
+    → pos sum -ℤ pos (bias * words + given) ≡ less_bias seen
+total_sum total add given words due sum sub seen even same no_add no_due no_sub = omega (arith, ints, even, same, no_add, no_due, no_sub)
 
 module _ (a : Settings) (k : OnKeeper) (xs ys : List OnCpu) (known : IsKeeperOf a k) (all : AreAllCpus a.cpus xs) (alike : AreAlike k xs ys) where
   abbrev g : State
@@ -51,8 +56,8 @@ module _ (a : Settings) (k : OnKeeper) (xs ys : List OnCpu) (known : IsKeeperOf 
       let is_adding : is_adding_at t g.due ≡ 0 = ap (is_adding_at t) due in
       let subtracting : subtraction_due_at t g.due ≡ 0 = ap (subtraction_due_at t) due in
       let same : total_at k.view.totals t ≡ total_at g.totals t = ap (λ (l : List ℕ). total_at l t) seen.totals in
-      let sum = alike.keeper.1.totals.total t n is in
-      omega (arith, ints, sum, same, adding, is_adding, subtracting)
+      total_sum (total_at g.totals t) (addition_due_at t g.due) (given_up n log) (words_collected t log) (is_adding_at t g.due) (sum_collected t log) (subtraction_due_at t g.due)
+      (total_at k.view.totals t) (alike.keeper.1.totals.total t n is) same adding is_adding subtracting
 
   -- what is said of one entry
   pub audited_is : (t : ℕ) (e : Entry) → IsIn e (slot_at k.slots t) → audited log xs e.number t ≡ tally_of k xs e.number t
