@@ -4,6 +4,7 @@ pub mod Fresh
 pub mod Kept
 pub mod Holders
 pub mod Honest
+pub mod Ordered
 pub mod Reaching
 pub mod Safety
 pub mod Waiting

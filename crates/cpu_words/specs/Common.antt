@@ -10,6 +10,7 @@ pub use Rattle.cpu_words.specs.declared.view.ReferenceView.{ReferenceView}
 pub use Rattle.cpu_words.specs.declared.view.Teller.{Teller}
 pub use Rattle.cpu_words.specs.declared.view.View.{View}
 pub use Rattle.cpu_words.specs.declared.view.View.TheVariants.{Cpu, Keeper, Note, Reference, Spent}
+pub use Rattle.cpu_words.specs.Acts.{ListGoesOn, part}
 pub use Rattle.cpu_words.specs.Balance.{HasOneSeat, IsBalanced, SeatsBalance, count_word, hand_to, held_by_seats, in_hand_to, total_word}
 pub use Rattle.cpu_words.specs.Domains.{AreWordsOf}
 pub use Rattle.cpu_words.specs.Draining.{CollectTold, HasAdded, HasCollected, HasKeptSub, HasLookedPassive, IsFoundCollected, KeptSubTold, LookedPassiveTold, MayCollect, MayJoinKeeper, MayKeptSub}
@@ -29,10 +30,11 @@ pub use Rattle.cpu_words.specs.Locals.{CountTold, DownTold, HasCounted, HasCount
 pub use Rattle.cpu_words.specs.Locals.{MayCountDown, down_reply, reference_in, reference_of_hand, with_empty_hand, with_hand, with_reference_in_hand}
 pub use Rattle.cpu_words.specs.Logs.{AreBy, AreByOwn, AreToldBefore, HasComeIf, IsSeatOf, IsStanding, IsToldBefore, IsToldByCpu, IsToldByKeeper, IsToldByReference, Knows, LoggedRuled, Maker, another}
 pub use Rattle.cpu_words.specs.Logs.{cuts_off, events_of, first_logged, fresh, gives_up, heard_by_cpu, heard_by_keeper, hears_note, joined_seat, keeps_for, known_log_of, leaves_hand}
-pub use Rattle.cpu_words.specs.Logs.{logged_after_split, logged_with_note, maker, maker_of_note, no_log, no_teller, part, seats_next, spent_seat, takes_in, teller_if, teller_of, tells_history}
+pub use Rattle.cpu_words.specs.Logs.{logged_after_split, logged_with_note, maker, maker_of_note, no_log, no_teller, seats_next, spent_seat, takes_in, teller_if, teller_of, tells_history}
 pub use Rattle.cpu_words.specs.Logs.{tells_pass, the_cpu, the_keeper, told_by_cpu, untold, who, whole_log, without_logs}
 pub use Rattle.cpu_words.specs.Notes.{CpuHears, HasHeard, KeeperHasHeard, KeeperHears, as_before, beside_cpu, beside_keeper, history_told, keeper_with_note, pass_told, with_note}
 pub use Rattle.cpu_words.specs.Opening.{AreOpening, AreSeats, MaySeat, cpu_seat, keeper_with, next_seat, one_seated, with_cpu_seated}
+pub use Rattle.cpu_words.specs.Ordered.{OrderedInTime, StandsPast, TwoMoments}
 pub use Rattle.cpu_words.specs.Passives.{HasSubtracted, IsAloneAt, IsAt, IsNamed, IsWordOf, MayAdd, MayUse, tells_added, tells_passive, tells_subtracted}
 pub use Rattle.cpu_words.specs.Publishing.{HasPublished, HasUnpublished, IsBefore, IsLinkPlace, LeadsBelow, MayPublish, MayUnpublish, PublishTold, UnpublishTold, head_with, keeper_after_unpublish}
 pub use Rattle.cpu_words.specs.Publishing.{link_index, links_with}

@@ -2,6 +2,7 @@
 -- and marks are honest.
 use Rattle.std.specs.Prelude.{◌≡◌, ◌⊎◌, ℕ, ◌<◌, List, length, Some, true, slice_index}
 use mathlib.Core.Option.{some}
+use mathlib.Core.List.{IsPrefix}
 use lib.ListN.{get_elem?}
 use Rattle.atomic_table.specs.Table.{State as Table}
 use Rattle.cpu_words.specs.Types.{Entry, Change, Mark, Settings, Retired, Event}
@@ -18,7 +19,8 @@ use Rattle.cpu_words.specs.declared.view.View.TheVariants.{Keeper, Cpu, Referenc
 use Rattle.cpu_words.specs.Spots.{passive_of, count_of, index}
 use Rattle.cpu_words.specs.Views.{references_to}
 use Rattle.cpu_words.specs.Rule.{Agrees, ShowsViews, Good, Ruled, log_of_events}
-use Rattle.cpu_words.specs.Logs.{without_logs, part, events_of, IsStanding, AreByOwn, AreToldBefore, Knows, LoggedRuled}
+use Rattle.cpu_words.specs.Acts.{part}
+use Rattle.cpu_words.specs.Logs.{without_logs, events_of, IsStanding, AreByOwn, AreToldBefore, Knows, LoggedRuled}
 use Rattle.cpu_words.specs.Vacating.{IsDrained}
 
 -- The headline of the running words
@@ -50,6 +52,8 @@ pub record RunsAsLogged (z : Settings) (s : Table ℕ Logged) : Type 0 where
   pub known : (i : ℕ) (l : Logged) → get_elem? s.views i ≡ some l → Knows l (part 0 acts)
   -- where a seat heard a CPU's note, its log says how far that CPU had come: so many events of it were made before
   pub told : AreToldBefore run.seat (after (opening z) run.events).seated acts
+  -- the list that a seat's last step on a word left begins it
+  pub lists : (i : ℕ) (l : Logged) → get_elem? s.views i ≡ some l → IsPrefix l.list acts
 
 -- so it is between any two steps
 abbrev pub RunningHeadline : Type 0

@@ -1,3 +1,4 @@
+pub mod Acts
 pub mod Common
 pub mod Spots
 pub mod Types
@@ -22,6 +23,7 @@ pub mod Logs
 pub mod Headline
 pub mod Balance
 pub mod Waiting
+pub mod Ordered
 pub mod Freed
 pub mod Fresh
 pub mod Kept

@@ -17,6 +17,7 @@ use Rattle.cpu_words.specs.declared.view.Teller.{Teller}
 use Rattle.cpu_words.specs.declared.view.Logged.{Logged}
 use Rattle.cpu_words.specs.declared.view.View.{View}
 use Rattle.cpu_words.specs.declared.view.View.TheVariants.{Keeper, Cpu, Reference, Note, Spent}
+use Rattle.cpu_words.specs.Acts.{part, ListGoesOn}
 use Rattle.cpu_words.specs.Views.{first_view, cpu_of, keeper_of, reference_of}
 use Rattle.cpu_words.specs.Rule.{did, log_item, log_of_events, Ruled}
 use Rattle.cpu_words.specs.KeeperLog.{KnownLogGrows, heard_from, IsOwnLog, IsShownAfter}
@@ -24,11 +25,6 @@ use Rattle.cpu_words.specs.KeeperLog.{KnownLogGrows, heard_from, IsOwnLog, IsSho
 -- the table without the logs
 abbrev pub without_logs : Table ℕ Logged → Table ℕ View
 without_logs s = record { words = s.words; homes = s.homes; views = map (λ (l : Logged). l.view) s.views }
-
--- of what the seats did in order, each by its place among the seats: the part by the seat i
-abbrev pub part : ℕ → List (ℕ × LogItem) → List LogItem
-part i [] = []
-part i (a ∷ rest) = if a.0 == i then a.1 ∷ part i rest else part i rest
 
 -- Who told the notes that were heard
 
@@ -154,30 +150,35 @@ pub record LoggedRuled (z : Settings) (s : Table ℕ Logged) : Type 0 where
   -- where a seat heard a note, and where a note stands or lies beside a view, its teller had come so far
   pub told : AreToldBefore run.seat run.g.seated acts
   pub tellers : (i : ℕ) (l : Logged) → get_elem? s.views i ≡ some l → HasComeIf run.seat run.g.seated acts l.teller
+  -- the list that a seat's last step left begins the list
+  pub lists : (i : ℕ) (l : Logged) → get_elem? s.views i ≡ some l → IsPrefix l.list acts
 
 -- the keeper's seat, alone
 abbrev pub first_logged : Settings → Logged
-first_logged z = record { view = first_view z; log = []; known_log = []; noted_log = []; teller = None }
+first_logged z = record { view = first_view z; log = []; known_log = []; noted_log = []; teller = None; list = [] }
 
 -- What a step is told: the seat stays of its kind, takes no slots, its log goes on with just these events, its known log stays, and the tale holds
 
 abbrev pub IsToldByCpu : (CpuView → ℕ → List LogItem) → (CpuView → ℕ → CpuView → Type 0) → Step ℕ → Me ℕ Logged → ℕ → Me ℕ Logged → Type 0
 IsToldByCpu does tells st m n l =
-    (l ≡ (record m.0 { view = Cpu (cpu_of l.0.view); log = l.0.log }, m.1)) × (l.0.log ≡ m.0.log ++ does (cpu_of m.0.view) n) × tells (cpu_of m.0.view) n (cpu_of l.0.view)
+    (l ≡ (record m.0 { view = Cpu (cpu_of l.0.view); log = l.0.log; list = l.0.list }, m.1)) × (l.0.log ≡ m.0.log ++ does (cpu_of m.0.view) n) × tells (cpu_of m.0.view) n (cpu_of l.0.view)
+    × ListGoesOn m.0.list l.0.log l.0.list
 
 abbrev pub IsToldByKeeper : (KeeperView → ℕ → List LogItem) → (KeeperView → ℕ → KeeperView → Type 0) → Step ℕ → Me ℕ Logged → ℕ → Me ℕ Logged → Type 0
 IsToldByKeeper does tells st m n l =
-    (l ≡ (record m.0 { view = Keeper (keeper_of l.0.view); log = l.0.log }, m.1)) × (l.0.log ≡ m.0.log ++ does (keeper_of m.0.view) n) × tells (keeper_of m.0.view) n (keeper_of l.0.view)
+    (l ≡ (record m.0 { view = Keeper (keeper_of l.0.view); log = l.0.log; list = l.0.list }, m.1)) × (l.0.log ≡ m.0.log ++ does (keeper_of m.0.view) n) × tells (keeper_of m.0.view) n (keeper_of l.0.view)
+    × ListGoesOn m.0.list l.0.log l.0.list
 
 abbrev pub IsToldByReference : (ReferenceView → ℕ → List LogItem) → (ReferenceView → ℕ → Type 0) → Step ℕ → Me ℕ Logged → ℕ → Me ℕ Logged → Type 0
-IsToldByReference does tells st m n l = (l ≡ (record m.0 { log = l.0.log }, m.1)) × (l.0.log ≡ m.0.log ++ does (reference_of m.0.view) n) × tells (reference_of m.0.view) n
+IsToldByReference does tells st m n l = (l ≡ (record m.0 { log = l.0.log; list = l.0.list }, m.1)) × (l.0.log ≡ m.0.log ++ does (reference_of m.0.view) n) × tells (reference_of m.0.view) n
+    × ListGoesOn m.0.list l.0.log l.0.list
 
 -- A load that hears. A CPU's seat has heard then what the keeper did: what it had heard, and what the note told, are prefixes of that, and some state shows its view in which the keeper had done just
 -- this
 abbrev pub heard_by_cpu : (CpuView → CpuView → Type 0) → Step ℕ → Me ℕ Logged → ℕ → Me ℕ Logged → Type 0
-heard_by_cpu tells st m n l = (l ≡ (record m.0 { view = Cpu (cpu_of l.0.view); log = l.0.log; known_log = l.0.known_log }, m.1))
+heard_by_cpu tells st m n l = (l ≡ (record m.0 { view = Cpu (cpu_of l.0.view); log = l.0.log; known_log = l.0.known_log; list = l.0.list }, m.1))
     × (l.0.log ≡ m.0.log ++ heard_from (Some (cpu_of m.0.view).id) m.0.teller) × tells (cpu_of m.0.view) (cpu_of l.0.view) × KnownLogGrows m.0.known_log m.0.noted_log l.0.known_log
-    × IsShownAfter l.0.known_log (Cpu (cpu_of m.0.view))
+    × IsShownAfter l.0.known_log (Cpu (cpu_of m.0.view)) × ListGoesOn m.0.list l.0.log l.0.list
 
 -- the keeper finds what the note told in its own log, and its history as long as that says
 abbrev pub heard_by_keeper : (KeeperView → ℕ → List LogItem) → (KeeperView → ℕ → KeeperView → Type 0) → Step ℕ → Me ℕ Logged → ℕ → Me ℕ Logged → Type 0
@@ -186,8 +187,8 @@ heard_by_keeper does tells st m n l = IsToldByKeeper does tells st m n l × IsOw
 -- The keeper's load that hears a note: its log says who told it
 
 abbrev pub hears_note : (KeeperView → KeeperView → Type 0) → Step ℕ → Me ℕ Logged → ℕ → Me ℕ Logged → Type 0
-hears_note tells st m n l = (l ≡ (record m.0 { view = Keeper (keeper_of l.0.view); log = l.0.log }, m.1)) × (l.0.log ≡ m.0.log ++ heard_from None m.0.teller)
-    × tells (keeper_of m.0.view) (keeper_of l.0.view) × IsOwnLog m.0.log m.0.noted_log (keeper_of m.0.view)
+hears_note tells st m n l = (l ≡ (record m.0 { view = Keeper (keeper_of l.0.view); log = l.0.log; list = l.0.list }, m.1)) × (l.0.log ≡ m.0.log ++ heard_from None m.0.teller)
+    × tells (keeper_of m.0.view) (keeper_of l.0.view) × IsOwnLog m.0.log m.0.noted_log (keeper_of m.0.view) × ListGoesOn m.0.list l.0.log l.0.list
 
 -- How seats are cut and joined: the log goes on, and a new seat's is empty
 
@@ -217,7 +218,7 @@ abbrev pub told_by_cpu : Logged → Option Teller
 told_by_cpu l = Some (teller_of (cpu_of l.view) l.log)
 
 abbrev pub fresh : (View → View) → (Logged → List LogItem) → (Logged → Option Teller) → Logged → Logged
-fresh right tells by l = record { view = right l.view; log = []; known_log = tells l; noted_log = []; teller = by l }
+fresh right tells by l = record { view = right l.view; log = []; known_log = tells l; noted_log = []; teller = by l; list = [] }
 
 abbrev pub joined_seat : (View → View → View) → (View → View → List LogItem) → Logged → Logged → Logged
 joined_seat both does l m = record l { view = both l.view m.view; log = l.log ++ does l.view m.view }
@@ -227,7 +228,7 @@ abbrev pub logged_with_note : (View → View → View) → Logged → Logged →
 logged_with_note both l m = record l { view = both l.view m.view; noted_log = m.known_log; teller = m.teller }
 
 abbrev pub spent_seat : Logged
-spent_seat = record { view = Spent; log = []; known_log = []; noted_log = []; teller = None }
+spent_seat = record { view = Spent; log = []; known_log = []; noted_log = []; teller = None; list = [] }
 
 -- What a cut or a join does
 

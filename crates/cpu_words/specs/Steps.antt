@@ -11,6 +11,7 @@ use Rattle.cpu_words.specs.declared.view.ReferenceView.{ReferenceView}
 use Rattle.cpu_words.specs.declared.view.LogItem.{LogItem}
 use Rattle.cpu_words.specs.declared.view.View.{View}
 use Rattle.cpu_words.specs.declared.view.View.TheVariants.{Keeper, Cpu, Reference}
+use Rattle.cpu_words.specs.Acts.{ListGoesOn}
 use Rattle.cpu_words.specs.Views.{Seated, Shown, cpu_of, keeper_of, reference_of}
 use Rattle.cpu_words.specs.Rule.{Good, Ruled, GoesOn, did, number_of_id, reference_to}
 
@@ -32,13 +33,24 @@ pub record Makes (e : Event) (r : Reply) (v w : View) : Type 0 where
   pub shown : Shown after w
   pub same : OneSeat v w
 
--- The seat did just these: its log goes on with them alone, and its table, its known log, and the note beside its view with that note's teller stay
+-- The seat is cut in two, or takes another one in, and did just these by that: its log goes on with them alone, and all else beside its view stays
+pub record SeatRegroups {X : Type 0} (ds : List LogItem) (a b : Seated X) : Type 0 where
+  pub table : b.table ≡ a.table
+  pub log : b.log ≡ a.log ++ ds
+  pub known_log : b.known_log ≡ a.known_log
+  pub noted_log : b.noted_log ≡ a.noted_log
+  pub teller : b.teller ≡ a.teller
+  pub list : b.list ≡ a.list
+
+-- The seat stepped on a word, and did just these: its log goes on with them alone, and so does the list that it knows. Its table, its known log, and the note beside its view with that note's teller
+-- stay
 pub record SeatGoesOn {X : Type 0} (ds : List LogItem) (a b : Seated X) : Type 0 where
   pub table : b.table ≡ a.table
   pub log : b.log ≡ a.log ++ ds
   pub known_log : b.known_log ≡ a.known_log
   pub noted_log : b.noted_log ≡ a.noted_log
   pub teller : b.teller ≡ a.teller
+  pub list : ListGoesOn a.list b.log b.list
 
 -- the same of a seat that made just this event of the core, with this reply; `of` is the kind of its view
 pub record SeatMakes {X : Type 0} (of : X → View) (e : Event) (r : Reply) (a b : Seated X) : Type 0 where
@@ -48,6 +60,7 @@ pub record SeatMakes {X : Type 0} (of : X → View) (e : Event) (r : Reply) (a b
   pub known_log : b.known_log ≡ a.known_log
   pub noted_log : b.noted_log ≡ a.noted_log
   pub teller : b.teller ≡ a.teller
+  pub list : ListGoesOn a.list b.log b.list
 
 -- A seat that is cut in two, or takes in another, changes no word: in whatever state of the core shows the views before, just the event is made,
 -- and the views after are shown, with as many seats of references as the core has live references.

@@ -30,6 +30,8 @@ pub record Seated (X : Type 0) : Type 0 where
   pub noted_log : List LogItem
   -- of a note, who told it; of another seat, who told the note beside its view
   pub teller : Option Teller
+  -- the list of all events, as the seat's last step on a word left it
+  pub list : List (ℕ × LogItem)
 
 -- a table and what it was made for, to a contract
 pub record Named : Type 0 where

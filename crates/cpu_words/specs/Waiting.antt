@@ -12,7 +12,8 @@ use Rattle.cpu_words.specs.declared.view.Logged.{Logged}
 use Rattle.cpu_words.specs.declared.view.Teller.{Teller}
 use Rattle.cpu_words.specs.declared.view.View.TheVariants.{Keeper, Cpu}
 use Rattle.cpu_words.specs.KeeperLog.{changes_in, HasHeardFrom, HasWaited, IsSeenOut}
-use Rattle.cpu_words.specs.Logs.{without_logs, part, LoggedRuled}
+use Rattle.cpu_words.specs.Acts.{part}
+use Rattle.cpu_words.specs.Logs.{without_logs, LoggedRuled}
 use Rattle.cpu_words.specs.Headline.{RunsAsLogged, SectionMayHold}
 
 -- Of one CPU: the keeper took its section word in `looks`, after it had done `before`. The section that was open on this CPU at that load has ended, also one that began after `before`.

@@ -5,6 +5,7 @@ ghost use Rattle.cpu_words.specs.Waiting.{WaitingEnds};
 ghost use Rattle.cpu_words.specs.Freed.{FreedByKeeper, FreedIsGone};
 ghost use Rattle.cpu_words.specs.Fresh.{LookupsAreFresh, WholeInTheList};
 ghost use Rattle.cpu_words.specs.Kept.{AttachedKeeps};
+ghost use Rattle.cpu_words.specs.Ordered.{OrderedInTime};
 ghost use Rattle.cpu_words.specs.Balance.{SeatsBalance};
 
 /// Theorem, no effect at run time: in every state of the table, between any two steps of any threads, these laws hold.
@@ -12,6 +13,8 @@ ghost use Rattle.cpu_words.specs.Balance.{SeatsBalance};
 /// - `run`: a list of events leads from the opening to a state that the words and the views of all seats show. That state has the core
 ///   invariant, a run of the model reaches its picture, and it obeys all laws of the protocol. The list is what the seats did: each seat made
 ///   its own events, and its log has just these in order, with their replies. A moment is a place in that list.
+/// - `grows`: of two moments, what any seat knew of the list at the earlier one stands, in each list that explains the later one, before all
+///   that any seat did in between. A seat knows the list as its last step on a word left it, with all that the seat did.
 /// - `held`: an entry has its slot while a CPU's open section may hold it, while a CPU has a passive reference to it, or while a CPU, a seat or
 ///   a slot has a local one.
 /// - `fresh`: a search that a CPU's log shows from its Seek to its answer was answered by the registry at some point between these two places
@@ -32,6 +35,7 @@ ghost use Rattle.cpu_words.specs.Balance.{SeatsBalance};
 pub fn running_headline()
     ensures run { RunningHeadline }
     ensures held { HeldHaveSlots }
+    ensures grows { OrderedInTime }
     ensures fresh { LookupsAreFresh }
     ensures whole { WholeInTheList }
     ensures waiting { WaitingEnds }

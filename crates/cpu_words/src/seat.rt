@@ -22,7 +22,7 @@ pub struct KeeperSeat {
 impl Model for KeeperSeat {
     ghost Value = { Seated KeeperView };
 
-    ghost view = { λ s. record { table = s.token.table_id; view = keeper_of s.token.me.0.view; log = s.token.me.0.log; known_log = s.token.me.0.known_log; noted_log = s.token.me.0.noted_log; teller = s.token.me.0.teller } };
+    ghost view = { λ s. record { table = s.token.table_id; view = keeper_of s.token.me.0.view; log = s.token.me.0.log; known_log = s.token.me.0.known_log; noted_log = s.token.me.0.noted_log; teller = s.token.me.0.teller; list = s.token.me.0.list } };
 
     ghost invariant = { λ s. s.token.me ≡ (record s.token.me.0 { view = Keeper (keeper_of s.token.me.0.view) }, []) };
 }
@@ -36,7 +36,7 @@ pub struct CpuSeat {
 impl Model for CpuSeat {
     ghost Value = { Seated CpuView };
 
-    ghost view = { λ s. record { table = s.token.table_id; view = cpu_of s.token.me.0.view; log = s.token.me.0.log; known_log = s.token.me.0.known_log; noted_log = s.token.me.0.noted_log; teller = s.token.me.0.teller } };
+    ghost view = { λ s. record { table = s.token.table_id; view = cpu_of s.token.me.0.view; log = s.token.me.0.log; known_log = s.token.me.0.known_log; noted_log = s.token.me.0.noted_log; teller = s.token.me.0.teller; list = s.token.me.0.list } };
 
     ghost invariant = { λ s. s.token.me ≡ (record s.token.me.0 { view = Cpu (cpu_of s.token.me.0.view) }, []) };
 }
@@ -49,7 +49,7 @@ pub struct ReferenceSeat {
 impl Model for ReferenceSeat {
     ghost Value = { Seated ReferenceView };
 
-    ghost view = { λ s. record { table = s.token.table_id; view = reference_of s.token.me.0.view; log = s.token.me.0.log; known_log = s.token.me.0.known_log; noted_log = s.token.me.0.noted_log; teller = s.token.me.0.teller } };
+    ghost view = { λ s. record { table = s.token.table_id; view = reference_of s.token.me.0.view; log = s.token.me.0.log; known_log = s.token.me.0.known_log; noted_log = s.token.me.0.noted_log; teller = s.token.me.0.teller; list = s.token.me.0.list } };
 
     ghost invariant = { λ s. s.token.me ≡ (record s.token.me.0 { view = Reference (reference_of s.token.me.0.view) }, []) };
 }
@@ -63,7 +63,7 @@ pub struct NoteSeat {
 impl Model for NoteSeat {
     ghost Value = { Seated (List Change) };
 
-    ghost view = { λ s. record { table = s.token.table_id; view = note_of s.token.me.0.view; log = s.token.me.0.log; known_log = s.token.me.0.known_log; noted_log = s.token.me.0.noted_log; teller = s.token.me.0.teller } };
+    ghost view = { λ s. record { table = s.token.table_id; view = note_of s.token.me.0.view; log = s.token.me.0.log; known_log = s.token.me.0.known_log; noted_log = s.token.me.0.noted_log; teller = s.token.me.0.teller; list = s.token.me.0.list } };
 
     ghost invariant = { λ s. s.token.me ≡ (record s.token.me.0 { view = Note (note_of s.token.me.0.view) }, []) };
 }

@@ -55,6 +55,8 @@ pub struct Logged {
     /// Of a note, the CPU that told it; of another seat, the CPU that told the note that was laid beside the view last. None where the keeper
     /// told it.
     pub teller: Option<Teller>,
+    /// The list of all events, as the seat's last step on a word left it: each item with the place among the seats of the one that made it.
+    pub list: LinkedList<(u64, LogItem)>,
 }
 
 /// What the keeper's seat knows: all that only the keeper writes, and what it has counted itself.

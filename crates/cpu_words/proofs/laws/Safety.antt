@@ -34,5 +34,6 @@ running_headline z s r = record {
   owners = subst (λ (g : State). AreByOwn r.run.seat g.seated r.acts) r.run.reached.run r.owners;
   logs = r.logs;
   known = r.known;
+  lists = r.lists;
   told = subst (λ (g : State). AreToldBefore r.run.seat g.seated r.acts) r.run.reached.run r.told;
 }

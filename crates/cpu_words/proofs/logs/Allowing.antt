@@ -22,7 +22,7 @@ allows_cpu z y x slots id me i f does tells st same view is own may =
     by u l own may s r size at fits =
         let d = logged_moves y (record l { view = Cpu u }) i f (does u) (λ n w. (w ≡ Cpu (cpu_of w)) × tells u n (cpu_of w)) tt own may s r id at fits in
         let after = l.log ++ does u (slice_index s.words i) in
-        (record l { view = d.0; log = after }, keeps, tt, d.1, ((λ k. (record l { view = d.2.0 k; log = after }, [])), refl, d.2.1))
+        (record l { view = d.0; log = after; list = d.1 }, keeps, tt, d.2, ((λ k. (record l { view = d.3.0 k; log = after; list = d.1 }, [])), refl, d.3.1, d.4))
 
 pub allows_keeper : (z y : Settings) (x : KeeperView) (slots id : ℕ) (me : Me ℕ Logged) (i : ℕ) (f : ℕ → ℕ) (does : KeeperView → ℕ → List LogItem) (tells : KeeperView → ℕ → KeeperView → Type 0)
     (st : Step ℕ)
@@ -38,7 +38,7 @@ allows_keeper z y x slots id me i f does tells st same view is own may =
     by u l own may s r size at fits =
         let d = logged_moves y (record l { view = Keeper u }) i f (does u) (λ n w. (w ≡ Keeper (keeper_of w)) × tells u n (keeper_of w)) tt own may s r id at fits in
         let after = l.log ++ does u (slice_index s.words i) in
-        (record l { view = d.0; log = after }, keeps, tt, d.1, ((λ k. (record l { view = d.2.0 k; log = after }, [])), refl, d.2.1))
+        (record l { view = d.0; log = after; list = d.1 }, keeps, tt, d.2, ((λ k. (record l { view = d.3.0 k; log = after; list = d.1 }, [])), refl, d.3.1, d.4))
 
 pub allows_store : (z y : Settings) (x : KeeperView) (slots id : ℕ) (me : Me ℕ Logged) (i n : ℕ) (does : KeeperView → ℕ → List LogItem) (tells : KeeperView → ℕ → KeeperView → Type 0) (st : Step ℕ)
     → z ≡ y → x ≡ keeper_of me.0.view → me ≡ (record me.0 { view = Keeper (keeper_of me.0.view) }, []) → ((n : ℕ) → AreBy the_keeper (does x n)) → KeeperStores z x i n (does x) tells
@@ -53,7 +53,7 @@ allows_store z y x slots id me i n does tells st same view is own may =
     by u l own may s r size at fits =
         let d = logged_moves y (record l { view = Keeper u }) i (λ _. n) (λ _. does u n) (λ _ w. (w ≡ Keeper (keeper_of w)) × tells u n (keeper_of w)) tt (λ _. own n) may s r id at fits in
         let after = l.log ++ does u n in
-        (record l { view = d.0; log = after }, keeps, tt, d.1, (((λ k. (record l { view = d.2.0 k; log = after }, [])), refl, d.2.1), own_log y u l s r id at))
+        (record l { view = d.0; log = after; list = d.1 }, keeps, tt, d.2, (((λ k. (record l { view = d.3.0 k; log = after; list = d.1 }, [])), refl, d.3.1, d.4), own_log y u l s r id at))
 
 pub allows_reference : (z y : Settings) (x : ReferenceView) (slots id : ℕ) (me : Me ℕ Logged) (i : ℕ) (does : ReferenceView → ℕ → List LogItem) (tells : ReferenceView → ℕ → Type 0) (st : Step ℕ)
     → z ≡ y → x ≡ reference_of me.0.view → me ≡ (record me.0 { view = Reference (reference_of me.0.view) }, []) → ((n : ℕ) → AreBy another (does x n)) → ReferenceMay z x i (does x) tells
@@ -68,7 +68,7 @@ allows_reference z y x slots id me i does tells st same view is own may =
     by u l own may s r size at fits =
         let d = logged_moves y (record l { view = Reference u }) i (λ n. n) (does u) (λ n w. (w ≡ Reference u) × tells u n) tt own may s r id at fits in
         let after = l.log ++ does u (slice_index s.words i) in
-        (record l { view = d.0; log = after }, keeps, tt, d.1, ((λ k. (record l { view = d.2.0 k; log = after }, [])), refl, d.2.1))
+        (record l { view = d.0; log = after; list = d.1 }, keeps, tt, d.2, ((λ k. (record l { view = d.3.0 k; log = after; list = d.1 }, [])), refl, d.3.1, d.4))
 
 -- Loads that hear
 
@@ -84,16 +84,17 @@ allows_hearing z y x slots id me i tells st same view is may =
     by u l may s r size at fits =
         let d = logged_hears y (record l { view = Cpu u }) i (λ n. n) (Some u.id) (λ n w. (w ≡ Cpu (cpu_of w)) × tells u (cpu_of w)) tt refl may s r id at fits in
         let after = l.log ++ heard_from (Some u.id) l.teller in (
-          record l { view = d.0; log = after; known_log = d.1 },
+          record l { view = d.0; log = after; known_log = d.1; list = d.2 },
           keeps,
           tt,
-          d.2,
+          d.3,
           (
-            (λ k. (record l { view = d.3.0 k; log = after; known_log = d.1 }, [])),
+            (λ k. (record l { view = d.4.0 k; log = after; known_log = d.1; list = d.2 }, [])),
             refl,
-            d.3.1,
-            d.4,
-            subst (λ (ds : List LogItem). IsShownAfter ds (Cpu u)) (sym d.5) (shown_after y (Cpu u) l s r id at),
+            d.4.1,
+            d.5,
+            subst (λ (ds : List LogItem). IsShownAfter ds (Cpu u)) (sym d.6) (shown_after y (Cpu u) l s r id at),
+            d.7,
           ),
         )
 
@@ -110,7 +111,7 @@ allows_note_hearing z y x slots id me i tells st same view is may =
     by u l may s r size at fits =
         let d = logged_heard y (record l { view = Keeper u }) i (λ n. n) (λ n w. (w ≡ Keeper (keeper_of w)) × tells u (keeper_of w)) tt refl may s r id at fits in
         let after = l.log ++ heard_from None l.teller in
-        (record l { view = d.0; log = after }, keeps, tt, d.1, ((λ k. (record l { view = d.2.0 k; log = after }, [])), refl, d.2.1, own_log y u l s r id at))
+        (record l { view = d.0; log = after; list = d.1 }, keeps, tt, d.2, ((λ k. (record l { view = d.3.0 k; log = after; list = d.1 }, [])), refl, d.3.1, own_log y u l s r id at, d.4))
 
 pub allows_keeper_hearing : (z y : Settings) (x : KeeperView) (slots id : ℕ) (me : Me ℕ Logged) (i : ℕ) (f : ℕ → ℕ) (does : KeeperView → ℕ → List LogItem)
     (tells : KeeperView → ℕ → KeeperView → Type 0) (st : Step ℕ)
@@ -126,4 +127,4 @@ allows_keeper_hearing z y x slots id me i f does tells st same view is own may =
     by u l own may s r size at fits =
         let d = logged_moves y (record l { view = Keeper u }) i f (does u) (λ n w. (w ≡ Keeper (keeper_of w)) × tells u n (keeper_of w)) tt own may s r id at fits in
         let after = l.log ++ does u (slice_index s.words i) in
-        (record l { view = d.0; log = after }, keeps, tt, d.1, (((λ k. (record l { view = d.2.0 k; log = after }, [])), refl, d.2.1), own_log y u l s r id at))
+        (record l { view = d.0; log = after; list = d.1 }, keeps, tt, d.2, (((λ k. (record l { view = d.3.0 k; log = after; list = d.1 }, [])), refl, d.3.1, d.4), own_log y u l s r id at))

@@ -11,7 +11,7 @@ use Rattle.atomic_table.proofs.Lists.{at_set, at_map}
 use Rattle.cpu_words.specs.Types.{Settings, Hear, Done}
 use Rattle.cpu_words.specs.Common.{LogItem, Teller, Logged, View, Keeper, Cpu, Reference, Note, Spent, Shown, Sits, Ruled, GoesOn, did, log_of_events, Moves, SplitsOn, JoinsOn, without_logs, part}
 use Rattle.cpu_words.specs.Common.{events_of, untold, IsStanding, Maker, the_keeper, the_cpu, another, maker, maker_of_note, who, AreBy, IsSeatOf, AreByOwn, Knows, HasComeIf, AreToldBefore}
-use Rattle.cpu_words.specs.Common.{spent_seat, LoggedRuled, KnownLogGrows, heard_from}
+use Rattle.cpu_words.specs.Common.{ListGoesOn, spent_seat, LoggedRuled, KnownLogGrows, heard_from}
 use Rattle.protocol.specs.Common.{State, opening, empty_run}
 use Rattle.cpu_words.proofs.logs.Parts.{by_seat, part_append, part_own, part_other, events_of_seat}
 use Rattle.cpu_words.proofs.logs.Told.{AreToldPast, come_more, come_seats, told_more, plain_of_end, plain_from, plain_past, heard_past}
@@ -83,6 +83,10 @@ MayName l ds h = (g : State) (seat : ℕ → ℕ) (i : ℕ) (acts : List (ℕ ×
 pub prefix_more : (p l more : List LogItem) → IsPrefix p l → IsPrefix p (l ++ more)
 prefix_more p l more pre = (pre.0 ++ more, sym (append_assoc p pre.0 more) ∙ ap (λ (a : List LogItem). a ++ more) pre.1)
 
+-- and so does one of the list
+pub list_more : (p l more : List (ℕ × LogItem)) → IsPrefix p l → IsPrefix p (l ++ more)
+list_more p l more pre = (pre.0 ++ more, sym (append_assoc p pre.0 more) ∙ ap (λ (a : List (ℕ × LogItem)). a ++ more) pre.1)
+
 -- what a run that goes on with log items of the seat id keeps
 record Went (z : Settings) (s : Table ℕ Logged) (r : LoggedRuled z s) (id : ℕ) (log its ds : List LogItem) (t : Table ℕ View) (goes : GoesOn z (without_logs s) r.run ds t) : Type 0 where
   acts : List (ℕ × LogItem)
@@ -92,6 +96,8 @@ record Went (z : Settings) (s : Table ℕ Logged) (r : LoggedRuled z s) (id : �
   others : (j : ℕ) (u : Logged) → j ≢ id → get_elem? s.views j ≡ some u → IsStanding u.view → u.log ≡ part j acts
   unseated : (j : ℕ) → length s.views ≤ j → part j acts ≡ []
   known : (d : List LogItem) → IsPrefix d (part 0 r.acts) → IsPrefix d (part 0 acts)
+  longer : acts ≡ r.acts ++ by_seat id its
+  listed : (d : List (ℕ × LogItem)) → IsPrefix d r.acts → IsPrefix d acts
   told : AreToldBefore goes.ruled.seat goes.ruled.g.seated acts
   tellers : (h : Option Teller) → HasComeIf r.run.seat r.run.g.seated r.acts h → HasComeIf goes.ruled.seat goes.ruled.g.seated acts h
   -- one who has come so far by what was done now
@@ -117,6 +123,8 @@ went z s r id l its ds t goes at stands by events told =
       others = λ j u ne there standing. r.logs j u there standing ∙ sym (longer j ne);
       unseated = λ j le. longer j (λ same. let lt = at_within s.views id l at in omega (arith, lt, same, le)) ∙ r.unseated j le;
       known = λ d pre. subst (IsPrefix d) (sym (part_append 0 r.acts (by_seat id its))) (prefix_more d (part 0 r.acts) (part 0 (by_seat id its)) pre);
+      longer = refl;
+      listed = λ d pre. list_more d r.acts (by_seat id its) pre;
       told = told_more r.run.seat goes.ruled.seat r.run.g.seated goes.ruled.g.seated r.acts (by_seat id its) goes.seated goes.seats r.told told;
       tellers = λ h come. come_more r.run.seat goes.ruled.seat r.run.g.seated goes.ruled.g.seated r.acts (by_seat id its) h goes.seated goes.seats come;
       newer = λ h come. come_seats r.run.seat goes.ruled.seat r.run.g.seated goes.ruled.g.seated (r.acts ++ by_seat id its) h goes.seated goes.seats come;
@@ -135,18 +143,19 @@ went_plainly z s r id l ds t goes at stands by =
 
 -- A seat moves
 
--- the seat's view becomes w, its log goes on, and it has heard d
-abbrev moved_to : Logged → View → List LogItem → List LogItem → Logged
-moved_to l w ds d = record l { view = w; log = l.log ++ ds; known_log = d }
+-- the seat's view becomes w, its log goes on, it has heard d, and it knows the list `all`
+abbrev moved_to : Logged → View → List LogItem → List LogItem → List (ℕ × LogItem) → Logged
+moved_to l w ds d all = record l { view = w; log = l.log ++ ds; known_log = d; list = all }
 
 -- the rule holds on, whatever prefix of the keeper's log the seat has heard then
 logged_goes : (z : Settings) (l : Logged) (i : ℕ) (n : ℕ) (its ds : List LogItem) (w : View) (s : Table ℕ Logged) (r : LoggedRuled z s) (id : ℕ) → get_elem? s.views id ≡ some l → IsStanding l.view
     → AreBy (who l.view) its
     → map untold its ≡ ds → AreToldPast r.run.seat r.run.g.seated r.acts (by_seat id its)
-    → GoesOn z (without_logs s) r.run ds (stepped (without_logs s) i n id [] w keeps) → (d : List LogItem) → IsPrefix d (part 0 r.acts) → LoggedRuled z (stepped s i n id [] (moved_to l w its d) keeps)
+    → GoesOn z (without_logs s) r.run ds (stepped (without_logs s) i n id [] w keeps) → (d : List LogItem) → IsPrefix d (part 0 r.acts)
+    → LoggedRuled z (stepped s i n id [] (moved_to l w its d (r.acts ++ by_seat id its)) keeps)
 logged_goes z l i n its ds w s r id at stands by events told goes_without_logs d known =
     let q = without_logs s in
-    let m : Logged = moved_to l w its d in
+    let m : Logged = moved_to l w its d (r.acts ++ by_seat id its) in
     let t : Table ℕ Logged = stepped s i n id [] m keeps in
     let same : stepped q i n id [] w keeps ≡ without_logs t = λ k. record { words = set s.words i n; homes = s.homes; views = sym (map-set (λ (x : Logged). x.view) s.views id m) k } in
     let goes : GoesOn z q r.run ds (without_logs t) = subst (GoesOn z q r.run ds) same goes_without_logs in
@@ -169,32 +178,49 @@ logged_goes z l i n its ds w s r id at stands by events told goes_without_logs d
           (λ (x : (j ≡ id) × (m ≡ u)). subst (λ (y : Logged). HasComeIf goes.ruled.seat goes.ruled.g.seated on.acts y.teller) x.1 (on.tellers l.teller (r.tellers id l at)))
           (λ (x : (j ≢ id) × (get_elem? s.views j ≡ some u)). on.tellers u.teller (r.tellers j u x.1))
           (at_set s.views id j m u there);
+      lists = λ j u there. ⊎_elim
+          (λ (x : (j ≡ id) × (m ≡ u)). subst (λ (y : Logged). IsPrefix y.list on.acts) x.1 ([], append-nil (r.acts ++ by_seat id its) ∙ sym on.longer))
+          (λ (x : (j ≢ id) × (get_elem? s.views j ≡ some u)). on.listed u.list (r.lists j u x.1))
+          (at_set s.views id j m u there);
     }
 
 goes_plainly : (z : Settings) (l : Logged) (i : ℕ) (n : ℕ) (ds : List LogItem) (w : View) (s : Table ℕ Logged) (r : LoggedRuled z s) (id : ℕ) → get_elem? s.views id ≡ some l → IsStanding l.view
     → AreBy (who l.view) ds
-    → GoesOn z (without_logs s) r.run ds (stepped (without_logs s) i n id [] w keeps) → (d : List LogItem) → IsPrefix d (part 0 r.acts) → LoggedRuled z (stepped s i n id [] (moved_to l w ds d) keeps)
+    → GoesOn z (without_logs s) r.run ds (stepped (without_logs s) i n id [] w keeps) → (d : List LogItem) → IsPrefix d (part 0 r.acts)
+    → LoggedRuled z (stepped s i n id [] (moved_to l w ds d (r.acts ++ by_seat id ds)) keeps)
 goes_plainly z l i n ds w s r id at stands by goes d known =
     let none = plain z (without_logs s) r.run ds (stepped (without_logs s) i n id [] w keeps) goes in
     logged_goes z l i n ds ds w s r id at stands by none (plain_past r.run.seat r.run.g.seated id ds r.acts none) goes d known
 
+-- the list that the seat knows then goes on, with all that the seat did
+list_goes_on : (z : Settings) (s : Table ℕ Logged) (r : LoggedRuled z s) (id : ℕ) (l : Logged) (its : List LogItem) → get_elem? s.views id ≡ some l → IsStanding l.view
+    → ListGoesOn l.list (l.log ++ its) (r.acts ++ by_seat id its)
+list_goes_on z s r id l its at stands = record {
+  grows = list_more l.list r.acts (by_seat id its) (r.lists id l at);
+  seat = id;
+  own = part_append id r.acts (by_seat id its) ∙ (λ k. sym (r.logs id l at stands) k ++ part_own id its k);
+}
+
 -- what Moves says, of the table with logs
 abbrev pub LoggedMoves : Settings → Logged → ℕ → (ℕ → ℕ) → (ℕ → List LogItem) → (ℕ → View → Type 0) → Type 0
 LoggedMoves z l i f ds tells = (s : Table ℕ Logged) → LoggedRuled z s → (id : ℕ) → get_elem? s.views id ≡ some l → slice_index s.words i < 18446744073709551616
-    → (w : View) × LoggedRuled z (stepped s i (f (slice_index s.words i)) id [] (record l { view = w; log = l.log ++ ds (slice_index s.words i) }) keeps) × tells (slice_index s.words i) w
+    → (w : View) × (all : List (ℕ × LogItem)) × LoggedRuled z (stepped s i (f (slice_index s.words i)) id [] (record l { view = w; log = l.log ++ ds (slice_index s.words i); list = all }) keeps)
+    × tells (slice_index s.words i) w × ListGoesOn l.list (l.log ++ ds (slice_index s.words i)) all
 
 pub logged_moves : (z : Settings) (l : Logged) (i : ℕ) (f : ℕ → ℕ) (ds : ℕ → List LogItem) (tells : ℕ → View → Type 0) → IsStanding l.view → ((n : ℕ) → AreBy (who l.view) (ds n))
     → Moves z l.view i f ds tells → LoggedMoves z l i f ds tells
 logged_moves z l i f ds tells stands by moves s r id at fits =
     let word = slice_index s.words i in
     let done = moves (without_logs s) r.run id (at_map (λ (x : Logged). x.view) s.views id l at) fits in
-    (done.0, goes_plainly z l i (f word) (ds word) done.0 s r id at stands (by word) done.1 l.known_log (r.known id l at).0, done.2)
+    (done.0, r.acts ++ by_seat id (ds word), goes_plainly z l i (f word) (ds word) done.0 s r id at stands (by word) done.1 l.known_log (r.known id l at).0, done.2,
+    list_goes_on z s r id l (ds word) at stands)
 
 -- the same of a load that hears: what the seat has heard then is all that the keeper did, and its log says who told the note
 abbrev pub LoggedHears : Settings → Logged → ℕ → (ℕ → ℕ) → Option ℕ → (ℕ → View → Type 0) → Type 0
 LoggedHears z l i f by tells = (s : Table ℕ Logged) (r : LoggedRuled z s) (id : ℕ) → get_elem? s.views id ≡ some l → slice_index s.words i < 18446744073709551616
-    → (w : View) × (d : List LogItem) × LoggedRuled z (stepped s i (f (slice_index s.words i)) id [] (record l { view = w; log = l.log ++ heard_from by l.teller; known_log = d }) keeps)
-    × tells (slice_index s.words i) w × KnownLogGrows l.known_log l.noted_log d × (d ≡ part 0 r.acts)
+    → (w : View) × (d : List LogItem) × (all : List (ℕ × LogItem))
+    × LoggedRuled z (stepped s i (f (slice_index s.words i)) id [] (record l { view = w; log = l.log ++ heard_from by l.teller; known_log = d; list = all }) keeps)
+    × tells (slice_index s.words i) w × KnownLogGrows l.known_log l.noted_log d × (d ≡ part 0 r.acts) × ListGoesOn l.list (l.log ++ heard_from by l.teller) all
 
 pub logged_hears : (z : Settings) (l : Logged) (i : ℕ) (f : ℕ → ℕ) (by : Option ℕ) (tells : ℕ → View → Type 0) → IsStanding l.view → maker_of_note by ≡ who l.view
     → Moves z l.view i f (λ _. did (Hear by) Done) tells → LoggedHears z l i f by tells
@@ -204,11 +230,13 @@ logged_hears z l i f by tells stands own moves s r id at fits =
     let all = part 0 r.acts in (
       done.0,
       all,
+      r.acts ++ by_seat id (heard_from by l.teller),
       logged_goes z l i (f word) (heard_from by l.teller) (did (Hear by) Done) done.0 s r id at stands (own, tt) refl
           (heard_past r.run.seat r.run.g.seated id by l.teller r.acts (r.tellers id l at)) done.1 all ([], append-nil all),
       done.2,
       r.known id l at,
       refl,
+      list_goes_on z s r id l (heard_from by l.teller) at stands,
     )
 
 -- and of the keeper's, which knows its own log
@@ -218,21 +246,23 @@ logged_heard z l i f tells stands own moves s r id at fits =
     let word = slice_index s.words i in
     let done = moves (without_logs s) r.run id (at_map (λ (x : Logged). x.view) s.views id l at) fits in (
       done.0,
+      r.acts ++ by_seat id (heard_from None l.teller),
       logged_goes z l i (f word) (heard_from None l.teller) (did (Hear None) Done) done.0 s r id at stands (own, tt) refl
           (heard_past r.run.seat r.run.g.seated id None l.teller r.acts (r.tellers id l at)) done.1 l.known_log (r.known id l at).0,
       done.2,
+      list_goes_on z s r id l (heard_from None l.teller) at stands,
     )
 
 -- A seat is cut in two, or takes in another
 
 pub logged_splits : (z : Settings) (i : ℕ) (l : Logged) (left right : View) (ds known_log : List LogItem) (teller : Option Teller) → IsStanding l.view → AreBy (who l.view) ds → MayTell l ds known_log
     → MayName l ds teller → SplitsOn z i l.view left right ds
-    → Splits (LoggedRuled z) i l (record l { view = left; log = l.log ++ ds }) (record { view = right; log = []; known_log = known_log; noted_log = []; teller = teller })
+    → Splits (LoggedRuled z) i l (record l { view = left; log = l.log ++ ds }) (record { view = right; log = []; known_log = known_log; noted_log = []; teller = teller; list = [] })
 logged_splits z i v left right ds known_log teller stands by may named splits s r at =
     let q = without_logs s in
     let here : get_elem? q.views i ≡ some v.view = at_map (λ (l : Logged). l.view) s.views i v at in
     let l : Logged = record v { view = left; log = v.log ++ ds } in
-    let b : Logged = record { view = right; log = []; known_log = known_log; noted_log = []; teller = teller } in
+    let b : Logged = record { view = right; log = []; known_log = known_log; noted_log = []; teller = teller; list = [] } in
     let t : Table ℕ Logged = record { words = s.words; homes = s.homes; views = set s.views i l ++ b ∷ [] } in
     let views : set q.views i left ++ right ∷ [] ≡ (without_logs t).views =
     sym (map-append (λ (x : Logged). x.view) (set s.views i l) (b ∷ []) ∙ ap (λ (a : List View). a ++ right ∷ []) (map-set (λ (x : Logged). x.view) s.views i l)) in
@@ -270,6 +300,13 @@ logged_splits z i v left right ds known_log teller stands by may named splits s 
           (at_set s.views i j l u was))
           (λ (x : (j ≡ length (set s.views i l)) × (b ≡ u)). subst (λ (y : Logged). HasComeIf goes.ruled.seat goes.ruled.g.seated on.acts y.teller) x.1
           (on.newer teller (named r.run.g r.run.seat i on.acts its.0 its.1 on.mine)))
+          (at_end (set s.views i l) b u j there);
+      lists = λ j u there. ⊎_elim
+          (λ (was : get_elem? (set s.views i l) j ≡ some u). ⊎_elim
+          (λ (x : (j ≡ i) × (l ≡ u)). subst (λ (y : Logged). IsPrefix y.list on.acts) x.1 (on.listed v.list (r.lists i v at)))
+          (λ (x : (j ≢ i) × (get_elem? s.views j ≡ some u)). on.listed u.list (r.lists j u x.1))
+          (at_set s.views i j l u was))
+          (λ (x : (j ≡ length (set s.views i l)) × (b ≡ u)). subst (λ (y : Logged). IsPrefix y.list on.acts) x.1 (on.acts, refl))
           (at_end (set s.views i l) b u j there);
     }
 
@@ -331,6 +368,13 @@ logged_joins z i v o w both ds noted_log teller stands by lies joins s r at apar
           (λ (x : (j ≢ o) × (get_elem? (set s.views i l) j ≡ some u)). ⊎_elim
           (λ (y : (j ≡ i) × (l ≡ u)). subst (λ (a : Logged). HasComeIf goes.ruled.seat goes.ruled.g.seated on.acts a.teller) y.1 (on.tellers teller come))
           (λ (y : (j ≢ i) × (get_elem? s.views j ≡ some u)). on.tellers u.teller (r.tellers j u y.1))
+          (at_set s.views i j l u x.1))
+          (at_set (set s.views i l) o j b u now);
+      lists = λ j u now. ⊎_elim
+          (λ (x : (j ≡ o) × (b ≡ u)). subst (λ (y : Logged). IsPrefix y.list on.acts) x.1 (on.acts, refl))
+          (λ (x : (j ≢ o) × (get_elem? (set s.views i l) j ≡ some u)). ⊎_elim
+          (λ (y : (j ≡ i) × (l ≡ u)). subst (λ (a : Logged). IsPrefix a.list on.acts) y.1 (on.listed v.list (r.lists i v at)))
+          (λ (y : (j ≢ i) × (get_elem? s.views j ≡ some u)). on.listed u.list (r.lists j u y.1))
           (at_set s.views i j l u x.1))
           (at_set (set s.views i l) o j b u now);
     }

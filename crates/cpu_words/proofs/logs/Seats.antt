@@ -37,7 +37,7 @@ pub seat_cut : (z : Settings) (i : ℕ) (l : Logged) (v : View) (left right : Vi
 seat_cut z i l v left right does tells by ds is stands own same may named on =
     subst (λ (m : Logged). Splits (LoggedRuled z) i m (logged_after_split left does m) (fresh right tells by m)) (sym is)
     (subst (λ (d : List LogItem). Splits (LoggedRuled z) i (record l { view = v }) (record l { view = left v; log = l.log ++ d })
-    (record { view = right v; log = []; known_log = tells (record l { view = v }); noted_log = []; teller = by (record l { view = v }) })) (sym same)
+    (record { view = right v; log = []; known_log = tells (record l { view = v }); noted_log = []; teller = by (record l { view = v }); list = [] })) (sym same)
     (logged_splits z i (record l { view = v }) (left v) (right v) ds (tells (record l { view = v })) (by (record l { view = v })) stands own may named on))
 
 pub seat_join : (z : Settings) (i o : ℕ) (l m : Logged) (v w : View) (both : View → View → View) (does : View → View → List LogItem) (ds : List LogItem)

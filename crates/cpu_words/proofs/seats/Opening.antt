@@ -3,6 +3,7 @@ use Rattle.std.proofs.Common.{◌≡◌, inl, inr, ℕ, zero, suc, ◌+◌, List
 use Rattle.std.proofs.lemmas.List.{length-replicate, get_or-replicate}
 use Rattle.std.specs.Prelude.{slice_index}
 use mathlib.Core.Option.{some, some-ne-none, some-injective}
+use mathlib.Core.List.{IsPrefix}
 use lib.ListN.{get_elem?}
 use Rattle.atomic_table.specs.Seated.{TableId}
 use Rattle.atomic_table.specs.Table.{opening as opening_table}
@@ -97,6 +98,7 @@ opens z words fit are = record {
   known = none;
   told = λ i d first rest is. absurd (no_act first rest (i, d) is);
   tellers = nobody;
+  lists = unlisted;
 }
   where
     none : (i : ℕ) (l : Logged) → get_elem? (first_logged z ∷ []) i ≡ some l → Knows l []
@@ -106,6 +108,10 @@ opens z words fit are = record {
     nobody : (i : ℕ) (l : Logged) → get_elem? (first_logged z ∷ []) i ≡ some l → HasComeIf (λ _. 0) (opening z).seated [] l.teller
     nobody zero l e = subst (λ (m : Logged). HasComeIf (λ _. 0) (opening z).seated [] m.teller) (some-injective _ _ e) tt
     nobody (suc i) l e = absurd (some-ne-none l (sym e))
+
+    unlisted : (i : ℕ) (l : Logged) → get_elem? (first_logged z ∷ []) i ≡ some l → IsPrefix l.list []
+    unlisted zero l e = subst (λ (m : Logged). IsPrefix m.list []) (some-injective _ _ e) ([], refl)
+    unlisted (suc i) l e = absurd (some-ne-none l (sym e))
 
     one : (i : ℕ) (l : Logged) → get_elem? (first_logged z ∷ []) i ≡ some l → IsStanding l.view → l.log ≡ []
     one zero l e stands = sym (ap (λ (m : Logged). m.log) (some-injective _ _ e))

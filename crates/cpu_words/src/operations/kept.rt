@@ -3,7 +3,7 @@
 ghost use Rattle.std.specs.Prelude.{◌≡◌};
 ghost use Rattle.cpu_words.specs.Types.{Keep, Done};
 ghost use Rattle.cpu_words.specs.declared.view.View.TheVariants.{Keeper, Reference};
-ghost use Rattle.cpu_words.specs.Steps.{JoinsBy, SeatGoesOn};
+ghost use Rattle.cpu_words.specs.Steps.{JoinsBy, SeatRegroups};
 ghost use Rattle.cpu_words.specs.Rule.{did};
 ghost use Rattle.cpu_words.specs.Keeping.{MayKeep, keeper_after_keep};
 
@@ -48,7 +48,7 @@ pub(crate) fn join<S: KeepingSlot>(
     requires table { (keeper.old.table ≡ words.now.table) × (reference.table ≡ words.now.table) }
     requires slot { S.slot ≡ slot }
     requires may { MayKeep keeper.old.view slot reference.view }
-    ensures step { SeatGoesOn (did (Keep slot reference.view.entry.number) Done) keeper.old keeper.new }
+    ensures step { SeatRegroups (did (Keep slot reference.view.entry.number) Done) keeper.old keeper.new }
     ensures event { JoinsBy (Keep slot) (Keeper keeper.old.view) (Reference reference.view) (Keeper keeper.new.view) }
     ensures change { keeper.new.view ≡ keeper_after_keep keeper.old.view slot reference.view }
 {

@@ -4,6 +4,7 @@ ghost use Rattle.std.specs.Prelude.{◌≡◌, ℕ, ◌<◌, ◌++◌, Some, Non
 ghost use Rattle.cpu_words.specs.declared.view.View.TheVariants.{Cpu};
 ghost use Rattle.cpu_words.specs.Types.{Rest};
 ghost use Rattle.cpu_words.specs.KeeperLog.{KnownLogGrows, heard_from, IsOwnLog, IsShownAfter};
+ghost use Rattle.cpu_words.specs.Acts.{ListGoesOn};
 ghost use Rattle.cpu_words.specs.Logs.{the_keeper, AreBy};
 ghost use Rattle.cpu_words.specs.Notes.{with_note, keeper_with_note, CpuHears, KeeperHears};
 ghost use Rattle.cpu_words.specs.Sections.{IsIdle};
@@ -66,6 +67,7 @@ pub(crate) fn lay(words: &Words, seat: &mut CpuSeat, note: NoteSeat)
     ensures change { seat.new.view ≡ with_note seat.old.view note.view }
     ensures log { seat.new.log ≡ seat.old.log }
     ensures known_log { (seat.new.known_log ≡ seat.old.known_log) × (seat.new.noted_log ≡ note.known_log) × (seat.new.teller ≡ note.teller) }
+    ensures list { seat.new.list ≡ seat.old.list }
 {
     let NoteSeat { token } = note;
     words
@@ -81,6 +83,7 @@ pub(crate) fn lay_by_keeper(words: &Words, keeper: &mut KeeperSeat, note: NoteSe
     ensures change { keeper.new.view ≡ keeper_with_note keeper.old.view note.view }
     ensures log { keeper.new.log ≡ keeper.old.log }
     ensures known_log { (keeper.new.noted_log ≡ note.known_log) × (keeper.new.teller ≡ note.teller) }
+    ensures list { keeper.new.list ≡ keeper.old.list }
 {
     let NoteSeat { token } = note;
     words
@@ -99,6 +102,7 @@ pub(crate) fn listen(words: &Words, seat: &mut CpuSeat, cpu: u8)
     ensures log { seat.new.log ≡ seat.old.log ++ heard_from (Some seat.old.view.id) seat.old.teller }
     ensures known_log { KnownLogGrows seat.old.known_log seat.old.noted_log seat.new.known_log }
     ensures counts { IsShownAfter seat.new.known_log (Cpu seat.old.view) }
+    ensures list { ListGoesOn seat.old.list seat.new.log seat.new.list }
 {
     words
         .table

@@ -7,7 +7,7 @@ ghost use Rattle.registry_values.specs.Common.{slot_at};
 ghost use Rattle.cpu_words.specs.declared.view.View.TheVariants.{Keeper, Reference};
 ghost use Rattle.cpu_words.specs.KeeperLog.{IsFreedFrom};
 ghost use Rattle.cpu_words.specs.Rule.{did};
-ghost use Rattle.cpu_words.specs.Steps.{JoinsBy, SeatGoesOn, SeatMakes};
+ghost use Rattle.cpu_words.specs.Steps.{JoinsBy, SeatMakes, SeatRegroups};
 ghost use Rattle.cpu_words.specs.Draining.{MayPassiveLook, HasLookedPassive, MayCollect, HasCollected, MayTotalAdd, HasAdded, MayTotalSub, HasSubtracted, MayJoinKeeper, keeper_after_join, MayKeptSub, HasKeptSub};
 
 use crate::law::Words;
@@ -95,7 +95,7 @@ pub fn total_sub(words: &Words, keeper: &mut KeeperSeat, slot: u8)
 pub fn join_keeper(words: &Words, keeper: &mut KeeperSeat, reference: ReferenceSeat)
     requires table { (keeper.old.table ≡ words.now.table) × (reference.table ≡ words.now.table) }
     requires may { MayJoinKeeper keeper.old.view reference.view }
-    ensures step { SeatGoesOn (did (JoinKeeper reference.view.entry.number) Done) keeper.old keeper.new }
+    ensures step { SeatRegroups (did (JoinKeeper reference.view.entry.number) Done) keeper.old keeper.new }
     ensures event { JoinsBy JoinKeeper (Keeper keeper.old.view) (Reference reference.view) (Keeper keeper.new.view) }
     ensures change { keeper.new.view ≡ keeper_after_join keeper.old.view reference.view }
 {

@@ -4,7 +4,7 @@ ghost use Rattle.std.specs.Prelude.{◌≡◌};
 ghost use Rattle.cpu_words.specs.Types.{Keep, Done};
 ghost use Rattle.cpu_words.specs.declared.view.View.TheVariants.{Keeper, Reference};
 ghost use Rattle.cpu_words.specs.Rule.{did};
-ghost use Rattle.cpu_words.specs.Steps.{JoinsBy, SeatGoesOn};
+ghost use Rattle.cpu_words.specs.Steps.{JoinsBy, SeatRegroups};
 ghost use Rattle.cpu_words.specs.Keeping.{MayKeep, keeper_after_keep};
 
 use crate::law::Words;
@@ -17,7 +17,7 @@ use std::marker::Brand;
 pub fn keep(words: &Words, keeper: &mut KeeperSeat, slot: u8, reference: ReferenceSeat)
     requires table { (keeper.old.table ≡ words.now.table) × (reference.table ≡ words.now.table) }
     requires may { MayKeep keeper.old.view slot reference.view }
-    ensures step { SeatGoesOn (did (Keep slot reference.view.entry.number) Done) keeper.old keeper.new }
+    ensures step { SeatRegroups (did (Keep slot reference.view.entry.number) Done) keeper.old keeper.new }
     ensures event { JoinsBy (Keep slot) (Keeper keeper.old.view) (Reference reference.view) (Keeper keeper.new.view) }
     ensures change { keeper.new.view ≡ keeper_after_keep keeper.old.view slot reference.view }
 {

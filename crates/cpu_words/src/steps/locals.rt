@@ -7,7 +7,7 @@ ghost use Rattle.cpu_words.specs.declared.view.View.TheVariants.{Cpu, Reference}
 ghost use Rattle.cpu_words.specs.declared.view.InHand.TheVariants.{Giving as GivingEntry};
 ghost use Rattle.cpu_words.specs.Sections.{IsIdle};
 ghost use Rattle.cpu_words.specs.Rule.{did};
-ghost use Rattle.cpu_words.specs.Steps.{Makes, SplitsBy, JoinsBy, SeatGoesOn, SeatMakes};
+ghost use Rattle.cpu_words.specs.Steps.{Makes, SplitsBy, JoinsBy, SeatGoesOn, SeatMakes, SeatRegroups};
 ghost use Rattle.cpu_words.specs.Locals.{down_reply, IsTaking, IsBack, IsNetCount, IsMetAlone, MayCount, HasCounted, MayCountDown, HasCountedDown, HasFoundCollected, HasSplit, HasSplitBack, with_hand};
 
 use crate::law::Words;
@@ -46,7 +46,7 @@ pub fn split_ref(words: &Words, seat: &mut CpuSeat, cpu: u8) -> ReferenceSeat
     requires table { seat.old.table ≡ words.now.table }
     requires cpu { seat.old.view.id ≡ cpu }
     requires may { (e : Entry) × IsTaking seat.old.view e }
-    ensures step { SeatGoesOn (did (SplitRef cpu) (Ref 0)) seat.old seat.new }
+    ensures step { SeatRegroups (did (SplitRef cpu) (Ref 0)) seat.old seat.new }
     ensures event { SplitsBy (SplitRef cpu) (Cpu seat.old.view) (Cpu seat.new.view) (Reference result.view) }
     ensures change { HasSplit seat.old.view seat.new.view result.view }
     ensures new { (result.table ≡ seat.old.table) × (result.log ≡ []) }
@@ -67,7 +67,7 @@ pub fn split_back(words: &Words, seat: &mut CpuSeat, cpu: u8) -> ReferenceSeat
     requires table { seat.old.table ≡ words.now.table }
     requires cpu { seat.old.view.id ≡ cpu }
     requires may { (e : Entry) × IsBack seat.old.view e }
-    ensures step { SeatGoesOn (did (SplitBack cpu) (Ref 0)) seat.old seat.new }
+    ensures step { SeatRegroups (did (SplitBack cpu) (Ref 0)) seat.old seat.new }
     ensures event { SplitsBy (SplitBack cpu) (Cpu seat.old.view) (Cpu seat.new.view) (Reference result.view) }
     ensures change { HasSplitBack seat.old.view seat.new.view result.view }
     ensures new { (result.table ≡ seat.old.table) × (result.log ≡ []) }
@@ -87,7 +87,7 @@ pub fn join_ref(words: &Words, seat: &mut CpuSeat, cpu: u8, reference: Reference
     requires table { (seat.old.table ≡ words.now.table) × (reference.table ≡ words.now.table) }
     requires cpu { seat.old.view.id ≡ cpu }
     requires may { IsIdle seat.old.view }
-    ensures step { SeatGoesOn (did (JoinRef cpu reference.view.entry.number) Done) seat.old seat.new }
+    ensures step { SeatRegroups (did (JoinRef cpu reference.view.entry.number) Done) seat.old seat.new }
     ensures event { JoinsBy (JoinRef cpu) (Cpu seat.old.view) (Reference reference.view) (Cpu seat.new.view) }
     ensures change { seat.new.view ≡ with_hand seat.old.view (GivingEntry reference.view.entry) }
 {

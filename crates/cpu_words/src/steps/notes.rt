@@ -7,7 +7,8 @@ ghost use Rattle.cpu_words.specs.Types.{Tell, Hear, Done, Rest};
 ghost use Rattle.cpu_words.specs.declared.view.View.TheVariants.{Keeper, Cpu, Note};
 ghost use Rattle.cpu_words.specs.Sections.{IsIdle};
 ghost use Rattle.cpu_words.specs.Rule.{did};
-ghost use Rattle.cpu_words.specs.Steps.{Makes, SplitsBy, SeatGoesOn};
+ghost use Rattle.cpu_words.specs.Acts.{ListGoesOn};
+ghost use Rattle.cpu_words.specs.Steps.{Makes, SplitsBy, SeatRegroups};
 ghost use Rattle.cpu_words.specs.Notes.{with_note, keeper_with_note};
 ghost use Rattle.cpu_words.specs.KeeperLog.{KnownLogGrows, heard_from, IsOwnLog, IsShownAfter};
 ghost use Rattle.cpu_words.specs.Logs.{teller_of};
@@ -24,7 +25,7 @@ pub fn tell(words: &Words, seat: &mut CpuSeat, cpu: u8) -> NoteSeat
     requires table { seat.old.table ≡ words.now.table }
     requires cpu { seat.old.view.id ≡ cpu }
     requires may { IsIdle seat.old.view }
-    ensures step { SeatGoesOn (did (Tell (Some cpu)) Done) seat.old seat.new }
+    ensures step { SeatRegroups (did (Tell (Some cpu)) Done) seat.old seat.new }
     ensures same { seat.new.view ≡ seat.old.view }
     ensures event { SplitsBy (Tell (Some cpu)) (Cpu seat.old.view) (Cpu seat.old.view) (Note result.view) }
     ensures note { result.view ≡ seat.old.view.pass }
@@ -43,7 +44,7 @@ pub fn tell(words: &Words, seat: &mut CpuSeat, cpu: u8) -> NoteSeat
 pub fn tell_keeper(words: &Words, keeper: &mut KeeperSeat) -> NoteSeat
     requires table { keeper.old.table ≡ words.now.table }
     requires may { keeper.old.view.due ≡ Rest }
-    ensures step { SeatGoesOn (did (Tell None) Done) keeper.old keeper.new }
+    ensures step { SeatRegroups (did (Tell None) Done) keeper.old keeper.new }
     ensures same { keeper.new.view ≡ keeper.old.view }
     ensures event { SplitsBy (Tell None) (Keeper keeper.old.view) (Keeper keeper.old.view) (Note result.view) }
     ensures note { result.view ≡ keeper.old.view.history }
@@ -73,6 +74,7 @@ pub fn hear(words: &Words, seat: &mut CpuSeat, cpu: u8, note: NoteSeat)
     ensures log { seat.new.log ≡ seat.old.log ++ heard_from (Some cpu) note.teller }
     ensures known_log { KnownLogGrows seat.old.known_log note.known_log seat.new.known_log }
     ensures counts { IsShownAfter seat.new.known_log (Cpu (with_note seat.old.view note.view)) }
+    ensures list { ListGoesOn seat.old.list seat.new.log seat.new.list }
 {
     notes::lay(words, seat, note);
     notes::listen(words, seat, cpu);
@@ -90,6 +92,7 @@ pub fn hear_keeper(words: &Words, keeper: &mut KeeperSeat, note: NoteSeat)
     ensures change { keeper.new.view ≡ keeper_with_note keeper.old.view note.view }
     ensures log { keeper.new.log ≡ keeper.old.log ++ heard_from None note.teller }
     ensures own_log { IsOwnLog keeper.old.log note.known_log keeper.old.view }
+    ensures list { ListGoesOn keeper.old.list keeper.new.log keeper.new.list }
 {
     notes::lay_by_keeper(words, keeper, note);
     notes::hear_noted(words, keeper);

@@ -4,7 +4,7 @@ ghost use Rattle.std.specs.Prelude.{◌≡◌, ◌+◌};
 ghost use Rattle.cpu_words.specs.Types.{Seat, Done};
 ghost use Rattle.cpu_words.specs.declared.view.View.TheVariants.{Keeper, Cpu};
 ghost use Rattle.cpu_words.specs.Rule.{did};
-ghost use Rattle.cpu_words.specs.Steps.{SplitsBy, SeatGoesOn};
+ghost use Rattle.cpu_words.specs.Steps.{SplitsBy, SeatRegroups};
 ghost use Rattle.cpu_words.specs.Opening.{MaySeat, cpu_seat};
 
 use crate::law::Words;
@@ -16,7 +16,7 @@ use crate::seat::{CpuSeat, KeeperSeat};
 pub fn seat(words: &Words, keeper: &mut KeeperSeat) -> CpuSeat
     requires table { keeper.old.table ≡ words.now.table }
     requires may { MaySeat keeper.old.view }
-    ensures step { SeatGoesOn (did (Seat keeper.old.view.seated) Done) keeper.old keeper.new }
+    ensures step { SeatRegroups (did (Seat keeper.old.view.seated) Done) keeper.old keeper.new }
     ensures event { SplitsBy (Seat keeper.old.view.seated) (Keeper keeper.old.view) (Keeper keeper.new.view) (Cpu result.view) }
     ensures keeper { keeper.new.view ≡ record keeper.old.view { seated = keeper.old.view.seated + 1 } }
     ensures new { result ≡ cpu_seat keeper.old.table keeper.old.view.settings keeper.old.view.seated }

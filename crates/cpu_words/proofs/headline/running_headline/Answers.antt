@@ -4,6 +4,7 @@ use Rattle.cpu_words.proofs.laws.Waiting.{waiting_ends}
 use Rattle.cpu_words.proofs.laws.Freed.{freed_by_keeper, freed_is_gone}
 use Rattle.cpu_words.proofs.laws.Fresh.{lookups_are_fresh, whole_in_the_list}
 use Rattle.cpu_words.proofs.laws.Kept.{attached_keeps}
+use Rattle.cpu_words.proofs.laws.Ordered.{ordered_in_time}
 use Rattle.cpu_words.proofs.laws.Balance.{seats_balance}
 use Rattle.cpu_words.proofs.headline.running_headline.Goals as goal
 
@@ -33,3 +34,6 @@ returns-clause-fresh c = lookups_are_fresh
 
 pub returns-clause-whole : goal.returns-clause-whole
 returns-clause-whole c = whole_in_the_list
+
+pub returns-clause-grows : goal.returns-clause-grows
+returns-clause-grows c = ordered_in_time
