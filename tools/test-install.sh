@@ -185,7 +185,7 @@ pages_are_found() {
 flags_are_taken() {
     local library
     rm -rf "$clients/out/installed-netbsd" "$clients/out/waiting.o" "$clients"/out/libkupaldiz*
-    echo 'static const char seen[] __attribute__((used, section("seen"))) = "CPPFLAGS";' >"$room/seen.h"
+    echo 'static const char of_cppflags[] __attribute__((used, section("seen"))) = "CPPFLAGS";' >"$room/seen.h"
     made library CPPFLAGS="-include $room/seen.h" CFLAGS='-O1 -frecord-gcc-switches' LDFLAGS=-Wl,--build-id=0xfeedfeed || return
     for library in "$clients"/out/libkupaldiz{,_netbsd}.so."$(version)"; do
         readelf -p seen "$library" | grep CPPFLAGS && readelf -p .GCC.command.line "$library" | grep -e -O1 && readelf -n "$library" | grep feedfeed || return
