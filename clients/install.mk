@@ -9,7 +9,7 @@ INCLUDEDIR = $(PREFIX)/include
 MANDIR = $(PREFIX)/share/man
 DOCDIR = $(PREFIX)/share/doc/kupaldiz
 EXAMPLESDIR = $(DOCDIR)/examples
-# What the .pc files say of the prefix. A release that is unpacked anywhere says '${pcfiledir}/../..', and gives RUNPATH='$$ORIGIN', by which
+# What the .pc files say of the prefix. A release that is unpacked anywhere says '$${pcfiledir}/../..', and gives RUNPATH='$$ORIGIN', by which
 # libkupaldiz_netbsd finds libkupaldiz beside it.
 PC_PREFIX = $(PREFIX)
 RUNPATH =
@@ -60,7 +60,7 @@ LINKED = $(filter-out -flto%,$(CFLAGS)) $(LDFLAGS) -shared $(LINK_HARDENING) -Wl
 
 library: $(OUT)/libkupaldiz.a $(OUT)/$(SHARED) $(OUT)/libkupaldiz_netbsd.a $(OUT)/$(NETBSD_SHARED)
 
-$(OUT)/waiting.o: c/waiting.c c/waiting.h $(HEADER)/registry.h places.mk install.mk
+$(OUT)/waiting.o: c/waiting.c c/waiting.h $(HEADER)/registry.h places.mk install.mk | $(OUT)
 	$(CC) $(COMPILED) -c -o $@ $<
 
 $(OUT)/libkupaldiz.a: $(ARCHIVE) $(OUT)/waiting.o
@@ -93,7 +93,7 @@ comma := ,
 
 # The public names: those of the headers, of the maps, and of what was built.
 symbols: library
-	./symbols.sh $(HEADER) $(OUT) $(VERSION)
+	NM=$(CROSS)nm ./symbols.sh $(HEADER) $(OUT) $(VERSION)
 
 install: library
 	$(INSTALL) -d $(DESTDIR)$(PKGCONFIGDIR) $(DESTDIR)$(CMAKEDIR) $(NETBSD_FOLDERS:%=$(DESTDIR)$(INCLUDEDIR)/kupaldiz/netbsd/%) \

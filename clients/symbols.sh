@@ -22,12 +22,12 @@ mapped() {
 
 # What a shared library shows, without its versions' own names.
 shared() {
-    nm -D --defined-only "$1" | awk '$2 != "A" { sub(/@.*/, "", $3); print $3 }' | sort
+    ${NM:-nm} -D --defined-only "$1" | awk '$2 != "A" { sub(/@.*/, "", $3); print $3 }' | sort
 }
 
 # What other objects see of a static library.
 static() {
-    nm -g --defined-only "$1" 2>/dev/null | awk 'NF == 3 { print $3 }' | sort
+    ${NM:-nm} -g --defined-only "$1" 2>/dev/null | awk 'NF == 3 { print $3 }' | sort
 }
 
 # same WHAT NAMES OTHERS: two lists of names, as texts.

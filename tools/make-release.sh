@@ -60,6 +60,7 @@ has_aarch64() {
 }
 
 need_proved() {
+    grep -qx "version = \"$version\"" clients/rust/Cargo.toml || refuse "clients/rust/Cargo.toml has another version than registry.h, which has $version"
     tools/proof-record.py check clients/out/libregistry.a || exit 2
     ./registry_run --proved >/dev/null || refuse "there is no proved registry_run of the sources that stand: tools/prove-program.sh proves and builds it"
     if has_aarch64; then
@@ -86,7 +87,7 @@ binaries() {
     cp -r "$room/$source_name" "$source"
     words=(CC="$compiler" CFLAGS=-O2 WERROR= PREFIX="/$name" DESTDIR="$room/tree" DOCDIR="/$name/share/doc/kupaldiz" EXAMPLESDIR="/$name/examples")
     # shellcheck disable=SC2016
-    words+=(PC_PREFIX='${pcfiledir}/../..' RUNPATH='$$ORIGIN')
+    words+=(PC_PREFIX='$${pcfiledir}/../..' RUNPATH='$$ORIGIN')
     quietly make -C "$source" symbols install install-examples "${words[@]}"
     cp clients/INSTALL.md "$room/tree/$name/README.md"
     cp "$source/archive/$1/libregistry.proved" "$room/tree/$name/PROVED"

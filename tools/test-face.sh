@@ -60,9 +60,9 @@ build_archive() {
     tools/build-archive.sh
 }
 
-# The archive has each call of the header, and no other name that begins so.
+# Other objects see each call of the header in the archive, and no other name.
 archive_names() {
-    diff <(declared) <(nm --defined-only "$out/libregistry.a" 2>/dev/null | awk '$2 == "T" && $3 ~ /^registry_/ { print $3 }' | sort)
+    diff <(declared) <(nm -g --defined-only "$out/libregistry.a" 2>/dev/null | awk 'NF == 3 { print $3 }' | sort)
 }
 
 # The program whose stack is looked at makes each call of the header.

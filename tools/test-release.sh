@@ -47,7 +47,7 @@ root() {
     shift
     packages=$(IFS=,; echo "$*")
     if [ ! -f "$roots/$name.tar" ]; then
-        mmdebstrap --mode=root --variant=minbase --include="$packages" "$suite" "$roots/$name.tar.new" && mv "$roots/$name.tar.new" "$roots/$name.tar"
+        mmdebstrap --mode=root --format=tar --variant=minbase --include="$packages" "$suite" "$roots/$name.tar.new" && mv "$roots/$name.tar.new" "$roots/$name.tar"
     fi
 }
 
