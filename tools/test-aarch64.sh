@@ -4,6 +4,8 @@
 #
 #     tools/test-aarch64.sh            proves the library for aarch64 first
 #     tools/test-aarch64.sh --built    takes the library that tools/archive-beside.py has proved for aarch64, and left in clients/out/aarch64
+#     tools/test-aarch64.sh --rust     takes the archive as it stands, and runs the tests of the Rust crate alone. Debian's compiler and its standard
+#                                      library for both processors are fetched for it, 110 megabytes, and unpacked below clients/out/aarch64. Not in the gate
 #
 # qemu runs on this machine's processor, whose memory order is a stronger one: no run here can show an order that is too weak. What can be shown
 # stands beside: each instruction that comes to a registry's table, in runs of one thread through all calls, is one of the four that aarch64 has for
@@ -117,6 +119,34 @@ test_netbsd() {
     done
 }
 
+# What is Debian's of Rust, for both processors, and what its cargo needs.
+rust_packages() {
+    local version
+    version=$(apt-cache "$@" depends --important libstd-rust-dev | grep -oE 'libstd-rust-[0-9.]+' | head -n 1)
+    echo rustc cargo libstd-rust-dev libstd-rust-dev:arm64 "$version" "$version:arm64"
+    apt-cache "$@" depends --important --recurse cargo | grep -oE '^(libgit2|libssh2|libhttp-parser|libmbed|libcurl3)[^ ]*' | sort -u
+}
+
+# Unpacked, not installed: this machine's own compiler stays as it is.
+fetch_rust() {
+    local room=$PWD/$out/debian deb
+    local options=(-q -o APT::Architectures::=amd64 -o APT::Architectures::=arm64 -o Dir::State::lists="$room/lists" -o Dir::Cache="$room/cache")
+    [ ! -x "$room/usr/bin/cargo" ] || return 0
+    mkdir -p "$room/lists/partial" "$room/cache/archives/partial" "$room/debs" && apt-get "${options[@]}" update || return 1
+    # shellcheck disable=SC2046
+    (cd "$room/debs" && apt-get "${options[@]}" download $(rust_packages "${options[@]:1}")) || return 1
+    for deb in "$room"/debs/*.deb; do dpkg -x "$deb" "$room" || return 1; done
+}
+
+# The crate's tests but for those that call the compiler, over the archive for the processor, each program under the emulator.
+rust_tests() {
+    local room=$PWD/$out/debian
+    (cd clients/rust && LD_LIBRARY_PATH=$room/usr/lib/x86_64-linux-gnu RUSTC=$room/usr/bin/rustc CARGO_TARGET_DIR=$PWD/../out/$processor/rust \
+        CARGO_TARGET_AARCH64_UNKNOWN_LINUX_GNU_LINKER=${cross}gcc CARGO_TARGET_AARCH64_UNKNOWN_LINUX_GNU_RUNNER="env -u LD_LIBRARY_PATH $emulator" \
+        RUSTFLAGS='-C target-feature=+crt-static' "$room/usr/bin/cargo" test --offline --no-fail-fast --target $processor-unknown-linux-gnu --lib \
+        $(find tests -maxdepth 1 -name '*.rs' ! -name compile_fail.rs -printf '--test %f ' | sed 's/\.rs / /g'))
+}
+
 test_order() {
     check "the tests of one thread are built to be looked at" make_for clients ordered
     check "layout comes to tables by sequentially consistent steps" ordered layout
@@ -131,8 +161,14 @@ is_built=
 case "$*" in
 '') ;;
 --built) is_built=yes ;;
+--rust)
+    install_missing
+    check "Debian's Rust for both processors is fetched" fetch_rust
+    counted "the Rust crate's tests" rust_tests
+    finish
+    ;;
 *)
-    echo "test-aarch64: it takes nothing or --built" >&2
+    echo "test-aarch64: it takes nothing, --built or --rust" >&2
     exit 2
     ;;
 esac
