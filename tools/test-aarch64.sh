@@ -8,8 +8,9 @@
 #                                      library for both processors are fetched for it, 110 megabytes, and unpacked below clients/out/aarch64. Not in the gate
 #
 # qemu runs on this machine's processor, whose memory order is a stronger one: no run here can show an order that is too weak. What can be shown
-# stands beside: each instruction that comes to a registry's table, in runs of one thread through all calls, is one of the four that aarch64 has for
-# sequentially consistent steps (clients/c/ordered.c), and the archive has no other atomic instruction on words that are shared (tools/atomics.py).
+# stands beside: each instruction that comes to a registry's table, in runs of one thread, is one of the four that aarch64 has for sequentially
+# consistent steps (clients/c/ordered.c), and the archive has no other atomic instruction at all (tools/atomics.py). A plain load or store of the
+# table on a path that no run takes would go unseen.
 set -uo pipefail
 cd "$(dirname "$0")/.."
 # shellcheck source=tools/checks.sh
@@ -63,6 +64,11 @@ emulated() {
     limited "$emulator" "$@"
 }
 
+# It counts what the library asks for. Where all is one program, it would count what the C library asks for as well: so it takes that as a shared one.
+make_refuse() {
+    make -s -C clients CC="${cross}gcc" "out/$processor/refuse"
+}
+
 # run-examples.py runs one program: a script that runs the emulator.
 scripts_say() {
     printf '#!/bin/sh\nexec %s %s/%s/script "$@"\n' "$emulator" "$PWD" "$out" >"$out/run-script" && chmod +x "$out/run-script" &&
@@ -88,6 +94,7 @@ sees_weaker_step() {
 
 test_clients() {
     local storm
+    check "refuse is built over a shared C library" make_refuse
     check "the clients in C are built, no warning" make_for clients all "out/$processor/heap_stress-none-right"
     check "row" row_says emulated "$out/row"
     for storm in "1 100" "4 1000" "8 200"; do
@@ -96,7 +103,7 @@ test_clients() {
     done
     check "packet" emulated "$out/packet"
     check "misuse is answered" emulated "$out/misuse"
-    check "each allocation refused" emulated "$out/refuse"
+    check "each allocation refused" emulated -L "/usr/$processor-linux-gnu" "$out/refuse"
     check "the layout of each struct" emulated "$out/layout"
     check "walk" emulated "$out/walk" 200
     check "usual" emulated "$out/usual" 50
@@ -114,7 +121,8 @@ test_clients() {
 test_netbsd() {
     local test
     check "the manual pages' own names are built, no warning" make_for clients/netbsd plain
-    for test in $(make_for clients/netbsd list-plain); do
+    # Where a program ends by a signal, the emulator says a line of its own: so not those that compare all that a misuse says.
+    for test in $(make_for clients/netbsd list-plain | tr ' ' '\n' | grep -v '^misuse'); do
         check "$test, of the manual pages' names" emulated "$out/netbsd/plain/$test"
     done
 }
@@ -151,10 +159,10 @@ test_order() {
     check "the tests of one thread are built to be looked at" make_for clients ordered
     check "layout comes to tables by sequentially consistent steps" ordered layout
     check "misuse does" ordered misuse
-    check "history does" ordered history 2000 1
+    check "history does" ordered history 200 1
     check "a plain load is seen" sees_plain_load
     check "a weaker step is seen" sees_weaker_step
-    check "the archive's atomic instructions are these, and all were met" tools/atomics.py "$out/libregistry.a" "$out"/ordered-{layout,misuse,history}
+    check "the archive's atomic instructions are these four, and most were met" tools/atomics.py "$out/libregistry.a" "$out"/ordered-{layout,misuse,history}
 }
 
 is_built=
