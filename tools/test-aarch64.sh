@@ -55,6 +55,11 @@ archive_names() {
     diff <(clients/calls-of.sh crates/registry_c/include/registry.h) <("${cross}nm" --defined-only "$out/libregistry.a" | awk '$2 ~ /^[A-TV-Z]$/ { print $3 }' | sort)
 }
 
+# No call takes more stack than the page says.
+stack_within() {
+    tools/frames.py "$out/libregistry.a" 1024 registry_open registry_walk && tools/frames.py "$out/libregistry.a" 4096
+}
+
 # make_for FOLDER TARGET..: built for the processor, so that the emulator needs no library of it.
 make_for() {
     make -s -C "$1" CC="${cross}gcc" LDFLAGS=-static "${@:2}"
@@ -186,6 +191,7 @@ if [ ! -e "$out/libregistry.a" ]; then
     finish
 fi
 check "it has the header's calls" archive_names
+check "no call takes more stack than the page says" stack_within
 test_clients
 test_netbsd
 test_order
