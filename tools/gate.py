@@ -32,6 +32,7 @@ sys.exit(gate(
         Part("Rust clients", f"{FACE} rust"),
         Part("C clients, watched", f"{FACE} watched"),
         Part("C clients", f"{FACE} c"),
+        Part("aarch64, under qemu", "tools/test-aarch64.sh --built"),
         Part("memory behind entries", f"{FACE} heap"),
         Part("the manual pages' names", f"{FACE} netbsd"),
         Part("manual page", f"{FACE} page"),

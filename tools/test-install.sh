@@ -183,11 +183,12 @@ pages_are_found() {
 
 # The words that a distribution gives reach the compiler and the linker.
 flags_are_taken() {
-    rm -rf "$clients/out/installed-netbsd" "$clients/out/waiting.o" "$clients"/out/libkupaldiz*
-    made library CPPFLAGS=-DSEEN_BY_CPP CFLAGS='-O1 -frecord-gcc-switches' LDFLAGS=-Wl,--build-id=0xfeedfeed || return
     local library
-    for library in libkupaldiz libkupaldiz_netbsd; do
-        readelf -p .GCC.command.line "$clients/out/$library.so.$(version)" | grep -e SEEN_BY_CPP && readelf -n "$clients/out/$library.so.$(version)" | grep feedfeed || return
+    rm -rf "$clients/out/installed-netbsd" "$clients/out/waiting.o" "$clients"/out/libkupaldiz*
+    echo 'static const char of_cppflags[] __attribute__((used, section("seen"))) = "CPPFLAGS";' >"$room/seen.h"
+    made library CPPFLAGS="-include $room/seen.h" CFLAGS='-O1 -frecord-gcc-switches' LDFLAGS=-Wl,--build-id=0xfeedfeed || return
+    for library in "$clients"/out/libkupaldiz{,_netbsd}.so."$(version)"; do
+        readelf -p seen "$library" | grep CPPFLAGS && readelf -p .GCC.command.line "$library" | grep -e -O1 && readelf -n "$library" | grep feedfeed || return
     done
 }
 
@@ -228,9 +229,9 @@ names_no_place() {
     ! grep -rlF -e "$stage" -e "$PWD" "$stage$prefix" --include='*.pc' --include='*.cmake' --include='*.3' --include='*.h'
 }
 
-# asked WORDS..: what the .pc file of the module says where it is in place, as this test wants it: without a blank at the end.
+# asked WORDS..: what the .pc file of the module says where it is in place, as this test wants it: the folder of the libraries once, no blank at the end.
 asked() {
-    PKG_CONFIG_PATH=$stage$libdir/pkgconfig pkg-config "$@" "$module" | sed 's/ *$//'
+    PKG_CONFIG_PATH=$stage$libdir/pkgconfig pkg-config "$@" "$module" | sed -E 's/ -L[^ ]+//g; s/ *$//'
 }
 
 # pc_says LIBS STATIC: the .pc file of the module names its version, its folders and, for a shared and for a static program, these libraries.

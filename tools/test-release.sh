@@ -47,7 +47,7 @@ root() {
     shift
     packages=$(IFS=,; echo "$*")
     if [ ! -f "$roots/$name.tar" ]; then
-        mmdebstrap --mode=root --variant=minbase --include="$packages" "$suite" "$roots/$name.tar.new" && mv "$roots/$name.tar.new" "$roots/$name.tar"
+        mmdebstrap --mode=root --format=tar --variant=minbase --include="$packages" "$suite" "$roots/$name.tar.new" && mv "$roots/$name.tar.new" "$roots/$name.tar"
     fi
 }
 
@@ -69,14 +69,11 @@ inside() {
     return "$status"
 }
 
-# tries PART ROOT: the script tools/tests/release/PART.sh in that root. It prints a line 'done: ..' for each thing that it shows.
+# tries NAME PART: counts the script tools/tests/release/PART.sh in the root of that name as one check. Its lines `done: ..` say what it shows.
 tries() {
-    local part=$1
-    inside "$2" "tools/tests/release/$part.sh" >"$room/said" 2>&1
-    local status=$?
-    cp "$room/said" "$log"
-    grep '^done: ' "$room/said" | sed 's/^done: /        /'
-    return "$status"
+    inside "$2" "tools/tests/release/$2.sh" >"$log" 2>&1
+    judge "$1" $?
+    sed -n 's/^done: /        /p' "$log"
 }
 
 sums_hold() {
@@ -104,20 +101,20 @@ test_twice() {
 
 test_c() {
     check "a root with gcc, make and pkg-config" root c gcc libc6-dev make pkg-config xz-utils diffutils
-    check "gcc and make alone" tries c c
+    tries "gcc and make alone" c
 }
 
 test_cmake() {
     check "a root with gcc, make and cmake" root cmake gcc libc6-dev make cmake xz-utils
-    check "cmake" tries cmake cmake
+    tries "cmake" cmake
 }
 
 test_cargo() {
     check "a root with cargo" root cargo cargo xz-utils
-    check "Debian's cargo" tries cargo cargo
+    tries "Debian's cargo" cargo
     rust=$(rustc --print sysroot 2>/dev/null)
     if [ -n "$rust" ] && [ "$rust" != /usr ]; then
-        check "$(rustc --version)" tries cargo cargo
+        tries "$(rustc --version)" cargo
     else
         echo "NOT RUN: a newer cargo than Debian's, as there is none here"
     fi
@@ -126,7 +123,7 @@ test_cargo() {
 
 test_apt() {
     check "a root with gcc, make, pkg-config and cargo" root apt gcc libc6-dev make pkg-config cargo
-    check "the Debian packages" tries apt apt
+    tries "the Debian packages" apt
 }
 
 check "SHA256SUMS holds" sums_hold

@@ -60,7 +60,7 @@ static void refer(struct registry_cpu *cpu, const struct registry_name *name, st
 	DONE(registry_find(cpu, REGISTRY_DRIVER, name, &entry));
 	DONE(registry_acquire(cpu, &number));
 	DONE(registry_acquire_entry(cpu, &row[0]));
-	DONE(registry_release(cpu, number));
+	DONE(registry_release(cpu, row[0].number));
 	DONE(registry_copy(cpu, number));
 	DONE(registry_held(cpu, number, &yes));
 	DONE(registry_read(cpu, number, &entry));

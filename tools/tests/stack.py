@@ -1,4 +1,4 @@
-"""Faults of the face for C: tools/frames.py and tools/face-page.py."""
+"""Faults of the face for C: tools/frames.py, tools/face-page.py and tools/atomics.py."""
 from .trees import Case, Fault
 
 HEADER = """/* registry_none(void); */
@@ -91,5 +91,43 @@ def frames():
                prepare=archive)
 
 
+# An archive's function as objdump shows it, and a program that has it elsewhere, with the places by which it came to a table.
+STEPS = """0000000000000000 <enter>:
+   0:\tldaxr\tx9, [x8]
+   4:\tstlxr\tw10, x9, [x8]
+   8:\tldr\tx0, [x8]
+   c:\tldar\tx0, [x8]
+  10:\tret
+"""
+LINKED = """0000000000400000 <other>:
+  400000:\tldar\tx0, [x8]
+0000000000400100 <enter>:
+  400100:\tldaxr\tx9, [x8]
+  400104:\tstlxr\tw10, x9, [x8]
+  400108:\tldr\tx0, [x8]
+  40010c:\tldar\tx0, [x8]
+"""
+LOOK = """#!/bin/sh
+PATH=$PWD/bin:$PATH exec tools/atomics.py archive program
+"""
+
+
+def atomics():
+    tree = {"archive.code": STEPS, "program.code": LINKED, "program.sites": "400100\n400104\n40010c\n", "look": LOOK,
+            "bin/aarch64-linux-gnu-objdump": '#!/bin/sh\ncat "$3.code"\n'}
+    faults = (
+        Fault("a weaker step", "another instruction: ldxr in enter+0", (("archive.code", "ldaxr", "ldxr"),)),
+        Fault("a weaker load", "another instruction: ldapr in enter+0xc", (("archive.code", "ldar", "ldapr"),)),
+        Fault("a barrier", "another instruction: dmb in enter+0x8", (("archive.code", "ldr\tx0, [x8]", "dmb\tish"),)),
+        Fault("a step of another kind", "another instruction: ldaddal in enter+0xc", (("archive.code", "ldar", "ldaddal"),)),
+        Fault("a step that no program met", "met by no program: ldar in enter+0xc", (("program.sites", "40010c\n", ""),)),
+        Fault("a step that another function met", "met by no program: ldar in enter+0xc", (("program.sites", "40010c", "400000"),)),
+        Fault("no steps at all", "ldar 0", (("archive.code", "ldaxr", "nop"), ("archive.code", "stlxr", "nop"), ("archive.code", "ldar", "nop"))),
+        Fault("no places", "program.sites", (("program.sites", "400100\n400104\n40010c\n", None),)),
+        Fault("an archive that can't be read", "archive can't be read", (("bin/aarch64-linux-gnu-objdump", "cat", "exit 3; cat"),)),
+    )
+    return [Case("atomics", ["atomics.py"], tree, ["./look"], faults, counts=False)]
+
+
 def cases():
-    return [*faces(), *frames()]
+    return [*faces(), *frames(), *atomics()]
