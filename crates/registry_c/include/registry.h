@@ -394,7 +394,8 @@ uint32_t registry_enter_find(struct registry_cpu *cpu, uint64_t kind, const stru
  *
  * The local handle is empty before. The reference outlives the section and may go to another thread.
  * It takes a block of memory where the CPU keeps none. A CPU keeps one: that of a reference which was released on it, or which an interface was
- * attached on with it. Where it keeps one the call isn't refused memory. The block that a CPU keeps is freed as the CPU is closed.
+ * attached on with it, or the one that a refused acquire took. A second one is freed at once. Where it keeps one the call isn't refused memory. The
+ * block that a CPU keeps is freed as the CPU is closed.
  * A CPU's count is what it acquired less what it released, of each entry: what others release, or interfaces give up, doesn't lower it. So where
  * references go one way only, acquired here and let go elsewhere, it comes to count_limit in the end, with nothing held.
  * Answers REGISTRY_EMPTY_HANDLE for the CPU's, REGISTRY_FULL_HANDLE for the local one, REGISTRY_NOTHING_FOUND, REGISTRY_LOCAL_FULL,
@@ -421,6 +422,7 @@ uint32_t registry_local_release(struct registry_cpu *cpu, struct registry_local 
 /*
  * registry_local_give_up - release it under the interlock, where a count of its entry was collected; its handle is empty then
  *
+ * It frees the handle's block of memory: no CPU keeps it.
  * Answers REGISTRY_EMPTY_HANDLE for either handle, REGISTRY_NOT_COLLECTED; never the latter of a reference for which a release has answered
  * REGISTRY_COLLECTED.
  */
