@@ -174,7 +174,8 @@ static void leave(void)
 	EXPECT(registry_exit(&cpus[0]) == model_exit(&model, 0));
 }
 
-static void (*const deeds[])(void) = {attach, attach, attach, attach, attach_iface, attach_iface, detach, detach, detach, detach, detach, free_all, advance, hold, release, release, enter, leave};
+static void (*const deeds[])(void) = {attach, attach, attach, attach, attach_iface, attach_iface, detach, detach, detach, detach, detach, free_all, advance,
+    hold, release, release, enter, leave};
 
 /* CPU 0 lets all go. */
 static void let_go(void)

@@ -469,7 +469,8 @@ static void refer_often(void)
 		same(registry_exit(&world->cpus[cpu]), model_exit(&world->model, cpu));
 	}
 	audit(world);
-	same(registry_detach(&world->keeper, &world->cpus[1], REGISTRY_DRIVER, &names[0], &entry), model_detach(&world->model, 1, REGISTRY_DRIVER, &names[0], &wanted));
+	same(registry_detach(&world->keeper, &world->cpus[1], REGISTRY_DRIVER, &names[0], &entry),
+	    model_detach(&world->model, 1, REGISTRY_DRIVER, &names[0], &wanted));
 	for (unsigned i = 0; i < MANY; i++) {
 		if (i % 1000 == 0)
 			advance_number(world, number);

@@ -1,9 +1,9 @@
 /*
  * turns - each step that the waits of waiting.h make: which calls, in which order, how long they sleep, and that they stop where they should
  *
- * The linker leads the registry's calls, the clock, nanosleep and sched_yield here (--wrap). The calls answer what the test says, time is the test's
- * own, and each step leaves a letter: t and g the interlock taken and given up, d a destroy's turn, b and p a perform's begin and turn, y a yield,
- * s a sleep.
+ * The linker leads the registry's calls, the clock, nanosleep and sched_yield here (--wrap), and pauses.h the pause instruction. The calls answer what the
+ * test says, time is the test's own, and each step leaves a letter: t and g the interlock taken and given up, d a destroy's turn, b and p a perform's
+ * begin and turn, y a yield, s a sleep.
  */
 #include <pthread.h>
 #include <sched.h>
@@ -12,9 +12,10 @@
 #include <unistd.h>
 
 #include "client.h"
+#include "pauses.h"
 #include "waiting.h"
 
-enum { SPINS = 16, YIELDS = 8, FIRST_SLEEP = 16000, LONGEST_SLEEP = 8000000, MOST = 400, TURN = 100 };
+enum { SPINS = 16, MOST_PAUSES = 256, YIELDS = 8, FIRST_SLEEP = 16000, LONGEST_SLEEP = 8000000, MOST = 400, TURN = 100 };
 
 static struct {
 	uint32_t begun;			/* what a begin answers */
@@ -26,6 +27,7 @@ static struct {
 	char steps[MOST];
 	unsigned count, turns, sleeps;
 	int64_t slept[MOST];
+	unsigned pauses[MOST + 1];	/* after so many turns */
 	const struct registry_wait *wait;
 } seen;
 
@@ -67,6 +69,11 @@ int __wrap_sched_yield(void)
 {
 	step('y');
 	return 0;
+}
+
+void pause_seen(void)
+{
+	seen.pauses[seen.turns]++;
 }
 
 static uint32_t turn(char letter)
@@ -121,6 +128,15 @@ static void say(uint32_t begun, uint32_t refused, unsigned refusals, uint32_t la
 	memset(&seen, 0, sizeof seen);
 }
 
+/* Between the first turns the wait spins, each time for twice as many pauses, up to the most; never before the first turn or after the last. */
+static void expect_pauses(unsigned turns)
+{
+	for (unsigned i = 0; i <= turns; i++) {
+		unsigned wanted = i == 0 || i > SPINS || i >= turns ? 0 : 1U << (i - 1);
+		EXPECT(seen.pauses[i] == (wanted < MOST_PAUSES ? wanted : MOST_PAUSES));
+	}
+}
+
 /* The steps of so many turns with this letter, each but the last followed by a pause. */
 static void expect_turns(const char *begin, char letter, unsigned turns)
 {
@@ -134,6 +150,7 @@ static void expect_turns(const char *begin, char letter, unsigned turns)
 		wanted[length++] = 'g';
 	}
 	EXPECT(strcmp(seen.steps, wanted) == 0);
+	expect_pauses(turns);
 }
 
 /* Each sleep is twice as long as the one before, up to the longest; the last may be cut. */
@@ -185,32 +202,31 @@ static struct timespec in(int64_t nanoseconds)
 	return (struct timespec){then / 1000000000, then % 1000000000};
 }
 
+/* A destroy that is always refused ends by this deadline, and has made so many turns. */
+static void expect_held(struct timespec deadline, unsigned turns)
+{
+	say(REGISTRY_DONE, REGISTRY_STILL_HELD, MOST, REGISTRY_DONE);
+	EXPECT(registry_destroy_wait(&lock, &keeper, &cpu, 5, &deadline, &met) == REGISTRY_STILL_HELD);
+	expect_turns("", 'd', turns);
+}
+
 /*
- * A sleep is cut to the deadline, so the wait ends with a turn that begins at the deadline and not later; a deadline that has passed leaves the first
- * turn alone. The time crosses a full second in some of these.
+ * A sleep is cut to the deadline, so the wait ends with a turn that begins at the deadline and not later; while a nanosecond is left there is another
+ * turn; a deadline that has passed leaves the first turn alone. The time crosses a full second in some of these.
  */
 static void test_deadlines(void)
 {
 	enum { AWAKE = (SPINS + YIELDS + 1) * TURN };
-	struct timespec deadline;
 	for (int64_t start = 0; start < 3; start++) {
 		now = start * 999980000;
-		say(REGISTRY_DONE, REGISTRY_STILL_HELD, MOST, REGISTRY_DONE);
-		deadline = in(AWAKE + FIRST_SLEEP + TURN + 5000);
-		EXPECT(registry_destroy_wait(&lock, &keeper, &cpu, 5, &deadline, &met) == REGISTRY_STILL_HELD);
-		expect_turns("", 'd', SPINS + YIELDS + 3);
+		expect_held(in(AWAKE + FIRST_SLEEP + TURN + 5000), SPINS + YIELDS + 3);
 		expect_sleeps(2, 5000);
-		say(REGISTRY_DONE, REGISTRY_STILL_HELD, MOST, REGISTRY_DONE);
-		deadline = in(3 * TURN);
-		EXPECT(registry_destroy_wait(&lock, &keeper, &cpu, 5, &deadline, &met) == REGISTRY_STILL_HELD);
-		expect_turns("", 'd', 3);
-		say(REGISTRY_DONE, REGISTRY_STILL_HELD, MOST, REGISTRY_DONE);
-		deadline = in(start - 1);
-		EXPECT(registry_destroy_wait(&lock, &keeper, &cpu, 5, &deadline, &met) == REGISTRY_STILL_HELD);
-		expect_turns("", 'd', 1);
+		expect_held(in(3 * TURN), 3);
+		expect_held(in(3 * TURN + 1), 4);
+		expect_held(in(start - 1), 1);
 	}
 	say(REGISTRY_DONE, REGISTRY_STILL_HELD, 60, REGISTRY_DONE);
-	deadline = in(5000000000);
+	struct timespec deadline = in(5000000000);
 	EXPECT(registry_destroy_wait(&lock, &keeper, &cpu, 5, &deadline, &met) == REGISTRY_DONE);
 	expect_sleeps(60 - SPINS - YIELDS, 0);
 }

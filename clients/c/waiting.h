@@ -34,8 +34,8 @@ struct registry_lock registry_lock_of_mutex(pthread_mutex_t *mutex) REGISTRY_NON
  *
  * The caller runs on the CPU, outside a section, and doesn't hold the interlock. Each turn is a registry_destroy under the interlock. Between
  * two turns the call spins at first: 16 times, for 256 pause instructions at most and 2,303 in all. Then it yields 8 times, and then it sleeps, for
- * 16 microseconds and twice as long each time, 8 milliseconds at most. It makes at least one turn, and no turn once a turn has ended after `deadline`, a time of CLOCK_MONOTONIC;
- * with NULL it waits for as long as it takes.
+ * 16 microseconds and twice as long each time, 8 milliseconds at most. It makes at least one turn, and no turn once a turn has ended after `deadline`, a
+ * time of CLOCK_MONOTONIC; with NULL it waits for as long as it takes.
  * Answers what the last turn answered: REGISTRY_DONE as registry_destroy does, and the slot stands in `met`; REGISTRY_STILL_HELD where the
  * deadline has passed, and `met` is what held it last; REGISTRY_EMPTY_HANDLE, REGISTRY_INSIDE; REGISTRY_NOT_RETIRED where it isn't retired, or
  * another thread has freed it meanwhile. What the turns noted and collected stays, so a later call goes on from there. `met` may be NULL.

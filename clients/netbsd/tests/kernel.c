@@ -269,14 +269,30 @@ static void fire(void *arg)
 	atomic_fetch_add(&fired, 1);
 }
 
+static int64_t nanoseconds(void)
+{
+	struct timespec time;
+	EXPECT(clock_gettime(CLOCK_MONOTONIC, &time) == 0);
+	return (int64_t)time.tv_sec * 1000000000 + time.tv_nsec;
+}
+
+/* It fires once its ticks are over, and not before. */
+static void test_callout_time(void)
+{
+	enum { TICKS = 8 };
+	int64_t began = nanoseconds();
+	callout_reset(&callout, TICKS, fire, &fired);
+	while (atomic_load(&fired) == 0)
+		sleep_for(100);
+	EXPECT(nanoseconds() - began >= TICKS * INT64_C(1000000000) / hz);
+}
+
 static void test_callouts(void)
 {
 	callout_init(&callout, CALLOUT_MPSAFE);
 	callout_reset(&callout, 100000, fire, &fired);
 	EXPECT(callout_pending(&callout) && callout_active(&callout));
-	callout_reset(&callout, 1, fire, &fired);
-	while (atomic_load(&fired) == 0)
-		sleep_for(100);
+	test_callout_time();
 	EXPECT(callout_expired(&callout) && !callout_pending(&callout) && !callout_invoking(&callout));
 	EXPECT(callout_stop(&callout) && !callout_expired(&callout));
 	callout_schedule(&callout, 100000);

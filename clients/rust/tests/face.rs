@@ -103,6 +103,8 @@ fn refusals_say_why() {
     assert_eq!(boxed.source().unwrap().to_string(), boxed.to_string());
     assert!(Refusal::StillHeld(Holder::Grace(1)).to_string().ends_with(": grace cpu 1"));
     assert!(Refusal::Waiting(3).to_string().ends_with(": cpu 3"));
+    assert_eq!(Refusal::WrongCpu.to_string(), "the reference is of another CPU");
+    assert_eq!(Refusal::OtherRegistry.to_string(), "a CPU or a reference is of another registry");
 }
 
 #[test]

@@ -457,7 +457,8 @@ registry_answer registry_enter_find(struct registry_cpu *cpu, uint64_t kind, con
  *
  * The local handle is empty before. The reference outlives the section and may go to another thread.
  * It takes a block of memory where the CPU keeps none. A CPU keeps one: that of a reference which was released on it, or which an interface was
- * attached on with it. Where it keeps one the call isn't refused memory. The block that a CPU keeps is freed as the CPU is closed.
+ * attached on with it, or the one that a refused acquire took. A second one is freed at once. Where it keeps one the call isn't refused memory. The
+ * block that a CPU keeps is freed as the CPU is closed.
  * A refused call may take a block, too. Where the CPU keeps none, a call that answers REGISTRY_NOTHING_FOUND or REGISTRY_LOCAL_FULL may leave it
  * with one of 64 bytes: the next acquire on that CPU uses it. Without memory for it these two answers are the same, and no block is kept.
  * A CPU's count is what it acquired less what it released, of each entry: what others release, or interfaces give up, doesn't lower it. So where

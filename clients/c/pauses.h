@@ -1,0 +1,11 @@
+/*
+ * pauses.h - leads the pause instruction of waiting.c to a test: it is included before all of that file
+ */
+#ifndef PAUSES_H
+#define PAUSES_H
+
+void pause_seen(void);
+
+#define __builtin_ia32_pause pause_seen
+
+#endif

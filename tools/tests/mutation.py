@@ -1,0 +1,72 @@
+"""Faults of wrong bodies: what tools/mutants.py makes of a small library, and what it says of those that its test lets through."""
+from .trees import Case, Fault
+
+# A test of it sees that `most` answers the greater one, not that it may answer either where both are equal; and that `rest` ends at 0.
+WAITING = """int most(int a, int b)
+{
+	return a < b ? b : a;
+}
+
+int rest(int a)
+{
+	while (a > 0)
+		a -= 1;
+	return a;
+}
+"""
+MAKEFILE = """out/%: c/%.c c/waiting.c
+	@mkdir -p out
+	gcc $(STRICT) -O1 -o $@ $^
+turns = out/turns
+"""
+QUIET = "int main(void) { return 0; }\n"
+SEES = """int most(int a, int b);
+int rest(int a);
+int main(void) { return most(1, 2) != 2 || most(4, 3) != 4 || rest(3) != 0; }
+"""
+KNOWN = """What harms nobody.
+
+    clients/c/waiting.c: return a < b ? b : a; -> return a <= b ? b : a;
+
+Equal numbers are one number.
+"""
+# The run, and that its report has what it came to.
+TRIES = """#!/bin/sh
+tools/mutants.py "$@" --to report >said 2>&1
+status=$?
+cat said report
+exit $status
+"""
+
+
+def tree():
+    programs = {f"clients/c/{it}.c": QUIET for it in ("deferred", "waits", "forwarder", "device_switch")}
+    return {"clients/c/waiting.c": WAITING, "clients/c/turns.c": SEES, "clients/Makefile": MAKEFILE, "clients/MUTANTS.md": KNOWN, "tries": TRIES, **programs}
+
+
+ONLY = "clients/c/waiting.c"
+
+
+def told(*said):
+    """A command that runs the tool, and fails where the report doesn't say each of these."""
+    tests = "".join(f'grep -qF -e "{it}" said report || {{ echo "it does not say: {it}"; exit 1; }}\n' for it in said)
+    return f"#!/bin/sh\ntools/mutants.py --least 1 --only {ONLY} --to report >said 2>&1 || exit 3\ncat report\n{tests}"
+
+
+def cases():
+    survivor = "clients/c/waiting.c: return a < b ? b : a; -> return a <= b ? b : a;"
+    good = told("return a >= b ? b : a;: killed by turns", f"{survivor}", ": hung by turns", "    0 not tried", "sum of what was tried: ")
+    run = ["./tries", "--least", "1", "--only", f"{ONLY}:3"]
+    faults = (
+        Fault("a survivor that the text doesn't have", survivor, (("clients/MUTANTS.md", "a <= b", "b <= a"),), run),
+        Fault("no text", survivor, (("clients/MUTANTS.md", KNOWN, None),), run),
+        Fault("a test that sees nothing", "return a >= b ? b : a;", (("clients/c/turns.c", "most(1, 2) != 2 || most(4, 3) != 4 || ", ""),), run),
+        Fault("a test that fails at first", "turns fails on the tree as it stands", (("clients/c/turns.c", "most(4, 3) != 4", "most(4, 3) == 4"),), run),
+        Fault("a test that isn't built", "deferred fails on the tree as it stands", (("clients/c/deferred.c", "return 0;", "return gone();"),), run),
+        Fault("a file that isn't changed", "mutants: no code that is changed: clients/c/turns.c", command=["tools/mutants.py", "--only", "clients/c/turns.c"]),
+        Fault("a line without a wrong body", "mutants: no wrong body there", command=["tools/mutants.py", "--only", f"{ONLY}:2"]),
+        Fault("a number that is none", "mutants: argument --sample: not a number from 1: 0", command=["tools/mutants.py", "--sample", "0"]),
+        Fault("a word that it doesn't know", "mutants: unrecognized arguments: more", command=["tools/mutants.py", "more"]),
+    )
+    taken = ["mutants.py", "mutations.py", "parts.py", "counts.py"]
+    yield Case("mutants", taken, {**tree(), "good": good}, ["./good"], faults, counts=False)
