@@ -223,7 +223,10 @@ fn passive_references_are_released_in_any_order() {
         PassiveRef::release(held.remove(place));
         assert_eq!(held.len(), left);
         for one in &gone {
-            assert_eq!(cpu.holds(one.number), held.iter().any(|held| PassiveRef::entry(held).number == one.number));
+            assert_eq!(
+                cpu.holds(one.number),
+                held.iter().any(|held| PassiveRef::entry(held).number == one.number)
+            );
         }
     }
     assert!(gone.iter().all(|one| one.holder().is_none()));
