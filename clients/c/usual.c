@@ -266,6 +266,56 @@ static void check_spent(void)
 	close_registry();
 }
 
+/* Reads, copies and releases one of two references that are held, with numbers so far apart, as often as each is held. Neither takes the other's. */
+static void check_apart(struct registry_cpu *cpu, uint64_t one, uint64_t other)
+{
+	const uint64_t order[] = {one, one, other, other, one, other};
+	struct registry_entry entry;
+	for (unsigned i = 0; i < 2; i++) {
+		DONE(registry_copy(cpu, one));
+		DONE(registry_copy(cpu, other));
+	}
+	for (unsigned i = 0; i < 6; i++) {
+		DONE(registry_read(cpu, order[i], &entry));
+		EXPECT(entry.number == order[i] && entry.value == order[i]);
+		DONE(registry_release(cpu, order[i]));
+	}
+	EXPECT(!holds(cpu, one) && !holds(cpu, other));
+	EXPECT(registry_read(cpu, one, &entry) == REGISTRY_NOT_HELD && registry_release(cpu, one) == REGISTRY_NOT_HELD);
+	EXPECT(registry_copy(cpu, other) == REGISTRY_NOT_HELD && registry_release(cpu, 0) == REGISTRY_NOT_HELD);
+}
+
+/* A reference to the driver with this number, whose value is the number. */
+static void get_numbered(struct registry_cpu *cpu, uint64_t number)
+{
+	struct registry_entry found;
+	EXPECT(attach(number) == number);
+	DONE(registry_get(cpu, REGISTRY_DRIVER, &wm, &found));
+	EXPECT(found.number == number && found.value == number);
+}
+
+/* References by numbers that are from 2 to 66 apart, in two slots: each number's is kept in a place that other numbers share. */
+static void check_numbers(void)
+{
+	struct registry_cpu *cpu = &cpus[0];
+	open_registry(REGISTRY_MOST_COUNT, REGISTRY_MOST_COUNT);
+	for (uint64_t apart = 2, number = 1; apart <= 66; apart += 2) {
+		uint64_t first = number;
+		get_numbered(cpu, first);
+		EXPECT(detach() == first);
+		for (number += 2; number < first + apart; number += 2) {
+			EXPECT(attach(0) == number && detach() == number);
+			EXPECT(turn(number) == REGISTRY_FREED);
+		}
+		get_numbered(cpu, number);
+		check_apart(cpu, first, number);
+		EXPECT(detach() == number);
+		EXPECT(turn(first) == REGISTRY_FREED && turn(number) == REGISTRY_FREED);
+		number += 2;
+	}
+	close_registry();
+}
+
 static void check_answers(void)
 {
 	struct registry_cpu *cpu = &cpus[0];
@@ -398,6 +448,7 @@ int main(int argc, char **argv)
 	wm0 = name_of("wm0");
 	check_answers();
 	check_spent();
+	check_numbers();
 	run_threads(changes);
 	return 0;
 }

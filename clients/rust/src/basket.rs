@@ -140,6 +140,7 @@ impl Baskets {
     }
 
     /// Takes a reference out of a CPU's basket, with its slot.
+    #[inline]
     pub fn take(&self, cpu: u8) -> Option<(usize, ffi::Local)> {
         if self.count(cpu) == 0 {
             return None;
@@ -148,6 +149,7 @@ impl Baskets {
     }
 
     /// Takes a reference to the entry in this slot out of a CPU's basket.
+    #[inline]
     pub fn take_of(&self, cpu: u8, slot: usize) -> Option<ffi::Local> {
         if self.count(cpu) == 0 {
             return None;
@@ -183,10 +185,14 @@ impl Baskets {
         self.count(cpu) > HEAVY
     }
 
-    /// All CPUs, this one first.
-    pub fn cpus_from(first: u8) -> impl Iterator<Item = u8> {
-        let most = ffi::MOST_CPUS as u8;
-        (0..most).map(move |next| (first + next) % most)
+    /// The CPUs whose baskets have something in them, or had a little while ago, this one first. Mostly none has: a change, a wait and a turn look
+    /// at all of them.
+    #[inline]
+    pub fn filled_from(&self, first: u8) -> impl Iterator<Item = u8> + '_ {
+        const MOST: u8 = ffi::MOST_CPUS as u8;
+        (0..MOST)
+            .map(move |next| (first + next) % MOST)
+            .filter(move |cpu| self.count(*cpu) > 0)
     }
 }
 
@@ -227,7 +233,14 @@ mod tests {
     }
 
     #[test]
-    fn all_cpus_are_gone_through_once() {
-        assert_eq!(Baskets::cpus_from(6).collect::<Vec<_>>(), [6, 7, 0, 1, 2, 3, 4, 5]);
+    fn each_cpu_with_something_is_gone_through_once() {
+        let baskets = Baskets::default();
+        assert_eq!(baskets.filled_from(6).count(), 0);
+        for cpu in [3, 6, 0, 7] {
+            baskets.lay(cpu, 5, ffi::Local::EMPTY);
+        }
+        assert_eq!(baskets.filled_from(6).collect::<Vec<_>>(), [6, 7, 0, 3]);
+        assert!(baskets.take(0).is_some());
+        assert_eq!(baskets.filled_from(4).collect::<Vec<_>>(), [6, 7, 3]);
     }
 }

@@ -1,6 +1,6 @@
 //! A CPU of a registry.
 
-use crate::basket::{Baskets, BY_ACQUIRE, BY_CHANGE, BY_RELEASE};
+use crate::basket::{BY_ACQUIRE, BY_CHANGE, BY_RELEASE};
 use crate::ffi;
 use crate::refusal::{checked, Refusal};
 use crate::registry::Registry;
@@ -193,11 +193,8 @@ impl<T> Cpu<T> {
     /// Releases all local references that were dropped without a CPU before the call, on any thread, and waits for the interlock where a drain has
     /// collected this CPU's count. No program needs it: [other calls](crate::LocalRef#dropped-without-a-cpu) release some each.
     pub fn release_dropped(&self) {
-        for of in Baskets::cpus_from(self.id) {
-            let lying = self.shared().baskets().count(of);
-            if lying > 0 {
-                self.release_of(of, lying);
-            }
+        for of in self.shared().baskets().filled_from(self.id) {
+            self.release_of(of, self.shared().baskets().count(of));
         }
     }
 

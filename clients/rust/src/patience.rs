@@ -1,13 +1,20 @@
 //! How long a call waits for others, and what it does between two turns.
 
+use core::hint;
 #[cfg(feature = "std")]
 use std::thread;
 #[cfg(feature = "std")]
 use std::time::{Duration, Instant};
 
 /// How long [`Retired::destroy`](crate::Retired::destroy) and [`Registry::perform`](crate::Registry::perform) wait. Each makes one turn at
-/// least. Between two turns it holds no lock, and gives the processor up: first for an instant, then asleep, for twice as long each time, up
-/// to a millisecond.
+/// least. Between two turns it holds no lock, and lets time pass as `registry_destroy_wait` does, in this order:
+///
+/// 1. It spins 16 times, for 1, 2, 4, .. 256 and then 256 pause instructions: 2,303 in all, some 90 microseconds. A reader's section is over by
+///    then, where its thread runs.
+/// 2. It yields 8 times: the reader's thread may wait for this processor.
+/// 3. It sleeps, for 16 microseconds and twice as long each time, 8 milliseconds at most.
+///
+/// Without the feature `std` it spins alone.
 ///
 /// ```
 /// use registry::{Holder, Kind, Name, Patience, Refusal, Registry, Settings};
@@ -49,13 +56,61 @@ impl Patience {
     }
 }
 
+/// How often a wait spins before it yields.
 #[cfg(feature = "std")]
-/// How often the processor is given up before sleeping begins.
-const YIELDS: u32 = 16;
+const SPINS: u32 = 16;
+
+/// The pause instructions of the longest spin.
+const MOST_PAUSES: u32 = 256;
+
+/// How often it yields before it sleeps.
+#[cfg(feature = "std")]
+const YIELDS: u32 = 8;
 
 #[cfg(feature = "std")]
-/// The longest sleep is 2 to this power of microseconds.
-const LONGEST: u32 = 10;
+const FIRST_SLEEP: Duration = Duration::from_micros(16);
+
+#[cfg(feature = "std")]
+const LONGEST_SLEEP: Duration = Duration::from_millis(8);
+
+/// What a wait does between two turns.
+#[derive(Debug, PartialEq, Eq)]
+enum Pause {
+    /// So many pause instructions.
+    Spin(u32),
+    #[cfg(feature = "std")]
+    Yield,
+    #[cfg(feature = "std")]
+    Sleep(Duration),
+}
+
+impl Pause {
+    /// After so many turns, from 1.
+    fn after(made: u32) -> Pause {
+        #[cfg(feature = "std")]
+        if made > SPINS + YIELDS {
+            let sleep = FIRST_SLEEP * doubled(made - SPINS - YIELDS - 1);
+            return Pause::Sleep(sleep.min(LONGEST_SLEEP));
+        }
+        #[cfg(feature = "std")]
+        if made > SPINS {
+            return Pause::Yield;
+        }
+        Pause::Spin(doubled(made - 1).min(MOST_PAUSES))
+    }
+}
+
+/// 1, doubled so often, 9 times at most.
+fn doubled(times: u32) -> u32 {
+    1 << times.min(9)
+}
+
+/// Tells the processor so often that this thread spins.
+fn spin(pauses: u32) {
+    for _ in 0..pauses {
+        hint::spin_loop();
+    }
+}
 
 /// One wait: what is left of the patience.
 pub struct Pauses {
@@ -75,7 +130,8 @@ impl Pauses {
             Patience::Turns(turns) if self.made >= turns => false,
             #[cfg(not(feature = "std"))]
             Patience::Turns(_) => {
-                core::hint::spin_loop();
+                let Pause::Spin(pauses) = Pause::after(self.made);
+                spin(pauses);
                 true
             }
             #[cfg(feature = "std")]
@@ -85,17 +141,16 @@ impl Pauses {
         }
     }
 
-    /// Gives the processor up, for so long at most. Whether there was any time.
+    /// Lets time pass. Where it sleeps, for so long at most. Whether there was any time.
     #[cfg(feature = "std")]
     fn pause(&self, left: Duration) -> bool {
         if left == Duration::ZERO {
             return false;
         }
-        if self.made <= YIELDS {
-            thread::yield_now();
-        } else {
-            let power = (self.made - YIELDS - 1).min(LONGEST);
-            thread::sleep(Duration::from_micros(1 << power).min(left));
+        match Pause::after(self.made) {
+            Pause::Spin(pauses) => spin(pauses),
+            Pause::Yield => thread::yield_now(),
+            Pause::Sleep(length) => thread::sleep(length.min(left)),
         }
         true
     }
@@ -103,7 +158,7 @@ impl Pauses {
 
 #[cfg(all(test, feature = "std"))]
 mod tests {
-    use super::{Patience, Pauses};
+    use super::{Patience, Pause, Pauses};
     use std::time::{Duration, Instant};
 
     /// How many turns a wait allows, of at most so many.
@@ -128,8 +183,22 @@ mod tests {
         let began = Instant::now();
         let made = turns(Patience::at_most(Duration::from_millis(30)), usize::MAX);
         assert!(began.elapsed() >= Duration::from_millis(30));
-        // Sixteen that yield, ten that sleep for less than a millisecond, and a millisecond each then: no more, however late this thread is let on.
-        assert!(made <= 80, "{made} turns");
+        // The first, sixteen after a spin, eight after a yield, and twelve after sleeps, which take 30 milliseconds or more.
+        assert!(made <= 37, "{made} turns");
+    }
+
+    #[test]
+    fn a_wait_spins_and_yields_before_it_sleeps() {
+        let pauses: Vec<Pause> = (1..=36).map(Pause::after).collect();
+        let spun = pauses[..16].iter().map(|pause| match pause {
+            Pause::Spin(pauses) => *pauses,
+            other => panic!("{other:?}"),
+        });
+        assert_eq!((spun.clone().max(), spun.sum::<u32>()), (Some(256), 2_303));
+        assert!(pauses[16..24].iter().all(|pause| *pause == Pause::Yield));
+        let slept = [16, 32, 64, 128, 256, 512, 1024, 2048, 4096, 8000, 8000, 8000];
+        assert_eq!(pauses[24..], slept.map(|micros| Pause::Sleep(Duration::from_micros(micros))));
+        assert_eq!(Pause::after(u32::MAX), Pause::Sleep(Duration::from_millis(8)));
     }
 
     #[test]

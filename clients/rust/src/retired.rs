@@ -5,8 +5,8 @@ use crate::cpu::Cpu;
 use crate::patience::{Patience, Pauses};
 use crate::refusal::{Refusal, Refused};
 use crate::registry::Registry;
-use crate::shared::{Shared, Turned};
-use crate::values::{Entry, Freed};
+use crate::shared::Shared;
+use crate::values::{Entry, Freed, Met};
 use alloc::sync::Arc;
 use core::fmt;
 
@@ -64,8 +64,7 @@ impl<T> Retired<T> {
     pub fn advance(self) -> Result<Freed<T>, Refused<Retired<T>>> {
         // SAFETY: no CPU is given.
         let turned = unsafe { self.shared.turn(None, &self.entry) };
-        let done = judged(turned);
-        self.after(done)
+        self.after(turned.map_err(Met::refusal))
     }
 
     /// Makes turns until it is freed: `psref_target_destroy`, `localcount_drain`. Nobody holds it then, now or later, and what it carried comes
@@ -105,7 +104,7 @@ impl<T> Retired<T> {
         loop {
             // SAFETY: the CPU is this thread's and of this registry, and its handle isn't empty.
             let turned = unsafe { self.shared.turn(Some(cpu.handle()), &self.entry) };
-            let refusal = match judged(turned) {
+            let refusal = match turned.map_err(Met::refusal) {
                 Err(Refusal::StillHeld(holder)) => Refusal::StillHeld(cpu.holder_of(&self.entry).unwrap_or(holder)),
                 done => return done,
             };
@@ -117,6 +116,7 @@ impl<T> Retired<T> {
     }
 
     /// What a call returns that ended so.
+    #[inline]
     fn after(mut self, done: Result<Freed<T>, Refusal>) -> Result<Freed<T>, Refused<Retired<T>>> {
         match done {
             Ok(freed) => {
@@ -130,15 +130,6 @@ impl<T> Retired<T> {
     /// Leaves it to later changes, as dropping it does: each of them, and [`Registry::collect`], frees what nobody holds any more, the oldest
     /// first, and drops what it carried.
     pub fn defer(self) {}
-}
-
-/// What a turn on a retired entry came to, as a result.
-fn judged<T>(turned: Result<Option<Turned<T>>, Refusal>) -> Result<Freed<T>, Refusal> {
-    match turned? {
-        Some(Turned::Freed(freed)) => Ok(freed),
-        Some(Turned::Held(holder)) => Err(Refusal::StillHeld(holder)),
-        None => unreachable!("an entry whose token is there is retired"),
-    }
 }
 
 impl<T> Drop for Retired<T> {

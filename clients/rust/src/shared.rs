@@ -8,7 +8,7 @@ use crate::ffi;
 use crate::lock::{locked, locked_mut, try_locked, Mutex, MutexGuard};
 use crate::refusal::{checked, Refusal};
 use crate::settings::Settings;
-use crate::values::{Entry, Freed, Holder, Met};
+use crate::values::{Entry, Freed, Met};
 use alloc::sync::Arc;
 use alloc::vec::Vec;
 use core::mem;
@@ -47,39 +47,27 @@ pub struct Lease<T> {
     pub id: u8,
 }
 
-/// What a turn of the work on a retired entry came to.
-pub enum Turned<T> {
-    /// This holds it first.
-    Held(Holder),
-    /// Nothing: its slot is vacant from now on.
-    Freed(Freed<T>),
-}
-
 impl<T> Kept<T> {
     /// Notes what a new entry carries.
     pub fn note(&mut self, entry: Entry, carried: Carried<T>) {
         self.rows.push((entry, carried));
     }
 
-    /// One turn of C on the retired entry with this number; none where no retired entry has it. With a CPU it is a turn of a destroy, which the
-    /// CPU hears.
+    /// One turn of C on the retired entry with this number. With a CPU it is a turn of a destroy, which the CPU hears.
     ///
     /// # Safety
     ///
     /// The handle, where there is one, is of a CPU of this registry, which this thread runs on, and not in use.
-    unsafe fn turn(&mut self, cpu: Option<*mut ffi::Cpu>, number: u64) -> Result<Option<Met>, Refusal> {
-        let mut met = ffi::Stage::default();
+    #[inline]
+    unsafe fn turn(&mut self, cpu: Option<*mut ffi::Cpu>, number: u64) -> Met {
+        let mut stage = ffi::Stage::default();
         let answer = match cpu {
             // SAFETY: the keeper is locked, the caller sees to the CPU, both are of one registry, and their handles aren't empty.
-            Some(cpu) => unsafe { ffi::registry_destroy(&mut self.keeper, cpu, number, &mut met) },
+            Some(cpu) => unsafe { ffi::registry_destroy(&mut self.keeper, cpu, number, &mut stage) },
             // SAFETY: as above, without a CPU.
-            None => unsafe { ffi::registry_advance(&mut self.keeper, number, &mut met) },
+            None => unsafe { ffi::registry_advance(&mut self.keeper, number, &mut stage) },
         };
-        match answer {
-            ffi::NOT_RETIRED => Ok(None),
-            ffi::STILL_HELD => Ok(Some(Met::of(met))),
-            other => checked(other).map(|()| Some(Met::of(met))),
-        }
+        Met { answer, stage }
     }
 
     /// Takes the row of an entry out.
@@ -146,29 +134,38 @@ impl<T> Shared<T> {
 
 /// The work on retired entries.
 impl<T> Shared<T> {
-    /// One turn of the work on the retired entry, on a CPU or on none; none where it isn't retired. Where local references hold it, some of those
-    /// to it that were dropped are given up, and the turn is made once more. Refused: `Inside` with a CPU.
+    /// One turn of the work on the retired entry, on a CPU or on none: what was freed, or what was met. Where local references hold it, some of
+    /// those to it that were dropped are given up, and the turn is made once more.
     ///
     /// # Safety
     ///
     /// As of `Kept::turn`.
-    pub unsafe fn turn(&self, cpu: Option<*mut ffi::Cpu>, entry: &Entry) -> Result<Option<Turned<T>>, Refusal> {
+    #[inline]
+    pub unsafe fn turn(&self, cpu: Option<*mut ffi::Cpu>, entry: &Entry) -> Result<Freed<T>, Met> {
         let mut kept = self.kept();
         // SAFETY: the caller sees to the CPU.
-        let mut met = unsafe { kept.turn(cpu, entry.number)? };
-        if matches!(met, Some(Met::Held(Holder::Local(_)))) && self.give_up_dropped(&mut kept.keeper, usize::from(entry.slot)) {
+        let mut met = unsafe { kept.turn(cpu, entry.number) };
+        if met.is_local() && self.give_up_dropped(&mut kept.keeper, usize::from(entry.slot)) {
             // SAFETY: as above.
-            met = unsafe { kept.turn(cpu, entry.number)? };
+            met = unsafe { kept.turn(cpu, entry.number) };
         }
-        Ok(met.map(|met| match met {
-            Met::Held(holder) => Turned::Held(holder),
-            Met::Freed => {
-                // SAFETY: the turn just made met that it is freed.
-                let freed = unsafe { kept.take(entry.number) };
-                self.deferred.store(kept.deferred.len(), Ordering::Relaxed);
-                Turned::Freed(freed)
-            }
-        }))
+        if !met.is_freed() {
+            return Err(met);
+        }
+        // SAFETY: the turn just made met that it is freed.
+        Ok(unsafe { self.take_freed(&mut kept, entry.number) })
+    }
+
+    /// Takes out what a freed entry carried.
+    ///
+    /// # Safety
+    ///
+    /// As of `Kept::take`.
+    unsafe fn take_freed(&self, kept: &mut Kept<T>, number: u64) -> Freed<T> {
+        // SAFETY: the caller has made the turn.
+        let freed = unsafe { kept.take(number) };
+        self.deferred.store(kept.deferred.len(), Ordering::Relaxed);
+        freed
     }
 
     /// Leaves a retired entry to later changes, as the youngest.
@@ -191,7 +188,7 @@ impl<T> Shared<T> {
         let entries = self.kept().deferred.clone();
         for entry in &entries {
             // SAFETY: no CPU is given. Where another thread has freed the entry meanwhile, there is no turn.
-            if let Ok(Some(Turned::Freed(one))) = unsafe { self.turn(None, entry) } {
+            if let Ok(one) = unsafe { self.turn(None, entry) } {
                 freed.push(one);
             }
         }
@@ -263,7 +260,7 @@ impl<T> Shared<T> {
     /// As of `release_local`.
     pub unsafe fn release_dropped(&self, handle: *mut ffi::Cpu, own: u8, most: usize) {
         let mut left = most;
-        for of in Baskets::cpus_from(own) {
+        for of in self.baskets.filled_from(own) {
             // SAFETY: the caller sees to the CPU.
             left -= unsafe { self.release_of(handle, of, left) };
         }
@@ -275,7 +272,10 @@ impl<T> Shared<T> {
     ///
     /// As of `release_local`.
     pub unsafe fn release_one_to(&self, handle: *mut ffi::Cpu, own: u8, slot: usize) -> bool {
-        let found = Baskets::cpus_from(own).find_map(|of| Some((of, self.baskets.take_of(of, slot)?)));
+        let found = self
+            .baskets
+            .filled_from(own)
+            .find_map(|of| Some((of, self.baskets.take_of(of, slot)?)));
         match found {
             Some((of, local)) => {
                 // SAFETY: the caller sees to the CPU, and what lies in this registry's baskets is of it.
@@ -288,25 +288,34 @@ impl<T> Shared<T> {
 
     /// Gives up, under the interlock, some of what lies in the baskets and is to the entry in this slot, whose counts were collected. Whether
     /// any was.
+    #[inline]
     fn give_up_dropped(&self, keeper: &mut ffi::Keeper, slot: usize) -> bool {
         let mut given = 0;
-        for of in Baskets::cpus_from(0) {
-            while given < BY_TURN {
-                let mut local = match self.baskets.take_of(of, slot) {
-                    Some(local) => local,
-                    None => break,
-                };
-                // SAFETY: the caller holds the interlock of this registry, of which all are that lie in its baskets; this is the only use of
-                // the reference's handle.
-                unsafe { ffi::registry_local_give_up(keeper, &mut local) };
-                if !local.is_empty() {
-                    self.baskets.lay(of, slot, local);
-                    break;
-                }
-                given += 1;
-            }
+        for of in self.baskets.filled_from(0) {
+            given += self.give_up_of(keeper, of, slot, BY_TURN - given);
         }
         given > 0
+    }
+
+    /// Gives up so many at most, of those that one CPU acquired. How many it gave up.
+    #[cold]
+    fn give_up_of(&self, keeper: &mut ffi::Keeper, of: u8, slot: usize, most: usize) -> usize {
+        let mut given = 0;
+        while given < most {
+            let mut local = match self.baskets.take_of(of, slot) {
+                Some(local) => local,
+                None => break,
+            };
+            // SAFETY: the caller holds the interlock of this registry, of which all are that lie in its baskets; this is the only use of the
+            // reference's handle.
+            unsafe { ffi::registry_local_give_up(keeper, &mut local) };
+            if !local.is_empty() {
+                self.baskets.lay(of, slot, local);
+                break;
+            }
+            given += 1;
+        }
+        given
     }
 }
 

@@ -2,6 +2,7 @@
 
 use crate::ffi;
 use crate::name::Name;
+use crate::refusal::{refusal_of, Refusal};
 use alloc::vec::Vec;
 use core::fmt;
 
@@ -96,20 +97,45 @@ impl fmt::Display for Holder {
     }
 }
 
-/// What a turn of C met: what holds the entry, or nothing, and then its slot is vacant.
+/// What a turn of C on a retired entry answered, and the stage that it met. It is read at the end alone: a holder that is put together is two stores,
+/// and whoever moves it soon after waits for both.
 #[derive(Clone, Copy)]
-pub(crate) enum Met {
-    Held(Holder),
-    Freed,
+pub(crate) struct Met {
+    pub answer: u32,
+    pub stage: ffi::Stage,
 }
 
 impl Met {
-    pub(crate) fn of(stage: ffi::Stage) -> Met {
+    /// The slot is vacant.
+    #[inline]
+    pub(crate) fn is_freed(self) -> bool {
+        self.answer == ffi::DONE && self.stage.stage == ffi::FREED
+    }
+
+    /// Local references hold the entry.
+    #[inline]
+    pub(crate) fn is_local(self) -> bool {
+        matches!(self.answer, ffi::DONE | ffi::STILL_HELD) && self.stage.stage == ffi::LOCAL
+    }
+
+    /// Why the entry isn't freed, where it is retired.
+    #[inline]
+    pub(crate) fn refusal(self) -> Refusal {
+        match self.answer {
+            ffi::DONE | ffi::STILL_HELD => Refusal::StillHeld(Holder::of(self.stage)),
+            ffi::NOT_RETIRED => unreachable!("an entry whose token is there is retired"),
+            other => refusal_of(other),
+        }
+    }
+}
+
+impl Holder {
+    #[inline]
+    fn of(stage: ffi::Stage) -> Holder {
         match stage.stage {
-            ffi::GRACE => Met::Held(Holder::Grace(stage.what as u8)),
-            ffi::PASSIVE => Met::Held(Holder::Passive(stage.what as u8)),
-            ffi::LOCAL => Met::Held(Holder::Local(stage.what)),
-            ffi::FREED => Met::Freed,
+            ffi::GRACE => Holder::Grace(stage.what as u8),
+            ffi::PASSIVE => Holder::Passive(stage.what as u8),
+            ffi::LOCAL => Holder::Local(stage.what),
             other => panic!("the archive met a stage {other}"),
         }
     }

@@ -208,6 +208,32 @@ fn passive_references_are_counted() {
     assert_eq!(gone.freed().entry, made);
 }
 
+/// Of entries whose numbers are as far apart as a registry has slots, too.
+#[test]
+fn passive_references_are_released_in_any_order() {
+    let (registry, cpus) = Registry::open(Settings::new(1, 4)).unwrap();
+    let cpu = &cpus[0];
+    let near = registry.attach(cpu, &WM, 10).unwrap();
+    registry.attach(cpu, &name("bge"), 20).unwrap();
+    while registry.attach(cpu, &name("ixl"), 30).unwrap().number < near.number + 32 {
+        detach(&registry, cpu, "ixl").freed();
+    }
+    let mut held: Vec<_> = ["wm", "ixl", "ixl", "bge", "wm", "wm", "ixl"].map(|text| passive(cpu, text)).into();
+    let gone = ["wm", "bge", "ixl"].map(|text| detach(&registry, cpu, text));
+    assert_eq!(gone[2].number, 33);
+    for (place, left) in [(1, 6), (3, 5), (0, 4), (3, 3), (0, 2), (1, 1), (0, 0)] {
+        PassiveRef::release(held.remove(place));
+        assert_eq!(held.len(), left);
+        for one in &gone {
+            assert_eq!(
+                cpu.holds(one.number),
+                held.iter().any(|held| PassiveRef::entry(held).number == one.number)
+            );
+        }
+    }
+    assert!(gone.iter().all(|one| one.holder().is_none()));
+}
+
 #[test]
 fn each_limit_is_met() {
     let settings = Settings::new(1, 4).changes(3).sections(4).locals(1);
