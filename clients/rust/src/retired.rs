@@ -55,8 +55,8 @@ impl<T> Retired<T> {
         Registry::of(Arc::clone(&self.shared))
     }
 
-    /// One turn of the work on it: it is freed and what it carried comes back, or something holds it. It waits for nobody except for the
-    /// interlock.
+    /// One turn of the work on it: it is freed and what it carried comes back, or something holds it. Nobody holds what was freed, now or later,
+    /// as after [`destroy`](Retired::destroy). It waits for nobody except for the interlock.
     ///
     /// # Errors
     ///

@@ -87,7 +87,8 @@ pub fn detach(
     gone.answer(answer).with_name(name)
 }
 
-/// `registry_advance` of the header.
+/// `registry_advance` of the header. Where it writes REGISTRY_FREED, the entry is gone from that slot by the keeper's own log (`gone` of
+/// `Advances`): by the law `running_headline` (`freed`) nothing holds it, now or later.
 pub fn advance(keeper: &mut KeeperHandle, number: u64, mut met: StagePlace) -> StageAnswer
     ensures place { result.place.at ≡ met.at }
     ensures call { Through keeper.old.body keeper.new.body result.number (result.place.value ≡ met.value)

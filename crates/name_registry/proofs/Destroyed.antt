@@ -6,7 +6,8 @@ use Rattle.registry_values.specs.Common.{slot_at, IsObstacle, destroy_result, de
 use Rattle.registry_values.proofs.Slots.{retired_slot_tells}
 use Rattle.cpu_words.specs.Common.{IsFreedFrom}
 use Rattle.passive_list.specs.Common.{OnCpu, OnKeeper}
-use Rattle.name_registry.specs.Common.{HasAdvanced, Destroys, DestroysOutside, HasDestroyed, LastMeeting, SomeAdvancedFor, TurnsMeeting, IsDestroyRefusal, IsStageOf, IsDestroyAnswer, IsTurn}
+use Rattle.name_registry.specs.Common.{HasAdvanced, IsGoneIfFreed, Destroys, DestroysOutside, HasDestroyed, LastMeeting, SomeAdvancedFor, TurnsMeeting, IsDestroyRefusal, IsStageOf}
+use Rattle.name_registry.specs.Common.{IsDestroyAnswer, IsTurn}
 use Rattle.name_registry.proofs.Heard.{prefix_short}
 use Rattle.name_registry.proofs.Owned.{learned}
 use Rattle.name_registry.proofs.Turned.{ended_freed}
@@ -92,6 +93,13 @@ advanced_freed a n t b has =
     let at : slot_at meets.between.slots has.0 ≡ Retired told.0 = ap (λ (l : List Slot). slot_at l has.0) meets.leaves.slots ∙ told.1 in
     let freed : IsFreedFrom has.0 told.0.number b.log = ended_freed meets.between has.0 b told.0 meets.ended at in
     subst (λ (p : ℕ × ℕ). IsFreedFrom p.0 p.1 b.log) (λ k. (sym has.2.0 k, told.2 k)) freed
+
+pub advanced_gone : (a : OnKeeper) (n : ℕ) (r : Result Stage Refusal) (b : OnKeeper) → HasAdvanced a n r b → IsGoneIfFreed n r b.log
+advanced_gone a n (Ok (Grace c)) b is = tt
+advanced_gone a n (Ok (Passive c)) b is = tt
+advanced_gone a n (Ok (Local k)) b is = tt
+advanced_gone a n (Ok (Freed t)) b is = advanced_freed a n t b is
+advanced_gone a n (Err refusal) b is = tt
 
 turn_freed : (z : Settings) (n t : ℕ) (x y : OnCpu) → SomeAdvancedFor z n x (Ok (Freed t)) y → IsFreedFrom t n y.known_log
 turn_freed z n t x y is =

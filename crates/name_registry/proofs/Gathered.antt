@@ -1,15 +1,18 @@
 -- How an audit lets all know the same of the keeper's log: a note goes from the keeper through all CPUs, and back.
-use Rattle.std.proofs.Common.{append_assoc, ◌≡◌, ◌≢◌, ⊎_elim, ℕ, zero, suc, ◌+◌, ◌<◌, ◌≤◌, ℤ, List, [], ◌∷◌, ◌++◌, length, map, set, length-set, refl, sym, ap, ◌∙◌, subst, arith}
+use Rattle.std.proofs.Common.{append_assoc, ◌≡◌, ◌≢◌, ⊎_elim, ℕ, zero, suc, ◌+◌, ◌<◌, ◌≤◌, ℤ, List, [], ◌∷◌, ◌++◌, length, map, Option, None, set, length-set, refl, sym, ap, ◌∙◌, subst, arith}
 use Rattle.std.proofs.lemmas.Bool.{cases_eq}
 use Rattle.std.proofs.lemmas.List.{append-nil, length-append}
 use mathlib.Core.List.{IsPrefix}
 use mathlib.Core.Option.{some, some-injective, some-ne-none}
 use lib.ListN.{get_elem?}
 use Rattle.atomic_table.proofs.Lists.{at_set}
-use Rattle.name_registry.specs.Types.{Change, Settings, LogItem, KeeperView, Cpu, Keeper}
-use Rattle.cpu_words.specs.Common.{IsShownAfter, with_note, keeper_with_note}
+use Rattle.name_registry.specs.Types.{Balance, Change, Settings, LogItem, Teller, KeeperView, Cpu, Keeper}
+use Rattle.cpu_words.specs.Common.{changes_in, heard_from, IsShownAfter, with_note, keeper_with_note}
 use Rattle.passive_list.specs.Common.{OnCpu, OnKeeper, HasOwnLog, HasHeardOn, WasShown, HeardAndTold}
-use Rattle.name_registry.specs.Common.{HasLearned, IsNote, AreAllCpus, AreAlike, HasListened, HaveHeardAndTold, HaveLearned, IsShownOn, local_met, tallies_met, tally_by, tally_met}
+use Rattle.name_registry.specs.Common.{HasLearned, IsNote, AreAllCpus, AreAlike, HasListened, HasToldAll, HaveHeardAndTold, HaveLearned, HavePass, IsAuditBy, IsAuditIn, IsShownOn, KnowAll}
+use Rattle.name_registry.specs.Common.{KnowTheSame, audited_below, keeper_after_tell}
+use Rattle.name_registry.specs.Common.{local_met, tallies_met}
+use Rattle.name_registry.specs.Common.{tally_by, tally_met}
 use Rattle.name_registry.proofs.Audits.{each_same}
 use Rattle.name_registry.proofs.Worked.{prefix_on}
 use Rattle.name_registry.proofs.Noted.{by_passing}
@@ -23,13 +26,13 @@ at_within (x ∷ xs) (suc i) a e = let h = at_within xs i a e in omega (arith, h
 -- Prefixes
 
 -- what goes on from a list and begins it is that list
-prefix_both : (a b : List LogItem) → IsPrefix a b → IsPrefix b a → a ≡ b
-prefix_both a b first second = by first.0 first.1
+prefix_both : {X : Type 0} (a b : List X) → IsPrefix a b → IsPrefix b a → a ≡ b
+prefix_both {X} a b first second = by first.0 first.1
   where
-    by : (more : List LogItem) → a ++ more ≡ b → a ≡ b
+    by : (more : List X) → a ++ more ≡ b → a ≡ b
     by [] is = sym (append-nil a) ∙ is
-    by (d ∷ more) is = absurd (let long = ap (λ (l : List LogItem). length l) (sym is) ∙ length-append a (d ∷ more) in
-        let short = ap (λ (l : List LogItem). length l) (sym second.1) ∙ length-append b second.0 in omega (arith, long, short))
+    by (d ∷ more) is = absurd (let long = ap (λ (l : List X). length l) (sym is) ∙ length-append a (d ∷ more) in
+        let short = ap (λ (l : List X). length l) (sym second.1) ∙ length-append b second.0 in omega (arith, long, short))
 
 -- CPU by CPU
 
@@ -104,15 +107,19 @@ gathered_more xs ys n log note told h x y so_far at heard knows shown is own =
     }
 
 -- all have heard, and the keeper has heard the last one
+
+gathered_known : (xs ys : List OnCpu) (n : ℕ) (log note : List LogItem) → Gathered xs ys n log note → length ys ≤ n → IsPrefix note log → KnowAll log ys
+gathered_known xs ys n log note all done back c y at =
+    let low = at_within ys c y at in
+    let p = all.knows c y (omega (arith, low, done)) at in
+    prefix_both y.known_log log (prefix_on _ _ _ p.1 back) p.0
+
 pub gathered_alike : (z : Settings) (a k : OnKeeper) (xs ys : List OnCpu) (n : ℕ) (log note : List LogItem) → Gathered xs ys n k.log note → length ys ≤ n → k ≡ record a { log = log }
     → IsPrefix note k.log → HasOwnLog z k → AreAlike a xs ys
 gathered_alike z a k xs ys n log note all done is back own =
     record {
       log = k.log;
-      known = λ c y at.
-          let low = at_within ys c y at in
-          let p = all.knows c y (omega (arith, low, done)) at in
-          prefix_both y.known_log k.log (prefix_on _ _ _ p.1 back) p.0;
+      known = gathered_known xs ys n k.log note all done back;
       keeper = (own.counts.0, subst (λ (v : KeeperView). IsShownAfter k.log (Keeper (keeper_with_note v own.counts.0))) (ap (λ (x : OnKeeper). x.view) is) own.counts.1);
       cpus = λ c x at.
           let low = at_within xs c x at in
@@ -121,6 +128,51 @@ gathered_alike z a k xs ys n log note all done is back own =
           let same : p.0 ≡ k.log = prefix_both p.0 k.log (prefix_on _ _ _ p.2 back) p.1 in
           subst (λ (d : List LogItem). IsShownOn d x) same p.3;
     }
+
+-- What they have seen, and the note tells: the history, and no more
+
+-- the first n of the CPUs have seen all of the history h, and the note, whose pass is p, tells all that they have
+pub record HaveSeen (ys : List OnCpu) (n : ℕ) (h p : List Change) : Type 0 where
+  pub told : IsPrefix h p
+  pub each : (c : ℕ) (y : OnCpu) → c < n → get_elem? ys c ≡ some y → IsPrefix h y.view.pass × IsPrefix y.view.pass p
+
+pub seen_none : (ys : List OnCpu) (h p : List Change) → p ≡ h → HaveSeen ys 0 h p
+seen_none ys h p is = record { told = ([], append-nil h ∙ sym is); each = λ c y lt. absurd (omega (arith, lt)) }
+
+pub seen_more : (ys : List OnCpu) (n : ℕ) (h p q : List Change) (x y : OnCpu) → HaveSeen ys n h p → HasHeardOn p x y → q ≡ y.view.pass → HaveSeen (set ys n y) (n + 1) h q
+seen_more ys n h p q x y so_far heard is =
+    let next : IsPrefix p q = subst (IsPrefix p) (sym is) heard.told in
+    record {
+      told = prefix_on h p q so_far.told next;
+      each = λ c v lt now. ⊎_elim
+          (λ (o : (c ≡ n) × (y ≡ v)). subst (λ (z : OnCpu). IsPrefix h z.view.pass × IsPrefix z.view.pass q) o.1
+          (prefix_on h p y.view.pass so_far.told heard.told, subst (IsPrefix y.view.pass) (sym is) ([], append-nil y.view.pass)))
+          (λ (o : (c ≢ n) × (get_elem? ys c ≡ some v)). let had = so_far.each c v (let off = o.0 in omega (arith, lt, off)) o.1 in (had.0, prefix_on v.view.pass p q had.1 next))
+          (at_set ys n c y v now);
+    }
+
+-- all have, and what the note tells is in the history
+seen_all : (ys : List OnCpu) (n : ℕ) (h p : List Change) → HaveSeen ys n h p → length ys ≤ n → IsPrefix p h → HavePass h ys
+seen_all ys n h p all done back c y at =
+    let low = at_within ys c y at in
+    let had = all.each c y (omega (arith, low, done)) at in
+    prefix_both y.view.pass h (prefix_on y.view.pass p h had.1 back) had.0
+
+-- the keeper k, which is a as it has told, has heard the last one, and is b
+pub told_all : (z : Settings) (a k b : OnKeeper) (xs ys : List OnCpu) (n : ℕ) (note : List LogItem) (p : List Change) (h : Option Teller) → Gathered xs ys n k.log note → HaveSeen ys n a.view.history p
+    → length ys ≤ n → k ≡ keeper_after_tell a → IsPrefix note k.log → IsPrefix p k.view.history → HasOwnLog z k → b.log ≡ k.log ++ heard_from None h → HasToldAll a ys b
+told_all z a k b xs ys n note p h all seen done is back before own log =
+    let history : k.view.history ≡ a.view.history = ap (λ (x : OnKeeper). x.view.history) is in
+    let told : k.log ≡ (keeper_after_tell a).log = ap (λ (x : OnKeeper). x.log) is in
+    record {
+      passes = seen_all ys n a.view.history p seen done (subst (IsPrefix p) history before);
+      known = λ c y at. gathered_known xs ys n k.log note all done back c y at ∙ told;
+      changes = ap (λ (x : OnKeeper). length x.view.history) (sym is) ∙ own.changes ∙ ap (λ (x : OnKeeper). changes_in x.log) is;
+      heard = (h, log ∙ ap (λ (l : List LogItem). l ++ heard_from None h) told);
+    }
+
+pub know_the_same : (a b : OnKeeper) (ys : List OnCpu) → HasToldAll a ys b → KnowTheSame ys
+know_the_same a b ys told = record { history = a.view.history; log = (keeper_after_tell a).log; passes = told.passes; known = told.known; changes = told.changes }
 
 pub gathered_learned : (xs ys : List OnCpu) (n : ℕ) (log note : List LogItem) → Gathered xs ys n log note → length ys ≤ n → HaveLearned xs ys
 gathered_learned xs ys n log note all done = record {
@@ -180,3 +232,12 @@ tallies_learned a b xs ys slots heard learned =
     ap (λ (k : OnKeeper). tallies_met k ys slots) heard.is.1
     ∙ each_same (tally_met a ys) (tally_met a xs) a.slots slots (λ t e there. ap (λ locals. tally_by a locals e.number t)
     (map_learned (local_met a t e.number) xs ys learned.size (λ c x y was now. ap (local_met a t e.number) (learned.each c x y was now).0.is)))
+
+-- What it answers is by the keeper's log, as it told: that is what each CPU knows, and there is one
+
+pub same_log : (a b : OnKeeper) (ys : List OnCpu) (log : List LogItem) → 0 < length ys → KnowAll log ys → HasToldAll a ys b → log ≡ (keeper_after_tell a).log
+same_log a b ys log lt known told = let one = there ys 0 lt in sym (known 0 one.0 one.1) ∙ told.known 0 one.0 one.1
+
+pub audit_in_log : (z : Settings) (a b : OnKeeper) (xs ys : List OnCpu) (list : List Balance) → 0 < length ys → IsAuditBy z xs ys list → HasToldAll a ys b
+    → IsAuditIn z (keeper_after_tell a).log xs list
+audit_in_log z a b xs ys list lt by told = by.answer ∙ ap (λ (l : List LogItem). audited_below l xs z.slots) (same_log a b ys by.log lt by.known told)

@@ -24,3 +24,4 @@ pub mod Counted
 pub mod Passed
 pub mod Waited
 pub mod Weights
+pub mod GivenUp

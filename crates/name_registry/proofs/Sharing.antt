@@ -2,7 +2,7 @@
 use Rattle.std.proofs.Common.{◌≡◌, ℕ, List, Option, Bool, Result, ap}
 use Rattle.name_registry.specs.Types.{Change, Entry, Refusal, Settings, Stage, ReferenceView}
 use Rattle.passive_list.specs.Common.{OnCpu, OnKeeper, HasHeardOn}
-use Rattle.name_registry.specs.Common.{HasAttachedFor, HasAttachedIfaceFor, HasAdvancedFor, HasDetachedFor, Looking, HasBegun, HasGlanced, HasPassedAll, Hold}
+use Rattle.name_registry.specs.Common.{HasAttachedFor, HasAttachedIfaceFor, HasAdvancedFor, HasDetachedFor, HasGivenUpFor, Looking, HasBegun, HasGlanced, HasPassedAll, Hold}
 
 abbrev pub sharing : ℕ → OnCpu → OnCpu
 sharing m x = record x { made = m }
@@ -67,3 +67,7 @@ advanced m z a x n answer b y had = record {
   told = had.told;
   cpu_log = had.cpu_log;
 }
+
+pub given_up : (m : ℕ) (a : OnKeeper) (x : OnCpu) (v : ReferenceView) (b : OnKeeper) (y : OnCpu) → HasGivenUpFor a x v b y → HasGivenUpFor a (sharing m x) v b (sharing m y)
+given_up m a x v b y had =
+    record { known = had.known; end = had.end; given = had.given; is = had.is; hears = heard m _ x y had.hears; told = had.told; cpu_log = had.cpu_log }

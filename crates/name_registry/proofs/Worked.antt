@@ -62,8 +62,8 @@ still_works z a b t may worked = record {
 -- One turn after the other
 
 -- a log that goes on, and goes on again
-pub prefix_on : (a b c : List LogItem) → IsPrefix a b → IsPrefix b c → IsPrefix a c
-prefix_on a b c p q = (p.0 ++ q.0, sym (append_assoc a p.0 q.0) ∙ (ap (λ (l : List LogItem). l ++ q.0) p.1 ∙ q.1))
+pub prefix_on : {X : Type 0} (a b c : List X) → IsPrefix a b → IsPrefix b c → IsPrefix a c
+prefix_on {X} a b c p q = (p.0 ++ q.0, sym (append_assoc a p.0 q.0) ∙ (ap (λ (l : List X). l ++ q.0) p.1 ∙ q.1))
 
 pub worked_none : (a : OnKeeper) (t : ℕ) → HasWorkedFor a t a
 worked_none a t = record { only = refl; marks = marks_grow_none a.view.marks t; totals = λ u off. refl; looks = omega arith; slots = refl; log = ([], append-nil a.log) }

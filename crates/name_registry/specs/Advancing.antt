@@ -1,11 +1,11 @@
 -- A turn of the work on a retired entry: what it answers is what the keeper saw, and what it leaves.
-use Rattle.std.specs.Prelude.{◌≡◌, ◌≢◌, ◌⊎◌, ℕ, zero, suc, ◌+◌, ◌<◌, ◌≤◌, ◌%◌, List, [], ◌∷◌, ◌++◌, Option, true, false, Some, None, Bool, Result, Ok, Err}
+use Rattle.std.specs.Prelude.{◌≡◌, ◌≢◌, ◌⊎◌, ℕ, zero, suc, ◌+◌, ◌<◌, ◌≤◌, ◌%◌, List, [], ◌∷◌, ◌++◌, Option, true, false, Some, None, Bool, Result, Ok, Err, IfOk}
 use Rattle.name_registry.specs.Types.{Entry, Iface, Event, Look, PassiveLook, Word, Refusal, NotRetired, Settings, Stage, Grace, Passive, Local, Freed, Rest, Retired, LogItem, KeeperView, Keeper}
 use Rattle.name_registry.specs.Types.{KeptSlot}
 use mathlib.Core.List.{IsPrefix}
-use Rattle.registry_values.specs.Common.{bias, is_retired_as, retired_slot, slot_at}
+use Rattle.registry_values.specs.Common.{bias, destroy_result_of, is_retired_as, retired_slot, slot_at}
 use Rattle.protocol.specs.Common.{MarksGrow, mark_at, total_at, kept_at}
-use Rattle.cpu_words.specs.Common.{has_looked, has_looked_passive, HasLooked, did, Makes}
+use Rattle.cpu_words.specs.Common.{has_looked, has_looked_passive, HasLooked, IsFreedFrom, did, Makes}
 use Rattle.passive_list.specs.Common.{OnKeeper, HasVacated, IsDrainedOn, AreHeld, HasFreed}
 
 -- What the work asks, and what it leaves
@@ -160,3 +160,7 @@ is_retired_row n r = is_retired_as n r.state
 abbrev pub HasAdvanced : OnKeeper → ℕ → Result Stage Refusal → OnKeeper → Type 0
 HasAdvanced a n (Ok stage) b = (t : ℕ) × (retired_slot a.slots n ≡ Some t) × Meets a t stage b
 HasAdvanced a n (Err refusal) b = (refusal ≡ NotRetired) × (retired_slot a.slots n ≡ None) × (b ≡ a)
+
+-- where a turn freed the slot, the entry n is gone from there by this log: by the law `running_headline` (`freed`) nothing holds it
+abbrev pub IsGoneIfFreed : ℕ → Result Stage Refusal → List LogItem → Type 0
+IsGoneIfFreed n answer log = IfOk (destroy_result_of answer) (λ slot. IsFreedFrom slot n log)

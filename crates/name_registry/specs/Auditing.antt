@@ -3,9 +3,10 @@ use Rattle.std.specs.Prelude.{◌≡◌, ℕ, zero, suc, ◌+◌, ◌*◌, ℤ, 
 use mathlib.Core.Option.{some}
 use mathlib.Core.List.{IsPrefix}
 use lib.ListN.{get_elem?}
-use Rattle.name_registry.specs.Types.{Change, LogItem, Cpu, Keeper, Balance, Entry, Settings, Slot, Vacant, Live, Retired}
-use Rattle.cpu_words.specs.Common.{given_up, occupant, sum_collected, word_collected, words_collected, IsShownAfter, with_note, keeper_with_note, Good, IsShown, number_at, CpuShown, KeeperShown}
-use Rattle.name_registry.specs.Meeting.{HasLearned}
+use Rattle.name_registry.specs.Types.{Change, LogItem, Teller, Cpu, Keeper, Balance, Entry, Settings, Slot, Vacant, Live, Retired}
+use Rattle.cpu_words.specs.Common.{changes_in, given_up, heard_from, occupant, sum_collected, word_collected, words_collected, IsShownAfter, with_note, keeper_with_note, Good, IsShown, number_at}
+use Rattle.cpu_words.specs.Common.{CpuShown, KeeperShown}
+use Rattle.name_registry.specs.Meeting.{HasLearned, keeper_after_tell}
 use Rattle.registry_values.specs.Common.{Tally, bias, less_bias, sum_of, tally_shown, is_retired, slot_at}
 use Rattle.protocol.specs.Common.{IsIn, State, mark_at, total_at}
 use Rattle.passive_list.specs.Common.{OnCpu, IsAtRest, OnKeeper, HeardAndTold}
@@ -134,12 +135,32 @@ IsShownOn log x = (h : List Change) × IsShownAfter log (Cpu (with_note x.view h
 abbrev pub KnowAll : List LogItem → List OnCpu → Type 0
 KnowAll log ys = (c : ℕ) (y : OnCpu) → get_elem? ys c ≡ some y → y.known_log ≡ log
 
+-- each of the CPUs has just this pass
+abbrev pub HavePass : List Change → List OnCpu → Type 0
+HavePass h ys = (c : ℕ) (y : OnCpu) → get_elem? ys c ≡ some y → y.view.pass ≡ h
+
 -- of the keeper and the CPUs as they were, and the CPUs as they have heard
 pub record AreAlike (k : OnKeeper) (xs ys : List OnCpu) : Type 0 where
   pub log : List LogItem
   pub known : KnowAll log ys
   pub keeper : (h : List Change) × IsShownAfter log (Keeper (keeper_with_note k.view h))
   pub cpus : (c : ℕ) (x : OnCpu) → get_elem? xs c ≡ some x → IsShownOn log x
+
+-- The keeper a told what it had seen and done, each of the CPUs, which are ys now, heard that in turn, and the keeper heard the last one, and is b. So each CPU's pass is the keeper's history, and
+-- what each knows is the keeper's log as it told, which has as many changes. The keeper did nothing else.
+pub record HasToldAll (a : OnKeeper) (ys : List OnCpu) (b : OnKeeper) : Type 0 where
+  pub passes : HavePass a.view.history ys
+  pub known : KnowAll (keeper_after_tell a).log ys
+  pub changes : length a.view.history ≡ changes_in (keeper_after_tell a).log
+  pub heard : (h : Option Teller) × (b.log ≡ (keeper_after_tell a).log ++ heard_from None h)
+
+-- All the CPUs know the same: one history is the pass of each, and one log is what each knows of the keeper's. That has as many changes as the history.
+pub record KnowTheSame (ys : List OnCpu) : Type 0 where
+  pub history : List Change
+  pub log : List LogItem
+  pub passes : HavePass history ys
+  pub known : KnowAll log ys
+  pub changes : length history ≡ changes_in log
 
 -- of the keeper nothing changed but what it heard, and its log, which goes on
 pub record HasListened (a b : OnKeeper) : Type 0 where
@@ -191,11 +212,15 @@ abbrev pub audited_below : List LogItem → List OnCpu → ℕ → List Tally
 audited_below log xs zero = []
 audited_below log xs (suc t) = audited_below log xs t ++ audited_at log xs t (occupant t log)
 
+-- what is answered of the CPUs xs, by this log
+abbrev pub IsAuditIn : Settings → List LogItem → List OnCpu → List Balance → Type 0
+IsAuditIn z log xs list = map tally_shown list ≡ audited_below log xs z.slots
+
 -- What is answered of the CPUs xs: by a log that all know as it is answered, so that no keeper has to be named.
 pub record IsAuditBy (z : Settings) (xs ys : List OnCpu) (list : List Balance) : Type 0 where
   pub log : List LogItem
   pub known : KnowAll log ys
-  pub answer : map tally_shown list ≡ audited_below log xs z.slots
+  pub answer : IsAuditIn z log xs list
 
 -- What is answered of the keeper k and all CPUs.
 pub record IsAuditOf (z : Settings) (k : OnKeeper) (xs : List OnCpu) (list : List Balance) : Type 0 where

@@ -5,7 +5,7 @@ use Rattle.registry_values.specs.Common.{IsObstacle, destroy_result_of}
 use mathlib.Core.List.{IsPrefix}
 use Rattle.passive_list.specs.Common.{OnCpu, OnKeeper, HasOwnLog, HasHeardOn, cpu_after_tell}
 use Rattle.cpu_words.specs.Common.{changes_in}
-use Rattle.name_registry.specs.Advancing.{HasAdvanced}
+use Rattle.name_registry.specs.Advancing.{HasAdvanced, IsGoneIfFreed}
 use Rattle.name_registry.specs.Locking.{IsStageOf}
 use Rattle.name_registry.specs.Obstacles.{IsTurn}
 use Rattle.name_registry.specs.Meeting.{keeper_after_hear, keeper_after_tell, tells_twice_and_hears}
@@ -52,9 +52,9 @@ pub record HasAdvancedFor (z : Settings) (a : OnKeeper) (x : OnCpu) (n : ℕ) (a
 
 -- Through the lock, whose value no contract can name: of some keeper, as the call found it and left it
 
--- one turn of the work on the entry n; a stage speaks of a CPU or a slot that there is
+-- one turn of the work on the entry n; a stage speaks of a CPU or a slot that there is, and an entry whose slot was freed is gone by the keeper's log
 abbrev pub SomeAdvanced : Settings → ℕ → Result Stage Refusal → Type 0
-SomeAdvanced z n answer = ((a : OnKeeper) × (b : OnKeeper) × HasAdvanced a n answer b) × IfOk answer (λ stage. IsStageOf z stage)
+SomeAdvanced z n answer = ((a : OnKeeper) × (b : OnKeeper) × HasAdvanced a n answer b × IsGoneIfFreed n answer b.log) × IfOk answer (λ stage. IsStageOf z stage)
 
 -- the same for a CPU, which knows then what the turn met, by the keeper's log
 abbrev pub SomeAdvancedFor : Settings → ℕ → OnCpu → Result Stage Refusal → OnCpu → Type 0

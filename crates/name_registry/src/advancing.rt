@@ -6,7 +6,7 @@ ghost use Rattle.registry_values.specs.Common.{retired_slot, slot_at};
 ghost use Rattle.protocol.specs.Common.{mark_at};
 ghost use Rattle.cpu_words.specs.Common.{AreWordsOf};
 ghost use Rattle.passive_list.specs.Common.{IsDrainedOn, GoesOnBy};
-ghost use Rattle.name_registry.specs.Advancing.{HasAdvanced, Meets, MeetsGrace, MeetsPassive, HasLookedFor, HasWorkedFor, IsLook, LooksBelow, LooksUnless, MayWork, SeesSection, SeesPassive, Settles, HasEnded, PassedBelow, ClearBelow, CollectedBelow, is_retired_row, looked_at};
+ghost use Rattle.name_registry.specs.Advancing.{HasAdvanced, IsGoneIfFreed, Meets, MeetsGrace, MeetsPassive, HasLookedFor, HasWorkedFor, IsLook, LooksBelow, LooksUnless, MayWork, SeesSection, SeesPassive, Settles, HasEnded, PassedBelow, ClearBelow, CollectedBelow, is_retired_row, looked_at};
 ghost use Rattle.name_registry.specs.Locking.{IsStageOf};
 
 use cpu_words::Words;
@@ -19,11 +19,15 @@ use registry_values::{Refusal, Stage, is_retired_as, settled};
 /// CPU with a section that may hold the entry (pserialize(9)), `Passive` of a CPU with a passive reference to it (psref(9)), or `Local`
 /// with the number of local references to it (localcount(9)), never 0, of which the count words are then collected. Where there is none,
 /// its slot becomes vacant, and the answer is `Freed` with the slot, from 0. It takes no memory.
+/// `Freed` says in the keeper's own log (`gone`): the entry was attached in that slot and detached, and then the keeper made the slot vacant. By
+/// the law `running_headline` (`freed`) it has no slot, and no section, passive reference or local reference holds it: whatever the table is, now
+/// or later. So what its value points to may be freed.
 /// Refused: `NotRetired` where no slot has the retired entry `number`; nothing has changed then.
 pub fn advance_in(words: &Words, keeper: &mut Keeper, number: u64) -> Result<Stage, Refusal>
     requires words { AreWordsOf words.now keeper.old.words.table keeper.old.words.settings }
     ensures answer { HasAdvanced keeper.old.keeper number result keeper.new.keeper }
     ensures stage { IfOk result (λ stage. IsStageOf keeper.old.words.settings stage) }
+    ensures gone { IsGoneIfFreed number result keeper.new.keeper.log }
     ensures words { keeper.new.words ≡ keeper.old.words }
 {
     let Some(slot) = retired_place(keeper, number) else {

@@ -5,7 +5,8 @@ ghost use Rattle.registry_values.specs.Common.{sum_of, tally_shown};
 ghost use mathlib.Core.List.{IsPrefix};
 ghost use Rattle.cpu_words.specs.Common.{AreWordsOf};
 ghost use Rattle.passive_list.specs.Common.{HasHeardOn, WasShown, has_heard, has_told};
-ghost use Rattle.name_registry.specs.Auditing.{AreAllCpus, AreAlike, HasListened, HaveHeardAndTold, HaveLearned, IsAuditBy, IsAuditOf, IsOccupied, Occupies, is_collected, local_met, locals_met, place_of, places_below, tallies_met, tally_met};
+ghost use Rattle.name_registry.specs.Auditing.{AreAllCpus, AreAlike, HasListened, HasToldAll, HaveHeardAndTold, HaveLearned, IsAuditBy, IsAuditIn, IsAuditOf, IsOccupied, Occupies, is_collected, local_met, locals_met, place_of, places_below, tallies_met, tally_met};
+ghost use Rattle.name_registry.specs.Meeting.{keeper_after_tell};
 
 use cpu_words::{Domain, NoteSeat, Words};
 use local_count::net_count;
@@ -16,8 +17,10 @@ use std::alloc::{AllocError, Global};
 /// What the counts say of each live or retired entry, least slot first: of each CPU its own net count, 0 where the keeper has collected its
 /// count word, and as total what was collected, less what was given up. So what it says is held is the tally (`answer`). It makes three loads
 /// for each CPU and three by the keeper, so that all know the same of the keeper's log: the keeper's log has each collected word, and a CPU
-/// that has heard it all knows that this word was its net count. So the whole list is said by that log and the CPUs alone (`known`). Each CPU
-/// hears once and tells once, and its own log says no more (`notes`).
+/// that has heard it all knows that this word was its net count. So the whole list is said by that log and the CPUs alone (`known`), and that log
+/// is the keeper's (`log`). Also where memory runs out each CPU's pass is the keeper's history then, and what each knows is the keeper's log as it
+/// told (`told`); for the keeper that is one event, and one more as it hears. Each CPU hears once and tells once, and its own log says no more
+/// (`notes`).
 /// Refused, in this order: `MissingCpu` where the slice isn't CPU 0, 1, .. of this registry in this order, and nothing has changed then;
 /// `NoMemory`, and not where there is no such entry.
 pub fn audit_in<D: Domain>(
@@ -36,9 +39,11 @@ pub fn audit_in<D: Domain>(
     ensures locals { IfOk result (λ list. All (λ b. length b.locals.items ≡ keeper.old.words.settings.cpus) list.items) }
     ensures answer { IfOk result (λ list. IsAuditOf keeper.old.words.settings keeper.old.keeper cpus.old list.items) }
     ensures known { IfOk result (λ list. IsAuditBy keeper.old.words.settings cpus.old cpus.new list.items) }
+    ensures log { IfOk result (λ list. IsAuditIn keeper.old.words.settings (keeper_after_tell keeper.old.keeper).log cpus.old list.items) }
     ensures keeper { HasListened keeper.old.keeper keeper.new.keeper }
     ensures cpus { HaveLearned cpus.old cpus.new }
     ensures notes { AreAllCpus keeper.old.words.settings.cpus cpus.old → HaveHeardAndTold cpus.old cpus.new }
+    ensures told { AreAllCpus keeper.old.words.settings.cpus cpus.old → HasToldAll keeper.old.keeper cpus.new keeper.new.keeper }
     ensures unchanged { IsErrOf result Refusal.MissingCpu → (keeper.new ≡ keeper.old) × (cpus.new ≡ cpus.old) }
     ensures words { keeper.new.words ≡ keeper.old.words }
 {
@@ -60,6 +65,7 @@ fn gather<D: Domain>(words: &Words, keeper: &mut Keeper, cpus: &mut [Cpu<D>])
     ensures keeper { HasListened keeper.old.keeper keeper.new.keeper }
     ensures cpus { HaveLearned cpus.old cpus.new }
     ensures notes { HaveHeardAndTold cpus.old cpus.new }
+    ensures told { HasToldAll keeper.old.keeper cpus.new keeper.new.keeper }
     ensures words { keeper.new.words ≡ keeper.old.words }
 {
     let mut note = tell_keeper(words, keeper);
@@ -78,6 +84,7 @@ fn pass_on<D: Domain>(words: &Words, cpu: &mut Cpu<D>, note: NoteSeat) -> NoteSe
     ensures shown { WasShown note.view cpu.old cpu.new }
     ensures log { cpu.new.log ≡ cpu.old.log ++ has_heard cpu.old note.teller ++ has_told cpu.old }
     ensures note { (result.table ≡ D.table) × (result.known_log ≡ cpu.new.known_log) }
+    ensures pass { result.view ≡ cpu.new.view.pass }
 {
     hear_on(words, &mut cpu.plain, note);
     tell_on(words, &mut cpu.plain)

@@ -1,15 +1,17 @@
 //! What the lock guards: the keeper, and the book of the changes that calls have made.
 
-ghost use Rattle.std.specs.Prelude.{◌≡◌, ◌+◌, ◌<◌, IfOk, IfErr, IsTrue, false};
+ghost use Rattle.std.specs.Prelude.{◌≡◌, ◌+◌, ◌++◌, ◌<◌, IfOk, IfErr, IsTrue, Some, false, ℕ};
 ghost use Rattle.registry_values.specs.Common.{is_lawful, is_iface};
 ghost use Rattle.name_registry.specs.Types.{Attach, Detach, Iface};
 ghost use Rattle.cpu_words.specs.Common.{IsAttachedKeeping, AreWordsOf};
 ghost use Rattle.name_registry.specs.Changes.{HasMade, weigh, weight};
 ghost use Rattle.name_registry.specs.Locking.{MayAttach, IsAttachRefusal, IsDetachRefusedTo};
-ghost use Rattle.name_registry.specs.Meeting.{is_inside, HasLearned, HasSeenAttach, HasSeenDetach};
+ghost use Rattle.name_registry.specs.Meeting.{is_inside, tells_and_hears, HasLearned, HasSeenAttach, HasSeenDetach};
+ghost use Rattle.name_registry.specs.Releasing.{KnowsGivenUp};
 
 use crate::attaching::{attach_iface_in, attach_in};
 use crate::detaching::detach_in;
+use crate::releasing::release_for;
 use cpu_words::{Domain, Words};
 use local_count::LocalRef;
 use passive_list::{Cpu, Keeper};
@@ -102,6 +104,18 @@ impl<D: Domain> Interlock<D> {
         let entry = detach_in(words, keeper, &mut cpu.plain, kind, name)?;
         count_detach(book, cpu, entry.number);
         Ok(entry)
+    }
+
+    /// `release_for`, for the CPU. Condition: some count word of the reference's slot was collected, as a release found.
+    pub(crate) fn give_up(&mut self, words: &Words, cpu: &mut Cpu<D>, reference: LocalRef<D>)
+        requires words { AreWordsOf words.now D.table D.settings }
+        requires collected { (c : ℕ) × (reference.collected ≡ Some c) }
+        ensures learned { HasLearned cpu.old cpu.new × (cpu.new.made ≡ cpu.old.made) }
+        ensures log { cpu.new.log ≡ cpu.old.log ++ tells_and_hears cpu.old }
+        ensures known { KnowsGivenUp reference.entry cpu.old cpu.new }
+    {
+        let LocalRef { plain, domain: _ } = reference;
+        release_for(words, &mut self.keeper, &mut cpu.plain, plain);
     }
 }
 

@@ -32,3 +32,4 @@ pub use detaching::detach_in;
 pub use glancing::{begin, glance_at_all, pass_all};
 pub use law::{exact_audit, free_interlock, weights_law};
 pub use registry::Registry;
+pub use releasing::release_for;

@@ -4,7 +4,7 @@ ghost use Rattle.std.specs.Prelude.{◌≡◌, ◌↔◌, ◌⊎◌, ◌+ℤ◌,
 ghost use Rattle.registry_values.specs.Common.{sum_of, is_lawful, is_iface};
 ghost use Rattle.name_registry.specs.Types.{Attach, Detach, Iface, MOST_CPUS};
 ghost use Rattle.cpu_words.specs.Common.{IsAttachedKeeping, AreWordsOf};
-ghost use Rattle.name_registry.specs.Auditing.{AreAllCpus, HaveHeardAndTold, HaveLearned, IsAuditBy};
+ghost use Rattle.name_registry.specs.Auditing.{AreAllCpus, HaveHeardAndTold, HaveLearned, IsAuditBy, KnowTheSame};
 ghost use Rattle.name_registry.specs.Changes.{HasMade};
 ghost use Rattle.name_registry.specs.Destroying.{SomeAdvanced};
 ghost use Rattle.name_registry.specs.Locking.{MayAttach, IsAttachRefusal, IsDetachRefusedTo, IsStageOf};
@@ -99,7 +99,9 @@ impl<D: Domain> Registry<D> {
 
     /// One turn of the work on the retired entry `number` under the interlock, as `advance_in` does: the answer is the first obstacle, or
     /// `Freed` with the slot that is vacant again. It is given no CPU, so there is nobody who could know what the keeper did: its contract says what
-    /// some keeper would answer, and no more. `destroy` with one turn makes the same turn for a CPU, which knows then what was met.
+    /// some keeper would answer, and no more; where that is `Freed` the entry is gone by that keeper's log, as `advance_in` has it. `destroy` with
+    /// one turn makes the same turn for a CPU, which knows then what was met: by the law `running_headline` (`freed`) it knows so of `Freed` that
+    /// nothing holds the entry.
     /// Refused: `NotRetired` where no slot has the retired entry `number`; nothing has changed then.
     pub fn advance<R: Wait>(&self, rt: &R, number: u64) -> Result<Stage, Refusal>
         ensures ok { IfOk result (λ stage. IsStageOf D.settings stage) }
@@ -114,7 +116,8 @@ impl<D: Domain> Registry<D> {
     /// What is held is the tally: what the CPUs acquired, less what they released, less what was given up. Each CPU hears once, as by `hear`,
     /// and tells once, and nothing else of it changes: all of them know the keeper's log then, and the whole list is said by that log and the
     /// CPUs (`tally`): which slots have entries, which of the CPUs' counts were collected, and what was given up. So no keeper can be made up
-    /// for it, and a list that leaves an entry out is refused.
+    /// for it, and a list that leaves an entry out is refused. All CPUs know the same then, also where memory runs out: one history is the pass
+    /// of each, and one log, with as many changes, is what each knows (`alike`); they are the keeper's, as `audit_in` has it (`told`).
     /// Refused, in this order: `MissingCpu` where the slice isn't CPU 0, 1, .. of this registry in this order, and nothing has changed of the CPUs
     /// then; `NoMemory`.
     pub fn audit<R: Wait>(
@@ -130,6 +133,7 @@ impl<D: Domain> Registry<D> {
         ensures tally { IfOk result (λ list. IsAuditBy D.settings cpus.old cpus.new list.items) }
         ensures cpus { HaveLearned cpus.old cpus.new }
         ensures notes { AreAllCpus D.settings.cpus cpus.old → HaveHeardAndTold cpus.old cpus.new }
+        ensures alike { AreAllCpus D.settings.cpus cpus.old → KnowTheSame cpus.new }
         ensures unchanged { IsErrOf result Refusal.MissingCpu → cpus.new ≡ cpus.old }
     {
         let keeper = &mut self.interlock.lock(rt).keeper;

@@ -70,7 +70,8 @@ pub extern "C" fn registry_detach(
     through_keeper::detach(keeper, cpu, kind, name, gone)
 }
 
-/// `registry_advance` of the header.
+/// `registry_advance` of the header. Where it writes REGISTRY_FREED, the entry is gone from that slot by the keeper's own log (`gone` of
+/// `Advances`): by the law `running_headline` (`freed`) nothing holds it, now or later.
 #[unsafe(no_mangle)]
 pub extern "C" fn registry_advance(
     keeper: &mut KeeperHandle,

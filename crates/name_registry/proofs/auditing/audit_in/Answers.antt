@@ -1,11 +1,12 @@
 -- What is said of all entries.
-use Rattle.std.proofs.Common.{◌∙◌, ap, subst}
+use Rattle.std.proofs.Common.{◌∙◌, ap, subst, arith}
 use Rattle.name_registry.specs.Types.{Settings}
+use Rattle.registry_values.proofs.Fit.{ranges}
 use Rattle.cpu_words.specs.Common.{Named}
 use Rattle.name_registry.specs.Common.{AreAllCpus, tallies_met}
 use Rattle.name_registry.proofs.Audits.{counts_met, places_met, sums_met}
 use Rattle.name_registry.proofs.ByLog.{audit_known}
-use Rattle.name_registry.proofs.Gathered.{listened_none, tallies_learned}
+use Rattle.name_registry.proofs.Gathered.{audit_in_log, listened_none, tallies_learned}
 use Rattle.name_registry.proofs.Tallies.{audit_right, known_keeper}
 use Rattle.name_registry.proofs.auditing.audit_in.Goals as goal
 
@@ -39,6 +40,14 @@ returns-in-Ok-clause-known g c =
     let all = subst (λ (z : Settings). AreAllCpus z.cpus c.args.cpus.now) c.settings.ensures.value (c.are_all.ensures.0 c.if-not-are_all.false) in
     audit_known c.args.keeper.now.words.settings c.args.keeper.now.keeper c.args.cpus.now c.gather.new.cpus c.in-Ok.list.items
     (known_keeper _ _ _ _ _ c.settings.ensures.own.1.agree c.settings.ensures.own.1.are) all c.gather.ensures.alike (returns-in-Ok-clause-answer g c)
+
+pub returns-in-Ok-clause-log : goal.returns-in-Ok-clause-log
+returns-in-Ok-clause-log g c =
+    let all = subst (λ (z : Settings). AreAllCpus z.cpus c.args.cpus.now) c.settings.ensures.value (c.are_all.ensures.0 c.if-not-are_all.false) in
+    let known = known_keeper _ _ _ _ _ c.settings.ensures.own.1.agree c.settings.ensures.own.1.are in
+    let cpus = (ranges c.args.keeper.now.words.settings known.view.fit).some_cpu in
+    audit_in_log c.args.keeper.now.words.settings c.args.keeper.now.keeper c.gather.new.keeper.keeper c.args.cpus.now c.gather.new.cpus c.in-Ok.list.items
+    (omega (arith, cpus, all.count, c.gather.ensures.cpus.size)) (returns-in-Ok-clause-known g c) c.gather.ensures.told
 
 pub returns-then-not-are_all-clause-keeper : goal.returns-then-not-are_all-clause-keeper
 returns-then-not-are_all-clause-keeper g c = listened_none c.args.keeper.now.keeper

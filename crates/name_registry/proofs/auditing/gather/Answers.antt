@@ -1,10 +1,12 @@
 -- One CPU more has heard, and all have.
-use Rattle.std.proofs.Common.{◌∙◌, ◌++◌, ap, arith, None}
+use Rattle.std.proofs.Common.{◌∙◌, ◌++◌, ap, subst, arith, None}
+use mathlib.Core.List.{IsPrefix}
 use mathlib.Core.Option.{some}
 use Rattle.atomic_table.proofs.Lists.{at_index}
+use Rattle.name_registry.specs.Types.{KeeperView}
 use Rattle.cpu_words.specs.Common.{heard_from}
 use Rattle.passive_list.specs.Common.{OnKeeper}
-use Rattle.name_registry.proofs.Gathered.{gathered_alike, gathered_learned, gathered_more, gathered_notes, listened}
+use Rattle.name_registry.proofs.Gathered.{gathered_alike, gathered_learned, gathered_more, gathered_notes, listened, seen_more, told_all}
 use Rattle.name_registry.proofs.auditing.gather.Goals as goal
 
 pub loop-c-preserved : goal.loop-c-preserved
@@ -16,6 +18,7 @@ loop-c-preserved g c =
       keeper = l.invariant.keeper;
       note = e.note.0;
       words = l.invariant.words;
+      seen = seen_more l.cpus l.c _ l.note.view c.pass_on-note.result.view _ c.pass_on-note.new.cpu l.invariant.seen e.heard e.pass;
       gathered = gathered_more c.args.cpus.now l.cpus l.c c.tell_keeper-note.new.keeper.keeper.log l.note.known_log c.pass_on-note.result.known_log l.note.view _ c.pass_on-note.new.cpu
           l.invariant.gathered at e.heard e.told e.shown e.note.1 (l.note.teller, e.log);
     }
@@ -38,3 +41,11 @@ returns-clause-cpus g c = gathered_learned c.args.cpus.now c.loop-c.cpus c.loop-
 
 pub returns-clause-notes : goal.returns-clause-notes
 returns-clause-notes g c = gathered_notes c.args.cpus.now c.loop-c.cpus c.loop-c.c _ _ c.loop-c.invariant.gathered (omega (arith, c.loop-c-test.false, c.loop-c.auto.cpus))
+
+pub returns-clause-told : goal.returns-clause-told
+returns-clause-told g c =
+    let l = c.loop-c in
+    let e = c.hear_keeper.ensures in
+    told_all _ c.args.keeper.now.keeper c.tell_keeper-note.new.keeper.keeper c.hear_keeper.new.keeper.keeper c.args.cpus.now l.cpus l.c l.note.known_log l.note.view l.note.teller
+    l.invariant.gathered l.invariant.seen (omega (arith, c.loop-c-test.false, l.auto.cpus)) l.invariant.keeper e.known_log
+    (subst (IsPrefix l.note.view) (ap (λ (v : KeeperView). v.history) e.view) e.told) e.own e.log

@@ -1,7 +1,7 @@
 use Rattle.std.proofs.Common.{◌≡◌, ◌++◌, None}
 use Rattle.name_registry.specs.Types.{Tell, Done}
 use Rattle.cpu_words.specs.Common.{did}
-use Rattle.name_registry.proofs.Gathered.{Gathered}
+use Rattle.name_registry.proofs.Gathered.{Gathered, HaveSeen}
 use Rattle.name_registry.proofs.auditing.gather.Given as goal
 
 -- the CPUs so far have heard
@@ -10,5 +10,6 @@ invariant-loop-c g l = record {
   keeper : l.keeper.keeper ≡ record l.fn.keeper.keeper { log = l.fn.keeper.keeper.log ++ did (Tell None) Done };
   note : l.note.table ≡ g.D.Domain.table;
   words : l.keeper.words ≡ l.fn.keeper.words;
+  seen : HaveSeen l.cpus l.c l.fn.keeper.keeper.view.history l.note.view;
   gathered : Gathered l.fn.cpus l.cpus l.c l.keeper.keeper.log l.note.known_log;
 }
