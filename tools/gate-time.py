@@ -5,7 +5,7 @@
     taskset -c 0,1 tools/gate-time.py          the same on two processors
     tools/gate-time.py rt must-fail protocol   another command
 
-The gate itself prints what each of its parts took. The table of the crates comes after it, on standard output, in the form of docs/GATE.md. It is
+The gate itself prints what each of its parts took. The table of the crates comes after it, on standard output, as a table for a document. It is
 read off /proc four times a second: each check of a crate is a process of its own, whose arguments and folder say which crate it is and what it does.
 
 | Phase | What is counted |

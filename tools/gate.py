@@ -1,5 +1,5 @@
 #!/usr/bin/env python3
-"""The merge gate: the README's test command. docs/GATE.md says what each part does and what it may take.
+"""The merge gate: the README's test command. docs/CONTRIBUTING.md says what each part does and what it may take.
 
 The groups come one after the other, the parts of a group beside each other. The last line, 'N passed, M failed', counts all of it; the status is 0
 where nothing failed.
@@ -19,6 +19,7 @@ sys.exit(gate(
         Part("documents", "tools/check-docs.py"),
         Part("limits", "tools/check-limits.py"),
         Part("imports", "tools/check-imports.py"),
+        Part("table of the events", "tools/event-table.py check"),
     ],
     # Every proof and test of the crates, from nothing.
     [Part("rt ci, and the archive", "tools/archive-beside.py rt ci")],

@@ -163,7 +163,7 @@ def minutes(seconds):
 
 
 def table(parts, clock):
-    """What each part took, in the form of docs/GATE.md."""
+    """What each part took, as a table for a document."""
     yield "| Part | By the clock | Processor minutes |\n|---|---|---|\n"
     for it in parts:
         yield f"| {it.name} | {minutes(it.clock)} | {minutes(it.processor)} |\n"

@@ -1,4 +1,4 @@
-"""Faults of sources: tools/check-limits.py and tools/check-imports.py."""
+"""Faults of sources: tools/check-limits.py, tools/check-imports.py and tools/event-table.py."""
 from .trees import Case, Fault, real
 
 # Each place that says a limit again: a part of the line, with its number.
@@ -53,5 +53,31 @@ def check_imports():
     return Case("check-imports", ["check-imports.py", "counts.py"], IMPORTS, ["tools/check-imports.py"], faults)
 
 
+STEP = "crates/cpu_words/src/steps/sections.rt"
+EDIT = "crates/cpu_words/must-fail-gate/enter_adds_two.edit"
+KEEPING = "crates/protocol/proofs/keeps/Keeping.antt"
+TABLED = ("crates/protocol/src/event.rt", "crates/protocol/specs/Events.antt", KEEPING, "crates/passive_core/src/machine/run.rt", "docs/EVENTS.md",
+          "crates/passive_list/src/*.rt", "crates/passive_list/must-fail-*/*.edit", "crates/cpu_words/src/steps/*.rt", "crates/cpu_words/src/operations/*.rt",
+          "crates/cpu_words/proofs/steps/**/*.antt", "crates/cpu_words/proofs/operations/**/*.antt", "crates/cpu_words/must-fail-*/*.edit")
+
+
+def event_table():
+    page = "not as tools/event-table.py make writes it"
+    event, definition = "crates/protocol/src/event.rt", "crates/protocol/specs/Events.antt"
+    begins = "    /// The CPU begins a section."
+    faults = (
+        Fault("an event without a step", "Wink: no step makes it", ((event, begins, f"    /// It winks.\n    Wink(u8),\n{begins}"),)),
+        Fault("an edit that is gone", page, ((EDIT, "file:", None),)),
+        Fault("a step without an edit", "no edit", (("crates/passive_list/must-fail-gate/vacate_first_slot.edit", "file:", None),)),
+        Fault("an event without a definition", "no definition", ((definition, "guard (may_enter s c) (some_outcome (after_enter s c) Done)", "None"),)),
+        Fault("an event without a lemma", "no second lemma", ((KEEPING, "(λ may. enter_keeps s c on may)", "(λ may. on)"),)),
+        Fault("an event that the machine doesn't make", "no method", (("crates/passive_core/src/machine/run.rt", "self.step_enter(c)", "enter(c)"),)),
+        Fault("another name of a step", page, ((STEP, "pub fn exit(", "pub fn leave("),)),
+        Fault("another word in the table", page, (("docs/EVENTS.md", "The CPU begins a section", "The CPU ends a section"),)),
+    )
+    tools = ["event-table.py", "contracts.py", "counts.py", "edits.py", "functions.py"]
+    return Case("event-table", tools, real(*TABLED), ["tools/event-table.py", "check"], faults)
+
+
 def cases():
-    return [check_limits(), check_imports()]
+    return [check_limits(), check_imports(), event_table()]

@@ -1,0 +1,184 @@
+#!/usr/bin/env python3
+"""Makes the table of docs/EVENTS.md from the sources: for each event its step, its contract, its lemmas and its wrong bodies.
+
+    tools/event-table.py make     writes the table into docs/EVENTS.md
+    tools/event-table.py check    makes it again and compares
+
+A row is an event and a step of `cpu_words` that makes it. Every event needs a row; every row needs a definition, a lemma of each kind and an edit.
+The last line is 'N passed, M failed', and the status is 1 where one failed.
+"""
+import collections
+import pathlib
+import re
+import sys
+
+sys.dont_write_bytecode = True
+
+from contracts import contract
+from counts import ended
+from edits import ROOT, changes
+from functions import functions_of
+
+PAGE = ROOT / "docs/EVENTS.md"
+BEGIN, END = "<!-- tools/event-table.py make -->\n\n", "\n<!-- end -->\n"
+EVENTS = ROOT / "crates/protocol/src/event.rt"
+DEFINITIONS = ROOT / "crates/protocol/specs/Events.antt"
+KEEPING = ROOT / "crates/protocol/proofs/keeps/Keeping.antt"
+MACHINE = ROOT / "crates/passive_core/src/machine/run.rt"
+WORDS = ROOT / "crates/cpu_words"
+HEAD = "| Event | What it does | Definition | Step | What its contract cites | Lemmas | Pure machine | Edits |"
+# What `step` and `step_keeps` use for every event.
+SHARED = {"guard", "with_some", "some_outcome", "guard_keeps", "some_keeps", "standing_keeps", "step_keeps"}
+IMPORT = re.compile(r"use Rattle\.cpu_words\.((?:specs|proofs)\.[\w.]+)\.\{([^}]*)\}")
+LEMMAS = ("proofs.by_", "proofs.seats.")
+LIST = ROOT / "crates/passive_list/src"
+# Operations that several steps call: their edits are no one step's.
+SEVERAL = ("by_cpu", "by_keeper", "by_reference")
+FUNCTION = re.compile(r"(?:pub\(crate\) )?fn (\w+)")
+Step = collections.namedtuple("Step", "event function ensures")
+
+
+def link(name, path):
+    return f"[`{name}`](../{path.relative_to(ROOT)})"
+
+
+def events():
+    """Each event with the first sentence of its doc comment."""
+    body = re.search(r"pub enum Event \{\n(.*?)\n\}", EVENTS.read_text(), re.S)[1]
+    return {name: text.split(". ")[0].rstrip(".") for text, name in re.findall(r"/// (.*)\n    (\w+)\(", body)}
+
+
+def line_of(path, function, event):
+    """What a function that goes by the event says of this one."""
+    found = re.search(rf"^{function} s \({event}\b[^=]*=(.*)$", path.read_text(), re.M)
+    return found[1] if found else ""
+
+
+def definitions(event):
+    """The definitions that `step` names for the event."""
+    own = set(re.findall(r"^(?:abbrev )?pub (\w+) :", DEFINITIONS.read_text(), re.M))
+    return list(dict.fromkeys(it for it in re.findall(r"\w+", line_of(DEFINITIONS, "step", event)) if it in own - SHARED))
+
+
+def keeping(event):
+    """The lemma that `step_keeps` cites for the event."""
+    return [it for it in re.findall(r"\w+_keeps\b", line_of(KEEPING, "step_keeps", event)) if it not in SHARED][-1:]
+
+
+def method(event):
+    """The method of the pure machine that makes the event."""
+    return re.findall(rf"Event::{event}\(.*self\.(\w+)\(", MACHINE.read_text())
+
+
+def steps(known):
+    """The public steps, each with the event that it is named for: the one that its body makes, else the one that its contract names."""
+    for path in sorted(WORDS.glob("src/steps/*.rt")):
+        for function in functions_of(path):
+            if function.is_public:
+                clauses = contract(path.read_text().split("\n")[function.first:], "")
+                ensures = [it for it in clauses if it.startswith("ensures")]
+                made = re.findall(r"Event::(\w+)", function.text) or [it for it in known if re.search(rf"\b{it}\b", " ".join(ensures))]
+                yield from (Step(event, function, ensures) for event in made[:1])
+
+
+def imported(path, kinds):
+    """The names that a file imports from modules of `cpu_words` that begin so, each with its file."""
+    for module, names in IMPORT.findall(path.read_text()):
+        if module.startswith(kinds):
+            yield from ((name.strip(), WORDS / (module.replace(".", "/") + ".antt")) for name in names.split(","))
+
+
+def cited(step):
+    """The definitions of the crate that the step's `ensures` cite, except those that every step cites."""
+    text = " ".join(step.ensures)
+    return [link(name, path) for name, path in imported(step.function.path, "specs.")
+            if re.search(rf"\b{name}\b", text) and path.stem not in ("Steps", "Rule", "Types") and "declared" not in path.parts]
+
+
+def step_lemma(step):
+    """The lemma that the proof of the step cites first, or the proof of the operation that the step calls."""
+    own = WORDS / "proofs/steps" / step.function.path.stem / step.function.name
+    called = [WORDS / "proofs/operations" / name for name in re.findall(r"\b(\w+)::", step.function.text)]
+    return [link(*it) for folder in (own, *called) for path in sorted(folder.rglob("*.antt")) for it in imported(path, LEMMAS)][:1]
+
+
+def operation(path, line):
+    """What a step writes to make the operation of a file of src/operations/ that has this line."""
+    for text in reversed(path.read_text().split("\n")[:line + 1]):
+        joins, function = re.match(r"impl (Split|Join)<\w+> for (\w+)", text), FUNCTION.match(text)
+        if joins:
+            return f"{joins[1].lower()}_seat::<{joins[2]}>"
+        if function:
+            return f"{path.stem}::{function[1]}"
+    return None
+
+
+def is_single(path):
+    """Whether the file holds operations of one step each."""
+    return path.parent == WORDS / "src/operations" and path.stem not in SEVERAL
+
+
+def places():
+    """Each edit for the prover, with each place in a source file that it changes."""
+    for folder in ("must-fail-gate", "must-fail-by-hand"):
+        for edit in sorted(ROOT.glob(f"crates/*/{folder}/**/*.edit")):
+            for path, old, _ in changes(edit):
+                before, found, _ = path.read_text().partition(old) if path.suffix == ".rt" and path.is_file() else ("", "", "")
+                yield from [(edit, path, before.count("\n"))] if found else ()
+
+
+def edits_of(step, tried):
+    """The edits of the step's body or of its operation; where there are none, those of the function of `passive_list` that calls it."""
+    body, text = step.function, step.function.text
+    own = [edit for edit, path, line in tried if path == body.path and body.first <= line <= body.last]
+    own += [edit for edit, path, line in tried if is_single(path) and (operation(path, line) or "?") in text]
+    above = [edit for edit, path, line in tried if path.parent == LIST and any(
+        it.first <= line <= it.last and re.search(rf"\b{body.name}\(", it.text) for it in functions_of(path))]
+    return [link(it.stem, it) + (" *" if "must-fail-by-hand" in it.parts else "") for it in dict.fromkeys(own or above)]
+
+
+def row(event, does, step, tried):
+    """The cells of a row."""
+    return [f"`{event}`", does, ", ".join(f"`{it}`" for it in definitions(event)), link(step.function.name, step.function.path), ", ".join(cited(step)),
+            ", ".join(step_lemma(step) + [f"`{it}`" for it in keeping(event)]), ", ".join(f"`{it}`" for it in method(event)), ", ".join(edits_of(step, tried))]
+
+
+def rows():
+    """All rows, in the order of the events."""
+    known, tried = events(), list(places())
+    made = list(steps(known))
+    for event, does in known.items():
+        for step in (it for it in made if it.event == event):
+            yield row(event, does, step, tried)
+
+
+def table(found):
+    return "\n".join([HEAD, "|---" * 8 + "|", *("| " + " | ".join(cells) + " |" for cells in found)]) + "\n"
+
+
+def faults(found):
+    """What the rows lack: a row for each event, and in a row a name for each cell except the contract's."""
+    names = {cells[0] for cells in found}
+    yield from (f"{event}: no step makes it" for event in events() if f"`{event}`" not in names)
+    for cells in found:
+        lacks = [kind for kind, cell in (("definition", cells[2]), ("method", cells[6]), ("edit", cells[7])) if not cell]
+        lacks += ["second lemma"] if cells[5].count("`") < 4 else []
+        yield from (f"{cells[0]}, {cells[3]}: no {kind}" for kind in lacks)
+
+
+def main():
+    if sys.argv[1:] not in (["make"], ["check"]):
+        sys.exit(__doc__)
+    before, _, rest = PAGE.read_text().partition(BEGIN)
+    stands, _, after = rest.partition(END)
+    found = list(rows())
+    if sys.argv[1] == "make":
+        PAGE.write_text(before + BEGIN + table(found) + END + after)
+        stands = table(found)
+    wrong = list(faults(found)) + ([] if stands == table(found) else ["docs/EVENTS.md: not as tools/event-table.py make writes it"])
+    for fault in wrong:
+        print(fault)
+    sys.exit(ended(max(len(found) + 1 - len(wrong), 0), len(wrong)))
+
+
+main()
