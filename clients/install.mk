@@ -8,8 +8,16 @@ LIBDIR = $(PREFIX)/lib
 INCLUDEDIR = $(PREFIX)/include
 MANDIR = $(PREFIX)/share/man
 DOCDIR = $(PREFIX)/share/doc/kupaldiz
+EXAMPLESDIR = $(DOCDIR)/examples
+# What the .pc files say of the prefix. A release that is unpacked anywhere says '$${pcfiledir}/../..', and gives RUNPATH='$$ORIGIN', by which
+# libkupaldiz_netbsd finds libkupaldiz beside it.
+PC_PREFIX = $(PREFIX)
+RUNPATH =
+# What follows the 3 in the file's name of each page that leads to another one: a distribution may set it, so that no other package has that file.
+MANSUFFIX =
+# The licence, as SPDX names it. It is the owner's to choose: until then it is empty, and whoever makes a release is told so.
+LICENCE =
 INSTALL = install
-AR = ar
 
 # A path may have blanks: from here on each is as a shell wants it. PREFIX comes last, as the others may be made of it.
 blank := $(subst ,, )
@@ -18,8 +26,12 @@ override DESTDIR := $(call escaped,$(DESTDIR))
 override LIBDIR := $(call escaped,$(LIBDIR))
 override INCLUDEDIR := $(call escaped,$(INCLUDEDIR))
 override MANDIR := $(call escaped,$(MANDIR))
+override EXAMPLESDIR := $(call escaped,$(EXAMPLESDIR))
 override DOCDIR := $(call escaped,$(DOCDIR))
+override PC_PREFIX := $(call escaped,$(PC_PREFIX))
 override PREFIX := $(call escaped,$(PREFIX))
+PKGCONFIGDIR = $(LIBDIR)/pkgconfig
+CMAKEDIR = $(LIBDIR)/cmake/kupaldiz
 
 version_part = $(shell sed -n 's/^\#define REGISTRY_VERSION_$(1)[[:blank:]]*//p' $(HEADER)/registry.h)
 MAJOR := $(call version_part,MAJOR)
@@ -29,10 +41,10 @@ SHARED = libkupaldiz.so.$(VERSION)
 NETBSD_SONAME = libkupaldiz_netbsd.so.$(MAJOR)
 NETBSD_SHARED = libkupaldiz_netbsd.so.$(VERSION)
 
-# The headers of the pages' names: those that a program includes, and the folders that the pages write before them. What they are built from.
-NETBSD_FOLDERS = sys net
-NETBSD_HEADERS = $(patsubst netbsd/%,%,$(wildcard netbsd/*.h $(NETBSD_FOLDERS:%=netbsd/%/*.h)))
-NETBSD_OBJECTS = $(patsubst netbsd/src/%.c,out/installed-netbsd/%.o,$(wildcard netbsd/src/*.c))
+# The headers of the pages' names: those that the pages name, in sys and net, and what these are made of. What the layer is built from.
+NETBSD_FOLDERS = kupaldiz sys net
+NETBSD_HEADERS = $(patsubst netbsd/%,%,$(wildcard $(NETBSD_FOLDERS:%=netbsd/%/*.h)))
+NETBSD_OBJECTS = $(patsubst netbsd/src/%.c,$(OUT)/installed-netbsd/%.o,$(wildcard netbsd/src/*.c))
 
 # registry(3) and registry_waiting(3), and the calls that each names at its head, each of which gets a page that leads there.
 PAGES = registry registry_waiting
@@ -42,47 +54,65 @@ named_by = $(filter-out $(1),$(shell sed -n 's/^\.Nm \(registry_[a-z_]*\).*/\1/p
 NETBSD_PAGES = $(patsubst man/%.3,%,$(wildcard man/kupaldiz_*.3))
 netbsd_named_by = $(shell sed -n 's/^\.Nm \([a-z_]*\).*/\1/p' man/$(1).3 | sort -u)
 
-library: out/libkupaldiz.a out/$(SHARED) out/libkupaldiz_netbsd.a out/$(NETBSD_SHARED)
+# What a library is compiled and linked with. A library of one object is joined without the compiler's link-time steps.
+COMPILED = $(STRICT) $(CPPFLAGS) $(filter-out -flto%,$(CFLAGS)) $(HARDENING) -fPIC -I$(HEADER)
+LINKED = $(filter-out -flto%,$(CFLAGS)) $(LDFLAGS) -shared $(LINK_HARDENING) -Wl,-z,defs,-z,text,-z,nodelete
 
-out/waiting.o: c/waiting.c c/waiting.h $(HEADER)/registry.h
-	$(CC) $(STRICT) $(CFLAGS) -fPIC -I$(HEADER) -c -o $@ $<
+library: $(OUT)/libkupaldiz.a $(OUT)/$(SHARED) $(OUT)/libkupaldiz_netbsd.a $(OUT)/$(NETBSD_SHARED)
 
-out/libkupaldiz.a: $(ARCHIVE) out/waiting.o
-	rm -f $@
-	printf 'CREATE %s\nADDLIB %s\nADDMOD out/waiting.o\nSAVE\nEND\n' $@ $(ARCHIVE) | $(AR) -M
+$(OUT)/waiting.o: c/waiting.c c/waiting.h $(HEADER)/registry.h places.mk install.mk | $(OUT)
+	$(CC) $(COMPILED) -c -o $@ $<
 
-out/$(SHARED): out/libkupaldiz.a kupaldiz.map install.mk
-	$(CC) -shared -o $@ -Wl,-soname,$(SONAME) -Wl,--version-script=kupaldiz.map -Wl,-z,defs -Wl,-z,text \
-	    -Wl,--whole-archive out/libkupaldiz.a -Wl,--no-whole-archive -pthread
+$(OUT)/libkupaldiz.a: $(ARCHIVE) $(OUT)/waiting.o
+	rm -rf $@ $(OUT)/installed-archive
+	mkdir -p $(OUT)/installed-archive
+	cd $(OUT)/installed-archive && $(AR) x $(if $(filter /%,$(ARCHIVE)),$(ARCHIVE),"$$OLDPWD"/$(ARCHIVE))
+	$(AR) rcsD $@ $(OUT)/installed-archive/*.o $(OUT)/waiting.o
 
-$(NETBSD_OBJECTS): out/installed-netbsd/%.o: netbsd/src/%.c netbsd/src/layer.h $(addprefix netbsd/,$(NETBSD_HEADERS)) $(HEADER)/registry.h
-	mkdir -p out/installed-netbsd
-	$(CC) $(STRICT) $(CFLAGS) -fPIC -Inetbsd -I$(HEADER) -c -o $@ $<
+# A thread that has called the layer runs code of it at its end, and others may be in a call: a library stays where it is.
+$(OUT)/$(SHARED): $(OUT)/libkupaldiz.a kupaldiz.map install.mk
+	$(CC) $(LINKED) -o $@ -Wl,-soname,$(SONAME) -Wl,--version-script=kupaldiz.map \
+	    -Wl,--whole-archive $(OUT)/libkupaldiz.a -Wl,--no-whole-archive -pthread
 
-out/libkupaldiz_netbsd.a: $(NETBSD_OBJECTS)
-	rm -f $@
-	$(AR) rcs $@ $^
+$(NETBSD_OBJECTS): $(OUT)/installed-netbsd/%.o: netbsd/src/%.c netbsd/src/layer.h $(addprefix netbsd/,$(NETBSD_HEADERS)) $(HEADER)/registry.h places.mk install.mk
+	mkdir -p $(OUT)/installed-netbsd
+	$(CC) $(COMPILED) -Inetbsd -c -o $@ $<
 
-# A thread that has called the layer runs code of it at its end: the library stays where it is.
-out/$(NETBSD_SHARED): $(NETBSD_OBJECTS) out/$(SHARED) netbsd/netbsd.map install.mk
-	$(CC) -shared -o $@ -Wl,-soname,$(NETBSD_SONAME) -Wl,--version-script=netbsd/netbsd.map -Wl,-z,defs -Wl,-z,text \
-	    -Wl,-z,nodelete $(NETBSD_OBJECTS) out/$(SHARED) -pthread
+# One object, from which the calls alone are seen: what the layer's parts name among them clashes with no name of a program.
+$(OUT)/libkupaldiz_netbsd.a: $(NETBSD_OBJECTS)
+	rm -f $@ $(OUT)/kupaldiz_netbsd.o
+	$(CC) -r -nostdlib -o $(OUT)/kupaldiz_netbsd.o $^
+	$(OBJCOPY) --wildcard --keep-global-symbol='kupaldiz_*' $(OUT)/kupaldiz_netbsd.o
+	$(AR) rcsD $@ $(OUT)/kupaldiz_netbsd.o
+
+$(OUT)/$(NETBSD_SHARED): $(OUT)/libkupaldiz_netbsd.a $(OUT)/$(SHARED) netbsd/netbsd.map install.mk
+	$(CC) $(LINKED) $(if $(RUNPATH),-Wl$(comma)-rpath$(comma)'$(RUNPATH)') -o $@ -Wl,-soname,$(NETBSD_SONAME) -Wl,--version-script=netbsd/netbsd.map \
+	    -Wl,--whole-archive $(OUT)/libkupaldiz_netbsd.a -Wl,--no-whole-archive $(OUT)/$(SHARED) -pthread
+
+comma := ,
+
+# The public names: those of the headers, of the maps, and of what was built.
+symbols: library
+	NM=$(CROSS)nm ./symbols.sh $(HEADER) $(OUT) $(VERSION)
 
 install: library
-	$(INSTALL) -d $(DESTDIR)$(LIBDIR)/pkgconfig $(NETBSD_FOLDERS:%=$(DESTDIR)$(INCLUDEDIR)/kupaldiz/netbsd/%) $(DESTDIR)$(MANDIR)/man3 $(DESTDIR)$(MANDIR)/man7 $(DESTDIR)$(DOCDIR)
-	$(INSTALL) -m 644 out/libkupaldiz.a $(DESTDIR)$(LIBDIR)/libkupaldiz.a
-	$(INSTALL) -m 755 out/$(SHARED) $(DESTDIR)$(LIBDIR)/$(SHARED)
+	$(INSTALL) -d $(DESTDIR)$(PKGCONFIGDIR) $(DESTDIR)$(CMAKEDIR) $(NETBSD_FOLDERS:%=$(DESTDIR)$(INCLUDEDIR)/kupaldiz/netbsd/%) \
+	    $(DESTDIR)$(MANDIR)/man3 $(DESTDIR)$(MANDIR)/man7 $(DESTDIR)$(DOCDIR)
+	$(INSTALL) -m 644 $(OUT)/libkupaldiz.a $(DESTDIR)$(LIBDIR)/libkupaldiz.a
+	$(INSTALL) -m 755 $(OUT)/$(SHARED) $(DESTDIR)$(LIBDIR)/$(SHARED)
 	ln -sf $(SHARED) $(DESTDIR)$(LIBDIR)/$(SONAME)
 	ln -sf $(SONAME) $(DESTDIR)$(LIBDIR)/libkupaldiz.so
 	$(INSTALL) -m 644 $(HEADER)/registry.h $(DESTDIR)$(INCLUDEDIR)/kupaldiz/registry.h
 	$(INSTALL) -m 644 c/waiting.h $(DESTDIR)$(INCLUDEDIR)/kupaldiz/registry_waiting.h
-	$(INSTALL) -m 644 out/libkupaldiz_netbsd.a $(DESTDIR)$(LIBDIR)/libkupaldiz_netbsd.a
-	$(INSTALL) -m 755 out/$(NETBSD_SHARED) $(DESTDIR)$(LIBDIR)/$(NETBSD_SHARED)
+	$(INSTALL) -m 644 $(OUT)/libkupaldiz_netbsd.a $(DESTDIR)$(LIBDIR)/libkupaldiz_netbsd.a
+	$(INSTALL) -m 755 $(OUT)/$(NETBSD_SHARED) $(DESTDIR)$(LIBDIR)/$(NETBSD_SHARED)
 	ln -sf $(NETBSD_SHARED) $(DESTDIR)$(LIBDIR)/$(NETBSD_SONAME)
 	ln -sf $(NETBSD_SONAME) $(DESTDIR)$(LIBDIR)/libkupaldiz_netbsd.so
 	for header in $(NETBSD_HEADERS); do $(INSTALL) -m 644 netbsd/$$header $(DESTDIR)$(INCLUDEDIR)/kupaldiz/netbsd/$$header; done
-	$(filled) kupaldiz.pc.in >$(DESTDIR)$(LIBDIR)/pkgconfig/kupaldiz.pc
-	$(filled) netbsd/kupaldiz-netbsd.pc.in >$(DESTDIR)$(LIBDIR)/pkgconfig/kupaldiz-netbsd.pc
+	$(filled) kupaldiz.pc.in >$(DESTDIR)$(PKGCONFIGDIR)/kupaldiz.pc
+	$(filled) netbsd/kupaldiz-netbsd.pc.in >$(DESTDIR)$(PKGCONFIGDIR)/kupaldiz-netbsd.pc
+	$(filled) -e "s|@TO_INCLUDE@|$$(realpath -m --relative-to=$(CMAKEDIR) $(INCLUDEDIR))|" kupaldizConfig.cmake.in >$(DESTDIR)$(CMAKEDIR)/kupaldizConfig.cmake
+	$(filled) kupaldizConfigVersion.cmake.in >$(DESTDIR)$(CMAKEDIR)/kupaldizConfigVersion.cmake
 	$(foreach page,$(PAGES),$(call install_page,$(page),$(call named_by,$(page))))
 	$(foreach page,$(NETBSD_PAGES),$(call install_page,$(page),$(call netbsd_named_by,$(page))))
 	$(INSTALL) -m 644 man/kupaldiz_netbsd.7 $(DESTDIR)$(MANDIR)/man7/kupaldiz_netbsd.7
@@ -90,32 +120,52 @@ install: library
 
 # In a .pc file a blank is written as in a shell, and sed takes a \ of its own. Whatever umask there is, everyone may read what is installed.
 in_sed = $(subst \,\\,$(1))
-filled = umask 022; sed -e 's|@PREFIX@|$(call in_sed,$(PREFIX))|' -e 's|@LIBDIR@|$(call in_sed,$(LIBDIR))|' \
-    -e 's|@INCLUDEDIR@|$(call in_sed,$(INCLUDEDIR))|' -e 's|@VERSION@|$(VERSION)|'
+filled = umask 022; sed -e 's|@LIBDIR@|$(call in_sed,$(LIBDIR))|' -e 's|@INCLUDEDIR@|$(call in_sed,$(INCLUDEDIR))|' \
+    -e 's|^\([a-z]*dir\)=$(call in_sed,$(PREFIX))/|\1=$${prefix}/|' -e 's|@PREFIX@|$(call in_sed,$(PC_PREFIX))|' \
+    -e 's|@VERSION@|$(VERSION)|' -e 's|@MAJOR@|$(MAJOR)|' -e 's|@LICENCE@|$(LICENCE)|' $(if $(LICENCE),,-e '/^License: *$$/d')
 
 # What an older version with the same soname has left: nothing asks for it by its whole number.
 install: without_older
 without_older: library
 	rm -f $(DESTDIR)$(LIBDIR)/libkupaldiz.so.$(MAJOR).* $(DESTDIR)$(LIBDIR)/libkupaldiz_netbsd.so.$(MAJOR).*
-	rm -f $(DESTDIR)$(LIBDIR)/pkgconfig/kupaldiz.pc $(DESTDIR)$(LIBDIR)/pkgconfig/kupaldiz-netbsd.pc
+	rm -f $(DESTDIR)$(PKGCONFIGDIR)/kupaldiz.pc $(DESTDIR)$(PKGCONFIGDIR)/kupaldiz-netbsd.pc
 
 # install_page PAGE,CALLS: a page, and for each call that it names a page of one line that leads to it.
 define install_page
 $(INSTALL) -m 644 man/$(1).3 $(DESTDIR)$(MANDIR)/man3/$(1).3
-umask 022; for call in $(2); do echo ".so man3/$(1).3" >$(DESTDIR)$(MANDIR)/man3/$$call.3; done
+umask 022; for call in $(2); do echo ".so man3/$(1).3" >$(DESTDIR)$(MANDIR)/man3/$$call.3$(MANSUFFIX); done
 
 endef
+
+install-examples:
+	./examples.sh $(DESTDIR)$(EXAMPLESDIR)
+
+# Builds programs over what is installed, by pkg-config alone, and runs them: with the words that `make install` had.
+installcheck:
+	CC='$(CC)' RUN='$(RUN)' ./installcheck.sh $(DESTDIR) $(LIBDIR) $(VERSION)
 
 # Takes away what install has put there, and the folders that are the libraries' alone.
 uninstall:
 	rm -f $(addprefix $(DESTDIR)$(LIBDIR)/,libkupaldiz.a $(SHARED) $(SONAME) libkupaldiz.so pkgconfig/kupaldiz.pc)
 	rm -f $(addprefix $(DESTDIR)$(LIBDIR)/,libkupaldiz_netbsd.a $(NETBSD_SHARED) $(NETBSD_SONAME) libkupaldiz_netbsd.so pkgconfig/kupaldiz-netbsd.pc)
+	rm -f $(addprefix $(DESTDIR)$(CMAKEDIR)/,kupaldizConfig.cmake kupaldizConfigVersion.cmake)
 	rm -f $(addprefix $(DESTDIR)$(INCLUDEDIR)/kupaldiz/netbsd/,$(NETBSD_HEADERS))
 	rm -f $(addprefix $(DESTDIR)$(INCLUDEDIR)/kupaldiz/,registry.h registry_waiting.h)
-	rm -f $(addprefix $(DESTDIR)$(MANDIR)/man3/,$(foreach page,$(PAGES),$(page).3 $(addsuffix .3,$(call named_by,$(page)))))
-	rm -f $(addprefix $(DESTDIR)$(MANDIR)/man3/,$(foreach page,$(NETBSD_PAGES),$(page).3 $(addsuffix .3,$(call netbsd_named_by,$(page)))))
+	rm -f $(addprefix $(DESTDIR)$(MANDIR)/man3/,$(foreach page,$(PAGES),$(page).3 $(addsuffix .3$(MANSUFFIX),$(call named_by,$(page)))))
+	rm -f $(addprefix $(DESTDIR)$(MANDIR)/man3/,$(foreach page,$(NETBSD_PAGES),$(page).3 $(addsuffix .3$(MANSUFFIX),$(call netbsd_named_by,$(page)))))
 	rm -f $(DESTDIR)$(MANDIR)/man7/kupaldiz_netbsd.7
 	rm -f $(DESTDIR)$(DOCDIR)/CHANGELOG.md
-	-rmdir $(NETBSD_FOLDERS:%=$(DESTDIR)$(INCLUDEDIR)/kupaldiz/netbsd/%) $(DESTDIR)$(INCLUDEDIR)/kupaldiz/netbsd $(DESTDIR)$(INCLUDEDIR)/kupaldiz $(DESTDIR)$(DOCDIR)
+	-rmdir $(NETBSD_FOLDERS:%=$(DESTDIR)$(INCLUDEDIR)/kupaldiz/netbsd/%) $(DESTDIR)$(INCLUDEDIR)/kupaldiz/netbsd $(DESTDIR)$(INCLUDEDIR)/kupaldiz \
+	    $(DESTDIR)$(CMAKEDIR) $(DESTDIR)$(DOCDIR)
 
-.PHONY: library install without_older uninstall
+# The source of a release, with the archives of all processors that there are: kupaldiz-VERSION.tar.xz in out/.
+dist:
+	./dist.sh $(OUT)
+
+version:
+	@echo $(VERSION)
+
+licence:
+	@echo $(LICENCE)
+
+.PHONY: library symbols install install-examples without_older installcheck uninstall dist version licence

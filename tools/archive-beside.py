@@ -1,12 +1,14 @@
 #!/usr/bin/env python3
-"""Runs `rt ci`, and beside it proves and builds the archive for C, clients/out/libregistry.a.
+"""Runs `rt ci`, and beside it proves and builds the archive for C, clients/out/libregistry.a, and proves its library for aarch64.
 
     tools/archive-beside.py rt ci
 
 `rt ci` proves the static library registry_c and keeps nothing that it could be linked from. So as soon as it says that the libraries beneath are
 proved, `rattle build` proves registry_c over these same libraries and compiles it, on the processors that `rt ci` leaves idle. What it makes becomes the
 archive if no file that it was proved from was touched since; else, or where it was killed for want of memory, tools/build-archive.sh proves the
-archive once `rt ci` is done. The last line is that of `rt ci` with one check more, the archive.
+archive once `rt ci` is done. The library for another processor is proved after it, and most of its proof is kept from there. It is left in
+clients/out/PROCESSOR with what the proof said, for tools/build-archive.sh --for PROCESSOR, which needs that processor's compiler. The last line is
+that of `rt ci` with a check more for each processor.
 """
 import contextlib
 import os
@@ -27,9 +29,13 @@ from kit import below, kit, over_libraries
 from parts import GIGABYTE, LAST_LINE, ROOT, free_memory, guard, minutes, running, say, stop_running
 
 LIBRARY = "registry_c"
-ARCHIVE = ROOT / "clients/out/libregistry.a"
+OUT = ROOT / "clients/out"
+ARCHIVE = OUT / "libregistry.a"
+# The processors that the library is proved for, and what names each to `rattle`. The first one's is built here.
+PROCESSORS = {"x86_64": (), "aarch64": ("--target", "aarch64-unknown-linux-gnu")}
+FIRST, *OTHERS = PROCESSORS
 # What a proof of the archive keeps for the next one in this copy of the repository, which begins with it.
-KEPT = ROOT / "clients/out/proof"
+KEPT = OUT / "proof"
 # What `rt ci` says of a library that stands in its folder out/ from then on, and of one that won't.
 STANDS = re.compile(r"^rt: (\w+) (?:proved$|is kept: )")
 FAILED = re.compile(r"^rt: (\w+) NOT PROVED")
@@ -60,8 +66,13 @@ class Proof(threading.Thread):
 
     def __init__(self, room):
         super().__init__(daemon=True)
-        self.room, self.log, self.made = room, room / "log", room / f"lib{LIBRARY}.a"
-        self.status, self.seconds = None, 0.0
+        self.room, self.status, self.seconds = room, {}, {}
+
+    def log(self, processor):
+        return self.room / f"{processor}.log"
+
+    def made(self, processor):
+        return self.room / processor / f"lib{LIBRARY}.a"
 
     def take(self):
         """Copies what is proved and what it is proved over: `rt ci` puts its folders out/ back as they were when it ends."""
@@ -73,23 +84,29 @@ class Proof(threading.Thread):
             shutil.copytree(ROOT / "crates" / name / "out/rlib" / made, self.room / made, copy_function=link_or_copy)
 
     def run(self):
-        began = time.monotonic()
-        try:
-            self.take()
-            self.status = self.build()
-        except OSError as fault:
-            self.log.write_text(f"{fault}\n")
-            self.status = 1
-        self.seconds = time.monotonic() - began
+        """Proves for one processor after the other, until one isn't proved."""
+        for processor in PROCESSORS:
+            began = time.monotonic()
+            try:
+                if processor == FIRST:
+                    self.take()
+                self.status[processor] = self.build(processor)
+            except OSError as fault:
+                self.log(processor).write_text(f"{fault}\n")
+                self.status[processor] = 1
+            self.seconds[processor] = time.monotonic() - began
+            if self.status[processor] != 0:
+                break
 
-    def build(self):
+    def build(self, processor):
         """Proves and compiles the library once there is memory for it; the status of that."""
         while free_memory() < NEEDS:
             time.sleep(1)
         KEPT.mkdir(parents=True, exist_ok=True)
+        self.made(processor).parent.mkdir(exist_ok=True)
         words = ["nice", "-n", str(NICENESS), kit() / "bin/rattle", "build", *over_libraries(LIBRARY, self.room), "--jobs", "1"]
-        words += ["--incremental", KEPT, "--toolchain", kit() / "toolchain", "--backend", "llvm", "-o", self.made]
-        with open(self.log, "w") as log:
+        words += [*PROCESSORS[processor], "--incremental", KEPT, "--toolchain", kit() / "toolchain", "--backend", "llvm", "-o", self.made(processor)]
+        with open(self.log(processor), "w") as log:
             ran = subprocess.Popen(words, cwd=self.room / LIBRARY, stdin=subprocess.DEVNULL, stdout=log, stderr=log, start_new_session=True)
             running.add(ran.pid)
             # Where memory runs out, this is what ends, and no check of rt ci.
@@ -126,17 +143,38 @@ def archive(proof, before):
         return False
     began = time.monotonic()
     proof.join()
-    waited = time.monotonic() - began
-    if proof.status == 0 and state() == before:
-        say(f"the archive: proved beside rt ci in {minutes(proof.seconds)} minutes; rt ci had ended {minutes(waited)} minutes before\n")
-        command = ["tools/build-archive.sh", proof.made]
-    elif proof.status in (0, -signal.SIGKILL):
-        say(f"the archive is proved again: {'a file that it is proved from was touched' if proof.status == 0 else 'its proof was killed'}\n")
+    waited, status = time.monotonic() - began, proof.status[FIRST]
+    if status == 0 and state() == before:
+        say(f"the archive: proved beside rt ci in {minutes(proof.seconds[FIRST])} minutes; rt ci had ended {minutes(waited)} minutes before\n")
+        command = ["tools/build-archive.sh", proof.made(FIRST), proof.log(FIRST)]
+    elif status in (0, -signal.SIGKILL):
+        say(f"the archive is proved again: {'a file that it is proved from was touched' if status == 0 else 'its proof was killed'}\n")
         command = ["tools/build-archive.sh"]
     else:
-        say(f"the archive is not proved, status {proof.status}:\n{proof.log.read_text(errors='replace')}")
+        say(f"the archive is not proved, status {status}:\n{proof.log(FIRST).read_text(errors='replace')}")
         return False
     return subprocess.run(command, cwd=ROOT).returncode == 0
+
+
+def other(proof, processor, before):
+    """Whether the library is proved for another processor, and left for its archive; None where what needs it has to prove it."""
+    status = proof.status.get(processor)
+    if status in (None, -signal.SIGKILL) or state() != before:
+        say(f"the library for {processor} is left to be proved\n")
+        return None
+    if status != 0:
+        say(f"the library for {processor} is not proved, status {status}:\n{proof.log(processor).read_text(errors='replace')}")
+        return False
+    (OUT / processor).mkdir(parents=True, exist_ok=True)
+    shutil.copy2(proof.log(processor), OUT / processor / "proof.log")
+    shutil.copy2(proof.made(processor), library_of(processor))
+    say(f"the library for {processor}: proved beside rt ci in {minutes(proof.seconds[processor])} minutes\n")
+    return True
+
+
+def library_of(processor):
+    """Where the library for another processor is left."""
+    return OUT / processor / f"lib{LIBRARY}.a"
 
 
 def main():
@@ -144,19 +182,24 @@ def main():
     if not command:
         sys.exit(__doc__)
     guard()
-    ARCHIVE.unlink(missing_ok=True)
+    for path in (ARCHIVE, *map(library_of, OTHERS)):
+        path.unlink(missing_ok=True)
     with tempfile.TemporaryDirectory(prefix="archive-") as folder:
         try:
             proof, before = Proof(pathlib.Path(folder)), state()
             last, status = beside(command, proof)
-            stands = archive(proof, before)
+            checks = {"the archive, proved and built": archive(proof, before)}
+            checks.update((f"the library for {processor}, proved", other(proof, processor, before)) for processor in OTHERS)
         finally:
             stop_running()
     counted = LAST_LINE.match(last)
     if not counted:
         sys.exit(last)
-    passed, failed = int(counted[1]) + stands, int(counted[2]) + (not stands)
-    say(f"{'ok     ' if stands else 'FAILED '} the archive, proved and built\n")
+    checks = {name: stands for name, stands in checks.items() if stands is not None}
+    for name, stands in checks.items():
+        say(f"{'ok     ' if stands else 'FAILED '} {name}\n")
+    good = sum(checks.values())
+    passed, failed = int(counted[1]) + good, int(counted[2]) + len(checks) - good
     return ended(passed, failed or int(status != 0))
 
 

@@ -4,7 +4,7 @@ failed=0
 log=$(mktemp)
 
 forget_log() {
-    rm -f "$log"
+    rm -f "$log" "$log.said" "$log.wanted"
 }
 
 # Counts one check.
@@ -34,6 +34,25 @@ check() {
     shift
     limited "$@" >"$log" 2>&1
     judge "$name" $?
+}
+
+# says FILE COMMAND..: the command's status is 0, and it prints what stands in the file.
+says() {
+    local wanted=$1
+    shift
+    limited "$@" >"$log.said" && diff "$log.said" "$wanted"
+}
+
+row_says() {
+    says examples/retire-under-section.report "$@"
+}
+
+# A storm of so many CPUs and turns counts each lookup and reference, and nothing wrong.
+storm_says() {
+    local cpus=$1 turns=$2
+    shift 2
+    printf 'storm %d %d\nlookups %d\nreferences %d\nwrong 0\nheld 0\n' "$cpus" "$turns" $((2 * cpus * turns)) $((cpus * turns)) >"$log.wanted"
+    says "$log.wanted" "$@" "$cpus" "$turns"
 }
 
 # counted NAME COMMAND..: a command that counts its own checks in lines with 'N passed, M failed' or 'N passed; M failed'.

@@ -9,6 +9,9 @@ import pathlib
 import re
 import sys
 
+# A call's declaration: what it returns, its name, its parameters. What the compiler is told of it comes last, in capitals.
+DECLARED = re.compile(r"^((?:const )?(?:struct )?\w+(?: \*)?) ?(registry_\w+)\(([^)]*)\)(?:\s+REGISTRY_[A-Z]+(?:\([^)]*\))?)*;", re.M)
+
 
 def plain(text):
     return re.sub(r"\s+", " ", text).strip()
@@ -16,7 +19,7 @@ def plain(text):
 
 def of_header(text):
     text = re.sub(r"/\*.*?\*/", "", text, flags=re.S)
-    for result, name, parameters in re.findall(r"^((?:struct )?\w+) (registry_\w+)\(([^)]*)\);", text, re.M):
+    for result, name, parameters in DECLARED.findall(text):
         yield f"{result} {name}({', '.join(plain(it) for it in parameters.split(','))})"
 
 

@@ -12,71 +12,118 @@ import subprocess
 import sys
 
 FUNCTION = re.compile(r"^[0-9a-f]+ <(.*)>:$")
-TAKES = re.compile(r"\tsub\s+\$0x([0-9a-f]+),%(rsp|r11)$")
-CALLS = re.compile(r"\t(call|jmp|j[a-z]+)\s+(?:[0-9a-f]+ <([^>+]*)(\+0x[0-9a-f]+)?>|(\*.*))$")
-REFERS = re.compile(r"R_X86_64_(?:PLT32|PC32|GOTPCREL\w*)\s+(\S+?)([-+]0x[0-9a-f]+)?$")
 SECTION = re.compile(r"^\.text\.(?:unlikely\.|hot\.)?")
 # A function of the library's own has its path in its name.
 EXPORT = re.compile(r"^registry_\w+$")
-RETURN_ADDRESS = 8
-# What a function that calls none may use beneath the stack pointer.
-RED_ZONE = 128
 # What the C library does, by its own names: not counted.
 OUTSIDE = {"malloc", "realloc", "free", "memcpy", "memmove", "memset", "memcmp"}
+
+
+class X86:
+    """How code of x86-64 takes stack and calls. A frame of several pages is taken page by page, down to where BOUND points."""
+
+    objdump, bound = "objdump", "r11"
+    # What a call takes, and what a function that calls none may use beneath the stack pointer.
+    return_address, red_zone = 8, 128
+    takes = re.compile(r"\tsub\s+\$0x(?P<size>[0-9a-f]+),%(?P<to>rsp|r11)(?P<pages>)$|\t(?P<push>push)\s")
+    calls = re.compile(r"\t(?P<by>call|jmp|j[a-z]+)\s+(?:[0-9a-f]+ <(?P<to>[^>+]*)(?:\+0x[0-9a-f]+)?>|(?P<pointer>\*.*))$")
+    call, refers = ("call",), re.compile(r"R_X86_64_(?:PLT32|PC32|GOTPCREL\w*)\s+(\S+?)([-+]0x[0-9a-f]+)?$")
+
+    @staticmethod
+    def pushed(_bytes):
+        return 8
+
+
+class Aarch64:
+    """The same of aarch64, where a call takes no stack: the callee saves where it returns to."""
+
+    objdump, bound = "aarch64-linux-gnu-objdump", "x9"
+    return_address, red_zone = 0, 0
+    takes = re.compile(r"\tsub\t(?P<to>sp|x9), sp, #0x(?P<size>[0-9a-f]+)(?P<pages>, lsl #12)?$|\[sp, #-(?P<push>\d+)\]!$")
+    calls = re.compile(r"\t(?P<by>blr?|br|b\.\w+|cbn?z|tbn?z)\t(?:.*, )?(?:[0-9a-f]+ <(?P<to>[^>+]*)(?:\+0x[0-9a-f]+)?>|(?P<pointer>x\d+))")
+    call, refers = ("bl", "blr"), re.compile(r"R_AARCH64_(?:CALL26|JUMP26)\s+(\S+?)([-+]0x[0-9a-f]+)?$")
+
+    @staticmethod
+    def pushed(bytes_):
+        return int(bytes_)
 
 
 class Fault(Exception):
     pass
 
 
-def read(archive):
-    """Of each function its frame, and what it calls."""
-    lines = subprocess.run(["objdump", "-dr", "--no-show-raw-insn", archive], check=True, capture_output=True, text=True).stdout.splitlines()
-    frames, calls, name, last, paged = {}, {}, None, None, False
+class Function:
+    """A function's frame and what it calls, as its lines say one after the other."""
+
+    def __init__(self, name, processor):
+        self.name, self.processor = name, processor
+        self.frame, self.calls, self.last, self.paged = processor.return_address, set(), None, False
+
+    def take(self, found):
+        if found["push"]:
+            self.frame += self.processor.pushed(found["push"])
+            return
+        if not self.paged:
+            self.frame += int(found["size"], 16) << (12 if found["pages"] else 0)
+        self.paged = found["to"] == self.processor.bound
+
+    def call(self, found):
+        is_call = found["by"] in self.processor.call
+        if found["pointer"]:
+            if is_call:
+                raise Fault(f"{self.name} calls through a pointer")
+        elif is_call or found["to"] != self.name:
+            self.calls.add(found["to"])
+        self.last = found["by"]
+
+    def read(self, line):
+        if found := self.processor.refers.search(line):
+            if self.last:
+                self.calls.discard(self.name)
+                self.calls.add(SECTION.sub("", found[1]))
+            self.last = None
+            return
+        self.last = None
+        if found := self.processor.takes.search(line):
+            self.take(found)
+        elif found := self.processor.calls.search(line):
+            self.call(found)
+
+
+def processor_of(archive):
+    """The processor whose code the archive has."""
+    said = subprocess.run(["readelf", "-h", archive], capture_output=True, text=True).stdout
+    return Aarch64 if "AArch64" in said else X86
+
+
+def read(processor, archive):
+    """The functions by their names."""
+    lines = subprocess.run([processor.objdump, "-dr", "--no-show-raw-insn", archive], check=True, capture_output=True, text=True).stdout.splitlines()
+    functions, now = {}, None
     for line in lines:
         if found := FUNCTION.match(line):
-            name, last, paged = found[1], None, False
-            frames[name], calls[name] = RETURN_ADDRESS, set()
-        elif name is None:
-            continue
-        elif found := REFERS.search(line):
-            if last:
-                calls[name].discard(name)
-                calls[name].add(SECTION.sub("", found[1]))
-                last = None
-        else:
-            last = None
-            if found := TAKES.search(line):
-                # A frame of several pages is taken page by page, down to where %r11 points.
-                if not paged:
-                    frames[name] += int(found[1], 16)
-                paged = found[2] == "r11"
-            elif re.search(r"\tpush\s", line):
-                frames[name] += 8
-            elif found := CALLS.search(line):
-                if found[4]:
-                    if found[1] == "call":
-                        raise Fault(f"{name} calls through a pointer")
-                elif found[1] == "call" or found[2] != name:
-                    calls[name].add(found[2])
-                last = found[1]
-    return frames, calls
+            now = functions[found[1]] = Function(found[1], processor)
+        elif now:
+            now.read(line)
+    return functions
 
 
-def deepest(name, frames, calls, above=()):
+def deepest(name, functions, processor, above=()):
     """The stack that the function takes with what it calls."""
     if name in OUTSIDE:
-        return RETURN_ADDRESS
-    if name not in frames:
+        return processor.return_address
+    if name not in functions:
         raise Fault(f"{above[-1]} calls {name}, which isn't in the archive")
     if name in above:
         raise Fault(f"{name} comes back to itself")
-    return frames[name] + max((deepest(it, frames, calls, (*above, name)) for it in calls[name]), default=RED_ZONE)
+    below = (deepest(it, functions, processor, (*above, name)) for it in functions[name].calls)
+    return functions[name].frame + max(below, default=processor.red_zone)
 
 
 def main(archive, limit=None, *exempt):
-    frames, calls = read(archive)
-    depths = sorted(((deepest(it, frames, calls), it) for it in frames if EXPORT.match(it)), reverse=True)
+    processor = processor_of(archive)
+    functions = read(processor, archive)
+    depths = sorted(((deepest(it, functions, processor), it) for it in functions if EXPORT.match(it)), reverse=True)
     for depth, name in depths:
         print(f"{depth:6} {name}")
     over = [name for depth, name in depths if limit and depth > int(limit) and name not in exempt]

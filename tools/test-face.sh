@@ -12,9 +12,10 @@ cd "$(dirname "$0")/.."
 header=crates/registry_c/include/registry.h
 page=clients/man/registry.3
 out=clients/out
+warnings=(-Wall -Wextra -Werror -Wpedantic -Wconversion -Wcast-qual -Wwrite-strings)
 # shellcheck source=tools/checks.sh
 . tools/checks.sh
-trap 'forget_log; rm -f "$log.said" "$log.wanted"' EXIT
+trap forget_log EXIT
 
 # Installs each package whose command is missing.
 install_missing() {
@@ -30,7 +31,7 @@ install_missing() {
 }
 
 declared() {
-    grep -oE '^(uint32_t|size_t) registry_[a-z_]+' "$header" | awk '{ print $2 }' | sort
+    clients/calls-of.sh "$header"
 }
 
 # The page names each call of the header, and no other.
@@ -59,9 +60,9 @@ build_archive() {
     tools/build-archive.sh
 }
 
-# The archive has each call of the header, and no other name that begins so.
+# Other objects see each call of the header in the archive, and no other name.
 archive_names() {
-    diff <(declared) <(nm --defined-only "$out/libregistry.a" 2>/dev/null | awk '$2 == "T" && $3 ~ /^registry_/ { print $3 }' | sort)
+    diff <(declared) <(nm -g --defined-only "$out/libregistry.a" 2>/dev/null | awk 'NF == 3 { print $3 }' | sort)
 }
 
 # The program whose stack is looked at makes each call of the header.
@@ -78,30 +79,28 @@ stack_within() {
 header_alone() {
     local standard
     for standard in c99 c11 c17 gnu17; do
-        echo '#include "registry.h"' | gcc -std=$standard -Wall -Wextra -Wpedantic -Werror -Icrates/registry_c/include -fsyntax-only -xc - || return 1
+        text_compiles gcc c "-std=$standard" || return 1
     done
     if command -v g++ >/dev/null; then
-        echo '#include "registry.h"' | g++ -std=c++11 -Wall -Wextra -Wpedantic -Werror -Icrates/registry_c/include -fsyntax-only -xc++ -
+        text_compiles g++ c++ -std=c++11
     fi
 }
 
-# says FILE COMMAND..: the command's status is 0, and it prints what stands in the file.
-says() {
-    local wanted=$1
-    shift
-    limited "$@" >"$log.said" && diff "$log.said" "$wanted"
+# text_compiles COMPILER LANGUAGE STANDARD: the header is taken without a warning, and so are strings where it has text.
+text_compiles() {
+    printf '#include "registry.h"\n%s\n%s\n' \
+        'static struct registry_name name;' \
+        'registry_answer parse(void); registry_answer parse(void) { return registry_name_parse("wm", 2, &name, NULL); }' |
+        "$1" "$3" "${warnings[@]}" -Icrates/registry_c/include -fsyntax-only -x"$2" -
 }
 
-row_says() {
-    says examples/retire-under-section.report "$@"
-}
-
-# A storm of so many CPUs and turns counts each lookup and reference, and nothing wrong.
-storm_says() {
-    local cpus=$1 turns=$2
-    shift 2
-    printf 'storm %d %d\nlookups %d\nreferences %d\nwrong 0\nheld 0\n' "$cpus" "$turns" $((2 * cpus * turns)) $((cpus * turns)) >"$log.wanted"
-    says "$log.wanted" "$@" "$cpus" "$turns"
+# warned WARNING STATEMENT: the compiler warns of a statement with a CPU, as it does of none that is right.
+warned() {
+    local call='#include "registry.h"\nvoid f(struct registry_cpu *cpu, struct registry_entry *entry);\nvoid f(struct registry_cpu *cpu, struct registry_entry *entry) { %s }\n'
+    # shellcheck disable=SC2059
+    printf "$call" '(void)entry; registry_exit(cpu);' | gcc -O1 "${warnings[@]}" -Icrates/registry_c/include -c -o /dev/null -xc - || return 1
+    # shellcheck disable=SC2059
+    ! printf "$call" "$2" | gcc -O1 "${warnings[@]}" -Icrates/registry_c/include -c -o /dev/null -xc - 2>"$log.said" && grep -qe "-Werror=$1" "$log.said"
 }
 
 # valgrind runs one thread at a time: in turn, where it can. Else the threads that want on may keep one from it for minutes, while the rest wait for it.
@@ -166,6 +165,9 @@ test_page() {
     check "the page of the waits has their parameters" same_parameters clients/c/waiting.h clients/man/registry_waiting.3
     check "the page's examples stand in a client" tools/face-page.py examples "$page" clients/c/*.c
     check "the header alone, in four C standards" header_alone
+    check "an answer that has to be looked at, and isn't, is warned of" warned unused-result '(void)entry; registry_enter(cpu);'
+    check "a reference that isn't looked at is warned of" warned unused-result 'registry_acquire_entry(cpu, entry);'
+    check "a handle that is NULL is warned of" warned nonnull '(void)cpu; (void)entry; registry_exit(NULL);'
 }
 
 test_c() {
@@ -182,6 +184,8 @@ test_c() {
     check "C: deferred, beside a model" "$out/deferred"
     check "C: history to its end, beside a model" "$out/history"
     check "C: walk" "$out/walk" 5000
+    check "C: entries" "$out/entries" 1000
+    check "C: names and answers as text" "$out/names"
     check "C: usual" "$out/usual" 1000
     check "C: forwarder" "$out/forwarder"
     check "C: device_switch" "$out/device_switch"
@@ -205,6 +209,8 @@ test_watched() {
     check "C: the layout of each struct under valgrind" guarded "$out/layout"
     check "C: waits under valgrind" guarded "$out/waits"
     check "C: walk under valgrind" guarded "$out/walk" 50
+    check "C: entries under valgrind" guarded "$out/entries" 50
+    check "C: names under valgrind" guarded "$out/names"
     check "C: usual under valgrind" guarded "$out/usual" 50
     check "C: refuse under valgrind" guarded "$out/refuse"
     check "C: storm 4 100 under valgrind" storm_says 4 100 guarded "$out/storm"
@@ -212,6 +218,8 @@ test_watched() {
     check "C: packet with sanitizers" "$out/sanitized-packet"
     check "C: row with sanitizers" row_says "$out/sanitized-row"
     check "C: walk with sanitizers" "$out/sanitized-walk" 1000
+    check "C: entries with sanitizers" "$out/sanitized-entries" 300
+    check "C: names with sanitizers" "$out/sanitized-names"
     check "C: usual with sanitizers" "$out/sanitized-usual" 300
     check "C: forwarder with sanitizers" "$out/sanitized-forwarder"
     check "C: device_switch with sanitizers" "$out/sanitized-device_switch"

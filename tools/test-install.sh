@@ -19,7 +19,7 @@ libdir=$prefix/lib
 
 # Whoever installs may have a umask that shuts others out.
 made() {
-    (umask 077 && make -s -C "$clients" "$1" DESTDIR="$stage" PREFIX="$prefix" LIBDIR="$libdir")
+    (umask 077 && make -s -C "$clients" "$@" DESTDIR="$stage" PREFIX="$prefix" LIBDIR="$libdir")
 }
 
 # Like a user's own pkg-config, which finds what stands below the scratch folder.
@@ -36,12 +36,12 @@ version() {
 }
 
 # built NAME COMPILER LANGUAGE STANDARD LINK WORDS..: the program, built with the words that pkg-config gives for these of its own, and none beside them.
-# A path with blanks comes from it as a shell writes it.
+# A path with blanks comes from it as a shell writes it. The linker looks for what a shared library asks for where the loader does.
 built() {
     local name=$1 compiler=$2 language=$3 standard=$4 link=$5 words
     shift 5
     words=$(config --cflags) && words+=" $(config "$@")" || return
-    (cd "$room" && eval "\"$compiler\" -std=$standard -Wall -Wextra -Werror -x $language \"\$OLDPWD/clients/c/$program.c\" -x none -o $name $link $words")
+    (cd "$room" && LD_LIBRARY_PATH=$stage$libdir eval "\"$compiler\" -std=$standard -Wall -Wextra -Werror -x $language \"\$OLDPWD/clients/c/$program.c\" -x none -o $name $link $words")
 }
 
 # runs NAME LINE: the program ends with status 0 and this line.
@@ -73,7 +73,7 @@ shown() {
 }
 
 calls_of_headers() {
-    grep -hoE '^(uint32_t|size_t|struct registry_lock) registry_[a-z_]+\(' "$stage$prefix"/include/kupaldiz/*.h | grep -oE 'registry_[a-z_]+\(' | tr -d '('
+    clients/calls-of.sh "$stage$prefix"/include/kupaldiz/*.h
 }
 
 # The shared library shows the calls of both headers and no other name.
@@ -81,10 +81,63 @@ shows_calls_alone() {
     diff <(calls_of_headers | sort) <(shown libkupaldiz)
 }
 
-# That of the pages' names shows the calls that its headers declare at the head of a line and no other name.
+# That of the pages' names shows the calls that its headers declare, each with the library's name before its own, and no other name.
 shows_pages_calls_alone() {
-    diff <(find "$stage$prefix/include/kupaldiz/netbsd" -maxdepth 1 -name '*.h' -exec grep -hE '^[a-z].*\);$' {} + | grep -vE '^(static|typedef) ' |
-        sed -E 's/^[^(]*[ *]([a-z_]+)\(.*/\1/' | sort) <(shown libkupaldiz_netbsd)
+    diff <(clients/calls-of.sh "$stage$prefix"/include/kupaldiz/netbsd/kupaldiz/*.h | sed '/^kupaldiz_/!s/^/kupaldiz_/' | sort) <(shown libkupaldiz_netbsd)
+}
+
+# Other objects see nothing of the static libraries but calls.
+static_shows_calls_alone() {
+    ! nm -g --defined-only "$stage$libdir"/*.a 2>/dev/null | awk 'NF == 3 { print $3 }' | grep -vE '^(registry|kupaldiz)_'
+}
+
+# An #include of a plain name, as <cpu.h>, finds nothing of these libraries: what the folders for the compiler offer is in folders of its own.
+offers_no_plain_name() {
+    [ -z "$(find "$stage$prefix/include" "$stage$prefix/include/kupaldiz/netbsd" -maxdepth 1 -type f)" ]
+}
+
+# is_hardened LIBRARY: its relocations are done and read-only from the start on, its stack isn't run, it stays loaded, and returns lead where calls came from.
+is_hardened() {
+    local said
+    said=$(readelf -dlnW "$stage$libdir/$1.so")
+    grep -q 'GNU_RELRO' <<<"$said" && grep -qE 'FLAGS_1.*NOW.*NODELETE|FLAGS_1.*NODELETE.*NOW' <<<"$said" && grep -qE 'GNU_STACK .* RW +0x' <<<"$said" &&
+        ! grep -q TEXTREL <<<"$said" && grep -q SHSTK <<<"$said" || { echo "$said"; return 1; }
+}
+
+# A project of CMake's that knows the libraries by find_package alone, shared and static.
+found_by_cmake() {
+    mkdir -p "$room/cmake" && cp clients/c/installed.c clients/c/installed_netbsd.c "$room/cmake" && cat >"$room/cmake/CMakeLists.txt" <<'PROJECT'
+cmake_minimum_required(VERSION 3.13)
+project(installed C)
+find_package(kupaldiz 0.1 REQUIRED)
+foreach(kind kupaldiz static)
+  add_executable(registry-${kind} installed.c)
+  target_link_libraries(registry-${kind} PRIVATE kupaldiz::${kind})
+endforeach()
+foreach(kind netbsd netbsd_static)
+  add_executable(names-${kind} installed_netbsd.c)
+  target_link_libraries(names-${kind} PRIVATE kupaldiz::${kind})
+endforeach()
+PROJECT
+    cmake -S "$room/cmake" -B "$room/cmake/out" -DCMAKE_PREFIX_PATH="$stage$prefix" -DCMAKE_C_FLAGS="-Wall -Wextra -Werror" && cmake --build "$room/cmake/out" &&
+        runs cmake/out/registry-kupaldiz "C, version $(version)" && runs cmake/out/registry-static "C, version $(version)" &&
+        runs cmake/out/names-netbsd "C, by the pages' names" && runs cmake/out/names-netbsd_static "C, by the pages' names"
+}
+
+# Another version is asked for than the one that is there.
+refused_by_cmake() {
+    sed -i 's/find_package(kupaldiz 0.1/find_package(kupaldiz 0.9/' "$room/cmake/CMakeLists.txt"
+    ! cmake -S "$room/cmake" -B "$room/cmake/later" -DCMAKE_PREFIX_PATH="$stage$prefix" >"$room/said" 2>&1 && grep 'compatible with requested version "0.9"' "$room/said"
+}
+
+# What is installed with a .pc file that names no place, and moved: programs are built where it is now.
+moved() {
+    made install PC_PREFIX='$${pcfiledir}/../..' && mv "$stage$prefix" "$room/moved" && stage=$room/moved prefix='' libdir=/lib PKG_CONFIG_SYSROOT_DIR='' in_place
+}
+
+in_place() {
+    # shellcheck disable=SC2046
+    LD_LIBRARY_PATH=$stage$libdir gcc -o "$room/in_place" clients/c/installed.c $(PKG_CONFIG_PATH=$stage$libdir/pkgconfig pkg-config --cflags --libs kupaldiz) && runs in_place "C, version $(version)"
 }
 
 # test_programs LINE LIBRARY..: the program of this module in C and in C++, over the shared libraries that it asks for and over the static ones.
@@ -128,6 +181,16 @@ pages_are_found() {
     done
 }
 
+# The words that a distribution gives reach the compiler and the linker.
+flags_are_taken() {
+    rm -rf "$clients/out/installed-netbsd" "$clients/out/waiting.o" "$clients"/out/libkupaldiz*
+    made library CPPFLAGS=-DSEEN_BY_CPP CFLAGS='-O1 -frecord-gcc-switches' LDFLAGS=-Wl,--build-id=0xfeedfeed || return
+    local library
+    for library in libkupaldiz libkupaldiz_netbsd; do
+        readelf -p .GCC.command.line "$clients/out/$library.so.$(version)" | grep -e SEEN_BY_CPP && readelf -n "$clients/out/$library.so.$(version)" | grep feedfeed || return
+    done
+}
+
 # What is installed, but for the manual pages: kind, mode, owner and path of each file, and where a link leads.
 wanted() {
     local me major=${1%%.*} file library
@@ -138,7 +201,7 @@ wanted() {
         echo "l 777 $me $libdir/$library.so.$major -> $library.so.$1"
         echo "l 777 $me $libdir/$library.so -> $library.so.$major"
     done
-    for file in "$libdir"/pkgconfig/{kupaldiz,kupaldiz-netbsd}.pc "$prefix"/include/kupaldiz/{registry,registry_waiting}.h "$prefix/share/doc/kupaldiz/CHANGELOG.md"; do
+    for file in "$libdir"/pkgconfig/{kupaldiz,kupaldiz-netbsd}.pc "$libdir"/cmake/kupaldiz/kupaldizConfig{,Version}.cmake "$prefix"/include/kupaldiz/{registry,registry_waiting}.h "$prefix/share/doc/kupaldiz/CHANGELOG.md"; do
         echo "f 644 $me $file"
     done
     (cd "$clients/netbsd" && find . -name '*.h' -not -path './tests/*' -not -path './src/*' -not -path './examples/*') | sed "s|^\.|f 644 $me $prefix/include/kupaldiz/netbsd|"
@@ -162,7 +225,7 @@ open_to_all() {
 
 # Nothing that is read names the scratch folder or the repository.
 names_no_place() {
-    ! grep -rlF -e "$stage" -e "$PWD" "$stage$prefix" --include='*.pc' --include='*.3' --include='*.h'
+    ! grep -rlF -e "$stage" -e "$PWD" "$stage$prefix" --include='*.pc' --include='*.cmake' --include='*.3' --include='*.h'
 }
 
 # asked WORDS..: what the .pc file of the module says where it is in place, as this test wants it: without a blank at the end.
@@ -178,7 +241,7 @@ pc_says() {
 
 leaves_nothing() {
     local left
-    left=$(find "$stage" \( -type f -o -type l \) -o -type d -path '*/include/kupaldiz*' -o -type d -path '*/doc/kupaldiz*')
+    left=$(find "$stage" \( -type f -o -type l \) -o -type d -path '*/include/kupaldiz*' -o -type d -path '*/cmake/kupaldiz*' -o -type d -path '*/doc/kupaldiz*')
     [ -z "$left" ] || { echo "$left"; return 1; }
 }
 
@@ -200,13 +263,14 @@ relinks() {
 copy_clients() {
     local copy=$room/a\ copy
     mkdir -p "$copy/clients/out" "$copy/crates/registry_c"
-    (cd clients && cp -r Makefile ./*.mk ./*.in ./*.map CHANGELOG.md c man netbsd "$copy/clients") || return
+    (cd clients && cp -r Makefile ./*.mk ./*.in ./*.map ./*.sh CHANGELOG.md c examples man netbsd "$copy/clients") || return
     cp clients/out/libregistry.a "$copy/clients/out" && cp -r crates/registry_c/include "$copy/crates/registry_c"
     clients=$copy/clients header=$copy/$header
 }
 
-# mark FILE NAME: a function more.
+# mark FILE NAME: a function more, which the maps name.
 mark() {
+    sed -i "0,/^\tglobal:/s//\tglobal:\n\t\t$2;/" "$clients/kupaldiz.map" "$clients/netbsd/netbsd.map"
     printf '\nvoid %s(void);\nvoid %s(void)\n{\n}\n' "$2" "$2" >>"$1"
 }
 
@@ -237,10 +301,20 @@ check "what kupaldiz.pc says" pc_says "-lkupaldiz" "-lkupaldiz -pthread"
 test_programs "version $(config --modversion)" libkupaldiz
 module=kupaldiz-netbsd
 program=installed_netbsd
-check "what kupaldiz-netbsd.pc says" pc_says "-lkupaldiz_netbsd -lkupaldiz" "-lkupaldiz_netbsd -pthread -lkupaldiz -pthread"
+check "what kupaldiz-netbsd.pc says" pc_says "-lkupaldiz_netbsd" "-lkupaldiz_netbsd -pthread -lkupaldiz -pthread"
 test_programs "by the pages' names" libkupaldiz_netbsd
 check "the shared library shows the calls alone" shows_calls_alone
 check "the shared library of the pages' names shows their calls alone" shows_pages_calls_alone
+check "the static libraries show calls alone" static_shows_calls_alone
+check "headers, maps and libraries have the same names" made symbols
+check "no folder of headers offers a plain name" offers_no_plain_name
+check "libkupaldiz is hardened" is_hardened libkupaldiz
+check "libkupaldiz_netbsd is hardened" is_hardened libkupaldiz_netbsd
+check "make installcheck" made installcheck
+if command -v cmake >/dev/null; then
+    check "CMake: find_package finds the libraries" found_by_cmake
+    check "CMake: it refuses another version" refused_by_cmake
+fi
 check "each call has a page" pages_are_found
 check "the change log names the version" grep -q "^## $(version)\$" "$stage$prefix/share/doc/kupaldiz/CHANGELOG.md"
 check "uninstall" made uninstall
@@ -269,6 +343,7 @@ check "a root with blanks: uninstall leaves nothing" leaves_nothing
 prefix=/usr libdir=/usr/lib stage=$room/later
 older=$(version)
 check "an upgrade: the older version" copy_clients
+check "the words of a distribution are taken" flags_are_taken
 check "an upgrade: it is installed" made install
 check "an upgrade: each of its files" holds_files "$older"
 check "no stale object is linked: a changed archive" relinks registry_mark_of_archive libkupaldiz change_archive
@@ -279,4 +354,7 @@ check "an upgrade: it is installed over the older one" made install
 check "an upgrade: each file, and none of the older version" holds_files "${older%.*}.7"
 check "an upgrade: uninstall" made uninstall
 check "an upgrade: uninstall leaves nothing" leaves_nothing
+
+prefix=/somewhere libdir=/somewhere/lib stage=$room/before
+check "an installation that is moved" moved
 finish

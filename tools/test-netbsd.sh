@@ -54,8 +54,8 @@ watched() {
     limited valgrind -q --fair-sched=try --error-exitcode=99 --leak-check=full --show-leak-kinds=definite --errors-for-leak-kinds=definite "$@"
 }
 
-for header in $(cd $folder && ls ./*.h sys/*.h net/*.h); do
-    check "${header#./} alone, in four C standards" header_alone "${header#./}"
+for header in $(cd $folder && ls kupaldiz/*.h sys/*.h net/*.h); do
+    check "$header alone, in four C standards" header_alone "$header"
 done
 for way in plain sanitized raced small late busy; do
     check "the layer and its tests are built, no warning: $way" make -s -C $folder $way

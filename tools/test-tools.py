@@ -16,10 +16,10 @@ from concurrent.futures import ThreadPoolExecutor
 sys.dont_write_bytecode = True
 
 from counts import ended
-from tests import compares, documents, gates, pictures, programs, sources, stack
+from tests import compares, documents, gates, pictures, programs, releases, sources, stack
 from tests.trees import lay, said_by, spoil
 
-MODULES = (programs, documents, sources, gates, compares, pictures, stack)
+MODULES = (programs, documents, sources, gates, compares, pictures, stack, releases)
 COUNT = re.compile(r"^(\d+) passed, (\d+) failed\s*\Z", re.MULTILINE)
 
 

@@ -20,7 +20,7 @@ static inline struct registry_name name_of(const char *text)
 {
 	struct registry_name name;
 	uint64_t place;
-	DONE(registry_name_parse((const uint8_t *)text, strlen(text), &name, &place));
+	DONE(registry_name_parse(text, strlen(text), &name, &place));
 	return name;
 }
 

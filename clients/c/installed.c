@@ -20,13 +20,27 @@
 		}                                                                                                                  \
 	} while (0)
 
+/* The name that has this text, of which a program writes the text again. */
+static struct registry_name name_of(const char *text)
+{
+	struct registry_name name;
+	char again[REGISTRY_NAME_ROOM];
+	DONE(registry_name_parse(text, strlen(text), &name, NULL));
+	DONE(registry_name_format(&name, again, sizeof again));
+	if (strcmp(text, again) != 0)
+		exit(1);
+	return name;
+}
+
 /* Finds the driver on the CPU, and answers its value. */
 static uint64_t value_of(struct registry_cpu *cpu, const struct registry_name *name)
 {
 	struct registry_entry found;
 	DONE(registry_enter(cpu));
 	DONE(registry_find(cpu, REGISTRY_DRIVER, name, &found));
+	DONE(registry_acquire_entry(cpu, &found));
 	DONE(registry_exit(cpu));
+	DONE(registry_release(cpu, found.number));
 	return found.value;
 }
 
@@ -35,13 +49,12 @@ int main(void)
 	const struct registry_settings settings = {1, 4, 100, 100, 10, 10};
 	struct registry_keeper keeper = {0};
 	struct registry_cpu cpu = {0};
-	struct registry_name wm;
+	struct registry_name wm = name_of("wm");
 	struct registry_entry entry;
 	struct registry_stage met;
-	uint64_t place, waited;
+	uint64_t waited;
 	pthread_mutex_t mutex = PTHREAD_MUTEX_INITIALIZER;
 	struct registry_lock lock = registry_lock_of_mutex(&mutex);
-	DONE(registry_name_parse((const uint8_t *)"wm", 2, &wm, &place));
 	DONE(registry_open(&settings, &keeper, &cpu, 1));
 	DONE(registry_attach(&keeper, &cpu, &wm, 7, &entry));
 	if (value_of(&cpu, &wm) != 7)
@@ -49,8 +62,9 @@ int main(void)
 	DONE(registry_detach(&keeper, &cpu, REGISTRY_DRIVER, &wm, &entry));
 	DONE(registry_perform_wait(&lock, &keeper, &cpu, NULL, &waited));
 	DONE(registry_destroy_wait(&lock, &keeper, &cpu, entry.number, NULL, &met));
-	DONE(registry_close_cpu(&cpu));
-	DONE(registry_close_keeper(&keeper));
+	DONE(registry_close(&cpu, 1, &keeper));
+	if (strcmp(registry_strerror(REGISTRY_DONE), "done") != 0)
+		return 1;
 	printf("%s, version %d.%d.%d\n", LANGUAGE, REGISTRY_VERSION_MAJOR, REGISTRY_VERSION_MINOR, REGISTRY_VERSION_PATCH);
 	return 0;
 }

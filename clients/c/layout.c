@@ -55,7 +55,7 @@ static void test_name(void)
 {
 	uint64_t place;
 	spoil();
-	DONE(registry_name_parse((const uint8_t *)"abcdefghij", 10, &out.name, &place));
+	DONE(registry_name_parse("abcdefghij", 10, &out.name, &place));
 	EXPECT(wrote(sizeof out.name));
 	EXPECT(out.name.high == 0x6162636465666768 && out.name.low == 0x696a000000000000);
 	name = out.name;

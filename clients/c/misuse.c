@@ -55,7 +55,7 @@ static void close_bench(struct bench *bench)
 static uint32_t parsed(const char *bytes, size_t length, uint64_t *place)
 {
 	struct registry_name name = {1, 2};
-	uint32_t answer = registry_name_parse((const uint8_t *)bytes, length, &name, place);
+	uint32_t answer = registry_name_parse(bytes, length, &name, place);
 	EXPECT(answer == REGISTRY_DONE || (name.high == 1 && name.low == 2));
 	return answer;
 }
@@ -74,14 +74,14 @@ static void misuse_names(void)
 
 static void check_texts(void)
 {
-	uint8_t text[200];
+	char text[200];
 	for (uint32_t answer = 0; answer < 100; answer++) {
 		bool known = (answer <= REGISTRY_NEEDS_DRIVER && answer != REGISTRY_WRONG_CPU) ||
 		    (REGISTRY_OUTSIDE <= answer && answer <= REGISTRY_NULL && answer != 67);
 		size_t length = registry_text(answer, text, sizeof text);
 		EXPECT((length != 0) == known && length < sizeof text);
 		if (known)
-			EXPECT(strlen((const char *)text) == length);
+			EXPECT(strlen(text) == length);
 	}
 	size_t whole = registry_text(REGISTRY_NO_SLOT, text, 4);
 	EXPECT(whole > 4 && text[3] == 0);
@@ -251,7 +251,7 @@ static void check_nulls(struct bench *bench)
 /* A name is parsed into nothing. */
 static void check_null_names(void)
 {
-	const uint8_t *bytes = (const uint8_t *)"wm-";
+	const char *bytes = "wm-";
 	struct registry_name name = BAD;
 	uint64_t place = 99;
 	EXPECT(registry_name_parse(bytes, 2, NULL, &place) == REGISTRY_DONE && place == 99);

@@ -222,6 +222,31 @@ static void attach_on(const struct registry_name *wm0)
 	EXPECT(are_asked(4, 2));
 }
 
+/* A refused acquire on a CPU that keeps no block takes one, if there is memory, and no other: the next acquire uses it. */
+static void keep_of_refused(const struct registry_name *wm)
+{
+	DONE(registry_open(&SETTINGS, &keeper, cpus, 2));
+	DONE(registry_attach(&keeper, &cpus[0], wm, 7, &entry));
+	asked = 0;
+	opened_with = blocks;
+	refuse_from = 1;
+	refuse_to = 1;
+	EXPECT(registry_local_acquire(&cpus[0], &locals[0]) == REGISTRY_NOTHING_FOUND);
+	EXPECT(are_asked(1, 0));
+	for (int turn = 0; turn < 2; turn++) {
+		EXPECT(registry_local_acquire(&cpus[0], &locals[0]) == REGISTRY_NOTHING_FOUND);
+		EXPECT(are_asked(2, 1));
+	}
+	find_driver(wm);
+	DONE(registry_local_acquire(&cpus[0], &locals[0]));
+	EXPECT(are_asked(2, 1));
+	DONE(registry_exit(&cpus[0]));
+	DONE(registry_local_release(&cpus[0], &locals[0]));
+	close_all();
+	EXPECT(blocks == 0);
+	refuse_from = 0;
+}
+
 /* What a CPU keeps serves its next acquire, and goes as the CPU is closed, the keeper before it or after it. */
 static void keep_blocks(const struct registry_name *wm, const struct registry_name *wm0)
 {
@@ -256,6 +281,7 @@ int main(void)
 	journey_without_memory(&wm);
 	EXPECT(blocks == 0);
 	keep_blocks(&wm, &wm0);
+	keep_of_refused(&wm);
 	printf("allocations refused in turn: %" PRIu64 "\n", refused - 1);
 	return refused < 2;
 }

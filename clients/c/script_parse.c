@@ -121,7 +121,7 @@ static const char *take_kind(struct word word, struct taken *taken)
 static const char *take_name(struct word word, struct taken *taken)
 {
 	uint64_t place;
-	uint32_t answer = registry_name_parse((const uint8_t *)word.at, word.length, &taken->command->name, &place);
+	uint32_t answer = registry_name_parse(word.at, word.length, &taken->command->name, &place);
 	return answer == REGISTRY_DONE ? NULL : "BadName";
 }
 

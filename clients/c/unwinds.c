@@ -59,6 +59,8 @@ static void refer(struct registry_cpu *cpu, const struct registry_name *name, st
 	DONE(registry_walk(cpu, row, 4, &count));
 	DONE(registry_find(cpu, REGISTRY_DRIVER, name, &entry));
 	DONE(registry_acquire(cpu, &number));
+	DONE(registry_acquire_entry(cpu, &row[0]));
+	DONE(registry_release(cpu, number));
 	DONE(registry_copy(cpu, number));
 	DONE(registry_held(cpu, number, &yes));
 	DONE(registry_read(cpu, number, &entry));
@@ -108,16 +110,18 @@ __attribute__((noinline)) static void call_all(void)
 	struct registry_keeper keeper = {0};
 	struct registry_cpu cpus[2] = {{0}};
 	struct registry_name name;
-	uint8_t text[80];
+	char text[80];
 	uint64_t place;
-	DONE(registry_name_parse((const uint8_t *)"wm", 2, &name, &place));
+	EXPECT(registry_strerror(REGISTRY_NO_SLOT) != NULL);
+	DONE(registry_name_parse("wm", 2, &name, &place));
 	DONE(registry_open(&settings, &keeper, cpus, 2));
 	DONE(registry_settings_of(&keeper, &told));
 	change(&keeper, cpus, &name);
 	EXPECT(registry_text(REGISTRY_NO_SLOT, text, sizeof text) > 0);
+	DONE(registry_name_format(&name, text, sizeof text));
 	DONE(registry_close_cpu(&cpus[0]));
-	DONE(registry_close_cpu(&cpus[1]));
-	DONE(registry_close_keeper(&keeper));
+	DONE(registry_close(&cpus[1], 1, &keeper));
+	EXPECT(registry_close_keeper(&keeper) == REGISTRY_EMPTY_HANDLE);
 }
 
 int main(void)

@@ -90,11 +90,11 @@ static bool pause_once(struct pause *pause)
 	return true;
 }
 
-uint32_t registry_destroy_wait(const struct registry_lock *lock, struct registry_keeper *keeper, struct registry_cpu *cpu, uint64_t number,
+registry_answer registry_destroy_wait(const struct registry_lock *lock, struct registry_keeper *keeper, struct registry_cpu *cpu, uint64_t number,
     const struct timespec *deadline, struct registry_stage *met)
 {
 	struct pause pause = begin_pause(deadline);
-	uint32_t answer;
+	registry_answer answer;
 	do {
 		lock->take(lock->of);
 		answer = registry_destroy(keeper, cpu, number, met);
@@ -103,13 +103,13 @@ uint32_t registry_destroy_wait(const struct registry_lock *lock, struct registry
 	return answer;
 }
 
-uint32_t registry_perform_wait(const struct registry_lock *lock, struct registry_keeper *keeper, struct registry_cpu *cpu,
+registry_answer registry_perform_wait(const struct registry_lock *lock, struct registry_keeper *keeper, struct registry_cpu *cpu,
     const struct timespec *deadline, uint64_t *waited)
 {
 	struct pause pause = begin_pause(deadline);
 	struct registry_wait wait;
 	lock->take(lock->of);
-	uint32_t answer = registry_perform_begin(keeper, cpu, &wait);
+	registry_answer answer = registry_perform_begin(keeper, cpu, &wait);
 	lock->give(lock->of);
 	if (answer != REGISTRY_DONE)
 		return answer;
@@ -130,7 +130,7 @@ size_t registry_deferred_count(const struct registry_deferred *deferred)
 static bool work_on(struct registry_keeper *keeper, struct registry_deferred *deferred, const struct registry_entry *entry, size_t *freed)
 {
 	struct registry_stage met;
-	uint32_t answer = registry_advance(keeper, entry->number, &met);
+	registry_answer answer = registry_advance(keeper, entry->number, &met);
 	if (answer != REGISTRY_DONE)
 		return true;
 	if (met.stage != REGISTRY_FREED)
@@ -141,10 +141,10 @@ static bool work_on(struct registry_keeper *keeper, struct registry_deferred *de
 	return true;
 }
 
-uint32_t registry_deferred_free(struct registry_keeper *keeper, struct registry_deferred *deferred, size_t *freed)
+registry_answer registry_deferred_free(struct registry_keeper *keeper, struct registry_deferred *deferred, size_t *freed)
 {
 	size_t left = 0, gone = 0;
-	uint32_t answer = registry_settings_of(keeper, NULL);
+	registry_answer answer = registry_settings_of(keeper, NULL);
 	if (answer != REGISTRY_DONE)
 		return answer;
 	for (size_t i = 0; i < deferred->count; i++) {
@@ -158,11 +158,11 @@ uint32_t registry_deferred_free(struct registry_keeper *keeper, struct registry_
 	return REGISTRY_DONE;
 }
 
-uint32_t registry_deferred_detach(struct registry_keeper *keeper, struct registry_cpu *cpu, uint64_t kind, const struct registry_name *name,
+registry_answer registry_deferred_detach(struct registry_keeper *keeper, struct registry_cpu *cpu, uint64_t kind, const struct registry_name *name,
     struct registry_deferred *deferred, struct registry_entry *gone)
 {
 	struct registry_entry entry;
-	uint32_t answer = registry_deferred_free(keeper, deferred, NULL);
+	registry_answer answer = registry_deferred_free(keeper, deferred, NULL);
 	if (answer == REGISTRY_DONE)
 		answer = registry_detach(keeper, cpu, kind, name, &entry);
 	if (answer != REGISTRY_DONE)
@@ -174,16 +174,16 @@ uint32_t registry_deferred_detach(struct registry_keeper *keeper, struct registr
 	return REGISTRY_DONE;
 }
 
-uint32_t registry_deferred_attach(struct registry_keeper *keeper, struct registry_cpu *cpu, const struct registry_name *name, uint64_t value,
+registry_answer registry_deferred_attach(struct registry_keeper *keeper, struct registry_cpu *cpu, const struct registry_name *name, uint64_t value,
     struct registry_deferred *deferred, struct registry_entry *made)
 {
-	uint32_t answer = registry_deferred_free(keeper, deferred, NULL);
+	registry_answer answer = registry_deferred_free(keeper, deferred, NULL);
 	return answer != REGISTRY_DONE ? answer : registry_attach(keeper, cpu, name, value, made);
 }
 
-uint32_t registry_deferred_attach_iface(struct registry_keeper *keeper, struct registry_cpu *cpu, struct registry_local *driver,
+registry_answer registry_deferred_attach_iface(struct registry_keeper *keeper, struct registry_cpu *cpu, struct registry_local *driver,
     const struct registry_name *name, uint64_t value, struct registry_deferred *deferred, struct registry_entry *made)
 {
-	uint32_t answer = registry_deferred_free(keeper, deferred, NULL);
+	registry_answer answer = registry_deferred_free(keeper, deferred, NULL);
 	return answer != REGISTRY_DONE ? answer : registry_attach_iface(keeper, cpu, driver, name, value, made);
 }

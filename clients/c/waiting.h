@@ -27,7 +27,7 @@ struct registry_lock {
  *
  * The program is aborted where the mutex refuses to be locked or unlocked.
  */
-struct registry_lock registry_lock_of_mutex(pthread_mutex_t *mutex);
+struct registry_lock registry_lock_of_mutex(pthread_mutex_t *mutex) REGISTRY_NONNULL(1);
 
 /*
  * registry_destroy_wait - destroy the retired entry with this number: psref_target_destroy and localcount_drain, which wait
@@ -40,8 +40,8 @@ struct registry_lock registry_lock_of_mutex(pthread_mutex_t *mutex);
  * deadline has passed, and `met` is what held it last; REGISTRY_EMPTY_HANDLE, REGISTRY_INSIDE; REGISTRY_NOT_RETIRED where it isn't retired, or
  * another thread has freed it meanwhile. What the turns noted and collected stays, so a later call goes on from there. `met` may be NULL.
  */
-uint32_t registry_destroy_wait(const struct registry_lock *lock, struct registry_keeper *keeper, struct registry_cpu *cpu, uint64_t number,
-    const struct timespec *deadline, struct registry_stage *met);
+registry_answer registry_destroy_wait(const struct registry_lock *lock, struct registry_keeper *keeper, struct registry_cpu *cpu, uint64_t number,
+    const struct timespec *deadline, struct registry_stage *met) REGISTRY_NONNULL(1, 2, 3) REGISTRY_CHECKED;
 
 /*
  * registry_perform_wait - wait until each section that is open now has ended: pserialize_perform, which waits
@@ -52,8 +52,8 @@ uint32_t registry_destroy_wait(const struct registry_lock *lock, struct registry
  * CPU that it waited for stands in `waited`, which may be NULL; REGISTRY_EMPTY_HANDLE, REGISTRY_INSIDE. A later call begins anew, with the
  * sections that are open then.
  */
-uint32_t registry_perform_wait(const struct registry_lock *lock, struct registry_keeper *keeper, struct registry_cpu *cpu,
-    const struct timespec *deadline, uint64_t *waited);
+registry_answer registry_perform_wait(const struct registry_lock *lock, struct registry_keeper *keeper, struct registry_cpu *cpu,
+    const struct timespec *deadline, uint64_t *waited) REGISTRY_NONNULL(1, 2, 3) REGISTRY_CHECKED;
 
 /*
  * What was detached and isn't freed yet, oldest first. {0} is the empty list, then `freed` and `of` are set. One list works on what it has
@@ -70,7 +70,7 @@ struct registry_deferred {
 /*
  * registry_deferred_count - how many entries wait
  */
-size_t registry_deferred_count(const struct registry_deferred *deferred);
+size_t registry_deferred_count(const struct registry_deferred *deferred) REGISTRY_NONNULL(1);
 
 /*
  * registry_deferred_free - free what nobody holds any more, oldest first: one registry_advance for each entry that waits, 32 at most
@@ -78,7 +78,7 @@ size_t registry_deferred_count(const struct registry_deferred *deferred);
  * The caller holds the interlock, and may be inside a section: what that section may hold isn't freed. It waits for nobody.
  * Answers REGISTRY_EMPTY_HANDLE; else REGISTRY_DONE, and how many it freed is written to `freed`, which may be NULL.
  */
-uint32_t registry_deferred_free(struct registry_keeper *keeper, struct registry_deferred *deferred, size_t *freed);
+registry_answer registry_deferred_free(struct registry_keeper *keeper, struct registry_deferred *deferred, size_t *freed) REGISTRY_NONNULL(1, 2);
 
 /*
  * registry_deferred_detach - registry_detach, and what was detached is put on the list's end
@@ -86,22 +86,23 @@ uint32_t registry_deferred_free(struct registry_keeper *keeper, struct registry_
  * Before that it frees as registry_deferred_free. Answers as registry_detach; where that is refused nothing is put on the list, and what was
  * freed stays so.
  */
-uint32_t registry_deferred_detach(struct registry_keeper *keeper, struct registry_cpu *cpu, uint64_t kind, const struct registry_name *name,
-    struct registry_deferred *deferred, struct registry_entry *gone);
+registry_answer registry_deferred_detach(struct registry_keeper *keeper, struct registry_cpu *cpu, uint64_t kind, const struct registry_name *name,
+    struct registry_deferred *deferred, struct registry_entry *gone) REGISTRY_NONNULL(1, 2, 5) REGISTRY_CHECKED;
 
 /*
  * registry_deferred_attach - registry_attach, before which it frees as registry_deferred_free, so that there is a vacant slot where there can be
  *
  * Answers as registry_attach; what was freed stays so.
  */
-uint32_t registry_deferred_attach(struct registry_keeper *keeper, struct registry_cpu *cpu, const struct registry_name *name, uint64_t value,
-    struct registry_deferred *deferred, struct registry_entry *made);
+registry_answer registry_deferred_attach(struct registry_keeper *keeper, struct registry_cpu *cpu, const struct registry_name *name, uint64_t value,
+    struct registry_deferred *deferred, struct registry_entry *made) REGISTRY_NONNULL(1, 2, 5) REGISTRY_CHECKED;
 
 /*
  * registry_deferred_attach_iface - the same of registry_attach_iface
  */
-uint32_t registry_deferred_attach_iface(struct registry_keeper *keeper, struct registry_cpu *cpu, struct registry_local *driver,
-    const struct registry_name *name, uint64_t value, struct registry_deferred *deferred, struct registry_entry *made);
+registry_answer registry_deferred_attach_iface(struct registry_keeper *keeper, struct registry_cpu *cpu, struct registry_local *driver,
+    const struct registry_name *name, uint64_t value, struct registry_deferred *deferred, struct registry_entry *made)
+    REGISTRY_NONNULL(1, 2, 3, 6) REGISTRY_CHECKED;
 
 #ifdef __cplusplus
 }

@@ -1,12 +1,13 @@
 #!/usr/bin/env python3
-"""The manual pages kupaldiz_NAME(3), made from the headers beside this file: `pages.py write` writes them to ../man, `pages.py check` compares them with
-what stands there, and that each call of the headers has a page."""
+"""The manual pages kupaldiz_NAME(3), made from the headers in kupaldiz/ beside this file: `pages.py write` writes them to ../man, `pages.py check` compares
+them with what stands there, and that each call of the headers has a page."""
 import re
 import sys
 import textwrap
 from pathlib import Path
 
 HERE = Path(__file__).resolve().parent
+HEADERS_AT = HERE / "kupaldiz"
 PAGES = HERE.parent / "man"
 DATE = "November 27, 2026"
 # Header, the names under which it is included, and what its page is about.
@@ -94,11 +95,11 @@ def synopsis(prototype):
 
 def page_of(name):
     includes, about = HEADERS[name]
-    text = (HERE / f"{name}.h").read_text()
+    text = (HEADERS_AT / f"{name}.h").read_text()
     head = words_of(COMMENT.search(text).group(1)).split("\n\n", 1)
     calls = calls_of(text)
     names = sorted({one[1] for _, prototypes in calls for one in prototypes})
-    lines = [f'.\\" Made by clients/netbsd/pages.py from clients/netbsd/{name}.h.', f".Dd {DATE}", f".Dt KUPALDIZ_{name.upper()} 3", ".Os", ".Sh NAME"]
+    lines = [f'.\\" Made by clients/netbsd/pages.py from clients/netbsd/kupaldiz/{name}.h.', f".Dd {DATE}", f".Dt KUPALDIZ_{name.upper()} 3", ".Os", ".Sh NAME"]
     lines += [f".Nm {one} ," for one in names[:-1]] + [f".Nm {names[-1]}", f".Nd {about}", ".Sh LIBRARY", ".Li -lkupaldiz_netbsd", ".Sh SYNOPSIS"]
     lines += [f".In {include}" for include in includes]
     for _, prototypes in calls:
@@ -120,7 +121,7 @@ def check():
         if not page.exists() or page.read_text() != page_of(name):
             print(f"{page.name}: not what {name}.h says; run clients/netbsd/pages.py write")
             wrong += 1
-        text = (HERE / f"{name}.h").read_text()
+        text = (HEADERS_AT / f"{name}.h").read_text()
         declared = {one.group(2) for one in map(PROTOTYPE.match, text.split("\n")) if one}
         described = {one[1] for _, prototypes in calls_of(text) for one in prototypes}
         for call in sorted(declared - described):

@@ -4,7 +4,7 @@
 #ifndef PEERS_SECTIONS_H
 #define PEERS_SECTIONS_H
 
-#include "pserialize.h"
+#include <kupaldiz/pserialize.h>
 
 /* How many sections of this thread are open. */
 static _Thread_local int open_sections;

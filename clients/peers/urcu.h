@@ -8,7 +8,7 @@
 #ifndef PEERS_URCU_H
 #define PEERS_URCU_H
 
-#include "pserialize.h"
+#include <kupaldiz/pserialize.h>
 
 struct rcu_head {
 	struct rcu_head *next;

@@ -1,30 +1,79 @@
-//! Tells where the archive libregistry.a lies: in the folder that REGISTRY_LIB_DIR names, else in clients/out, where tools/build-archive.sh
-//! puts it. Where it isn't there, the crate is only checked: what links says how to make it.
+//! Tells where the archive lies, the first of these that is there:
+//!
+//! 1. libregistry.a in the folder that REGISTRY_LIB_DIR names;
+//! 2. archive/PROCESSOR/libregistry.a, which a released crate has within;
+//! 3. ../out/libregistry.a, where tools/build-archive.sh of the repository puts it; of another processor than x86_64 ../out/PROCESSOR/libregistry.a;
+//! 4. libkupaldiz.a as it is installed: in the folder that pkg-config names.
+//!
+//! Where none is there, the crate is only checked: what links says how to get one.
 //!
 //! The calls of the archive that tests/common/watched.rs names are led there in the programs of the tests, which watch who is in which call.
 
 use std::env;
 use std::fs;
 use std::path::{Path, PathBuf};
+use std::process::Command;
+
+/// A library that may be linked: its folder, and its name without `lib` and `.a`.
+struct Archive {
+    folder: PathBuf,
+    name: &'static str,
+}
+
+impl Archive {
+    fn path(&self) -> PathBuf {
+        self.folder.join(format!("lib{}.a", self.name))
+    }
+}
 
 fn main() {
     let here = PathBuf::from(env::var_os("CARGO_MANIFEST_DIR").unwrap());
-    let folder = match env::var_os("REGISTRY_LIB_DIR") {
-        Some(folder) => PathBuf::from(folder),
-        None => here.join("../out"),
-    };
-    let archive = folder.join("libregistry.a");
-    if !archive.exists() {
+    let found = find(&here);
+    if !found.path().exists() {
         println!(
-            "cargo:warning=there is no {}: tools/build-archive.sh makes it, and REGISTRY_LIB_DIR names another folder that has it",
-            archive.display()
+            "cargo:warning=there is no {}: tools/build-archive.sh makes it, a release has it, and REGISTRY_LIB_DIR names another folder that has it",
+            found.path().display()
         );
     }
-    println!("cargo:rustc-link-search=native={}", folder.display());
-    println!("cargo:rustc-link-lib=static=registry");
+    println!("cargo:rustc-link-search=native={}", found.folder.display());
+    println!("cargo:rustc-link-lib=static={}", found.name);
     println!("cargo:rerun-if-env-changed=REGISTRY_LIB_DIR");
-    println!("cargo:rerun-if-changed={}", archive.display());
+    println!("cargo:rerun-if-changed={}", found.path().display());
     lead_calls(&here.join("tests/common/watched.rs"));
+}
+
+/// The first archive that is there, else the one that the repository would have.
+fn find(here: &Path) -> Archive {
+    let registry = |folder| Archive { folder, name: "registry" };
+    if let Some(folder) = env::var_os("REGISTRY_LIB_DIR") {
+        return registry(PathBuf::from(folder));
+    }
+    let processor = env::var("CARGO_CFG_TARGET_ARCH").unwrap();
+    let made = match processor.as_str() {
+        "x86_64" => here.join("../out"),
+        other => here.join("../out").join(other),
+    };
+    let within = registry(here.join("archive").join(&processor));
+    let made = registry(made);
+    if within.path().exists() {
+        within
+    } else if made.path().exists() {
+        made
+    } else {
+        installed().unwrap_or(made)
+    }
+}
+
+/// The library as it is installed, if pkg-config knows it.
+fn installed() -> Option<Archive> {
+    let command = env::var_os("PKG_CONFIG").unwrap_or_else(|| "pkg-config".into());
+    let said = Command::new(command).args(["--variable=libdir", "kupaldiz"]).output().ok()?;
+    let folder = String::from_utf8(said.stdout).ok()?;
+    let archive = Archive {
+        folder: PathBuf::from(folder.trim()),
+        name: "kupaldiz",
+    };
+    (said.status.success() && archive.path().exists()).then(|| archive)
 }
 
 /// Has the linker lead each call that the file wraps there.

@@ -77,17 +77,22 @@ BESIDE = {
     "crates/registry_c/specs/Lib.antt": "\n",
     "crates/registry_c/proofs/Lib.antt": "\n",
     "clients/out/libregistry.a": "older\n",
+    "clients/out/aarch64/libregistry_c.a": "older\n",
     "ci": '#!/bin/sh\necho "rt: low proved"\nsleep 1\necho "rt: registry_c proved"\necho 5 passed, 0 failed\n',
     "bin/rt": '#!/bin/sh\necho "$PWD/kit/START-HERE.md"\n',
     # It proves over the library that stands beside it, and writes what -o names.
     "kit/bin/rattle": '#!/bin/sh\n[ "$(cat src/lib.rt ../low.rlib/format)" = "face\nlow" ] || exit 7\nfor made; do :; done\necho proved >"$made"\n',
-    "tools/build-archive.sh": '#!/bin/sh\n[ $# = 1 ] && cp "$1" clients/out/libregistry.a\n',
+    "tools/build-archive.sh": '#!/bin/sh\n[ $# = 2 ] && [ -f "$2" ] && cp "$1" clients/out/libregistry.a\n',
     # The archive is what was proved, or there is none: else nothing else is said, and the fault goes untold.
     "beside": """#!/bin/sh
 PATH=$PWD/bin:$PATH tools/archive-beside.py ./ci
 status=$?
 if [ -e clients/out/libregistry.a ] && [ "$(cat clients/out/libregistry.a)" != proved ]; then
     echo "an archive that isn't proved"
+    exit 0
+fi
+if [ $status = 0 ] && [ "$(cat clients/out/aarch64/libregistry_c.a)" != proved ]; then
+    echo "a library for aarch64 that isn't proved"
     exit 0
 fi
 exit $status
@@ -105,8 +110,9 @@ def archive():
         Fault("a source that is touched meanwhile", "a file that it is proved from was touched", ((ci, "sleep", "touch crates/low/src/lib.rt; sleep"),)),
         Fault("a source that is added meanwhile", "a file that it is proved from was touched", ((ci, "sleep", "echo >crates/low/src/more.rt; sleep"),)),
         Fault("a proof that is killed", "its proof was killed", ((rattle, made, "kill -KILL $$"),)),
-        Fault("a failure of rt ci", "5 passed, 2 failed", ((ci, "5 passed, 0", "4 passed, 2"),)),
-        Fault("another status of rt ci", "6 passed, 1 failed", ((ci, "0 failed\n", "0 failed\nexit 2\n"),)),
+        Fault("a proof for aarch64 that fails", "the library for aarch64 is not proved, status 1:\nnot there", ((rattle, made, f'case "$*" in *aarch64*) echo not there; exit 1;; esac; {made}'),)),
+        Fault("a failure of rt ci", "6 passed, 2 failed", ((ci, "5 passed, 0", "4 passed, 2"),)),
+        Fault("another status of rt ci", "7 passed, 1 failed", ((ci, "0 failed\n", "0 failed\nexit 2\n"),)),
         Fault("rt ci without its count", "nothing", ((ci, "echo 5 passed, 0 failed", "echo nothing"),)),
     )
     return Case("archive-beside", ["archive-beside.py", "kit.py", "parts.py", "counts.py"], BESIDE, ["./beside"], faults)

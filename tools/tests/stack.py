@@ -5,6 +5,8 @@ HEADER = """/* registry_none(void); */
 uint32_t registry_open(struct registry *it, uint64_t cpus);
 struct registry_entry registry_find(const char *name,
     size_t length);
+const char *registry_strerror(const struct registry *it)
+    REGISTRY_NONNULL(1) REGISTRY_CHECKED;
 """
 PAGE = """.Sh NAME
 .Sh SYNOPSIS
@@ -15,6 +17,8 @@ PAGE = """.Sh NAME
 .Fa "const char *name"
 .Fa "size_t length"
 .Fc
+.Ft "const char *"
+.Fn registry_strerror "const struct registry *it"
 .Sh DESCRIPTION
 .Bd -literal
 int opened = 1;
@@ -35,6 +39,7 @@ def faces():
         Fault("a parameter less", "registry_find", (("registry.3", '.Fa "size_t length"\n', ""),)),
         Fault("a parameter more in the header", "registry_open", (("registry.h", "uint64_t cpus)", "uint64_t cpus, int more)"),)),
         Fault("a call that the page hasn't", "registry_open", (("registry.3", '.Ft uint32_t\n.Fn registry_open "struct registry *it" "uint64_t cpus"\n', ""),)),
+        Fault("a parameter of a call with attributes", "registry_strerror", (("registry.h", "const struct registry *it)", "struct registry *it)"),)),
         Fault("a call that the header hasn't", "registry_find", (("registry.h", "struct registry_entry registry_find", "// struct registry_entry find"),)),
     )
     yield Case("face-page", ["face-page.py"], tree, ["./compare"], faults, counts=False)

@@ -2,7 +2,7 @@
 #ifndef KUPALDIZ_NETBSD_NET_STATS_H
 #define KUPALDIZ_NETBSD_NET_STATS_H
 
-#include "../memory.h"
+#include "../kupaldiz/memory.h"
 
 #define _NET_STAT_GETREF(counters)	((uint64_t *)percpu_getref(counters))
 #define _NET_STAT_PUTREF(counters)	percpu_putref(counters)

@@ -153,7 +153,7 @@ static struct registry_name name_for(struct thread *me, uint64_t serial)
 	char text[REGISTRY_NAME_BYTES + 8];
 	struct registry_name name;
 	int length = snprintf(text, sizeof(text), "t%llu", (unsigned long long)serial);
-	done(me, registry_name_parse((const uint8_t *)text, (size_t)length, &name, NULL));
+	done(me, registry_name_parse(text, (size_t)length, &name, NULL));
 	return name;
 }
 

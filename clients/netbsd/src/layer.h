@@ -49,14 +49,14 @@
 #include <sys/types.h>
 #include <time.h>
 
-#include "../cpu.h"
-#include "../kernel.h"
-#include "../localcount.h"
-#include "../locks.h"
-#include "../memory.h"
-#include "../pserialize.h"
-#include "../psref.h"
-#include "../softint.h"
+#include "../kupaldiz/cpu.h"
+#include "../kupaldiz/kernel.h"
+#include "../kupaldiz/localcount.h"
+#include "../kupaldiz/locks.h"
+#include "../kupaldiz/memory.h"
+#include "../kupaldiz/pserialize.h"
+#include "../kupaldiz/psref.h"
+#include "../kupaldiz/softint.h"
 #include "registry.h"
 
 /* The limits, which a test may change: of a bank; how many nanoseconds a drain waits before it looks again; how many milliseconds a wait lasts before it

@@ -53,11 +53,11 @@ void say(const struct thread *me, const char *format, ...)
 /* Stops where the registry refuses, as at a limit. */
 void done(const struct thread *me, uint32_t answer)
 {
-	uint8_t text[128];
+	char text[128];
 	if (answer == REGISTRY_DONE)
 		return;
 	registry_text(answer, text, sizeof(text));
-	stop(me, "%s", (const char *)text);
+	stop(me, "%s", text);
 }
 
 /* What a thread is called: the system's name of it, as it is now. */

@@ -7,7 +7,7 @@
 #ifndef KUPALDIZ_NETBSD_SYS_ATOMIC_H
 #define KUPALDIZ_NETBSD_SYS_ATOMIC_H
 
-#include "../sys_types.h"
+#include "../kupaldiz/sys_types.h"
 
 #ifdef __cplusplus
 extern "C" {

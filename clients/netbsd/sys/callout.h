@@ -1,2 +1,2 @@
 /* sys/callout.h - under the name that the pages give it */
-#include "../softint.h"
+#include "../kupaldiz/softint.h"

@@ -1,2 +1,2 @@
 /* sys/intr.h - under the name that the pages give it */
-#include "../softint.h"
+#include "../kupaldiz/softint.h"

@@ -1,2 +1,2 @@
 /* sys/localcount.h - under the name that the pages give it */
-#include "../localcount.h"
+#include "../kupaldiz/localcount.h"

@@ -1,2 +1,2 @@
 /* sys/lwp.h - under the name that the pages give it */
-#include "../cpu.h"
+#include "../kupaldiz/cpu.h"

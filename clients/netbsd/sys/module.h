@@ -1,2 +1,2 @@
 /* sys/module.h - under the name that the pages give it */
-#include "../kernel.h"
+#include "../kupaldiz/kernel.h"

@@ -8,7 +8,7 @@
 #include <sys/cdefs.h>
 #include <sys/types.h>
 
-#include "../kernel.h"
+#include "../kupaldiz/kernel.h"
 
 #ifndef CACHE_LINE_SIZE
 #define CACHE_LINE_SIZE	64

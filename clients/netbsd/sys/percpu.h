@@ -1,2 +1,2 @@
 /* sys/percpu.h - under the name that the pages give it */
-#include "../memory.h"
+#include "../kupaldiz/memory.h"

@@ -1,2 +1,2 @@
 /* sys/pserialize.h - under the name that the pages give it */
-#include "../pserialize.h"
+#include "../kupaldiz/pserialize.h"

@@ -9,7 +9,7 @@
 
 #include <stddef.h>
 
-#include "../kernel.h"
+#include "../kupaldiz/kernel.h"
 #include "atomic.h"
 
 struct pslist_entry {

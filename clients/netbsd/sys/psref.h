@@ -1,2 +1,2 @@
 /* sys/psref.h - under the name that the pages give it */
-#include "../psref.h"
+#include "../kupaldiz/psref.h"

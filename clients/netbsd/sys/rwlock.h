@@ -1,2 +1,2 @@
 /* sys/rwlock.h - under the name that the pages give it */
-#include "../locks.h"
+#include "../kupaldiz/locks.h"

@@ -8,7 +8,7 @@
 
 #include <sys/cdefs.h>
 
-#include "../kernel.h"
+#include "../kupaldiz/kernel.h"
 
 #ifndef __cplusplus
 static inline int imin(int a, int b) { return a < b ? a : b; }

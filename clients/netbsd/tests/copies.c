@@ -4,8 +4,8 @@
  * Three threads acquire a reference to one target, copy it, release the first one, sleep, and release the copy. The fourth destroys the target
  * meanwhile, which waits for the copies.
  */
-#include "pserialize.h"
-#include "psref.h"
+#include <kupaldiz/pserialize.h>
+#include <kupaldiz/psref.h>
 #include "test.h"
 
 enum { HOLDERS = 3, ROUNDS = 60 };

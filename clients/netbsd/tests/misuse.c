@@ -3,10 +3,10 @@
  *
  * The last line counts the cases.
  */
-#include "localcount.h"
-#include "pserialize.h"
-#include "psref.h"
-#include "softint.h"
+#include <kupaldiz/localcount.h>
+#include <kupaldiz/pserialize.h>
+#include <kupaldiz/psref.h>
+#include <kupaldiz/softint.h>
 #include "stops.h"
 
 static struct psref_class *things;

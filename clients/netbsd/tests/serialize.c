@@ -4,7 +4,7 @@
  * The writer frees a node once pserialize_perform has returned. A reader that is in a section still reads the node that it got to, which the
  * address sanitizer sees where it was freed. Sections are nested, and last a while.
  */
-#include "pserialize.h"
+#include <kupaldiz/pserialize.h>
 #include "test.h"
 
 enum { READERS = 3, ROUNDS = 400, NODES = 4 };

@@ -1,5 +1,6 @@
 pub mod Balance
 pub mod Freed
+pub mod Fresh
 pub mod Kept
 pub mod Holders
 pub mod Honest

@@ -14,7 +14,8 @@ pub use Rattle.cpu_words.specs.Balance.{HasOneSeat, IsBalanced, SeatsBalance, co
 pub use Rattle.cpu_words.specs.Domains.{AreWordsOf}
 pub use Rattle.cpu_words.specs.Draining.{CollectTold, HasAdded, HasCollected, HasKeptSub, HasLookedPassive, IsFoundCollected, KeptSubTold, LookedPassiveTold, MayCollect, MayJoinKeeper, MayKeptSub}
 pub use Rattle.cpu_words.specs.Draining.{MayPassiveLook, MayTotalAdd, MayTotalSub, TotalAddTold, TotalSubTold, keeper_after_join, row_of, with_given_up}
-pub use Rattle.cpu_words.specs.Freed.{FreedIsGone, HasGone, IsGone}
+pub use Rattle.cpu_words.specs.Freed.{FreedByKeeper, FreedIsGone, HasGone, IsGone}
+pub use Rattle.cpu_words.specs.Fresh.{HasAnswered, IsAnsweredFreshly, LookupsAreFresh, PassesAreWhole, WholeInTheList, has_sought, history_length, until_reply, with_reply}
 pub use Rattle.cpu_words.specs.Grace.{HasLooked, HasSnapshot, LookTold, MayGlance, MayLook, MaySnapshot, due_next, keeper_after_look}
 pub use Rattle.cpu_words.specs.Headline.{DrainedIsFree, FoundIsHeld, HeldHaveSlots, IsInHand, MarkTells, MarksAreHonest, RunningHeadline, RunsAsLogged, RunsLawfully, SeatHolds, SectionMayHold}
 pub use Rattle.cpu_words.specs.KeeperLog.{AreCountsOf, AreMarksOf, AreSlotsOf, AreTotalsOf, FindsWord, HasHeardFrom, HasPassedOn, HasWaited, IsAttachedKeeping, IsDetachedFrom, IsFreedFrom, IsOwnLog}

@@ -5,8 +5,10 @@ use lib.ListN.{get_elem?}
 use Rattle.atomic_table.specs.Table.{State as Table}
 use Rattle.cpu_words.specs.Types.{Entry, Settings}
 use Rattle.protocol.specs.Common.{IsAttached, EndsAt, State, opening, IsUnheld, picture, after, occupant_of}
+use Rattle.cpu_words.specs.declared.view.KeeperView.{KeeperView}
 use Rattle.cpu_words.specs.declared.view.Logged.{Logged}
 use Rattle.cpu_words.specs.declared.view.View.{View}
+use Rattle.cpu_words.specs.declared.view.View.TheVariants.{Keeper}
 use Rattle.cpu_words.specs.KeeperLog.{IsFreedFrom}
 use Rattle.cpu_words.specs.Logs.{without_logs, LoggedRuled}
 use Rattle.cpu_words.specs.Headline.{RunsAsLogged, SeatHolds}
@@ -33,3 +35,8 @@ pub record HasGone (z : Settings) (s : Table ℕ Logged) (t n : ℕ) : Type 0 wh
 -- a seat that has heard that the keeper made the slot vacant, from which the entry was detached last, knows this of the table, whatever it is now
 abbrev pub FreedIsGone : Type 0
 FreedIsGone = (z : Settings) (s : Table ℕ Logged) (i : ℕ) (l : Logged) (t n : ℕ) → LoggedRuled z s → get_elem? s.views i ≡ some l → IsFreedFrom t n l.known_log → HasGone z s t n
+
+-- and so does the keeper's own seat, by its own log
+abbrev pub FreedByKeeper : Type 0
+FreedByKeeper = (z : Settings) (s : Table ℕ Logged) (i : ℕ) (l : Logged) (k : KeeperView) (t n : ℕ) → LoggedRuled z s → get_elem? s.views i ≡ some l → l.view ≡ Keeper k → IsFreedFrom t n l.log
+    → HasGone z s t n

@@ -23,5 +23,6 @@ pub mod Headline
 pub mod Balance
 pub mod Waiting
 pub mod Freed
+pub mod Fresh
 pub mod Kept
 pub mod Domains

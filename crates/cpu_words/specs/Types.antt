@@ -7,7 +7,7 @@ pub use Rattle.registry_values.specs.declared.entry.Kind.TheVariants.{Driver, If
 pub use Rattle.registry_values.specs.declared.mark.Mark.{Mark}
 pub use Rattle.registry_values.specs.declared.name.Name.{Name}
 pub use Rattle.registry_values.specs.declared.settings.Settings.{Settings}
-pub use Rattle.registry_values.specs.declared.settings.TheConstants.{MOST_CPUS, MOST_SLOTS}
+pub use Rattle.registry_values.specs.declared.limits.TheConstants.{MOST_COUNT, MOST_CPUS, MOST_SLOTS}
 pub use Rattle.registry_values.specs.declared.slot.Key.{Key}
 pub use Rattle.registry_values.specs.declared.slot.Slot.{Slot}
 pub use Rattle.registry_values.specs.declared.slot.Slot.TheVariants.{Live, Retired, Vacant}

@@ -1,6 +1,6 @@
 -- What is counted in the ledger: the history and a CPU's share grow by the same change, and nothing else changes the history.
 use Rattle.std.proofs.Common.{◌≡◌, ◌∙◌, ⊎_elim, ℕ, zero, suc, ◌+◌, ◌≤◌, Bool, true, false, List, length, Option, Some, None, Result, Ok, Err, sym, ap, subst, arith}
-use Rattle.name_registry.specs.Types.{Change, Entry, Record, Refusal, Settings, Stage, Grace, Passive, Local, Freed, Key, MOST_SLOTS, KeeperView, ReferenceView, KeptSlot}
+use Rattle.name_registry.specs.Types.{Change, Entry, Record, Refusal, Settings, Stage, Grace, Passive, Local, Freed, Key, MOST_CHANGES, MOST_SLOTS, KeeperView, ReferenceView, KeptSlot}
 use Rattle.registry_values.specs.Answers as answers
 use Rattle.registry_values.specs.Common.{is_iface, is_retired_as, slot_at}
 use Rattle.registry_values.proofs.Answers.{attach_tells}
@@ -26,30 +26,30 @@ detach_counted x y z e n is has = subst (λ (o : OnCpu). HasLearned x o × HasSe
     (counted n x y has.0, record { end = has.1.end; later = has.1.later; ends = has.1.ends; attached = has.1.attached; log = has.1.log })
 
 -- it made just the change that was counted
-pub one_made : (note : List Change) (x y z : OnCpu) (c : Change) → number_of c ≤ 1000000 → HasHeardOn note x y → z ≡ record y { made = y.made + weight c } → HasMade x c z
+pub one_made : (note : List Change) (x y z : OnCpu) (c : Change) → number_of c ≤ MOST_CHANGES → HasHeardOn note x y → z ≡ record y { made = y.made + weight c } → HasMade x c z
 one_made note x y z c le hears is = record { number = le; made = ap (λ (o : OnCpu). o.made) is ∙ ap (λ (o : OnCpu). o.made + weight c) hears.is }
 
 -- The numbers
 
 -- an attach is within the limit on changes
-attach_within : (z : Settings) (k : OnKeeper) (rec : Record) (inside unfit : Bool) (e : Entry) → z.change_limit ≤ 1000000 → answers.attach_answer inside unfit (given_entry z k rec) ≡ Ok e
-    → e.number ≤ 1000000
+attach_within : (z : Settings) (k : OnKeeper) (rec : Record) (inside unfit : Bool) (e : Entry) → z.change_limit ≤ MOST_CHANGES → answers.attach_answer inside unfit (given_entry z k rec) ≡ Ok e
+    → e.number ≤ MOST_CHANGES
 attach_within z k rec inside unfit e most is =
     let takes = given_takes z k rec e (attach_tells inside unfit (given_entry z k rec) e is).2 in
     let number = ap (λ (x : Entry). x.number) takes.entry in
     let room = takes.room in omega (arith, number, room, most)
 
-pub attach_numbered : (z : Settings) (k : OnKeeper) (x : OnCpu) (rec : Record) (e : Entry) → z.change_limit ≤ 1000000 → Ok e ≡ attach_answer z k x rec → e.number ≤ 1000000
+pub attach_numbered : (z : Settings) (k : OnKeeper) (x : OnCpu) (rec : Record) (e : Entry) → z.change_limit ≤ MOST_CHANGES → Ok e ≡ attach_answer z k x rec → e.number ≤ MOST_CHANGES
 attach_numbered z k x rec e most is = attach_within z k rec (is_inside x) (is_iface rec.kind) e most (sym is)
 
-pub iface_numbered : (z : Settings) (k : OnKeeper) (x : OnCpu) (rec : Record) (v : ReferenceView) (e : Entry) → z.change_limit ≤ 1000000 → attach_iface_answer z k x rec v ≡ Ok e → e.number ≤ 1000000
+pub iface_numbered : (z : Settings) (k : OnKeeper) (x : OnCpu) (rec : Record) (v : ReferenceView) (e : Entry) → z.change_limit ≤ MOST_CHANGES → attach_iface_answer z k x rec v ≡ Ok e → e.number ≤ MOST_CHANGES
 iface_numbered z k x rec v e most is = attach_within z k rec (is_inside x) (is_iface v.entry.rec.kind) e most is
 
-pub detach_numbered : (k : OnKeeper) (x : OnCpu) (key : Key) (e : Entry) → length k.view.history ≤ 1000000 → IsDetachAnswer k x key (Ok e) → e.number ≤ 1000000
+pub detach_numbered : (k : OnKeeper) (x : OnCpu) (key : Key) (e : Entry) → length k.view.history ≤ MOST_CHANGES → IsDetachAnswer k x key (Ok e) → e.number ≤ MOST_CHANGES
 detach_numbered k x key e short answer = let begun = answer.1.0.begun in omega (arith, begun, short)
 
 -- what the keeper's type keeps of that
-pub few_changes : (a : Settings) (k : KeeperView) (rows : List KeptSlot) (n : ℕ) → IsOurKeeper a k rows n → (a.change_limit ≤ 1000000) × (length k.history ≤ 1000000)
+pub few_changes : (a : Settings) (k : KeeperView) (rows : List KeptSlot) (n : ℕ) → IsOurKeeper a k rows n → (a.change_limit ≤ MOST_CHANGES) × (length k.history ≤ MOST_CHANGES)
 few_changes a k rows n our =
     let most = (ranges a our.view.fit).changes in
     let room = our.view.room in (most, omega (arith, most, room))

@@ -6,7 +6,8 @@ use Rattle.name_registry.specs.Types.{Change, Attach, Detach, Entry}
 use Rattle.protocol.specs.Common.{after_change, IsAttached}
 use Rattle.protocol.specs.History.{change_at}
 use Rattle.protocol.proofs.history.History.{at_new, attached_old, at_within}
-use Rattle.cpu_words.proofs.shown.Passes.{at_prefix, attached_prefix}
+use Rattle.protocol.proofs.history.History.{at_prefix}
+use Rattle.cpu_words.proofs.shown.Passes.{attached_prefix}
 use Rattle.passive_list.specs.Common.{OnCpu}
 use Rattle.name_registry.specs.Common.{HasSeenAttach, HasSeenDetach, tells_and_hears}
 

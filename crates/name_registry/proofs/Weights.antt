@@ -1,7 +1,7 @@
 -- The law of the weights: changes that weigh as much as one are one, and like it.
 use Rattle.std.proofs.Common.{◌≡◌, ◌*◌, ◌<◌, ◌≤◌, List, [], ◌∷◌, refl, arith}
 use Rattle.std.proofs.lemmas.List.Sums.{sum_by-cons}
-use Rattle.name_registry.specs.Types.{Change, Attach, Detach}
+use Rattle.name_registry.specs.Types.{Change, Attach, Detach, MOST_CHANGES}
 use Rattle.name_registry.specs.Common.{WeightsTell, number_of, unit, weigh, weight}
 use Rattle.name_registry.specs.Changes.{AreAlike}
 
@@ -10,7 +10,7 @@ weighs : (c : Change) → unit ≤ weight c
 weighs (Attach e) = omega arith
 weighs (Detach n) = omega arith
 
-light : (c : Change) → number_of c ≤ 1000000 → weight c < 2 * unit
+light : (c : Change) → number_of c ≤ MOST_CHANGES → weight c < 2 * unit
 light (Attach e) le = omega (arith, le)
 light (Detach n) le = omega (arith, le)
 
@@ -20,7 +20,7 @@ alike (Attach e) (Detach n) same = absurd (omega (arith, same))
 alike (Detach n) (Attach e) same = absurd (omega (arith, same))
 alike (Detach n) (Detach m) same = omega (arith, same)
 
-one_alone : (h : List Change) (c : Change) → number_of c ≤ 1000000 → weigh h ≡ weight c → (d : Change) × (h ≡ d ∷ []) × AreAlike d c
+one_alone : (h : List Change) (c : Change) → number_of c ≤ MOST_CHANGES → weigh h ≡ weight c → (d : Change) × (h ≡ d ∷ []) × AreAlike d c
 one_alone [] c le same = let some = weighs c in absurd (omega (arith, same, some))
 one_alone (d ∷ []) c le same = (d, refl, alike d c (let only = sum_by-cons weight d [] in omega (arith, same, only)))
 one_alone (d ∷ (f ∷ h)) c le same =

@@ -1,11 +1,11 @@
 -- What changes weigh in the ledger: a sum that a CPU carries out of the lock, and that is one change's only where it is of that change alone.
-use Rattle.std.specs.Prelude.{◌≡◌, ℕ, ◌+◌, ◌≤◌, List, [], ◌∷◌, sum_by}
-use Rattle.name_registry.specs.Types.{Change, Attach, Detach}
+use Rattle.std.specs.Prelude.{◌≡◌, ℕ, ◌+◌, ◌*◌, ◌≤◌, List, [], ◌∷◌, sum_by}
+use Rattle.name_registry.specs.Types.{Change, Attach, Detach, MOST_CHANGES}
 use Rattle.passive_list.specs.Common.{OnCpu}
 
 -- more than twice the greatest number of an entry, so that two changes weigh more than any one
 abbrev pub unit : ℕ
-unit = 4294967296
+unit = 2 * MOST_CHANGES + 2
 
 -- of an entry's attach and of its detach: by the number, and the one is even, the other odd
 abbrev pub weight : Change → ℕ
@@ -22,7 +22,7 @@ number_of (Detach n) = n
 
 -- the CPU's calls have made this change more, and no other
 pub record HasMade (x : OnCpu) (c : Change) (y : OnCpu) : Type 0 where
-  pub number : number_of c ≤ 1000000
+  pub number : number_of c ≤ MOST_CHANGES
   pub made : y.made ≡ x.made + weight c
 
 -- The law of the weights

@@ -56,7 +56,7 @@ rightly s t e on rest is =
 
 -- How far it goes.
 
-local_bounds : (w : ℕ) → (w ≡ 0) ⊎ (bias ≤ w + MOST_CPUS * greatest_limit) → w ≤ bias + 2 ^ 40 → (neg_ℤ (pos (2 ^ 50)) ≤ℤ local_of w) × (local_of w ≤ℤ pos (2 ^ 50))
+local_bounds : (w : ℕ) → (w ≡ 0) ⊎ (bias ≤ w + MOST_CPUS * greatest_limit) → w ≤ bias + greatest_limit → (neg_ℤ (pos (2 ^ 50)) ≤ℤ local_of w) × (local_of w ≤ℤ pos (2 ^ 50))
 local_bounds zero low high = (omega (arith, ints), omega (arith, ints))
 local_bounds (suc w) (inl never) high = absurd (omega (arith, never))
 local_bounds (suc w) (inr low) high = (omega (arith, ints, low, local_some w), omega (arith, ints, high, local_some w))

@@ -4,6 +4,7 @@ use Rattle.std.proofs.lemmas.Bool.{and_from, cases_lt}
 use Rattle.std.proofs.lemmas.Option.{none-some}
 use Rattle.protocol.proofs.slots.Cells.{place_put}
 use Rattle.protocol.proofs.keeps.SectionKeeps.{some_from}
+use Rattle.passive_core.specs.Types.{MOST_DEPTH}
 use Rattle.passive_core.specs.Common.{may_act, with_depth}
 use Rattle.protocol.specs.Common.{is_inside, Holds, SectionsShow, is_empty, State, depth_at, hand_at, search_at, begin_at}
 use Rattle.protocol.proofs.Either.{either}
@@ -23,8 +24,8 @@ acts_free s c on may = either (cases_lt c s.seated)
     (λ lt. free_if (nat_lt c s.seated) (is_free s c) may (lt-ltb c s.seated lt))
     (λ ge. and_from (is_none (search_at s c)) (is_empty (hand_at s c)) (ap is_none (on.seats.unsearching c ge)) (ap is_empty (on.seats.empty c ge)))
 
--- an open section may be nested from 1 to 255 deep
-pub depth_keeps : (s : State) (c depth : ℕ) → Holds s → c < s.settings.cpus → is_inside s c ≡ true → 1 ≤ depth → depth ≤ 255 → Holds (with_depth s c depth)
+-- an open section may be nested from 1 to `MOST_DEPTH` deep
+pub depth_keeps : (s : State) (c depth : ℕ) → Holds s → c < s.settings.cpus → is_inside s c ≡ true → 1 ≤ depth → depth ≤ MOST_DEPTH → Holds (with_depth s c depth)
 depth_keeps s c depth on lt inside low high =
     let begun = some_from (begin_at s c) inside in
     let sections : SectionsShow s.settings s.history s.section s.begins (set s.depths c depth) s.seen = record {
@@ -32,15 +33,15 @@ depth_keeps s c depth on lt inside low high =
           (on.sections.outside j);
       inside = λ j b. place_put 0 s.depths c depth (λ i d. get_or s.begins i None ≡ Some b → (get_or s.section i 0 % 2 ≡ 1) × (1 ≤ d)) j (λ is. ((on.sections.inside c b is).0, low))
           (on.sections.inside j b);
-      deep = λ j. place_put 0 s.depths c depth (λ _ d. d ≤ 255) j high (on.sections.deep j);
+      deep = λ j. place_put 0 s.depths c depth (λ _ d. d ≤ MOST_DEPTH) j high (on.sections.deep j);
       begun = on.sections.begun;
       prefix = on.sections.prefix;
       limited = on.sections.limited;
     } in
     assumption (length-set s.depths c depth ∙ on.shape.depths)
 
--- a section that is open has a depth, up to 255
-pub depth_range : (s : State) (c : ℕ) → Holds s → is_inside s c ≡ true → (1 ≤ depth_at s c) × (depth_at s c ≤ 255)
+-- a section that is open has a depth, up to the largest
+pub depth_range : (s : State) (c : ℕ) → Holds s → is_inside s c ≡ true → (1 ≤ depth_at s c) × (depth_at s c ≤ MOST_DEPTH)
 depth_range s c on inside =
     let begun = some_from (begin_at s c) inside in
     ((on.sections.inside c begun.0 begun.1).1, on.sections.deep c)

@@ -6,7 +6,8 @@ use Rattle.passive_list.specs.Types.{Entry, Change, Detach}
 use Rattle.protocol.specs.Common.{IsAttached, EndsAt, IsLegal, IsLiveAt, StandsOn}
 use Rattle.protocol.specs.History.{change_at}
 use Rattle.protocol.proofs.history.History.{at_within, ends_after}
-use Rattle.cpu_words.proofs.shown.Passes.{at_prefix, attached_prefix}
+use Rattle.protocol.proofs.history.History.{at_prefix}
+use Rattle.cpu_words.proofs.shown.Passes.{attached_prefix}
 use Rattle.passive_list.specs.Common.{WasLive}
 
 pub prefix_length : (p h : List Change) → IsPrefix p h → length p ≤ length h

@@ -2,7 +2,7 @@
 use Rattle.std.specs.Prelude.{◌≡◌, ◌≢◌, ◌↔◌, ℕ, ◌+◌, ◌*◌, ◌<◌, ◌≤◌, List, length, slice_index_or, Option, Some, None, IsTrue}
 use Rattle.std.specs.List.{Contains}
 use Rattle.atomic_table.specs.Seated.{TableId}
-use Rattle.passive_list.specs.Types.{Entry, Change, Driver, Settings, MOST_CPUS, MOST_SLOTS, CpuView, LogItem}
+use Rattle.passive_list.specs.Types.{Entry, Change, Driver, Settings, MOST_CPUS, MOST_DEPTH, MOST_SLOTS, CpuView, LogItem}
 use Rattle.registry_values.specs.Common.{are_fit, bias, slot_at}
 use Rattle.protocol.specs.Common.{IsAttached, IsIn, greatest_limit}
 use Rattle.cpu_words.specs.Common.{Named, number_at, references_to, depth_of, SectionMayHold, IsShownCpu, IsIdle}
@@ -53,7 +53,7 @@ pub record NetAgree (x : CpuView) (places : List NumberedCount) : Type 0 where
 -- a section is open while its depth isn't 0
 pub record DepthAgrees (begin : Option ℕ) (depth : ℕ) : Type 0 where
   pub outside : (begin ≡ None) ↔ (depth ≡ 0)
-  pub most : depth ≤ 255
+  pub most : depth ≤ MOST_DEPTH
 
 -- The word is even outside and odd inside; each section that this CPU has begun, an open one among them, is within the limit.
 pub record SectionAgrees (a : Settings) (x : CpuView) (ended : ℕ) : Type 0 where

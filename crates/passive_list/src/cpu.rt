@@ -56,7 +56,7 @@ impl<D: Domain> Cpu<D> {
         self.plain.id()
     }
 
-    /// How many enters are open: 0 outside, at most 255. `own` is what every CPU keeps of itself: some state shows its view, and there its open
+    /// How many enters are open: 0 outside, at most `MOST_DEPTH`. `own` is what every CPU keeps of itself: some state shows its view, and there its open
     /// section may hold the entry that it found last, which has its slot.
     pub fn depth(&self) -> u8
         ensures value { result ≡ self.now.depth }

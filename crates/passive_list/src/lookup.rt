@@ -11,10 +11,12 @@ use crate::cpu::Cpu;
 use crate::place::Found;
 use crate::plain_cpu::PlainCpu;
 use cpu_words::{CpuSeat, Domain, Words, steps};
-use registry_values::{Entry, Key, Kind, MOST_CPUS, MOST_SLOTS, Name, Record, are_words_of};
+use registry_values::{
+    Entry, Key, Kind, MOST_CHANGES, MOST_CPUS, MOST_SLOTS, Name, Record, are_words_of,
+};
 
 /// Above every number that an entry can have.
-const ABOVE_ALL: u64 = 1_000_001;
+const ABOVE_ALL: u64 = MOST_CHANGES + 1;
 
 /// Looks an entry up by its kind and name, and keeps the answer as the last found entry: `None` clears it. The answer is the registry's
 /// at some point from what this CPU had seen at the call to what it has seen at the return; a found entry keeps its slot until this

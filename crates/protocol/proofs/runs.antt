@@ -1,6 +1,7 @@
 pub mod Answers
 pub mod Balance
 pub mod Drivers
+pub mod Fresh
 pub mod Grace
 pub mod Headline
 pub mod Reuse

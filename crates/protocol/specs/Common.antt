@@ -35,7 +35,7 @@ pub use Rattle.protocol.specs.Invariant.{SnapshotsStand, StandsOn, To_end, To_en
 pub use Rattle.protocol.specs.Invariant.{subtraction_due_at}
 pub use Rattle.protocol.specs.Laws.{AnswersLawfully, BalanceAtRest, BalancesAtRest, DriversOutlive, EndsByExit, EveryRunKeeps, GraceLaw, HasBegun, HasExit, HasMoved, Headline, InvariantSuffices}
 pub use Rattle.protocol.specs.Laws.{IsAllowed, IsAnswered, IsBalanced, IsLoadOf, IsSafe, LawfulAnswers, ObeysLaws, OutliveInterfaces, ReusesSafely, SafeReuse, after, after_event, answer_of}
-pub use Rattle.protocol.specs.Laws.{destroyed_slot, given_slot, held_of, occupant_of}
+pub use Rattle.protocol.specs.Laws.{AnswersFreshly, FreshAnswers, IsFreshAnswer, IsNoSeek, SeeksNone, SeesAll, WholePasses, destroyed_slot, given_slot, held_of, occupant_of, seek_for}
 pub use Rattle.protocol.specs.Loaded.{SlotWithin, entry_with, loaded_at, loaded_of_name, row_of_place}
 pub use Rattle.protocol.specs.Marking.{AllClear, AllCollected, AllPassed, MarksGrow, SameElsewhere}
 pub use Rattle.protocol.specs.Model.{Acquires, Answers, Attaches, Copies, Counts, Detaches, Enters, Exits, Gives_up, Goes_on, IsDriverHere, IsModelRun, IsModelStep, IsUnheld, Lookup, Model, Releases}

@@ -1,6 +1,6 @@
 -- The core invariant: what holds in every state that events reach. Each clause takes just the lists that it speaks of, so an event passes on what it leaves alone.
 use Rattle.std.specs.Prelude.{◌≡◌, ℕ, zero, suc, ◌+◌, ◌*◌, ◌<◌, ◌≤◌, ◌%◌, ◌⊎◌, List, [], length, sum_by, Option, Some, None, Bool, true, false, IsTrue, ◌==◌, if◌then◌else◌, slice_index_or}
-use Rattle.protocol.specs.Types.{Driver, Entry, Change, Settings, MOST_CPUS, Key, Slot, Vacant, Live, Retired, Mark}
+use Rattle.protocol.specs.Types.{Driver, Entry, Change, Settings, MOST_COUNT, MOST_CPUS, MOST_DEPTH, Key, Slot, Vacant, Live, Retired, Mark}
 use Rattle.protocol.specs.declared.state.RecordWords.{RecordWords}
 use Rattle.protocol.specs.declared.state.SearchPlace.{SearchPlace}
 use Rattle.protocol.specs.declared.state.SearchPlace.TheVariants.{AtHead, AtNext, AtNumber, AtKind, AtHigh, AtLow, AtValue}
@@ -100,7 +100,7 @@ SnapshotsStand cpus slots marks due = (t c : ℕ) (e : Entry) → slot_at slots 
 pub record SectionsShow (z : Settings) (h : List Change) (section : List ℕ) (begins : List (Option ℕ)) (depths seen : List ℕ) : Type 0 where
   pub outside : (c : ℕ) → slice_index_or begins c None ≡ None → (slice_index_or section c 0 % 2 ≡ 0) × (slice_index_or depths c 0 ≡ 0)
   pub inside : (c b : ℕ) → slice_index_or begins c None ≡ Some b → (slice_index_or section c 0 % 2 ≡ 1) × (1 ≤ slice_index_or depths c 0)
-  pub deep : (c : ℕ) → slice_index_or depths c 0 ≤ 255
+  pub deep : (c : ℕ) → slice_index_or depths c 0 ≤ MOST_DEPTH
   pub begun : (c b : ℕ) → slice_index_or begins c None ≡ Some b → b ≤ slice_index_or seen c 0
   pub prefix : (c : ℕ) → slice_index_or seen c 0 ≤ length h
   pub limited : (c : ℕ) → slice_index_or section c 0 ≤ 2 * z.section_limit
@@ -205,7 +205,7 @@ itself w = w
 
 -- no count's limit is above it
 abbrev pub greatest_limit : ℕ
-greatest_limit = 1099511627776
+greatest_limit = MOST_COUNT
 
 -- the words of all CPUs, the total and what is to be added, less their biases, are the references held
 pub record Balances (row : List ℕ) (total held adding is_adding : ℕ) : Type 0 where

@@ -1,14 +1,15 @@
 -- The laws of the core, over every list of events.
+use Rattle.std.specs.List.{AllByRecursion}
 use Rattle.std.specs.Prelude.{◌≡◌, ℕ, suc, ◌+◌, ◌*◌, ◌%◌, ◌<◌, ◌≤◌, ◌⊎◌, IsTrue, IsSome, List, [], ◌∷◌, ◌++◌, length, sum_by, Option, Some, None, true, slice_index_or}
-use Rattle.protocol.specs.Types.{Iface, Driver, Entry, Change, Settings}
+use Rattle.protocol.specs.Types.{Iface, Driver, Entry, Change, Settings, Key}
 use Rattle.protocol.specs.declared.event.Event.{Event}
-use Rattle.protocol.specs.declared.event.Event.TheVariants.{Exit, Seek, LoadLink, LoadRecord, StoreSlot, StoreNext, Publish, Keep, KeptSub, Vacate}
+use Rattle.protocol.specs.declared.event.Event.TheVariants.{Enter, Exit, Hear, Seek, LoadLink, LoadRecord, StoreSlot, StoreNext, Publish, Keep, KeptSub, Vacate}
 use Rattle.protocol.specs.declared.event.RecordOf.TheVariants.{Search as OfSearch}
 use Rattle.protocol.specs.declared.event.Reply.{Reply}
 use Rattle.protocol.specs.declared.event.Reply.TheVariants.{Done, Word, Found, Missed, Ref, Collected}
 use Rattle.protocol.specs.declared.state.Search.{Search}
-use Rattle.registry_values.specs.Common.{are_fit, bias, slot_at}
-use Rattle.protocol.specs.History.{IsAttached, EndsAt, IsLawful}
+use Rattle.registry_values.specs.Common.{are_fit, bias, key_of, slot_at}
+use Rattle.protocol.specs.History.{IsAttached, EndsAt, IsLiveAt, IsLawful}
 use Rattle.protocol.specs.State.{State, opening, section_at, begin_at, seen_at, search_at, count_at, total_at, kept_at, at_rest}
 use Rattle.protocol.specs.Events.{Outcome, step, state_after}
 use Rattle.protocol.specs.Invariant.{Holds, IsIn, IsCounting, kept_of, held_at, one_if_used, itself}
@@ -130,6 +131,46 @@ pub record AnswersLawfully (s : State) : Type 0 where
 abbrev pub LawfulAnswers : Type 0
 LawfulAnswers = Always AnswersLawfully
 
+-- Fresh lookups (pserialize(9)): what a search answers, by the history as its Seek was made, however old the pass of its CPU was
+
+abbrev pub seek_for : ℕ → Key → Event
+seek_for c key = Seek c key.kind key.name
+
+-- the event doesn't begin a search of the CPU c
+abbrev pub IsNoSeek : ℕ → Event → Type 0
+IsNoSeek c e = (key : Key) → e ≡ seek_for c key → ⊥
+
+-- by none of these events the CPU c began a search
+abbrev pub SeeksNone : ℕ → List Event → Type 0
+SeeksNone c events = AllByRecursion (IsNoSeek c) events
+
+-- The history was `old` as the search began, is `new` now, and the CPU has seen `seen` of it.
+pub record IsFreshAnswer (old new : List Change) (seen : ℕ) (key : Key) (answer : Option Entry) : Type 0 where
+  -- the answer is the registry's at some point from the begin of the search to the end of the CPU's pass
+  pub lawful : IsLawful new (length old) seen key answer
+  -- an entry with the key that was live as the search began, and isn't detached yet, is the answer
+  pub met : (e : Entry) → IsLiveAt old (length old) e → key_of e ≡ key → ((p : ℕ) → EndsAt new e.number p → ⊥) → answer ≡ Some e
+  -- one that was detached before the search began isn't
+  pub left : (e : Entry) (p : ℕ) → EndsAt old e.number p → answer ≡ Some e → ⊥
+
+-- A search for the key was begun in s by a Seek of c, and c has begun no other since: what a load of it replies is fresh.
+abbrev pub AnswersFreshly : State → Type 0
+AnswersFreshly s = (c : ℕ) (key : Key) (since : List Event) (event : Event) (o : Outcome) (answer : Option Entry) → IsAllowed s (seek_for c key) → SeeksNone c since → IsLoadOf c event
+    → step (after (after_event s (seek_for c key)) since) event ≡ Some o → answer_of o.reply ≡ Some answer → IsFreshAnswer s.history o.state.history (seen_at o.state c) key answer
+
+-- a CPU that has just entered a section, or heard a note, has seen the whole history
+pub record SeesAll (s : State) : Type 0 where
+  pub entered : (c : ℕ) → IsAllowed s (Enter c) → seen_at (after_event s (Enter c)) c ≡ length s.history
+  pub heard : (c : ℕ) → IsAllowed s (Hear (Some c)) → seen_at (after_event s (Hear (Some c))) c ≡ length s.history
+
+-- each answer of a lookup is fresh
+abbrev pub FreshAnswers : Type 0
+FreshAnswers = Always AnswersFreshly
+
+-- and a pass is whole as a section begins, and as a note is heard
+abbrev pub WholePasses : Type 0
+WholePasses = Always SeesAll
+
 -- Balance
 
 -- the sum of a slot's count words, and how many of them aren't collected; a collected one is 0
@@ -208,6 +249,8 @@ pub record ObeysLaws (s : State) : Type 0 where
   pub reuse : ReusesSafely s
   pub drivers : OutliveInterfaces s
   pub answers : AnswersLawfully s
+  pub fresh : AnswersFreshly s
+  pub whole : SeesAll s
   pub balance : at_rest s.due ≡ true → BalancesAtRest s
   pub grace : EndsByExit s
   -- the invariant goes on, and so does the run of the model

@@ -1,7 +1,7 @@
 //! The laws of the core, over every list of events and of every state with the core invariant: functions that do nothing, whose contracts are
 //! the laws.
 
-ghost use Rattle.protocol.specs.Laws.{BalanceAtRest, DriversOutlive, EveryRunKeeps, GraceLaw, Headline, InvariantSuffices, LawfulAnswers, SafeReuse};
+ghost use Rattle.protocol.specs.Laws.{BalanceAtRest, DriversOutlive, EveryRunKeeps, FreshAnswers, GraceLaw, Headline, InvariantSuffices, LawfulAnswers, SafeReuse, WholePasses};
 ghost use Rattle.protocol.specs.Picture.{EveryRunIsModelRun};
 ghost use Rattle.protocol.specs.Rows.{CollectRace, FrozenLink};
 
@@ -32,6 +32,15 @@ pub fn safe_reuse()
 /// to the CPU's new pass.
 pub fn lawful_answers()
     ensures { LawfulAnswers }
+{}
+
+/// Does nothing; its contract says what an answer has to do with the history as its search began. `fresh`: it is the registry's at some point
+/// from the length of the history at the search's Seek on, to the CPU's new pass, even where the CPU's pass was older. So an entry that was live
+/// at the Seek and isn't detached yet is found, and one that was detached before the Seek isn't. `whole`: a CPU that has just entered a section,
+/// or heard a note, has seen the whole history.
+pub fn fresh_answers()
+    ensures fresh { FreshAnswers }
+    ensures whole { WholePasses }
 {}
 
 /// Does nothing; its contract says that at rest the balance of each slot is its local references held.

@@ -7,25 +7,19 @@ use bench_plans::Failure;
 use cpu_words::Domain;
 use name_registry::Registry;
 use passive_list::Cpu;
-use registry_values::{Kind, Name, Record, Settings};
+use registry_values::{Kind, MOST_CHANGES, MOST_COUNT, MOST_SECTIONS, Name, Record, Settings};
 use std::alloc::Global;
 use std::sync::Wait;
-
-/// How often a CPU may do a thing: more often than is ever measured.
-const OFTEN: u64 = 1 << 40;
-
-/// The most attaches and detaches that a registry may have.
-const CHANGES: u64 = 1_000_000;
 
 /// The settings of a registry with so many CPUs and slots.
 pub fn settings_for(cpus: u8, slots: u8) -> Settings {
     Settings {
         cpus,
         slots,
-        change_limit: CHANGES,
-        section_limit: OFTEN,
-        passive_limit: OFTEN,
-        count_limit: OFTEN,
+        change_limit: MOST_CHANGES,
+        section_limit: MOST_SECTIONS,
+        passive_limit: MOST_COUNT,
+        count_limit: MOST_COUNT,
     }
 }
 

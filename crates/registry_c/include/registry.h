@@ -27,6 +27,11 @@
  * pointer is then left as it was, unless the call says what it writes. Numbers 1 to 19 are the registry's refusals, those from 64 this
  * header's. Each call names the refusals that it answers in the order in which it tests them.
  *
+ * WHAT IS PROVED
+ *
+ * Each call is an export of a proved library, except four: registry_strerror, registry_name_format, registry_close and registry_acquire_entry. These
+ * are C over the others, tested and not proved.
+ *
  * NULL
  *
  * A pointer to a handle is never NULL. One beside its length, `bytes`, `text`, `cpus`, `row` and `list`, may be NULL where the length is 0, and
@@ -87,8 +92,23 @@ extern "C" {
 #define REGISTRY_MOST_COUNT	((uint64_t)1 << 40)
 #define REGISTRY_MOST_DEPTH	255
 #define REGISTRY_NAME_BYTES	15
+#define REGISTRY_NAME_ROOM	(REGISTRY_NAME_BYTES + 1)	/* a name's text and its zero byte */
 
-/* What a call answers. */
+/*
+ * What a compiler is told of a call: that its caller looks at what it returns, and which pointers are never NULL, by their places. A call without
+ * REGISTRY_CHECKED is refused only where its caller breaks a rule, as an exit outside a section, or where its answer may be passed over.
+ */
+#if defined(__GNUC__)
+#define REGISTRY_CHECKED	__attribute__((warn_unused_result))
+#define REGISTRY_NONNULL(...)	__attribute__((nonnull(__VA_ARGS__)))
+#else
+#define REGISTRY_CHECKED
+#define REGISTRY_NONNULL(...)
+#endif
+
+/* What a call answers: one of these numbers. */
+typedef uint32_t registry_answer;
+
 enum {
 	REGISTRY_DONE = 0,
 	REGISTRY_NO_MEMORY = 1,
@@ -140,7 +160,7 @@ enum {
 	REGISTRY_FREED = 3	/* nothing: this slot is vacant again */
 };
 
-/* The handles. */
+/* The handles. A call that takes one as const leaves it as it is; one call at a time uses it all the same. */
 struct registry_keeper { void *at; };
 struct registry_cpu { void *at; };
 struct registry_local { void *at; };
@@ -204,7 +224,7 @@ struct registry_wait {
  * Answers REGISTRY_NULL where `bytes` is NULL and `length` isn't 0, REGISTRY_NAME_EMPTY, REGISTRY_NAME_TOO_LONG, or REGISTRY_NAME_BAD_BYTE, and
  * then writes its place, from 0, to `place`; else `place` is left as it was. `name` and `place` may be NULL: the bytes are judged all the same.
  */
-uint32_t registry_name_parse(const uint8_t *bytes, size_t length, struct registry_name *name, uint64_t *place);
+registry_answer registry_name_parse(const char *bytes, size_t length, struct registry_name *name, uint64_t *place) REGISTRY_CHECKED;
 
 /*
  * registry_text - what an answer says, in English
@@ -212,7 +232,23 @@ uint32_t registry_name_parse(const uint8_t *bytes, size_t length, struct registr
  * Writes the text and a zero byte to `text`, cut to `room` bytes; with no room it writes nothing. It answers how long the whole text is,
  * without the zero; 0 for a number that no call answers, as REGISTRY_WRONG_CPU. Where `text` is NULL it writes nothing, whatever `room` is.
  */
-size_t registry_text(uint32_t answer, uint8_t *text, size_t room);
+size_t registry_text(registry_answer answer, char *text, size_t room);
+
+/*
+ * registry_strerror - what an answer says, in English, as a string that stays for good
+ *
+ * It is the text of registry_text; for a number that no call answers it is "no call answers this". It is never NULL, and never written to.
+ * C over registry_text: tested, not proved.
+ */
+const char *registry_strerror(registry_answer answer);
+
+/*
+ * registry_name_format - the bytes of a name, and a zero byte, in `text`
+ *
+ * REGISTRY_NAME_ROOM bytes are always enough. The text is never cut. What registry_name_parse makes of it is the name again. C: tested, not proved.
+ * Answers REGISTRY_NULL where `name` is NULL, or `text` is and `room` isn't 0, REGISTRY_BAD_NAME, REGISTRY_NO_ROOM.
+ */
+registry_answer registry_name_format(const struct registry_name *name, char *text, size_t room) REGISTRY_CHECKED;
 
 /* ---- Opening and closing. ---- */
 
@@ -223,8 +259,8 @@ size_t registry_text(uint32_t answer, uint8_t *text, size_t room);
  * Answers REGISTRY_NULL where `settings` is NULL, or `cpus` is and `count` isn't 0, REGISTRY_BAD_SETTINGS, REGISTRY_MISSING_CPU where `count` is
  * another number, REGISTRY_FULL_HANDLE, REGISTRY_NO_MEMORY.
  */
-uint32_t registry_open(const struct registry_settings *settings, struct registry_keeper *keeper,
-    struct registry_cpu *cpus, size_t count);
+registry_answer registry_open(const struct registry_settings *settings, struct registry_keeper *keeper,
+    struct registry_cpu *cpus, size_t count) REGISTRY_NONNULL(2) REGISTRY_CHECKED;
 
 /*
  * registry_close_cpu - give a CPU up
@@ -232,14 +268,23 @@ uint32_t registry_open(const struct registry_settings *settings, struct registry
  * What it still refers to passively stays held: its entries are never freed. A registry may be closed in any order.
  * Answers REGISTRY_EMPTY_HANDLE, REGISTRY_INSIDE.
  */
-uint32_t registry_close_cpu(struct registry_cpu *cpu);
+registry_answer registry_close_cpu(struct registry_cpu *cpu) REGISTRY_NONNULL(1);
 
 /*
  * registry_close_keeper - give the keeper up: nothing is attached or detached any more
  *
  * Answers REGISTRY_EMPTY_HANDLE.
  */
-uint32_t registry_close_keeper(struct registry_keeper *keeper);
+registry_answer registry_close_keeper(struct registry_keeper *keeper) REGISTRY_NONNULL(1);
+
+/*
+ * registry_close - close so many CPUs and the keeper, all or none
+ *
+ * No other thread uses the registry. A handle that is empty already is passed over: so the call serves after an opening that was refused, and twice.
+ * What a CPU still refers to stays held, as with registry_close_cpu. C over these calls: tested, not proved.
+ * Answers REGISTRY_NULL where `cpus` is NULL and `count` isn't 0, and REGISTRY_INSIDE where a CPU is inside: nothing is closed then.
+ */
+registry_answer registry_close(struct registry_cpu *cpus, size_t count, struct registry_keeper *keeper) REGISTRY_NONNULL(3);
 
 /*
  * registry_settings_of - what the registry was opened with
@@ -247,7 +292,7 @@ uint32_t registry_close_keeper(struct registry_keeper *keeper);
  * `settings` may be NULL.
  * Answers REGISTRY_EMPTY_HANDLE.
  */
-uint32_t registry_settings_of(struct registry_keeper *keeper, struct registry_settings *settings);
+registry_answer registry_settings_of(const struct registry_keeper *keeper, struct registry_settings *settings) REGISTRY_NONNULL(1);
 
 /* ---- Sections and lookups: pserialize(9). The caller runs on the CPU. ---- */
 
@@ -256,7 +301,7 @@ uint32_t registry_settings_of(struct registry_keeper *keeper, struct registry_se
  *
  * Answers REGISTRY_EMPTY_HANDLE, REGISTRY_TOO_DEEP, REGISTRY_SECTIONS_SPENT.
  */
-uint32_t registry_enter(struct registry_cpu *cpu);
+registry_answer registry_enter(struct registry_cpu *cpu) REGISTRY_NONNULL(1) REGISTRY_CHECKED;
 
 /*
  * registry_exit - exit the section, or one nesting of it
@@ -264,7 +309,7 @@ uint32_t registry_enter(struct registry_cpu *cpu);
  * The exit that ends it clears the last found entry.
  * Answers REGISTRY_EMPTY_HANDLE, REGISTRY_OUTSIDE.
  */
-uint32_t registry_exit(struct registry_cpu *cpu);
+registry_answer registry_exit(struct registry_cpu *cpu) REGISTRY_NONNULL(1);
 
 /*
  * registry_inside - whether the CPU is inside a section
@@ -272,7 +317,7 @@ uint32_t registry_exit(struct registry_cpu *cpu);
  * `inside` may be NULL.
  * Answers REGISTRY_EMPTY_HANDLE.
  */
-uint32_t registry_inside(struct registry_cpu *cpu, bool *inside);
+registry_answer registry_inside(const struct registry_cpu *cpu, bool *inside) REGISTRY_NONNULL(1);
 
 /*
  * registry_depth - how many enters are open, 0 to 255
@@ -280,7 +325,7 @@ uint32_t registry_inside(struct registry_cpu *cpu, bool *inside);
  * `depth` may be NULL.
  * Answers REGISTRY_EMPTY_HANDLE.
  */
-uint32_t registry_depth(struct registry_cpu *cpu, uint64_t *depth);
+registry_answer registry_depth(const struct registry_cpu *cpu, uint64_t *depth) REGISTRY_NONNULL(1);
 
 /*
  * registry_find - look an entry up by its kind and name, in a section
@@ -291,7 +336,8 @@ uint32_t registry_depth(struct registry_cpu *cpu, uint64_t *depth);
  * Answers REGISTRY_EMPTY_HANDLE, REGISTRY_NULL where `name` is NULL, REGISTRY_BAD_KIND, REGISTRY_OUTSIDE, and REGISTRY_NOT_FOUND where no live
  * entry has both, as none has two words that no name has: the last found entry is cleared then.
  */
-uint32_t registry_find(struct registry_cpu *cpu, uint64_t kind, const struct registry_name *name, struct registry_entry *found);
+registry_answer registry_find(struct registry_cpu *cpu, uint64_t kind, const struct registry_name *name, struct registry_entry *found)
+    REGISTRY_NONNULL(1) REGISTRY_CHECKED;
 
 /*
  * registry_walk - all live entries, the newest first, in a section
@@ -299,11 +345,12 @@ uint32_t registry_find(struct registry_cpu *cpu, uint64_t kind, const struct reg
  * They are written to the first places of `row`, which has `room`, and how many they are to `count`; the places past them stay. Each entry that
  * is live from the start of the call to its end is there, once; each that is there was live at some point in between, and keeps its slot until
  * the section ends. One that is attached or detached meanwhile may be there or not. REGISTRY_MOST_SLOTS places are enough. `count` may be NULL.
- * The last found entry is cleared. It takes no lock, waits for nobody, writes no shared word and takes no memory of the heap.
+ * The last found entry is cleared: registry_acquire_entry acquires a reference to one that was met. It takes no lock, waits for nobody, writes no
+ * shared word and takes no memory of the heap.
  * Answers REGISTRY_EMPTY_HANDLE, REGISTRY_NULL where `row` is NULL and `room` isn't 0, REGISTRY_OUTSIDE, and REGISTRY_NO_ROOM where there are
  * more than `room`: `count` says how many, and no entry is written.
  */
-uint32_t registry_walk(struct registry_cpu *cpu, struct registry_entry *row, size_t room, size_t *count);
+registry_answer registry_walk(struct registry_cpu *cpu, struct registry_entry *row, size_t room, size_t *count) REGISTRY_NONNULL(1) REGISTRY_CHECKED;
 
 /* ---- Passive references: psref(9). The caller runs on the CPU. ---- */
 
@@ -314,7 +361,19 @@ uint32_t registry_walk(struct registry_cpu *cpu, struct registry_entry *row, siz
  * last found entry.
  * Answers REGISTRY_EMPTY_HANDLE, REGISTRY_NOTHING_FOUND, REGISTRY_PASSIVE_FULL.
  */
-uint32_t registry_acquire(struct registry_cpu *cpu, uint64_t *number);
+registry_answer registry_acquire(struct registry_cpu *cpu, uint64_t *number) REGISTRY_NONNULL(1) REGISTRY_CHECKED;
+
+/*
+ * registry_acquire_entry - acquire a passive reference to an entry that a walk or a find has written, in the open section
+ *
+ * The reference is the number in `entry`, as registry_acquire's is. Where this CPU refers to the entry already, one more is acquired, even
+ * where the entry is retired; what was found last stays then. Else the entry is looked up by its kind and name, and is the last found one if it has
+ * the same number. It needn't have been found in this section. C over these calls: tested, not proved.
+ * Answers REGISTRY_EMPTY_HANDLE, REGISTRY_NULL where `entry` is NULL, REGISTRY_OUTSIDE, REGISTRY_PASSIVE_FULL, REGISTRY_BAD_KIND, and REGISTRY_NOT_FOUND
+ * where it isn't live any more, whether or not another entry has its kind and name: the last found entry is cleared then. A refusal acquires nothing,
+ * and the CPU is as deep inside as before.
+ */
+registry_answer registry_acquire_entry(struct registry_cpu *cpu, const struct registry_entry *entry) REGISTRY_NONNULL(1) REGISTRY_CHECKED;
 
 /*
  * registry_copy - acquire one more to an entry that this CPU refers to; each is released by itself
@@ -322,7 +381,7 @@ uint32_t registry_acquire(struct registry_cpu *cpu, uint64_t *number);
  * It needs no section.
  * Answers REGISTRY_EMPTY_HANDLE, REGISTRY_NOT_HELD, REGISTRY_PASSIVE_FULL.
  */
-uint32_t registry_copy(struct registry_cpu *cpu, uint64_t number);
+registry_answer registry_copy(struct registry_cpu *cpu, uint64_t number) REGISTRY_NONNULL(1) REGISTRY_CHECKED;
 
 /*
  * registry_held - whether this CPU holds a passive reference to the entry with that number
@@ -330,7 +389,7 @@ uint32_t registry_copy(struct registry_cpu *cpu, uint64_t number);
  * `held` may be NULL.
  * Answers REGISTRY_EMPTY_HANDLE.
  */
-uint32_t registry_held(struct registry_cpu *cpu, uint64_t number, bool *held);
+registry_answer registry_held(const struct registry_cpu *cpu, uint64_t number, bool *held) REGISTRY_NONNULL(1);
 
 /*
  * registry_read - the entry that this CPU refers to
@@ -338,7 +397,7 @@ uint32_t registry_held(struct registry_cpu *cpu, uint64_t number, bool *held);
  * It needs no section, and changes nothing. `entry` may be NULL.
  * Answers REGISTRY_EMPTY_HANDLE, REGISTRY_NOT_HELD.
  */
-uint32_t registry_read(struct registry_cpu *cpu, uint64_t number, struct registry_entry *entry);
+registry_answer registry_read(const struct registry_cpu *cpu, uint64_t number, struct registry_entry *entry) REGISTRY_NONNULL(1);
 
 /*
  * registry_release - release a passive reference, on the CPU that acquired it
@@ -346,7 +405,7 @@ uint32_t registry_read(struct registry_cpu *cpu, uint64_t number, struct registr
  * It needs no section.
  * Answers REGISTRY_EMPTY_HANDLE, REGISTRY_NOT_HELD.
  */
-uint32_t registry_release(struct registry_cpu *cpu, uint64_t number);
+registry_answer registry_release(struct registry_cpu *cpu, uint64_t number) REGISTRY_NONNULL(1);
 
 /* ---- The usual path in one call, in place of the calls that each names. The caller runs on the CPU. ---- */
 
@@ -362,7 +421,8 @@ uint32_t registry_release(struct registry_cpu *cpu, uint64_t number);
  * REGISTRY_NOT_FOUND: the last found entry is cleared then. After each answer the CPU is as deep inside as before. Outside, the section of each
  * call that none of the first three refuses counts, as one that registry_enter begins does.
  */
-uint32_t registry_look_up(struct registry_cpu *cpu, uint64_t kind, const struct registry_name *name, struct registry_entry *found);
+registry_answer registry_look_up(struct registry_cpu *cpu, uint64_t kind, const struct registry_name *name, struct registry_entry *found)
+    REGISTRY_NONNULL(1) REGISTRY_CHECKED;
 
 /*
  * registry_get - enter, find, acquire and exit: a passive reference to the live entry with this kind and name
@@ -374,7 +434,8 @@ uint32_t registry_look_up(struct registry_cpu *cpu, uint64_t kind, const struct 
  * Answers as registry_look_up, and then REGISTRY_PASSIVE_FULL: the CPU has no reference more than before, but inside an open section the entry is its
  * last found one. After each answer the CPU is as deep inside as before, and outside the call's section counts, as registry_look_up's does.
  */
-uint32_t registry_get(struct registry_cpu *cpu, uint64_t kind, const struct registry_name *name, struct registry_entry *found);
+registry_answer registry_get(struct registry_cpu *cpu, uint64_t kind, const struct registry_name *name, struct registry_entry *found)
+    REGISTRY_NONNULL(1) REGISTRY_CHECKED;
 
 /*
  * registry_enter_find - enter and find: a section with the live entry of this kind and name in it
@@ -385,7 +446,8 @@ uint32_t registry_get(struct registry_cpu *cpu, uint64_t kind, const struct regi
  * Answers as registry_look_up. A refusal leaves the CPU as deep inside as before, and has no exit; outside, the call's section counts then as
  * registry_look_up's does.
  */
-uint32_t registry_enter_find(struct registry_cpu *cpu, uint64_t kind, const struct registry_name *name, struct registry_entry *found);
+registry_answer registry_enter_find(struct registry_cpu *cpu, uint64_t kind, const struct registry_name *name, struct registry_entry *found)
+    REGISTRY_NONNULL(1) REGISTRY_CHECKED;
 
 /* ---- Local references: localcount(9). The caller runs on the CPU, and holds the local handle. ---- */
 
@@ -395,12 +457,14 @@ uint32_t registry_enter_find(struct registry_cpu *cpu, uint64_t kind, const stru
  * The local handle is empty before. The reference outlives the section and may go to another thread.
  * It takes a block of memory where the CPU keeps none. A CPU keeps one: that of a reference which was released on it, or which an interface was
  * attached on with it. Where it keeps one the call isn't refused memory. The block that a CPU keeps is freed as the CPU is closed.
+ * A refused call may take a block, too. Where the CPU keeps none, a call that answers REGISTRY_NOTHING_FOUND or REGISTRY_LOCAL_FULL may leave it
+ * with one of 64 bytes: the next acquire on that CPU uses it. Without memory for it these two answers are the same, and no block is kept.
  * A CPU's count is what it acquired less what it released, of each entry: what others release, or interfaces give up, doesn't lower it. So where
  * references go one way only, acquired here and let go elsewhere, it comes to count_limit in the end, with nothing held.
  * Answers REGISTRY_EMPTY_HANDLE for the CPU's, REGISTRY_FULL_HANDLE for the local one, REGISTRY_NOTHING_FOUND, REGISTRY_LOCAL_FULL,
  * REGISTRY_NO_MEMORY.
  */
-uint32_t registry_local_acquire(struct registry_cpu *cpu, struct registry_local *local);
+registry_answer registry_local_acquire(struct registry_cpu *cpu, struct registry_local *local) REGISTRY_NONNULL(1, 2) REGISTRY_CHECKED;
 
 /*
  * registry_local_read - the entry that the reference is to, just as it was attached
@@ -408,7 +472,7 @@ uint32_t registry_local_acquire(struct registry_cpu *cpu, struct registry_local 
  * `entry` may be NULL.
  * Answers REGISTRY_EMPTY_HANDLE.
  */
-uint32_t registry_local_read(struct registry_local *local, struct registry_entry *entry);
+registry_answer registry_local_read(const struct registry_local *local, struct registry_entry *entry) REGISTRY_NONNULL(1);
 
 /*
  * registry_local_release - release it on this CPU, which needn't be the one that acquired it; its handle is empty then
@@ -416,7 +480,7 @@ uint32_t registry_local_read(struct registry_local *local, struct registry_entry
  * Answers REGISTRY_EMPTY_HANDLE for either handle, and REGISTRY_COLLECTED where the keeper has collected this
  * CPU's count for a drain: the caller takes the interlock and calls registry_local_give_up.
  */
-uint32_t registry_local_release(struct registry_cpu *cpu, struct registry_local *local);
+registry_answer registry_local_release(struct registry_cpu *cpu, struct registry_local *local) REGISTRY_NONNULL(1, 2) REGISTRY_CHECKED;
 
 /*
  * registry_local_give_up - release it under the interlock, where a count of its entry was collected; its handle is empty then
@@ -424,7 +488,7 @@ uint32_t registry_local_release(struct registry_cpu *cpu, struct registry_local 
  * Answers REGISTRY_EMPTY_HANDLE for either handle, REGISTRY_NOT_COLLECTED; never the latter of a reference for which a release has answered
  * REGISTRY_COLLECTED.
  */
-uint32_t registry_local_give_up(struct registry_keeper *keeper, struct registry_local *local);
+registry_answer registry_local_give_up(struct registry_keeper *keeper, struct registry_local *local) REGISTRY_NONNULL(1, 2) REGISTRY_CHECKED;
 
 /*
  * registry_local_forget - let go of the handle and leave the reference held, for good; its handle is empty then
@@ -436,7 +500,7 @@ uint32_t registry_local_give_up(struct registry_keeper *keeper, struct registry_
  * acquired it.
  * Answers REGISTRY_EMPTY_HANDLE.
  */
-uint32_t registry_local_forget(struct registry_local *local);
+registry_answer registry_local_forget(struct registry_local *local) REGISTRY_NONNULL(1);
 
 /* ---- Changes. The caller holds the interlock, and runs on the CPU, which has seen the change then. ---- */
 
@@ -450,8 +514,8 @@ uint32_t registry_local_forget(struct registry_local *local);
  * Answers REGISTRY_EMPTY_HANDLE for either handle, REGISTRY_NULL where `name` is NULL, REGISTRY_BAD_NAME, REGISTRY_INSIDE,
  * REGISTRY_NAME_TAKEN, REGISTRY_NO_SLOT, REGISTRY_HISTORY_FULL.
  */
-uint32_t registry_attach(struct registry_keeper *keeper, struct registry_cpu *cpu, const struct registry_name *name, uint64_t value,
-    struct registry_entry *made);
+registry_answer registry_attach(struct registry_keeper *keeper, struct registry_cpu *cpu, const struct registry_name *name, uint64_t value,
+    struct registry_entry *made) REGISTRY_NONNULL(1, 2) REGISTRY_CHECKED;
 
 /*
  * registry_attach_iface - attach an interface, on the driver that the local reference is to
@@ -461,8 +525,8 @@ uint32_t registry_attach(struct registry_keeper *keeper, struct registry_cpu *cp
  * Answers REGISTRY_EMPTY_HANDLE for any of the handles, REGISTRY_NULL where `name` is NULL, REGISTRY_BAD_NAME, REGISTRY_INSIDE,
  * REGISTRY_NEEDS_DRIVER where the reference is to an interface, REGISTRY_NAME_TAKEN, REGISTRY_NO_SLOT, REGISTRY_HISTORY_FULL.
  */
-uint32_t registry_attach_iface(struct registry_keeper *keeper, struct registry_cpu *cpu, struct registry_local *driver,
-    const struct registry_name *name, uint64_t value, struct registry_entry *made);
+registry_answer registry_attach_iface(struct registry_keeper *keeper, struct registry_cpu *cpu, struct registry_local *driver,
+    const struct registry_name *name, uint64_t value, struct registry_entry *made) REGISTRY_NONNULL(1, 2, 3) REGISTRY_CHECKED;
 
 /*
  * registry_detach - detach the live entry with this kind and name, which is written to `gone`
@@ -471,8 +535,8 @@ uint32_t registry_attach_iface(struct registry_keeper *keeper, struct registry_c
  * Answers REGISTRY_EMPTY_HANDLE for either handle, REGISTRY_NULL where `name` is NULL, REGISTRY_BAD_KIND, REGISTRY_BAD_NAME, REGISTRY_INSIDE,
  * REGISTRY_NOT_FOUND.
  */
-uint32_t registry_detach(struct registry_keeper *keeper, struct registry_cpu *cpu, uint64_t kind, const struct registry_name *name,
-    struct registry_entry *gone);
+registry_answer registry_detach(struct registry_keeper *keeper, struct registry_cpu *cpu, uint64_t kind, const struct registry_name *name,
+    struct registry_entry *gone) REGISTRY_NONNULL(1, 2) REGISTRY_CHECKED;
 
 /* ---- The work on retired entries. The caller holds the interlock for a turn, and gives it up between two. ---- */
 
@@ -484,7 +548,7 @@ uint32_t registry_detach(struct registry_keeper *keeper, struct registry_cpu *cp
  * the lesser comes first. `met` may be NULL: once the entry is freed, the next call with its number answers REGISTRY_NOT_RETIRED.
  * Answers REGISTRY_EMPTY_HANDLE, REGISTRY_NOT_RETIRED.
  */
-uint32_t registry_advance(struct registry_keeper *keeper, uint64_t number, struct registry_stage *met);
+registry_answer registry_advance(struct registry_keeper *keeper, uint64_t number, struct registry_stage *met) REGISTRY_NONNULL(1) REGISTRY_CHECKED;
 
 /*
  * registry_destroy - one turn of destroying it: done just where its slot is vacant again
@@ -495,7 +559,8 @@ uint32_t registry_advance(struct registry_keeper *keeper, uint64_t number, struc
  * Answers REGISTRY_EMPTY_HANDLE for either handle, REGISTRY_INSIDE, REGISTRY_NOT_RETIRED, REGISTRY_STILL_HELD, and then writes what holds it
  * to `met`. What the turn noted and collected stays, and the CPU has seen every change so far, whatever it answers but the first two.
  */
-uint32_t registry_destroy(struct registry_keeper *keeper, struct registry_cpu *cpu, uint64_t number, struct registry_stage *met);
+registry_answer registry_destroy(struct registry_keeper *keeper, struct registry_cpu *cpu, uint64_t number, struct registry_stage *met)
+    REGISTRY_NONNULL(1, 2) REGISTRY_CHECKED;
 
 /*
  * registry_perform_begin - begin to wait until each section that is open now has ended
@@ -505,7 +570,8 @@ uint32_t registry_destroy(struct registry_keeper *keeper, struct registry_cpu *c
  * the keeper first hears what the CPU has seen, and the CPU has seen every change so far after it. A wait may be begun again, done or not.
  * Answers REGISTRY_EMPTY_HANDLE for either handle, REGISTRY_NULL where `wait` is NULL, REGISTRY_INSIDE.
  */
-uint32_t registry_perform_begin(struct registry_keeper *keeper, struct registry_cpu *cpu, struct registry_wait *wait);
+registry_answer registry_perform_begin(struct registry_keeper *keeper, struct registry_cpu *cpu, struct registry_wait *wait)
+    REGISTRY_NONNULL(1, 2) REGISTRY_CHECKED;
 
 /*
  * registry_perform_turn - one turn of that wait: done just where all those sections were seen to have ended
@@ -522,7 +588,8 @@ uint32_t registry_perform_begin(struct registry_keeper *keeper, struct registry_
  * begun, whether or not the CPU is inside, REGISTRY_INSIDE, REGISTRY_WAITING, and then writes the least CPU that wasn't seen out of its section
  * to `waited`, which may be NULL.
  */
-uint32_t registry_perform_turn(struct registry_keeper *keeper, struct registry_cpu *cpu, struct registry_wait *wait, uint64_t *waited);
+registry_answer registry_perform_turn(struct registry_keeper *keeper, struct registry_cpu *cpu, struct registry_wait *wait, uint64_t *waited)
+    REGISTRY_NONNULL(1, 2) REGISTRY_CHECKED;
 
 /*
  * registry_audit - what the counts say of each live or retired entry, the least slot first
@@ -533,8 +600,8 @@ uint32_t registry_perform_turn(struct registry_keeper *keeper, struct registry_c
  * Answers REGISTRY_EMPTY_HANDLE for the keeper's, REGISTRY_NULL where `cpus` is NULL and `count` isn't 0 or `list` is and `room` isn't,
  * REGISTRY_MISSING_CPU where the handles aren't those of CPU 0, 1, .., all of them, REGISTRY_NO_ROOM.
  */
-uint32_t registry_audit(struct registry_keeper *keeper, struct registry_cpu *cpus, size_t count, struct registry_balance *list, size_t room,
-    size_t *length);
+registry_answer registry_audit(struct registry_keeper *keeper, struct registry_cpu *cpus, size_t count, struct registry_balance *list, size_t room,
+    size_t *length) REGISTRY_NONNULL(1) REGISTRY_CHECKED;
 
 #ifdef __cplusplus
 }

@@ -6,7 +6,9 @@ ghost use Rattle.registry_values.specs.Common.{is_lawful, name_of_bytes};
 ghost use Rattle.registry_storm.specs.Judging.{driver_entry, driver_record, iface_record, IsIfaceOf};
 ghost use Rattle.registry_storm.specs.Storms.{settings_of};
 
-use registry_values::{Entry, Kind, Name, Record, Refusal, Settings};
+use registry_values::{
+    Entry, Kind, MOST_CHANGES, MOST_COUNT, MOST_SECTIONS, Name, Record, Refusal, Settings,
+};
 
 /// How many slots the registry of a storm has.
 pub const SLOTS: u8 = 4;
@@ -121,9 +123,9 @@ pub fn settings_of(cpus: u8) -> Settings
     Settings {
         cpus,
         slots: SLOTS,
-        change_limit: 1_000_000,
-        section_limit: 1 << 40,
+        change_limit: MOST_CHANGES,
+        section_limit: MOST_SECTIONS,
         passive_limit: 4,
-        count_limit: 1 << 40,
+        count_limit: MOST_COUNT,
     }
 }

@@ -4,6 +4,7 @@ use Rattle.std.specs.List.{zip}
 use Rattle.registry_values.specs.declared.answer.Room.{Room}
 use Rattle.registry_values.specs.declared.entry.Entry.{Entry}
 use Rattle.registry_values.specs.declared.entry.Record.{Record}
+use Rattle.registry_values.specs.declared.limits.TheConstants.{MOST_DEPTH}
 use Rattle.registry_values.specs.declared.refusal.Refusal.{Refusal}
 use Rattle.registry_values.specs.declared.refusal.Refusal.TheVariants.{NameTaken, NoSlot, HistoryFull, Inside, NeedsDriver, TooDeep, SectionsSpent, PassiveFull, WrongCpu, NotHeld, LocalFull, NotFound}
 use Rattle.registry_values.specs.declared.refusal.Refusal.TheVariants.{Waiting}
@@ -50,9 +51,9 @@ detach_answer inside found = if inside then Err Inside else found_answer found
 
 -- Sections
 
--- refused at depth 255, and outside a section where the CPU may not begin one more
+-- refused at the largest depth, and outside a section where the CPU may not begin one more
 abbrev pub enter_answer : ℕ → Bool → Bool → Result (Unit {0}) Refusal
-enter_answer depth outside may_begin = if depth == 255 then Err TooDeep else (if outside && not may_begin then Err SectionsSpent else Ok tt)
+enter_answer depth outside may_begin = if depth == MOST_DEPTH then Err TooDeep else (if outside && not may_begin then Err SectionsSpent else Ok tt)
 
 -- Waiting
 

@@ -1,10 +1,11 @@
 -- What the counts of an entry say (localcount(9)).
 use Rattle.std.specs.Prelude.{ℕ, List, ◌==◌, ℤ, pos, ◌+ℤ◌, ◌-ℤ◌, fold, if◌then◌else◌}
 use Rattle.registry_values.specs.declared.balance.Balance.{Balance}
+use Rattle.registry_values.specs.declared.limits.TheConstants.{BIAS}
 
 -- a count of nothing
 abbrev pub bias : ℕ
-bias = 281474976710656
+bias = BIAS
 
 -- what is said of one entry
 pub record Tally : Type 0 where

@@ -4,10 +4,8 @@ ghost use Rattle.std.specs.Prelude.{◌≡◌, ◌<◌, nat_lt, IfOk, Ok, Some, 
 ghost use Rattle.registry_values.specs.Answers.{attach_answer, detach_answer, enter_answer, given_entry, has_room, wait_answer, why_full, why_uncounted, why_unusable};
 
 use crate::entry::{Entry, Record};
+use crate::limits::MOST_DEPTH;
 use crate::refusal::Refusal;
-
-/// How deep a section may be nested.
-const DEEPEST: u8 = 255;
 
 /// What an attach asks of the history.
 #[derive(Clone, Copy, Debug, PartialEq, Eq)]
@@ -87,13 +85,13 @@ pub fn detach_answer<T: Drop>(inside: bool, found: Option<T>) -> Result<T, Refus
     }
 }
 
-/// What an enter answers (pserialize(9)), on a CPU whose section has this depth. Refused, in this order: `TooDeep` where the depth is 255;
+/// What an enter answers (pserialize(9)), on a CPU whose section has this depth. Refused, in this order: `TooDeep` where the depth is `MOST_DEPTH`;
 /// `SectionsSpent` where a section would begin and the CPU may not begin one more.
 pub fn enter_answer(depth: u8, outside: bool, may_begin: bool) -> Result<(), Refusal>
     ensures value { result ≡ enter_answer depth outside may_begin }
-    ensures may { IfOk result (λ _. (depth < 255) × (outside ≡ true → may_begin ≡ true)) }
+    ensures may { IfOk result (λ _. (depth < MOST_DEPTH) × (outside ≡ true → may_begin ≡ true)) }
 {
-    if depth == DEEPEST {
+    if depth == MOST_DEPTH {
         return Err(Refusal::TooDeep);
     }
     if outside && !may_begin {

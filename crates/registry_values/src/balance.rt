@@ -3,12 +3,7 @@
 ghost use Rattle.std.specs.Prelude.{◌≡◌, ◌<◌, ◌≤◌, ◌*◌, ◌^◌, ◌≤ℤ◌, ℕ, neg_ℤ, pos, length, slice_index_or};
 ghost use Rattle.registry_values.specs.Balances.{less_bias, local_of, sum_of};
 
-use crate::settings::MOST_CPUS;
-
-/// Where counts begin: a count word in use is this plus the CPU's net count, and 0 once collected; a slot's total begins with it too. A CPU
-/// may release what another acquired, so a net count may be below 0, though never by more than 2^40 for each of `MOST_CPUS` CPUs. So a
-/// count word in use is never 0, and the sum of all CPUs' words and the total fits 64 bits.
-pub const BIAS: u64 = 1 << 48;
+use crate::limits::{BIAS, MOST_CPUS};
 
 /// The local references held to a live or retired entry (localcount(9)), as the counts say it.
 #[derive(Debug, Drop, PartialEq)]

@@ -5,6 +5,7 @@
 mod answer;
 mod balance;
 mod entry;
+mod limits;
 mod mark;
 mod name;
 mod refusal;
@@ -16,15 +17,18 @@ pub use answer::{
     Room, attach_answer, detach_answer, enter_answer, given_entry, has_room, waiting_for, why_full,
     why_uncounted, why_unusable,
 };
-pub use balance::{BIAS, Balance, less_bias, local_of, sum};
+pub use balance::{Balance, less_bias, local_of, sum};
 pub use entry::{Change, Entry, Kind, Record, is_iface, kind_word, record_from};
+pub use limits::{
+    BIAS, MOST_CHANGES, MOST_COUNT, MOST_CPUS, MOST_DEPTH, MOST_SECTIONS, MOST_SLOTS, limits_law,
+};
 pub use mark::{
     Mark, NO_MARK, are_clear, are_collected, cleared, collected, first_unseen, have_passed, is_out,
     is_some_collected, looked,
 };
 pub use name::{Name, NameFault, name_laws};
 pub use refusal::Refusal;
-pub use settings::{MOST_CPUS, MOST_SLOTS, Settings};
+pub use settings::Settings;
 pub use slot::{
     Key, Slot, are_words_of, has_number, is_available, is_live, is_live_as, is_retired_as, key_of,
     retired_number,

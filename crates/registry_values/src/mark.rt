@@ -4,7 +4,7 @@
 ghost use Rattle.std.specs.Prelude.{◌≡◌, ◌≤◌, false, not, slice_index_or};
 ghost use Rattle.registry_values.specs.Marks.{least_below, mark_after_look, mark_after_passive_look, mark_after_collect, is_out, has_changed, have_passed, are_clear, are_collected, is_some_collected};
 
-use crate::settings::MOST_CPUS;
+use crate::limits::MOST_CPUS;
 
 /// What is known of one CPU and a retired entry.
 #[derive(Clone, Copy, Debug, PartialEq, Eq)]

@@ -60,7 +60,7 @@ pub enum Refusal {
     /// The least CPU that wasn't seen out of its section.
     #[error("CPU {0} is still inside its section")]
     Waiting(u8),
-    /// The CPU's section has depth 255.
+    /// The CPU's section has depth `MOST_DEPTH`.
     #[error("this CPU's section is nested as deep as it may be")]
     TooDeep,
     /// An interface needs a reference to a driver.

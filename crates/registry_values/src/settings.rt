@@ -3,16 +3,8 @@
 ghost use Rattle.std.specs.Prelude.{◌≡◌, ◌↔◌, IsOk, IfErr, IsTrue};
 ghost use Rattle.registry_values.specs.Limits.{is_within, are_sizes_fit, are_limits_fit, are_fit};
 
+use crate::limits::{MOST_CHANGES, MOST_COUNT, MOST_CPUS, MOST_SECTIONS, MOST_SLOTS};
 use crate::refusal::Refusal;
-
-/// The most CPUs that a registry may have.
-pub const MOST_CPUS: usize = 8;
-
-/// The most entries that a registry may hold at a time, and so the most slots.
-pub const MOST_SLOTS: usize = 32;
-
-/// The largest limit that a count may have, 2^40.
-const LARGEST_LIMIT: u64 = 1 << 40;
 
 /// How large a registry is, and how far its counts may go. `check` tells whether they can be used.
 #[derive(Clone, Copy, Debug, PartialEq, Eq)]
@@ -21,13 +13,13 @@ pub struct Settings {
     pub cpus: u8,
     /// How many entries it holds at a time, live and retired ones together, 1 to `MOST_SLOTS`.
     pub slots: u8,
-    /// How many changes its history has room for, 1 to 1,000,000.
+    /// How many changes its history has room for, 1 to `MOST_CHANGES`.
     pub change_limit: u64,
-    /// How many outermost sections each CPU may begin, 1 to 2^40.
+    /// How many outermost sections each CPU may begin, 1 to `MOST_SECTIONS`.
     pub section_limit: u64,
-    /// How many passive references each CPU may have to an entry, 1 to 2^40.
+    /// How many passive references each CPU may have to an entry, 1 to `MOST_COUNT`.
     pub passive_limit: u64,
-    /// How far each CPU's own net count of local references to an entry may go, 1 to 2^40.
+    /// How far each CPU's own net count of local references to an entry may go, 1 to `MOST_COUNT`.
     pub count_limit: u64,
 }
 
@@ -49,15 +41,15 @@ impl Settings {
     {
         is_within(1, MOST_CPUS as u64, u64::from(self.cpus))
             && is_within(1, MOST_SLOTS as u64, u64::from(self.slots))
-            && is_within(1, 1_000_000, self.change_limit)
+            && is_within(1, MOST_CHANGES, self.change_limit)
     }
 
     fn are_limits_fit(&self) -> bool
         ensures { result ≡ are_limits_fit self.now }
     {
-        is_within(1, LARGEST_LIMIT, self.section_limit)
-            && is_within(1, LARGEST_LIMIT, self.passive_limit)
-            && is_within(1, LARGEST_LIMIT, self.count_limit)
+        is_within(1, MOST_SECTIONS, self.section_limit)
+            && is_within(1, MOST_COUNT, self.passive_limit)
+            && is_within(1, MOST_COUNT, self.count_limit)
     }
 }
 

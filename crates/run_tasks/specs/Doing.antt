@@ -11,7 +11,7 @@ use Rattle.registry_storm.specs.declared.sum.StormSum.{StormSum}
 use Rattle.run_tasks.specs.declared.task.StormSize.{StormSize}
 use Rattle.run_tasks.specs.declared.task.Task.{Task}
 use Rattle.run_tasks.specs.declared.task.Task.TheVariants.{Script, Storm}
-use Rattle.registry_values.specs.declared.settings.TheConstants.{MOST_CPUS}
+use Rattle.registry_values.specs.declared.limits.TheConstants.{MOST_CPUS}
 
 -- a line: a name, its numbers, each after a space, and the end; then what follows
 abbrev pub line : List ℕ → List (List ℕ) → List ℕ → List ℕ

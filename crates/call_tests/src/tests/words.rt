@@ -1,7 +1,9 @@
 //! A new table of words: its settings and its seats.
 
 use cpu_words::Words;
-use registry_values::{Refusal, Settings};
+use registry_values::{
+    MOST_CHANGES, MOST_COUNT, MOST_CPUS, MOST_SECTIONS, MOST_SLOTS, Refusal, Settings,
+};
 use std::test::Fail;
 
 const LEAST: Settings = Settings {
@@ -14,12 +16,12 @@ const LEAST: Settings = Settings {
 };
 
 const MOST: Settings = Settings {
-    cpus: 8,
-    slots: 32,
-    change_limit: 1_000_000,
-    section_limit: 1_099_511_627_776,
-    passive_limit: 1_099_511_627_776,
-    count_limit: 1_099_511_627_776,
+    cpus: MOST_CPUS as u8,
+    slots: MOST_SLOTS as u8,
+    change_limit: MOST_CHANGES,
+    section_limit: MOST_SECTIONS,
+    passive_limit: MOST_COUNT,
+    count_limit: MOST_COUNT,
 };
 
 #[test]

@@ -6,7 +6,8 @@ use protocol::{
     safe_reuse, worked_run,
 };
 use registry_values::{
-    Kind, Name, NameFault, Record, Refusal, Settings, Stage, name_laws, record_from,
+    Kind, MOST_CHANGES, MOST_COUNT, MOST_CPUS, MOST_SECTIONS, MOST_SLOTS, Name, NameFault, Record,
+    Refusal, Settings, Stage, name_laws, record_from,
 };
 use std::test::Fail;
 
@@ -82,15 +83,15 @@ const LEAST: Settings = Settings {
 };
 
 const MOST: Settings = Settings {
-    cpus: 8,
-    slots: 32,
-    change_limit: 1_000_000,
-    section_limit: 1_099_511_627_776,
-    passive_limit: 1_099_511_627_776,
-    count_limit: 1_099_511_627_776,
+    cpus: MOST_CPUS as u8,
+    slots: MOST_SLOTS as u8,
+    change_limit: MOST_CHANGES,
+    section_limit: MOST_SECTIONS,
+    passive_limit: MOST_COUNT,
+    count_limit: MOST_COUNT,
 };
 
-fn with_each(base: Settings, sizes: (u8, u8, u64), limit: u64) -> [Settings; 6] {
+fn with_each(base: Settings, sizes: (u8, u8, u64), sections: u64, count: u64) -> [Settings; 6] {
     let (cpus, slots, change_limit) = sizes;
     [
         Settings { cpus, ..base },
@@ -100,15 +101,15 @@ fn with_each(base: Settings, sizes: (u8, u8, u64), limit: u64) -> [Settings; 6] 
             ..base
         },
         Settings {
-            section_limit: limit,
+            section_limit: sections,
             ..base
         },
         Settings {
-            passive_limit: limit,
+            passive_limit: count,
             ..base
         },
         Settings {
-            count_limit: limit,
+            count_limit: count,
             ..base
         },
     ]
@@ -118,8 +119,9 @@ fn with_each(base: Settings, sizes: (u8, u8, u64), limit: u64) -> [Settings; 6] 
 fn settings_have_ranges(rt: HostRuntime) {
     assert_eq!(rt; LEAST.check(), Ok(()));
     assert_eq!(rt; MOST.check(), Ok(()));
-    let below = with_each(MOST, (0, 0, 0), 0);
-    let above = with_each(LEAST, (9, 33, 1_000_001), 1_099_511_627_777);
+    let below = with_each(MOST, (0, 0, 0), 0, 0);
+    let sizes = (MOST.cpus + 1, MOST.slots + 1, MOST_CHANGES + 1);
+    let above = with_each(LEAST, sizes, MOST_SECTIONS + 1, MOST_COUNT + 1);
     for settings in below.iter().chain(&above) {
         assert_eq!(rt; settings.check(), Err(Refusal::BadSettings));
         let made = Core::new(rt.alloc(), *settings);

@@ -6,7 +6,7 @@ use mathlib.Core.Option.{some}
 use lib.ListN.{get_elem?}
 use prog.Atomic.{either}
 use Rattle.atomic_table.specs.Table.{State as Table, keeps, stepped}
-use Rattle.cpu_words.specs.Types.{Entry, Settings, CountAdd, CountDown, Reply, Word, Collected, Retired, Empty, Taking, Giving, Back, Free, Lifted}
+use Rattle.cpu_words.specs.Types.{Entry, MOST_COUNT, Settings, CountAdd, CountDown, Reply, Word, Collected, Retired, Empty, Taking, Giving, Back, Free, Lifted}
 use Rattle.protocol.specs.Common.{IsAttached, State, found_at, hand_at, mark_at, count_at, step, IsIn, IsCounting}
 use Rattle.registry_values.specs.Common.{bias, slot_at, slot_of}
 use Rattle.protocol.proofs.counts.Bounds.{giving_within}
@@ -56,7 +56,7 @@ count_add_at z x e may is s r i at fits =
     let is_net : may.count + number_at x.released n ≡ bias + number_at x.acquired n = place_is g x t e may.count had counts.1 may.place in
     let below : may.count < bias + x.settings.count_limit = may.room in
     let room : count_at g.nets c t < bias + g.settings.count_limit = omega arith in
-    let most : g.settings.count_limit ≤ 1099511627776 = seen.fit.counts in
+    let most : g.settings.count_limit ≤ MOST_COUNT = seen.fit.counts in
     let next : (word + 1) % 2 ^ 64 ≡ count_at g.counts c t + 1 = omega arith in
     let l = count_lists g c t (count_at g.counts c t + 1) (count_at g.nets c t + 1) (Taking n) g.locals in
     let acquired = one_more x.acquired n in

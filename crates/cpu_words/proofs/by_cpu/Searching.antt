@@ -28,7 +28,8 @@ use Rattle.cpu_words.specs.Common.{LinkHolds, MayStandOn, Descends, SkipsNone, P
 use Rattle.cpu_words.specs.Common.{cpu_after_record_word, FoundHolds, HasSearched, HasLoadedWord}
 use Rattle.cpu_words.proofs.laws.Reaching.{goes_both}
 use Rattle.cpu_words.proofs.shown.Placing.{agrees_same}
-use Rattle.cpu_words.proofs.shown.Passes.{at_prefix, attached_take, attached_prefix, taken_is_prefix, prefix_longer, take_whole}
+use Rattle.protocol.proofs.history.History.{at_prefix}
+use Rattle.cpu_words.proofs.shown.Passes.{attached_take, attached_prefix, taken_is_prefix, prefix_longer, take_whole}
 use Rattle.cpu_words.proofs.by_cpu.CpuSteps.{CpuLists, lists_of, with_lists, same_counts, shown_on, found_on, cpu_makes}
 use Rattle.cpu_words.proofs.shown.Seeing.{seen_of, idle_of}
 

@@ -8,6 +8,7 @@ use mathlib.Core.Option.{some}
 use mathlib.Core.List.{IsPrefix}
 use lib.ListN.{get_elem?}
 use Rattle.atomic_table.specs.Table.{State as Table}
+use Rattle.atomic_table.proofs.Lists.{at_map}
 use Rattle.cpu_words.specs.Types.{Entry, Change, Attach, Detach, Settings, Vacant, Retired, Event, Vacate, KeptSub, Done}
 use Rattle.registry_values.specs.Common.{are_fit, slot_at, slot_of}
 use Rattle.protocol.specs.Common.{IsAttached, EndsAt, State, opening, kept_at, Outcome, guard, with_some, some_outcome, step, state_after, is_drained, may_vacate, is_iface_slot, after_vacate}
@@ -20,8 +21,9 @@ use Rattle.protocol.proofs.runs.Headline.{unheld_unoccupied}
 use Rattle.protocol.proofs.runs.Reuse.{number_is, destroyed_drained}
 use Rattle.protocol.proofs.runs.State.{obeys_laws}
 use Rattle.protocol.proofs.slots.Occupied.{attached_in, in_within, slot_cases}
-use Rattle.cpu_words.specs.Common.{LogItem, Logged, View, Good, ShowsViews, IsDetachedFrom, IsFreedFrom, part, without_logs, AreByOwn, RunsAsLogged, IsGone, HasGone, FreedIsGone}
-use Rattle.cpu_words.proofs.shown.Passes.{at_prefix, attached_prefix}
+use Rattle.cpu_words.specs.Common.{LogItem, Logged, View, Good, ShowsViews, IsDetachedFrom, IsFreedFrom, part, without_logs, AreByOwn, RunsAsLogged, IsGone, HasGone, FreedIsGone, FreedByKeeper, Sits, IsStanding}
+use Rattle.protocol.proofs.history.History.{at_prefix}
+use Rattle.cpu_words.proofs.shown.Passes.{attached_prefix}
 use Rattle.cpu_words.proofs.shown.Showing.{backed}
 use Rattle.cpu_words.proofs.laws.Safety.{running_headline}
 use Rattle.cpu_words.proofs.laws.Holders.{seat_has_slot}
@@ -169,12 +171,11 @@ pub record AtItem (cpus : ℕ) (before : List LogItem) (d : LogItem) (g : State)
   pub on : Holds m
   pub known : Known cpus before m
 
-pub at_item : (z : Settings) (s : Table ℕ Logged) (i : ℕ) (l : Logged) (before after_it : List LogItem) (item : LogItem) → (r : RunsAsLogged z s) → get_elem? s.views i ≡ some l
-    → l.known_log ≡ before ++ item ∷ after_it → AtItem z.cpus before item (after (opening z) r.run.events)
-at_item z s i l before after_it item r at log_is =
+pub at_item : (z : Settings) (s : Table ℕ Logged) (log before after_it : List LogItem) (item : LogItem) → (r : RunsAsLogged z s) → IsPrefix log (part 0 r.acts) → log ≡ before ++ item ∷ after_it
+    → AtItem z.cpus before item (after (opening z) r.run.events)
+at_item z s log before after_it item r known log_is =
     let run = r.run in
     let g = after (opening z) run.events in
-    let known = (r.known i l at).0 in
     let later : List LogItem = after_it ++ known.0 in
     let mine : part 0 r.acts ≡ before ++ item ∷ later = sym known.1 ∙ (ap (λ (d : List LogItem). d ++ known.0) log_is ∙ append_assoc before (item ∷ after_it) known.0) in
     let h = halve 0 r.acts before (item ∷ later) mine in
@@ -198,13 +199,21 @@ at_item z s i l before after_it item r at log_is =
           (walked run.seat g.seated (Known z.cpus) [] (opening z) first k.earlier k.between (known_stays run.seat g.seated z.cpus) k.before (opening_holds z fit) own (known_first z));
     }
 
-freed_gone : (z : Settings) (s : Table ℕ Logged) (i : ℕ) (l : Logged) (t n : ℕ) → RunsAsLogged z s → get_elem? s.views i ≡ some l → IsFreedFrom t n l.known_log → HasGone z s t n
-freed_gone z s i l t n r at f =
+freed_gone : (z : Settings) (s : Table ℕ Logged) (log : List LogItem) (t n : ℕ) → (r : RunsAsLogged z s) → IsPrefix log (part 0 r.acts) → IsFreedFrom t n log → HasGone z s t n
+freed_gone z s log t n r known f =
     let run = r.run in
     let g = after (opening z) run.events in
-    let a = at_item z s i l f.before f.after f.item r at f.are in
+    let a = at_item z s log f.before f.after f.item r known f.are in
     let freed : Freed a.m g t n = since_freed z.cpus f.before a.m f.item a.more a.es g t n a.run a.on a.known f.detached f.freed in
     record { run = r; gone = gone_of a.m g run.seat (without_logs s) t n run.good run.shows (histories a.m ((0, f.item) ∷ a.more) a.es g a.run a.on) freed }
 
 pub freed_is_gone : FreedIsGone
-freed_is_gone z s i l t n r at f = freed_gone z s i l t n (running_headline z s r) at f
+freed_is_gone z s i l t n r at f = let run = running_headline z s r in freed_gone z s l.known_log t n run (run.known i l at).0 f
+
+-- the keeper has the first seat, and its log is all that it did
+pub freed_by_keeper : FreedByKeeper
+freed_by_keeper z s i l k t n r at is f =
+    let run = running_headline z s r in
+    let first : i ≡ 0 = subst (Sits run.run.seat i) is (run.run.shows.fits i l.view (at_map (λ (d : Logged). d.view) s.views i l at)).0 in
+    let own : l.log ≡ part 0 run.acts = run.logs i l at (subst IsStanding (sym is) tt) ∙ ap (λ (j : ℕ). part j run.acts) first in
+    freed_gone z s l.log t n run ([], append-nil l.log ∙ own) f

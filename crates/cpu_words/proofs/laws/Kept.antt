@@ -65,7 +65,7 @@ kept_since cpus log m more (e ∷ es) g t n d run on known number keeps is =
 
 keeps_long : (z : Settings) (s : Table ℕ Logged) (i : ℕ) (l : Logged) (t n d : ℕ) → RunsAsLogged z s → get_elem? s.views i ≡ some l → IsAttachedKeeping t n d l.known_log → KeepsAsLong z s t n d
 keeps_long z s i l t n d r at f =
-    let a = at_item z s i l f.before f.after (log_item (Publish t) Done) r at f.are in
+    let a = at_item z s l.known_log f.before f.after (log_item (Publish t) Done) r (r.known i l at).0 f.are in
     record { run = r; keeps = λ is. kept_since z.cpus f.before a.m a.more a.es (after (opening z) r.run.events) t n d a.run a.on a.known f.number f.keeps is }
 
 pub attached_keeps : AttachedKeeps

@@ -48,7 +48,7 @@ record WaitedFor (c : ℕ) (s : State) (acts : List (ℕ × LogItem)) (es : List
   late : Late (length between.history) c t
 
 -- what a seat had done before an item of its own that stands in the acts
-part_placed : (i : ℕ) (acts : List (ℕ × LogItem)) (a b : List LogItem) (d : LogItem) → part i acts ≡ a ++ d ∷ b → (p : Placed i acts d b) → part i p.first ≡ a
+pub part_placed : (i : ℕ) (acts : List (ℕ × LogItem)) (a b : List LogItem) (d : LogItem) → part i acts ≡ a ++ d ∷ b → (p : Placed i acts d b) → part i p.first ≡ a
 part_placed i acts a b d is p = append_cancel_right (part i p.first) a (d ∷ b)
     (sym (part_append i p.first ((i, d) ∷ p.second) ∙ ap (λ (l : List LogItem). part i p.first ++ l) (part_same i (i, d) p.second refl ∙ ap (λ (l : List LogItem). d ∷ l) p.rest))
     ∙ (ap (part i) (sym p.are) ∙ is))
@@ -155,19 +155,19 @@ ended_on z s r before since rest first second acts mine earlier later m are size
 
 -- The moment of the cut: so many acts were made, and the seats' parts of these
 
-record CutAt (z : Settings) (acts acts_then : List (ℕ × LogItem)) (first rest : List Event) (t : State) : Type 0 where
+pub record CutAt (z : Settings) (acts acts_then : List (ℕ × LogItem)) (first rest : List Event) (t : State) : Type 0 where
   -- the acts since, up to `acts_then`
-  since : List (ℕ × LogItem)
-  later : List (ℕ × LogItem)
-  before : List (ℕ × LogItem)
-  are : acts_then ≡ before ++ since
-  all : acts ≡ before ++ (since ++ later)
-  run : Follows (after (opening z) first) (since ++ later) rest t
-  on : Holds (after (opening z) first)
-  changes : length (after (opening z) first).history ≤ changes_in (part 0 acts_then)
+  pub since : List (ℕ × LogItem)
+  pub later : List (ℕ × LogItem)
+  pub before : List (ℕ × LogItem)
+  pub are : acts_then ≡ before ++ since
+  pub all : acts ≡ before ++ (since ++ later)
+  pub run : Follows (after (opening z) first) (since ++ later) rest t
+  pub on : Holds (after (opening z) first)
+  pub changes : length (after (opening z) first).history ≤ changes_in (part 0 acts_then)
 
 -- fewer events were made than acts at `acts_then`
-cut_at : (z : Settings) (seat : ℕ → ℕ) (n : ℕ) (acts acts_then later : List (ℕ × LogItem)) (events first rest : List Event) (t : State) → IsTrue (are_fit z) → AreByOwn seat n acts
+pub cut_at : (z : Settings) (seat : ℕ → ℕ) (n : ℕ) (acts acts_then later : List (ℕ × LogItem)) (events first rest : List Event) (t : State) → IsTrue (are_fit z) → AreByOwn seat n acts
     → Follows (opening z) acts events t
     → acts ≡ acts_then ++ later → events ≡ first ++ rest → length first ≤ length acts_then → CutAt z acts acts_then first rest t
 cut_at z seat n acts acts_then later events first rest t fit owners run are cut_is le =
@@ -210,7 +210,7 @@ seen_past c first looks seen = record {
 }
 
 -- A moment at which a CPU had made fewer events is before one at which it had made these.
-fewer_acts : (i n m : ℕ) (acts acts_then later : List (ℕ × LogItem)) → acts ≡ acts_then ++ later → n ≤ length (part i acts_then) → length (part i (take m acts)) < n → m < length acts_then
+pub fewer_acts : (i n m : ℕ) (acts acts_then later : List (ℕ × LogItem)) → acts ≡ acts_then ++ later → n ≤ length (part i acts_then) → length (part i (take m acts)) < n → m < length acts_then
 fewer_acts i n m acts acts_then later are come few = ⊎_elim
     (λ (lt : m < length acts_then). lt)
     (λ (le : length acts_then ≤ m).

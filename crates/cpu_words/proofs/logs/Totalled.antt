@@ -124,6 +124,28 @@ abbrev IsAsMuch : List LogItem → State → Event → State → ℕ → ℕ →
 IsAsMuch log s e o t n = total_at o.totals t + addition_due_at t o.due + given_by log n (by_number s e) + bias * is_adding_at t s.due + subtraction_due_at t s.due
     ≡ total_at s.totals t + addition_due_at t s.due + bias * is_adding_at t o.due + subtraction_due_at t o.due
 
+-- The sums as plain numbers: so the arithmetic takes as long whatever the limits are
+
+as_much_sum : (total add given words due sub sum now new by words_now due_now sub_now sum_now given_now : ℕ) → words_now ≡ words → sum_now ≡ sum → given_now ≡ given + by
+    → now + new + by + bias * due + sub ≡ total + add + bias * due_now + sub_now → total + add + given + bias * words ≡ bias * (1 + due) + sum + sub
+    → now + new + given_now + bias * words_now ≡ bias * (1 + due_now) + sum_now + sub_now
+as_much_sum total add given words due sub sum now new by words_now due_now sub_now sum_now given_now same alike more much even = omega (arith, same, alike, more, much, even)
+
+published_sum : (now new given words due sub sum before : ℕ) → now ≡ bias → new ≡ 0 → due ≡ 0 → sub ≡ 0 → words ≡ 0 → sum ≡ 0 → given ≡ before + 0 → before ≡ 0
+    → now + new + given + bias * words ≡ bias * (1 + due) + sum + sub
+published_sum now new given words due sub sum before total add is_due is_sub no_words no_sum same none = omega (arith, total, add, is_due, is_sub, no_words, no_sum, same, none)
+
+collected_sum : (total add given words due sub sum now new words_now due_now sub_now sum_now given_now w there there_now word word_now : ℕ) → words_now + there ≡ words + there_now
+    → sum_now + word ≡ sum + word_now → there ≡ 0 → there_now ≡ 1 → word ≡ 0 → word_now ≡ w → given_now ≡ given + 0 → total + add + given + bias * words ≡ bias * (1 + due) + sum + sub
+    → now ≡ total → add ≡ 0 → due ≡ 0 → sub ≡ 0 → new ≡ w → due_now ≡ 1 → sub_now ≡ 0
+    → now + new + given_now + bias * words_now ≡ bias * (1 + due_now) + sum_now + sub_now
+collected_sum total add given words due sub sum now new words_now due_now sub_now sum_now given_now w there there_now word word_now one much no_there is_there no_word is_word more even same
+    no_add no_due no_sub is_new is_due is_sub = omega (arith, one, much, no_there, is_there, no_word, is_word, more, even, same, no_add, no_due, no_sub, is_new, is_due, is_sub)
+
+told_sum : (total add given words due sub sum words_now sum_now given_now : ℕ) → words_now ≡ words → sum_now ≡ sum → given_now ≡ given
+    → total + add + given + bias * words ≡ bias * (1 + due) + sum + sub → total + add + given_now + bias * words_now ≡ bias * (1 + due) + sum_now + sub
+told_sum total add given words due sub sum words_now sum_now given_now same alike more even = omega (arith, same, alike, more, even)
+
 -- the slot's words stay
 as_much : (log : List LogItem) (s : State) (e : Event) (o : Outcome) (t n : ℕ) → ((c : ℕ) → word_after t c e o.reply (word_collected t c log) ≡ word_collected t c log)
     → IsAsMuch log s e o.state t n → IsEven log s t n → IsEven (log ++ item_of s e o.reply None ∷ []) o.state t n
@@ -135,7 +157,9 @@ as_much log s e o t n stay much even =
     let sum : sum_collected t (log ++ d ∷ []) ≡ sum_collected t log =
     sum_other (λ c. word_or_none (word_collected t c log)) (λ c. word_or_none (word_collected t c (log ++ d ∷ []))) MOST_CPUS (λ c lt. ap word_or_none (word c)) in
     let given : given_up n (log ++ d ∷ []) ≡ given_up n log + given_by log n (by_number s e) = given_more n log d in
-    omega (arith, words, sum, given, much, even)
+    as_much_sum (total_at s.totals t) (addition_due_at t s.due) (given_up n log) (words_collected t log) (is_adding_at t s.due) (subtraction_due_at t s.due) (sum_collected t log)
+    (total_at o.state.totals t) (addition_due_at t o.state.due) (given_by log n (by_number s e)) (words_collected t (log ++ d ∷ [])) (is_adding_at t o.state.due) (subtraction_due_at t o.state.due)
+    (sum_collected t (log ++ d ∷ [])) (given_up n (log ++ d ∷ [])) words sum given much even
 
 -- totals stay, and what is due, and nothing is given up
 untouched : (log : List LogItem) (s : State) (e : Event) (n : State) (t m : ℕ) → given_by log m (by_number s e) ≡ 0 → SameTotals s n → IsAsMuch log s e n t m
@@ -187,6 +211,7 @@ published_next : (log : List LogItem) (s : State) (u : ℕ) (o : Outcome) (t n :
 published_next log s u o t n on does is known = ⊎_elim
     (λ (same : u ≡ t).
     let number : suc (changes_in log) ≡ n = same_Some (suc (changes_in log)) n (sym (if_here u t (Some (suc (changes_in log))) (occupant t log) same) ∙ is) in
+    let none : given_up n log ≡ 0 = known.totals.later n (omega (arith, number)) in
     let may = and_parts (may_write s u) _ does.0.1 in
     let e = does.0.0 in
     let p1 = and_parts (e.number == length s.history + 1) (not (is_taken (key_of e) s.slots) && (has_room s && is_prepared s u e.rec.kind)) may.1 in
@@ -204,8 +229,8 @@ published_next log s u o t n on does is known = ⊎_elim
     let words : words_collected t (log ++ d ∷ []) ≡ 0 = sum_other (λ c. 0) (λ c. is_there (word_collected t c (log ++ d ∷ []))) MOST_CPUS (λ c lt. ap is_there (word c)) in
     let sum : sum_collected t (log ++ d ∷ []) ≡ 0 = sum_other (λ c. 0) (λ c. word_or_none (word_collected t c (log ++ d ∷ []))) MOST_CPUS (λ c lt. ap word_or_none (word c)) in
     let given : given_up n (log ++ d ∷ []) ≡ given_up n log + 0 = given_more n log d in
-    let none : given_up n log ≡ 0 = known.totals.later n (omega (arith, number)) in
-    omega (arith, total, quiet.0, quiet.1, quiet.2, words, sum, given, none))
+    published_sum (total_at o.state.totals t) (addition_due_at t o.state.due) (given_up n (log ++ d ∷ [])) (words_collected t (log ++ d ∷ [])) (is_adding_at t o.state.due)
+    (subtraction_due_at t o.state.due) (sum_collected t (log ++ d ∷ [])) (given_up n log) total quiet.0 quiet.1 quiet.2 words sum given none)
     (λ (off : u ≡ t → ⊥).
     as_much log s (Publish u) o t n (λ c. refl) (untouched log s (Publish u) o.state t n refl does.1)
     (known.totals.total t n (sym (if_off u t (Some (suc (changes_in log))) (occupant t log) off) ∙ is)))
@@ -251,7 +276,10 @@ collected_here log s c o t n on does is known =
     let added : addition_due_at t o.state.due ≡ w = ap (addition_due_at t) does.3 ∙ if_here t t w 0 refl in
     let adding : is_adding_at t o.state.due ≡ 1 = ap (is_adding_at t) does.3 ∙ one_self t t refl in
     let none : subtraction_due_at t o.state.due ≡ 0 = ap (subtraction_due_at t) does.3 in
-    omega (arith, words, sum, one_old, one_new, word_old, word_new, given, even, total, quiet.0, quiet.1, quiet.2, added, adding, none)
+    collected_sum (total_at s.totals t) (addition_due_at t s.due) (given_up n log) (words_collected t log) (is_adding_at t s.due) (subtraction_due_at t s.due) (sum_collected t log)
+    (total_at o.state.totals t) (addition_due_at t o.state.due) (words_collected t (log ++ d ∷ [])) (is_adding_at t o.state.due) (subtraction_due_at t o.state.due)
+    (sum_collected t (log ++ d ∷ [])) (given_up n (log ++ d ∷ [])) w (is_there (word_collected t c log)) (is_there (word_collected t c (log ++ d ∷ [])))
+    (word_or_none (word_collected t c log)) (word_or_none (word_collected t c (log ++ d ∷ []))) words sum one_old one_new word_old word_new given even total quiet.0 quiet.1 quiet.2 added adding none
 
 collected_off : (log : List LogItem) (s : State) (u c : ℕ) (o : Outcome) (t n : ℕ) → (u ≡ t → ⊥) → TotalsAfter s (Collect u c) o → occupant t log ≡ Some n → SaidBefore log s
     → Next log s (Collect u c) o t n
@@ -391,7 +419,8 @@ whoever_told log s e r h g are =
           sum_other (λ c. is_there (word_collected t c (log ++ d ∷ []))) (λ c. is_there (word_collected t c (log ++ f ∷ []))) MOST_CPUS (λ c lt. ap is_there (word t c)) in
           let sum : sum_collected t (log ++ f ∷ []) ≡ sum_collected t (log ++ d ∷ []) =
           sum_other (λ c. word_or_none (word_collected t c (log ++ d ∷ []))) (λ c. word_or_none (word_collected t c (log ++ f ∷ []))) MOST_CPUS (λ c lt. ap word_or_none (word t c)) in
-          omega (arith, even, words, sum, given n);
+          told_sum (total_at g.totals t) (addition_due_at t g.due) (given_up n (log ++ d ∷ [])) (words_collected t (log ++ d ∷ [])) (is_adding_at t g.due) (subtraction_due_at t g.due)
+          (sum_collected t (log ++ d ∷ [])) (words_collected t (log ++ f ∷ [])) (sum_collected t (log ++ f ∷ [])) (given_up n (log ++ f ∷ [])) words sum (given n) even;
       later = λ n above. given n ∙ are.later n (let a = changes_last log f in let b = changes_last log d in omega (arith, above, a, b));
     }
 

@@ -5,14 +5,7 @@ use mathlib.Core.List.{IsPrefix}
 use Rattle.cpu_words.specs.Types.{Entry, Change, Attach}
 use Rattle.protocol.specs.Common.{IsAttached}
 use Rattle.protocol.specs.History.{change_at}
-use Rattle.protocol.proofs.history.History.{length-after_change, at_old, at_within}
-
--- what stands in a prefix stands in the whole
-pub at_prefix : (p zs : List Change) (k : ℕ) → k ≤ length p → change_at (p ++ zs) k ≡ change_at p k
-at_prefix p [] k le = ap (λ l. change_at l k) (append-nil p)
-at_prefix p (z ∷ zs) k le =
-    let n = length-after_change p z in
-    ap (λ l. change_at l k) (sym (append_assoc p (z ∷ []) zs)) ∙ at_prefix (p ++ z ∷ []) zs k (omega arith) ∙ at_old p z k le
+use Rattle.protocol.proofs.history.History.{at_prefix, at_within}
 
 pub attached_on : (p zs : List Change) (e : Entry) → IsAttached p e → IsAttached (p ++ zs) e
 attached_on p zs e there = at_prefix p zs e.number (at_within p e.number (Attach e) there).1 ∙ there

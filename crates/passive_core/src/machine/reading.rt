@@ -1,8 +1,8 @@
 //! The words and marks of a core, one at a time, and what their places are.
 
-ghost use Rattle.std.specs.Prelude.{◌≡◌, ◌<◌, ◌^◌, Some, None, IfSome, IsTrue, length, slice_index_or, []};
+ghost use Rattle.std.specs.Prelude.{◌≡◌, ◌<◌, ◌≤◌, ◌*◌, Some, None, IfSome, IsTrue, length, slice_index_or, []};
 ghost use Rattle.protocol.specs.Common.{is_idle, is_number, word, number_standing, Holds, at_rest, section_at, begin_at, depth_at, seen_at, found_at, hand_at, search_at, passive_at, count_at, total_at, kept_at, mark_at, row_at, local_at};
-ghost use Rattle.registry_values.specs.Common.{slot_of, has_number, is_retired, is_vacant, slot_at, have_passed, are_clear, are_collected, is_some_collected};
+ghost use Rattle.registry_values.specs.Common.{MOST_SECTIONS, slot_of, has_number, is_retired, is_vacant, slot_at, have_passed, are_clear, are_collected, is_some_collected};
 
 use crate::machine::Core;
 use protocol::{Due, Hand, LocalPlace, RecordWords, Search};
@@ -30,7 +30,7 @@ impl Core {
     pub(crate) fn section_at(&self, c: u8) -> u64
         requires { c < self.now.settings.cpus }
         ensures value { result ≡ section_at self.now c }
-        ensures small { result < 2 ^ 42 }
+        ensures small { result ≤ 2 * MOST_SECTIONS }
     {
         self.section[c as usize]
     }

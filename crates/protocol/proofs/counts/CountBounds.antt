@@ -22,7 +22,7 @@ word_floor {z} {slots} {marks} {counts} {nets} {totals} {hands} {keeps} {due} {l
 
 pub word_ceiling : {z : Settings} {slots : List Slot} {marks : List (List Mark)} {counts nets : List (List ℕ)} {totals : List ℕ} {hands : List Hand} {keeps : List (Option ℕ)} {due : Due}
     {locals : List LocalPlace} → CountsHold z slots marks counts nets totals hands keeps due locals → CountsFit z slots marks counts nets totals hands keeps → (c t : ℕ) (e : Entry)
-    → IsIn e (slot_at slots t) → count_at counts c t ≤ bias + 2 ^ 40
+    → IsIn e (slot_at slots t) → count_at counts c t ≤ bias + greatest_limit
 word_ceiling {z} {slots} {marks} {counts} {nets} {totals} {hands} {keeps} {due} {locals} on fit c t e is = omega (arith, (are_words on fit t e is).1 c)
 
 -- a total, with what is to be added

@@ -1,8 +1,9 @@
 -- The history: what one more change does, and what a legal history rules out.
-use Rattle.std.proofs.Common.{◌≡◌, ℕ, zero, suc, ◌<◌, ◌≤◌, ◌⊎◌, inl, inr, List, ◌∷◌, [], ◌++◌, length, Option, Some, refl, sym, ap, subst, ◌∙◌, arith}
+use Rattle.std.proofs.Common.{◌≡◌, ℕ, zero, suc, ◌<◌, ◌≤◌, ◌⊎◌, inl, inr, List, ◌∷◌, [], ◌++◌, length, Option, Some, refl, sym, ap, subst, ◌∙◌, arith, append_assoc}
 use Rattle.std.specs.Prelude.{slice_get}
 use Rattle.std.proofs.lemmas.Option.{same_Some, slice_get_within, none-some}
 use Rattle.std.proofs.lemmas.Bool.{cases_lt}
+use Rattle.std.proofs.lemmas.List.{append-nil}
 use Rattle.protocol.specs.Types.{Entry, Change, Attach, Detach}
 use Rattle.registry_values.specs.Common.{key_of}
 use Rattle.protocol.specs.Common.{after_change, IsAttached, EndsAt, IsLiveAt, IsLegal}
@@ -38,6 +39,13 @@ pub at_within : (h : List Change) (k : ℕ) (x : Change) → change_at h k ≡ S
 unfolding change_at
 at_within h zero x e = absurd (none-some x e)
 at_within h (suc k) x e = (omega arith, slice_get_within h k x e)
+
+-- what stands in a prefix stands in the whole
+pub at_prefix : (p zs : List Change) (k : ℕ) → k ≤ length p → change_at (p ++ zs) k ≡ change_at p k
+at_prefix p [] k le = ap (λ l. change_at l k) (append-nil p)
+at_prefix p (z ∷ zs) k le =
+    let n = length-after_change p z in
+    ap (λ l. change_at l k) (sym (append_assoc p (z ∷ []) zs)) ∙ at_prefix (p ++ z ∷ []) zs k (omega arith) ∙ at_old p z k le
 
 pub at_empty : (k : ℕ) (x : Change) → change_at [] k ≡ Some x → ⊥
 unfolding change_at

@@ -4,7 +4,7 @@ use Rattle.std.proofs.Common.{sym, ap, subst, ◌∙◌, arith}
 use Rattle.std.specs.Prelude.{if◌then◌else◌, ◌==◌, Result, Ok, Err, is_ok}
 use Rattle.std.proofs.lemmas.Bool.{cases_eq}
 use Rattle.std.proofs.lemmas.Option.{none-some}
-use Rattle.registry_report.specs.Types.{Entry, Change, Refusal, TooDeep, SectionsSpent, Mark, Slot}
+use Rattle.registry_report.specs.Types.{Entry, Change, MOST_DEPTH, Refusal, TooDeep, SectionsSpent, Mark, Slot}
 use Rattle.protocol.specs.Common.{section_at, begin_at, depth_at, mark_at, Holds, MarksHold, one_if, put}
 use Rattle.passive_core.specs.Common.{all_seated, with_depth, after_enter_command, after_exit_command, after_find}
 use Rattle.passive_core.specs.Entering as core
@@ -34,7 +34,7 @@ enter_answers s r c on =
     let deep : depth_at s.core c ≡ r.depths c = sym (on.sections.deep c) in
     let spent : (events.is_outside s.core c && not (core.may_begin s.core c)) ≡ (not (is_inside r c) && not (may_begin r c)) =
     spent_is s r c on (begin_at s.core c) refl ∙ ap (λ (b : Option ℕ). not (is_some b) && not (may_begin r c)) (sym (on.model.sections c)) in
-    λ i. if deep i == 255 then Err TooDeep else (if spent i then Err SectionsSpent else Ok tt)
+    λ i. if deep i == MOST_DEPTH then Err TooDeep else (if spent i then Err SectionsSpent else Ok tt)
 
 -- a section that begins has another word than any snapshot
 begun_follows : (h : List Change) (slots : List Slot) (marks : List (List Mark)) (section : List ℕ) (begins : List (Option ℕ)) (c w b : ℕ)

@@ -1,7 +1,8 @@
 use Rattle.cpu_words.proofs.laws.Safety.{running_headline}
 use Rattle.cpu_words.proofs.laws.Holders.{held_have_slots}
 use Rattle.cpu_words.proofs.laws.Waiting.{waiting_ends}
-use Rattle.cpu_words.proofs.laws.Freed.{freed_is_gone}
+use Rattle.cpu_words.proofs.laws.Freed.{freed_by_keeper, freed_is_gone}
+use Rattle.cpu_words.proofs.laws.Fresh.{lookups_are_fresh, whole_in_the_list}
 use Rattle.cpu_words.proofs.laws.Kept.{attached_keeps}
 use Rattle.cpu_words.proofs.laws.Balance.{seats_balance}
 use Rattle.cpu_words.proofs.headline.running_headline.Goals as goal
@@ -23,3 +24,12 @@ returns-clause-kept c = attached_keeps
 
 pub returns-clause-balance : goal.returns-clause-balance
 returns-clause-balance c = seats_balance
+
+pub returns-clause-freed_by : goal.returns-clause-freed_by
+returns-clause-freed_by c = freed_by_keeper
+
+pub returns-clause-fresh : goal.returns-clause-fresh
+returns-clause-fresh c = lookups_are_fresh
+
+pub returns-clause-whole : goal.returns-clause-whole
+returns-clause-whole c = whole_in_the_list

@@ -20,7 +20,7 @@ impl Core {
         self.begins[c as usize].is_some()
     }
 
-    /// How deep the CPU's section is nested, from 1 to 255; 0 outside.
+    /// How deep the CPU's section is nested, from 1 to `MOST_DEPTH`; 0 outside.
     pub fn depth(&self, c: u8) -> u8
         requires { c < self.now.settings.cpus }
         ensures { result ≡ depth_at self.now c }
@@ -39,7 +39,7 @@ impl Core {
     /// Begins a read section on the CPU, or nests the one that is open a level deeper (pserialize(9)). Inside a section
     /// it only adds 1 to the depth and makes no event; outside all CPUs are seated and the event `Enter` is made, by
     /// which the whole history is seen.
-    /// Refused, in this order, and nothing has changed then: `TooDeep` where the depth is 255; `SectionsSpent` where the
+    /// Refused, in this order, and nothing has changed then: `TooDeep` where the depth is `MOST_DEPTH`; `SectionsSpent` where the
     /// CPU is outside a section and has begun as many as the settings allow.
     pub fn enter(&mut self, c: u8) -> Result<(), Refusal>
         requires known { c < self.old.settings.cpus }

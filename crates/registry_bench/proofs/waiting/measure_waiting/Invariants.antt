@@ -1,5 +1,5 @@
 use Rattle.registry_bench.proofs.waiting.measure_waiting.Given as goal
-use Rattle.registry_values.specs.declared.settings.TheConstants.{MOST_CPUS}
+use Rattle.registry_values.specs.declared.limits.TheConstants.{MOST_CPUS}
 
 -- the registry that was just made
 abbrev pub ghosts-wait_on-D-Domain : goal.ghosts-wait_on-D-Domain

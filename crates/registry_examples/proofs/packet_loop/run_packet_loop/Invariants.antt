@@ -1,5 +1,5 @@
 use Rattle.registry_examples.proofs.packet_loop.run_packet_loop.Given as goal
-use Rattle.registry_values.specs.declared.settings.TheConstants.{MOST_CPUS}
+use Rattle.registry_values.specs.declared.limits.TheConstants.{MOST_CPUS}
 
 -- the registry that was just made
 abbrev pub ghosts-run_on-D-Domain : goal.ghosts-run_on-D-Domain

@@ -1,4 +1,4 @@
-use Rattle.registry_values.specs.declared.settings.TheConstants.{MOST_CPUS}
+use Rattle.registry_values.specs.declared.limits.TheConstants.{MOST_CPUS}
 use Rattle.call_tests.proofs.tests.registry_rows.reference_of_another_registry.Given as goal
 
 -- the two registries that were just made

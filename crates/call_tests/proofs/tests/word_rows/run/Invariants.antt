@@ -1,4 +1,4 @@
-use Rattle.registry_values.specs.declared.settings.TheConstants.{MOST_CPUS}
+use Rattle.registry_values.specs.declared.limits.TheConstants.{MOST_CPUS}
 use Rattle.call_tests.proofs.tests.word_rows.run.Given as goal
 
 -- the table that was just made

@@ -1,4 +1,4 @@
-use Rattle.registry_values.specs.declared.settings.TheConstants.{MOST_CPUS}
+use Rattle.registry_values.specs.declared.limits.TheConstants.{MOST_CPUS}
 use Rattle.script_tests.proofs.tests.calls.run_rows.Given as goal
 
 -- the registry that was just made

@@ -1,0 +1,246 @@
+/*
+ * ordered - by which instructions a test's calls come to a registry's table: for aarch64
+ *
+ * It is linked to a test of one thread, with --wrap for registry_open, malloc and free. Once a registry is opened nothing can be read from its table or
+ * written to it: each access ends in a signal. The handler looks at the instruction, does what it says by a second mapping of the same memory, and goes
+ * on after it. Any instruction but the four of sequentially consistent steps on a word ends the program with status 1: a plain load or store, one
+ * that is weaker, and one that works on a part of a word or on two.
+ *
+ * From each of these instructions, as it is met for the first time, the unwind tables have to lead on to where the program began.
+ *
+ * What is done before the opening returns isn't looked at, nor what frees the table: nobody else has it then. At its end the program says how often
+ * each of the four came to a table. Where ORDERED_SITES names a file, the places of the instructions that came are written there, a line each.
+ * With ORDERED_PLANT the program itself makes a plain load, which has to be seen.
+ */
+#include <execinfo.h>
+#include <signal.h>
+#include <sys/mman.h>
+#include <ucontext.h>
+#include <unistd.h>
+
+#include "client.h"
+
+#ifndef __aarch64__
+#error "it reads the instructions of aarch64"
+#endif
+
+/* The words of a table, of whatever settings: `WORDS` of cpu_words. They are one block, and no other block is as long. */
+enum { WORDS = 960, TABLE_BYTES = 8 * WORDS, MOST_TABLES = 16, MOST_CODE = 1 << 18, ZERO_REGISTER = 31, DEEPEST = 64 };
+
+/* What an instruction does with a word. */
+enum kind { LOAD, STORE, LOAD_EXCLUSIVE, STORE_EXCLUSIVE, KINDS };
+
+/* The bits of an instruction that say that it is of a kind, and what they are then. */
+static const struct form {
+	uint32_t mask, bits;
+	const char *name;
+} FORMS[KINDS] = {
+	[LOAD] = {0xfffffc00, 0xc8dffc00, "ldar"},
+	[STORE] = {0xfffffc00, 0xc89ffc00, "stlr"},
+	[LOAD_EXCLUSIVE] = {0xfffffc00, 0xc85ffc00, "ldaxr"},
+	[STORE_EXCLUSIVE] = {0xffe0fc00, 0xc800fc00, "stlxr"},
+};
+
+/* A table's memory: where the library has it, and where the handler reads and writes it. */
+static struct table {
+	char *seen;
+	char *behind;
+	bool closed;	/* its pages can't be accessed any more */
+} tables[MOST_TABLES];
+
+static unsigned long counts[KINDS];
+
+/* Where the program began, as a stack tells it that needs no table of the library's; and how many places didn't lead there, of how many. */
+static void *home;
+static unsigned long lost, places_met;
+
+/* By an instruction's distance from the beginning of the program's code, in instructions. */
+static unsigned char met[MOST_CODE];
+
+extern const char __executable_start[];
+
+void *__real_malloc(size_t size);
+void __real_free(void *block);
+registry_answer __real_registry_open(const struct registry_settings *settings, struct registry_keeper *keeper, struct registry_cpu *cpus, size_t count);
+void *__wrap_malloc(size_t size);
+void __wrap_free(void *block);
+registry_answer __wrap_registry_open(const struct registry_settings *settings, struct registry_keeper *keeper, struct registry_cpu *cpus, size_t count);
+
+static size_t table_pages(void)
+{
+	size_t page = (size_t)sysconf(_SC_PAGESIZE);
+	return (TABLE_BYTES + page - 1) / page * page;
+}
+
+/* The table that has this address, or NULL. */
+static struct table *table_at(const void *address)
+{
+	for (unsigned i = 0; i < MOST_TABLES; i++)
+		if (tables[i].seen != NULL && (uintptr_t)address - (uintptr_t)tables[i].seen < TABLE_BYTES)
+			return &tables[i];
+	return NULL;
+}
+
+static struct table *unused_table(void)
+{
+	for (unsigned i = 0; i < MOST_TABLES; i++)
+		if (tables[i].seen == NULL)
+			return &tables[i];
+	fputs("ordered: too many registries at once\n", stderr);
+	exit(1);
+}
+
+/* Memory that is mapped twice. */
+static char *map_table(struct table *table)
+{
+	FILE *file = tmpfile();
+	EXPECT(file != NULL && ftruncate(fileno(file), (off_t)table_pages()) == 0);
+	table->seen = mmap(NULL, table_pages(), PROT_READ | PROT_WRITE, MAP_SHARED, fileno(file), 0);
+	table->behind = mmap(NULL, table_pages(), PROT_READ | PROT_WRITE, MAP_SHARED, fileno(file), 0);
+	EXPECT(table->seen != MAP_FAILED && table->behind != MAP_FAILED);
+	table->closed = false;
+	fclose(file);
+	return table->seen;
+}
+
+void *__wrap_malloc(size_t size)
+{
+	return size == TABLE_BYTES ? map_table(unused_table()) : __real_malloc(size);
+}
+
+void __wrap_free(void *block)
+{
+	struct table *table = table_at(block);
+	if (table == NULL) {
+		__real_free(block);
+		return;
+	}
+	munmap(table->seen, table_pages());
+	munmap(table->behind, table_pages());
+	table->seen = NULL;
+}
+
+static void refuse(const struct table *table, const void *address, uint64_t place, uint32_t instruction)
+{
+	fprintf(stderr, "ordered: the instruction %#x at %#lx comes to byte %ld of a table\n", (unsigned)instruction, (unsigned long)place,
+	    (long)((const char *)address - table->seen));
+	_exit(1);
+}
+
+static enum kind kind_of(uint32_t instruction)
+{
+	for (enum kind kind = 0; kind < KINDS; kind++)
+		if ((instruction & FORMS[kind].mask) == FORMS[kind].bits)
+			return kind;
+	return KINDS;
+}
+
+static void set_register(mcontext_t *machine, unsigned number, uint64_t value)
+{
+	if (number != ZERO_REGISTER)
+		machine->regs[number] = value;
+}
+
+/* Does what the instruction says. One thread runs: what it has loaded exclusively nobody has written since. */
+static void step(mcontext_t *machine, enum kind kind, uint32_t instruction, uint64_t *word)
+{
+	unsigned moved = instruction & 31;
+	if (kind == LOAD || kind == LOAD_EXCLUSIVE)
+		set_register(machine, moved, *word);
+	else
+		*word = moved == ZERO_REGISTER ? 0 : machine->regs[moved];
+	if (kind == STORE_EXCLUSIVE)
+		set_register(machine, instruction >> 16 & 31, 0);
+	machine->pc += sizeof instruction;
+}
+
+/* The last place to which the stack leads. */
+static void *outermost(void)
+{
+	void *places[DEEPEST];
+	int depth = backtrace(places, DEEPEST);
+	return depth > 0 ? places[depth - 1] : NULL;
+}
+
+/* The instruction came to a table. The first time it is seen whether the stack leads home from there. */
+static void meet(uint64_t place, uint64_t address)
+{
+	if (met[place] != 0)
+		return;
+	met[place] = 1;
+	places_met++;
+	if (outermost() != home && lost++ == 0)
+		fprintf(stderr, "ordered: no way home from %#lx\n", (unsigned long)address);
+}
+
+static void on_access(int number, siginfo_t *info, void *context)
+{
+	mcontext_t *machine = &((ucontext_t *)context)->uc_mcontext;
+	const struct table *table = table_at(info->si_addr);
+	uint32_t instruction;
+	if (table == NULL || !table->closed) {
+		signal(number, SIG_DFL);
+		return;
+	}
+	memcpy(&instruction, (const void *)(uintptr_t)machine->pc, sizeof instruction);
+	enum kind kind = kind_of(instruction);
+	size_t distance = (size_t)((const char *)info->si_addr - table->seen);
+	uint64_t place = (machine->pc - (uintptr_t)__executable_start) / sizeof instruction;
+	if (kind == KINDS || distance % 8 != 0 || place >= MOST_CODE)
+		refuse(table, info->si_addr, machine->pc, instruction);
+	counts[kind]++;
+	meet(place, machine->pc);
+	step(machine, kind, instruction, (uint64_t *)(void *)(table->behind + distance));
+}
+
+/* The tables that were made by an opening can't be accessed from now on. How many there were. */
+static unsigned close_tables(void)
+{
+	unsigned made = 0;
+	for (unsigned i = 0; i < MOST_TABLES; i++)
+		if (tables[i].seen != NULL && !tables[i].closed) {
+			EXPECT(mprotect(tables[i].seen, table_pages(), PROT_NONE) == 0);
+			tables[i].closed = true;
+			made++;
+			if (getenv("ORDERED_PLANT") != NULL)
+				(void)*(volatile char *)tables[i].seen;
+		}
+	return made;
+}
+
+registry_answer __wrap_registry_open(const struct registry_settings *settings, struct registry_keeper *keeper, struct registry_cpu *cpus, size_t count)
+{
+	home = outermost();
+	registry_answer answer = __real_registry_open(settings, keeper, cpus, count);
+	EXPECT(close_tables() == (answer == REGISTRY_DONE ? 1 : 0));
+	return answer;
+}
+
+static void write_sites(const char *path)
+{
+	FILE *file = fopen(path, "w");
+	EXPECT(file != NULL);
+	for (size_t place = 0; place < MOST_CODE; place++)
+		if (met[place] != 0)
+			fprintf(file, "%lx\n", (unsigned long)((uintptr_t)__executable_start + place * sizeof(uint32_t)));
+	EXPECT(fclose(file) == 0);
+}
+
+static void report(void)
+{
+	const char *path = getenv("ORDERED_SITES");
+	if (path != NULL)
+		write_sites(path);
+	fprintf(stderr, "ordered: %s %lu, %s %lu, %s %lu, %s %lu, and no other instruction, at %lu places\n", FORMS[LOAD].name, counts[LOAD], FORMS[STORE].name,
+	    counts[STORE], FORMS[LOAD_EXCLUSIVE].name, counts[LOAD_EXCLUSIVE], FORMS[STORE_EXCLUSIVE].name, counts[STORE_EXCLUSIVE], places_met);
+	if (lost != 0) {
+		fprintf(stderr, "ordered: %lu of these places have no way home\n", lost);
+		_exit(1);
+	}
+}
+
+__attribute__((constructor)) static void watch(void)
+{
+	struct sigaction access = {.sa_sigaction = on_access, .sa_flags = SA_SIGINFO};
+	EXPECT(sigaction(SIGSEGV, &access, NULL) == 0 && atexit(report) == 0);
+}

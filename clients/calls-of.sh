@@ -1,0 +1,9 @@
+#!/usr/bin/env bash
+# Prints the calls that headers declare, sorted, one a line: clients/calls-of.sh HEADER..
+# A declaration begins a line, and what it answers is one or more words: `uint32_t registry_enter(..`, `const char *registry_strerror(..`.
+set -euo pipefail
+if [ $# -eq 0 ]; then
+    echo "usage: calls-of.sh HEADER.." >&2
+    exit 2
+fi
+cat -- "$@" | grep -vE '^(static|typedef|return|extern|#)' | { grep -oE '^[a-z][A-Za-z0-9_ ]*[ *][a-z][a-z0-9_]*\(' || true; } | sed -E 's/^.*[ *]([a-z][a-z0-9_]*)\($/\1/' | sort -u

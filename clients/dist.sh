@@ -1,0 +1,105 @@
+#!/usr/bin/env bash
+# Lays out or packs the source of a release: everything in C and Rust beside the archives of all processors that there are.
+#
+#     dist.sh OUT            packs it as OUT/kupaldiz-VERSION.tar.xz
+#     dist.sh --lay FOLDER   lays it out as that folder, which isn't there yet
+#
+# It works in the repository and in the source of a release alike. The time of every file is SOURCE_DATE_EPOCH, else that of CHANGELOG.md: so the same files
+# make the same bytes.
+set -euo pipefail
+cd "$(dirname "$0")"
+
+refuse() {
+    echo "dist: $1" >&2
+    exit 2
+}
+
+# first NAME..: the first of these that is there, or nothing.
+first() {
+    local name
+    for name; do
+        if [ -e "$name" ]; then
+            echo "$name"
+            return
+        fi
+    done
+}
+
+# The archive of a processor, if there is one.
+archive_of() {
+    if [ "$1" = x86_64 ]; then
+        first "archive/$1/libregistry.a" out/libregistry.a
+    else
+        first "archive/$1/libregistry.a" "out/$1/libregistry.a"
+    fi
+}
+
+# lay_archive PROCESSOR TO: its archive with the record, and the program.
+lay_archive() {
+    local archive to=$2/archive/$1 program
+    archive=$(archive_of "$1")
+    [ -n "$archive" ] || return 0
+    [ -f "${archive%.a}.proved" ] || refuse "there is no ${archive%.a}.proved, the record of the archive's proof: tools/build-archive.sh writes it"
+    mkdir -p "$to"
+    cp "$archive" "${archive%.a}.proved" "$to"
+    program=$(first archive/x86_64/registry_run ../crates/registry_run/out/registry_run)
+    if [ "$1" = x86_64 ] && [ -n "$program" ]; then
+        cp "$program" "$to/registry_run"
+    fi
+}
+
+# fill FILE: writes FILE from FILE.in, with the version, the time and the licence.
+fill() {
+    local licence text
+    licence=$(make -s licence)
+    text="The licence that SPDX names $licence."
+    if [ -z "$licence" ]; then
+        licence=none-chosen text="No licence is chosen yet: that is the owner's to do, and until then nobody else may copy or pass on what is here."
+    fi
+    sed -e "s|@VERSION@|$(make -s version)|" -e "s|@DATE@|$(LC_ALL=C date -u -R -d "@$SOURCE_DATE_EPOCH")|" \
+        -e "s|@LICENCE@|$licence|" -e "s|@LICENCE_TEXT@|$text|" "$1.in" >"$1"
+    rm "$1.in"
+}
+
+# lay TO: the whole source.
+lay() {
+    local to=$1 scripts
+    scripts=$(first scripts ../examples)
+    mkdir -p "$to/c" "$to/scripts"
+    cp -r Makefile ./*.mk ./*.map ./*.in ./*.sh ./*.md man netbsd examples debian "$to"
+    cp c/*.[ch] "$to/c"
+    cp -r "$(first include ../crates/registry_c/include)" "$to/include"
+    cp "$scripts"/*.txt "$scripts"/*.report "$to/scripts"
+    mkdir "$to/rust"
+    cp -r rust/Cargo.toml rust/README.md rust/build.rs rust/src rust/examples rust/tests "$to/rust"
+    lay_archive x86_64 "$to"
+    lay_archive aarch64 "$to"
+    [ ! -f debian/changelog.in ] || fill "$to/debian/changelog"
+    [ ! -f debian/copyright.in ] || fill "$to/debian/copyright"
+    if [ -n "$(make -s licence)" ]; then
+        sed -i "s|^# tools/make-release.sh writes the licence.*|license = \"$(make -s licence)\"|" "$to/rust/Cargo.toml"
+    fi
+    find "$to" -name __pycache__ -prune -exec rm -rf {} +
+}
+
+: "${SOURCE_DATE_EPOCH:=$(stat -c %Y CHANGELOG.md)}"
+[ -n "$(archive_of x86_64)" ] || refuse "there is no out/libregistry.a: tools/build-archive.sh proves and builds it, with the Rattle kit"
+case "$#,${1-}" in
+2,--lay)
+    [ ! -e "$2" ] || refuse "there is a $2 already"
+    mkdir -p "$2"
+    lay "$(realpath "$2")"
+    exit ;;
+1,--*|0,*|[2-9],*)
+    refuse "it takes OUT, or --lay FOLDER" ;;
+esac
+command -v xz >/dev/null || refuse "there is no xz: apt-get install xz-utils"
+out=$(realpath -m "$1")
+name=kupaldiz-$(make -s version)
+room=$(mktemp -d)
+trap 'rm -rf "$room"' EXIT
+lay "$room/$name"
+./pack.sh "$room" "$name" "$SOURCE_DATE_EPOCH" >"$room/packed"
+mkdir -p "$out"
+mv "$room/packed" "$out/$name.tar.xz"
+echo "$1/$name.tar.xz"

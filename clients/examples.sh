@@ -1,0 +1,31 @@
+#!/usr/bin/env bash
+# Lays the examples out as a user of the installed libraries has them: examples.sh FOLDER. They include <kupaldiz/registry.h>, and the folder has a Makefile
+# and a CMakeLists.txt of its own.
+set -euo pipefail
+if [ $# -ne 1 ]; then
+    echo "usage: examples.sh FOLDER" >&2
+    exit 2
+fi
+to=$(realpath -m "$1")
+cd "$(dirname "$0")"
+umask 022
+
+# put FILE AS: the file with the names under which the headers are installed.
+put() {
+    sed -E -e 's|#include "registry\.h"|#include <kupaldiz/registry.h>|' -e 's|#include "waiting\.h"|#include <kupaldiz/registry_waiting.h>|' \
+        -e 's|#include "\.\./\.\./c/expect\.h"|#include "expect.h"|' -e 's|#include "\.\./examples/drivers\.h"|#include "drivers.h"|' "$1" >"$to/$2"
+}
+
+mkdir -p "$to/netbsd"
+for name in Makefile CMakeLists.txt; do
+    put "examples/$name" "$name"
+done
+for name in packet row storm walk forwarder device_switch; do
+    put "c/$name.c" "$name.c"
+done
+for name in client expect edges workers; do
+    put "c/$name.h" "$name.h"
+done
+for path in netbsd/examples/*.[ch] netbsd/tests/drivers.c netbsd/tests/test.h; do
+    put "$path" "netbsd/$(basename "$path")"
+done

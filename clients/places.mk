@@ -1,0 +1,36 @@
+# Where the parts lie, in the repository and in the source of a release, and how the compiler is called. TOP is the folder of this file, with its /.
+#
+# CC, CPPFLAGS, CFLAGS, LDFLAGS and HARDENING are the caller's to set. With CC=aarch64-linux-gnu-gcc everything is built for that processor, and RUN runs it.
+
+ifeq ($(origin CC),default)
+CC = gcc
+endif
+CFLAGS ?= -O2 -g
+CPPFLAGS ?=
+LDFLAGS ?=
+RUN ?=
+# A release sets it empty: a later compiler may warn of more.
+WERROR = -Werror
+WARNINGS = -Wall -Wextra $(WERROR) -Wpedantic -Wshadow -Wconversion -Wstrict-prototypes
+STRICT = -std=c11 -D_POSIX_C_SOURCE=200809L $(WARNINGS)
+
+# The processor that the compiler is for, and what its other programs are called.
+PROCESSOR := $(firstword $(subst -, ,$(shell $(CC) -dumpmachine)))
+CROSS := $(patsubst %-gcc,%-,$(filter %-gcc,$(firstword $(CC))))
+AR = $(CROSS)ar
+OBJCOPY = $(CROSS)objcopy
+
+# In the repository the header is the crate's, and archives are what tools/build-archive.sh makes. A release's source has both in folders of its own.
+HEADER := $(firstword $(wildcard $(TOP)include) $(TOP)../crates/registry_c/include)
+OUT := $(TOP)out$(if $(filter-out x86_64,$(PROCESSOR)),/$(PROCESSOR))
+ARCHIVE := $(firstword $(wildcard $(TOP)archive/$(PROCESSOR)/libregistry.a) $(OUT)/libregistry.a)
+
+# What hardens the libraries. Of CET it is the shadow stack: the archive's calls return where they were called from, but have no endbr64.
+HARDENING_x86_64 = -fcf-protection=full
+HARDENING_aarch64 = -mbranch-protection=standard
+LINKED_x86_64 = -Wl,-z,shstk
+HARDENING = $(HARDENING_$(PROCESSOR))
+LINK_HARDENING = -Wl,-z,relro,-z,now,-z,noexecstack $(LINKED_$(PROCESSOR))
+
+$(ARCHIVE):
+	@echo "there is no $@: tools/build-archive.sh$(if $(filter-out x86_64,$(PROCESSOR)), --for $(PROCESSOR)) proves and builds it, with the Rattle kit" >&2; exit 2

@@ -1,0 +1,51 @@
+#!/usr/bin/env bash
+# Compares the public names of both libraries: symbols.sh HEADERS OUT VERSION. The calls that the headers declare are those that the maps name, those that the
+# shared libraries show and those that the static ones do. Else it prints the difference, and its status is 1. `make symbols` calls it.
+set -uo pipefail
+cd "$(dirname "$0")" || exit
+if [ $# -ne 3 ]; then
+    echo "usage: symbols.sh HEADERS OUT VERSION" >&2
+    exit 2
+fi
+headers=$1 out=$2 version=$3
+wrong=0
+
+# As the linker knows the calls of the pages' names.
+with_prefix() {
+    sed '/^kupaldiz_/!s/^/kupaldiz_/' | sort -u
+}
+
+# The names in the nodes of a map.
+mapped() {
+    sed -nE 's/^\t\t([a-z][a-z0-9_]*);$/\1/p' "$1" | sort
+}
+
+# What a shared library shows, without its versions' own names.
+shared() {
+    ${NM:-nm} -D --defined-only "$1" | awk '$2 != "A" { sub(/@.*/, "", $3); print $3 }' | sort
+}
+
+# What other objects see of a static library.
+static() {
+    ${NM:-nm} -g --defined-only "$1" 2>/dev/null | awk 'NF == 3 { print $3 }' | sort
+}
+
+# same WHAT NAMES OTHERS: two lists of names, as texts.
+same() {
+    local difference
+    if ! difference=$(diff <(echo "$2") <(echo "$3")); then
+        printf '%s: other names than those of the headers\n%s\n' "$1" "$(grep '^[<>]' <<<"$difference")"
+        wrong=1
+    fi
+}
+
+calls=$(./calls-of.sh "$headers/registry.h" c/waiting.h)
+same kupaldiz.map "$calls" "$(mapped kupaldiz.map)"
+same libkupaldiz.so "$calls" "$(shared "$out/libkupaldiz.so.$version")"
+same libkupaldiz.a "$calls" "$(static "$out/libkupaldiz.a")"
+calls=$(./calls-of.sh netbsd/kupaldiz/*.h | with_prefix)
+same netbsd.map "$calls" "$(mapped netbsd/netbsd.map)"
+same libkupaldiz_netbsd.so "$calls" "$(shared "$out/libkupaldiz_netbsd.so.$version")"
+# Two words of each thread, hidden, which the layer's parts share.
+same libkupaldiz_netbsd.a "$calls" "$(static "$out/libkupaldiz_netbsd.a" | grep -vxE 'kupaldiz_(self|places)')"
+exit "$wrong"

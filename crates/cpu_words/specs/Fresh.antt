@@ -1,0 +1,74 @@
+-- Fresh lookups (pserialize(9)): what a CPU's own log tells of its searches, by where they stand in the one list; and what a CPU has seen as it enters, and as it hears.
+use Rattle.std.specs.Prelude.{◌≡◌, ℕ, ◌≤◌, List, [], ◌∷◌, ◌++◌, length, take, Option, Some}
+use Rattle.std.specs.List.{AllByRecursion}
+use mathlib.Core.Option.{some}
+use lib.ListN.{get_elem?}
+use Rattle.atomic_table.specs.Table.{State as Table}
+use Rattle.cpu_words.specs.Types.{Key, Entry, Settings, Event, Enter, Hear, Done}
+use Rattle.protocol.specs.Common.{opening, seen_at, after, IsLoadOf, answer_of, IsNoSeek, IsFreshAnswer, seek_for}
+use Rattle.cpu_words.specs.declared.view.CpuView.{CpuView}
+use Rattle.cpu_words.specs.declared.view.LogItem.{LogItem}
+use Rattle.cpu_words.specs.declared.view.Logged.{Logged}
+use Rattle.cpu_words.specs.declared.view.Teller.{Teller}
+use Rattle.cpu_words.specs.declared.view.View.TheVariants.{Cpu}
+use Rattle.cpu_words.specs.KeeperLog.{has_heard_from}
+use Rattle.cpu_words.specs.Logs.{part}
+use Rattle.cpu_words.specs.Headline.{RunsAsLogged}
+use Rattle.cpu_words.specs.Rule.{log_item}
+use Rattle.cpu_words.specs.Waiting.{IsBeforeTelling}
+
+abbrev pub has_sought : ℕ → Key → LogItem
+has_sought c key = log_item (seek_for c key) Done
+
+-- By its log the CPU c began a search for the key, began no other since, and a load of it replied the answer.
+pub record HasAnswered (c : ℕ) (key : Key) (answer : Option Entry) (log : List LogItem) : Type 0 where
+  pub before : List LogItem
+  pub between : List LogItem
+  pub load : LogItem
+  pub after : List LogItem
+  pub are : log ≡ before ++ has_sought c key ∷ (between ++ load ∷ after)
+  pub none : AllByRecursion (λ d. IsNoSeek c d.event) between
+  pub loads : IsLoadOf c load.event
+  pub replied : answer_of load.reply ≡ Some answer
+
+-- the events until the search began, until just before it replied, and with its reply
+
+abbrev pub until_reply : List Event → ℕ → Key → List Event → List Event
+until_reply first c key since = first ++ seek_for c key ∷ since
+
+abbrev pub with_reply : List Event → ℕ → Key → List Event → Event → List Event
+with_reply first c key since load = first ++ seek_for c key ∷ (since ++ load ∷ [])
+
+-- Where this search stands in the list of all events, and what its answer is by that list.
+pub record IsAnsweredFreshly {z : Settings} {s : Table ℕ Logged} (r : RunsAsLogged z s) (c : ℕ) (key : Key) (answer : Option Entry) {log : List LogItem} (a : HasAnswered c key answer log) : Type 0 where
+  pub first : List Event
+  pub since : List Event
+  pub load : Event
+  pub later : List Event
+  pub are : r.run.events ≡ first ++ seek_for c key ∷ (since ++ load ∷ later)
+  -- the CPU had done just so much before its Seek, and before its reply
+  pub sought : part (r.run.seat c) (take (length first) r.acts) ≡ a.before
+  pub replied : part (r.run.seat c) (take (length (until_reply first c key since)) r.acts) ≡ a.before ++ has_sought c key ∷ a.between
+  -- the answer is the registry's at some point from the history's length at the Seek to that at the reply; what was live at both is found, and what was detached before isn't
+  pub fresh : IsFreshAnswer (after (opening z) first).history (after (opening z) (with_reply first c key since load)).history (seen_at (after (opening z) (with_reply first c key since load)) c) key answer
+
+-- whatever list explains the table, each search in the log of a CPU's seat was answered so
+abbrev pub LookupsAreFresh : Type 0
+LookupsAreFresh = (z : Settings) (s : Table ℕ Logged) (r : RunsAsLogged z s) (i : ℕ) (l : Logged) (x : CpuView) (key : Key) (answer : Option Entry) → get_elem? s.views i ≡ some l → l.view ≡ Cpu x
+    → (a : HasAnswered x.id key answer l.log) → IsAnsweredFreshly r x.id key answer a
+
+-- What a CPU has seen, by the list
+
+abbrev pub history_length : Settings → List Event → ℕ
+history_length z events = length (after (opening z) events).history
+
+pub record PassesAreWhole {z : Settings} {s : Table ℕ Logged} (r : RunsAsLogged z s) : Type 0 where
+  -- as a CPU begins a section, and as it hears a note, its pass becomes the whole history
+  pub entered : (c : ℕ) (first rest : List Event) → r.run.events ≡ first ++ Enter c ∷ rest → seen_at (after (opening z) (first ++ Enter c ∷ [])) c ≡ history_length z first
+  pub heard : (c : ℕ) (first rest : List Event) → r.run.events ≡ first ++ Hear (Some c) ∷ rest → seen_at (after (opening z) (first ++ Hear (Some c) ∷ [])) c ≡ history_length z first
+  -- the history at any moment before another CPU told the note is in it
+  pub told : (c i : ℕ) (h : Teller) (first rest : List (ℕ × LogItem)) (earlier later : List Event) → r.acts ≡ first ++ (i, has_heard_from (Some c) (Some h)) ∷ rest → r.run.events ≡ earlier ++ later
+      → IsBeforeTelling r h earlier → history_length z earlier ≤ history_length z (take (length first) r.run.events)
+
+abbrev pub WholeInTheList : Type 0
+WholeInTheList = (z : Settings) (s : Table ℕ Logged) (r : RunsAsLogged z s) → PassesAreWhole r

@@ -1,0 +1,300 @@
+-- Fresh lookups: a search goes on from the history as it was at its Seek, whatever other events come between.
+use Rattle.std.proofs.Common.{◌≡◌, ℕ, zero, suc, ◌<◌, ◌≤◌, ◌⊎◌, inl, inr, List, [], ◌∷◌, ◌++◌, length, get_or, set, Option, Some, None, Bool, true, false, refl, sym, ap, subst, ◌∙◌, arith, get_or-set_other}
+use Rattle.std.proofs.Common.{get_or-set_same, IsSome, append_assoc, length-append}
+use Rattle.std.proofs.lemmas.Bool.{and_parts, cases_eq}
+use Rattle.std.proofs.lemmas.List.{append-nil}
+use Rattle.std.proofs.lemmas.Option.{none-some, same_Some}
+use Rattle.protocol.specs.Types.{Entry, Change, Attach, Detach, Key}
+use Rattle.protocol.specs.Common.{Event, Enter, Hear, Seek, LoadLink, LoadRecord, Reply, Done, Word, Found, Missed, Ref, Collected, Search, SearchPlace, AtHead, AtNumber, Loaded, On, Over}
+use Rattle.protocol.specs.Common.{IsAttached, EndsAt, IsLiveAt, IsLawful, IsLegal, IsLookup, State, opening, seen_at, search_at, begin_at, Outcome, step, state_after, guard, is_idle, is_inside, is_outside}
+use Rattle.protocol.specs.Common.{may_enter, may_seek, after_seek, after_enter, after_seeing, after_change, with_some, link_at, link_loaded, load_link, load_searched, outcome_of, some_outcome}
+use Rattle.protocol.specs.Common.{Holds, PlaceHolds, after, after_event, IsAllowed, IsLoadOf, answer_of, loaded_at, row_of_place}
+use Rattle.protocol.specs.History.{change_at}
+use Rattle.protocol.specs.declared.event.RecordOf.TheVariants.{Search as OfSearch}
+use Rattle.registry_values.specs.Common.{key_of}
+use Rattle.protocol.specs.Common.{seek_for, IsNoSeek, SeeksNone, IsFreshAnswer, AnswersFreshly, SeesAll, FreshAnswers, WholePasses}
+use Rattle.protocol.proofs.history.History.{at_within, at_prefix, one_live, length-after_change}
+use Rattle.protocol.proofs.history.Growing.{place_old}
+use Rattle.protocol.proofs.slots.Occupied.{written_cases}
+use Rattle.protocol.proofs.keeps.Keeping.{step_keeps, after_keeps}
+use Rattle.protocol.proofs.keeps.SectionKeeps.{idle_parts, none_from, some_from}
+use Rattle.protocol.proofs.keeps.Searching.{Walks, Steps, IsStep, load_link_steps, load_searched_steps, weight, placed, within_some, seen_now, searching_within}
+use Rattle.protocol.proofs.runs.Answers.{history_grows}
+use Rattle.protocol.proofs.runs.Steps.{Sort, Refused, Left, Entered, Exited, Sought, Heard, Searched, Published, Unpublished, IsOn, step_sort, after_more}
+use Rattle.protocol.proofs.runs.Reuse.{every_run_keeps}
+use Rattle.protocol.proofs.Either.{either}
+
+-- A search that goes
+
+-- the search q of c, where the history was `from` long as it began
+pub record Goes (s : State) (c from : ℕ) (key : Key) (q : Search) : Type 0 where
+  pub sought : q.key ≡ key
+  pub walk : Walks s c from
+  pub stands : PlaceHolds s.history from (seen_at s c) q.key q.place
+  pub seen : (q.place ≡ AtHead) ⊎ (from ≤ seen_at s c)
+
+-- whichever search of c is under way is that one
+abbrev pub Going : State → ℕ → ℕ → Key → Type 0
+Going s c from key = (q : Search) → search_at s c ≡ Some q → Goes s c from key q
+
+place_with : (h k : List Change) (from v w : ℕ) (key : Key) (p : SearchPlace) → h ≡ k → v ≡ w → PlaceHolds h from v key p → PlaceHolds k from w key p
+place_with h k from v w key p same seen holds = subst (λ (x : ℕ). PlaceHolds k from x key p) seen (subst (λ (x : List Change). PlaceHolds x from v key p) same holds)
+
+-- what leaves the history, the section and the pass of c leaves its search
+goes_same : (s n : State) (c from : ℕ) (key : Key) (q : Search) → n.history ≡ s.history → begin_at n c ≡ begin_at s c → seen_at n c ≡ seen_at s c → Goes s c from key q → Goes n c from key q
+goes_same s n c from key q history begin seen is = record {
+  sought = is.sought;
+  walk = record { begin = is.walk.begin; open_since = begin ∙ is.walk.open_since; since = is.walk.since; by_now = omega (arith, is.walk.by_now, ap length history) };
+  stands = place_with s.history n.history from (seen_at s c) (seen_at n c) q.key q.place (sym history) (sym seen) is.stands;
+  seen = either is.seen (λ head. inl head) (λ le. inr (omega (arith, le, seen)));
+}
+
+going_same : (s n : State) (c from : ℕ) (key : Key) → n.history ≡ s.history → begin_at n c ≡ begin_at s c → seen_at n c ≡ seen_at s c → search_at n c ≡ search_at s c → Going s c from key → Going n c from key
+going_same s n c from key history begin seen search going q is = goes_same s n c from key q history begin seen (going q (sym search ∙ is))
+
+-- one change more
+going_changed : (s n : State) (x : Change) (c from : ℕ) (key : Key) → n.history ≡ after_change s.history x → begin_at n c ≡ begin_at s c → seen_at n c ≡ seen_at s c → search_at n c ≡ search_at s c
+    → Going s c from key → Going n c from key
+going_changed s n x c from key history begin seen search going q is =
+    let was : Goes s c from key q = going q (sym search ∙ is) in record {
+      sought = was.sought;
+      walk = record { begin = was.walk.begin; open_since = begin ∙ was.walk.open_since; since = was.walk.since; by_now = omega (arith, was.walk.by_now, ap length history, length-after_change s.history x) };
+      stands = place_with (after_change s.history x) n.history from (seen_at s c) (seen_at n c) q.key q.place (sym history) (sym seen)
+          (place_old s.history x from (seen_at s c) q.key q.place was.walk.by_now was.stands);
+      seen = either was.seen (λ head. inl head) (λ le. inr (omega (arith, le, seen)));
+    }
+
+-- no search is under way
+going_none : (s : State) (c from : ℕ) (key : Key) → search_at s c ≡ None → Going s c from key
+going_none s c from key none q is = absurd (none-some q (sym none ∙ is))
+
+-- Its own loads
+
+abbrev pub GoingAfter : ℕ → ℕ → Key → Option Outcome → Type 0
+GoingAfter c from key None = Unit {0}
+GoingAfter c from key (Some o) = Going o.state c from key
+
+over_none : (s : State) (c : ℕ) (q : Search) → search_at s c ≡ Some q → get_or (set s.searches c None) c None ≡ None
+over_none s c q is = get_or-set_same s.searches c None None (within_some s.searches c q is)
+
+placed_goes : (s n : State) (c from left : ℕ) (key : Key) (q : Search) (place : SearchPlace) (w : ℕ) → Goes s c from key q → n.history ≡ s.history → begin_at n c ≡ begin_at s c → from ≤ seen_at n c
+    → IsStep n c from q left (Word w) → Going n c from key
+placed_goes s n c from left key q place w was history begin le steps r is =
+    let same : placed q steps.0 ≡ r = same_Some (placed q steps.0) r (sym steps.1 ∙ is) in record {
+      sought = ap (λ (x : Search). x.key) (sym same) ∙ was.sought;
+      walk = record { begin = was.walk.begin; open_since = begin ∙ was.walk.open_since; since = was.walk.since; by_now = omega (arith, was.walk.by_now, ap length history) };
+      stands = subst (λ (x : Search). PlaceHolds n.history from (seen_at n c) x.key x.place) same steps.2;
+      seen = inr le;
+    }
+
+link_going : (s : State) (c from left : ℕ) (key : Key) (q : Search) (x : ℕ) → Holds s → search_at s c ≡ Some q → Goes s c from key q → Steps c from q left (link_loaded s c q x)
+    → GoingAfter c from key (link_loaded s c q x)
+link_going s c from left key q zero on is was steps = going_none _ c from key (over_none s c q is)
+link_going s c from left key q (suc t) on is was steps =
+    placed_goes s _ c from left key q (AtNumber t) (suc t) was refl refl (omega (arith, was.walk.by_now, seen_now s c on (searching_within s c q on is))) steps
+
+followed_going : (s : State) (c from left : ℕ) (key : Key) (q : Search) (x : Option ℕ) → Holds s → search_at s c ≡ Some q → Goes s c from key q → Steps c from q left (with_some x (link_loaded s c q))
+    → GoingAfter c from key (with_some x (link_loaded s c q))
+followed_going s c from left key q None on is was steps = tt
+followed_going s c from left key q (Some x) on is was steps = link_going s c from left key q x on is was steps
+
+outcome_going : (s : State) (c from left : ℕ) (key : Key) (q : Search) (o : Option Loaded) → search_at s c ≡ Some q → Goes s c from key q → from ≤ seen_at s c → Steps c from q left (outcome_of s c q o)
+    → GoingAfter c from key (outcome_of s c q o)
+outcome_going s c from left key q None is was le steps = tt
+outcome_going s c from left key q (Some (On p w)) is was le steps = placed_goes s _ c from left key q p w was refl refl le steps
+outcome_going s c from left key q (Some (Over e)) is was le steps = going_none _ c from key (over_none s c q is)
+
+-- what a load of the search leaves: a step of the walk, and a search that goes
+record Own (s : State) (c from : ℕ) (key : Key) (q : Search) (o : Option Outcome) : Type 0 where
+  steps : Steps c from q (weight s q.place) o
+  going : GoingAfter c from key o
+
+link_own : (s : State) (c from : ℕ) (key : Key) (q : Search) → Holds s → search_at s c ≡ Some q → Goes s c from key q → Own s c from key q (load_link s c q q.place)
+link_own s c from key q on is was =
+    let steps = load_link_steps s c from q q.place on was.walk is was.stands in
+    record { steps = steps; going = followed_going s c from (weight s q.place) key q (link_at s q.place) on is was steps }
+
+record_own : (s : State) (c from : ℕ) (key : Key) (q : Search) → Holds s → search_at s c ≡ Some q → Goes s c from key q → Own s c from key q (load_searched s c q q.place)
+record_own s c from key q on is was = either was.seen
+    (λ head. subst (λ (o : Option Outcome). Own s c from key q o) (ap (load_searched s c q) (sym head)) (record { steps = tt; going = tt }))
+    (λ le.
+    let steps = load_searched_steps s c from q q.place on was.walk le is was.stands in
+    record { steps = steps; going = outcome_going s c from (weight s q.place) key q (loaded_at q q.place (row_of_place s.rows q.place)) is was le steps })
+
+own : (s : State) (c from : ℕ) (key : Key) (q : Search) (e : Event) → Holds s → search_at s c ≡ Some q → Goes s c from key q → IsLoadOf c e → Own s c from key q (step s e)
+own s c from key q e on is was of = either of
+    (λ link. subst (Own s c from key q) (ap (λ (o : Option Search). with_some o (λ (r : Search). load_link s c r r.place)) (sym is) ∙ ap (step s) (sym link)) (link_own s c from key q on is was))
+    (λ rec. subst (Own s c from key q) (ap (λ (o : Option Search). with_some o (λ (r : Search). load_searched s c r r.place)) (sym is) ∙ ap (step s) (sym rec)) (record_own s c from key q on is was))
+
+-- Every event
+
+-- the search of another CPU
+other_going : (s n : State) (c j from : ℕ) (key : Key) (old : Search) → ¬ (c ≡ j) → n.history ≡ s.history → n.begins ≡ s.begins → (n.seen ≡ s.seen) ⊎ (n.seen ≡ (after_seeing s j).seen)
+    → IsOn s j old n → Going s c from key → Going n c from key
+other_going s n c j from key old off history begins seen on going = going_same s n c from key history (ap (λ (xs : List (Option ℕ)). get_or xs c None) begins)
+    (either seen
+    (λ same. ap (λ (xs : List ℕ). get_or xs c 0) same)
+    (λ sees. ap (λ (xs : List ℕ). get_or xs c 0) sees ∙ get_or-set_other s.seen j c (length s.history) 0 off))
+    (either on
+    (λ over. ap (λ (xs : List (Option Search)). get_or xs c None) over ∙ get_or-set_other s.searches j c None None off)
+    (λ at. ap (λ (xs : List (Option Search)). get_or xs c None) at.1 ∙ get_or-set_other s.searches j c _ None off))
+    going
+
+goes_on : (s : State) (c from : ℕ) (key : Key) (e : Event) (o : Option Outcome) → Holds s → IsNoSeek c e → Going s c from key → Sort s e o → step s e ≡ o → Going (state_after s o) c from key
+goes_on s c from key _ _ on off_seek going (Refused e) made = going
+goes_on s c from key _ _ on off_seek going (Left e o same) made = going_same s o.state c from key same.history (ap (λ (xs : List (Option ℕ)). get_or xs c None) same.begins)
+    (ap (λ (xs : List ℕ). get_or xs c 0) same.seen) (ap (λ (xs : List (Option Search)). get_or xs c None) same.searches) going
+goes_on s c from key _ _ on off_seek going (Entered j may) made = either (cases_eq c j)
+    (λ same. going_none (after_enter s j) c from key (ap (search_at s) same ∙ (idle_parts s j (and_parts (is_idle s j) _ may).0).1))
+    (λ off. going_same s (after_enter s j) c from key refl (get_or-set_other s.begins j c _ None off) (get_or-set_other s.seen j c _ 0 off) refl going)
+goes_on s c from key _ _ on off_seek going (Exited j may) made = either (cases_eq c j)
+    (λ same. going_none _ c from key (ap (search_at s) same ∙ (idle_parts s j (and_parts (is_idle s j) _ may).0).1))
+    (λ off. going_same s _ c from key refl (get_or-set_other s.begins j c _ None off) refl refl going)
+goes_on s c from key _ _ on off_seek going (Sought j kind name may) made = either (cases_eq c j)
+    (λ same. absurd (off_seek (record { kind = kind; name = name }) (ap (λ (k : ℕ). Seek k kind name) (sym same))))
+    (λ off. going_same s _ c from key refl refl refl (get_or-set_other s.searches j c _ None off) going)
+goes_on s c from key _ _ on off_seek going (Heard j may) made = either (cases_eq c j)
+    (λ same. going_none _ c from key (ap (search_at s) same ∙ (idle_parts s j may).1))
+    (λ off. going_same s _ c from key refl refl (get_or-set_other s.seen j c _ 0 off) refl going)
+goes_on s c from key _ _ on off_seek going (Searched e j q o of under loads answers) made = either (cases_eq c j)
+    (λ same.
+    let is : search_at s c ≡ Some q = ap (search_at s) same ∙ under in
+    let its : IsLoadOf c e = subst (λ (k : ℕ). IsLoadOf k e) (sym same) of in
+    subst (GoingAfter c from key) made (own s c from key q e on is (going q is) its).going)
+    (λ off. other_going s o.state c j from key q off loads.history loads.begins loads.seen loads.searches going)
+goes_on s c from key _ _ on off_seek going (Published t e row may) made = going_changed s _ (Attach e) c from key refl refl refl refl going
+goes_on s c from key _ _ on off_seek going (Unpublished t e n at gone) made = going_changed s n (Detach e.number) c from key gone.history (ap (λ (xs : List (Option ℕ)). get_or xs c None) gone.begins)
+    (ap (λ (xs : List ℕ). get_or xs c 0) gone.seen) (ap (λ (xs : List (Option Search)). get_or xs c None) gone.searches) going
+goes_on s c from key _ _ on off_seek going _ made = going_same s _ c from key refl refl refl refl going
+
+-- Over the events since
+
+record Since (h : List Change) (s : State) (c : ℕ) (key : Key) : Type 0 where
+  holds : Holds s
+  going : Going s c (length h) key
+  grown : (more : List Change) × (s.history ≡ h ++ more)
+
+since_event : (h : List Change) (s : State) (c : ℕ) (key : Key) (e : Event) → IsNoSeek c e → Since h s c key → Since h (after_event s e) c key
+since_event h s c key e other is =
+    let grows = history_grows s e is.holds in
+    let more : List Change = is.grown.0 in record {
+      holds = after_keeps s (step s e) is.holds (step_keeps s e is.holds);
+      going = goes_on s c (length h) key e (step s e) is.holds other is.going (step_sort s e is.holds) refl;
+      grown = (more ++ grows.0, grows.1 ∙ (ap (λ (l : List Change). l ++ grows.0) is.grown.1 ∙ append_assoc h more grows.0));
+    }
+
+since_events : (h : List Change) (s : State) (c : ℕ) (key : Key) (es : List Event) → SeeksNone c es → Since h s c key → Since h (after s es) c key
+since_events h s c key [] none is = is
+since_events h s c key (e ∷ es) none is =
+    subst (λ (n : State). Since h n c key) (sym (after_more s e es)) (since_events h (after_event s e) c key es none.1 (since_event h s c key e none.0 is))
+
+-- The begin
+
+allowed_guard : (b : Bool) (o : Option Outcome) → IsSome (guard b o) → b ≡ true
+allowed_guard true o is = refl
+allowed_guard false o is = absurd (let q : ◌≡◌ {A = Bool} false true = is in cc)
+
+guarded : (s n : State) (b : Bool) (r : Reply) → b ≡ true → state_after s (guard b (some_outcome n r)) ≡ n
+guarded s n true r is = refl
+guarded s n false r is = absurd (let q : ◌≡◌ {A = Bool} false true = is in cc)
+
+since_seek : (s : State) (c : ℕ) (key : Key) → Holds s → IsAllowed s (seek_for c key) → Since s.history (after_event s (seek_for c key)) c key
+since_seek s c key on allowed =
+    let may : may_seek s c ≡ true = allowed_guard (may_seek s c) _ allowed in
+    let p = and_parts (is_idle s c) (is_inside s c) may in
+    let in_ : (b : ℕ) × (begin_at s c ≡ Some b) = some_from (begin_at s c) p.1 in
+    let start : Search = record { key = key; start = seen_at s c; place = AtHead } in
+    let lt : c < length s.searches = let a = (idle_parts s c p.0).0 in omega (arith, a, on.shape.searches, on.seats.within) in
+    let now : search_at (after_seek s c key) c ≡ Some start = get_or-set_same s.searches c (Some start) None lt in
+    let begun : Since s.history (after_seek s c key) c key = record {
+      holds = subst Holds (guarded s (after_seek s c key) (may_seek s c) Done may) (after_keeps s (step s (seek_for c key)) on (step_keeps s (seek_for c key) on));
+      going = λ q is. let same : start ≡ q = same_Some start q (sym now ∙ is) in subst (λ (r : Search). Goes (after_seek s c key) c (length s.history) key r) same (record {
+        sought = refl;
+        walk = record { begin = in_.0; open_since = in_.1; since = omega (arith, on.sections.begun c in_.0 in_.1, on.sections.prefix c); by_now = omega arith };
+        stands = tt;
+        seen = inl refl;
+      });
+      grown = ([], sym (append-nil s.history));
+    } in
+    subst (λ (n : State). Since s.history n c key) (sym (guarded s (after_seek s c key) (may_seek s c) Done may)) begun
+
+-- The answer
+
+answered_by : (n : State) (c from left : ℕ) (q : Search) (r : Reply) (answer : Option Entry) → IsStep n c from q left r → answer_of r ≡ Some answer → IsLawful n.history from (seen_at n c) q.key answer
+answered_by n c from left q (Found e) answer is same = subst (IsLawful n.history from (seen_at n c) q.key) (same_Some (Some e) answer same) is
+answered_by n c from left q Missed answer is same = subst (IsLawful n.history from (seen_at n c) q.key) (same_Some None answer same) is
+answered_by n c from left q _ answer is same = absurd (none-some answer same)
+
+-- an allowed load has a search
+load_searches : (s : State) (c : ℕ) (e : Event) (o : Outcome) (found : Option Search) → IsLoadOf c e → search_at s c ≡ found → step s e ≡ Some o → (q : Search) × (search_at s c ≡ Some q)
+load_searches s c e o (Some q) of is made = (q, is)
+load_searches s c e o None of is made = absurd (none-some o (sym (either of
+    (λ link. ap (step s) link ∙ ap (λ (x : Option Search). with_some x (λ (r : Search). load_link s c r r.place)) is)
+    (λ rec. ap (step s) rec ∙ ap (λ (x : Option Search). with_some x (λ (r : Search). load_searched s c r r.place)) is)) ∙ made))
+
+load_lawful : (h : List Change) (s : State) (c : ℕ) (key : Key) (e : Event) (o : Outcome) (answer : Option Entry) → Since h s c key → IsLoadOf c e → step s e ≡ Some o → answer_of o.reply ≡ Some answer
+    → IsLawful o.state.history (length h) (seen_at o.state c) key answer
+load_lawful h s c key e o answer is of made reply =
+    let search = load_searches s c e o (search_at s c) of refl made in
+    let was : Goes s c (length h) key search.0 = is.going search.0 search.1 in
+    let steps : Steps c (length h) search.0 (weight s search.0.place) (Some o) =
+    subst (Steps c (length h) search.0 (weight s search.0.place)) made (own s c (length h) key search.0 e is.holds search.1 was of).steps in
+    subst (λ (k : Key). IsLawful o.state.history (length h) (seen_at o.state c) k answer) was.sought
+    (answered_by o.state c (length h) (weight s search.0.place) search.0 o.reply answer steps reply)
+
+-- what was attached, or ended, in the old history is so in the new one
+at_grown : (old new more : List Change) (k : ℕ) (x : Change) → new ≡ old ++ more → change_at old k ≡ Some x → change_at new k ≡ Some x
+at_grown old new more k x grown is = ap (λ (l : List Change). change_at l k) grown ∙ (at_prefix old more k (at_within old k x is).1 ∙ is)
+
+met_as : (old new more : List Change) (seen : ℕ) (key : Key) (answer : Option Entry) (e : Entry) → IsLegal new → new ≡ old ++ more → (lawful : IsLawful new (length old) seen key answer)
+    → IsLookup new lawful.point key answer → IsLiveAt old (length old) e → key_of e ≡ key → ((p : ℕ) → EndsAt new e.number p → ⊥) → answer ≡ Some e
+met_as old new more seen key None e legal grown lawful at live same stays =
+    absurd (at e (record { attached = at_grown old new more e.number (Attach e) grown live.attached; begun = omega (arith, live.begun, lawful.from_on); unended = λ p x. absurd (stays p x) }) same)
+met_as old new more seen key (Some f) e legal grown lawful at live same stays =
+    ap Some (one_live new legal lawful.point f e at.0 (record {
+      attached = at_grown old new more e.number (Attach e) grown live.attached;
+      begun = omega (arith, live.begun, lawful.from_on);
+      unended = λ p x. absurd (stays p x);
+    }) (at.1 ∙ sym same))
+
+left_as : (old new more : List Change) (seen : ℕ) (key : Key) (answer : Option Entry) (e : Entry) (p : ℕ) → new ≡ old ++ more → (lawful : IsLawful new (length old) seen key answer)
+    → IsLookup new lawful.point key answer → EndsAt old e.number p → answer ≡ Some e → ⊥
+left_as old new more seen key answer e p grown lawful at end is =
+    let live : IsLiveAt new lawful.point e = (subst (IsLookup new lawful.point key) is at).0 in
+    omega (arith, live.unended p (at_grown old new more p (Detach e.number) grown end), (at_within old p (Detach e.number) end).1, lawful.from_on)
+
+pub answers_freshly : (s : State) → Holds s → AnswersFreshly s
+answers_freshly s on c key since event o answer allowed none of made reply =
+    let n : State = after (after_event s (seek_for c key)) since in
+    let is : Since s.history n c key = since_events s.history (after_event s (seek_for c key)) c key since none (since_seek s c key on allowed) in
+    let lawful = load_lawful s.history n c key event o answer is of made reply in
+    let last = history_grows n event is.holds in
+    let more : List Change = is.grown.0 ++ last.0 in
+    let grown : o.state.history ≡ s.history ++ more =
+    ap (λ (x : Option Outcome). (state_after n x).history) (sym made) ∙ (last.1 ∙ (ap (λ (l : List Change). l ++ last.0) is.grown.1 ∙ append_assoc s.history is.grown.0 last.0)) in
+    let holds : Holds o.state = subst (λ (x : Option Outcome). Holds (state_after n x)) made (after_keeps n (step n event) is.holds (step_keeps n event is.holds)) in
+    record {
+      lawful = lawful;
+      met = λ e live same stays. met_as s.history o.state.history more (seen_at o.state c) key answer e holds.legal grown lawful lawful.answered live same stays;
+      left = λ e p end found. left_as s.history o.state.history more (seen_at o.state c) key answer e p grown lawful lawful.answered end found;
+    }
+
+pub sees_all : (s : State) → Holds s → SeesAll s
+sees_all s on = record {
+  entered = λ c allowed.
+      let may : may_enter s c ≡ true = allowed_guard (may_enter s c) _ allowed in
+      let seated = (idle_parts s c (and_parts (is_idle s c) _ may).0).0 in
+      ap (λ (n : State). seen_at n c) (guarded s (after_enter s c) (may_enter s c) Done may)
+      ∙ get_or-set_same s.seen c (length s.history) 0 (omega (arith, seated, on.shape.seen, on.seats.within));
+  heard = λ c allowed.
+      let may : is_idle s c ≡ true = allowed_guard (is_idle s c) _ allowed in
+      let seated = (idle_parts s c may).0 in
+      ap (λ (n : State). seen_at n c) (guarded s (after_seeing s c) (is_idle s c) Done may)
+      ∙ get_or-set_same s.seen c (length s.history) 0 (omega (arith, seated, on.shape.seen, on.seats.within));
+}
+
+pub fresh_answers : FreshAnswers
+fresh_answers z events fit = answers_freshly (after (opening z) events) (every_run_keeps z events fit)
+
+pub whole_passes : WholePasses
+whole_passes z events fit = sees_all (after (opening z) events) (every_run_keeps z events fit)

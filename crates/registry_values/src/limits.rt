@@ -1,0 +1,33 @@
+//! The limits of a build. This file alone says them; everything else, in code, definitions, proofs, tests and texts, speaks by these names.
+//! A build with other numbers is proved like this one: `tools/build-archive.sh` makes it in a copy. `limits_law` says that they leave room.
+
+ghost use Rattle.registry_values.specs.Limits.{LimitsLeaveRoom};
+
+/// The most CPUs that a registry may have. CPU numbers are `u8` and signed counts are summed over them, so at most 128.
+pub const MOST_CPUS: usize = 8;
+
+/// The most entries that a registry may hold at a time, and so the most slots. Slot numbers are `u8`, and one value more stands for none, so
+/// at most 255.
+pub const MOST_SLOTS: usize = 32;
+
+/// The most changes that a registry's history may have room for: attaches and detaches together. An entry's number is at most this.
+pub const MOST_CHANGES: u64 = 1_000_000;
+
+/// The most outermost sections that a CPU may begin. Its section word grows by two for each, so at most 2^62.
+pub const MOST_SECTIONS: u64 = 1 << 40;
+
+/// The most passive references that a CPU may have to an entry, and the furthest that its net count of local ones may go.
+pub const MOST_COUNT: u64 = 1 << 40;
+
+/// How deep a section may be nested.
+pub const MOST_DEPTH: u8 = 255;
+
+/// Where counts begin: a count word in use is this plus the CPU's net count, and 0 once collected; a slot's total begins with it too. A CPU
+/// may release what another acquired, so a net count may be below 0, though never by more than `MOST_COUNT` for each CPU. So a count word in
+/// use is never 0, and the sum of all CPUs' words and the total fits 64 bits.
+pub const BIAS: u64 = 1 << 48;
+
+/// Theorem, no effect at run time: the limits leave room. Numbers that don't fit each other fail here.
+pub fn limits_law()
+    ensures { LimitsLeaveRoom }
+{}

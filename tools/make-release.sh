@@ -1,0 +1,170 @@
+#!/usr/bin/env bash
+# Makes a release for C and Rust out of what is proved, in release/: archives to unpack, the source around them, a crate, Debian packages, PROVED and SHA256SUMS.
+# clients/RELEASE.md says how it is laid out. The same commit and the same archives make the same bytes.
+#
+#     tools/make-release.sh                  takes the archives in clients/out and the program, as tools/build-archive.sh and tools/prove-program.sh left them
+#     tools/make-release.sh --prove          proves and builds all three first
+#     tools/make-release.sh --to FOLDER      writes there; `--prove` may come before it
+#
+# The archive for x86_64 and the program are needed, that for aarch64 is taken where it is there. Where something is missing, one line says what and how to get
+# it, the status is 2, and nothing is written.
+set -euo pipefail
+root=$(cd "$(dirname "$0")/.." && pwd)
+to=$root/release
+prove=
+
+refuse() {
+    echo "make-release: $1" >&2
+    exit 2
+}
+
+# need COMMAND PACKAGE: the command is there.
+need() {
+    command -v "$1" >/dev/null || refuse "there is no $1: apt-get install $2"
+}
+
+if [ "${1-}" = --prove ]; then
+    prove=yes
+    shift
+fi
+case "$#,${1-}" in
+0,) ;;
+2,--to) to=$(realpath -m "$2") ;;
+*) refuse "it takes --prove, --to FOLDER, or nothing" ;;
+esac
+cd "$root"
+
+need_tools() {
+    local pair
+    for pair in git:git gcc:gcc make:make xz:xz-utils ar:binutils cargo:cargo pkg-config:pkg-config dpkg-buildpackage:dpkg-dev dh:debhelper lintian:lintian; do
+        need "${pair%%:*}" "${pair##*:}"
+    done
+}
+
+# The release is of a commit.
+need_commit() {
+    git rev-parse -q --verify HEAD >/dev/null || refuse "there is no commit here: a release is made in a clone of the repository"
+    [ -z "$(git status --porcelain)" ] || refuse "the tree has changes that are in no commit: git status names them, git commit takes them in"
+}
+
+prove_all() {
+    command -v rt >/dev/null || refuse "there is no rt, the command of the Rattle kit: the kit comes from whoever gives you Rattle"
+    tools/build-archive.sh
+    tools/build-archive.sh --for aarch64
+    tools/prove-program.sh
+}
+
+# Whether there is an archive for aarch64.
+has_aarch64() {
+    [ -e clients/out/aarch64/libregistry.a ]
+}
+
+need_proved() {
+    grep -qx "version = \"$version\"" clients/rust/Cargo.toml || refuse "clients/rust/Cargo.toml has another version than registry.h, which has $version"
+    tools/proof-record.py check clients/out/libregistry.a || exit 2
+    ./registry_run --proved >/dev/null || refuse "there is no proved registry_run of the sources that stand: tools/prove-program.sh proves and builds it"
+    if has_aarch64; then
+        tools/proof-record.py check clients/out/aarch64/libregistry.a || exit 2
+        need aarch64-linux-gnu-gcc gcc-aarch64-linux-gnu
+    else
+        echo "kupaldiz-$version-linux-aarch64.tar.xz is left out: tools/build-archive.sh --for aarch64 proves and builds its archive"
+    fi
+}
+
+# quietly COMMAND..: the command, of which nothing is printed unless it fails.
+quietly() {
+    if ! "$@" >"$room/log" 2>&1; then
+        tail -n 40 "$room/log" >&2
+        echo "make-release: this failed: $*" >&2
+        exit 1
+    fi
+}
+
+# binaries PROCESSOR: what is unpacked and used, for a processor; it is built from a copy of the source.
+binaries() {
+    local name=kupaldiz-$version-linux-$1 source=$room/build-$1 words=() compiler=gcc
+    [ "$1" = x86_64 ] || compiler=$1-linux-gnu-gcc
+    cp -r "$room/$source_name" "$source"
+    words=(CC="$compiler" CFLAGS=-O2 WERROR= PREFIX="/$name" DESTDIR="$room/tree" DOCDIR="/$name/share/doc/kupaldiz" EXAMPLESDIR="/$name/examples")
+    # shellcheck disable=SC2016
+    words+=(PC_PREFIX='$${pcfiledir}/../..' RUNPATH='$$ORIGIN')
+    quietly make -C "$source" symbols install install-examples "${words[@]}"
+    cp clients/INSTALL.md "$room/tree/$name/README.md"
+    cp "$source/archive/$1/libregistry.proved" "$room/tree/$name/PROVED"
+    if [ -f "$source/archive/$1/registry_run" ]; then
+        install -D -m 755 "$source/archive/$1/registry_run" "$room/tree/$name/bin/registry_run"
+        install -D -m 644 "$source/man/registry_run.1" "$room/tree/$name/share/man/man1/registry_run.1"
+    fi
+    clients/pack.sh "$room/tree" "$name" "$SOURCE_DATE_EPOCH" >"$made/$name.tar.xz"
+}
+
+# The crate, with the archives within. It is built outside of any repository, so that it says nothing of one.
+crate() {
+    local processor
+    cp -r "$room/$source_name/rust" "$room/crate"
+    for processor in x86_64 aarch64; do
+        if [ -d "$room/$source_name/archive/$processor" ]; then
+            mkdir -p "$room/crate/archive/$processor"
+            cp "$room/$source_name/archive/$processor"/libregistry.* "$room/crate/archive/$processor"
+        fi
+    done
+    (cd "$room/crate" && CARGO_TARGET_DIR=$room/target quietly cargo package --offline --no-verify --allow-dirty)
+    cp "$room/target/package/kupaldiz-$version.crate" "$made"
+}
+
+# The Debian packages, in which lintian finds no error.
+packages() {
+    cp -r "$room/$source_name" "$room/debianised"
+    (cd "$room/debianised" && quietly dpkg-buildpackage -b -us -uc)
+    quietly lintian --allow-root --fail-on error "$room"/*.changes
+    grep -hE '^[EW]: ' "$room/log" | sed 's/^/lintian: /' || true
+    cp "$room"/*.deb "$made"
+}
+
+# What each archive is proved to be: the records, one after another.
+proved() {
+    local record
+    echo "kupaldiz $version, of commit $(git rev-parse HEAD)"
+    for record in "$room/$source_name"/archive/*/libregistry.proved; do
+        echo
+        cat "$record"
+    done
+    echo
+    echo "registry_run for x86_64, proved and built by tools/prove-program.sh: SHA-256 $(sha256sum <"$room/$source_name/archive/x86_64/registry_run" | cut -d ' ' -f 1)"
+}
+
+need_tools
+need_commit
+[ -z "$prove" ] || prove_all
+version=$(make -s -C clients version)
+need_proved
+SOURCE_DATE_EPOCH=$(git log -1 --format=%ct)
+export SOURCE_DATE_EPOCH
+umask 022
+room=$(mktemp -d)
+trap 'rm -rf "$room"' EXIT
+made=$room/made
+source_name=kupaldiz-$version
+mkdir "$made"
+quietly clients/dist.sh --lay "$room/$source_name"
+clients/pack.sh "$room" "$source_name" "$SOURCE_DATE_EPOCH" >"$made/$source_name.tar.xz"
+binaries x86_64
+if has_aarch64; then
+    binaries aarch64
+fi
+crate
+packages
+proved >"$made/PROVED"
+(cd "$made" && sha256sum -- * >"$room/sums" && mv "$room/sums" SHA256SUMS)
+# In one step: whoever looks finds a whole release.
+mkdir -p "$(dirname "$to")"
+rm -rf "$to.new"
+cp -r "$made" "$to.new"
+if [ -e "$to" ]; then
+    mv "$to" "$room/older"
+fi
+mv "$to.new" "$to"
+(cd "$to" && sed 's/^/made    /' SHA256SUMS)
+if [ -z "$(make -s -C clients licence)" ]; then
+    echo "no licence is chosen: LICENCE in clients/install.mk is empty, and nobody but the owner may copy or pass on what is in ${to##*/}/"
+fi

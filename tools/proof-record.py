@@ -1,0 +1,127 @@
+#!/usr/bin/env python3
+"""The record of an archive's proof, which lies beside the archive as libregistry.proved.
+
+    tools/proof-record.py write PROCESSOR LOG COMPILED OBJECT    prints the record of an archive that was just made
+    tools/proof-record.py check ARCHIVE                          whether the archive is the recorded one, made from the sources as they stand
+    tools/proof-record.py parts                                  the names of the C files in clients/c that are joined with the proved object
+
+LOG is what the proof said, COMPILED the object as the compiler wrote it, OBJECT the one that is in the archive. Each line of a record is `NAME: TEXT`. `check`
+prints one line and ends with status 2 where something differs.
+"""
+import hashlib
+import pathlib
+import re
+import subprocess
+import sys
+import tempfile
+
+sys.dont_write_bytecode = True
+
+from kit import ROOT, below
+
+LIBRARY = "registry_c"
+PARTS = ("heap", "composed", "strings")
+VERDICT = re.compile(r"^logic=proved .*$", re.M)
+NAMES = ("processor", "kit", "verdict", "sources", "commit", "compiled", "object")
+MAKE = "tools/build-archive.sh{} proves and builds it"
+
+
+class Fault(Exception):
+    pass
+
+
+def said(*words, cwd=ROOT):
+    """The last line that a command prints."""
+    ran = subprocess.run(words, cwd=cwd, stdout=subprocess.PIPE, stderr=subprocess.DEVNULL, text=True, check=True)
+    return ran.stdout.strip().splitlines()[-1]
+
+
+def sum_of(path):
+    return hashlib.sha256(pathlib.Path(path).read_bytes()).hexdigest()
+
+
+def sources():
+    """The files that the archive is proved from, and those in C that are joined with it."""
+    files = [ROOT / "crates.txt", ROOT / "crates" / LIBRARY / "include/registry.h", *(ROOT / f"clients/c/{part}.c" for part in PARTS)]
+    for crate in sorted([LIBRARY, *below(LIBRARY)]):
+        files += [it for part in ("src", "specs", "proofs") for it in sorted((ROOT / "crates" / crate / part).rglob("*")) if it.is_file()]
+    return files
+
+
+def sum_of_sources():
+    whole = hashlib.sha256()
+    for path in sources():
+        whole.update(f"{path.relative_to(ROOT)} {sum_of(path)}\n".encode())
+    return whole.hexdigest()
+
+
+def commit():
+    """The tree's commit, and whether a source was changed since; `none` outside a repository."""
+    try:
+        changed = subprocess.run(["git", "status", "--porcelain", "--", "crates", "crates.txt"], cwd=ROOT, capture_output=True, text=True, check=True).stdout
+        return said("git", "rev-parse", "HEAD") + (", with changes" if changed.strip() else "")
+    except (OSError, subprocess.CalledProcessError):
+        return "none"
+
+
+def write(processor, log, compiled, built):
+    verdicts = VERDICT.findall(pathlib.Path(log).read_text(errors="replace"))
+    if not verdicts:
+        raise Fault(f"{log} has no line that begins 'logic=proved': what was built isn't proved")
+    texts = (processor, said("rt", "version"), verdicts[-1], sum_of_sources(), commit(), sum_of(compiled), sum_of(built))
+    for name, text in zip(NAMES, texts):
+        print(f"{name}: {text}")
+
+
+def read(path):
+    """The record at that path."""
+    pairs = dict(line.split(": ", 1) for line in path.read_text().splitlines() if ": " in line)
+    lacking = [name for name in NAMES if not pairs.get(name)]
+    if lacking:
+        raise Fault(f"{path} has no line '{lacking[0]}: ..'")
+    return pairs
+
+
+def sum_in(archive):
+    """The sum of the object that the archive has."""
+    with tempfile.TemporaryDirectory() as room:
+        ran = subprocess.run(["ar", "x", str(archive.resolve()), "registry.o"], cwd=room, capture_output=True, text=True)
+        if ran.returncode != 0 or not pathlib.Path(room, "registry.o").is_file():
+            raise Fault(f"{archive} has no object registry.o")
+        return sum_of(pathlib.Path(room, "registry.o"))
+
+
+def check(name):
+    archive = pathlib.Path(name)
+    path = archive.with_suffix(".proved")
+    processor = "" if archive.parent.name in ("out", "") else f" --for {archive.parent.name}"
+    remedy = MAKE.format(processor)
+    for needed in (archive, path):
+        if not needed.is_file():
+            raise Fault(f"there is no {needed}: {remedy}")
+    record = read(path)
+    if sum_in(archive) != record["object"]:
+        raise Fault(f"{archive} isn't the archive that {path} tells of: {remedy}")
+    if record["sources"] != sum_of_sources():
+        raise Fault(f"{archive} was made from other sources than those that stand: {remedy}")
+
+
+def parts():
+    print(*PARTS)
+
+
+def main(words):
+    uses = {"write": (write, 4), "check": (check, 1), "parts": (parts, 0)}
+    if not words or words[0] not in uses or len(words) != 1 + uses[words[0]][1]:
+        print("usage: proof-record.py write PROCESSOR LOG COMPILED OBJECT | check ARCHIVE | parts", file=sys.stderr)
+        return 2
+    try:
+        uses[words[0]][0](*words[1:])
+    except (Fault, OSError) as fault:
+        print(f"proof-record: {fault}", file=sys.stderr)
+        return 2
+    return 0
+
+
+if __name__ == "__main__":
+    sys.exit(main(sys.argv[1:]))

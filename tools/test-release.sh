@@ -1,0 +1,136 @@
+#!/usr/bin/env bash
+# Tries a release where nothing of ours is: in fresh Debian roots, without the kit, without the repository and without a network. It isn't part of the gate.
+#
+#     tools/test-release.sh             all parts, over release/ as tools/make-release.sh made it
+#     tools/test-release.sh PART..      some of them: twice c cmake cargo apt
+#
+#     twice    the release made twice, in two clones, is the same to the byte
+#     c        gcc and make alone: the examples, by pkg-config too; the source is built, checked, installed and uninstalled
+#     cmake    find_package(kupaldiz)
+#     cargo    the crate as a path dependency, its tests and examples, with Debian's cargo and with the newest one that is here
+#     apt      the Debian packages are installed, programs in C and Rust are built, and all is removed to nothing
+#
+# It runs as root, and needs mmdebstrap, and a mirror while a root is made. RELEASE names another folder than release/, ROOTS where the roots are kept from run
+# to run. The last line is 'N passed, M failed'.
+set -uo pipefail
+cd "$(dirname "$0")/.." || exit
+# shellcheck source=tools/checks.sh
+. tools/checks.sh
+release=$(realpath -m "${RELEASE:-release}")
+suite=bookworm
+
+refuse() {
+    echo "test-release: $1" >&2
+    exit 2
+}
+
+parts=(twice c cmake cargo apt)
+for part; do
+    [[ " ${parts[*]} " == *" $part "* ]] || refuse "there is no part $part: ${parts[*]}"
+done
+[ $# -eq 0 ] || parts=("$@")
+[ -f "$release/SHA256SUMS" ] || refuse "there is no $release: tools/make-release.sh makes it"
+[ "$(id -u)" -eq 0 ] || refuse "it makes roots, and so it runs as root"
+for pair in mmdebstrap:mmdebstrap unshare:util-linux chroot:coreutils; do
+    command -v "${pair%%:*}" >/dev/null || refuse "there is no ${pair%%:*}: apt-get install ${pair##*:}"
+done
+version=$(sed -nE 's/^.*  kupaldiz-([0-9.]+)\.crate$/\1/p' "$release/SHA256SUMS")
+[ -n "$version" ] || refuse "$release/SHA256SUMS names no crate: tools/make-release.sh makes it"
+room=$(mktemp -d)
+roots=${ROOTS:-$room/roots}
+trap 'rm -rf "$room"; forget_log' EXIT
+mkdir -p "$roots"
+
+# root NAME PACKAGE..: a fresh Debian root with these packages, as roots/NAME.tar.
+root() {
+    local name=$1 packages
+    shift
+    packages=$(IFS=,; echo "$*")
+    if [ ! -f "$roots/$name.tar" ]; then
+        mmdebstrap --mode=root --variant=minbase --include="$packages" "$suite" "$roots/$name.tar.new" && mv "$roots/$name.tar.new" "$roots/$name.tar"
+    fi
+}
+
+# inside NAME SCRIPT: a copy of that root, with the release in /release, in which the script is run: without a network, without anything else of this machine.
+inside() {
+    local name=$1 script=$2 at=$room/$1
+    rm -rf "$at"
+    mkdir -p "$at" && tar -C "$at" -xf "$roots/$name.tar" && mkdir -p "$at/release" && cp "$release"/* "$at/release" && cp "$script" "$at/try" || return
+    if [ -n "${rust-}" ]; then
+        mkdir -p "$at/opt/rust"
+    fi
+    # shellcheck disable=SC2016
+    timeout 1500 unshare --net --mount --pid --fork sh -c '
+        if [ -n "$3" ]; then mount --bind -o ro "$3" "$1/opt/rust" || exit; fi
+        mount -t proc proc "$1/proc" && exec chroot "$1" env -i HOME=/root PATH=/usr/sbin:/usr/bin:/sbin:/bin LC_ALL=C.UTF-8 VERSION="$2" bash -eux -o pipefail /try' \
+        sh "$at" "$version" "${rust-}"
+    local status=$?
+    rm -rf --one-file-system "$at"
+    return "$status"
+}
+
+# tries PART ROOT: the script tools/tests/release/PART.sh in that root. It prints a line 'done: ..' for each thing that it shows.
+tries() {
+    local part=$1
+    inside "$2" "tools/tests/release/$part.sh" >"$room/said" 2>&1
+    local status=$?
+    cp "$room/said" "$log"
+    grep '^done: ' "$room/said" | sed 's/^done: /        /'
+    return "$status"
+}
+
+sums_hold() {
+    (cd "$release" && sha256sum -c SHA256SUMS)
+}
+
+# again FOLDER: a release made in a clone in that folder, of the same commit and the same archives.
+again() {
+    local kept
+    git clone -q . "$1" && mkdir -p "$1/clients/out" "$1/crates/registry_run/out" || return
+    for kept in clients/out/libregistry.{a,proved} clients/out/aarch64/libregistry.{a,proved} crates/registry_run/out/registry_run; do
+        [ ! -e "$kept" ] || { mkdir -p "$1/$(dirname "$kept")" && cp "$kept" "$1/$kept"; } || return
+    done
+    touch "$1/crates/registry_run/out/registry_run"
+    (cd "$1" && tools/make-release.sh)
+}
+
+same_twice() {
+    again "$room/one" && again "$room/another folder" && diff -r "$room/one/release" "$room/another folder/release"
+}
+
+test_twice() {
+    check "made twice, in two folders: the same to the byte" same_twice
+}
+
+test_c() {
+    check "a root with gcc, make and pkg-config" root c gcc libc6-dev make pkg-config xz-utils diffutils
+    check "gcc and make alone" tries c c
+}
+
+test_cmake() {
+    check "a root with gcc, make and cmake" root cmake gcc libc6-dev make cmake xz-utils
+    check "cmake" tries cmake cmake
+}
+
+test_cargo() {
+    check "a root with cargo" root cargo cargo xz-utils
+    check "Debian's cargo" tries cargo cargo
+    rust=$(rustc --print sysroot 2>/dev/null)
+    if [ -n "$rust" ] && [ "$rust" != /usr ]; then
+        check "$(rustc --version)" tries cargo cargo
+    else
+        echo "NOT RUN: a newer cargo than Debian's, as there is none here"
+    fi
+    rust=
+}
+
+test_apt() {
+    check "a root with gcc, make, pkg-config and cargo" root apt gcc libc6-dev make pkg-config cargo
+    check "the Debian packages" tries apt apt
+}
+
+check "SHA256SUMS holds" sums_hold
+for part in "${parts[@]}"; do
+    "test_$part"
+done
+finish

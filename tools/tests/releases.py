@@ -1,0 +1,173 @@
+"""What a release's scripts say of bad input: each names what is missing and how to get it, ends with status 2, and leaves nothing half made."""
+import hashlib
+import os
+import shutil
+import subprocess
+
+from .trees import ROOT, Case, Fault
+
+# What the scripts call besides what stands in bin/ of the tree.
+BASICS = ("sh bash echo env python3 git make ar awk basename cat chmod cp cut date diff dirname find grep head id install ln ls mkdir mktemp mv nproc readlink realpath "
+          "rm sed sha256sum sort stat tail tar tee touch tr true uname wc xargs xz").split()
+# What a release needs besides, and the package that has it.
+COMMANDS = {"gcc": "gcc", "pkg-config": "pkg-config", "cargo": "cargo", "dpkg-buildpackage": "dpkg-dev", "dh": "debhelper", "lintian": "lintian"}
+DOES_NOTHING = "#!/bin/sh\n"
+CARGO = '#!/bin/sh\nmkdir -p "$CARGO_TARGET_DIR/package" && echo crate >"$CARGO_TARGET_DIR/package/kupaldiz-0.1.0.crate"\n'
+PACKAGES = "#!/bin/sh\necho deb >../libkupaldiz0.deb && echo changes >../kupaldiz.changes\n"
+PARTS = ("heap", "composed", "strings")
+SOURCES = {
+    "crates.txt": "low: std\nregistry_c staticlib: low std\n",
+    "crates/low/src/lib.rt": "low\n",
+    "crates/registry_c/src/lib.rt": "face\n",
+    "crates/registry_c/include/registry.h": "uint32_t registry_enter(struct registry_cpu *cpu);\n",
+    **{f"clients/c/{part}.c": f"/* {part} */\n" for part in PARTS},
+}
+TREE = {
+    **SOURCES,
+    **{f"bin/{name}": DOES_NOTHING for name in COMMANDS},
+    "bin/cargo": CARGO,
+    "bin/dpkg-buildpackage": PACKAGES,
+    "registry_run": '#!/bin/sh\n[ "$1" = --proved ] && [ -x program ] && echo program\n',
+    "program": "#!/bin/sh\n",
+    "clients/INSTALL.md": "unpacked\n",
+    "clients/pack.sh": (ROOT / "clients/pack.sh").read_text(),
+    "clients/Makefile": "LICENCE =\nversion:\n\t@echo 0.1.0\nlicence:\n\t@echo $(LICENCE)\n",
+    # The source that it lays has a Makefile that installs one file.
+    "clients/dist.sh": """#!/bin/sh
+mkdir -p "$2/archive/x86_64" "$2/rust" "$2/man"
+cp clients/out/libregistry.* "$2/archive/x86_64" && cp program "$2/archive/x86_64/registry_run"
+echo page >"$2/man/registry_run.1"
+printf 'symbols install-examples:\\ninstall:\\n\\tmkdir -p $(DESTDIR)$(PREFIX)\\n\\techo made >$(DESTDIR)$(PREFIX)/file\\n' >"$2/Makefile"
+""",
+    ".gitignore": "/release/\nout/\n/basics/\n/program\n__pycache__/\n/tmp/\n",
+    # A release is made or nothing is: a failure that leaves something says so, and goes untold.
+    "try": """#!/bin/sh
+export PATH=$PWD/bin:$PWD/basics TMPDIR=$PWD/tmp
+mkdir -p tmp
+rm -rf release
+tools/make-release.sh "$@" >tmp/said 2>&1
+status=$?
+cat tmp/said
+if [ $status -ne 0 ] && [ -n "$(ls -d release* tmp/tmp* 2>/dev/null)" ]; then
+    echo "something is left: $(ls -d release* tmp/tmp*)"
+    exit 0
+fi
+if [ $status -eq 0 ] && ! (cd release && sha256sum -c SHA256SUMS && [ "$(wc -l <SHA256SUMS)" -eq 5 ] && grep -q '^verdict: logic=proved' PROVED) >/dev/null; then
+    echo "the release isn't whole"
+    exit 1
+fi
+if [ $status -eq 0 ] && ! grep -q 'no licence is chosen' tmp/said; then
+    echo "no word of the licence"
+    exit 1
+fi
+exit $status
+""",
+}
+
+
+def record(tree, built):
+    """A record of the archive, as tools/proof-record.py writes it."""
+    summed = subprocess.run(["python3", "-c", "import sys; sys.path.insert(0, 'tools'); sys.dont_write_bytecode = True\nimport importlib\n"
+                             "print(importlib.import_module('proof-record').sum_of_sources())"], cwd=tree, capture_output=True, text=True, check=True).stdout.strip()
+    return (f"processor: x86_64\nkit: kit\nverdict: logic=proved functions=1\nsources: {summed}\ncommit: none\ncompiled: 0\n"
+            f"object: {hashlib.sha256(built).hexdigest()}\n")
+
+
+def prepare(tree):
+    """The archive with its record, the commands of the system, and a commit of it all."""
+    (tree / "basics").mkdir()
+    for name in BASICS:
+        (tree / "basics" / name).symlink_to(shutil.which(name))
+    out = tree / "clients/out"
+    out.mkdir(parents=True)
+    (out / "registry.o").write_text("object\n")
+    subprocess.run(["ar", "rcsD", "libregistry.a", "registry.o"], cwd=out, check=True)
+    (out / "registry.o").unlink()
+    (out / "libregistry.proved").write_text(record(tree, b"object\n"))
+    (tree / "program").chmod(0o755)
+    who = {**os.environ, "GIT_AUTHOR_NAME": "a", "GIT_AUTHOR_EMAIL": "a@b", "GIT_COMMITTER_NAME": "a", "GIT_COMMITTER_EMAIL": "a@b"}
+    for words in (["init", "-q"], ["add", "-A"], ["commit", "-q", "-m", "all"]):
+        subprocess.run(["git", *words], cwd=tree, check=True, env=who)
+
+
+def shell(*lines):
+    """A command that spoils the tree and then tries it."""
+    return ["sh", "-c", "\n".join([*lines, 'exec ./try "$@"']), "sh"]
+
+
+def making():
+    faults = [Fault(f"no {name}", f"there is no {name}: apt-get install {package}", command=shell(f"git rm -q --cached bin/{name}; rm bin/{name}"))
+              for name, package in COMMANDS.items()]
+    faults += [
+        Fault("no archive", "there is no clients/out/libregistry.a: tools/build-archive.sh proves and builds it", command=shell("rm clients/out/libregistry.a")),
+        Fault("no record", "there is no clients/out/libregistry.proved: tools/build-archive.sh", command=shell("rm clients/out/libregistry.proved")),
+        Fault("a record without a verdict", "has no line 'verdict: ..'", command=shell("sed -i '/^verdict/d' clients/out/libregistry.proved")),
+        Fault("another archive", "isn't the archive that", command=shell("echo other >registry.o; ar r clients/out/libregistry.a registry.o; rm registry.o")),
+        Fault("no archive of objects", "has no object registry.o", command=shell("echo none >clients/out/libregistry.a")),
+        Fault("other sources", "was made from other sources", command=shell("echo more >>crates/low/src/lib.rt; git -c user.name=a -c user.email=a@b commit -qam more")),
+        Fault("other C in the archive", "was made from other sources", command=shell("echo >>clients/c/heap.c; git -c user.name=a -c user.email=a@b commit -qam more")),
+        Fault("no program", "tools/prove-program.sh proves and builds it", command=shell("rm program")),
+        Fault("changes that are in no commit", "git commit takes them in", command=shell("echo more >>clients/INSTALL.md")),
+        Fault("no repository", "a release is made in a clone of the repository", command=shell("rm -rf .git")),
+        Fault("an archive for aarch64 without a record", "tools/build-archive.sh --for aarch64",
+              command=shell("mkdir clients/out/aarch64; cp clients/out/libregistry.a clients/out/aarch64")),
+        Fault("an archive for aarch64 without a compiler", "apt-get install gcc-aarch64-linux-gnu",
+              command=shell("mkdir clients/out/aarch64; cp clients/out/libregistry.* clients/out/aarch64")),
+        Fault("no kit to prove with", "there is no rt", command=["./try", "--prove"]),
+        Fault("a word too many", "it takes", command=["./try", "--all"]),
+        Fault("a folder that isn't named", "it takes", command=["./try", "--to"]),
+        Fault("lintian finds an error", "this failed: lintian", command=shell("echo 'echo E: wrong; exit 1' >>bin/lintian; git -c user.name=a -c user.email=a@b commit -qam more")),
+        Fault("a build that fails", "this failed: dpkg-buildpackage", command=shell("echo 'exit 1' >>bin/dpkg-buildpackage; git -c user.name=a -c user.email=a@b commit -qam more")),
+        Fault("a licence, of which nothing is to be said", "no word of the licence",
+              command=shell("sed -i 's/^LICENCE =/LICENCE = MIT/' clients/Makefile; git -c user.name=a -c user.email=a@b commit -qam more")),
+    ]
+    return Case("make-release", ["make-release.sh", "proof-record.py", "kit.py"], TREE, ["./try"], faults, counts=False, prepare=prepare)
+
+
+# tools/build-archive.sh, where the kit and binutils are ours.
+PROVES = '#!/bin/sh\n[ "$1" = version ] && echo kit && exit\nmkdir -p out && cc -c -xc -o registry_c.o /dev/null && ar rc out/libregistry_c.a registry_c.o && echo logic=proved functions=1\n'
+BUILDS = {
+    **SOURCES,
+    "clients/calls-of.sh": (ROOT / "clients/calls-of.sh").read_text(),
+    "tools/unwind-tables.py": "#!/bin/sh\n",
+    "bin/rt": PROVES,
+    "try": """#!/bin/sh
+PATH=$PWD/bin:$PATH tools/build-archive.sh "$@" >said 2>&1
+status=$?
+cat said
+if [ $status -ne 0 ] && [ -e clients/out/libregistry.a ]; then
+    echo "an archive is left"
+    exit 0
+fi
+[ $status -ne 0 ] || PATH=$PWD/bin:$PATH tools/proof-record.py check clients/out/libregistry.a
+""",
+}
+
+
+def building():
+    faults = (
+        Fault("a proof that fails", "has no line that begins 'logic=proved'", (("bin/rt", "echo logic=proved functions=1", "echo logic=not-proved"),)),
+        Fault("a library without a log", "it takes nothing", command=["./try", "crates.txt"]),
+        Fault("a library that isn't there", "there is no library none", command=["./try", "none", "crates.txt"]),
+        Fault("a log that isn't there", "there is no log none", command=["./try", "crates.txt", "none"]),
+        Fault("a processor that is none", "is no processor", command=["./try", "--for", "x/86"]),
+        Fault("a processor without binutils", "apt-get install binutils", command=["./try", "--for", "m68k"]),
+        Fault("no kit", "the kit comes from whoever gives you Rattle", (("bin/rt", None, "none\n"),), command=["sh", "-c", "rm bin/rt; PATH=/usr/bin:/bin ./try"]),
+        Fault("a header that declares no call", "", (("crates/registry_c/include/registry.h", "uint32_t registry_enter", "# "),)),
+    )
+    return Case("build-archive", ["build-archive.sh", "proof-record.py", "kit.py"], BUILDS, ["./try"], faults, counts=False)
+
+
+def trying():
+    """What tools/test-release.sh needs; nothing of it is run here but its first lines."""
+    faults = (
+        Fault("a part that isn't there", "there is no part none", command=["tools/test-release.sh", "none"]),
+        Fault("no release", "tools/make-release.sh makes it", command=["tools/test-release.sh", "c"]),
+        Fault("a release without a crate", "names no crate", (("release/SHA256SUMS", None, "0  file\n"),), command=["sh", "-c", "PATH=$PWD/bin:$PATH tools/test-release.sh c"]),
+    )
+    tree = {"bin/mmdebstrap": DOES_NOTHING, "bin/id": "#!/bin/sh\necho 0\n"}
+    return Case("test-release", ["test-release.sh", "checks.sh"], tree, ["true"], faults, counts=False)
+
+
+def cases():
+    return [making(), building(), trying()]

@@ -1,0 +1,1 @@
+"""What tools/unwind-tables.py knows of each processor's instructions."""
