@@ -211,9 +211,13 @@ pub logged_moves : (z : Settings) (l : Logged) (i : ℕ) (f : ℕ → ℕ) (ds :
     → Moves z l.view i f ds tells → LoggedMoves z l i f ds tells
 logged_moves z l i f ds tells stands by moves s r id at fits =
     let word = slice_index s.words i in
-    let done = moves (without_logs s) r.run id (at_map (λ (x : Logged). x.view) s.views id l at) fits in
-    (done.0, r.acts ++ by_seat id (ds word), goes_plainly z l i (f word) (ds word) done.0 s r id at stands (by word) done.1 l.known_log (r.known id l at).0, done.2,
-    list_goes_on z s r id l (ds word) at stands)
+    let done = moves (without_logs s) r.run id (at_map (λ (x : Logged). x.view) s.views id l at) fits in (
+      done.0,
+      r.acts ++ by_seat id (ds word),
+      goes_plainly z l i (f word) (ds word) done.0 s r id at stands (by word) done.1 l.known_log (r.known id l at).0,
+      done.2,
+      list_goes_on z s r id l (ds word) at stands,
+    )
 
 -- the same of a load that hears: what the seat has heard then is all that the keeper did, and its log says who told the note
 abbrev pub LoggedHears : Settings → Logged → ℕ → (ℕ → ℕ) → Option ℕ → (ℕ → View → Type 0) → Type 0
