@@ -1,4 +1,4 @@
-//! The calls of one CPU, by what stands behind its handle: each answers its number, and writes what it finds.
+//! The calls on one CPU's body. Each returns its number, and writes what it finds.
 
 ghost use Rattle.std.specs.Prelude.{◌≡◌, ◌≢◌, ℕ, Option, IfErr};
 ghost use Rattle.c_values.specs.declared.values.TheConstants.{DONE};
@@ -75,7 +75,7 @@ fn find(cpu: &mut CpuBody, kind: u64, name: &CName) -> Result<Entry, u32>
     }
 }
 
-/// Writes the entry of a call that is done, and answers its number.
+/// Writes the entry of a call that is done, and returns its number.
 #[inline(always)]
 pub fn tell(answer: Result<Entry, u32>, found: &mut EntryPlace) -> u32
     ensures place { found.new.at ≡ found.old.at }

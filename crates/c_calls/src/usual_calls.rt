@@ -1,6 +1,7 @@
-//! The calls of the usual path, by what stands behind the CPU's handle: each makes several calls of `cpu_calls`, and opens a section for them. A lookup
-//! from outside is one call of the CPU's, which does the same.
-//! It writes to C's place last: stores before the addition that ends the section would have to be done before it is.
+//! The calls of the usual path, on a CPU's body. Each makes several calls of `cpu_calls`, and opens a section for them. A lookup from
+//! outside is one call of the CPU's, which does the same.
+//!
+//! Each writes to C's place last: a store before the addition that ends the section would have to be done before it.
 
 ghost use Rattle.std.specs.Prelude.{◌≡◌, ◌≢◌, ℕ, IsTrue, Option, Some, None};
 ghost use Rattle.passive_list.specs.Common.{may_begin};
