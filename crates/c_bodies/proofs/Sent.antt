@@ -1,4 +1,4 @@
--- What stands behind a CPU's handle may go to another thread, with the block that it keeps.
+-- The body of a CPU's handle may go to another thread, with the block that it keeps.
 use denote.Param.Send.{IsSend, sendable}
 use Rattle.std_alloc.proofs.SendSync.{crosses}
 use Rattle.std_heap.proofs.GlobalAllocator.TheSendSync.{the_frees}

@@ -1,4 +1,4 @@
-//! What stands behind a CPU's handle.
+//! The body of a CPU's handle.
 
 ghost use Rattle.std.specs.Prelude.{◌≡◌, ◌≢◌, ◌↔◌, ◌<◌, ◌≤◌, ◌++◌, IsTrue, None, IfOk, IfErr, IfSome, is_some, take};
 ghost use Rattle.registry_values.specs.Common.{Answers};
@@ -94,7 +94,7 @@ impl CpuBody {
         Psref::remembered(self.cpu.id(), number)
     }
 
-    /// The test for being inside a section.
+    /// Whether the CPU is inside a section.
     pub fn inside(&self) -> bool
         ensures { IsTrue result ↔ self.now.cpu.view.begin ≢ None }
     {
@@ -163,7 +163,8 @@ impl CpuBody {
         may_begin_on(&self.words, &self.cpu)
     }
 
-    /// Looks an entry up in a section of its own, and answers its words. Conditions: outside; a section is left.
+    /// Looks an entry up in a section of its own, and returns its words.
+    /// Conditions: outside; a section is left.
     #[inline(always)]
     pub fn find_from_outside(&mut self, kind: Kind, name: Name) -> Option<Seen>
         requires outside { self.old.cpu.depth ≡ 0 }
@@ -175,7 +176,8 @@ impl CpuBody {
         find_from_outside(&self.words, &mut self.cpu, kind, name)
     }
 
-    /// Walks over all entries, and answers how many it wrote. Condition: inside.
+    /// Walks over all entries, and returns how many it wrote.
+    /// Condition: inside.
     pub fn walk(&mut self, row: &mut [Entry; MOST_SLOTS]) -> usize
         requires inside { self.old.cpu.view.begin ≢ None }
         ensures count { result ≤ MOST_SLOTS }

@@ -1,4 +1,4 @@
-//! What stands behind the handles that C holds between calls: a CPU, the keeper, a local reference; and the handles, one by one and in rows.
+//! What C's handles point to between calls: a CPU, the keeper, a local reference; and the handles, one by one and in rows.
 #![tactic(auto)]
 
 pub mod answer;
