@@ -219,7 +219,7 @@ listened a b h log more view slots is = record {
   is = (h, λ j. record { view = view j; slots = slots j; log = b.log });
 }
 
--- What it answers is by the places, which are as they were
+-- Its result is by the places, which are as they were
 
 map_learned : (f : OnCpu → ℤ) (xs ys : List OnCpu) → length ys ≡ length xs → ((c : ℕ) (x y : OnCpu) → get_elem? xs c ≡ some x → get_elem? ys c ≡ some y → f y ≡ f x) → map f ys ≡ map f xs
 map_learned f [] [] size each = refl
