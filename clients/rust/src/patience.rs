@@ -94,10 +94,15 @@ impl Pauses {
         if self.made <= YIELDS {
             thread::yield_now();
         } else {
-            let power = (self.made - YIELDS - 1).min(LONGEST);
-            thread::sleep(Duration::from_micros(1 << power).min(left));
+            thread::sleep(self.length().min(left));
         }
         true
+    }
+
+    /// How long the next sleep is, once it has yielded often enough.
+    #[cfg(feature = "std")]
+    fn length(&self) -> Duration {
+        Duration::from_micros(1 << (self.made - YIELDS - 1).min(LONGEST))
     }
 }
 
@@ -130,6 +135,13 @@ mod tests {
         assert!(began.elapsed() >= Duration::from_millis(30));
         // Sixteen that yield, ten that sleep for less than a millisecond, and a millisecond each then: no more, however late this thread is let on.
         assert!(made <= 80, "{made} turns");
+    }
+
+    #[test]
+    fn sleeps_double_up_to_a_millisecond() {
+        let patience = Patience::Forever;
+        let length = |made| Pauses { patience, made }.length().as_micros();
+        assert_eq!([17, 18, 20, 26, 27, 28, u32::MAX].map(length), [1, 2, 8, 512, 1024, 1024, 1024]);
     }
 
     #[test]
