@@ -290,6 +290,11 @@ change_layer() {
     mark "$(find "$clients/netbsd" -name '*.c' -not -path '*/tests/*' -not -path '*/examples/*' | sort | head -n 1)" "$1"
 }
 
+# A call that the header declares, and that neither a map nor a library has.
+unnamed_call_is_told() {
+    sed -i 's/^size_t registry_text(/uint32_t registry_unnamed(void);\n&/' "$header" && ! made symbols >"$room/said" 2>&1 && grep -x '< registry_unnamed' "$room/said"
+}
+
 make_later() {
     sed -i -E 's/^(#define REGISTRY_VERSION_PATCH[[:blank:]]+).*/\17/' "$header"
 }
@@ -358,6 +363,8 @@ check "an upgrade: it is installed over the older one" made install
 check "an upgrade: each file, and none of the older version" holds_files "${older%.*}.7"
 check "an upgrade: uninstall" made uninstall
 check "an upgrade: uninstall leaves nothing" leaves_nothing
+
+check "a call that no map names is told" unnamed_call_is_told
 
 prefix=/somewhere libdir=/somewhere/lib stage=$room/before
 check "an installation that is moved" moved
