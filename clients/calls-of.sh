@@ -6,4 +6,4 @@ if [ $# -eq 0 ]; then
     echo "usage: calls-of.sh HEADER.." >&2
     exit 2
 fi
-cat -- "$@" | grep -vE '^(static|typedef|return|extern|#)' | { grep -oE '^[a-z][A-Za-z0-9_ ]*[ *][a-z][a-z0-9_]*\(' || true; } | sed -E 's/^.*[ *]([a-z][a-z0-9_]*)\($/\1/' | sort -u
+cat -- "$@" | sed -E '/^(static|typedef|return|extern|#)/d' | sed -nE 's/^([a-z][A-Za-z0-9_ ]*[ *])([a-z][a-z0-9_]*)\(.*$/\2/p' | sort -u

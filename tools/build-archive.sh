@@ -61,6 +61,7 @@ compile
 # shellcheck disable=SC2086
 (cd "$room" && "${tools}ld" -r -o whole.o registry_c.o ${parts// /.o }.o)
 clients/calls-of.sh crates/registry_c/include/registry.h >"$room/calls"
+[ -s "$room/calls" ] || refuse "registry.h declares no call"
 "${tools}objcopy" --keep-global-symbols="$room/calls" "$room/whole.o" "$room/registry.o"
 (cd "$room" && "${tools}ar" rcsD libregistry.a registry.o)
 tools/proof-record.py write "$processor" "$log" "$room/compiled.o" "$room/registry.o" >"$room/libregistry.proved"

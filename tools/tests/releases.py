@@ -30,6 +30,7 @@ TREE = {
     "registry_run": '#!/bin/sh\n[ "$1" = --proved ] && [ -x program ] && echo program\n',
     "program": "#!/bin/sh\n",
     "clients/INSTALL.md": "unpacked\n",
+    "clients/rust/Cargo.toml": '[package]\nversion = "0.1.0"\n',
     "clients/pack.sh": (ROOT / "clients/pack.sh").read_text(),
     "clients/Makefile": "LICENCE =\nversion:\n\t@echo 0.1.0\nlicence:\n\t@echo $(LICENCE)\n",
     # The source that it lays has a Makefile that installs one file.
@@ -113,6 +114,8 @@ def making():
               command=shell("mkdir clients/out/aarch64; cp clients/out/libregistry.a clients/out/aarch64")),
         Fault("an archive for aarch64 without a compiler", "apt-get install gcc-aarch64-linux-gnu",
               command=shell("mkdir clients/out/aarch64; cp clients/out/libregistry.* clients/out/aarch64")),
+        Fault("another version in the crate", "has another version than registry.h",
+              command=shell("sed -i s/0.1.0/0.2.0/ clients/rust/Cargo.toml; git -c user.name=a -c user.email=a@b commit -qam more")),
         Fault("no kit to prove with", "there is no rt", command=["./try", "--prove"]),
         Fault("a word too many", "it takes", command=["./try", "--all"]),
         Fault("a folder that isn't named", "it takes", command=["./try", "--to"]),
@@ -139,7 +142,8 @@ if [ $status -ne 0 ] && [ -e clients/out/libregistry.a ]; then
     echo "an archive is left"
     exit 0
 fi
-[ $status -ne 0 ] || PATH=$PWD/bin:$PATH tools/proof-record.py check clients/out/libregistry.a
+[ $status -eq 0 ] || exit $status
+PATH=$PWD/bin:$PATH tools/proof-record.py check clients/out/libregistry.a
 """,
 }
 
@@ -153,7 +157,7 @@ def building():
         Fault("a processor that is none", "is no processor", command=["./try", "--for", "x/86"]),
         Fault("a processor without binutils", "apt-get install binutils", command=["./try", "--for", "m68k"]),
         Fault("no kit", "the kit comes from whoever gives you Rattle", (("bin/rt", None, "none\n"),), command=["sh", "-c", "rm bin/rt; PATH=/usr/bin:/bin ./try"]),
-        Fault("a header that declares no call", "", (("crates/registry_c/include/registry.h", "uint32_t registry_enter", "# "),)),
+        Fault("a header that declares no call", "registry.h declares no call", (("crates/registry_c/include/registry.h", "uint32_t registry_enter", "# "),)),
     )
     return Case("build-archive", ["build-archive.sh", "proof-record.py", "kit.py"], BUILDS, ["./try"], faults, counts=False)
 

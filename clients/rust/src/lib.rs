@@ -137,7 +137,7 @@ pub use patience::Patience;
 #[cfg(feature = "std")]
 pub use pool::{CpuPool, Lent};
 pub use refusal::{Refusal, Refused};
-pub use registry::Registry;
+pub use self::registry::Registry;
 pub use retired::Retired;
 pub use section::{Found, Section};
 pub use settings::Settings;
