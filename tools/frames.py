@@ -26,7 +26,7 @@ class X86:
     # What a call takes, and what a function that calls none may use beneath the stack pointer.
     return_address, red_zone = 8, 128
     takes = re.compile(r"\tsub\s+\$0x(?P<size>[0-9a-f]+),%(?P<to>rsp|r11)(?P<pages>)$|\t(?P<push>push)\s")
-    calls = re.compile(r"\t(?P<by>call|jmp|j[a-z]+)\s+(?:[0-9a-f]+ <(?P<to>[^>+]*)(?:\+0x[0-9a-f]+)?>|(?P<pointer>\*.*))$")
+    calls = re.compile(r"\t(?P<by>call|jmp|j[a-z]+)\s+(?:[0-9a-f]+ <(?P<to>.*?)(?:\+0x[0-9a-f]+)?>|(?P<pointer>\*.*))$")
     call, refers = ("call",), re.compile(r"R_X86_64_(?:PLT32|PC32|GOTPCREL\w*)\s+(\S+?)([-+]0x[0-9a-f]+)?$")
 
     @staticmethod
@@ -40,7 +40,7 @@ class Aarch64:
     objdump, bound = "aarch64-linux-gnu-objdump", "x9"
     return_address, red_zone = 0, 0
     takes = re.compile(r"\tsub\t(?P<to>sp|x9), sp, #0x(?P<size>[0-9a-f]+)(?P<pages>, lsl #12)?$|\[sp, #-(?P<push>\d+)\]!$")
-    calls = re.compile(r"\t(?P<by>blr?|br|b\.\w+|cbn?z|tbn?z)\t(?:.*, )?(?:[0-9a-f]+ <(?P<to>[^>+]*)(?:\+0x[0-9a-f]+)?>|(?P<pointer>x\d+))")
+    calls = re.compile(r"\t(?P<by>blr?|br|b\.\w+|cbn?z|tbn?z)\t(?:.*, )?(?:[0-9a-f]+ <(?P<to>.*?)(?:\+0x[0-9a-f]+)?>|(?P<pointer>x\d+))(?:\s+//.*)?$")
     call, refers = ("bl", "blr"), re.compile(r"R_AARCH64_(?:CALL26|JUMP26)\s+(\S+?)([-+]0x[0-9a-f]+)?$")
 
     @staticmethod

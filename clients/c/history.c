@@ -10,7 +10,12 @@
 
 #include "model.h"
 
-enum { NAMES = 24, HANDLES = 96, MANY = 70001 };
+/* Where each access takes long, the references to one entry and the small registries are fewer. */
+#ifdef HISTORY_BRIEFLY
+enum { NAMES = 24, HANDLES = 96, MANY = 101, SMALL = 4 };
+#else
+enum { NAMES = 24, HANDLES = 96, MANY = 70001, SMALL = 200 };
+#endif
 
 struct held {
 	struct registry_local handle;
@@ -415,7 +420,7 @@ static uint64_t run(const struct registry_settings *settings, uint64_t changes, 
 static void run_small(uint64_t seed)
 {
 	struct registry_settings settings = {1, 1, 400, 1000000, 3, 3};
-	for (uint64_t i = 0; i < 200; i++) {
+	for (uint64_t i = 0; i < SMALL; i++) {
 		settings.cpus = 1 + i % CPUS;
 		settings.slots = 1 + i % SLOTS;
 		run(&settings, 300, seed + i);

@@ -6,6 +6,9 @@
  * on after it. Any instruction but the four of sequentially consistent steps on a word ends the program with status 1: a plain load or store, one
  * that is weaker, and one that works on a part of a word or on two.
  *
+ * A load that begins a pair is done by the handler, so the store that ends the pair would find no pair begun, and fail without an access. So that store is
+ * overwritten by an ordered store, whose access is seen and done as what stood there.
+ *
  * From each of these instructions, as it is met for the first time, the unwind tables have to lead on to where the program began.
  *
  * What is done before the opening returns isn't looked at, nor what frees the table: nobody else has it then. At its end the program says how often
@@ -25,7 +28,7 @@
 #endif
 
 /* The words of a table, of whatever settings: `WORDS` of cpu_words. They are one block, and no other block is as long. */
-enum { WORDS = 960, TABLE_BYTES = 8 * WORDS, MOST_TABLES = 16, MOST_CODE = 1 << 18, ZERO_REGISTER = 31, DEEPEST = 64 };
+enum { WORDS = 960, TABLE_BYTES = 8 * WORDS, MOST_TABLES = 16, MOST_CODE = 1 << 18, ZERO_REGISTER = 31, DEEPEST = 64, LONGEST_PAIR = 12 };
 
 /* What an instruction does with a word. */
 enum kind { LOAD, STORE, LOAD_EXCLUSIVE, STORE_EXCLUSIVE, KINDS };
@@ -54,8 +57,9 @@ static unsigned long counts[KINDS];
 static void *home;
 static unsigned long lost, places_met;
 
-/* By an instruction's distance from the beginning of the program's code, in instructions. */
+/* By an instruction's distance from the beginning of the program's code, in instructions: whether it was met, and what was overwritten there, or 0. */
 static unsigned char met[MOST_CODE];
+static uint32_t overwritten[MOST_CODE];
 
 extern const char __executable_start[];
 
@@ -154,6 +158,24 @@ static void step(mcontext_t *machine, enum kind kind, uint32_t instruction, uint
 	machine->pc += sizeof instruction;
 }
 
+/* Overwrites the store that ends the pair which this load begins. */
+static void overwrite_end(uint32_t *load, uint64_t place, const struct table *table, const void *address)
+{
+	size_t page = (size_t)sysconf(_SC_PAGESIZE);
+	uint32_t word = load[0] & 31U << 5;
+	unsigned i = 1;
+	while (i < LONGEST_PAIR && overwritten[place + i] == 0 && (kind_of(load[i]) != STORE_EXCLUSIVE || (load[i] & 31U << 5) != word))
+		i++;
+	if (i == LONGEST_PAIR)
+		refuse(table, address, (uintptr_t)load, load[0]);
+	if (overwritten[place + i] != 0)
+		return;
+	overwritten[place + i] = load[i];
+	EXPECT(mprotect((void *)((uintptr_t)&load[i] / page * page), page, PROT_READ | PROT_WRITE | PROT_EXEC) == 0);
+	load[i] = FORMS[STORE].bits | word | (load[i] & 31);
+	__builtin___clear_cache((char *)&load[i], (char *)&load[i + 1]);
+}
+
 /* The last place to which the stack leads. */
 static void *outermost(void)
 {
@@ -183,12 +205,16 @@ static void on_access(int number, siginfo_t *info, void *context)
 		return;
 	}
 	memcpy(&instruction, (const void *)(uintptr_t)machine->pc, sizeof instruction);
-	enum kind kind = kind_of(instruction);
 	size_t distance = (size_t)((const char *)info->si_addr - table->seen);
 	uint64_t place = (machine->pc - (uintptr_t)__executable_start) / sizeof instruction;
-	if (kind == KINDS || distance % 8 != 0 || place >= MOST_CODE)
+	if (place < MOST_CODE && overwritten[place] != 0)
+		instruction = overwritten[place];
+	enum kind kind = kind_of(instruction);
+	if (kind == KINDS || distance % 8 != 0 || place + LONGEST_PAIR >= MOST_CODE)
 		refuse(table, info->si_addr, machine->pc, instruction);
 	counts[kind]++;
+	if (kind == LOAD_EXCLUSIVE && met[place] == 0)
+		overwrite_end((uint32_t *)(uintptr_t)machine->pc, place, table, info->si_addr);
 	meet(place, machine->pc);
 	step(machine, kind, instruction, (uint64_t *)(void *)(table->behind + distance));
 }
