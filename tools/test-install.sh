@@ -119,7 +119,8 @@ foreach(kind netbsd netbsd_static)
   target_link_libraries(names-${kind} PRIVATE kupaldiz::${kind})
 endforeach()
 PROJECT
-    cmake -S "$room/cmake" -B "$room/cmake/out" -DCMAKE_PREFIX_PATH="$stage$prefix" -DCMAKE_C_FLAGS="-Wall -Wextra -Werror" && cmake --build "$room/cmake/out" &&
+    cmake -S "$room/cmake" -B "$room/cmake/out" -DCMAKE_PREFIX_PATH="$stage$prefix" -DCMAKE_C_FLAGS="-Wall -Wextra -Werror" &&
+        cmake --build "$room/cmake/out" &&
         runs cmake/out/registry-kupaldiz "C, version $(version)" && runs cmake/out/registry-static "C, version $(version)" &&
         runs cmake/out/names-netbsd "C, by the pages' names" && runs cmake/out/names-netbsd_static "C, by the pages' names"
 }
@@ -127,12 +128,14 @@ PROJECT
 # Another version is asked for than the one that is there.
 refused_by_cmake() {
     sed -i 's/find_package(kupaldiz 0.1/find_package(kupaldiz 0.9/' "$room/cmake/CMakeLists.txt"
-    ! cmake -S "$room/cmake" -B "$room/cmake/later" -DCMAKE_PREFIX_PATH="$stage$prefix" >"$room/said" 2>&1 && grep 'compatible with requested version "0.9"' "$room/said"
+    ! cmake -S "$room/cmake" -B "$room/cmake/later" -DCMAKE_PREFIX_PATH="$stage$prefix" >"$room/said" 2>&1 &&
+        grep 'compatible with requested version "0.9"' "$room/said"
 }
 
 # What is installed with a .pc file that names no place, and moved: programs are built where it is now.
 moved() {
-    made install PC_PREFIX='$${pcfiledir}/../..' && mv "$stage$prefix" "$room/moved" && stage=$room/moved prefix='' libdir=/lib PKG_CONFIG_SYSROOT_DIR='' in_place
+    made install PC_PREFIX='$${pcfiledir}/../..' && mv "$stage$prefix" "$room/moved" &&
+        stage=$room/moved prefix='' libdir=/lib PKG_CONFIG_SYSROOT_DIR='' in_place
 }
 
 in_place() {
@@ -287,6 +290,11 @@ change_layer() {
     mark "$(find "$clients/netbsd" -name '*.c' -not -path '*/tests/*' -not -path '*/examples/*' | sort | head -n 1)" "$1"
 }
 
+# A call that the header declares, and that neither a map nor a library has.
+unnamed_call_is_told() {
+    sed -i 's/^size_t registry_text(/uint32_t registry_unnamed(void);\n&/' "$header" && ! made symbols >"$room/said" 2>&1 && grep -x '< registry_unnamed' "$room/said"
+}
+
 make_later() {
     sed -i -E 's/^(#define REGISTRY_VERSION_PATCH[[:blank:]]+).*/\17/' "$header"
 }
@@ -355,6 +363,8 @@ check "an upgrade: it is installed over the older one" made install
 check "an upgrade: each file, and none of the older version" holds_files "${older%.*}.7"
 check "an upgrade: uninstall" made uninstall
 check "an upgrade: uninstall leaves nothing" leaves_nothing
+
+check "a call that no map names is told" unnamed_call_is_told
 
 prefix=/somewhere libdir=/somewhere/lib stage=$room/before
 check "an installation that is moved" moved
