@@ -7,6 +7,7 @@ ghost use mathlib.Core.List.{IsPrefix};
 ghost use Rattle.passive_list.specs.Common.{HasFound, HasFoundFromOutside, HasHeardOn, WasShown, has_heard, has_told, entry_seen, HasWalked, AnswersEnter, HasExitedOn, may_begin};
 ghost use Rattle.passive_ref.specs.Psrefs.{GivesBack, HasOneLess, IsAcquired, IsCopied, IsReadAs, why_not_acquired, why_not_copied, why_unusable};
 
+use crate::acquired::LastAcquired;
 use crate::local_body::LocalBody;
 use cpu_words::{NoteSeat, Words};
 use held::Spare;
@@ -28,8 +29,8 @@ pub struct CpuBody {
     pub cpu: PlainCpu,
     /// The block of a local reference that was released here, for the next one that is acquired here. It is freed as the CPU is.
     spare: Spare<LocalBody>,
-    /// Never written: it keeps the CPU's data off the cache lines of the body in the next block.
-    pub apart: [u64; 16],
+    /// The passive references that were acquired here last, for the next calls with their numbers.
+    acquired: LastAcquired,
 }
 
 impl Model for CpuBody {
@@ -55,7 +56,7 @@ impl CpuBody {
             words,
             cpu,
             spare: Spare::empty(),
-            apart: [0; 16],
+            acquired: LastAcquired::none(),
         })
     }
 
@@ -92,6 +93,13 @@ impl CpuBody {
         ensures { result ≡ record { cpu = self.now.cpu.view.id; number = number } }
     {
         Psref::remembered(self.cpu.id(), number)
+    }
+
+    /// Keeps a passive reference that was acquired here, for the next call with its number.
+    pub fn keep(&mut self, psref: Psref)
+        ensures { self.new ≡ self.old }
+    {
+        self.acquired.put(psref);
     }
 
     /// Whether the CPU is inside a section.
@@ -207,6 +215,21 @@ impl CpuBody {
         copy_on(&self.words, &mut self.cpu, psref)
     }
 
+    /// The same, by the number of the first: `copy` of the CPU's own passive reference to it.
+    pub fn copy_own(&mut self, number: u64) -> Result<Psref, Refusal>
+        ensures answer { Answers (why_not_copied self.old.cpu.view number (why_unusable self.old.cpu.view (record { cpu = self.old.cpu.view.id; number = number }))) (IsCopied number self.old.cpu self.new.cpu) result }
+        ensures refused { IfErr result (λ _. self.new ≡ self.old) }
+        ensures words { self.new.words ≡ self.old.words }
+    {
+        if let Some(kept) = self.acquired.at(self.cpu.id(), number) {
+            return copy_on(&self.words, &mut self.cpu, kept);
+        }
+        let own = self.own(number);
+        let made = self.copy(&own);
+        own.forget();
+        made
+    }
+
     /// Whether the CPU holds a passive reference to that number.
     pub fn held(&self, number: u64) -> bool
         ensures { IsTrue result ↔ 0 < references_to number self.now.cpu.view.references }
@@ -224,6 +247,21 @@ impl CpuBody {
         read_entry_on(&self.words, &mut self.cpu, psref)
     }
 
+    /// The same, by its number: `read` of the CPU's own passive reference to it.
+    pub fn read_own(&mut self, number: u64) -> Result<Entry, Refusal>
+        ensures answer { Answers (why_unusable self.old.cpu.view (record { cpu = self.old.cpu.view.id; number = number })) (IsReadAs number self.old.cpu self.new.cpu) result }
+        ensures refused { IfErr result (λ _. self.new ≡ self.old) }
+        ensures words { self.new.words ≡ self.old.words }
+    {
+        if let Some(kept) = self.acquired.at(self.cpu.id(), number) {
+            return read_entry_on(&self.words, &mut self.cpu, kept);
+        }
+        let own = self.own(number);
+        let answer = self.read(&own);
+        own.forget();
+        answer
+    }
+
     /// Releases a passive reference.
     /// Refused: `WrongCpu`, `NotHeld`; the reference comes back then.
     pub fn release(&mut self, psref: Psref) -> Result<(), (Refusal, Psref)>
@@ -232,6 +270,22 @@ impl CpuBody {
         ensures words { self.new.words ≡ self.old.words }
     {
         release_on(&self.words, &mut self.cpu, psref)
+    }
+
+    /// The same, by its number: `release` of the CPU's own passive reference to it.
+    pub fn release_own(&mut self, number: u64) -> Result<(), Refusal>
+        ensures answer { Answers (why_unusable self.old.cpu.view (record { cpu = self.old.cpu.view.id; number = number })) (λ _. HasOneLess number self.old.cpu self.new.cpu) result }
+        ensures refused { IfErr result (λ _. self.new ≡ self.old) }
+        ensures words { self.new.words ≡ self.old.words }
+    {
+        let own = self.acquired.take(self.cpu.id(), number);
+        match release_on(&self.words, &mut self.cpu, own) {
+            Ok(()) => Ok(()),
+            Err((refusal, back)) => {
+                back.forget();
+                Err(refusal)
+            }
+        }
     }
 }
 
