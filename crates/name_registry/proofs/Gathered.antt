@@ -136,9 +136,6 @@ pub record HaveSeen (ys : List OnCpu) (n : ℕ) (h p : List Change) : Type 0 whe
   pub told : IsPrefix h p
   pub each : (c : ℕ) (y : OnCpu) → c < n → get_elem? ys c ≡ some y → IsPrefix h y.view.pass × IsPrefix y.view.pass p
 
-pub seen_none : (ys : List OnCpu) (h p : List Change) → p ≡ h → HaveSeen ys 0 h p
-seen_none ys h p is = record { told = ([], append-nil h ∙ sym is); each = λ c y lt. absurd (omega (arith, lt)) }
-
 pub seen_more : (ys : List OnCpu) (n : ℕ) (h p q : List Change) (x y : OnCpu) → HaveSeen ys n h p → HasHeardOn p x y → q ≡ y.view.pass → HaveSeen (set ys n y) (n + 1) h q
 seen_more ys n h p q x y so_far heard is =
     let next : IsPrefix p q = subst (IsPrefix p) (sym is) heard.told in
