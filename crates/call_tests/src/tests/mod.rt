@@ -8,6 +8,7 @@ mod memory_tests;
 mod readers;
 mod records;
 mod registry_rows;
+mod sizes;
 mod table;
 mod threads;
 mod turns;

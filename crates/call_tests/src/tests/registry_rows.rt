@@ -2,8 +2,7 @@
 
 ghost use Rattle.name_registry.specs.Common.{IsBlankOf};
 
-use super::answers::Answer::{self, At, Come, Done, Is, Names, Refused};
-use super::answers::come;
+use super::answers::Answer::{self, At, Done, Is, Names, Refused};
 use super::bench::Call::{Attach, Detach};
 use super::bench::Step::{self, By, Reads};
 use super::bench::{Bench, blank};
@@ -11,9 +10,10 @@ use super::readers::Held;
 use super::readers::Reader::{
     Acquire, Copy, Enter, Exit, Find, Holds, Read, Reference, Release, Walk,
 };
-use super::records::{DRIVER_WM1, VGA, WM};
+use super::records::{DRIVER_WM1, VGA, WM, record};
 use cpu_words::Domain;
-use name_registry::Blank;
+use name_registry::{Blank, Registry};
+use passive_list::Cpu;
 use registry_values::{Refusal, Stage};
 use std::alloc::Global;
 use std::marker::Brand;
@@ -45,12 +45,12 @@ const WALKS: &[(Step, Answer)] = &[
     (Reads(0, Exit), Done),
 ];
 
-/// How often the driver vga comes and goes after that: the last is the 100,000th change.
-const ROUNDS: u64 = 49_996;
+/// So many changes there may be: more than 17 bits count, and as many as a run without a proof makes in half a minute.
+const CHANGES: u64 = 204_000;
 
 #[test]
 fn registry_rows(rt: HostRuntime) -> Result<(), Fail> {
-    walked_and_changed::<Brand, _>(&rt, rt.alloc(), blank(rt.alloc(), 4, 100_000)?)
+    walked_and_changed::<Brand, _>(&rt, rt.alloc(), blank(rt.alloc(), 4, CHANGES)?)
 }
 
 /// An audit that is given CPU 0 alone; the walks; and changes until the history is full.
@@ -69,31 +69,31 @@ fn walked_and_changed<D: Domain, R: Wait + Abort>(
     for number in [1, 3, 2, 5] {
         assert!(rt; bench.registry.advance(rt, number).is_ok());
     }
-    for round in 0..ROUNDS {
-        change(rt, &mut bench, 9 + 2 * round);
+    let (registry, mut first, mut second, _third) = bench.apart()?;
+    for round in 4..CHANGES / 2 {
+        change(rt, &registry, &mut first, &mut second, 2 * round + 1);
     }
-    bench.run(
-        rt,
-        "full",
-        &[(By(0, Attach(VGA)), Refused(Refusal::HistoryFull))],
-    );
+    let full = registry.attach(rt, &mut first, record(rt, VGA));
+    assert!(rt; matches!(full, Err(Refusal::HistoryFull)));
     Ok(())
 }
 
-/// The driver with this number is attached in slot 0, detached and freed.
-fn change<D: Domain, R: Wait + Abort>(rt: &R, bench: &mut Bench<D>, number: u64) {
-    bench.run(
-        rt,
-        "a change",
-        &[
-            (By(2, Attach(VGA)), At(number, 0)),
-            (By(1, Detach(VGA)), At(number, 0)),
-        ],
-    );
-    assert_eq!(rt;
-        come(bench.registry.advance(rt, number)),
-        Come(Stage::Freed(0))
-    );
+/// One CPU attaches the driver with this number in slot 0, another one detaches it, and it is freed.
+fn change<D: Domain, R: Wait + Abort>(
+    rt: &R,
+    registry: &Registry<D>,
+    first: &mut Cpu<D>,
+    second: &mut Cpu<D>,
+    number: u64,
+) {
+    let rec = record(rt, VGA);
+    let Ok(entry) = registry.attach(rt, first, rec) else {
+        panic!(rt; "an attach")
+    };
+    assert_eq!(rt; (entry.number, entry.slot, entry.rec), (number, 0, rec));
+    let gone = registry.detach(rt, second, rec.kind, &rec.name);
+    assert!(rt; gone == Ok(entry), "a detach");
+    assert!(rt; registry.advance(rt, number) == Ok(Stage::Freed(0)), "a turn");
 }
 
 #[test]

@@ -32,7 +32,7 @@ const TURNS: u32 = 100_000_000;
 const CHANGES: u32 = 100_000;
 
 /// The record of the n-th driver: its name is two letters, and its value ten times its place.
-fn nth<R: Abort>(rt: &R, n: u8) -> Record
+pub(crate) fn nth<R: Abort>(rt: &R, n: u8) -> Record
     ensures { IsTrue (is_lawful result.name) }
 {
     Record {
