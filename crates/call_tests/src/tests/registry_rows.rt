@@ -21,8 +21,8 @@ use std::process::Abort;
 use std::sync::Wait;
 use std::test::*;
 
-/// CPU 0 walks several times in one section, while CPU 1 changes the list: each walk is over the list at that time. What comes back under
-/// its name is another entry, and after a walk no entry is the last that was found.
+/// CPU 0 walks several times in one section, while CPU 1 changes the list: the walk is over what stands there now. What comes back under its name
+/// is another entry, and after a walk no entry is the last that was found.
 const WALKS: &[(Step, Answer)] = &[
     (Reads(0, Enter), Done),
     (Reads(0, Walk(&[])), Done),
