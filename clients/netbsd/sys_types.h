@@ -23,13 +23,13 @@ extern "C" {
 /* kupaldiz_at - the next call of this thread is at this place. The text isn't copied. */
 void kupaldiz_at(const char *place);
 
-/* What a point says of an atomic access or a barrier: KUPALDIZ_CHANGES is all of it. */
+/* What a point says of an atomic access or a barrier: KUPALDIZ_EXCHANGES is all of it. */
 enum {
 	KUPALDIZ_LOADS = 1,
 	KUPALDIZ_STORES = 2,
 	KUPALDIZ_ACQUIRES = 4,
 	KUPALDIZ_RELEASES = 8,
-	KUPALDIZ_CHANGES = 15
+	KUPALDIZ_EXCHANGES = 15
 };
 
 /* KUPALDIZ_POINT, KUPALDIZ_BARRIER - before an atomic access or a barrier of the code's own. The address is evaluated once more for the access. Nothing here;

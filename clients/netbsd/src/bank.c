@@ -342,12 +342,32 @@ const void *live_owner(size_t *held)
 	return NULL;
 }
 
-/* Closes each registry. No thread is in a call, and none calls the layer again. */
+/* Closes a CPU's handle, whatever the CPU was left in. */
+static void close_cpu(struct thread *me, struct registry_cpu *cpu)
+{
+	while (registry_exit(cpu) == REGISTRY_DONE)
+		;
+	done(me, registry_close_cpu(cpu));
+}
+
+static void forget_held(struct thread *me, struct row *row)
+{
+	for (size_t place = 0; place < row->count; place++)
+		done(me, registry_local_forget(&row->held[place].local));
+}
+
+static void close_bank(struct thread *me, struct bank *bank)
+{
+	for (unsigned slot = 0; slot < ROWS; slot++)
+		forget_held(me, &bank->rows[slot]);
+	for (unsigned cpu = 0; cpu < ALL_CPUS; cpu++)
+		close_cpu(me, &bank->cpus[cpu].cpu);
+	done(me, registry_close_keeper(&bank->keeper));
+}
+
+/* Closes each registry. No thread goes on in a call, and none calls the layer again. */
 void close_banks(struct thread *me)
 {
-	for (unsigned place = 0; place < bank_count; place++) {
-		for (unsigned cpu = 0; cpu < ALL_CPUS; cpu++)
-			done(me, registry_close_cpu(&banks[place]->cpus[cpu].cpu));
-		done(me, registry_close_keeper(&banks[place]->keeper));
-	}
+	for (unsigned place = 0; place < bank_count; place++)
+		close_bank(me, banks[place]);
 }

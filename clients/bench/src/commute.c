@@ -1,0 +1,151 @@
+/*
+ * commute.c - which steps commute, and which others of a step must be tried for it
+ *
+ * A step comes after another one where they touch the same and don't commute, and after what that one comes after. Two steps of different threads that are
+ * next to each other in this order, and might come the other way round, are a race. For each race the search plans the other way round: at the
+ * earlier step some thread goes on that leads to the later one first. This is dynamic partial-order reduction, with source sets.
+ */
+#include <string.h>
+
+#include "inside.h"
+
+static bool do_overlap(const struct access *one, const struct access *other)
+{
+	return one->address < other->address + other->size && other->address < one->address + one->size;
+}
+
+/* Whether two accesses are of the same thing, and one of them writes it. */
+static bool do_clash(const struct access *one, const struct access *other)
+{
+	if (one->kind != other->kind || ((one->how | other->how) & WRITES) == 0)
+		return false;
+	if (one->kind == ON_MEMORY)
+		return do_overlap(one, other);
+	return one->address == other->address && (one->cpu == other->cpu || one->cpu == ANY || other->cpu == ANY);
+}
+
+/* Whether the first of two that clash is what lets the second come at all. */
+static bool is_before(const struct access *first, const struct access *second)
+{
+	return ((first->how | second->how) & ORDERS) != 0 || ((first->how & (TAKES | GIVES)) == GIVES && (second->how & TAKES) != 0);
+}
+
+enum clash { NONE, ORDER, RACE, LOCKED };
+
+/* How two steps are to each other: they commute; the first has to come first; they may change places; both take one lock. */
+static enum clash clash_of(const struct set *first, const struct set *second)
+{
+	enum clash found = first->full || second->full ? RACE : NONE;
+	for (uint32_t at = 0; at < first->count; at++) {
+		for (uint32_t to = 0; to < second->count; to++) {
+			const struct access *one = &first->of[at], *other = &second->of[to];
+			if (!do_clash(one, other))
+				continue;
+			enum clash clash = is_before(one, other) ? ORDER : (one->how & other->how & TAKES) != 0 ? LOCKED : RACE;
+			found = clash > found ? clash : found;
+		}
+	}
+	return found;
+}
+
+bool do_conflict(const struct set *one, const struct set *other)
+{
+	return clash_of(one, other) != NONE;
+}
+
+/* ---- The order of the steps of a run. ---- */
+
+static bool comes_after(const uint32_t *clock, unsigned at)
+{
+	return clock[board->steps[at].chosen] >= at + 1;
+}
+
+static void join(uint32_t *clock, const uint32_t *other)
+{
+	for (unsigned number = 0; number < THREADS; number++)
+		if (other[number] > clock[number])
+			clock[number] = other[number];
+}
+
+/* The last step of this step's thread before it; else the one in which the thread was made; -1 for none. */
+static int step_before(unsigned at)
+{
+	unsigned thread = board->steps[at].chosen;
+	for (int before = (int)at - 1; before >= 0; before--)
+		if (board->steps[before].chosen == thread)
+			return before;
+	return run.routines[thread].made ? run.routines[thread].made_at : -1;
+}
+
+/* ---- Races. ---- */
+
+/* Whether a step of those listed comes before this one. */
+static bool has_earlier(const unsigned *list, unsigned count, unsigned at)
+{
+	for (unsigned place = 0; place < count; place++)
+		if (comes_after(board->steps[at].clock, list[place]))
+			return true;
+	return false;
+}
+
+/* The threads that may begin what leads to the later step without the earlier one. */
+static uint32_t beginners(unsigned earlier, unsigned later)
+{
+	static unsigned list[POINTS];
+	unsigned count = 0;
+	uint32_t seen = 0, found = 0;
+	for (unsigned at = earlier + 1; at <= later; at++) {
+		const struct step *step = &board->steps[at];
+		if (at < later && comes_after(step->clock, earlier))
+			continue;
+		uint32_t thread = UINT32_C(1) << step->chosen;
+		bool leads = at == later || comes_after(board->steps[later].clock, at);
+		if ((seen & thread) == 0 && leads && !has_earlier(list, count, at))
+			found |= thread;
+		seen |= thread;
+		list[count++] = at;
+	}
+	return found;
+}
+
+/* Plans that the later step comes first. */
+static void plan(unsigned earlier, unsigned later)
+{
+	struct step *step = &board->steps[earlier];
+	uint32_t can = beginners(earlier, later) & step->enabled, own = UINT32_C(1) << board->steps[later].chosen;
+	if (can == 0 || (can & (step->planned | step->done | UINT32_C(1) << step->chosen)) != 0)
+		return;
+	step->planned |= (can & own) != 0 ? own : can & (~can + 1);
+}
+
+/* Sets the step among those before it, and plans what it asks for. */
+void judge_step(unsigned at)
+{
+	struct step *step = &board->steps[at];
+	static uint32_t base[THREADS];
+	static unsigned races[POINTS];
+	unsigned count = 0;
+	bool locked = false;
+	int before = step_before(at);
+	memset(base, 0, sizeof(base));
+	if (before >= 0)
+		memcpy(base, board->steps[before].clock, sizeof(base));
+	memcpy(step->clock, base, sizeof(base));
+	for (int other = (int)at - 1; other >= 0; other--) {
+		const struct step *found = &board->steps[other];
+		if (comes_after(base, (unsigned)other) || found->chosen == step->chosen)
+			continue;
+		bool covered = comes_after(step->clock, (unsigned)other);
+		if (covered && locked)
+			continue;
+		enum clash clash = clash_of(&found->set, &step->set);
+		if ((clash == RACE && !covered) || (clash == LOCKED && !locked))
+			races[count++] = (unsigned)other;
+		locked = locked || clash == LOCKED;
+		if (clash != NONE)
+			join(step->clock, found->clock);
+	}
+	step->clock[step->chosen] = at + 1;
+	for (unsigned place = 0; place < count; place++)
+		plan(races[place], at);
+}

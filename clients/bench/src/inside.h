@@ -1,0 +1,215 @@
+/* inside.h - what the parts of the bench share; no program includes it */
+#ifndef KUPALDIZ_BENCH_INSIDE_H
+#define KUPALDIZ_BENCH_INSIDE_H
+
+#include <stdio.h>
+#include <ucontext.h>
+
+#include "layer.h"
+
+#include "../bench.h"
+
+enum { THREADS = BENCH_THREADS, POINTS = BENCH_POINTS, ACCESSES = 12, STACK = 256 * 1024, ANY = 0xffff, NOBODY = 0xff };
+
+#define NEVER	INT64_MAX
+
+/* ---- What a step touches. ---- */
+
+/* Two steps commute unless they touch the same thing and one of them writes it. */
+enum kind {
+	ON_NOTHING,
+	ON_LOCK,	/* a mutex, an rwlock, a CPU's own lock */
+	ON_CV,
+	ON_SECTION,	/* of a CPU */
+	ON_END,		/* of one section of a CPU */
+	ON_REFERENCES,	/* of a CPU, to a target or a count */
+	ON_TARGET,	/* a target, a count or a class */
+	ON_MEMORY,
+	ON_THREAD,
+	ON_PENDING,	/* soft interrupts of a CPU */
+	ON_TIME,
+	ON_WAKE		/* of a thread that waits */
+};
+
+enum {
+	WRITES = 1,
+	TAKES = 2,	/* what others gave comes before it */
+	GIVES = 4,
+	ORDERS = 8	/* the other step can't come first */
+};
+
+struct access {
+	uintptr_t address;
+	uint32_t size;
+	uint16_t cpu;		/* or ANY */
+	uint8_t kind, how;
+};
+
+struct set {
+	uint32_t count;
+	bool full;		/* there was more: it commutes with nothing */
+	struct access of[ACCESSES];
+};
+
+/* ---- A run: it is begun anew with the program's memory. ---- */
+
+struct routine;
+typedef bool guard_fn(const struct routine *routine);
+
+typedef uint32_t clocks[THREADS];
+
+/* A thread as the bench has it. */
+struct routine {
+	ucontext_t context;
+	void *fake_stack;
+	bool made, begun, ended;
+	bool daemon;		/* the layer's own, which never ends */
+	bool off;		/* it has given its CPU back and goes on having it later */
+	unsigned number;
+	const char *name;
+	void (*body)(void *);
+	void *arg;
+	struct thread *self;
+	struct places places;
+	const char *from;	/* the place of the next point that lies in a header */
+	const char *call, *place;	/* the point where it is */
+	guard_fn *guard;	/* NULL, or whether it can go on from there */
+	const void *of;		/* what the guard looks at */
+	uint64_t noted;
+	int64_t deadline;
+	const void *queue;	/* what it waits to be woken for */
+	uint64_t arrived;
+	bool woken;
+	kmutex_t *retake;	/* the lock that it takes when it was woken */
+	const void *target;	/* of the call that it is in */
+	int made_at, last;	/* steps; -1 for none */
+	clocks clock, released, pending;
+};
+
+enum phase { SETTING_UP, RUNNING, FINISHING };
+
+struct run {
+	struct routine routines[THREADS];
+	unsigned count;
+	struct routine *now_runs;
+	enum phase phase;
+	unsigned step;		/* the number of steps begun */
+	int64_t time;
+	unsigned ticks;
+	uint64_t arrivals;
+	uint64_t ends[KUPALDIZ_CPUS];	/* of sections */
+	uint64_t releases, handlers;
+	bool own_memory;	/* what is taken now is the layer's own */
+	char outcome[BENCH_TEXT];
+};
+
+extern struct run run;
+
+/* ---- The search: it lies in memory that the parent shares. ---- */
+
+/* One step of the run, and what is known of the others there. */
+struct step {
+	uint32_t enabled, planned, done, asleep;	/* a bit for each thread */
+	uint8_t chosen, cpu;
+	uint16_t preemptions;	/* up to it */
+	const char *call, *place;
+	uint32_t clock[THREADS];
+	struct set set;
+	struct set tried[THREADS];
+	const struct set *slept[THREADS];
+};
+
+enum way { REDUCED, WHOLE, BOUNDED, RANDOM, REPLAYED };
+enum end { ENDED_WELL, CUT, FAILED, UNFIT, DIED };
+
+struct board {
+	enum way way;
+	enum end end;
+	bool over;		/* the child has said all */
+	unsigned bound;
+	uint64_t limit;
+	unsigned prefix;	/* so many steps are given */
+	unsigned fresh;		/* those from here on are new */
+	unsigned length;	/* of the run */
+	unsigned priorities[THREADS], changes[3];
+	uint64_t seed;
+	uint64_t runs;
+	struct bench_found found;
+	char names[THREADS][32];
+	char more[4 * BENCH_LINE];	/* lines after the first one */
+	struct step steps[POINTS + 1];
+};
+
+extern struct board *board;
+extern struct bench_options options;
+
+/* ---- routine.c ---- */
+
+void prepare_stacks(void);
+void release_stacks(void);
+struct routine *make_routine(const char *name, void (*body)(void *), void *arg, bool daemon);
+void switch_to(struct routine *routine);
+void first_point(struct routine *me);
+void run_main(void (*body)(void *));
+_Noreturn void leave_run(enum end end);
+_Noreturn void end_routine(void);
+
+/* ---- schedule.c ---- */
+
+void point(const char *call, const char *place, guard_fn *guard, const void *of);
+void wait_here(guard_fn *guard, const void *of);
+void touch(enum kind kind, const volatile void *address, unsigned cpu, unsigned how);
+void touch_memory(const volatile void *address, size_t size, unsigned how);
+void start_routines(void);
+struct routine *here(const char *call);
+bool is_enabled(const struct routine *routine);
+bool all_have_ended(const struct routine *routine);
+uint32_t enabled_now(void);
+
+/* ---- commute.c ---- */
+
+bool do_conflict(const struct set *one, const struct set *other);
+void judge_step(unsigned at);
+
+/* ---- words.c ---- */
+
+void give_clock(enum kind kind, const volatile void *address, unsigned cpu);
+void take_clock(enum kind kind, const volatile void *address, unsigned cpu);
+void inherit_clock(struct routine *made);
+
+/* ---- heap.c ---- */
+
+void prepare_heap(void);
+void release_heap(void);
+bool is_live(const void *at);
+void *resize(void *block, size_t size);
+void want_live(const char *call, const volatile void *at, size_t size);
+void *allocate(size_t size, size_t align, bool judged);
+void release(void *block);
+void judge_heap(void);
+
+/* ---- state.c ---- */
+
+void note_state(void);
+void restore_state(void);
+
+/* ---- locks.c and softints.c, for the scheduler. ---- */
+
+bool may_interrupt(const struct routine *routine);
+bool clock_can_go_on(void);
+int64_t next_time(void);
+
+/* ---- stuck.c ---- */
+
+void tell_stuck(void);
+
+/* ---- explore.c, show.c ---- */
+
+_Noreturn void fail(const char *format, ...) __attribute__((format(printf, 1, 2)));
+_Noreturn void refuse(const char *format, ...) __attribute__((format(printf, 1, 2)));
+void write_schedule(char *text, size_t room);
+const char *short_place(const char *place);
+void show(FILE *to, const struct bench_found *found);
+bool draw(const char *name, const struct bench_found *found);
+
+#endif
