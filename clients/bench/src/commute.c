@@ -30,6 +30,11 @@ static bool is_before(const struct access *first, const struct access *second)
 	return ((first->how | second->how) & ORDERS) != 0 || ((first->how & (TAKES | GIVES)) == GIVES && (second->how & TAKES) != 0);
 }
 
+static bool do_both_take(const struct access *first, const struct access *second)
+{
+	return (first->how & (TAKES | TRIES)) != 0 && (second->how & (TAKES | TRIES)) != 0;
+}
+
 enum clash { NONE, ORDER, RACE, LOCKED };
 
 /* How two steps are to each other: they commute; the first has to come first; they may change places; both take one lock. */
@@ -41,7 +46,7 @@ static enum clash clash_of(const struct set *first, const struct set *second)
 			const struct access *one = &first->of[at], *other = &second->of[to];
 			if (!do_clash(one, other))
 				continue;
-			enum clash clash = is_before(one, other) ? ORDER : (one->how & other->how & TAKES) != 0 ? LOCKED : RACE;
+			enum clash clash = is_before(one, other) ? ORDER : do_both_take(one, other) ? LOCKED : RACE;
 			found = clash > found ? clash : found;
 		}
 	}
@@ -125,7 +130,6 @@ void judge_step(unsigned at)
 	static uint32_t base[THREADS];
 	static unsigned races[POINTS];
 	unsigned count = 0;
-	bool locked = false;
 	int before = step_before(at);
 	memset(base, 0, sizeof(base));
 	if (before >= 0)
@@ -136,12 +140,9 @@ void judge_step(unsigned at)
 		if (comes_after(base, (unsigned)other) || found->chosen == step->chosen)
 			continue;
 		bool covered = comes_after(step->clock, (unsigned)other);
-		if (covered && locked)
-			continue;
 		enum clash clash = clash_of(&found->set, &step->set);
-		if ((clash == RACE && !covered) || (clash == LOCKED && !locked))
+		if ((clash == RACE && !covered) || clash == LOCKED)
 			races[count++] = (unsigned)other;
-		locked = locked || clash == LOCKED;
 		if (clash != NONE)
 			join(step->clock, found->clock);
 	}

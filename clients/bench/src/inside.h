@@ -35,7 +35,8 @@ enum {
 	WRITES = 1,
 	TAKES = 2,	/* what others gave comes before it */
 	GIVES = 4,
-	ORDERS = 8	/* the other step can't come first */
+	ORDERS = 8,	/* the other step can't come first */
+	TRIES = 16	/* takes it where it is free, and else goes on */
 };
 
 struct access {

@@ -55,7 +55,7 @@ struct thread *lock_owner(const uintptr_t *word)
 
 bool lock_try(uintptr_t *word, struct thread *me)
 {
-	touch(ON_LOCK, word, 0, WRITES);
+	touch(ON_LOCK, word, 0, WRITES | TRIES);
 	if (*word != 0)
 		return false;
 	*word = (uintptr_t)me;
