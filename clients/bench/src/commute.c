@@ -96,7 +96,7 @@ static bool has_earlier(const unsigned *list, unsigned count, unsigned at)
 /* The threads that may begin what leads to the later step without the earlier one. */
 static uint32_t beginners(unsigned earlier, unsigned later)
 {
-	static unsigned list[POINTS];
+	unsigned *list = beside->list;
 	unsigned count = 0;
 	uint32_t seen = 0, found = 0;
 	for (unsigned at = earlier + 1; at <= later; at++) {
@@ -127,8 +127,8 @@ static void plan(unsigned earlier, unsigned later)
 void judge_step(unsigned at)
 {
 	struct step *step = &board->steps[at];
-	static uint32_t base[THREADS];
-	static unsigned races[POINTS];
+	uint32_t base[THREADS];
+	unsigned *races = beside->races;
 	unsigned count = 0;
 	int before = step_before(at);
 	memset(base, 0, sizeof(base));

@@ -13,31 +13,25 @@
 void __asan_poison_memory_region(const volatile void *at, size_t size) __attribute__((weak));
 void __asan_unpoison_memory_region(const volatile void *at, size_t size) __attribute__((weak));
 
-enum { PART = 4 * 1024 * 1024, FENCE = 32, BLOCKS = 512, NEW = 0xa5, FREED = 0xdf, BEHIND = 0xfd };
+enum { PART = 4 * 1024 * 1024, FENCE = 32, NEW = 0xa5, FREED = 0xdf, BEHIND = 0xfd };
 
-struct block {
-	unsigned char *at;
-	size_t size;
-	bool live, judged;
-	unsigned by, freed_by;
-	const char *call, *place, *freed_call, *freed_place;
-};
-
-static struct block blocks[BLOCKS];
 static unsigned block_count;
 static size_t used[THREADS];
 static unsigned char *parts;
+struct beside *beside;
 
 void prepare_heap(void)
 {
 	parts = mmap(NULL, (size_t)THREADS * PART, PROT_READ | PROT_WRITE, MAP_PRIVATE | MAP_ANONYMOUS | MAP_NORESERVE, -1, 0);
-	if (parts == MAP_FAILED)
+	beside = mmap(NULL, sizeof(*beside), PROT_READ | PROT_WRITE, MAP_PRIVATE | MAP_ANONYMOUS, -1, 0);
+	if (parts == MAP_FAILED || beside == MAP_FAILED)
 		refuse("out of memory");
 }
 
 void release_heap(void)
 {
 	munmap(parts, (size_t)THREADS * PART);
+	munmap(beside, sizeof(*beside));
 }
 
 static void forbid(const void *at, size_t size)
@@ -79,7 +73,7 @@ void *allocate(size_t size, size_t align, bool judged)
 	memset(at, NEW, size);
 	memset(at + size, BEHIND, FENCE);
 	forbid(at + size, FENCE);
-	blocks[block_count++] = (struct block){.at = at, .size = size, .live = true, .judged = judged, .by = number, .call = called(self),
+	beside->blocks[block_count++] = (struct block){.at = at, .size = size, .live = true, .judged = judged, .by = number, .call = called(self),
 	    .place = self == NULL ? NULL : self->place};
 	return at;
 }
@@ -91,8 +85,8 @@ static struct block *block_at(const volatile void *address)
 	if (at < parts || at >= parts + (size_t)THREADS * PART)
 		return NULL;
 	for (unsigned place = block_count; place-- > 0;)
-		if (at >= blocks[place].at && at < blocks[place].at + blocks[place].size + FENCE)
-			return &blocks[place];
+		if (at >= beside->blocks[place].at && at < beside->blocks[place].at + beside->blocks[place].size + FENCE)
+			return &beside->blocks[place];
 	return NULL;
 }
 
@@ -182,7 +176,7 @@ void judge_heap(void)
 	unsigned left = 0;
 	const struct block *first = NULL;
 	for (unsigned place = 0; place < block_count; place++) {
-		const struct block *block = &blocks[place];
+		const struct block *block = &beside->blocks[place];
 		judge_block(block);
 		if (!block->live || !block->judged)
 			continue;

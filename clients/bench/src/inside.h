@@ -144,6 +144,44 @@ struct board {
 extern struct board *board;
 extern struct bench_options options;
 
+/* ---- What a run needs and the next one needn't find empty: it lies in memory of its own. ---- */
+
+enum { BLOCKS = 512, GIVEN = 256, PLAIN = 256 };
+
+/* A block of memory of the code's. */
+struct block {
+	unsigned char *at;
+	size_t size;
+	bool live, judged;
+	unsigned by, freed_by;
+	const char *call, *place, *freed_call, *freed_place;
+};
+
+/* What was left at a thing. */
+struct given {
+	uint64_t run;
+	uintptr_t of;
+	clocks clock;
+};
+
+/* An access to memory. */
+struct plain {
+	uintptr_t from, to;
+	bool writes, atomic;
+	unsigned thread;
+	uint32_t at;
+	const char *place;
+};
+
+struct beside {
+	struct block blocks[BLOCKS];
+	struct given given[GIVEN];
+	struct plain plain[PLAIN];
+	unsigned list[POINTS], races[POINTS];
+};
+
+extern struct beside *beside;
+
 /* ---- routine.c ---- */
 
 void prepare_stacks(void);

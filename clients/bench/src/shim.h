@@ -18,10 +18,11 @@
 #include <time.h>
 #include <unistd.h>
 
-/* No wait says after a while what it waits for, and no drain looks without being woken. */
+/* There are fewer banks, so that less is begun anew with each run. No wait says after a while what it waits for, and no drain looks without being woken. */
 #define KUPALDIZ_PATIENCE	1000000000
 #define KUPALDIZ_LOOKS		INT64_C(1000000000000000)
 #define KUPALDIZ_CHANGES	2000
+#define KUPALDIZ_BANKS		64
 
 #include "stand_ins.h"
 

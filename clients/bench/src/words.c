@@ -8,22 +8,6 @@
 
 #include "inside.h"
 
-enum { GIVEN = 256, PLAIN = 256 };
-
-/* What was left at a thing. */
-static struct given {
-	uintptr_t of;
-	clocks clock;
-} given[GIVEN];
-
-/* An access to memory. */
-static struct plain {
-	uintptr_t from, to;
-	bool writes, atomic;
-	unsigned thread;
-	uint32_t at;
-	const char *place;
-} plain[PLAIN];
 static unsigned plain_count;
 
 static void join(uint32_t *clock, const uint32_t *other)
@@ -37,12 +21,15 @@ static void join(uint32_t *clock, const uint32_t *other)
 static struct given *given_at(enum kind kind, const volatile void *address, unsigned cpu)
 {
 	uintptr_t of = ((uintptr_t)address * 31 + (uintptr_t)kind) * 64 + cpu % 64 + 1;
+	uint64_t number = board->runs + 1;
 	unsigned at = (unsigned)(of * 0x9e3779b1u >> 8) % GIVEN;
 	for (unsigned turn = 0; turn < GIVEN - 1; turn++, at = (at + 1) % GIVEN)
-		if (given[at].of == of || given[at].of == 0)
+		if (beside->given[at].of == of || beside->given[at].run != number)
 			break;
-	given[at].of = of;
-	return &given[at];
+	if (beside->given[at].run != number)
+		beside->given[at] = (struct given){.run = number};
+	beside->given[at].of = of;
+	return &beside->given[at];
 }
 
 void give_clock(enum kind kind, const volatile void *address, unsigned cpu)
@@ -81,7 +68,7 @@ static const char *known(const char *place)
 static void want_ordered(const struct routine *me, const struct plain *now)
 {
 	for (unsigned at = 0; at < plain_count; at++) {
-		const struct plain *old = &plain[at];
+		const struct plain *old = &beside->plain[at];
 		if (old->thread == me->number || old->from >= now->to || now->from >= old->to)
 			continue;
 		if ((!old->writes && !now->writes) || (old->atomic && now->atomic) || me->clock[old->thread] >= old->at)
@@ -97,14 +84,14 @@ static void record(const struct routine *me, const volatile void *address, size_
 	const struct plain now = {(uintptr_t)address, (uintptr_t)address + size, writes, atomic, me->number, me->clock[me->number], place};
 	want_ordered(me, &now);
 	for (unsigned at = 0; at < plain_count; at++) {
-		struct plain *old = &plain[at];
+		struct plain *old = &beside->plain[at];
 		if (old->thread == now.thread && old->from == now.from && old->to == now.to && old->writes == writes && old->atomic == atomic) {
 			*old = now;
 			return;
 		}
 	}
 	if (plain_count < PLAIN)
-		plain[plain_count++] = now;
+		beside->plain[plain_count++] = now;
 }
 
 /* ---- The points. ---- */
