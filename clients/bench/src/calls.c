@@ -1,5 +1,5 @@
 /*
- * calls.c - the layer's calls, each with its point
+ * calls.c - the layer's calls for locks, sections and references, each with its point
  *
  * A call announces where it is and what must hold before it can go on, says what it touches, and then is the layer's own. Calls that only look at what
  * is the thread's have no point.
@@ -9,20 +9,14 @@
 
 #include "inside.h"
 
-/* LAYER - the layer's own call, whose name has layer_ before it in this library. */
-#define LAYER(type, name, parameters)	type layer_##name parameters
-
-bool is_free(const struct routine *me);
-void sleep_until(int64_t time);
-
-static struct cpu *cpu_here(const struct routine *me)
+struct cpu *cpu_here(const struct routine *me)
 {
 	return me->self->cpu;
 }
 
 /* ---- Calls that touch one thing. ---- */
 
-static void at_thing(const char *call, enum kind kind, const void *thing, size_t size, unsigned how)
+void at_thing(const char *call, enum kind kind, const void *thing, size_t size, unsigned how)
 {
 	point(call, NULL, NULL, NULL);
 	if (thing != NULL)
@@ -32,7 +26,7 @@ static void at_thing(const char *call, enum kind kind, const void *thing, size_t
 
 /* ---- Calls for which the thread has its CPU. ---- */
 
-static void at_cpu(const char *call, unsigned how)
+void at_cpu(const char *call, unsigned how)
 {
 	struct routine *me = here(call);
 	bool needs = me->self->holds == 0;
@@ -42,7 +36,7 @@ static void at_cpu(const char *call, unsigned how)
 }
 
 /* A call that may give the CPU back. */
-static void leaving_cpu(const char *call)
+void leaving_cpu(const char *call)
 {
 	struct routine *me = here(call);
 	point(call, NULL, NULL, NULL);
@@ -428,223 +422,4 @@ void localcount_release(struct localcount *lc, kcondvar_t *cv, kmutex_t *interlo
 	give_clock(ON_REFERENCES, lc, 0);
 	layer_localcount_release(lc, cv, interlock);
 	run.releases++;
-}
-
-/* ---- kmem(9), pool(9), percpu(9). ---- */
-
-LAYER(void *, kmem_alloc, (size_t size, km_flag_t flags));
-LAYER(void *, kmem_zalloc, (size_t size, km_flag_t flags));
-LAYER(void, kmem_free, (void *block, size_t size));
-LAYER(void, kmem_intr_free, (void *block, size_t size));
-LAYER(void, pool_put, (struct pool *pool, void *object));
-LAYER(void, pool_cache_put, (pool_cache_t cache, void *object));
-LAYER(void *, percpu_getref, (percpu_t *percpu));
-LAYER(void, percpu_putref, (percpu_t *percpu));
-
-/* A call that gives memory back. */
-static void at_block(const char *call, const void *block, size_t size)
-{
-	point(call, NULL, NULL, NULL);
-	if (block == NULL)
-		return;
-	want_live(call, block, 1);
-	touch_memory(block, size, WRITES);
-}
-
-void *kmem_alloc(size_t size, km_flag_t flags)
-{
-	point(__func__, NULL, NULL, NULL);
-	return layer_kmem_alloc(size, flags);
-}
-
-void *kmem_zalloc(size_t size, km_flag_t flags)
-{
-	point(__func__, NULL, NULL, NULL);
-	return layer_kmem_zalloc(size, flags);
-}
-
-void kmem_free(void *block, size_t size)
-{
-	at_block(__func__, block, size);
-	layer_kmem_free(block, size);
-}
-
-void kmem_intr_free(void *block, size_t size)
-{
-	at_block(__func__, block, size);
-	layer_kmem_intr_free(block, size);
-}
-
-void pool_put(struct pool *pool, void *object)
-{
-	at_block(__func__, object, pool->pr_size);
-	layer_pool_put(pool, object);
-}
-
-void pool_cache_put(pool_cache_t cache, void *object)
-{
-	at_block(__func__, object, ((struct pool *)(void *)cache)->pr_size);
-	layer_pool_cache_put(cache, object);
-}
-
-void *percpu_getref(percpu_t *percpu)
-{
-	at_cpu(__func__, 0);
-	return layer_percpu_getref(percpu);
-}
-
-void percpu_putref(percpu_t *percpu)
-{
-	leaving_cpu(__func__);
-	layer_percpu_putref(percpu);
-}
-
-/* ---- CPUs, softint(9), xcall(9). ---- */
-
-LAYER(void, kpreempt_disable, (void));
-LAYER(void, kpreempt_enable, (void));
-LAYER(int, kupaldiz_splraise, (int level));
-LAYER(void, splx, (int level));
-LAYER(void, softint_schedule, (void *cookie));
-LAYER(void, softint_disestablish, (void *cookie));
-LAYER(uint64_t, xc_broadcast, (unsigned flags, xcfunc_t body, void *arg_a, void *arg_b));
-LAYER(void, xc_barrier, (unsigned flags));
-
-void kpreempt_disable(void)
-{
-	at_cpu(__func__, 0);
-	layer_kpreempt_disable();
-}
-
-void kpreempt_enable(void)
-{
-	leaving_cpu(__func__);
-	layer_kpreempt_enable();
-}
-
-int kupaldiz_splraise(int level)
-{
-	at_cpu("splraise", 0);
-	return layer_kupaldiz_splraise(level);
-}
-
-void splx(int level)
-{
-	leaving_cpu(__func__);
-	layer_splx(level);
-}
-
-void softint_schedule(void *cookie)
-{
-	struct routine *me = here(__func__);
-	at_cpu(__func__, GIVES);
-	touch(ON_PENDING, NULL, cpu_here(me)->info.ci_index, WRITES | GIVES);
-	layer_softint_schedule(cookie);
-}
-
-void softint_disestablish(void *cookie)
-{
-	point(__func__, NULL, NULL, NULL);
-	touch(ON_PENDING, NULL, ANY, WRITES);
-	layer_softint_disestablish(cookie);
-}
-
-uint64_t xc_broadcast(unsigned flags, xcfunc_t body, void *arg_a, void *arg_b)
-{
-	point(__func__, NULL, NULL, NULL);
-	return layer_xc_broadcast(flags, body, arg_a, arg_b);
-}
-
-void xc_barrier(unsigned flags)
-{
-	point(__func__, NULL, NULL, NULL);
-	layer_xc_barrier(flags);
-}
-
-/* ---- callout(9), kthread(9), time and copies. ---- */
-
-LAYER(void, callout_init, (callout_t *callout, unsigned flags));
-LAYER(void, callout_destroy, (callout_t *callout));
-LAYER(void, callout_reset, (callout_t *callout, int ticks, void (*body)(void *), void *arg));
-LAYER(void, callout_schedule, (callout_t *callout, int ticks));
-LAYER(bool, callout_stop, (callout_t *callout));
-LAYER(bool, callout_halt, (callout_t *callout, void *interlock));
-LAYER(int, kthread_join, (lwp_t *thread));
-LAYER(int, kpause, (const char *name, bool interruptible, int ticks, kmutex_t *mutex));
-LAYER(void, delay, (unsigned microseconds));
-LAYER(int, copyin, (const void *user, void *kernel, size_t length));
-LAYER(int, copyout, (const void *kernel, void *user, size_t length));
-
-static void at_callout(const char *call, callout_t *callout)
-{
-	at_thing(call, ON_TIME, callout, sizeof(*callout), 0);
-	touch(ON_TIME, NULL, 0, WRITES);
-}
-
-/* The layer's own soft interrupt for callouts is never ended. */
-void callout_init(callout_t *callout, unsigned flags)
-{
-	run.own_memory = true;
-	layer_callout_init(callout, flags);
-	run.own_memory = false;
-}
-
-void callout_destroy(callout_t *callout)
-{
-	at_callout(__func__, callout);
-	layer_callout_destroy(callout);
-}
-
-void callout_reset(callout_t *callout, int ticks, void (*body)(void *), void *arg)
-{
-	at_callout(__func__, callout);
-	layer_callout_reset(callout, ticks, body, arg);
-}
-
-void callout_schedule(callout_t *callout, int ticks)
-{
-	at_callout(__func__, callout);
-	layer_callout_schedule(callout, ticks);
-}
-
-bool callout_stop(callout_t *callout)
-{
-	at_callout(__func__, callout);
-	return layer_callout_stop(callout);
-}
-
-bool callout_halt(callout_t *callout, void *interlock)
-{
-	at_callout(__func__, callout);
-	return layer_callout_halt(callout, interlock);
-}
-
-int kthread_join(lwp_t *thread)
-{
-	point(__func__, NULL, NULL, NULL);
-	return layer_kthread_join(thread);
-}
-
-int kpause(const char *name, bool interruptible, int ticks, kmutex_t *mutex)
-{
-	point(__func__, NULL, NULL, NULL);
-	return layer_kpause(name, interruptible, ticks, mutex);
-}
-
-void delay(unsigned microseconds)
-{
-	point(__func__, NULL, NULL, NULL);
-	sleep_until(run.time + (int64_t)microseconds * 1000);
-}
-
-int copyin(const void *user, void *kernel, size_t length)
-{
-	point(__func__, NULL, NULL, NULL);
-	return layer_copyin(user, kernel, length);
-}
-
-int copyout(const void *kernel, void *user, size_t length)
-{
-	point(__func__, NULL, NULL, NULL);
-	return layer_copyout(kernel, user, length);
 }

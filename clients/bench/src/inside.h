@@ -65,6 +65,7 @@ struct routine {
 	void *fake_stack;
 	bool made, begun, ended;
 	bool daemon;		/* the layer's own, which never ends */
+	bool visits;		/* it goes to each CPU in turn: each is a point */
 	bool off;		/* it has given its CPU back and goes on having it later */
 	unsigned number;
 	const char *name;
@@ -205,6 +206,26 @@ bool is_enabled(const struct routine *routine);
 bool all_have_ended(const struct routine *routine);
 uint32_t enabled_now(void);
 
+/* ---- calls.c and more_calls.c ---- */
+
+/* LAYER - the layer's own call, whose name has layer_ before it in this library. */
+#define LAYER(type, name, parameters)	type layer_##name parameters
+
+struct cpu *cpu_here(const struct routine *me);
+void at_thing(const char *call, enum kind kind, const void *thing, size_t size, unsigned how);
+void at_cpu(const char *call, unsigned how);
+void leaving_cpu(const char *call);
+
+/* ---- What guards are: locks.c. ---- */
+
+bool is_free(const struct routine *me);
+bool was_woken(const struct routine *me);
+bool has_ended_section(const struct routine *me);
+bool was_released(const struct routine *me);
+bool has_ended_handler(const struct routine *me);
+bool has_ended(const struct routine *me);
+void sleep_until(int64_t time);
+
 /* ---- commute.c ---- */
 
 bool do_conflict(const struct set *one, const struct set *other);
@@ -232,10 +253,8 @@ void judge_heap(void);
 void note_state(void);
 void restore_state(void);
 
-/* ---- locks.c and softints.c, for the scheduler. ---- */
+/* ---- locks.c, for the scheduler. ---- */
 
-bool may_interrupt(const struct routine *routine);
-bool clock_can_go_on(void);
 int64_t next_time(void);
 
 /* ---- stuck.c ---- */

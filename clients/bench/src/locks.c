@@ -69,14 +69,21 @@ bool is_free(const struct routine *me)
 	return *word == 0 || *word == (uintptr_t)me->self;
 }
 
+/* Waits until it is free. Whoever waits for its own CPU doesn't have it, although it has begun to. */
+static void await_lock(uintptr_t *word, const struct thread *me)
+{
+	bool off = run.now_runs->off;
+	if (me->cpu != NULL && word == &me->cpu->hold)
+		run.now_runs->off = true;
+	wait_here(is_free, word);
+	run.now_runs->off = off;
+}
+
 void lock_take(uintptr_t *word, struct thread *me, tell_fn *tell)
 {
 	(void)tell;
-	if (lock_try(word, me)) {
-		touch(ON_LOCK, word, 0, WRITES | TAKES);
-		return;
-	}
-	wait_here(is_free, word);
+	if (run.now_runs->visits || *word != 0)
+		await_lock(word, me);
 	touch(ON_LOCK, word, 0, WRITES | TAKES);
 	*word = (uintptr_t)me;
 }

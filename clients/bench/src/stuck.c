@@ -4,12 +4,6 @@
 
 #include "inside.h"
 
-bool is_free(const struct routine *me);
-bool was_woken(const struct routine *me);
-bool has_ended_section(const struct routine *me);
-bool was_released(const struct routine *me);
-bool has_ended(const struct routine *me);
-
 static const char *name_it(const struct routine *routine)
 {
 	return routine->name != NULL ? routine->name : routine->self != NULL ? routine->self->name : "?";
