@@ -123,7 +123,7 @@ bool was_woken(const struct routine *me)
 {
 	if (!me->woken && !is_late(me))
 		return false;
-	return me->retake == NULL || me->retake->mtx_word == 0;
+	return me->retake == NULL || !is_live(me->retake) || me->retake->mtx_word == 0;
 }
 
 /* Waits to be woken for something, until a time at most. */
@@ -135,6 +135,8 @@ static bool wait_for_wake(const void *of, int64_t deadline)
 	me->deadline = deadline;
 	me->arrived = ++run.arrivals;
 	wait_here(was_woken, of);
+	if (me->retake != NULL)
+		want_live(me->call, me->retake, sizeof(*me->retake));
 	touch(ON_WAKE, me, 0, ORDERS | WRITES | TAKES);
 	me->queue = NULL;
 	me->deadline = NEVER;

@@ -29,6 +29,15 @@ static const struct routine *holder_on(unsigned cpu, const void *target)
 	return NULL;
 }
 
+/* The thread of soft interrupts that has begun a handler and waits. */
+static const struct routine *stuck_softint(void)
+{
+	for (unsigned number = 0; number < run.count; number++)
+		if (run.routines[number].daemon && run.routines[number].off)
+			return &run.routines[number];
+	return NULL;
+}
+
 /* What a thread waits for. */
 struct waiting {
 	const struct routine *on;	/* NULL where no thread can be told */
@@ -47,6 +56,9 @@ static struct waiting waits_for(const struct routine *me)
 	} else if (me->guard == has_ended) {
 		found.on = me->of;
 		snprintf(found.what, sizeof(found.what), "its end");
+	} else if (me->guard == has_ended_handler || (me->guard == was_woken && me->retake == NULL && stuck_softint() != NULL)) {
+		found.on = stuck_softint();
+		snprintf(found.what, sizeof(found.what), "the handler");
 	} else if (me->guard == was_woken && (me->woken || run.time >= me->deadline)) {
 		found.on = routine_of(lock_owner(&me->retake->mtx_word));
 		snprintf(found.what, sizeof(found.what), "the lock");
