@@ -59,11 +59,17 @@ static bool is_mutex(const kmutex_t *mutex)
 	return is_live(mutex) && mutex->mtx_made == A_MUTEX;
 }
 
+/* Whether the thread has its CPU, as a soft interrupt has, and gives it back where it waits for the mutex. */
+static bool steps_off(const struct routine *me, const kmutex_t *mutex)
+{
+	return me->self->holds > 0 && !mutex->mtx_spins;
+}
+
 /* Whether a mutex is free, and the CPU too where the mutex spins. What isn't a mutex, or is the thread's already, is for the layer to judge. */
 static bool can_take(const struct routine *me)
 {
 	const kmutex_t *mutex = me->of;
-	if (!is_mutex(mutex) || mutex->mtx_word == (uintptr_t)me->self)
+	if (!is_mutex(mutex) || mutex->mtx_word == (uintptr_t)me->self || steps_off(me, mutex))
 		return true;
 	const uintptr_t *hold = &me->self->cpu->hold;
 	return mutex->mtx_word == 0 && (!mutex->mtx_spins || me->self->holds > 0 || *hold == 0);
@@ -74,7 +80,7 @@ static void at_mutex(const char *call, kmutex_t *mutex, guard_fn *guard, unsigne
 	struct routine *me = here(call);
 	point(call, NULL, guard, mutex);
 	want_live(call, mutex, sizeof(*mutex));
-	touch(ON_LOCK, mutex, 0, WRITES | how);
+	touch(ON_LOCK, mutex, 0, WRITES | (how == TAKES && steps_off(me, mutex) ? TRIES : how));
 	if (mutex->mtx_spins && me->self->holds <= 1)
 		touch(ON_LOCK, &cpu_here(me)->hold, 0, WRITES | how);
 }

@@ -3,7 +3,6 @@
 #define KUPALDIZ_BENCH_INSIDE_H
 
 #include <stdio.h>
-#include <ucontext.h>
 
 #include "layer.h"
 
@@ -61,7 +60,7 @@ typedef uint32_t clocks[THREADS];
 
 /* A thread as the bench has it. */
 struct routine {
-	ucontext_t context;
+	void *stack;		/* where it was left */
 	void *fake_stack;
 	bool made, begun, ended;
 	bool daemon;		/* the layer's own, which never ends */

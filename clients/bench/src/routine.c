@@ -1,4 +1,4 @@
-/* routine.c - threads as coroutines of one thread, each with a stack of its own */
+/* routine.c - threads as coroutines of one thread, each with a stack of its own. The switch is for x86-64, as the archive is. */
 #include <stdio.h>
 #include <string.h>
 #include <sys/mman.h>
@@ -12,8 +12,7 @@ void __sanitizer_finish_switch_fiber(void *fake_stack, const void **bottom, size
 void __asan_unpoison_memory_region(const volatile void *at, size_t size) __attribute__((weak));
 
 /* Of the child's own stack, on which no thread of the code runs. */
-static ucontext_t home;
-static void *home_fake;
+static void *home, *home_fake;
 static const void *home_bottom;
 static size_t home_size;
 
@@ -42,6 +41,32 @@ void release_stacks(void)
 }
 
 /* ---- Switching. ---- */
+
+/* Leaves one stack, with the registers that a call keeps, and goes on where another one was left. */
+void bench_switch(void **left, void *to);
+__asm__(".text\n"
+	".globl bench_switch\n"
+	".hidden bench_switch\n"
+	".type bench_switch, @function\n"
+	"bench_switch:\n"
+	"	pushq %rbp\n"
+	"	pushq %rbx\n"
+	"	pushq %r12\n"
+	"	pushq %r13\n"
+	"	pushq %r14\n"
+	"	pushq %r15\n"
+	"	movq %rsp, (%rdi)\n"
+	"	movq %rsi, %rsp\n"
+	"	popq %r15\n"
+	"	popq %r14\n"
+	"	popq %r13\n"
+	"	popq %r12\n"
+	"	popq %rbx\n"
+	"	popq %rbp\n"
+	"	ret\n"
+	".size bench_switch, . - bench_switch\n");
+
+enum { KEPT = 6 };	/* registers */
 
 static void leave_stack(void **fake, const void *bottom, size_t size)
 {
@@ -75,7 +100,7 @@ void switch_to(struct routine *to)
 		return;
 	exchange(from, to);
 	leave_stack(from->ended ? NULL : &from->fake_stack, stack_of(to->number), STACK);
-	swapcontext(&from->context, &to->context);
+	bench_switch(&from->stack, to->stack);
 	come_to_stack(from->fake_stack, NULL, NULL);
 }
 
@@ -85,7 +110,8 @@ void leave_run(enum end end)
 	board->end = end;
 	exchange(NULL, NULL);
 	leave_stack(NULL, home_bottom, home_size);
-	setcontext(&home);
+	void *left;
+	bench_switch(&left, home);
 	_exit(2);
 }
 
@@ -119,11 +145,12 @@ struct routine *make_routine(const char *name, void (*body)(void *), void *arg, 
 	inherit_clock(made);
 	if (__asan_unpoison_memory_region != NULL)
 		__asan_unpoison_memory_region(stack_of(made->number), STACK);
-	getcontext(&made->context);
-	made->context.uc_stack.ss_sp = stack_of(made->number);
-	made->context.uc_stack.ss_size = STACK;
-	made->context.uc_link = NULL;
-	makecontext(&made->context, begin_routine, 0);
+	/* As if it had been left at its begin: its registers, and where it returns to. */
+	uintptr_t *top = (uintptr_t *)(void *)(stack_of(made->number) + STACK) - 2;
+	top[0] = (uintptr_t)begin_routine;
+	top[1] = 0;
+	memset(top - KEPT, 0, KEPT * sizeof(*top));
+	made->stack = top - KEPT;
 	return made;
 }
 
@@ -164,16 +191,10 @@ void end_routine(void)
 /* Runs the first thread, with all that comes of it, until the run is left. */
 void run_main(void (*body)(void *))
 {
-	volatile bool begun = false;
-	getcontext(&home);
-	if (begun) {
-		come_to_stack(home_fake, NULL, NULL);
-		return;
-	}
-	begun = true;
 	struct routine *first = make_routine("setup", body, NULL, false);
 	first->begun = true;
 	exchange(NULL, first);
 	leave_stack(&home_fake, stack_of(0), STACK);
-	setcontext(&first->context);
+	bench_switch(&home, first->stack);
+	come_to_stack(home_fake, NULL, NULL);
 }
