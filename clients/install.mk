@@ -119,3 +119,5 @@ uninstall:
 	-rmdir $(NETBSD_FOLDERS:%=$(DESTDIR)$(INCLUDEDIR)/kupaldiz/netbsd/%) $(DESTDIR)$(INCLUDEDIR)/kupaldiz/netbsd $(DESTDIR)$(INCLUDEDIR)/kupaldiz $(DESTDIR)$(DOCDIR)
 
 .PHONY: library install without_older uninstall
+
+include bench/install.mk

@@ -1,5 +1,5 @@
 #!/usr/bin/env bash
-# Installs libkupaldiz and libkupaldiz_netbsd into scratch folders, looks at each file that is there, builds and runs programs that know the libraries by
+# Installs libkupaldiz, libkupaldiz_netbsd and libkupaldiz_bench into scratch folders, looks at each file that is there, builds and runs programs that know the libraries by
 # pkg-config alone, and uninstalls them: under a folder of its own, as Debian has it, in a path with blanks, and over an older version.
 # It wants clients/out/libregistry.a; the last line is 'N passed, M failed'.
 set -uo pipefail
@@ -81,10 +81,27 @@ shows_calls_alone() {
     diff <(calls_of_headers | sort) <(shown libkupaldiz)
 }
 
-# That of the pages' names shows the calls that its headers declare at the head of a line and no other name.
+# calls_at_heads FILE..: the calls that headers declare at the head of a line.
+calls_at_heads() {
+    grep -hE '^[a-z].*\);$' "$@" | grep -vE '^(static|typedef) ' | sed -E 's/^[^(]*[ *]([a-z_]+)\(.*/\1/' | sort
+}
+
+pages_headers() {
+    find "$stage$prefix/include/kupaldiz/netbsd" -maxdepth 1 -name '*.h' -print0
+}
+
+# That of the pages' names shows the calls that its headers declare and no other name; two are the bench's.
 shows_pages_calls_alone() {
-    diff <(find "$stage$prefix/include/kupaldiz/netbsd" -maxdepth 1 -name '*.h' -exec grep -hE '^[a-z].*\);$' {} + | grep -vE '^(static|typedef) ' |
-        sed -E 's/^[^(]*[ *]([a-z_]+)\(.*/\1/' | sort) <(shown libkupaldiz_netbsd)
+    local -a headers
+    mapfile -d '' headers < <(pages_headers)
+    diff <(calls_at_heads "${headers[@]}" | grep -vxE 'kupaldiz_(point|from)') <(shown libkupaldiz_netbsd)
+}
+
+# That of the bench shows these and its own.
+shows_bench_calls_alone() {
+    local -a headers
+    mapfile -d '' headers < <(pages_headers)
+    diff <(calls_at_heads "${headers[@]}" "$stage$prefix/include/kupaldiz/bench.h") <(shown libkupaldiz_bench)
 }
 
 # test_programs LINE LIBRARY..: the program of this module in C and in C++, over the shared libraries that it asks for and over the static ones.
@@ -113,6 +130,9 @@ test_places() {
     module=kupaldiz-netbsd program=installed_netbsd
     check "$1: a program of the pages' names is built" built c gcc c c99 "" --libs
     check "$1: it runs" runs c "C, by the pages' names"
+    module=kupaldiz-bench program=installed_bench
+    check "$1: a program of the bench is built" built c gcc c c99 "" --libs
+    check "$1: it runs" runs c "C, in every order"
     module=kupaldiz program=installed
 }
 
@@ -132,13 +152,13 @@ pages_are_found() {
 wanted() {
     local me major=${1%%.*} file library
     me=$(id -un)
-    for library in libkupaldiz libkupaldiz_netbsd; do
+    for library in libkupaldiz libkupaldiz_netbsd libkupaldiz_bench; do
         echo "f 644 $me $libdir/$library.a"
         echo "f 755 $me $libdir/$library.so.$1"
         echo "l 777 $me $libdir/$library.so.$major -> $library.so.$1"
         echo "l 777 $me $libdir/$library.so -> $library.so.$major"
     done
-    for file in "$libdir"/pkgconfig/{kupaldiz,kupaldiz-netbsd}.pc "$prefix"/include/kupaldiz/{registry,registry_waiting}.h "$prefix/share/doc/kupaldiz/CHANGELOG.md"; do
+    for file in "$libdir"/pkgconfig/{kupaldiz,kupaldiz-netbsd,kupaldiz-bench}.pc "$prefix"/include/kupaldiz/{registry,registry_waiting,bench}.h "$prefix/share/doc/kupaldiz/CHANGELOG.md"; do
         echo "f 644 $me $file"
     done
     (cd "$clients/netbsd" && find . -name '*.h' -not -path './tests/*' -not -path './src/*' -not -path './examples/*') | sed "s|^\.|f 644 $me $prefix/include/kupaldiz/netbsd|"
@@ -200,7 +220,7 @@ relinks() {
 copy_clients() {
     local copy=$room/a\ copy
     mkdir -p "$copy/clients/out" "$copy/crates/registry_c"
-    (cd clients && cp -r Makefile ./*.mk ./*.in ./*.map CHANGELOG.md c man netbsd "$copy/clients") || return
+    (cd clients && cp -r Makefile ./*.mk ./*.in ./*.map CHANGELOG.md c man netbsd bench "$copy/clients") || return
     cp clients/out/libregistry.a "$copy/clients/out" && cp -r crates/registry_c/include "$copy/crates/registry_c"
     clients=$copy/clients header=$copy/$header
 }
@@ -216,6 +236,10 @@ change_archive() {
 
 change_waiting() {
     mark "$clients/c/waiting.c" "$1"
+}
+
+change_bench() {
+    mark "$clients/bench/src/show.c" "$1"
 }
 
 change_layer() {
@@ -239,8 +263,14 @@ module=kupaldiz-netbsd
 program=installed_netbsd
 check "what kupaldiz-netbsd.pc says" pc_says "-lkupaldiz_netbsd -lkupaldiz" "-lkupaldiz_netbsd -pthread -lkupaldiz -pthread"
 test_programs "by the pages' names" libkupaldiz_netbsd
+module=kupaldiz-bench
+program=installed_bench
+check "the sonames of the bench" has_soname libkupaldiz_bench
+check "what kupaldiz-bench.pc says" pc_says "-lkupaldiz_bench -lkupaldiz" "-lkupaldiz_bench -pthread -lkupaldiz -pthread"
+test_programs "in every order" libkupaldiz_bench
 check "the shared library shows the calls alone" shows_calls_alone
 check "the shared library of the pages' names shows their calls alone" shows_pages_calls_alone
+check "the shared library of the bench shows their calls and its own alone" shows_bench_calls_alone
 check "each call has a page" pages_are_found
 check "the change log names the version" grep -q "^## $(version)\$" "$stage$prefix/share/doc/kupaldiz/CHANGELOG.md"
 check "uninstall" made uninstall
@@ -274,6 +304,7 @@ check "an upgrade: each of its files" holds_files "$older"
 check "no stale object is linked: a changed archive" relinks registry_mark_of_archive libkupaldiz change_archive
 check "no stale object is linked: changed waits" relinks registry_mark_of_waiting libkupaldiz change_waiting
 check "no stale object is linked: changed names of the pages" relinks kupaldiz_mark libkupaldiz_netbsd change_layer
+check "no stale object is linked: a changed bench" relinks mutex_mark_of_bench libkupaldiz_bench change_bench
 check "an upgrade: the later version" make_later
 check "an upgrade: it is installed over the older one" made install
 check "an upgrade: each file, and none of the older version" holds_files "${older%.*}.7"

@@ -15,8 +15,6 @@
 #include <stddef.h>
 #include <stdint.h>
 
-#include <sys/cdefs.h>
-
 #include "cpu.h"
 
 #ifdef __cplusplus
@@ -26,7 +24,7 @@ extern "C" {
 enum {
 	BENCH_THREADS = 16,	/* at most, with the first one and the layer's own */
 	BENCH_POINTS = 2000,	/* of one run, at most */
-	BENCH_OUTCOMES = 64,
+	BENCH_OUTCOMES = 256,
 	BENCH_TEXT = 64,
 	BENCH_LINE = 768
 };
@@ -51,6 +49,7 @@ struct bench_found {
 	unsigned preemptions;	/* of the schedule below */
 	char schedule[BENCH_LINE];	/* with the fault, as few preemptions as were found */
 	char line[BENCH_LINE];	/* what is wrong; empty where nothing is */
+	uint64_t others;	/* runs with an outcome beyond the room */
 	unsigned outcomes;
 	struct bench_outcome outcome[BENCH_OUTCOMES];
 };

@@ -81,7 +81,7 @@ static void at_mutex(const char *call, kmutex_t *mutex, guard_fn *guard, unsigne
 	point(call, NULL, guard, mutex);
 	want_live(call, mutex, sizeof(*mutex));
 	touch(ON_LOCK, mutex, 0, WRITES | (how == TAKES && steps_off(me, mutex) ? TRIES : how));
-	if (mutex->mtx_spins && me->self->holds <= 1)
+	if (mutex->mtx_spins)
 		touch(ON_LOCK, &cpu_here(me)->hold, 0, WRITES | how);
 }
 
@@ -359,7 +359,7 @@ void psref_release(struct psref *psref, const struct psref_target *target, struc
 	at_reference(__func__, target, WRITES);
 	give_clock(ON_REFERENCES, target, 0);
 	layer_psref_release(psref, target, psref_class);
-	run.releases++;
+	++*releases_of(target);
 }
 
 void psref_copy(struct psref *to, const struct psref *from, struct psref_class *psref_class)
@@ -427,5 +427,5 @@ void localcount_release(struct localcount *lc, kcondvar_t *cv, kmutex_t *interlo
 	touch(ON_TARGET, lc, 0, 0);
 	give_clock(ON_REFERENCES, lc, 0);
 	layer_localcount_release(lc, cv, interlock);
-	run.releases++;
+	++*releases_of(lc);
 }

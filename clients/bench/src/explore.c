@@ -4,6 +4,7 @@
  * First all schedules, with the reduction; where these don't end, all with at most 0, 1, 2, .. preemptions; and then some by random priorities. Once a run
  * goes wrong, schedules with fewer preemptions are tried until one of them does.
  */
+#include <signal.h>
 #include <stdarg.h>
 #include <stdio.h>
 #include <stdlib.h>
@@ -89,15 +90,17 @@ static void keep_outcome(void)
 			return;
 		}
 	}
-	if (found->outcomes == BENCH_OUTCOMES)
-		refuse("there are more than %d outcomes", BENCH_OUTCOMES);
+	if (found->outcomes == BENCH_OUTCOMES) {
+		found->others++;
+		return;
+	}
 	struct bench_outcome *made = &found->outcome[found->outcomes++];
 	memcpy(made->text, run.outcome, sizeof(made->text));
 	made->count = 1;
 }
 
-/* Executes one schedule. */
-static enum end run_once(void)
+/* Executes one schedule in this process. */
+static enum end run_here(void)
 {
 	struct thread nobody = {.call = "bench_explore"};
 	restore_state();
@@ -115,6 +118,34 @@ static enum end run_once(void)
 	if (board->end == ENDED_WELL || board->end == CUT)
 		close_banks(&nobody);
 	return board->end;
+}
+
+/* Executes one in a process of its own, and ends as that one does where it crashes. */
+static enum end run_apart(void)
+{
+	int status;
+	fflush(NULL);
+	pid_t child = fork();
+	if (child < 0)
+		refuse("no process is left");
+	if (child == 0) {
+		run_here();
+		_exit(0);
+	}
+	if (waitpid(child, &status, 0) != child)
+		refuse("the child is gone");
+	if (WIFSIGNALED(status)) {
+		signal(WTERMSIG(status), SIG_DFL);
+		raise(WTERMSIG(status));
+	}
+	if (status != 0)
+		_exit(WIFEXITED(status) ? WEXITSTATUS(status) : 1);
+	return board->end;
+}
+
+static enum end run_once(void)
+{
+	return board->apart ? run_apart() : run_here();
 }
 
 /* ---- The next schedule. ---- */

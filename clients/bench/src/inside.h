@@ -8,7 +8,7 @@
 
 #include "../bench.h"
 
-enum { THREADS = BENCH_THREADS, POINTS = BENCH_POINTS, ACCESSES = 12, STACK = 256 * 1024, ANY = 0xffff, NOBODY = 0xff };
+enum { THREADS = BENCH_THREADS, POINTS = BENCH_POINTS, ACCESSES = 12, STACK = 256 * 1024, ANY = 0xffff, NOBODY = 0xff, TARGETS = 32 };
 
 #define NEVER	INT64_MAX
 
@@ -98,8 +98,12 @@ struct run {
 	int64_t time;
 	unsigned ticks;
 	uint64_t arrivals;
-	uint64_t ends[KUPALDIZ_CPUS];	/* of sections */
-	uint64_t releases, handlers;
+	uint64_t ends[ALL_CPUS];	/* of sections */
+	uint64_t handlers;		/* that have ended */
+	struct {
+		const void *target;
+		uint64_t count;
+	} releases[TARGETS];
 	bool own_memory;	/* what is taken now is the layer's own */
 	char outcome[BENCH_TEXT];
 };
@@ -127,6 +131,7 @@ struct board {
 	enum way way;
 	enum end end;
 	bool over;		/* the child has said all */
+	bool apart;		/* each run has a process of its own */
 	unsigned bound;
 	uint64_t limit;
 	unsigned prefix;	/* so many steps are given */
@@ -223,6 +228,7 @@ bool has_ended_section(const struct routine *me);
 bool was_released(const struct routine *me);
 bool has_ended_handler(const struct routine *me);
 bool has_ended(const struct routine *me);
+uint64_t *releases_of(const void *target);
 void sleep_until(int64_t time);
 
 /* ---- commute.c ---- */

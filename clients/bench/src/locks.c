@@ -138,6 +138,8 @@ static bool wait_for_wake(const void *of, int64_t deadline)
 	if (me->retake != NULL)
 		want_live(me->call, me->retake, sizeof(*me->retake));
 	touch(ON_WAKE, me, 0, ORDERS | WRITES | TAKES);
+	if (deadline != NEVER)
+		touch(ON_TIME, NULL, 0, 0);
 	me->queue = NULL;
 	me->deadline = NEVER;
 	return me->woken;
@@ -205,10 +207,19 @@ bool has_ended_section(const struct routine *me)
 	return run.ends[(uintptr_t)me->of] != me->noted;
 }
 
+/* How many references to a target were released; the last count stands for all beyond the room. */
+uint64_t *releases_of(const void *target)
+{
+	unsigned at = 0;
+	while (at < TARGETS - 1 && run.releases[at].target != NULL && run.releases[at].target != target)
+		at++;
+	run.releases[at].target = target;
+	return &run.releases[at].count;
+}
+
 bool was_released(const struct routine *me)
 {
-	(void)me;
-	return run.releases != me->noted;
+	return *releases_of(me->target) != me->noted;
 }
 
 bool has_ended_handler(const struct routine *me)
@@ -234,7 +245,7 @@ bool pause_longer(struct pauses *pauses, const struct registry_stage *met)
 		await_section(me, (unsigned)met->what);
 		return false;
 	}
-	me->noted = met == NULL ? run.handlers : run.releases;
+	me->noted = met == NULL ? run.handlers : *releases_of(me->target);
 	wait_here(met == NULL ? has_ended_handler : was_released, met == NULL ? NULL : (const void *)(uintptr_t)met->what);
 	if (met == NULL)
 		touch(ON_PENDING, NULL, ANY, 0);

@@ -173,15 +173,23 @@ void kpreempt_enable(void)
 	layer_kpreempt_enable();
 }
 
+/* A new level lets soft interrupts of the CPU go on, or keeps them off. */
+static void at_level(void)
+{
+	touch(ON_LOCK, &cpu_here(run.now_runs)->hold, 0, WRITES);
+}
+
 int kupaldiz_splraise(int level)
 {
 	at_cpu("splraise", 0);
+	at_level();
 	return layer_kupaldiz_splraise(level);
 }
 
 void splx(int level)
 {
 	leaving_cpu(__func__);
+	at_level();
 	layer_splx(level);
 }
 

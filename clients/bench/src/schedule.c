@@ -277,6 +277,9 @@ void point(const char *call, const char *place, guard_fn *guard, const void *of)
 	if (run.phase == SETTING_UP)
 		run.phase = RUNNING;
 	choose();
+	/* A soft interrupt that takes its CPU comes before the step of a thread that has it, or after. */
+	if (me->self != NULL && me->self->holds > 0 && !me->off)
+		touch(ON_LOCK, &me->self->cpu->hold, 0, 0);
 }
 
 /* A wait inside a call. */

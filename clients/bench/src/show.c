@@ -53,6 +53,8 @@ static void show_outcomes(FILE *to, const struct bench_found *found)
 	for (unsigned at = 0; at < found->outcomes; at++)
 		if (found->outcome[at].text[0] != '\0')
 			fprintf(to, "%s: outcome %s: %llu\n", options.name, found->outcome[at].text, (unsigned long long)found->outcome[at].count);
+	if (found->others > 0)
+		fprintf(to, "%s: other outcomes: %llu\n", options.name, (unsigned long long)found->others);
 }
 
 void show(FILE *to, const struct bench_found *found)

@@ -38,7 +38,9 @@ static void take_cpu(struct thread *me)
 {
 	me->lender = owner_of(me->cpu);
 	me->cpu->hold = (uintptr_t)me;
-	touch(ON_LOCK, &me->cpu->hold, 0, WRITES | TAKES);
+	/* Whoever has the CPU needn't have given it. */
+	touch(ON_LOCK, &me->cpu->hold, 0, WRITES | TRIES);
+	take_clock(ON_LOCK, &me->cpu->hold, 0);
 }
 
 static void give_cpu(struct thread *me)

@@ -1,7 +1,8 @@
 /*
  * state.c - the writable memory of the program and of the library, which each run finds as the first one did
  *
- * The search itself lies in memory of its own, so that it stays.
+ * The search itself lies in memory of its own, so that it stays. The C library's memory stays, too: a program that was linked with -static has that among
+ * its own, and so each of its runs has a process of its own.
  */
 #include <link.h>
 #include <string.h>
@@ -85,7 +86,7 @@ static int look_at(struct dl_phdr_info *object, size_t size, void *first)
 {
 	(void)size;
 	if (*(bool *)first && has_address(object, (uintptr_t)stdout))
-		refuse("a program that has the C library in it can't be begun anew: it is linked without -static");
+		board->apart = true;
 	if (*(bool *)first || has_address(object, (uintptr_t)look_at))
 		add_object(object);
 	*(bool *)first = false;
@@ -115,6 +116,8 @@ void note_state(void)
 
 void restore_state(void)
 {
+	if (board->apart)
+		return;
 	for (unsigned at = 0; at < count; at++)
 		copy(parts[at].at, parts[at].kept, parts[at].size);
 }

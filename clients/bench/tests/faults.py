@@ -1,7 +1,8 @@
 #!/usr/bin/env python3
 """Plants faults in the seven drivers, one at a time, and lets the bench look for each.
 
-    faults.py PROGRAM_FLAGS..          plants, compiles with these words, runs, and prints a table; the last line is 'N passed, M failed'
+    faults.py FOLDER WORDS..             plants in a folder, compiles with these words, runs, and prints a table; the last line is 'N passed, M failed'
+    faults.py FOLDER --threads WORDS..   the same with real threads, which may miss any
 
 A fault is found where some schedule of its case goes wrong with the line that is told here.
 """
@@ -228,9 +229,22 @@ def judge(fault, said):
     return re.search(fault.line, line.group(1)) is not None, counts.group(1), counts.group(3), line.group(1)
 
 
+def run_threads(words, folder):
+    """How many runs real threads took for each."""
+    for fault in FAULTS:
+        program = build(words, plant(fault, folder), fault.driver)
+        ran = subprocess.run([program, fault.case], stdout=subprocess.PIPE, stderr=subprocess.DEVNULL, text=True, check=False)
+        runs = re.search(r": (\d+) runs(: FAULT)?", ran.stdout)
+        how = "found by run" if runs.group(2) else "not found in"
+        print(f"{fault.driver:9} {fault.name:55} {how} {runs.group(1)}", flush=True)
+
+
 def main():
     words, folder = sys.argv[2:], pathlib.Path(sys.argv[1])
     folder.mkdir(parents=True, exist_ok=True)
+    if words[0] == "--threads":
+        run_threads(words[1:], folder)
+        return
     passed = failed = 0
     for fault in FAULTS:
         program = build(words, plant(fault, folder), fault.driver)

@@ -3,7 +3,8 @@
  *
  * A program is a text for each thread, and each letter of it is a thing to do. Some programs are written here, others are made by a random generator.
  *
- *     outcomes [FIRST COUNT]   the random programs with these seeds
+ *     outcomes [FIRST COUNT]        the random programs with these seeds
+ *     outcomes print FIRST COUNT    each program with each outcome, or with FAULT, a line each: for a comparison with real threads
  */
 #include <string.h>
 #include <sys/atomic.h>
@@ -213,11 +214,26 @@ static bool are_same(const struct bench_found *whole, const struct bench_found *
 static unsigned long long wholes, reduceds;
 static unsigned compared, faults, skipped;
 
+static bool prints;
+
+static void print_outcomes(void)
+{
+	struct bench_found found = explore(false);
+	for (unsigned at = 0; at < found.outcomes && found.first == 0; at++)
+		printf("%s|%s|%s: %s\n", texts[0], texts[1], texts[2], found.outcome[at].text);
+	if (found.first != 0)
+		printf("%s|%s|%s: FAULT\n", texts[0], texts[1], texts[2]);
+}
+
 /* Compares the two ways of the search for the program that is written. */
 static void compare(void)
 {
+	if (prints) {
+		print_outcomes();
+		return;
+	}
 	struct bench_found whole = explore(true);
-	if (!whole.exhausted && whole.first == 0) {
+	if ((!whole.exhausted && whole.first == 0) || whole.others > 0) {
 		skipped++;
 		return;
 	}
@@ -265,7 +281,7 @@ static void add(char *text, const char *more)
 
 static void make_text(char *text, unsigned parts)
 {
-	static const char *const pieces[] = {"a", "b", "A", "B", "+", "(a)", "[A]", "([B])", "t", "<a>", "<ab>", "P", "(A)", "r", "W", "AB", "ba", "s", "w", "g", "i"};
+	static const char *const pieces[] = {"a", "b", "A", "B", "+", "(a)", "[A]", "([B])", "t", "<a>", "<ab>", "P", "(A)", "r", "W", "AB", "ba", "s", "w", "g", "i", "<iab>", "<iA>", "<ib>"};
 	text[0] = '\0';
 	for (unsigned at = 0; at < parts; at++)
 		add(text, pieces[pick(sizeof(pieces) / sizeof(pieces[0]))]);
@@ -283,9 +299,9 @@ static void try_random(uint64_t of)
 	compare();
 }
 
-int main(int count_of_words, char **words_given)
+/* The programs that are written here. */
+static void try_written(void)
 {
-	unsigned first = count_of_words == 3 ? (unsigned)atoi(words_given[1]) : 1, number = count_of_words == 3 ? (unsigned)atoi(words_given[2]) : 60;
 	try("Ab", "Ba", "");
 	try("A", "A", "a");
 	try("(a)(A)", "(a)(A)", "");
@@ -297,13 +313,25 @@ int main(int count_of_words, char **words_given)
 	try("w", "a", "b");
 	try("(t)", "(a)", "");
 	try("ia", "b", "A");
+	try("<iab>", "A", "");
+	try("<iB>b", "b", "");
 	try("g", "D", "");
 	try("gA", "D", "");
+	try("g", "g", "D");
 	try("r", "W", "r");
 	try("ka", "A", "");
+}
+
+int main(int count_of_words, char **given)
+{
+	prints = count_of_words == 4 && strcmp(given[1], "print") == 0;
+	unsigned first = count_of_words >= 3 ? (unsigned)atoi(given[count_of_words - 2]) : 1;
+	unsigned number = count_of_words >= 3 ? (unsigned)atoi(given[count_of_words - 1]) : 60;
+	try_written();
 	for (unsigned at = 0; at < number; at++)
 		try_random(first + at);
-	printf("%u programs: the same outcomes by %llu schedules as by %llu; %u of them with a fault; %u were too long\n", compared, reduceds, wholes, faults,
-	    skipped);
+	if (!prints)
+		printf("%u programs: the same outcomes by %llu schedules as by %llu; %u of them with a fault; %u were too long\n", compared, reduceds, wholes,
+		    faults, skipped);
 	return 0;
 }
