@@ -3,9 +3,9 @@
  */
 #include <kupaldiz/bench.h>
 #include <sys/mutex.h>
-#include <sys/systm.h>
 
 #include <stdio.h>
+#include <string.h>
 
 #ifdef __cplusplus
 #define LANGUAGE "C++"
@@ -33,7 +33,7 @@ static void begin(void)
 
 static void finish(void)
 {
-	KASSERT(counted == 2);
+	bench_outcome("%u", counted);
 }
 
 int main(void)
@@ -43,7 +43,7 @@ int main(void)
 	options.finish = finish;
 	options.found = &found;
 	options.quiet = true;
-	if (bench_explore(begin, &options) != 0 || !found.exhausted || found.schedules != 2)
+	if (bench_explore(begin, &options) != 0 || !found.exhausted || found.schedules != 2 || found.outcomes != 1 || strcmp(found.outcome[0].text, "2") != 0)
 		return 1;
 	puts(LANGUAGE ", in every order");
 	return 0;

@@ -4,6 +4,13 @@
 #include <sys/mman.h>
 #include <unistd.h>
 
+#if __has_include(<valgrind/valgrind.h>)
+#include <valgrind/valgrind.h>
+#else
+#define VALGRIND_STACK_REGISTER(from, to)	0
+#define VALGRIND_STACK_DEREGISTER(stack)	((void)(stack))
+#endif
+
 #include "inside.h"
 
 /* What the address sanitizer is told of a switch, where the program is built with it. */
@@ -18,6 +25,7 @@ static size_t home_size;
 
 static struct routine *starter;	/* who waits until a new one has come to its first point */
 static char *stacks;
+static unsigned known[THREADS];	/* by valgrind */
 
 static char *stack_of(unsigned number)
 {
@@ -31,12 +39,16 @@ void prepare_stacks(void)
 	stacks = mmap(NULL, size, PROT_READ | PROT_WRITE, MAP_PRIVATE | MAP_ANONYMOUS | MAP_NORESERVE, -1, 0);
 	if (stacks == MAP_FAILED)
 		refuse("out of memory");
-	for (unsigned number = 0; number < THREADS; number++)
+	for (unsigned number = 0; number < THREADS; number++) {
 		mprotect(stack_of(number) - STACK, STACK, PROT_NONE);
+		known[number] = VALGRIND_STACK_REGISTER(stack_of(number), stack_of(number) + STACK);
+	}
 }
 
 void release_stacks(void)
 {
+	for (unsigned number = 0; number < THREADS; number++)
+		VALGRIND_STACK_DEREGISTER(known[number]);
 	munmap(stacks, (size_t)THREADS * 2 * STACK);
 }
 

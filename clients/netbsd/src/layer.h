@@ -264,8 +264,8 @@ static inline void end_wait(int before)
 
 /* ---- softint.c, and the threads of soft interrupts in softint_thread.c ---- */
 
-extern pthread_mutex_t softint_list;
-extern pthread_cond_t softint_changed;
+extern pthread_mutex_t pending_list;
+extern pthread_cond_t pending_changed;
 
 void note_pending(struct cpu *cpu);
 bool run_softint(struct thread *me);

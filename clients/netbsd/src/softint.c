@@ -13,8 +13,8 @@ struct softint {
 };
 
 /* The lock of all that follows. Each CPU's `pending` is written under it, too. */
-pthread_mutex_t softint_list = PTHREAD_MUTEX_INITIALIZER;
-pthread_cond_t softint_changed = PTHREAD_COND_INITIALIZER;
+pthread_mutex_t pending_list = PTHREAD_MUTEX_INITIALIZER;
+pthread_cond_t pending_changed = PTHREAD_COND_INITIALIZER;
 static struct softint *softints;
 
 /* ---- Levels. ---- */
@@ -91,14 +91,14 @@ static void judge_handler(const struct thread *me)
 bool run_softint(struct thread *me)
 {
 	int above = me->lender == NULL ? IPL_NONE : me->lender->level;
-	pthread_mutex_lock(&softint_list);
+	pthread_mutex_lock(&pending_list);
 	struct softint *next = next_of(me->cpu, above);
 	if (next != NULL) {
 		next->pending[me->cpu->info.ci_index] = false;
 		next->running++;
 	}
 	note_pending(me->cpu);
-	pthread_mutex_unlock(&softint_list);
+	pthread_mutex_unlock(&pending_list);
 	if (next == NULL)
 		return false;
 	me->level = next->level;
@@ -106,10 +106,10 @@ bool run_softint(struct thread *me)
 	me->call = "softint";
 	me->place = NULL;
 	judge_handler(me);
-	pthread_mutex_lock(&softint_list);
+	pthread_mutex_lock(&pending_list);
 	if (--next->running == 0)
-		pthread_cond_broadcast(&softint_changed);
-	pthread_mutex_unlock(&softint_list);
+		pthread_cond_broadcast(&pending_changed);
+	pthread_mutex_unlock(&pending_list);
 	return true;
 }
 
@@ -124,10 +124,10 @@ void *softint_establish(unsigned flags, void (*handler)(void *), void *arg)
 	made->handler = handler;
 	made->arg = arg;
 	made->level = IPL_SOFTCLOCK + (int)(flags & SOFTINT_LVLMASK & 3);
-	pthread_mutex_lock(&softint_list);
+	pthread_mutex_lock(&pending_list);
 	made->next = softints;
 	softints = made;
-	pthread_mutex_unlock(&softint_list);
+	pthread_mutex_unlock(&pending_list);
 	return made;
 }
 
@@ -150,13 +150,13 @@ static void want_established(const struct thread *me, const struct softint *soft
 void schedule_on(struct thread *me, void *cookie, struct cpu *cpu)
 {
 	struct softint *softint = cookie;
-	pthread_mutex_lock(&softint_list);
+	pthread_mutex_lock(&pending_list);
 	want_established(me, softint);
 	want_softint_thread(me, cpu);
 	softint->pending[cpu->info.ci_index] = true;
 	note_pending(cpu);
-	pthread_cond_broadcast(&softint_changed);
-	pthread_mutex_unlock(&softint_list);
+	pthread_cond_broadcast(&pending_changed);
+	pthread_mutex_unlock(&pending_list);
 }
 
 void softint_schedule(void *cookie)
@@ -173,10 +173,10 @@ static void await_handlers(struct thread *me, struct softint *softint)
 {
 	struct pauses pauses = begin_pauses();
 	while (softint->running > 0) {
-		pthread_mutex_unlock(&softint_list);
+		pthread_mutex_unlock(&pending_list);
 		if (pause_longer(&pauses, NULL))
 			say(me, "waits for its handler");
-		pthread_mutex_lock(&softint_list);
+		pthread_mutex_lock(&pending_list);
 	}
 }
 
@@ -186,7 +186,7 @@ void softint_disestablish(void *cookie)
 	struct softint *softint = cookie, **at = &softints;
 	want_sleepable(me);
 	int waits = begin_wait();
-	pthread_mutex_lock(&softint_list);
+	pthread_mutex_lock(&pending_list);
 	want_established(me, softint);
 	softint->dead = true;
 	for (unsigned cpu = 0; cpu < KUPALDIZ_CPUS; cpu++) {
@@ -197,7 +197,7 @@ void softint_disestablish(void *cookie)
 	while (*at != softint)
 		at = &(*at)->next;
 	*at = softint->next;
-	pthread_mutex_unlock(&softint_list);
+	pthread_mutex_unlock(&pending_list);
 	end_wait(waits);
 	free(softint);
 }

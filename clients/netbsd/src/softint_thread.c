@@ -35,10 +35,10 @@ static void give_cpu(struct thread *me)
 /* Waits for a soft interrupt of this CPU. */
 static void await_pending(struct thread *me)
 {
-	pthread_mutex_lock(&softint_list);
+	pthread_mutex_lock(&pending_list);
 	while (me->cpu->pending == 0 && lock_owner(&me->cpu->hold) != me)
-		pthread_cond_wait(&softint_changed, &softint_list);
-	pthread_mutex_unlock(&softint_list);
+		pthread_cond_wait(&pending_changed, &pending_list);
+	pthread_mutex_unlock(&pending_list);
 }
 
 static _Noreturn void *run_all(void *of)
@@ -51,10 +51,10 @@ static _Noreturn void *run_all(void *of)
 	me->cpu = softint_thread->cpu;
 	me->lwp.l_cpu = &me->cpu->info;
 	me->lwp.l_pflag = LP_BOUND | LP_INTR;
-	pthread_mutex_lock(&softint_list);
+	pthread_mutex_lock(&pending_list);
 	softint_thread->thread = me;
-	pthread_cond_broadcast(&softint_changed);
-	pthread_mutex_unlock(&softint_list);
+	pthread_cond_broadcast(&pending_changed);
+	pthread_mutex_unlock(&pending_list);
 	for (;;) {
 		await_pending(me);
 		lock_take(&me->cpu->hold, me, NULL);
@@ -79,7 +79,7 @@ void want_softint_thread(struct thread *me, struct cpu *cpu)
 		pthread_detach(thread);
 	}
 	while (softint_thread->thread == NULL)
-		pthread_cond_wait(&softint_changed, &softint_list);
+		pthread_cond_wait(&pending_changed, &pending_list);
 }
 
 /* Lets the soft interrupts that wait have the CPU, and waits for it. */
@@ -90,9 +90,9 @@ void offer_cpu(struct thread *me)
 		return;
 	softint_thread->thread->lender = me;
 	lock_pass(&me->cpu->hold, softint_thread->thread);
-	pthread_mutex_lock(&softint_list);
-	pthread_cond_broadcast(&softint_changed);
-	pthread_mutex_unlock(&softint_list);
+	pthread_mutex_lock(&pending_list);
+	pthread_cond_broadcast(&pending_changed);
+	pthread_mutex_unlock(&pending_list);
 	lock_await(&me->cpu->hold, me);
 }
 
@@ -114,12 +114,12 @@ void step_on(struct thread *me)
 		lock_take(&me->cpu->hold, me, tell_of_cpu);
 		return;
 	}
-	pthread_mutex_lock(&softint_list);
+	pthread_mutex_lock(&pending_list);
 	__atomic_fetch_or(&me->cpu->pending, UINT32_C(1) << me->level, __ATOMIC_RELEASE);
 	__atomic_store_n(&thread_of(me->cpu)->blocked, false, __ATOMIC_RELEASE);
-	pthread_mutex_unlock(&softint_list);
+	pthread_mutex_unlock(&pending_list);
 	lock_take(&me->cpu->hold, me, NULL);
-	pthread_mutex_lock(&softint_list);
+	pthread_mutex_lock(&pending_list);
 	note_pending(me->cpu);
-	pthread_mutex_unlock(&softint_list);
+	pthread_mutex_unlock(&pending_list);
 }
