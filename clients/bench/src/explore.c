@@ -73,10 +73,12 @@ static void run_setup(void *arg)
 
 static void keep_names(void)
 {
+	board->ended = 0;
 	for (unsigned number = 0; number < run.count; number++) {
 		const struct routine *at = &run.routines[number];
 		const char *name = at->name != NULL ? at->name : at->self != NULL ? at->self->name : "?";
 		snprintf(board->names[number], sizeof(board->names[number]), "%s", name);
+		board->ended |= (uint32_t)at->ended << number;
 	}
 	snprintf(board->names[THREADS - 1], sizeof(board->names[0]), "clock");
 }
@@ -106,6 +108,7 @@ static enum end run_here(void)
 	restore_state();
 	board->end = DIED;
 	board->length = 0;
+	board->stuck = false;
 	run_main(run_setup);
 	board->runs++;
 	keep_names();

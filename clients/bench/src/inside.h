@@ -142,6 +142,8 @@ struct board {
 	uint64_t runs;
 	struct bench_found found;
 	char names[THREADS][32];
+	uint32_t ended;		/* a bit for each thread that has */
+	bool stuck;		/* the others can't go on */
 	char more[4 * BENCH_LINE];	/* lines after the first one */
 	struct step steps[POINTS + 1];
 };

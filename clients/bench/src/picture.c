@@ -4,16 +4,16 @@
 
 #include "inside.h"
 
-enum { WIDE = 900, LEFT = 110, RIGHT = 18, TOP = 60, ROW = 58, LINE_HIGH = 16, BARS = 64 };
+enum { WIDE = 900, LEFT = 110, RIGHT = 18, TOP = 60, ROW = 58, LINE_HIGH = 16, LETTERS = 125 };
 
 static const char style[] =
     "text { font: 11px ui-monospace, 'DejaVu Sans Mono', Menlo, Consolas, monospace; fill: #1f2328 }\n"
     ".paper { fill: #ffffff } .title { font: bold 15px sans-serif } .row { font: bold 12px sans-serif }\n"
-    ".faint { fill: #59636e } .fault { fill: #b3141d; stroke: #b3141d; stroke-width: 2px } .base { stroke: #8c959f } .grid { stroke: #e4e8ec }\n"
+    ".faint { fill: #59636e } .said { fill: #b3141d } .fault { fill: #b3141d; stroke: #b3141d; stroke-width: 2px } .base { stroke: #8c959f } .grid { stroke: #e4e8ec }\n"
     ".section { fill: #cfe5ff; stroke: #0969da } .reference { fill: #8250df } .lock { fill: #9a6700 } .wait { fill: #ffe3c7; stroke: #bc4c00 }\n"
     ".count { fill: #1a7f37 } .step { fill: #59636e }\n"
     "@media (prefers-color-scheme: dark) {\n"
-    "text { fill: #e6edf3 } .paper { fill: #0d1117 } .faint { fill: #9da7b1 } .fault { fill: #ff8182; stroke: #ff8182 }\n"
+    "text { fill: #e6edf3 } .paper { fill: #0d1117 } .faint { fill: #9da7b1 } .said { fill: #ff8182 } .fault { fill: #ff8182; stroke: #ff8182 }\n"
     ".base { stroke: #6e7681 } .grid { stroke: #21262d } .section { fill: #14365f; stroke: #58a6ff } .reference { fill: #bc8cff } .lock { fill: #e3b341 }\n"
     ".wait { fill: #4d2a0b; stroke: #f0883e } .count { fill: #3fb950 } .step { fill: #9da7b1 }\n"
     "}\n";
@@ -108,25 +108,32 @@ static void draw_pairs(FILE *to, unsigned at)
 			draw_bar(to, at, end_of(at, &pairs[place]), pairs[place].kind, pairs[place].lane);
 }
 
-/* A thread that goes on in the call that it was in has waited. */
+/* A thread that goes on in the call that it was in has waited, and so does one that can't go on at the end. */
 static void draw_wait(FILE *to, unsigned at)
 {
 	const struct step *step = &board->steps[at];
 	unsigned next = at + 1;
 	while (next < board->length && board->steps[next].chosen != step->chosen)
 		next++;
-	if (next < board->length && next > at + 1 && board->steps[next].call == step->call && board->steps[next].place == step->place)
+	bool stuck = next == board->length && board->stuck && step->chosen != 0 && (board->ended >> step->chosen & 1) == 0;
+	bool waits = next < board->length && next > at + 1 && board->steps[next].call == step->call && board->steps[next].place == step->place;
+	if (stuck || waits)
 		draw_bar(to, at, next, "wait", 0);
 }
 
 static void draw_rows(FILE *to)
 {
 	uint32_t seen = 0;
+	char cpu[16];
 	for (unsigned at = 0; at < board->length; at++) {
 		unsigned thread = board->steps[at].chosen;
 		double y = TOP + row_of(thread) * ROW;
 		if ((seen & UINT32_C(1) << thread) == 0) {
 			text_at(to, 14, y + 4, "row", board->names[thread]);
+			if (board->steps[at].cpu != NOBODY) {
+				snprintf(cpu, sizeof(cpu), "CPU %u", board->steps[at].cpu);
+				text_at(to, 14, y + 18, "faint", cpu);
+			}
 			fprintf(to, "<line class=\"base\" x1=\"%d\" y1=\"%.1f\" x2=\"%d\" y2=\"%.1f\"/>\n", LEFT, y, WIDE - RIGHT, y);
 		}
 		seen |= UINT32_C(1) << thread;
@@ -151,13 +158,12 @@ static void draw_steps(FILE *to)
 	}
 }
 
-static void draw_fault(FILE *to, double y)
+static void draw_fault(FILE *to)
 {
 	if (board->length == 0)
 		return;
 	double x = x_of(board->length - 1), middle = TOP + row_of(board->steps[board->length - 1].chosen) * ROW;
 	fprintf(to, "<path class=\"fault\" d=\"M%.1f %.1fl12 12m0 -12l-12 12\"/>\n", x - 6, middle - 6);
-	(void)y;
 }
 
 /* The steps, one a line. Where the list ends. */
@@ -175,6 +181,22 @@ static double list_steps(FILE *to, double y)
 	return y;
 }
 
+/* A text in lines of so many letters, cut at blanks. */
+static void write_lines(FILE *to, double y, const char *text)
+{
+	char line[LETTERS + 1];
+	while (*text != '\0') {
+		size_t length = strlen(text), cut = length <= LETTERS ? length : LETTERS;
+		while (length > LETTERS && cut > 0 && text[cut] != ' ')
+			cut--;
+		cut = cut == 0 ? LETTERS : cut;
+		snprintf(line, sizeof(line), "%.*s", (int)cut, text);
+		text_at(to, 14, y, "said", line);
+		text += cut + (text[cut] == ' ');
+		y += LINE_HIGH;
+	}
+}
+
 static void draw_legend(FILE *to)
 {
 	static const char *const kinds[] = {"section", "lock", "reference", "count", "wait"};
@@ -189,7 +211,7 @@ static void draw_legend(FILE *to)
 bool draw(const char *name, const struct bench_found *found)
 {
 	FILE *to = fopen(name, "w");
-	double list = TOP + rows() * ROW + 20, high = list + (board->length + 2) * LINE_HIGH;
+	double list = TOP + rows() * ROW + 20, high = list + (board->length + 2 + (unsigned)strlen(found->line) / 100) * LINE_HIGH;
 	if (to == NULL)
 		return false;
 	fprintf(to, "<svg xmlns=\"http://www.w3.org/2000/svg\" width=\"%d\" height=\"%.0f\" viewBox=\"0 0 %d %.0f\" role=\"img\">\n<title>", WIDE, high, WIDE, high);
@@ -203,8 +225,8 @@ bool draw(const char *name, const struct bench_found *found)
 	for (unsigned at = 0; at < board->length; at++)
 		draw_pairs(to, at);
 	draw_steps(to);
-	draw_fault(to, list);
-	text_at(to, 14, list_steps(to, list) + 4, "fault", found->line);
+	draw_fault(to);
+	write_lines(to, list_steps(to, list) + 6, found->line);
 	fputs("</svg>\n", to);
 	bool written = ferror(to) == 0;
 	return fclose(to) == 0 && written;

@@ -106,6 +106,7 @@ void tell_stuck(void)
 {
 	char text[BENCH_LINE] = "";
 	uint32_t told = 0;
+	board->stuck = true;
 	const struct routine *at = first_stuck();
 	while (at != NULL && (told & UINT32_C(1) << at->number) == 0) {
 		told |= UINT32_C(1) << at->number;

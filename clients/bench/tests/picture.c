@@ -1,4 +1,5 @@
 /* picture - writes the picture of a fault to the file that it is given: a destroy with a lock that the holder of a reference waits for */
+#include <sys/atomic.h>
 #include <sys/lwp.h>
 #include <sys/mutex.h>
 #include <sys/pserialize.h>
@@ -10,17 +11,22 @@ static kmutex_t lock;
 static struct psref_class *things;
 static struct psref_target target;
 static pserialize_t psz;
+static bool gone;
 
 static void hold(void *arg)
 {
 	struct psref psref;
 	int bound = curlwp_bind(), s = pserialize_read_enter();
+	bool found = !atomic_load_acquire(&gone);
 	(void)arg;
-	psref_acquire(&psref, &target, things);
+	if (found)
+		psref_acquire(&psref, &target, things);
 	pserialize_read_exit(s);
-	mutex_enter(&lock);
-	mutex_exit(&lock);
-	psref_release(&psref, &target, things);
+	if (found) {
+		mutex_enter(&lock);
+		mutex_exit(&lock);
+		psref_release(&psref, &target, things);
+	}
 	curlwp_bindx(bound);
 }
 
@@ -28,9 +34,8 @@ static void destroy(void *arg)
 {
 	(void)arg;
 	mutex_enter(&lock);
-	mutex_exit(&lock);
+	atomic_store_release(&gone, true);
 	pserialize_perform(psz);
-	mutex_enter(&lock);
 	psref_target_destroy(&target, things);
 	mutex_exit(&lock);
 }
