@@ -3,9 +3,7 @@
  */
 #include <string.h>
 #include <sys/atomic.h>
-#include <sys/condvar.h>
-#include <sys/mutex.h>
-#include <sys/pserialize.h>
+#include <sys/systm.h>
 
 #include "../bench.h"
 #include "../../c/expect.h"
@@ -56,8 +54,64 @@ static void test_count(unsigned a, unsigned b, unsigned c, unsigned d)
 	EXPECT(reduced.schedules == 1);
 }
 
+/* ---- What is tried where the search ends early. ---- */
+
+static unsigned word;
+
+static void change(void *arg)
+{
+	for (unsigned at = 0; at < *(unsigned *)arg; at++)
+		atomic_inc_uint(&word);
+}
+
+static void make_changers(void)
+{
+	lengths[0] = lengths[1] = 3;
+	bench_thread("one", change, &lengths[0]);
+	bench_thread("two", change, &lengths[1]);
+}
+
+/* With no preemption there are two orders; with one at most, each thread may be left at two points: six. */
+static void test_bounds(void)
+{
+	struct bench_found found;
+	const struct bench_options options = {.quiet = true, .schedules = 1, .preemptions = 1, .random = 5, .found = &found};
+	EXPECT(bench_explore(make_changers, &options) == 0);
+	printf("1 schedule of all, then bounds up to %d, then %llu random ones: %llu\n", found.bound, (unsigned long long)found.random,
+	    (unsigned long long)found.schedules);
+	EXPECT(!found.exhausted && found.bound == 1 && found.random == 5 && found.schedules == 1 + 2 + 6 + 5);
+}
+
+/* Only one order has both last: random priorities come to it. */
+static void last_wins(void *arg)
+{
+	unsigned own = *(unsigned *)arg;
+	atomic_store_relaxed(&word, own);
+	bench_point();
+	KASSERT(own != 2 || atomic_load_relaxed(&word) != 1);
+}
+
+static void make_racers(void)
+{
+	lengths[0] = 1;
+	lengths[1] = 2;
+	bench_thread("one", last_wins, &lengths[0]);
+	bench_thread("two", last_wins, &lengths[1]);
+}
+
+static void test_random(void)
+{
+	struct bench_found found, again;
+	struct bench_options options = {.quiet = true, .schedules = 1, .bounded = 1, .random = 2000, .seed = 3, .found = &found};
+	EXPECT(bench_explore(make_racers, &options) == 1 && found.random > 0);
+	options.found = &again;
+	EXPECT(bench_explore(make_racers, &options) == 1 && found.random == again.random && strcmp(found.schedule, again.schedule) == 0);
+}
+
 int main(void)
 {
+	test_bounds();
+	test_random();
 	test_count(1, 1, 0, 0);
 	test_count(3, 3, 0, 0);
 	test_count(2, 2, 2, 0);
