@@ -1,6 +1,6 @@
-/* speed - how many switches and points the bench makes in a second: `speed LEAST` ends with status 1 where there are fewer switches */
+/* speed - how many switches and points the bench makes in a second of a processor: `speed LEAST` ends with status 1 where there are fewer switches */
 #include <sys/atomic.h>
-#include <time.h>
+#include <sys/resource.h>
 
 #include "../bench.h"
 #include "../../c/expect.h"
@@ -20,11 +20,12 @@ static void begin(void)
 	bench_thread("two", change, NULL);
 }
 
+/* Seconds of a processor that the children have taken. */
 static double seconds(void)
 {
-	struct timespec now;
-	clock_gettime(CLOCK_MONOTONIC, &now);
-	return (double)now.tv_sec + (double)now.tv_nsec / 1e9;
+	struct rusage usage;
+	getrusage(RUSAGE_CHILDREN, &usage);
+	return (double)(usage.ru_utime.tv_sec + usage.ru_stime.tv_sec) + (double)(usage.ru_utime.tv_usec + usage.ru_stime.tv_usec) / 1e6;
 }
 
 int main(int count, char **given)
@@ -34,7 +35,7 @@ int main(int count, char **given)
 	double from = seconds();
 	EXPECT(bench_explore(begin, &options) == 0 && found.exhausted);
 	double took = seconds() - from;
-	printf("%.0f switches and %.0f points a second, in %llu runs\n", (double)found.switches / took, (double)found.points / took,
+	printf("%.0f switches and %.0f points a second of a processor, in %llu runs\n", (double)found.switches / took, (double)found.points / took,
 	    (unsigned long long)found.schedules);
 	return count > 1 && (double)found.switches / took < atof(given[1]);
 }
