@@ -14,7 +14,7 @@ BENCH_COMPILE = $(CC) $(BENCH_WARNED) $(CFLAGS) -fPIC -Ibench -Inetbsd -Inetbsd/
 
 library: out/libkupaldiz_bench.a out/$(BENCH_SHARED)
 
-$(BENCH_FOLDER)/names: bench/src/calls.c bench/src/more_calls.c
+$(BENCH_FOLDER)/names: bench/src/calls.c bench/src/more_calls.c bench/src/made.c
 	mkdir -p $(BENCH_FOLDER)
 	sed -n 's/^LAYER([^,]*, \([a-z_]*\),.*/\1 layer_\1/p' $^ >$@
 

@@ -121,6 +121,7 @@ int mutex_tryenter(kmutex_t *mutex)
 void mutex_destroy(kmutex_t *mutex)
 {
 	at_thing(__func__, ON_LOCK, mutex, sizeof(*mutex), WRITES);
+	note_ended(mutex);
 	layer_mutex_destroy(mutex);
 }
 
@@ -191,15 +192,21 @@ int cv_timedwait_sig(kcondvar_t *cv, kmutex_t *mutex, int ticks)
 	return answer;
 }
 
+static void at_wake(const char *call, kcondvar_t *cv)
+{
+	at_thing(call, ON_CV, cv, sizeof(*cv), WRITES);
+	note_wake(call, run.now_runs->place, cv, bucket_has(NULL, cv));
+}
+
 void cv_signal(kcondvar_t *cv)
 {
-	at_thing(__func__, ON_CV, cv, sizeof(*cv), WRITES);
+	at_wake(__func__, cv);
 	layer_cv_signal(cv);
 }
 
 void cv_broadcast(kcondvar_t *cv)
 {
-	at_thing(__func__, ON_CV, cv, sizeof(*cv), WRITES);
+	at_wake(__func__, cv);
 	layer_cv_broadcast(cv);
 }
 
@@ -212,6 +219,7 @@ bool cv_has_waiters(kcondvar_t *cv)
 void cv_destroy(kcondvar_t *cv)
 {
 	at_thing(__func__, ON_CV, cv, sizeof(*cv), WRITES);
+	note_ended(cv);
 	layer_cv_destroy(cv);
 }
 
@@ -264,6 +272,7 @@ void rw_downgrade(krwlock_t *rw)
 void rw_destroy(krwlock_t *rw)
 {
 	at_thing(__func__, ON_LOCK, rw, sizeof(*rw), WRITES);
+	note_ended(rw);
 	layer_rw_destroy(rw);
 }
 

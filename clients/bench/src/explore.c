@@ -272,6 +272,7 @@ static enum end in_child(void (*body)(void), bool silent)
 		note_state();
 		body();
 		board->over = true;
+		fflush(NULL);
 		_exit(0);
 	}
 	if (waitpid(child, &status, 0) != child)

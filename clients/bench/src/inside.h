@@ -8,7 +8,7 @@
 
 #include "../bench.h"
 
-enum { THREADS = BENCH_THREADS, POINTS = BENCH_POINTS, ACCESSES = 12, STACK = 256 * 1024, ANY = 0xffff, NOBODY = 0xff, TARGETS = 32 };
+enum { THREADS = BENCH_THREADS, POINTS = BENCH_POINTS, ACCESSES = 12, STACK = 256 * 1024, ANY = 0xffff, NOBODY = 0xff, TARGETS = 32, LOCKS = 64 };
 
 #define NEVER	INT64_MAX
 
@@ -105,6 +105,14 @@ struct run {
 		uint64_t count;
 	} releases[TARGETS];
 	bool own_memory;	/* what is taken now is the layer's own */
+	struct made {
+		const void *lock;	/* that was initialised and not destroyed; NULL where there is none */
+		const char *call;
+	} made[LOCKS];
+	struct missed {
+		const void *cv;
+		const char *call, *place;
+	} missed[TARGETS];		/* the last wake-up of each that nobody waited for */
 	char outcome[BENCH_TEXT];
 };
 
@@ -221,6 +229,14 @@ struct cpu *cpu_here(const struct routine *me);
 void at_thing(const char *call, enum kind kind, const void *thing, size_t size, unsigned how);
 void at_cpu(const char *call, unsigned how);
 void leaving_cpu(const char *call);
+
+/* ---- made.c: what is initialised and must be ended, and wake-ups that came too early. ---- */
+
+void note_made(const char *call, const void *lock);
+void note_ended(const void *lock);
+void want_none_made(const char *call, const void *from, size_t size);
+void note_wake(const char *call, const char *place, const void *cv, bool waited);
+const struct missed *missed_by(const void *cv);
 
 /* ---- What guards are: locks.c. ---- */
 

@@ -29,6 +29,7 @@ static void at_block(const char *call, const void *block, size_t size)
 	if (block == NULL)
 		return;
 	want_live(call, block, 1);
+	want_none_made(call, block, size);
 	touch_memory(block, size, WRITES);
 }
 

@@ -163,7 +163,7 @@ static void judge_given(const struct step *step, uint32_t enabled)
 {
 	if ((enabled & bit(step->chosen)) == 0) {
 		snprintf(board->found.line, sizeof(board->found.line), "the schedule doesn't fit: at point %u thread \"%s\" can't go on", run.step,
-		    step->chosen < run.count ? run.routines[step->chosen].name : "?");
+		    step->chosen < run.count && run.routines[step->chosen].name != NULL ? run.routines[step->chosen].name : "?");
 		leave_run(UNFIT);
 	}
 	if (board->way != REPLAYED && enabled != step->enabled) {
@@ -250,6 +250,8 @@ struct routine *here(const char *call)
 		refuse("%s outside of bench_explore", call);
 	struct thread *self = kupaldiz_self;
 	me->self = self;
+	if (me->name == NULL && self != NULL)
+		me->name = self->name;
 	if (self != NULL && self->cpu == NULL) {
 		self->cpu = &cpus[me->number == 0 ? KUPALDIZ_CPUS - 1 : (me->number - 1) % (KUPALDIZ_CPUS - 1)];
 		self->lwp.l_cpu = &self->cpu->info;

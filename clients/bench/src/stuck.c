@@ -41,7 +41,7 @@ static const struct routine *stuck_softint(void)
 /* What a thread waits for. */
 struct waiting {
 	const struct routine *on;	/* NULL where no thread can be told */
-	char what[160];
+	char what[320];
 };
 
 static struct waiting waits_for(const struct routine *me)
@@ -63,7 +63,10 @@ static struct waiting waits_for(const struct routine *me)
 		found.on = routine_of(lock_owner(&me->retake->mtx_word));
 		snprintf(found.what, sizeof(found.what), "the lock");
 	} else if (me->guard == was_woken) {
-		snprintf(found.what, sizeof(found.what), "a wake-up that nobody is left to give");
+		const struct missed *missed = missed_by(me->queue);
+		snprintf(found.what, sizeof(found.what), "a wake-up that nobody is left to give%s%s%s%s%s", missed == NULL ? "" : "; ",
+		    missed == NULL ? "" : missed->call, missed == NULL || missed->place == NULL ? "" : " at ",
+		    missed == NULL || missed->place == NULL ? "" : missed->place, missed == NULL ? "" : " came while nobody waited");
 	} else if (me->of != NULL) {
 		found.on = routine_of(lock_owner(me->of));
 		snprintf(found.what, sizeof(found.what), "the lock");

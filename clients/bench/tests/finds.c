@@ -222,6 +222,19 @@ static void leak(void)
 	make_two(use_block, use_block);
 }
 
+static void forget_lock(void *arg)
+{
+	kmutex_t *lock = kmem_alloc(sizeof(*lock), KM_SLEEP);
+	(void)arg;
+	mutex_init(lock, MUTEX_DEFAULT, IPL_NONE);
+	kmem_free(lock, sizeof(*lock));
+}
+
+static void forgotten_lock(void)
+{
+	make_two(forget_lock, write_once);
+}
+
 static void write_behind(void *arg)
 {
 	(void)arg;
@@ -373,7 +386,7 @@ static const struct find {
 	{"two orders", "deadlock: thread \"first\" waits in mutex_enter at", two_orders},
 	{"a reader that enters again behind a writer", "nobody can go on: thread \"first\" waits in rw_enter", reader_again},
 	{"a lock at the end of a thread", "pthread_exit: with a lock", lock_at_end},
-	{"a lost wake-up", "waits in cv_wait at", lost_wake},
+	{"a lost wake-up", "came while nobody waited", lost_wake},
 	{"plain accesses without an order", "two accesses to one memory without an order", unordered},
 	{"a relaxed store where a release is needed", "two accesses to one memory without an order", relaxed},
 	{"a release", NULL, released},
@@ -381,6 +394,7 @@ static const struct find {
 	{"freed memory", "atomic change at ", freed},
 	{"freed twice", "use of freed memory", free_twice},
 	{"a leak", "1 blocks of memory are left at the end, one of them taken by kmem_zalloc at", leak},
+	{"a lock that is never destroyed", "what mutex_init has made lies in it and was never destroyed", forgotten_lock},
 	{"a write behind a block", "written behind a block of", behind},
 	{"a write to freed memory", "something was written to freed memory", written_after},
 	{"a destroy with the holder's lock", "waits in psref_target_destroy at", destroyed_locked},
