@@ -37,18 +37,30 @@ static bool do_both_take(const struct access *first, const struct access *second
 
 enum clash { NONE, ORDER, RACE, LOCKED };
 
+static enum clash clash_of_two(const struct access *first, const struct access *second)
+{
+	if (!do_clash(first, second))
+		return NONE;
+	return is_before(first, second) ? ORDER : do_both_take(first, second) ? LOCKED : RACE;
+}
+
+static enum clash clash_with(const struct access *first, const struct set *second)
+{
+	enum clash found = NONE;
+	for (uint32_t at = 0; at < second->count; at++) {
+		enum clash clash = clash_of_two(first, &second->of[at]);
+		found = clash > found ? clash : found;
+	}
+	return found;
+}
+
 /* How two steps are to each other: they commute; the first has to come first; they may change places; both take one lock. */
 static enum clash clash_of(const struct set *first, const struct set *second)
 {
 	enum clash found = first->full || second->full ? RACE : NONE;
 	for (uint32_t at = 0; at < first->count; at++) {
-		for (uint32_t to = 0; to < second->count; to++) {
-			const struct access *one = &first->of[at], *other = &second->of[to];
-			if (!do_clash(one, other))
-				continue;
-			enum clash clash = is_before(one, other) ? ORDER : do_both_take(one, other) ? LOCKED : RACE;
-			found = clash > found ? clash : found;
-		}
+		enum clash clash = clash_with(&first->of[at], second);
+		found = clash > found ? clash : found;
 	}
 	return found;
 }
@@ -123,12 +135,11 @@ static void plan(unsigned earlier, unsigned later)
 	step->planned |= (can & own) != 0 ? own : can & (~can + 1);
 }
 
-/* Sets the step among those before it, and plans what it asks for. */
-void judge_step(unsigned at)
+/* Sets the step among those before it. The races that it has, in a list: how many. */
+static unsigned order_step(unsigned at, unsigned *races)
 {
 	struct step *step = &board->steps[at];
 	uint32_t base[THREADS];
-	unsigned *races = beside->races;
 	unsigned count = 0;
 	int before = step_before(at);
 	memset(base, 0, sizeof(base));
@@ -147,6 +158,13 @@ void judge_step(unsigned at)
 			join(step->clock, found->clock);
 	}
 	step->clock[step->chosen] = at + 1;
+	return count;
+}
+
+/* Sets the step among those before it, and plans what it asks for. */
+void judge_step(unsigned at)
+{
+	unsigned *races = beside->races, count = order_step(at, races);
 	for (unsigned place = 0; place < count; place++)
 		plan(races[place], at);
 }

@@ -217,11 +217,15 @@ static uint64_t random_number(void)
 	return board->seed = at;
 }
 
-/* New priorities, and the points at which they fall. */
-static void draw_priorities(unsigned length)
+static void draw_priorities(void)
 {
 	for (unsigned at = 0; at < THREADS; at++)
 		board->priorities[at] = 16 + (unsigned)(random_number() >> 33 & 0xffffff);
+}
+
+/* The points at which they fall. */
+static void draw_changes(unsigned length)
+{
 	for (unsigned at = 0; at < sizeof(board->changes) / sizeof(board->changes[0]); at++)
 		board->changes[at] = (unsigned)(random_number() % (length + 1));
 }
@@ -231,7 +235,8 @@ static void run_random(void)
 	unsigned length = board->length;
 	begin_search(RANDOM, options.random, 0);
 	for (uint64_t count = 0; count < options.random && !is_wrong(); count++) {
-		draw_priorities(length);
+		draw_priorities();
+		draw_changes(length);
 		run_once();
 		length = board->length > length ? board->length : length;
 		board->found.random++;
@@ -316,21 +321,27 @@ static void cut_down(struct bench_found *found)
 	}
 }
 
+/* A thread goes on for so many points. How many there are then. */
+static unsigned add_turns(unsigned count, unsigned thread, unsigned long turns)
+{
+	if (turns > POINTS - count)
+		refuse("the schedule is too long");
+	for (; turns > 0; turns--)
+		board->steps[count++].chosen = (uint8_t)thread;
+	return count;
+}
+
 /* The threads of a schedule, as the choices of the first steps. */
 static void read_schedule(const char *text)
 {
 	unsigned count = 0;
 	for (const char *at = text; *at != '\0';) {
 		unsigned thread = *at == '.' ? THREADS - 1 : (unsigned)(*at - 'a');
-		char *end;
-		unsigned long turns = strtoul(at + 1, &end, 10);
-		if (thread >= THREADS || (end != at + 1 && turns == 0) || turns > POINTS)
+		char *end = (char *)at + 1;
+		unsigned long turns = at[1] >= '0' && at[1] <= '9' ? strtoul(at + 1, &end, 10) : 1;
+		if (thread >= THREADS || turns == 0)
 			refuse("\"%s\" is no schedule: a letter for each thread, or a dot for the clock, and how many points it goes on", text);
-		for (turns = end == at + 1 ? 1 : turns; turns > 0; turns--) {
-			if (count == POINTS)
-				refuse("the schedule is too long");
-			board->steps[count++].chosen = (uint8_t)thread;
-		}
+		count = add_turns(count, thread, turns);
 		at = end;
 	}
 	begin_search(REPLAYED, 1, 0);

@@ -184,5 +184,6 @@ void judge_heap(void)
 		first = block;
 	}
 	if (left > options.left)
-		fail("%u blocks of memory are left at the end, one of them taken by %s%s", left, first->call, at_or_nothing(first->place, where, sizeof(where)));
+		fail("%u blocks of memory are left at the end, one of them taken by %s%s", left, first->call,
+		    at_or_nothing(first->place, where, sizeof(where)));
 }

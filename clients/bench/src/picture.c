@@ -9,12 +9,14 @@ enum { WIDE = 900, LEFT = 110, RIGHT = 18, TOP = 60, ROW = 58, LINE_HIGH = 16, L
 static const char style[] =
     "text { font: 11px ui-monospace, 'DejaVu Sans Mono', Menlo, Consolas, monospace; fill: #1f2328 }\n"
     ".paper { fill: #ffffff } .title { font: bold 15px sans-serif } .row { font: bold 12px sans-serif }\n"
-    ".faint { fill: #59636e } .said { fill: #b3141d } .fault { fill: #b3141d; stroke: #b3141d; stroke-width: 2px } .base { stroke: #8c959f } .grid { stroke: #e4e8ec }\n"
+    ".faint { fill: #59636e } .said { fill: #b3141d }\n"
+    ".fault { fill: #b3141d; stroke: #b3141d; stroke-width: 2px } .base { stroke: #8c959f }\n"
     ".section { fill: #cfe5ff; stroke: #0969da } .reference { fill: #8250df } .lock { fill: #9a6700 } .wait { fill: #ffe3c7; stroke: #bc4c00 }\n"
     ".count { fill: #1a7f37 } .step { fill: #59636e }\n"
     "@media (prefers-color-scheme: dark) {\n"
-    "text { fill: #e6edf3 } .paper { fill: #0d1117 } .faint { fill: #9da7b1 } .said { fill: #ff8182 } .fault { fill: #ff8182; stroke: #ff8182 }\n"
-    ".base { stroke: #6e7681 } .grid { stroke: #21262d } .section { fill: #14365f; stroke: #58a6ff } .reference { fill: #bc8cff } .lock { fill: #e3b341 }\n"
+    "text { fill: #e6edf3 } .paper { fill: #0d1117 }\n"
+    ".faint { fill: #9da7b1 } .said { fill: #ff8182 } .fault { fill: #ff8182; stroke: #ff8182 }\n"
+    ".base { stroke: #6e7681 } .section { fill: #14365f; stroke: #58a6ff } .reference { fill: #bc8cff } .lock { fill: #e3b341 }\n"
     ".wait { fill: #4d2a0b; stroke: #f0883e } .count { fill: #3fb950 } .step { fill: #9da7b1 }\n"
     "}\n";
 
@@ -121,6 +123,12 @@ static void draw_wait(FILE *to, unsigned at)
 		draw_bar(to, at, next, "wait", 0);
 }
 
+static void draw_each(FILE *to, void (*draw_step)(FILE *, unsigned))
+{
+	for (unsigned at = 0; at < board->length; at++)
+		draw_step(to, at);
+}
+
 static void draw_rows(FILE *to)
 {
 	uint32_t seen = 0;
@@ -181,15 +189,23 @@ static double list_steps(FILE *to, double y)
 	return y;
 }
 
+/* How much of a text is a line: up to a blank, where there is one. */
+static size_t length_of_line(const char *text)
+{
+	size_t length = strlen(text), cut = LETTERS;
+	if (length <= LETTERS)
+		return length;
+	while (cut > 0 && text[cut] != ' ')
+		cut--;
+	return cut == 0 ? LETTERS : cut;
+}
+
 /* A text in lines of so many letters, cut at blanks. */
 static void write_lines(FILE *to, double y, const char *text)
 {
 	char line[LETTERS + 1];
 	while (*text != '\0') {
-		size_t length = strlen(text), cut = length <= LETTERS ? length : LETTERS;
-		while (length > LETTERS && cut > 0 && text[cut] != ' ')
-			cut--;
-		cut = cut == 0 ? LETTERS : cut;
+		size_t cut = length_of_line(text);
 		snprintf(line, sizeof(line), "%.*s", (int)cut, text);
 		text_at(to, 14, y, "said", line);
 		text += cut + (text[cut] == ' ');
@@ -214,16 +230,15 @@ bool draw(const char *name, const struct bench_found *found)
 	double list = TOP + rows() * ROW + 20, high = list + (board->length + 2 + (unsigned)strlen(found->line) / 100) * LINE_HIGH;
 	if (to == NULL)
 		return false;
-	fprintf(to, "<svg xmlns=\"http://www.w3.org/2000/svg\" width=\"%d\" height=\"%.0f\" viewBox=\"0 0 %d %.0f\" role=\"img\">\n<title>", WIDE, high, WIDE, high);
+	fprintf(to, "<svg xmlns=\"http://www.w3.org/2000/svg\" width=\"%d\" height=\"%.0f\" viewBox=\"0 0 %d %.0f\" role=\"img\">\n<title>", WIDE, high,
+	    WIDE, high);
 	escape(to, found->line);
 	fprintf(to, "</title>\n<style>%s</style>\n<rect class=\"paper\" width=\"100%%\" height=\"100%%\"/>\n", style);
 	text_at(to, 14, 24, "title", options.name);
 	draw_legend(to);
 	draw_rows(to);
-	for (unsigned at = 0; at < board->length; at++)
-		draw_wait(to, at);
-	for (unsigned at = 0; at < board->length; at++)
-		draw_pairs(to, at);
+	draw_each(to, draw_wait);
+	draw_each(to, draw_pairs);
 	draw_steps(to);
 	draw_fault(to);
 	write_lines(to, list_steps(to, list) + 6, found->line);

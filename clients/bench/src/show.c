@@ -4,14 +4,22 @@
 
 #include "inside.h"
 
+/* How many points a thread goes on from a step. */
+static unsigned turns_from(unsigned from)
+{
+	unsigned at = from;
+	while (at < board->length && board->steps[at].chosen == board->steps[from].chosen)
+		at++;
+	return at - from;
+}
+
 /* A letter for each thread, a dot for the clock, and how many points it goes on where that isn't 1. */
 void write_schedule(char *text, size_t room)
 {
 	size_t length = 0;
 	for (unsigned at = 0, turns; at < board->length && length + 8 < room; at += turns) {
 		unsigned thread = board->steps[at].chosen;
-		for (turns = 1; at + turns < board->length && board->steps[at + turns].chosen == thread;)
-			turns++;
+		turns = turns_from(at);
 		char letter = thread == THREADS - 1 ? '.' : (char)('a' + thread);
 		length += (size_t)snprintf(text + length, room - length, turns == 1 ? "%c" : "%c%u", letter, turns);
 	}

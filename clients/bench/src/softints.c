@@ -50,6 +50,22 @@ static void give_cpu(struct thread *me)
 	me->lender = NULL;
 }
 
+/* Takes the CPU, and runs the handlers that wait on it. */
+static void run_waiting(struct thread *me, unsigned number)
+{
+	touch(ON_PENDING, NULL, number, WRITES);
+	take_clock(ON_PENDING, NULL, number);
+	take_cpu(me);
+	me->holds = 1;
+	while (run_softint(me)) {
+		run.handlers++;
+		touch(ON_PENDING, NULL, number, WRITES);
+	}
+	me->holds = 0;
+	me->level = IPL_NONE;
+	give_cpu(me);
+}
+
 /* Runs the handlers of a CPU for ever. */
 static void run_handlers(void *of)
 {
@@ -64,17 +80,7 @@ static void run_handlers(void *of)
 	routine->name = names[cpu->info.ci_index];
 	for (;;) {
 		point("softint", NULL, can_begin, cpu);
-		touch(ON_PENDING, NULL, cpu->info.ci_index, WRITES);
-		take_clock(ON_PENDING, NULL, cpu->info.ci_index);
-		take_cpu(me);
-		me->holds = 1;
-		while (run_softint(me)) {
-			run.handlers++;
-			touch(ON_PENDING, NULL, cpu->info.ci_index, WRITES);
-		}
-		me->holds = 0;
-		me->level = IPL_NONE;
-		give_cpu(me);
+		run_waiting(me, cpu->info.ci_index);
 	}
 }
 

@@ -29,6 +29,14 @@ __attribute__((no_sanitize_address, optimize("no-tree-loop-distribute-patterns")
 			to_words[at] = words[at];
 }
 
+static void *pages(size_t size)
+{
+	void *at = mmap(NULL, size, PROT_READ | PROT_WRITE, MAP_PRIVATE | MAP_ANONYMOUS, -1, 0);
+	if (at == MAP_FAILED)
+		refuse("out of memory");
+	return at;
+}
+
 static void add_part(uintptr_t from, uintptr_t to)
 {
 	from = (from + 7) & ~(uintptr_t)7;
@@ -37,7 +45,7 @@ static void add_part(uintptr_t from, uintptr_t to)
 		return;
 	if (count == MOST_PARTS)
 		refuse("the program has too many parts");
-	parts[count++] = (struct part){.at = (char *)from, .size = to - from};
+	parts[count++] = (struct part){.at = (char *)from, .kept = pages(to - from), .size = to - from};
 }
 
 static uintptr_t page_of(uintptr_t address)
@@ -57,17 +65,24 @@ static bool has_address(const struct dl_phdr_info *object, uintptr_t address)
 	return false;
 }
 
-/* Adds the writable parts of an object, without what the loader has made read-only. */
-static void add_object(const struct dl_phdr_info *object)
+/* What of an object the loader has made read-only. */
+static void find_closed(const struct dl_phdr_info *object, uintptr_t *from, uintptr_t *to)
 {
-	uintptr_t closed_from = 0, closed_to = 0;
+	*from = *to = 0;
 	for (unsigned at = 0; at < object->dlpi_phnum; at++) {
 		const ElfW(Phdr) *part = &object->dlpi_phdr[at];
 		if (part->p_type == PT_GNU_RELRO) {
-			closed_from = page_of(object->dlpi_addr + part->p_vaddr);
-			closed_to = page_of(object->dlpi_addr + part->p_vaddr + part->p_memsz);
+			*from = page_of(object->dlpi_addr + part->p_vaddr);
+			*to = page_of(object->dlpi_addr + part->p_vaddr + part->p_memsz);
 		}
 	}
+}
+
+/* Adds the writable parts of an object, without that. */
+static void add_object(const struct dl_phdr_info *object)
+{
+	uintptr_t closed_from, closed_to;
+	find_closed(object, &closed_from, &closed_to);
 	for (unsigned at = 0; at < object->dlpi_phnum; at++) {
 		const ElfW(Phdr) *part = &object->dlpi_phdr[at];
 		uintptr_t from = object->dlpi_addr + part->p_vaddr, to = from + part->p_memsz;
@@ -93,14 +108,6 @@ static int look_at(struct dl_phdr_info *object, size_t size, void *first)
 	return 0;
 }
 
-static void *pages(size_t size)
-{
-	void *at = mmap(NULL, size, PROT_READ | PROT_WRITE, MAP_PRIVATE | MAP_ANONYMOUS, -1, 0);
-	if (at == MAP_FAILED)
-		refuse("out of memory");
-	return at;
-}
-
 /* Keeps what the memory has now. */
 void note_state(void)
 {
@@ -108,8 +115,6 @@ void note_state(void)
 	count = 0;
 	parts = pages(MOST_PARTS * sizeof(*parts));
 	dl_iterate_phdr(look_at, &first);
-	for (unsigned at = 0; at < count; at++)
-		parts[at].kept = pages(parts[at].size);
 	for (unsigned at = 0; at < count; at++)
 		copy(parts[at].kept, parts[at].at, parts[at].size);
 }

@@ -20,12 +20,10 @@ static const struct routine *routine_of(const struct thread *thread)
 /* The thread that has a reference of a CPU's to a target. */
 static const struct routine *holder_on(unsigned cpu, const void *target)
 {
-	for (unsigned number = 0; number < KUPALDIZ_CPUS; number++) {
-		const struct cpu *at = &cpus[number];
-		for (uint32_t place = 0; place < at->room && (cpu == number || cpu >= KUPALDIZ_CPUS); place++)
-			if (at->references[place].psref != NULL && (const void *)at->references[place].target == target)
-				return routine_of(at->references[place].thread);
-	}
+	const struct cpu *at = &cpus[cpu];
+	for (uint32_t place = 0; cpu < KUPALDIZ_CPUS && place < at->room; place++)
+		if (at->references[place].psref != NULL && (const void *)at->references[place].target == target)
+			return routine_of(at->references[place].thread);
 	return NULL;
 }
 

@@ -24,14 +24,21 @@ static void make_threads(void)
 			bench_thread(names[at], go, &lengths[at]);
 }
 
+static uint64_t binomial(unsigned of, unsigned chosen)
+{
+	uint64_t number = 1;
+	for (unsigned at = 1; at <= chosen; at++)
+		number = number * (of - chosen + at) / at;
+	return number;
+}
+
 /* How many orders there are of threads with so many steps each. */
 static uint64_t multinomial(const unsigned *counts)
 {
 	uint64_t orders = 1;
 	unsigned placed = 0;
-	for (unsigned at = 0; at < 4; at++)
-		for (unsigned step = 1; step <= counts[at]; step++)
-			orders = orders * ++placed / step;
+	for (unsigned at = 0; at < 4; placed += counts[at++])
+		orders *= binomial(placed + counts[at], counts[at]);
 	return orders;
 }
 

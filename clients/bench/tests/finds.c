@@ -532,6 +532,17 @@ static bool is_refused(const struct refusal *refusal)
 	return right;
 }
 
+static void judge_refusals(unsigned *passed, unsigned *failed)
+{
+	for (unsigned at = 0; at < sizeof(refusals) / sizeof(refusals[0]); at++) {
+		bool right = is_refused(&refusals[at]);
+		*passed += right;
+		*failed += !right;
+		if (!right)
+			printf("FAILED %s\n", refusals[at].name);
+	}
+}
+
 int main(int count, char **words)
 {
 	unsigned passed = 0, failed = 0;
@@ -545,13 +556,7 @@ int main(int count, char **words)
 			bench_explore(finds[at].setup, &options);
 		}
 	}
-	for (unsigned at = 0; at < sizeof(refusals) / sizeof(refusals[0]); at++) {
-		bool right = is_refused(&refusals[at]);
-		passed += right;
-		failed += !right;
-		if (!right)
-			printf("FAILED %s\n", refusals[at].name);
-	}
+	judge_refusals(&passed, &failed);
 	(void)words;
 	printf("%u passed, %u failed\n", passed, failed);
 	return failed != 0;

@@ -149,8 +149,8 @@ static void run_text(void *arg)
 static void begin(void)
 {
 	static const char *const names[] = {"one", "two", "three", "four"};
-	for (unsigned at = 0; at < 2; at++)
-		mutex_init(&locks[at], MUTEX_DEFAULT, IPL_NONE);
+	mutex_init(&locks[0], MUTEX_DEFAULT, IPL_NONE);
+	mutex_init(&locks[1], MUTEX_DEFAULT, IPL_NONE);
 	rw_init(&rw);
 	cv_init(&cv, "flag");
 	psz = pserialize_create();
@@ -284,7 +284,8 @@ static void add(char *text, const char *more)
 
 static void make_text(char *text, unsigned parts)
 {
-	static const char *const pieces[] = {"a", "b", "A", "B", "+", "(a)", "[A]", "([B])", "t", "<a>", "<ab>", "P", "(A)", "r", "W", "AB", "ba", "s", "w", "g", "i", "<iab>", "<iA>", "<ib>"};
+	static const char *const pieces[] = {"a", "b", "A", "B", "+", "(a)", "[A]", "([B])", "t", "<a>", "<ab>", "P", "(A)", "r", "W", "AB", "ba", "s", "w", "g", "i",
+	    "<iab>", "<iA>", "<ib>"};
 	text[0] = '\0';
 	for (unsigned at = 0; at < parts; at++)
 		add(text, pieces[pick(sizeof(pieces) / sizeof(pieces[0]))]);
