@@ -204,6 +204,21 @@ static void make_block(void)
 	block = kmem_zalloc(sizeof(*block), KM_SLEEP);
 }
 
+/* What a plain access reads is filled, and the address sanitizer sees it. */
+static void read_block(void *arg)
+{
+	volatile unsigned *at = block;
+	(void)arg;
+	bench_point();
+	KASSERT(*at == 0 || *at == 0xdfdfdfdf);
+}
+
+static void freed_plainly(void)
+{
+	make_block();
+	make_two(read_block, free_block);
+}
+
 static void freed(void)
 {
 	make_block();
@@ -392,6 +407,11 @@ static const struct find {
 	{"a release", NULL, released},
 	{"a barrier", NULL, fenced},
 	{"freed memory", "atomic change at ", freed},
+#ifdef __SANITIZE_ADDRESS__
+	{"freed memory by a plain access", "status 1", freed_plainly},
+#else
+	{"freed memory by a plain access", NULL, freed_plainly},
+#endif
 	{"freed twice", "use of freed memory", free_twice},
 	{"a leak", "1 blocks of memory are left at the end, one of them taken by kmem_zalloc at", leak},
 	{"a lock that is never destroyed", "what mutex_init has made lies in it and was never destroyed", forgotten_lock},

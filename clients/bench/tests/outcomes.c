@@ -8,6 +8,7 @@
  */
 #include <string.h>
 #include <sys/atomic.h>
+#include <sys/callout.h>
 #include <sys/condvar.h>
 #include <sys/intr.h>
 #include <sys/localcount.h>
@@ -36,6 +37,7 @@ static pserialize_t psz;
 static struct psref_class *things;
 static struct psref_target target;
 static void *softint;
+static callout_t callout;
 static char seen[MOST][LONGEST + 1];
 static unsigned count[MOST];
 
@@ -49,6 +51,17 @@ static void handle(void *arg)
 {
 	(void)arg;
 	atomic_store_relaxed(&words[1], 26);
+}
+
+static void ring(void *arg)
+{
+	(void)arg;
+	atomic_store_relaxed(&words[0], 25);
+}
+
+static bool has_letter(char letter)
+{
+	return strchr(texts[0], letter) != NULL || strchr(texts[1], letter) != NULL || strchr(texts[2], letter) != NULL;
 }
 
 static void try_lock(unsigned thread)
@@ -133,6 +146,9 @@ static void act(unsigned thread, char letter, unsigned value)
 	case 'g': refer(thread); break;
 	case 'D': end_target(); break;
 	case 'i': softint_schedule(softint); break;
+	case 'o': callout_reset(&callout, 1, ring, NULL); break;
+	case 'O': (void)callout_halt(&callout, NULL); break;
+	case 'c': kupaldiz_bind(0); break;
 	case 'k': (void)kpause("outcomes", false, 1, NULL); break;
 	default: EXPECT(!"a letter");
 	}
@@ -157,6 +173,8 @@ static void begin(void)
 	things = psref_class_create("thing", IPL_SOFTNET);
 	psref_target_init(&target, things);
 	softint = softint_establish(SOFTINT_NET | SOFTINT_MPSAFE, handle, NULL);
+	if (has_letter('o') || has_letter('O'))
+		callout_init(&callout, 0);
 	for (unsigned at = 0; at < MOST; at++)
 		if (texts[at][0] != '\0')
 			bench_thread(names[at], run_text, texts[at]);
@@ -167,8 +185,12 @@ static void finish(void)
 	for (unsigned at = 0; at < MOST; at++)
 		bench_outcome("%s,", seen[at]);
 	/* A soft interrupt of real threads may run later. */
-	if (strchr(texts[0], 'i') == NULL && strchr(texts[1], 'i') == NULL && strchr(texts[2], 'i') == NULL)
+	if (!has_letter('i') && !has_letter('o'))
 		bench_outcome("%u %u", words[0], words[1]);
+	if (has_letter('o') || has_letter('O')) {
+		(void)callout_halt(&callout, NULL);
+		callout_destroy(&callout);
+	}
 	if (!gone)
 		psref_target_destroy(&target, things);
 	psref_class_destroy(things);
@@ -285,7 +307,7 @@ static void add(char *text, const char *more)
 static void make_text(char *text, unsigned parts)
 {
 	static const char *const pieces[] = {"a", "b", "A", "B", "+", "(a)", "[A]", "([B])", "t", "<a>", "<ab>", "P", "(A)", "r", "W", "AB", "ba", "s", "w", "g", "i",
-	    "<iab>", "<iA>", "<ib>"};
+	    "k", "o", "oO", "<iab>", "<iA>", "<ib>"};
 	text[0] = '\0';
 	for (unsigned at = 0; at < parts; at++)
 		add(text, pieces[pick(sizeof(pieces) / sizeof(pieces[0]))]);
@@ -324,6 +346,13 @@ static void try_written(void)
 	try("g", "g", "D");
 	try("r", "W", "r");
 	try("ka", "A", "");
+	try("kA", "ka", "");
+	try("oa", "a", "");
+	try("o", "<a>O", "");
+	try("oOa", "A", "");
+	try("c<a>A", "c<aA>", "");
+	try("c<ab>i", "cA", "B");
+	try("c(a)", "c<A>", "(a)");
 }
 
 int main(int count_of_words, char **given)
