@@ -30,6 +30,17 @@ is_fast() {
     "$out/plain/speed" 100000
 }
 
+# The header alone, without a warning, in C and, where it is there, in C++.
+header_alone() {
+    local standard words=(-Wall -Wextra -Wpedantic -Werror -DKUPALDIZ_BENCH -Iclients/netbsd -Iclients/bench -fsyntax-only)
+    for standard in c99 c11 c17 gnu17; do
+        printf '#include <bench.h>\nint one_thing;\n' | gcc -std="$standard" -D_POSIX_C_SOURCE=200809L "${words[@]}" -xc - || return 1
+    done
+    if command -v g++ >/dev/null; then
+        printf '#include <bench.h>\nint one_thing;\n' | g++ -std=c++11 "${words[@]}" -xc++ -
+    fi
+}
+
 lints() {
     [ -z "$(mandoc -T lint clients/man/kupaldiz_bench.7 2>&1 | tee /dev/stderr)" ]
 }
@@ -38,14 +49,15 @@ watched() {
     limited valgrind -q --error-exitcode=99 --trace-children=yes "$@"
 }
 
+check "bench.h alone, in four C standards" header_alone
 for way in plain sanitized; do
     check "the bench and its tests are built, no warning: $way" make -s -C $folder $way
     check "counts, $way" "$out/$way/counts"
     check "the seven drivers in every order, $way" "$out/$way/drivers"
     counted "what it finds and refuses, $way" "$out/$way/finds"
 done
-check "outcomes with the reduction and without" "$out/plain/outcomes" 1 60
-check "the same with sanitizers" "$out/sanitized/outcomes" 61 6
+check "outcomes with the reduction and without" "$out/plain/outcomes" 1 40
+check "the same with sanitizers" "$out/sanitized/outcomes" 61 4
 check "the outcomes of real threads are among the bench's" make -s -C $folder beside
 counted "faults in the seven drivers" make -s -C $folder faults
 check "a picture" is_picture
