@@ -68,7 +68,7 @@ struct bench_options {
 	bool whole;		/* without the reduction */
 	bool quiet;		/* prints nothing */
 	const char *replay;	/* a schedule: this one alone is run */
-	const char *picture;	/* the name of a file, to which the picture of the fault is written */
+	const char *picture;	/* the name of a file that gets the picture of the fault */
 	struct bench_found *found;	/* gets what was found, unless NULL */
 };
 
@@ -93,8 +93,8 @@ void bench_outcome(const char *format, ...) __attribute__((format(printf, 1, 2))
 /*
  * bench_reads, bench_writes - the caller reads or writes this memory by plain accesses
  *
- * The run is wrong where another thread's access to it, one of the two a write, comes neither before nor after by a lock, a wait, or an atomic with
- * acquire and release; and where the memory was given back by kmem_free.
+ * The run is wrong where another thread accesses it without an order, and one of the two writes. Locks, waits, and atomics with acquire and release
+ * make an order. It is wrong, too, where the memory was given back by kmem_free.
  */
 void bench_reads(const volatile void *at, size_t size, const char *place);
 void bench_writes(const volatile void *at, size_t size, const char *place);
