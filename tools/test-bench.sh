@@ -59,6 +59,7 @@ done
 check "outcomes with the reduction and without" "$out/plain/outcomes" 1 40
 check "the same with sanitizers" "$out/sanitized/outcomes" 61 4
 check "the outcomes of real threads are among the bench's" make -s -C $folder beside
+counted "each misuse of the layer's tests by the same line" make -s -C $folder misuses
 counted "faults in the seven drivers" make -s -C $folder faults
 check "a picture" is_picture
 check "100,000 switches a second" is_fast

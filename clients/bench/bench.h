@@ -42,6 +42,7 @@ struct bench_found {
 	uint64_t states;	/* points that were come to by a new way */
 	uint64_t switches;	/* from one thread to another */
 	uint64_t points;
+	uint64_t barred;	/* points at which a thread, after 200 without another one, didn't go on */
 	bool exhausted;		/* every schedule was tried, or is the same as one that was */
 	int bound;		/* every schedule with at most so many preemptions was tried; -1 where none */
 	uint64_t random;	/* runs by random priorities */

@@ -129,7 +129,7 @@ static uint32_t beginners(unsigned earlier, unsigned later)
 static void plan(unsigned earlier, unsigned later)
 {
 	struct step *step = &board->steps[earlier];
-	uint32_t can = beginners(earlier, later) & step->enabled, own = UINT32_C(1) << board->steps[later].chosen;
+	uint32_t can = beginners(earlier, later) & step->enabled & ~step->barred, own = UINT32_C(1) << board->steps[later].chosen;
 	if (can == 0 || (can & (step->planned | step->done | UINT32_C(1) << step->chosen)) != 0)
 		return;
 	step->planned |= (can & own) != 0 ? own : can & (~can + 1);

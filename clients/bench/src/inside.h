@@ -122,9 +122,10 @@ extern struct run run;
 
 /* One step of the run, and what is known of the others there. */
 struct step {
-	uint32_t enabled, planned, done, asleep;	/* a bit for each thread */
+	uint32_t enabled, planned, done, asleep, barred;	/* a bit for each thread */
 	uint8_t chosen, cpu;
 	uint16_t preemptions;	/* up to it */
+	uint16_t turns;		/* of the thread without another one between */
 	const char *call, *place;
 	uint32_t clock[THREADS];
 	struct set set;

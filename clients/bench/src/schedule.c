@@ -11,7 +11,10 @@ static uint32_t bit(unsigned number)
 	return UINT32_C(1) << number;
 }
 
-enum { CLOCK = THREADS - 1 };	/* the bench's own, which lets time go on */
+enum {
+	CLOCK = THREADS - 1,	/* the bench's own, which lets time go on */
+	PATIENCE = 200		/* a thread that goes on for so many points may spin for another one: it doesn't go on before that */
+};
 
 /* ---- What a step touches. ---- */
 
@@ -138,6 +141,14 @@ static unsigned choose_random(uint32_t enabled)
 	return best;
 }
 
+/* A thread that may spin doesn't go on where another one can. */
+static void bar(struct step *step, const struct step *before)
+{
+	uint32_t own = before == NULL || before->turns < PATIENCE ? 0 : bit(before->chosen);
+	step->barred = (step->enabled & ~own) != 0 ? own : 0;
+	board->found.barred += step->barred != 0;
+}
+
 /* What is tried at a new step, beginning with the thread that runs already. */
 static unsigned choose_new(struct step *step, const struct step *before)
 {
@@ -145,11 +156,12 @@ static unsigned choose_new(struct step *step, const struct step *before)
 	step->done = 0;
 	step->asleep = 0;
 	step->planned = 0;
+	bar(step, before);
 	if (board->way == RANDOM)
 		return choose_random(enabled);
 	if (board->way == REDUCED && before != NULL)
 		hand_on_sleep(before, step);
-	can &= ~step->asleep;
+	can &= ~step->asleep & ~step->barred;
 	if (can == 0)
 		leave_run(CUT);
 	bool stays = before != NULL && (can & bit(before->chosen)) != 0;
@@ -189,7 +201,9 @@ static unsigned begin_step(uint32_t enabled)
 	}
 	bool changes = before != NULL && before->chosen != chosen;
 	step->chosen = (uint8_t)chosen;
-	step->preemptions = (uint16_t)(before == NULL ? 0 : before->preemptions + (changes && (enabled & bit(before->chosen)) != 0));
+	bool preempts = changes && (enabled & bit(before->chosen)) != 0 && before->turns < PATIENCE;
+	step->preemptions = (uint16_t)(before == NULL ? 0 : before->preemptions + preempts);
+	step->turns = (uint16_t)(before == NULL || changes ? 0 : before->turns + 1);
 	board->found.switches += changes;
 	board->found.points++;
 	if (run.step >= board->fresh)

@@ -50,7 +50,8 @@ static void show_counts(FILE *to, const struct bench_found *found)
 	fprintf(to, "%s: %llu schedules, %llu cut short, %llu states, %llu points, %llu switches\n", options.name, (unsigned long long)found->schedules,
 	    (unsigned long long)found->cut, (unsigned long long)found->states, (unsigned long long)found->points, (unsigned long long)found->switches);
 	if (found->exhausted)
-		fprintf(to, "%s: every schedule was tried%s\n", options.name, options.whole ? "" : ", or one that is the same as it");
+		fprintf(to, "%s: every schedule was tried%s%s\n", options.name, options.whole ? "" : ", or one that is the same as it",
+		    found->barred == 0 ? "" : "; left out: those in which a thread goes on for more than 200 points while another can");
 	else if (found->first == 0 && options.replay == NULL)
 		fprintf(to, "%s: left out: schedules with more than %d preemptions, except %llu by random priorities, seed %llu\n", options.name, found->bound,
 		    (unsigned long long)found->random, (unsigned long long)options.seed);

@@ -340,6 +340,24 @@ static void spins(void)
 
 static unsigned *volatile nowhere;
 
+static void spin_for_flag(void *arg)
+{
+	(void)arg;
+	while (!atomic_load_acquire(&flag))
+		;
+}
+
+static void set_flag(void *arg)
+{
+	(void)arg;
+	atomic_store_release(&flag, true);
+}
+
+static void spins_for_another(void)
+{
+	make_two(spin_for_flag, set_flag);
+}
+
 static void crash(void *arg)
 {
 	(void)arg;
@@ -420,6 +438,7 @@ static const struct find {
 	{"a destroy with the holder's lock", "waits in psref_target_destroy at", destroyed_locked},
 	{"a target that is left", "a target or a local count is left at the end", left_target},
 	{"a thread that never ends", "the run doesn't end", spins},
+	{"a thread that spins for another", NULL, spins_for_another},
 	{"a crash", "the code ends by signal 11", crashes},
 	{"an assertion", "KASSERTMSG: not so: ", asserts},
 	{"a panic", "panic: out of luck, at", panics},
