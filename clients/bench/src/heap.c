@@ -104,7 +104,7 @@ static const char *at_or_nothing(const char *place, char *text, size_t room)
 	return text;
 }
 
-/* Stops where the memory was given back, or lies beyond its block. */
+/* Stops where the memory was given back, or lies beyond its block. That it is used comes before or after its end. */
 void want_live(const char *call, const volatile void *at, size_t size)
 {
 	char where[256], here_at[256];
@@ -112,6 +112,7 @@ void want_live(const char *call, const volatile void *at, size_t size)
 	const struct routine *me = run.now_runs;
 	if (block == NULL)
 		return;
+	touch_memory(at, size, 0);
 	if (!block->live)
 		fail("%s%s: use of freed memory: thread \"%s\" gave it back by %s%s", call, at_or_nothing(me->place, here_at, sizeof(here_at)),
 		    run.routines[block->freed_by].name, block->freed_call, at_or_nothing(block->freed_place, where, sizeof(where)));

@@ -216,7 +216,7 @@ static void read_block(void *arg)
 static void freed_plainly(void)
 {
 	make_block();
-	make_two(read_block, free_block);
+	make_two(free_block, read_block);
 }
 
 static void freed(void)
@@ -229,6 +229,29 @@ static void free_twice(void)
 {
 	make_block();
 	make_two(free_block, free_block);
+}
+
+static kmutex_t *locked_block;
+
+static void lock_block(void *arg)
+{
+	(void)arg;
+	mutex_enter(locked_block);
+	mutex_exit(locked_block);
+}
+
+static void free_locked(void *arg)
+{
+	(void)arg;
+	mutex_destroy(locked_block);
+	kmem_free(locked_block, sizeof(*locked_block));
+}
+
+static void freed_lock(void)
+{
+	locked_block = kmem_alloc(sizeof(*locked_block), KM_SLEEP);
+	mutex_init(locked_block, MUTEX_DEFAULT, IPL_NONE);
+	make_two(lock_block, free_locked);
 }
 
 static void leak(void)
@@ -430,6 +453,7 @@ static const struct find {
 #else
 	{"freed memory by a plain access", NULL, freed_plainly},
 #endif
+	{"a lock that is freed in use", "mutex_", freed_lock},
 	{"freed twice", "use of freed memory", free_twice},
 	{"a leak", "1 blocks of memory are left at the end, one of them taken by kmem_zalloc at", leak},
 	{"a lock that is never destroyed", "what mutex_init has made lies in it and was never destroyed", forgotten_lock},
