@@ -67,6 +67,7 @@ struct bench_options {
 	unsigned ticks;		/* how often the clock goes on while a thread could; 1 */
 	unsigned left;		/* blocks of memory that may be left at the end */
 	bool whole;		/* without the reduction */
+	bool frees;		/* a free commutes with no step: plain accesses that aren't announced are tried before and after it */
 	bool quiet;		/* prints nothing */
 	const char *replay;	/* a schedule: this one alone is run */
 	const char *picture;	/* the name of a file that gets the picture of the fault */

@@ -215,6 +215,7 @@ void point(const char *call, const char *place, guard_fn *guard, const void *of)
 void wait_here(guard_fn *guard, const void *of);
 void touch(enum kind kind, const volatile void *address, unsigned cpu, unsigned how);
 void touch_memory(const volatile void *address, size_t size, unsigned how);
+void touch_all(void);
 void start_routines(void);
 struct routine *here(const char *call);
 bool is_enabled(const struct routine *routine);

@@ -31,6 +31,8 @@ static void at_block(const char *call, const void *block, size_t size)
 	want_live(call, block, 1);
 	want_none_made(call, block, size);
 	touch_memory(block, size, WRITES);
+	if (options.frees)
+		touch_all();
 }
 
 void *kmem_alloc(size_t size, km_flag_t flags)

@@ -53,6 +53,13 @@ void touch_memory(const volatile void *address, size_t size, unsigned how)
 	note((struct access){(uintptr_t)address, (uint32_t)size, 0, ON_MEMORY, (uint8_t)how});
 }
 
+/* The step commutes with no other. */
+void touch_all(void)
+{
+	if (run.step > board->fresh && board->way == REDUCED)
+		board->steps[run.step - 1].set.full = true;
+}
+
 /* ---- Who can go on. ---- */
 
 /* A thread that has its CPU can't while a soft interrupt has it. */

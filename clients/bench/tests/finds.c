@@ -216,7 +216,7 @@ static void read_block(void *arg)
 static void freed_plainly(void)
 {
 	make_block();
-	make_two(free_block, read_block);
+	make_two(read_block, free_block);
 }
 
 static void freed(void)
@@ -483,7 +483,7 @@ static bool is_line(const char *said, const char *looked_for)
 static bool is_found(const struct find *find)
 {
 	struct bench_found found, again;
-	struct bench_options options = {.quiet = true, .found = &found};
+	struct bench_options options = {.quiet = true, .found = &found, .frees = true};
 	bool wrong = bench_explore(find->setup, &options) != 0;
 	if (find->line == NULL)
 		return !wrong && found.exhausted;
