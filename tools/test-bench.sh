@@ -12,9 +12,10 @@ out=clients/out/bench
 room=$(mktemp -d)
 trap 'rm -rf "$room"; forget_log' EXIT
 
-# A picture that an XML parser takes, with a bar for each kind, and a mark for the fault.
+# The picture of the README, made again: an XML parser takes it, and it has a bar for each kind, and a mark for the fault.
 is_picture() {
     "$out/plain/picture" "$room/picture.svg" >/dev/null
+    diff "$folder/deadlock.svg" "$room/picture.svg" || return
     python3 - "$room/picture.svg" <<'PYTHON'
 import sys
 import xml.etree.ElementTree
