@@ -309,6 +309,6 @@ void point(const char *call, const char *place, guard_fn *guard, const void *of)
 void wait_here(guard_fn *guard, const void *of)
 {
 	struct routine *me = run.now_runs;
-	point(me->call, me->place, guard, of);
+	point(me->call != NULL ? me->call : "wait", me->place, guard, of);
 	me->guard = NULL;
 }
