@@ -26,7 +26,8 @@ enum {
 	BENCH_POINTS = 2000,	/* of one run, at most */
 	BENCH_OUTCOMES = 256,
 	BENCH_TEXT = 64,
-	BENCH_LINE = 768
+	BENCH_LINE = 768,
+	BENCH_SCHEDULE = BENCH_POINTS + 16
 };
 
 /* How often the runs that were tried came to an outcome. */
@@ -48,7 +49,7 @@ struct bench_found {
 	uint64_t random;	/* runs by random priorities */
 	uint64_t first;		/* how many runs it took until the fault; 0 where none was found */
 	unsigned preemptions;	/* of the schedule below */
-	char schedule[BENCH_LINE];	/* with the fault, as few preemptions as were found */
+	char schedule[BENCH_SCHEDULE];	/* with the fault, as few preemptions as were found */
 	char line[BENCH_LINE];	/* what is wrong; empty where nothing is */
 	uint64_t others;	/* runs with an outcome beyond the room */
 	unsigned outcomes;

@@ -83,7 +83,7 @@ struct routine {
 	bool woken;
 	kmutex_t *retake;	/* the lock that it takes when it was woken */
 	const void *target;	/* of the call that it is in */
-	int made_at, last;	/* steps; -1 for none */
+	int made_at;		/* the step; -1 for none */
 	clocks clock, released, pending;
 };
 
@@ -153,7 +153,6 @@ struct board {
 	char names[THREADS][32];
 	uint32_t ended;		/* a bit for each thread that has */
 	bool stuck;		/* the others can't go on */
-	char more[4 * BENCH_LINE];	/* lines after the first one */
 	struct step steps[POINTS + 1];
 };
 

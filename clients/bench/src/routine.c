@@ -152,7 +152,7 @@ struct routine *make_routine(const char *name, void (*body)(void *), void *arg, 
 		refuse("there are more than %d threads", THREADS - 1);
 	struct routine *made = &run.routines[run.count];
 	*made = (struct routine){.made = true, .daemon = daemon, .number = run.count, .name = name, .body = body, .arg = arg, .deadline = NEVER,
-	    .made_at = run.step == 0 ? -1 : (int)run.step - 1, .last = -1};
+	    .made_at = run.step == 0 ? -1 : (int)run.step - 1};
 	run.count++;
 	inherit_clock(made);
 	if (__asan_unpoison_memory_region != NULL)
