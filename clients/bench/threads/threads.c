@@ -2,7 +2,7 @@
  * threads.c - bench.h on real threads, to compare the bench with: the same tests, linked with this and with clients/netbsd
  *
  * Each run has a process of its own, in which all threads begin at once. A run is wrong where its process ends by a signal or with another status than 0,
- * or takes more than two seconds. At each point stands a full barrier, and with BENCH_YIELD a chance to lose the processor: the bench's orders are those
+ * or takes more than five seconds. At each point stands a full barrier, and with BENCH_YIELD a chance to lose the processor: the bench's orders are those
  * of one memory that all threads see alike.
  *
  * BENCH_RUNS says how many runs there are, and BENCH_SECONDS how long they may take.
@@ -110,7 +110,7 @@ static void start_all(void)
 /* What a run does in its process. */
 static void run(void (*setup)(void), const struct bench_options *options)
 {
-	alarm(2);
+	alarm(5);
 	setup();
 	pthread_barrier_init(&begin, NULL, thread_count);
 	start_all();
