@@ -3,8 +3,8 @@
 
     beside.py BENCH THREADS FIRST COUNT    the two builds of tests/outcomes.c, and the seeds of the random programs
 
-Each outcome of real threads must be among the bench's. Programs in which the bench finds a fault, or has more schedules than it tries, are left out, and those whose
-threads took too long on a busy machine. More than half of all must be left.
+Each outcome of real threads must be among the bench's. Programs in which the bench finds a fault, or has more schedules than it tries, are left
+out, and those whose threads took too long on a busy machine: less than half of the others.
 """
 import os
 import subprocess
