@@ -1,5 +1,6 @@
 #!/usr/bin/env bash
-# Makes a release for C and Rust out of what is proved, in release/: archives to unpack, the source around them, a crate, Debian packages, PROVED and SHA256SUMS.
+# Makes a release for C and Rust out of what is proved, in release/: archives to unpack, the source around them, a crate, Debian packages, PROVED and
+# SHA256SUMS.
 # clients/RELEASE.md says how it is laid out. The same commit and the same archives make the same bytes.
 #
 #     tools/make-release.sh                  takes the archives in clients/out and the program, as tools/build-archive.sh and tools/prove-program.sh left them
@@ -130,7 +131,8 @@ proved() {
         cat "$record"
     done
     echo
-    echo "registry_run for x86_64, proved and built by tools/prove-program.sh: SHA-256 $(sha256sum <"$room/$source_name/archive/x86_64/registry_run" | cut -d ' ' -f 1)"
+    record=$(sha256sum <"$room/$source_name/archive/x86_64/registry_run")
+    echo "registry_run for x86_64, proved and built by tools/prove-program.sh: SHA-256 ${record%% *}"
 }
 
 need_tools

@@ -52,7 +52,7 @@ waiting_names() {
 }
 
 page_lints() {
-    mandoc -T lint clients/man/*.3 >"$log" 2>&1 && [ ! -s "$log" ]
+    mandoc -T lint clients/man/*.[137] >"$log" 2>&1 && [ ! -s "$log" ]
 }
 
 # Its proofs may take longer than a program may run.

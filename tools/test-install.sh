@@ -125,7 +125,7 @@ takes_none() {
 
 # A project of CMake's that knows the libraries by find_package alone, shared and static.
 found_by_cmake() {
-    mkdir -p "$room/cmake" && cp clients/c/installed.c clients/c/installed_netbsd.c clients/c/installed_bench.c "$room/cmake" && cat >"$room/cmake/CMakeLists.txt" <<'PROJECT'
+    mkdir -p "$room/cmake" && cp clients/c/installed{,_netbsd,_bench}.c "$room/cmake" && cat >"$room/cmake/CMakeLists.txt" <<'PROJECT'
 cmake_minimum_required(VERSION 3.13)
 project(installed C)
 find_package(kupaldiz 0.1 REQUIRED)
@@ -142,7 +142,8 @@ foreach(kind bench bench_static)
   target_link_libraries(orders-${kind} PRIVATE kupaldiz::${kind})
 endforeach()
 PROJECT
-    cmake -S "$room/cmake" -B "$room/cmake/out" -DCMAKE_PREFIX_PATH="$stage$prefix" -DCMAKE_C_FLAGS="-Wall -Wextra -Werror" && cmake --build "$room/cmake/out" &&
+    cmake -S "$room/cmake" -B "$room/cmake/out" -DCMAKE_PREFIX_PATH="$stage$prefix" -DCMAKE_C_FLAGS="-Wall -Wextra -Werror" &&
+        cmake --build "$room/cmake/out" &&
         runs cmake/out/registry-kupaldiz "C, version $(version)" && runs cmake/out/registry-static "C, version $(version)" &&
         runs cmake/out/names-netbsd "C, by the pages' names" && runs cmake/out/names-netbsd_static "C, by the pages' names" &&
         runs cmake/out/orders-bench "C, in every order" && runs cmake/out/orders-bench_static "C, in every order"
@@ -151,12 +152,14 @@ PROJECT
 # Another version is asked for than the one that is there.
 refused_by_cmake() {
     sed -i 's/find_package(kupaldiz 0.1/find_package(kupaldiz 0.9/' "$room/cmake/CMakeLists.txt"
-    ! cmake -S "$room/cmake" -B "$room/cmake/later" -DCMAKE_PREFIX_PATH="$stage$prefix" >"$room/said" 2>&1 && grep 'compatible with requested version "0.9"' "$room/said"
+    ! cmake -S "$room/cmake" -B "$room/cmake/later" -DCMAKE_PREFIX_PATH="$stage$prefix" >"$room/said" 2>&1 &&
+        grep 'compatible with requested version "0.9"' "$room/said"
 }
 
 # What is installed with a .pc file that names no place, and moved: programs are built where it is now.
 moved() {
-    made install PC_PREFIX='$${pcfiledir}/../..' && mv "$stage$prefix" "$room/moved" && stage=$room/moved prefix='' libdir=/lib PKG_CONFIG_SYSROOT_DIR='' in_place
+    made install PC_PREFIX='$${pcfiledir}/../..' && mv "$stage$prefix" "$room/moved" &&
+        stage=$room/moved prefix='' libdir=/lib PKG_CONFIG_SYSROOT_DIR='' in_place
 }
 
 in_place() {
@@ -319,6 +322,11 @@ change_layer() {
     mark "$(find "$clients/netbsd" -name '*.c' -not -path '*/tests/*' -not -path '*/examples/*' | sort | head -n 1)" "$1"
 }
 
+# A call that the header declares, and that neither a map nor a library has.
+unnamed_call_is_told() {
+    sed -i 's/^size_t registry_text(/uint32_t registry_unnamed(void);\n&/' "$header" && ! made symbols >"$room/said" 2>&1 && grep -x '< registry_unnamed' "$room/said"
+}
+
 make_later() {
     sed -i -E 's/^(#define REGISTRY_VERSION_PATCH[[:blank:]]+).*/\17/' "$header"
 }
@@ -398,6 +406,8 @@ check "an upgrade: it is installed over the older one" made install
 check "an upgrade: each file, and none of the older version" holds_files "${older%.*}.7"
 check "an upgrade: uninstall" made uninstall
 check "an upgrade: uninstall leaves nothing" leaves_nothing
+
+check "a call that no map names is told" unnamed_call_is_told
 
 prefix=/somewhere libdir=/somewhere/lib stage=$room/before
 check "an installation that is moved" moved

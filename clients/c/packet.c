@@ -29,12 +29,12 @@ static void send_packet(const struct registry_entry *iface)
 }
 
 /* Looks the interface up, and keeps it beyond the section while it sends. */
-static uint32_t send_by(struct registry_cpu *cpu, const struct registry_name *name)
+static registry_answer send_by(struct registry_cpu *cpu, const struct registry_name *name)
 {
 	struct registry_entry found;
 	uint64_t number;
 
-	uint32_t answer = registry_enter(cpu);
+	registry_answer answer = registry_enter(cpu);
 	if (answer != REGISTRY_DONE)
 		return answer;
 	answer = registry_find(cpu, REGISTRY_INTERFACE, name, &found);
@@ -48,11 +48,11 @@ static uint32_t send_by(struct registry_cpu *cpu, const struct registry_name *na
 }
 
 /* The same, with one call for the first four. */
-static uint32_t send_at_once(struct registry_cpu *cpu, const struct registry_name *name)
+static registry_answer send_at_once(struct registry_cpu *cpu, const struct registry_name *name)
 {
 	struct registry_entry found;
 
-	uint32_t answer = registry_get(cpu, REGISTRY_INTERFACE, name, &found);
+	registry_answer answer = registry_get(cpu, REGISTRY_INTERFACE, name, &found);
 	if (answer != REGISTRY_DONE)
 		return answer;
 	send_packet(&found);	/* may sleep */
@@ -60,13 +60,13 @@ static uint32_t send_at_once(struct registry_cpu *cpu, const struct registry_nam
 }
 
 /* Takes an interface out, and waits until nobody holds it. */
-static uint32_t take_out(struct registry_cpu *cpu, const struct registry_name *name)
+static registry_answer take_out(struct registry_cpu *cpu, const struct registry_name *name)
 {
 	struct registry_entry retired;
 	struct registry_stage met;
 
 	pthread_mutex_lock(&interlock);
-	uint32_t answer = registry_detach(&keeper, cpu, REGISTRY_INTERFACE, name, &retired);
+	registry_answer answer = registry_detach(&keeper, cpu, REGISTRY_INTERFACE, name, &retired);
 	pthread_mutex_unlock(&interlock);
 	if (answer != REGISTRY_DONE)
 		return answer;

@@ -73,7 +73,7 @@ fn installed() -> Option<Archive> {
         folder: PathBuf::from(folder.trim()),
         name: "kupaldiz",
     };
-    (said.status.success() && archive.path().exists()).then(|| archive)
+    (said.status.success() && archive.path().exists()).then_some(archive)
 }
 
 /// Has the linker lead each call that the file wraps there.

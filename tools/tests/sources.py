@@ -11,16 +11,17 @@ PLACES = (
     ("bench/common.h", "MOST_ENTRIES = 32", "MOST_SLOTS"),
     ("bench/peers/src/list.rs", "MOST_ENTRIES: usize = 32;", "MOST_SLOTS"),
 )
-SETTINGS = "crates/registry_values/src/settings.rt"
+LIMITS = "crates/registry_values/src/limits.rt"
 
 
 def check_limits():
     faults = [Fault(f"another number: {path}, {name}", f"{path}: {name} is", ((path, old, old.replace("8", "9").replace("32", "31")),))
               for path, old, name in PLACES]
     faults += [Fault(f"no number: {path}, {name}", f"{path}: {name} is None", ((path, old, "gone"),)) for path, old, name in PLACES]
-    faults += [Fault(f"another {name} in Rattle", f"{name} is", ((SETTINGS, f"const {name}: usize = {number};", f"const {name}: usize = 7;"),))
-               for name, number in (("MOST_CPUS", 8), ("MOST_SLOTS", 32))]
-    tree = real(SETTINGS, *{path for path, _, _ in PLACES})
+    faults += [Fault(f"another {name} in Rattle", f"{name} is", ((LIMITS, f"const {name}: {kind} = {number};", f"const {name}: {kind} = 7;"),))
+               for name, kind, number in (("MOST_CPUS", "usize", "8"), ("MOST_SLOTS", "usize", "32"), ("MOST_CHANGES", "u64", "1_000_000"),
+                                          ("MOST_SECTIONS", "u64", "1 << 40"), ("MOST_COUNT", "u64", "1 << 40"), ("MOST_DEPTH", "u8", "255"))]
+    tree = real(LIMITS, *{path for path, _, _ in PLACES})
     return Case("check-limits", ["check-limits.py", "counts.py"], tree, ["tools/check-limits.py"], faults)
 
 

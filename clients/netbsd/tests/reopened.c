@@ -4,6 +4,9 @@
  * Over a layer whose registries have four rows and forty changes. A release of the last reference loses its processor just before it returns. The linker leads
  * registry_release and registry_close_cpu here (--wrap).
  */
+#include <sys/condvar.h>
+#include <sys/localcount.h>
+#include <sys/mutex.h>
 #include <sys/pserialize.h>
 #include <sys/psref.h>
 
@@ -75,6 +78,27 @@ static void end_last(void)
 	end_thread(holder);
 }
 
+/* Counts alone come and go, more than two registries take: their drains open what is used up anew. */
+static void end_counts(void)
+{
+	struct localcount count;
+	kmutex_t lock;
+	kcondvar_t drained;
+	unsigned before = atomic_load(&closed);
+	mutex_init(&lock, MUTEX_DEFAULT, IPL_NONE);
+	cv_init(&drained, "drained");
+	for (unsigned pair = 0; pair < 3 * PAIRS; pair++) {
+		localcount_init(&count);
+		mutex_enter(&lock);
+		localcount_drain(&count, &drained, &lock);
+		mutex_exit(&lock);
+		localcount_fini(&count);
+	}
+	cv_destroy(&drained);
+	mutex_destroy(&lock);
+	EXPECT(atomic_load(&closed) > before);
+}
+
 int main(void)
 {
 	things = psref_class_create("thing", IPL_NONE);
@@ -83,6 +107,7 @@ int main(void)
 		psref_target_init(&first[i], things);
 	for (unsigned round = 0; round < ROUNDS; round++)
 		end_last();
+	end_counts();
 	for (unsigned i = 0; i < FIRST_ROWS; i++)
 		psref_target_destroy(&first[i], things);
 	EXPECT(atomic_load(&closed) >= ROUNDS);

@@ -5,7 +5,15 @@ mod common;
 
 use common::{balance, balances, detach, local, name, patience, with_driver};
 use registry::{Cpu, CpuPool, Kind, LocalRef, PassiveRef, Refusal, Refused};
+use std::collections::hash_map::DefaultHasher;
+use std::hash::{Hash, Hasher};
 use std::rc::Rc;
+
+fn hash_of(value: impl Hash) -> u64 {
+    let mut hasher = DefaultHasher::new();
+    value.hash(&mut hasher);
+    hasher.finish()
+}
 
 #[test]
 fn changes_by_a_cpu_of_another_registry_are_refused() {
@@ -23,6 +31,7 @@ fn changes_by_a_cpu_of_another_registry_are_refused() {
         assert_eq!(all, [balance(0, &[0, 0], 0)]);
     }
     assert!(registry != other && registry == registry.clone() && registry == cpus[0].registry());
+    assert!(hash_of(&registry) == hash_of(cpus[0].registry()) && hash_of(&registry) != hash_of(&other));
 }
 
 #[test]

@@ -1,5 +1,5 @@
-//! What the benchmark's words ask for, and why it ends with another status than 0. It stands below the benchmark, so that tests of it prove
-//! nothing of what is measured.
+//! The benchmark's plan: parses its arguments, and says why it ends with another status than 0. It is a library, so that its tests needn't
+//! prove the benchmark.
 #![tactic(auto)]
 
 mod failure;

@@ -58,7 +58,8 @@ impl RunPlan {
     }
 }
 
-/// So many CPUs, of which so many readers enter and leave all the time, while one more replaces an entry of the list so many times.
+/// A plan with readers: so many CPUs, and so many of them enter and leave all the time. One more replaces an entry of the list so many
+/// times.
 #[derive(Clone, Copy, Debug, PartialEq, Eq)]
 pub struct WaitPlan {
     /// 1 to `MOST_THREADS`.

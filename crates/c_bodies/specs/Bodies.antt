@@ -1,4 +1,4 @@
--- What stands behind the handles, to a contract. Behind a CPU's handle stands an `OnPlainCpu`, behind the keeper's an `OnPlainKeeper`.
+-- The bodies of the handles, to a contract. A CPU's handle has an `OnPlainCpu`, the keeper's an `OnPlainKeeper`.
 use Rattle.std.specs.Prelude.{◌≡◌, ◌<◌, ℕ, Option, None, Some}
 use Rattle.atomic_table.specs.Seated.{TableId}
 use Rattle.c_bodies.specs.Types.{ReferenceView, MOST_SLOTS}

@@ -1,4 +1,4 @@
-//! What a call answers that writes to a place of CPUs' handles: its number, and the places, which go back to C.
+//! What a call returns that writes to a place of CPUs' handles: its number, and the places, which go back to C.
 
 ghost use Rattle.std.specs.Prelude.{◌≡◌};
 ghost use Rattle.c_values.specs.contracts.given.GivenSettings.{the_row as settings_row};

@@ -1,4 +1,4 @@
-//! What stands behind a CPU's handle.
+//! The body of a CPU's handle.
 
 ghost use Rattle.std.specs.Prelude.{◌≡◌, ◌≢◌, ◌↔◌, ◌<◌, ◌≤◌, ◌++◌, IsTrue, None, IfOk, IfErr, IfSome, is_some, take};
 ghost use Rattle.registry_values.specs.Common.{Answers};
@@ -7,6 +7,7 @@ ghost use mathlib.Core.List.{IsPrefix};
 ghost use Rattle.passive_list.specs.Common.{HasFound, HasFoundFromOutside, HasHeardOn, WasShown, has_heard, has_told, entry_seen, HasWalked, AnswersEnter, HasExitedOn, may_begin};
 ghost use Rattle.passive_ref.specs.Psrefs.{GivesBack, HasOneLess, IsAcquired, IsCopied, IsReadAs, why_not_acquired, why_not_copied, why_unusable};
 
+use crate::acquired::LastAcquired;
 use crate::local_body::LocalBody;
 use cpu_words::{NoteSeat, Words};
 use held::Spare;
@@ -28,8 +29,8 @@ pub struct CpuBody {
     pub cpu: PlainCpu,
     /// The block of a local reference that was released here, for the next one that is acquired here. It is freed as the CPU is.
     spare: Spare<LocalBody>,
-    /// Never written: it keeps the CPU's data off the cache lines of the body in the next block.
-    pub apart: [u64; 16],
+    /// The passive references that were acquired here last, for the next calls with their numbers.
+    acquired: LastAcquired,
 }
 
 impl Model for CpuBody {
@@ -55,7 +56,7 @@ impl CpuBody {
             words,
             cpu,
             spare: Spare::empty(),
-            apart: [0; 16],
+            acquired: LastAcquired::none(),
         })
     }
 
@@ -94,7 +95,14 @@ impl CpuBody {
         Psref::remembered(self.cpu.id(), number)
     }
 
-    /// The test for being inside a section.
+    /// Keeps a passive reference that was acquired here, for the next call with its number.
+    pub fn keep(&mut self, psref: Psref)
+        ensures { self.new ≡ self.old }
+    {
+        self.acquired.put(psref);
+    }
+
+    /// Whether the CPU is inside a section.
     pub fn inside(&self) -> bool
         ensures { IsTrue result ↔ self.now.cpu.view.begin ≢ None }
     {
@@ -163,7 +171,8 @@ impl CpuBody {
         may_begin_on(&self.words, &self.cpu)
     }
 
-    /// Looks an entry up in a section of its own, and answers its words. Conditions: outside; a section is left.
+    /// Looks an entry up in a section of its own, and returns its words.
+    /// Conditions: outside; a section is left.
     #[inline(always)]
     pub fn find_from_outside(&mut self, kind: Kind, name: Name) -> Option<Seen>
         requires outside { self.old.cpu.depth ≡ 0 }
@@ -175,7 +184,8 @@ impl CpuBody {
         find_from_outside(&self.words, &mut self.cpu, kind, name)
     }
 
-    /// Walks over all entries, and answers how many it wrote. Condition: inside.
+    /// Walks over all entries, and returns how many it wrote.
+    /// Condition: inside.
     pub fn walk(&mut self, row: &mut [Entry; MOST_SLOTS]) -> usize
         requires inside { self.old.cpu.view.begin ≢ None }
         ensures count { result ≤ MOST_SLOTS }
@@ -205,6 +215,21 @@ impl CpuBody {
         copy_on(&self.words, &mut self.cpu, psref)
     }
 
+    /// The same, by the number of the first: `copy` of the CPU's own passive reference to it.
+    pub fn copy_own(&mut self, number: u64) -> Result<Psref, Refusal>
+        ensures answer { Answers (why_not_copied self.old.cpu.view number (why_unusable self.old.cpu.view (record { cpu = self.old.cpu.view.id; number = number }))) (IsCopied number self.old.cpu self.new.cpu) result }
+        ensures refused { IfErr result (λ _. self.new ≡ self.old) }
+        ensures words { self.new.words ≡ self.old.words }
+    {
+        if let Some(kept) = self.acquired.at(self.cpu.id(), number) {
+            return copy_on(&self.words, &mut self.cpu, kept);
+        }
+        let own = self.own(number);
+        let made = self.copy(&own);
+        own.forget();
+        made
+    }
+
     /// Whether the CPU holds a passive reference to that number.
     pub fn held(&self, number: u64) -> bool
         ensures { IsTrue result ↔ 0 < references_to number self.now.cpu.view.references }
@@ -222,6 +247,21 @@ impl CpuBody {
         read_entry_on(&self.words, &mut self.cpu, psref)
     }
 
+    /// The same, by its number: `read` of the CPU's own passive reference to it.
+    pub fn read_own(&mut self, number: u64) -> Result<Entry, Refusal>
+        ensures answer { Answers (why_unusable self.old.cpu.view (record { cpu = self.old.cpu.view.id; number = number })) (IsReadAs number self.old.cpu self.new.cpu) result }
+        ensures refused { IfErr result (λ _. self.new ≡ self.old) }
+        ensures words { self.new.words ≡ self.old.words }
+    {
+        if let Some(kept) = self.acquired.at(self.cpu.id(), number) {
+            return read_entry_on(&self.words, &mut self.cpu, kept);
+        }
+        let own = self.own(number);
+        let answer = self.read(&own);
+        own.forget();
+        answer
+    }
+
     /// Releases a passive reference.
     /// Refused: `WrongCpu`, `NotHeld`; the reference comes back then.
     pub fn release(&mut self, psref: Psref) -> Result<(), (Refusal, Psref)>
@@ -230,6 +270,22 @@ impl CpuBody {
         ensures words { self.new.words ≡ self.old.words }
     {
         release_on(&self.words, &mut self.cpu, psref)
+    }
+
+    /// The same, by its number: `release` of the CPU's own passive reference to it.
+    pub fn release_own(&mut self, number: u64) -> Result<(), Refusal>
+        ensures answer { Answers (why_unusable self.old.cpu.view (record { cpu = self.old.cpu.view.id; number = number })) (λ _. HasOneLess number self.old.cpu self.new.cpu) result }
+        ensures refused { IfErr result (λ _. self.new ≡ self.old) }
+        ensures words { self.new.words ≡ self.old.words }
+    {
+        let own = self.acquired.take(self.cpu.id(), number);
+        match release_on(&self.words, &mut self.cpu, own) {
+            Ok(()) => Ok(()),
+            Err((refusal, back)) => {
+                back.forget();
+                Err(refusal)
+            }
+        }
     }
 }
 

@@ -10,7 +10,7 @@ use crate::local_body::LocalBody;
 use held::{CHandle, Handle};
 use std::marker::Model;
 
-/// The handle of a CPU. Its `body` is what stands behind it, if anything does.
+/// The handle of a CPU. Its `body` is what it points to, if anything.
 #[repr(C)]
 pub struct CpuHandle {
     at: *mut u8,
@@ -61,7 +61,7 @@ impl CHandle for CpuHandle {
 
 unsafe impl Send for CpuHandle {}
 
-/// The handle of the keeper. Its `body` is what stands behind it, if anything does.
+/// The handle of the keeper. Its `body` is what it points to, if anything.
 #[repr(C)]
 pub struct KeeperHandle {
     at: *mut u8,
@@ -112,7 +112,7 @@ impl CHandle for KeeperHandle {
 
 unsafe impl Send for KeeperHandle {}
 
-/// The handle of a local reference. Its `body` is what stands behind it, if anything does.
+/// The handle of a local reference. Its `body` is what it points to, if anything.
 #[repr(C)]
 pub struct LocalHandle {
     at: *mut u8,

@@ -1,4 +1,4 @@
-//! What stands behind the keeper's handle.
+//! The body of the keeper's handle.
 
 ghost use Rattle.std.specs.Prelude.{◌≡◌};
 

@@ -1,6 +1,7 @@
-//! What stands behind the handles that C holds between calls: a CPU, the keeper, a local reference; and the handles, one by one and in rows.
+//! What C's handles point to between calls: a CPU, the keeper, a local reference; and the handles, one by one and in rows.
 #![tactic(auto)]
 
+mod acquired;
 pub mod answer;
 mod cpu_body;
 pub mod handle;

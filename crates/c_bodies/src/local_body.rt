@@ -1,4 +1,4 @@
-//! What stands behind the handle of a local reference.
+//! The body of a local reference's handle.
 
 ghost use Rattle.std.specs.Prelude.{◌≡◌, ◌<◌, is_some};
 ghost use Rattle.c_bodies.specs.Bodies.{back_word};
@@ -18,7 +18,7 @@ use std::mem::ManuallyDrop;
 /// All of it are words: no byte is padding, which the compiler would carry from copy to copy, and an acquire and a release copy it.
 pub struct LocalBody {
     seat: ReferenceSeat,
-    /// Its entry, just as it was attached. Its number, slot and kind are the reference's.
+    /// Its entry as it was attached. Its number, slot and kind are the reference's.
     entry: CEntry,
     /// 1 where a release found its CPU's count collected, and else 0.
     back: u64,
@@ -72,7 +72,7 @@ impl LocalBody {
         }
     }
 
-    /// The entry that the reference is to, just as it was attached.
+    /// The entry of the reference, as it was attached.
     pub fn entry(&self) -> CEntry
         ensures { result ≡ entry_out self.now.reference.entry }
     {
@@ -108,8 +108,7 @@ impl LocalBody {
         self.back
     }
 
-    /// Lets the value go and leaves the reference held, for good: nobody has its seat then, so no step can release it, and whatever counts it
-    /// goes on doing so.
+    /// Spends the value and leaves the reference held, for good: nobody has its seat then, so no step can release it, and its count stays.
     pub fn forget(self) {
         // What isn't dropped frees nothing and makes no step. That is sound: what holds of the words while a seat stands holds whoever has
         // the seat, and a body owns no memory beyond its own.

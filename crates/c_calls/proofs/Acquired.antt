@@ -1,4 +1,4 @@
--- What stands behind a handle is one thing, or nothing.
+-- A handle has one body, or none.
 use Rattle.std.proofs.Common.{◌≡◌, Option, Some, None, sym, ◌∙◌}
 
 same_some : {A : Type 0} (x y : A) → ◌≡◌ {A = Option A} (Some x) (Some y) → x ≡ y

@@ -50,7 +50,7 @@ some_of k t (suc n) is = by (λ before. some_of k t n before) (some_collected k 
     by rest false before true at = (n, at)
     by rest false before false at = absurd (false≢true (sym (λ i. before i || at i) ∙ is))
 
--- such an entry is one of which a count was found collected
+-- such an entry has a count that was found collected
 pub collected_found : (k : OnKeeper) (t n cpus : ℕ) (v : ReferenceView) → v.entry.number ≡ n → are_collected_for k t n cpus ≡ true → IsFoundCollected k.slots k.view.marks v
 collected_found k t n cpus v number is =
     let both = and_parts (is_retired_as n (slot_at k.slots t)) (some_collected k t cpus) is in

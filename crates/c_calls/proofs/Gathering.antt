@@ -34,7 +34,7 @@ body_set [] c h lt = absurd (omega (arith, lt))
 body_set (g ∷ hs) zero h lt = refl
 body_set (g ∷ hs) (suc c) h lt = body_set hs c h (omega (arith, lt))
 
--- what passes it on, of whatever stands behind the handle
+-- what passes it on, for any body of the handle
 abbrev pub PassesAt : CpuHandle → CpuHandle → List Change → List LogItem → TableId → List LogItem → Type 0
 PassesAt h after note known_log table told = (b : OnPlainCpu) → h.body ≡ Some b → PassesOn b after.body note known_log table told
 

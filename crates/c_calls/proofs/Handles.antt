@@ -1,4 +1,4 @@
--- Lists of handles, by what stands behind each.
+-- Lists of handles, by their bodies.
 use Rattle.std.proofs.Common.{◌≡◌, ◌≢◌, ℕ, zero, suc, ◌+◌, ◌-◌, ◌<◌, ◌≤◌, List, [], ◌∷◌, ◌++◌, length, get_or, set, take, drop, Option, Some, None, refl, sym, ap, ◌∙◌, arith, length-append}
 use Rattle.std.proofs.lemmas.List.{get_or-set_other, get_or-set_same, get_or_past, length-map, length-take-le, map-append, take-append-drop, take_at, take-take}
 use mathlib.Core.Logic.{dite}

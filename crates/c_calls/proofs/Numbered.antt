@@ -1,4 +1,4 @@
--- No entry that the keeper has as retired has the number 0, which stands for none in a wait.
+-- No entry that the keeper has as retired has the number 0, which means none in a wait.
 use Rattle.std.proofs.Common.{◌≡◌, ne_eqb, Bool, if◌then◌else◌, ℕ, ◌<◌, List, [], ◌∷◌, get_or, map, Option, Some, None, refl, sym, ap, ◌∙◌, subst, arith, zero, suc}
 use Rattle.std.proofs.lemmas.Option.{same_Some}
 use Rattle.c_calls.specs.Types.{Attach, Entry, Settings, Slot, Vacant, Live, Retired, LogItem, KeeperView, KeptSlot}

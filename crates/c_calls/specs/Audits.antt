@@ -27,7 +27,7 @@ pub record AreAllHere (cpus : ℕ) (cs : List (Option OnPlainCpu)) : Type 0 wher
   pub count : length cs ≡ cpus
   pub each : (c : ℕ) → c < cpus → (b : OnPlainCpu) × (body_at cs c ≡ Some b) × (b.cpu.view.id ≡ c)
 
--- those that aren't empty are of the keeper's registry: the caller sees to it
+-- those that aren't empty are of the keeper's registry: the caller ensures it
 abbrev pub AreAllOf : Option OnPlainKeeper → List (Option OnPlainCpu) → Type 0
 AreAllOf k cs = (a : OnPlainKeeper) (c : ℕ) (b : OnPlainCpu) → k ≡ Some a → body_at cs c ≡ Some b → b.words ≡ a.words
 

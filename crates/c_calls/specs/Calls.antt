@@ -1,4 +1,5 @@
--- What a call answers and leaves. Each restates the contract of the call beneath it, with the answer as its number, and says what is written.
+-- What a call returns and leaves. Each restates the contract of the call beneath it, with the result as its number, and says what is
+-- written.
 use Rattle.std.specs.Prelude.{◌≡◌, ◌≢◌, ◌↔◌, ◌⊎◌, ◌<◌, ℕ, Bool, IsTrue, Option, Some, None, Result, Ok, Err, IfErr}
 use Rattle.c_calls.specs.Types.{Entry, Kind, Refusal, Inside, NotFound}
 use Rattle.registry_values.specs.Common.{Answers, number_of_refusal}
@@ -12,9 +13,10 @@ use Rattle.c_bodies.specs.Bodies.{OnLocalBody}
 use Rattle.c_values.specs.Places.{put}
 use Rattle.c_values.specs.Values.{entry_out, kind_in, name_in, number_of}
 
--- Handles, by what stands behind them
+-- Handles, by their bodies
 
--- A call through one handle. An empty one is answered by its number, and nothing changes: `Same` says so of what the call writes. Else P holds of what stood behind it, and of what stands there then.
+-- A call through one handle. If it is empty its number is returned and nothing changes: `Same` says so of what the call writes. Else P
+-- holds of its body before and after.
 pub record Through {B : Type 0} (old new : Option B) (n : ℕ) (Same : Type 0) (P : B → B → Type 0) : Type 0 where
   pub empty : old ≡ None → (n ≡ EMPTY_HANDLE) × (new ≡ None) × Same
   pub full : (a : B) → old ≡ Some a → (b : B) × (new ≡ Some b) × P a b
@@ -24,7 +26,8 @@ pub record ThroughBoth {K C : Type 0} (k k' : Option K) (c c' : Option C) (n : �
   pub empty : (k ≡ None) ⊎ (c ≡ None) → (n ≡ EMPTY_HANDLE) × (k' ≡ k) × (c' ≡ c) × Same
   pub full : (a : K) (x : C) → k ≡ Some a → c ≡ Some x → (b : K) × (y : C) × (k' ≡ Some b) × (c' ≡ Some y) × P a x b y
 
--- The handles of a call are of one registry, those that aren't empty. Nothing at run time tells two registries apart, so the caller sees to it.
+-- The handles of a call are of one registry, those that aren't empty. Nothing at run time tells two registries apart, so the caller ensures
+-- it.
 
 abbrev pub AreOfOne : Option OnPlainKeeper → Option OnPlainCpu → Type 0
 AreOfOne k c = (a : OnPlainKeeper) (x : OnPlainCpu) → k ≡ Some a → c ≡ Some x → x.words ≡ a.words
@@ -53,7 +56,7 @@ pub record Exits (a b : OnPlainCpu) (n : ℕ) : Type 0 where
   pub outside : a.cpu.view.begin ≡ None → (n ≡ OUTSIDE) × (b ≡ a)
   pub inside : a.cpu.view.begin ≢ None → (n ≡ DONE) × HasExitedOn a.cpu b.cpu × (b.words ≡ a.words)
 
--- the number of an answer that is an entry or the number of a refusal, and what is written of it
+-- the number of a result that is an entry or the number of a refusal, and what is written of it
 abbrev pub TellsFound : Result Entry ℕ → ℕ → Option CEntry → Option CEntry → Type 0
 TellsFound (Ok e) n old new = (n ≡ DONE) × (new ≡ put old (entry_out e))
 TellsFound (Err refusal) n old new = (n ≡ refusal) × (new ≡ old)

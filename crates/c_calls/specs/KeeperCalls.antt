@@ -94,7 +94,7 @@ pub record AdvanceAnswers (number : ℕ) (k k' : OnPlainKeeper) (n : ℕ) (old n
   pub advances : Advances number k k' r
   pub writes : Puts stage_out r old new
 
--- what met the entry is written; it was destroyed just where nothing did
+-- what met the entry is written; it was destroyed exactly where nothing did
 abbrev pub WritesDestroyed : Result Stage Refusal → ℕ → Option CStage → Option CStage → Type 0
 WritesDestroyed (Ok stage) n old new = (n ≡ number_of (destroy_result stage)) × (new ≡ put old (stage_out stage))
 WritesDestroyed (Err refusal) n old new = (n ≡ number_of_refusal refusal) × (new ≡ old)
@@ -112,7 +112,7 @@ pub record Begins (k : OnPlainKeeper) (c : OnPlainCpu) (k' : OnPlainKeeper) (c' 
   pub numbers : List (Option ℕ)
   pub begun : HasBegun k.words.settings k.keeper c.cpu new.snapshots numbers k'.keeper c'.cpu
   pub retired : new.retired ≡ map number_or_none numbers
-  -- no entry has the number that stands for none
+  -- no entry has the number that means none
   pub named : (t n : ℕ) → slice_index_or numbers t None ≡ Some n → 0 < n
   pub seen : new.seen ≡ replicate MOST_CPUS 0
   -- by this a turn tells it from one that was never begun

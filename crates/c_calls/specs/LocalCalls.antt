@@ -20,7 +20,7 @@ some_of (Err refusal) = None
 
 -- Acquiring
 
--- the answer of a call that takes memory: refused where there is a refusal, and where there is none perhaps for want of memory
+-- the result of a call that takes memory: refused where there is a refusal, and else perhaps out of memory
 abbrev pub AnswersOrNoMemory : {X : Type 0} → Option Refusal → (X → Type 0) → Result X Refusal → Type 0
 AnswersOrNoMemory refusal P (Ok x) = (refusal ≡ None) × P x
 AnswersOrNoMemory refusal P (Err f) = (refusal ≡ Some f) ⊎ ((refusal ≡ None) × (f ≡ NoMemory))

@@ -31,7 +31,7 @@ opened_down w n (suc k) = opened_down w n k ++ opened_cpu w (n - suc k) ∷ []
 abbrev pub boxed : List (Box OnPlainCpu Global) → List OnPlainCpu
 boxed boxes = map (λ (b : Box OnPlainCpu Global). b.value) boxes
 
--- what stands behind each of a list of handles
+-- the bodies of a list of handles
 abbrev pub bodies_of : List CpuHandle → List (Option OnPlainCpu)
 bodies_of handles = map (λ (h : CpuHandle). h.body) handles
 

@@ -1,4 +1,4 @@
--- A wait for open sections from C: what its caller sees to between the calls, and what the answer done says then.
+-- A wait for open sections from C: what its caller ensures between the calls, and what `REGISTRY_DONE` says then.
 use Rattle.std.specs.Prelude.{◌≡◌, ℕ, zero, suc, true, Option, Some}
 use mathlib.Core.List.{IsPrefix}
 use Rattle.cpu_words.specs.Common.{Named}
@@ -9,7 +9,8 @@ use Rattle.c_values.specs.declared.wait.CWait.{CWait}
 use Rattle.c_values.specs.Flags.{is_begun}
 use Rattle.c_calls.specs.KeeperCalls.{PerformCalls, TurnCalls}
 
--- The CPU y makes a call. It knows of the keeper's log all that x knew as the call before ended: it is that CPU, whatever it did since, or one that has heard as much.
+-- The CPU y makes a call. It knows of the keeper's log all that x knew as the call before ended: it is that CPU, after any calls, or one
+-- that has heard as much.
 abbrev pub KnowsAllOf : OnPlainCpu → OnPlainCpu → Type 0
 KnowsAllOf x y = IsPrefix x.cpu.known_log y.cpu.known_log
 
@@ -25,7 +26,7 @@ pub record IsTurnOfWait (words : Named) (x : OnPlainCpu) (old : CWait) (answer :
   pub after : Option ℕ
   pub call : TurnCalls (Some keeper) (Some cpu) kept (Some y) answer (Some old) (Some new) before after
 
--- n turns, with whatever answers: each found the wait just as the call before had left it
+-- n turns, with any results: each found the wait exactly as the call before had left it
 abbrev pub TurnsOn : ℕ → Named → OnPlainCpu → CWait → OnPlainCpu → CWait → Type 0
 TurnsOn zero words x old y new = (y ≡ x) × (new ≡ old)
 TurnsOn (suc n) words x old y new = (m : OnPlainCpu) × (between : CWait) × (answer : ℕ) × TurnsOn n words x old m between × IsTurnOfWait words m between answer y new

@@ -219,7 +219,7 @@ fn entries_in(slot: Slot) -> usize
     }
 }
 
-/// Writes the balance of each entry, the least slot first.
+/// Writes the balance of each entry, the lowest-numbered slot first.
 fn write_balances(keeper: &Keeper, cpus: &mut [CpuHandle], list: &mut [CBalance])
     requires all { AreAllHere keeper.now.words.settings.cpus (bodies_of cpus.old) }
     requires room { occupied keeper.now.keeper keeper.now.words.settings.slots ≤ length list.old }

@@ -1,8 +1,9 @@
-//! The calls of one CPU, by what stands behind its handle: each answers its number, and writes what it finds.
+//! The calls on one CPU's body. Each returns its number, and writes what it finds.
 
-ghost use Rattle.std.specs.Prelude.{◌≡◌, ◌≢◌, ℕ, Option, IfErr};
+ghost use Rattle.std.specs.Prelude.{◌≡◌, ◌≢◌, ℕ, Option, Some, None, IfErr};
 ghost use Rattle.c_values.specs.declared.values.TheConstants.{DONE};
 ghost use Rattle.c_values.specs.declared.values.CEntry.{CEntry};
+ghost use Rattle.c_values.specs.Values.{kind_in};
 ghost use Rattle.c_calls.specs.Calls.{Acquires, Copies, Enters, Exits, Finds, FindsNamed, Reads, Releases, TellsFound};
 
 use c_bodies::CpuBody;
@@ -30,13 +31,50 @@ pub fn exit(cpu: &mut CpuBody) -> u32
     DONE
 }
 
-/// Looks an entry up by the name, if one is given.
+/// Looks an entry up by the name, if one is given, and writes it.
+#[inline(always)]
 pub fn find_named(cpu: &mut CpuBody, kind: u64, name: Option<CName>, found: &mut EntryPlace) -> u32
     ensures place { found.new.at ≡ found.old.at }
     ensures call { FindsNamed kind name cpu.old cpu.new result found.old.value found.new.value }
 {
-    let answer = look(cpu, kind, name);
-    tell(answer, found)
+    let Some(name) = name else {
+        return NULL;
+    };
+    let Some(kind) = kind_in(kind) else {
+        return BAD_KIND;
+    };
+    if !cpu.inside() {
+        return OUTSIDE;
+    }
+    find_inside(cpu, kind, name, found)
+}
+
+/// Looks an entry up and writes it. Condition: inside.
+/// A search for each kind, and what is written after it, too: so no register keeps the kind, and a call saves fewer as it begins.
+#[inline(always)]
+fn find_inside(cpu: &mut CpuBody, kind: Kind, name: CName, found: &mut EntryPlace) -> u32
+    requires inside { cpu.old.cpu.view.begin ≢ None }
+    ensures place { found.new.at ≡ found.old.at }
+    ensures call { (word : ℕ) → kind_in word ≡ Some kind → Finds word name cpu.old cpu.new result found.old.value found.new.value }
+{
+    match kind {
+        Kind::Iface => find_for(cpu, Kind::Iface, name, found),
+        Kind::Driver => find_for(cpu, Kind::Driver, name, found),
+    }
+}
+
+/// The same, of a kind that is known where it is called.
+#[inline(always)]
+fn find_for(cpu: &mut CpuBody, kind: Kind, name: CName, found: &mut EntryPlace) -> u32
+    requires inside { cpu.old.cpu.view.begin ≢ None }
+    ensures place { found.new.at ≡ found.old.at }
+    ensures call { (word : ℕ) → kind_in word ≡ Some kind → Finds word name cpu.old cpu.new result found.old.value found.new.value }
+{
+    let Some(met) = cpu.find(kind, &name_in(&name)) else {
+        return refused(Refusal::NotFound);
+    };
+    found.put(entry_out(met));
+    DONE
 }
 
 /// Looks an entry up by the name, if one is given: the entry, or the number of the refusal.
@@ -64,7 +102,7 @@ fn find(cpu: &mut CpuBody, kind: u64, name: &CName) -> Result<Entry, u32>
         return Err(OUTSIDE);
     }
     let name = name_in(name);
-    // A search for each kind: a loop that knows the kind needs no register for it, and a call saves fewer registers as it begins.
+    // A search for each kind, as in `find_inside`.
     let found = match kind {
         Kind::Iface => cpu.find(Kind::Iface, &name),
         Kind::Driver => cpu.find(Kind::Driver, &name),
@@ -75,7 +113,7 @@ fn find(cpu: &mut CpuBody, kind: u64, name: &CName) -> Result<Entry, u32>
     }
 }
 
-/// Writes the entry of a call that is done, and answers its number.
+/// Writes the entry of a call that is done, and returns its number.
 #[inline(always)]
 pub fn tell(answer: Result<Entry, u32>, found: &mut EntryPlace) -> u32
     ensures place { found.new.at ≡ found.old.at }
@@ -98,7 +136,7 @@ pub fn acquire(cpu: &mut CpuBody, number: &mut NumberPlace) -> u32
     match cpu.acquire() {
         Ok(psref) => {
             number.put(psref.number());
-            psref.forget();
+            cpu.keep(psref);
             DONE
         }
         Err(refusal) => refused(refusal),
@@ -109,12 +147,9 @@ pub fn acquire(cpu: &mut CpuBody, number: &mut NumberPlace) -> u32
 pub fn copy(cpu: &mut CpuBody, number: u64) -> u32
     ensures { Copies number cpu.old cpu.new result }
 {
-    let psref = cpu.own(number);
-    let made = cpu.copy(&psref);
-    psref.forget();
-    match made {
+    match cpu.copy_own(number) {
         Ok(psref) => {
-            psref.forget();
+            cpu.keep(psref);
             DONE
         }
         Err(refusal) => refused(refusal),
@@ -126,10 +161,7 @@ pub fn read(cpu: &mut CpuBody, number: u64, entry: &mut EntryPlace) -> u32
     ensures place { entry.new.at ≡ entry.old.at }
     ensures call { Reads number cpu.old cpu.new result entry.old.value entry.new.value }
 {
-    let psref = cpu.own(number);
-    let answer = cpu.read(&psref);
-    psref.forget();
-    match answer {
+    match cpu.read_own(number) {
         Ok(read) => {
             entry.put(entry_out(read));
             DONE
@@ -142,12 +174,5 @@ pub fn read(cpu: &mut CpuBody, number: u64, entry: &mut EntryPlace) -> u32
 pub fn release(cpu: &mut CpuBody, number: u64) -> u32
     ensures { Releases number cpu.old cpu.new result }
 {
-    let psref = cpu.own(number);
-    match cpu.release(psref) {
-        Ok(()) => DONE,
-        Err((refusal, psref)) => {
-            psref.forget();
-            refused(refusal)
-        }
-    }
+    answered(cpu.release_own(number))
 }

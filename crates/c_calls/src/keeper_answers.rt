@@ -1,4 +1,4 @@
-//! The calls of whoever holds the keeper, by what stands behind the handles: each answers its number, and writes what it finds.
+//! The calls on the bodies of whoever holds the keeper. Each returns its number, and writes what it finds.
 
 ghost use Rattle.std.specs.Prelude.{◌≡◌};
 ghost use Rattle.registry_values.specs.Common.{destroy_result};
@@ -136,7 +136,7 @@ pub fn destroy(keeper: &mut KeeperBody, cpu: &mut CpuBody, number: u64, met: &mu
     }
 }
 
-/// The number of what a destroy answers by its last stage.
+/// The number for a destroy, from its last stage.
 fn destroyed_number(stage: Stage) -> u32
     ensures { result ≡ number_of (destroy_result stage) }
 {

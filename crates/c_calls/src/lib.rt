@@ -1,4 +1,4 @@
-//! The calls of the running registry for C, on what stands behind the handles that C holds between calls, and through these.
+//! The calls of the running registry for C: on the bodies that C's handles point to, and through the handles.
 #![tactic(auto)]
 
 pub mod audit;

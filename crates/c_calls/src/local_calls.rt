@@ -1,4 +1,4 @@
-//! The calls of local references on one CPU, by what stands behind the handles.
+//! The calls of local references on one CPU's body.
 
 ghost use Rattle.std.specs.Prelude.{◌≡◌};
 ghost use Rattle.c_calls.specs.LocalCalls.{AnswersAcquireInMemory, LocalReleases};

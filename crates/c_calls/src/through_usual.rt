@@ -84,6 +84,24 @@ pub fn enter_find(
     let Some(body) = cpu.body_mut() else {
         return found.answer(EMPTY_HANDLE).with_name(name);
     };
-    let answer = usual_calls::enter_find(body, kind, name.name(), &mut found);
+    if body.may_begin() {
+        let answer = usual_calls::enter_find(body, kind, name.name(), &mut found);
+        return found.answer(answer).with_name(name);
+    }
+    enter_find_nested(body, kind, name, found)
+}
+
+/// What `registry_enter_find` does in an open section, or where it is refused one: the same, apart, so that from outside nothing is tested twice.
+#[inline(never)]
+fn enter_find_nested(
+    cpu: &mut CpuBody,
+    kind: u64,
+    mut name: GivenName,
+    mut found: EntryPlace,
+) -> NamedAnswer
+    ensures places { (result.name ≡ name) × (result.place.at ≡ found.at) }
+    ensures call { EntersAndFinds kind name.name cpu.old cpu.new result.number found.value result.place.value }
+{
+    let answer = usual_calls::enter_find(cpu, kind, name.name(), &mut found);
     found.answer(answer).with_name(name)
 }

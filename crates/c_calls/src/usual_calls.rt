@@ -1,6 +1,7 @@
-//! The calls of the usual path, by what stands behind the CPU's handle: each makes several calls of `cpu_calls`, and opens a section for them. A lookup
-//! from outside is one call of the CPU's, which does the same.
-//! It writes to C's place last: stores before the addition that ends the section would have to be done before it is.
+//! The calls of the usual path, on a CPU's body. Each makes several calls of `cpu_calls`, and opens a section for them. A lookup from
+//! outside is one call of the CPU's, which does the same.
+//!
+//! Each writes to C's place last: a store before the addition that ends the section would have to be done before it.
 
 ghost use Rattle.std.specs.Prelude.{◌≡◌, ◌≢◌, ℕ, IsTrue, Option, Some, None};
 ghost use Rattle.passive_list.specs.Common.{may_begin};
@@ -10,14 +11,14 @@ ghost use Rattle.c_calls.specs.Calls.{Enters, TellsFound};
 ghost use Rattle.c_calls.specs.UsualCalls.{EntersAndFinds, FindsAndAcquires, Gets, LooksUp};
 ghost use Rattle.c_values.specs.Values.{kind_in};
 
-use crate::cpu_calls::{enter, exit, look, tell};
+use crate::cpu_calls::{enter, exit, find_named, look, tell};
 use c_bodies::CpuBody;
 use c_values::place::EntryPlace;
-use c_values::values::{CEntry, CName, DONE, entry_out, name_in, refused};
+use c_values::values::{CEntry, CName, DONE, name_in, refused};
 use registry_values::{Entry, Kind, Refusal, kind_word};
 
 /// Looks an entry up, in a section of the call's own, as one call of the CPU's. Conditions: outside; a section is left.
-/// A search for each kind, as in `find` of `cpu_calls`, and what is written after it, too: so no register keeps the kind.
+/// A search for each kind, and what is written after it, too, as in `find_inside` of `cpu_calls`.
 #[inline(always)]
 pub fn look_from_outside(cpu: &mut CpuBody, kind: Kind, name: CName, found: &mut EntryPlace) -> u32
     requires outside { cpu.old.cpu.depth ≡ 0 }
@@ -81,6 +82,7 @@ pub fn get(cpu: &mut CpuBody, kind: u64, name: Option<CName>, found: &mut EntryP
 }
 
 /// Enters a section and looks an entry up in it: done leaves the CPU inside, and a refusal as deep as it was.
+#[inline(always)]
 pub fn enter_find(cpu: &mut CpuBody, kind: u64, name: Option<CName>, found: &mut EntryPlace) -> u32
     ensures place { found.new.at ≡ found.old.at }
     ensures call { EntersAndFinds kind name cpu.old cpu.new result found.old.value found.new.value }
@@ -89,16 +91,12 @@ pub fn enter_find(cpu: &mut CpuBody, kind: u64, name: Option<CName>, found: &mut
     if entered != DONE {
         return entered;
     }
-    match look(cpu, kind, name) {
-        Ok(entry) => {
-            found.put(entry_out(entry));
-            DONE
-        }
-        Err(refusal) => {
-            exit(cpu);
-            refusal
-        }
+    let answer = find_named(cpu, kind, name, found);
+    if answer != DONE {
+        exit(cpu);
+        return answer;
     }
+    answer
 }
 
 /// Enters a section, or the open one once more: done leaves the CPU inside.
@@ -118,7 +116,7 @@ fn look_and_acquire(cpu: &mut CpuBody, kind: u64, name: Option<CName>) -> Result
     let entry = look(cpu, kind, name)?;
     match cpu.acquire() {
         Ok(psref) => {
-            psref.forget();
+            cpu.keep(psref);
             Ok(entry)
         }
         Err(refusal) => Err(refused(refusal)),

@@ -24,8 +24,9 @@ pub fn begin_body(body: &mut KeeperBody, cpu: &mut CpuBody, wait: &mut CWait)
     wait.begun = BEGUN;
 }
 
-/// One turn of a wait: the least CPU that wasn't seen out of its section, if any. The keeper and the CPU tell each other what they know, as
-/// in the beginning, and once more as what was retired passes. Condition: both are of one registry.
+/// One turn of a wait. Returns the lowest-numbered CPU that wasn't seen out of its section, if any. The keeper and the CPU tell each other
+/// what they know, as in the beginning, and once more as what was retired passes.
+/// Condition: both are of one registry.
 pub fn turn_body(body: &mut KeeperBody, cpu: &mut CpuBody, wait: &mut CWait) -> Option<u8>
     requires same { cpu.old.words ≡ body.old.words }
     ensures { Turns body.old cpu.old body.new cpu.new result wait.old wait.new }

@@ -66,7 +66,7 @@ fn walk(cpu: &mut CpuBody, row: &mut [CEntry], count: &mut NumberPlace) -> u32
     DONE
 }
 
-/// What stands in a row before the walk.
+/// A place of a row before the walk.
 fn no_entry() -> Entry {
     Entry {
         number: 0,

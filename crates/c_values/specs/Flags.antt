@@ -1,4 +1,4 @@
--- The numbers by which a wait keeps entries and CPUs, and the one that says that it was begun.
+-- The numbers in which a wait keeps entries and CPUs, and the one that says that it was begun.
 use Rattle.std.specs.Prelude.{ℕ, ◌==◌, Bool, not, Option, Some, None, if◌then◌else◌}
 use Rattle.c_values.specs.declared.wait.TheConstants.{BEGUN}
 use Rattle.c_values.specs.declared.wait.CWait.{CWait}

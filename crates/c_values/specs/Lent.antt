@@ -1,4 +1,4 @@
--- What C lends a call by each kind of pointer: a value that the call may write until it answers, or nothing, by null.
+-- What C lends a call by each kind of pointer: a value that the call may write until it returns, or nothing, by null.
 use Rattle.std.specs.Prelude.{ℕ, Bool, List, Option}
 use base.Fml.{Fml}
 use base.Fraction.{full_share}

@@ -34,7 +34,7 @@ use Rattle.c_values.specs.contracts.values.CStage.{the_row as row_of_stage}
 use Rattle.c_values.specs.contracts.values.CSettings.{the_row as row_of_settings}
 use Rattle.c_values.specs.contracts.wait.CWait.{the_row as row_of_wait}
 
--- what stands at a place once x was written there; at null nothing does
+-- the place once x was written there; null stays null
 abbrev pub put : {X : Type 0} → Option X → X → Option X
 put None x = None
 put (Some y) x = Some x

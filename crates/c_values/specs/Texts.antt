@@ -14,7 +14,7 @@ WritesName (Err Empty) n old new place place' = (n ≡ NAME_EMPTY) × (new ≡ o
 WritesName (Err TooLong) n old new place place' = (n ≡ NAME_TOO_LONG) × (new ≡ old) × (place' ≡ place)
 WritesName (Err (BadByte at)) n old new place place' = (n ≡ NAME_BAD_BYTE) × (new ≡ old) × (place' ≡ put place at)
 
--- the answer of a parse: the name that the bytes are, or the first fault
+-- the result of a parse: the name that the bytes are, or the first fault
 pub record Parses (bytes : List ℕ) (n : ℕ) (old new : Option CName) (place place' : Option ℕ) : Type 0 where
   pub r : Result Name NameFault
   pub is : r ≡ name_of_bytes bytes
@@ -25,7 +25,7 @@ abbrev pub ParsesGiven : ℕ → Option (List ℕ) → ℕ → Option CName → 
 ParsesGiven length None n old new place place' = (length ≢ 0 → (n ≡ NULL) × (new ≡ old) × (place' ≡ place)) × (length ≡ 0 → Parses [] n old new place place')
 ParsesGiven length (Some bytes) n old new place place' = Parses bytes n old new place place'
 
--- some call answers so
+-- some call returns it
 abbrev pub IsAnswer : ℕ → Type 0
 IsAnswer n = ((n ≤ 19) × (n ≢ 11)) ⊎ ((64 ≤ n) × (n ≤ 77) × (n ≢ 67))
 
@@ -36,7 +36,7 @@ pub record IsWritten (t old new : List ℕ) : Type 0 where
   pub cut : length old ≤ length t → 0 < length old → get_or new (length old - 1) 0 ≡ 0
   pub rest : (k : ℕ) → length t < k → get_or new k 0 ≡ get_or old k 0
 
--- the text of an answer has so many bytes: none where no call answers so
+-- the text of a result has so many bytes: none if no call returns it
 pub record Tells (answer n : ℕ) (old new : List ℕ) : Type 0 where
   pub t : List ℕ
   pub size : n ≡ length t
@@ -44,7 +44,7 @@ pub record Tells (answer n : ℕ) (old new : List ℕ) : Type 0 where
   pub unknown : 0 < n → IsAnswer answer
   pub written : IsWritten t old new
 
--- at a place: at null nothing is written, whatever room is said to be there
+-- at a place: at null nothing is written, for any room
 abbrev pub TellsBy : ℕ → ℕ → Option (List ℕ) → Option (List ℕ) → Type 0
 TellsBy answer n None after = (after ≡ None) × Tells answer n [] []
 TellsBy answer n (Some old) after = (new : List ℕ) × (after ≡ Some new) × Tells answer n old new

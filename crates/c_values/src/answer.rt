@@ -1,5 +1,5 @@
-//! What a call answers that writes to a place of C's: its number, and the place, which goes back to C. C gets a number: a struct of one crosses as
-//! it does.
+//! What a call returns that writes to a place of C's: its number, and the place, which goes back to C. C gets a number: a struct of one
+//! number crosses as the number does.
 
 ghost use Rattle.std.specs.Prelude.{◌≡◌};
 ghost use Rattle.c_values.specs.contracts.given.GivenName.{the_row};

@@ -133,7 +133,7 @@ fn fitting(length: usize, room: usize) -> usize
     if length < room { length } else { room - 1 }
 }
 
-/// What the answer says; nothing where no call answers so.
+/// The text of a number that a call returns; empty if no call returns it.
 fn text_of(answer: u32) -> &'static [u8]
     ensures known { IsAnswer answer → 0 < length result.now }
     ensures unknown { 0 < length result.now → IsAnswer answer }
@@ -171,7 +171,7 @@ fn own_text(answer: u32) -> &'static [u8]
     }
 }
 
-/// What a refusal says, by its number; 0 is none, and 11 is one that no call answers: a passive reference is a number here.
+/// The text of a refusal, by its number. 0 is none, and no call returns 11: a passive reference is a number here.
 fn refusal_text(answer: u32) -> &'static [u8]
     ensures { 0 < length result.now }
 {

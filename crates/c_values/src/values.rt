@@ -1,4 +1,4 @@
-//! The plain structs that cross to C, and the numbers that a call answers.
+//! The plain structs that cross to C, and the numbers that a call returns.
 
 ghost use Rattle.std.specs.Prelude.{◌≡◌, IfOk, IfErr, false};
 ghost use Rattle.registry_values.specs.Common.{are_fit, number_of_refusal};
@@ -94,7 +94,7 @@ pub fn refused(refusal: Refusal) -> u32
     u32::from(refusal.number())
 }
 
-/// The number of an answer that says no more than that it was done.
+/// The number of a result that says only whether it was done.
 pub fn answered(answer: Result<(), Refusal>) -> u32
     ensures { result ≡ number_of answer }
 {

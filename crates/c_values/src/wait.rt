@@ -5,7 +5,7 @@ ghost use Rattle.c_values.specs.Flags.{flag_of, is_begun, is_set, none_or_number
 
 use registry_values::{MOST_CPUS, MOST_SLOTS};
 
-/// What stands in a wait that was begun: a number that no caller writes by chance.
+/// The mark of a wait that was begun: a number that no caller writes by chance.
 pub const BEGUN: u64 = 0x9d3f_51c6_a87b_e204;
 
 /// A wait for open sections, between two turns of it.

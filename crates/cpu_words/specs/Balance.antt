@@ -44,7 +44,7 @@ hand_to n Spent = 0
 abbrev pub held_by_seats : List View → KeeperView → ℕ → ℕ
 held_by_seats views k n = sum_by (reference_to n) views + sum_by (hand_to n) views + sum_by (kept_of n) k.keeps
 
--- the CPU c has just one seat
+-- the CPU c has exactly one seat
 pub record HasOneSeat (views : List View) (c : ℕ) : Type 0 where
   pub place : ℕ
   pub view : CpuView

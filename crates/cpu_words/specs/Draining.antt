@@ -48,7 +48,7 @@ pub record MayTotalAdd (k : KeeperView) (t old value : ℕ) : Type 0 where
 abbrev pub HasAdded : KeeperView → ℕ → ℕ → KeeperView → Type 0
 HasAdded k t value l = l ≡ record k { totals = slice_set k.totals t value; due = Rest }
 
--- a release found a count word of the reference's entry collected, or its number is retired in a slot for which one was collected
+-- a release found a count word of the reference's entry collected, or its number is retired in a slot with a collected count
 abbrev pub IsFoundCollected : List Slot → List (List Mark) → ReferenceView → Type 0
 IsFoundCollected slots marks v = ((c : ℕ) × (v.collected ≡ Some c)) ⊎ ((t : ℕ) × (c : ℕ) × (e : Entry) × (slot_at slots t ≡ Retired e) × (e.number ≡ v.entry.number) × ((mark_at marks t c).collected ≡ true))
 

@@ -32,7 +32,7 @@ pub record HasGone (z : Settings) (s : Table ℕ Logged) (t n : ℕ) : Type 0 wh
   pub run : RunsAsLogged z s
   pub gone : IsGone (after (opening z) run.run.events) (without_logs s) t n
 
--- a seat that has heard that the keeper made the slot vacant, from which the entry was detached last, knows this of the table, whatever it is now
+-- a seat has heard that the keeper made the slot vacant after the entry was detached from it: so much it knows of any later table
 abbrev pub FreedIsGone : Type 0
 FreedIsGone = (z : Settings) (s : Table ℕ Logged) (i : ℕ) (l : Logged) (t n : ℕ) → LoggedRuled z s → get_elem? s.views i ≡ some l → IsFreedFrom t n l.known_log → HasGone z s t n
 

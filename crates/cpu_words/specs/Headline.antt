@@ -1,5 +1,5 @@
--- The laws of the protocol on the words: whatever threads did, a list of events leads to a state that the words and all views show, and that state obeys all laws. So what a seat holds has its slot,
--- and marks are honest.
+-- The laws of the protocol on the words: after any steps of threads, a list of events leads to a state that the words and all views show,
+-- and that state obeys all laws. So what a seat holds has its slot, and marks are honest.
 use Rattle.std.specs.Prelude.{◌≡◌, ◌⊎◌, ℕ, ◌<◌, List, length, Some, true, slice_index}
 use mathlib.Core.Option.{some}
 use mathlib.Core.List.{IsPrefix}
@@ -97,7 +97,7 @@ pub record IsFree (z : Settings) (s : Table ℕ View) (h : List Change) (e : Ent
   pub unheld : IsUnheld (picture (after (opening z) run.events)) e.number
   pub seats : (j : ℕ) (v : View) → get_elem? s.views j ≡ some v → SeatHolds h e v → ⊥
 
--- the keeper's seat has all marks of the slot t, and its total is just the bias: its entry is free
+-- the keeper's seat has all marks of the slot t, and its total is only the bias: its entry is free
 abbrev pub DrainedIsFree : Type 0
 DrainedIsFree = (z : Settings) (s : Table ℕ View) (i t : ℕ) (k : KeeperView) → Ruled z s → get_elem? s.views i ≡ some (Keeper k)
     → (drained : IsDrained k t) → IsFree z s k.history drained.retired.0

@@ -92,7 +92,7 @@ pub record IsSnapped (t c w : ℕ) (log : List LogItem) : Type 0 where
   pub are : log ≡ before ++ has_snapped t c w ∷ after
   pub since : KeepsEntry t after
 
--- c has passed for that entry: its word was found even, or another than the one that was taken for it
+-- c has passed for that entry: its word was found even, or differs from the one that was taken for it
 pub record HasPassedOn (t c : ℕ) (log : List LogItem) : Type 0 where
   pub new : ℕ
   pub before : List LogItem
@@ -147,7 +147,7 @@ pub record IsFreedFrom (t n : ℕ) (log : List LogItem) : Type 0 where
   pub detached : IsDetachedFrom t n before
   pub freed : destroyed_slot item.event ≡ Some t
 
--- The driver to which a slot keeps a reference, by a log: what Keep took over there last, unless KeptSub gave it up since
+-- The driver that a slot keeps a reference to, by a log: what Keep took over there last, unless KeptSub gave it up since
 
 abbrev pub keeps_next : ℕ → Event → Option ℕ → Option ℕ
 keeps_next t (Keep u n) x = if u == t then Some n else x
@@ -297,7 +297,7 @@ pub record AreCountsOf (log : List LogItem) (s : State) : Type 0 where
   pub occupants : (t : ℕ) → occupant t log ≡ occupant_of (slot_at s.slots t)
   pub words : (t c : ℕ) → word_collected t c log ≡ word_in s t c
 
--- some state shows the view, in which the keeper had done just this
+-- some state shows the view, and in it the keeper had done exactly this
 pub record IsShownAfter (log : List LogItem) (v : View) : Type 0 where
   pub g : State
   pub good : Good g
@@ -313,5 +313,5 @@ pub record IsOwnLog (log : List LogItem) (note : List LogItem) (k : KeeperView) 
   pub slots : AreSlotsOf k.settings.cpus log k.slots
   pub kept : (t : ℕ) → kept_at k.keeps t ≡ keeping t log
   pub grow : WordsGrow log
-  -- with another note beside it, some state shows the view, in which the keeper had done just this
+  -- with another note beside it, some state shows the view, and in it the keeper had done exactly this
   pub counts : (h : List Change) × IsShownAfter log (Keeper (keeper_with_note k h))

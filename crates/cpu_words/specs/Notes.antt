@@ -44,7 +44,7 @@ HasHeard x y = IsPrefix x.noted_pass y.pass × IsPrefix x.pass y.pass × (y ≡ 
 abbrev pub KeeperHasHeard : KeeperView → KeeperView → Type 0
 KeeperHasHeard k l = IsPrefix k.noted_pass l.history × (l ≡ k)
 
--- The load that hears is just that event
+-- The load that hears is that event
 
 abbrev pub CpuHears : CpuView → CpuView → Type 0
 CpuHears x y = Makes (Hear (Some x.id)) Done (Cpu x) (Cpu y) × HasHeard x y

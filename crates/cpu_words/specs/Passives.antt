@@ -39,11 +39,11 @@ HasAdded x t n y = (e : Entry) × IsAt e t n × IsAttached x.pass e × (y ≡ re
 abbrev pub HasSubtracted : CpuView → ℕ → CpuView → Type 0
 HasSubtracted x n y = y ≡ record x { references = without n x.references }
 
--- m is the word k of the entry n in the slot t, to which the CPU refers
+-- m is the word k of the entry n in the slot t; the CPU refers to n
 abbrev pub IsWordOf : CpuView → ℕ → ℕ → ℕ → ℕ → Type 0
 IsWordOf x t n k m = (e : Entry) → IsAt e t n → Contains x.references e → m ≡ word (words_of e) k
 
--- the entry n in the slot t, to which the CPU refers, has a lawful name
+-- the entry n in the slot t has a lawful name; the CPU refers to n
 abbrev pub IsNamed : CpuView → ℕ → ℕ → Type 0
 IsNamed x t n = (e : Entry) → IsAt e t n → Contains x.references e → are_name_words e.rec.name.high e.rec.name.low ≡ true
 

@@ -105,11 +105,11 @@ abbrev pub reply_without_id : Reply → Reply
 reply_without_id (Ref id) = Ref 0
 reply_without_id r = r
 
--- an event with its reply, by which no note was heard
+-- an event with its reply; no note was heard
 abbrev pub log_item : Event → Reply → LogItem
 log_item e r = record { event = e; reply = r; teller = None }
 
--- just this event, as its seat knows it, with this reply
+-- exactly this event, as its seat knows it, with this reply
 abbrev pub did : Event → Reply → List LogItem
 did e r = log_item e (reply_without_id r) ∷ []
 

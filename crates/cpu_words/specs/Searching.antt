@@ -53,7 +53,7 @@ abbrev pub LinkHolds : Settings → Search → ℕ → List Change → Type 0
 LinkHolds z q zero p = IsLawful p q.start (length p) q.key None
 LinkHolds z q (suc t) p = (t < z.slots) × (t < MOST_SLOTS)
 
--- the search q may stand on the entry e in the slot t, as the pass p tells
+-- the search q may be at the entry e in the slot t, as the pass p tells
 abbrev pub MayStandOn : List Change → Search → ℕ → Entry → Type 0
 MayStandOn p q t e = StandsOn p q.start (length p) t e
 
@@ -71,7 +71,7 @@ SkipsNone r from above (suc t) = (e f : Entry) → StandsOn r from (length r) t 
 pub record PassTells (begin : Option ℕ) (from : ℕ) (r : List Change) : Type 0 where
   pub legal : IsLegal r
   pub since : (b : ℕ) → begin ≡ Some b → b ≤ from
-  -- it may stand on at most one entry of a slot, and that has a name
+  -- it may be at no more than one entry of a slot, and that has a name
   pub one : (t : ℕ) (e f : Entry) → StandsOn r from (length r) t e → StandsOn r from (length r) t f → e ≡ f
   pub named : (t : ℕ) (e : Entry) → StandsOn r from (length r) t e → are_name_words e.rec.name.high e.rec.name.low ≡ true
 
@@ -149,7 +149,7 @@ pub record HasSearched (x : CpuView) (q : Search) (n : ℕ) (y : CpuView) : Type
   pub holds : FoundHolds q (loaded_of (Some q) n) y.pass
   -- a number is that of an entry on which the search may stand
   pub number : (t : ℕ) → q.place ≡ AtNumber t → (e : Entry) × MayStandOn y.pass q t e × (e.number ≡ n)
-  -- a word is that of each entry on which the search may stand there
+  -- a word is that of each entry that the search may be at there
   pub words : (t k : ℕ) (e : Entry) → IsAtWord q.place t k → MayStandOn y.pass q t e → word (words_of e) k ≡ n
 
 -- the search that is under way has loaded the record word n

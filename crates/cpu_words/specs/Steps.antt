@@ -1,4 +1,4 @@
--- What a step promises: by the seat that steps, on that seat's view alone, just one event of the core.
+-- What a step promises: by the seat that steps, on that seat's view alone, exactly one event of the core.
 use Rattle.std.specs.Prelude.{◌≡◌, ℕ, ◌+◌, ◌<◌, ◌≤◌, List, [], ◌∷◌, ◌++◌, sum_by, slice_index, slice_set, Some}
 use mathlib.Core.Option.{some}
 use lib.ListN.{get_elem?}
@@ -22,7 +22,7 @@ OneSeat (Cpu x) (Cpu y) = (y.settings ≡ x.settings) × (y.id ≡ x.id) × (y.n
 OneSeat (Reference v) (Reference w) = w ≡ v
 OneSeat v w = ⊥
 
--- just this event of the core was made, with this reply, by the seat that had the view v and has the view w
+-- exactly this event of the core was made, with this reply, by the seat that had the view v and has the view w
 pub record Makes (e : Event) (r : Reply) (v w : View) : Type 0 where
   pub g : State
   pub after : State
@@ -52,7 +52,7 @@ pub record SeatGoesOn {X : Type 0} (ds : List LogItem) (a b : Seated X) : Type 0
   pub teller : b.teller ≡ a.teller
   pub list : ListGoesOn a.list b.log b.list
 
--- the same of a seat that made just this event of the core, with this reply; `of` is the kind of its view
+-- the same of a seat that made exactly this event of the core, with this reply; `of` is the kind of its view
 pub record SeatMakes {X : Type 0} (of : X → View) (e : Event) (r : Reply) (a b : Seated X) : Type 0 where
   pub table : b.table ≡ a.table
   pub event : Makes e r (of a.view) (of b.view)
@@ -62,8 +62,8 @@ pub record SeatMakes {X : Type 0} (of : X → View) (e : Event) (r : Reply) (a b
   pub teller : b.teller ≡ a.teller
   pub list : ListGoesOn a.list b.log b.list
 
--- A seat that is cut in two, or takes in another, changes no word: in whatever state of the core shows the views before, just the event is made,
--- and the views after are shown, with as many seats of references as the core has live references.
+-- A seat that is cut in two, or takes in another, changes no word. In any state of the core that shows the views before, exactly the event
+-- is made. The views after are shown, with as many seats of references as the core has live references.
 
 pub record SplitMakes (e : Event) (g : State) (v left right : View) : Type 0 where
   pub after : State
@@ -74,7 +74,7 @@ pub record SplitMakes (e : Event) (g : State) (v left right : View) : Type 0 whe
   pub shown_right : Shown after right
   pub count : (n : ℕ) → reference_to n left + reference_to n right + sum_by (standing_of n) g.locals ≡ reference_to n v + sum_by (standing_of n) after.locals
 
--- just this event of the core is made as the view v is cut in two
+-- exactly this event of the core is made as the view v is cut in two
 abbrev pub SplitsBy : Event → View → View → View → Type 0
 SplitsBy e v left right = (g : State) → Good g → Shown g v → SplitMakes e g v left right
 
@@ -102,8 +102,9 @@ abbrev pub JoinsOn : Settings → ℕ → View → ℕ → View → View → Vie
 JoinsOn z i v o w both spent ds = (s : Table ℕ View) (r : Ruled z s) → get_elem? s.views i ≡ some v → ¬ (o ≡ i) → get_elem? (slice_set s.views i both) o ≡ some w
     → GoesOn z s r ds (record { words = s.words; homes = s.homes; views = slice_set (slice_set s.views i both) o spent })
 
--- Whatever the table is when the word becomes f of what it was, the seat has a view after, with which the rule holds, and the tale of the word found.
--- For a load or an exchange n is the word found, for a store the word stored. The run goes on with just the events that the word found makes.
+-- In any table in which the word becomes f of what it was, the seat has a view after, the rule holds with it, and so does the tale of the
+-- word found. For a load or an exchange n is the word found, for a store the word stored. The run goes on with exactly the events of the
+-- word found.
 
 abbrev pub Moves : Settings → View → ℕ → (ℕ → ℕ) → (ℕ → List LogItem) → (ℕ → View → Type 0) → Type 0
 Moves z v i f ds tells = (s : Table ℕ View) (r : Ruled z s) → (id : ℕ) → get_elem? s.views id ≡ some v → slice_index s.words i < 18446744073709551616

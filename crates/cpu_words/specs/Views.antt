@@ -260,7 +260,7 @@ no_settings = record { cpus = 0; slots = 0; change_limit = 0; section_limit = 0;
 abbrev pub no_entry : Entry
 no_entry = record { number = 0; slot = 0; rec = record { kind = Driver; name = record { high = 0; low = 0 }; value = 0 } }
 
--- the view of a seat by its kind; for the other kinds some view, of which nothing is said
+-- the view of a seat by its kind; for the other kinds some view, which nothing is said about
 
 abbrev pub cpu_of : View → CpuView
 cpu_of (Cpu x) = x

@@ -30,7 +30,8 @@ pub record HasEndedOn (z : Settings) (s : Table ℕ Logged) (r : RunsAsLogged z 
   -- so a section of it that is open now began later
   pub begun : (b : ℕ) → begin_at (after (opening z) r.run.events) c ≡ Some b → length (after (opening z) earlier).history ≤ b
 
--- The list was cut in two at some moment. Each section that was open at that moment, on whatever CPU, has ended, and the history had no more changes then.
+-- The list was cut in two at some moment. Each section that was open at that moment, on any CPU, has ended, and the history had no more
+-- changes then.
 pub record HasEndedSince (z : Settings) (first rest : List Event) (most : ℕ) : Type 0 where
   pub exits : (c b : ℕ) → c < z.cpus → begin_at (after (opening z) first) c ≡ Some b → HasExit (after (opening z) first) c rest
   pub changes : length (after (opening z) first).history ≤ most
@@ -61,7 +62,8 @@ pub record HaveEnded (z : Settings) (s : Table ℕ Logged) (before looks : List 
   pub exits : (c b : ℕ) → c < z.cpus → begin_at (after (opening z) earlier) c ≡ Some b → HasExit (after (opening z) earlier) c since
   -- and so has the section that was open on a CPU as the keeper took this CPU's word
   pub each : (c : ℕ) → c < z.cpus → HasEndedOn z s run before looks c
-  -- and where the keeper had heard a note by then, so has each section that was open at any moment before that was told, such as the begin of a call that told it
+  -- and where the keeper had heard a note by then, so has each section that was open at any moment before the note was told, such as the
+  -- begin of a call that told it
   pub told : (h : Teller) (first rest : List Event) → HasHeardFrom None h before → run.run.events ≡ first ++ rest → IsBeforeTelling run h first → HasEndedSince z first rest (changes_in before)
   -- and before any note was told that the teller had heard by then: so what the teller knew of by notes is among it
   pub heard : (h k : Teller) (first rest : List Event) → HasHeardFrom None h before → HadHeard run h k → run.run.events ≡ first ++ rest → IsBeforeTelling run k first

@@ -9,8 +9,11 @@ use std::alloc::Global;
 use std::marker::{Brand, Model, PhantomData};
 use std::sync::ledger::Ledger;
 
-/// The rule: the words and the views of all seats show a state of the core, a list of events leads to it from the opening, what each seat did
-/// is its part of that list, and what a seat has heard of the keeper's log is a prefix of the keeper's part.
+/// The rule of the table:
+///
+/// - the words and the views of all seats show a state of the core, and a list of events leads to it from the opening;
+/// - what each seat did is its part of that list;
+/// - what a seat has heard of the keeper's log is a prefix of the keeper's part.
 pub struct RegistryRule;
 
 impl TableRule<u8, Logged, Settings> for RegistryRule {
@@ -49,8 +52,8 @@ impl Words {
     }
 }
 
-/// Names one table and its settings, for contracts: what a lock or a message hands on is known by its type alone. It names a ledger, too:
-/// that of the changes that calls behind the interlock make, of which each CPU has a share.
+/// Names one table and its settings, for contracts: a lock or a message hands a value on by its type alone. It also names a ledger, of the
+/// changes that calls behind the interlock make; each CPU has a share of it.
 pub trait Domain: Ledger {
     ghost use Rattle.atomic_table.specs.Seated.{TableId};
     ghost use Rattle.cpu_words.specs.Types.{Settings};
@@ -161,7 +164,7 @@ impl<T: ReferenceTale> Play<u8, Logged> for ReferencePlay<T> {
     ghost then = { IsToldByReference T.does T.tells };
 }
 
-/// A CPU's load that hears a note: it stands in the log with who told the note.
+/// A CPU's load that hears a note. The log has it with the CPU that told the note.
 pub(crate) struct CpuHearing;
 
 impl Play<u8, Logged> for CpuHearing {
@@ -171,7 +174,7 @@ impl Play<u8, Logged> for CpuHearing {
     ghost then = { heard_by_cpu CpuHears };
 }
 
-/// The keeper's load that hears a note: it stands in the log with who told the note.
+/// The keeper's load that hears a note. The log has it with the CPU that told the note.
 pub(crate) struct NoteHearing;
 
 impl Play<u8, Logged> for NoteHearing {

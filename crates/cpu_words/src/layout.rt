@@ -1,5 +1,6 @@
-//! Where the words of the table lie. Code, specs (`index` in specs/Spots.antt) and proofs speak of places by what is named here.
+//! The place of each word of the table. Code, specs (`index` in specs/Spots.antt) and proofs speak of places by what is named here.
 //!
+//! ```text
 //! place                              word                                              written by
 //! 0 to 15                            none                                              no one, once the table is made
 //! ROWS + ROW * c                     section of CPU c                                  CPU c
@@ -9,6 +10,7 @@
 //! NEXTS + STRIDE * t                 slot of the next older entry plus 1, or 0         the keeper
 //! RECORDS + STRIDE * t + k           word k of the record in slot t                    the keeper
 //! TOTALS + t                         total of slot t                                   the keeper
+//! ```
 //!
 //! CPUs c and slots t count from 0. A table has room for the most CPUs and slots that settings may have: no place depends on them. What lies
 //! between these words stays 0 (`unused` of `Agrees`, specs/Rule.antt).
@@ -103,10 +105,12 @@ pub(crate) fn total_place(slot: u8) -> usize
     TOTALS + slot as usize
 }
 
-/// Does nothing; its contract says where the words lie, for all settings that are fit. `lines_apart`: a CPU's words are at least nine
-/// words from another CPU's and from the shared ones, and so share no line of 64 bytes with them, wherever the block begins.
-/// `one_place`: two different words are at different places. `first_words_free`: none is among the first sixteen, where word 0 is loaded
-/// as a seat is cut in two or two are joined.
+/// Theorem, no effect at run time: where the words are, for all settings that are fit.
+///
+/// - `lines_apart`: a CPU's words are at least nine words from another CPU's and from the shared ones. So they share no line of 64 bytes
+///   with them, wherever the block begins.
+/// - `one_place`: two different words are at different places.
+/// - `first_words_free`: none is among the first sixteen. Word 0 is loaded as a seat is cut in two or two are joined.
 pub fn layout_law()
     ensures lines_apart { LinesApart }
     ensures one_place { OnePlace }

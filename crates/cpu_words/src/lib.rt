@@ -1,10 +1,10 @@
-//! The words of a registry as a table of atomic words, under one rule: between any two steps the words and the views of all seats show a
-//! state of the core, a list of events leads to it, and each seat's log is its part of that list.
+//! The words of a registry as a table of atomic words, under one rule. Between any two steps the words and the views of all seats show a
+//! state of the core. A list of events leads to it, and each seat's log is its part of that list.
 //!
-//! `Words::new` makes the words and the seats: the keeper's, and one for each CPU. Whoever owns a seat makes its steps (`steps`), each of
-//! them one atomic operation at most, and an event of the protocol. A local reference's seat is cut from the seat of the CPU that counts
-//! it, and spent where it is counted down or kept; a note's is cut from any seat that tells, and may be dropped. Seats move between
-//! threads; no step waits.
+//! `Words::new` makes the words and the seats: the keeper's, and one for each CPU. The owner of a seat makes its steps (`steps`). Each is
+//! an event of the protocol, and at most one atomic operation. Seats move between threads; no step waits.
+//!
+//! A local reference's seat is split from its CPU's, and spent when it is counted down or kept. A note's is split from any seat that tells.
 #![tactic(auto)]
 
 mod headline;

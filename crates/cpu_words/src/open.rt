@@ -16,7 +16,7 @@ use std::alloc::{AllocError, Global};
 impl Words {
     /// The words of a registry with these settings, the keeper's seat, and the seat of each CPU, CPU 0 first. All words are 0 but the
     /// totals, no entry has been attached, and all CPUs are outside.
-    /// Refused: `BadSettings` where `Settings::check` refuses them, and `NoMemory`.
+    /// Refused: `BadSettings` if `Settings::check` refuses them, and `NoMemory`.
     pub fn new(
         alloc: Global,
         settings: Settings,

@@ -1,7 +1,10 @@
-//! One function for each kind of step, named after its event, or after what it stores or looks at. Each makes just its event of the core,
-//! with one seat, and takes no memory; the seat's log goes on with just that event and its reply, and what the seat has heard stays (`step`).
-//! Two make two events: `seek` begins the search and loads its first link, and `vacate` makes a slot vacant and hears. The two that hear say
-//! in clauses of their own what the seat has heard then.
+//! One function for each kind of step, named after its event, or after what it stores or looks at.
+//!
+//! Each makes exactly its event of the core, with one seat, and takes no memory. The seat's log goes on with that event and its reply, and
+//! what the seat has heard stays (`step`). Exceptions:
+//!
+//! - two make two events: `seek` begins the search and loads its first link, and `vacate` makes a slot vacant and hears;
+//! - the two that hear say in clauses of their own what the seat has heard then.
 
 pub mod drain;
 pub mod grace;

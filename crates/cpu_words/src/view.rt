@@ -18,7 +18,7 @@ pub enum InHand {
 
 /// A look of the keeper at a CPU's word, and what it found.
 pub struct Looked {
-    /// The look: at which CPU, and for which slot or for none.
+    /// The look: at which CPU, and for a slot or for none.
     pub event: Event,
     /// The word that was loaded.
     pub reply: Reply,
@@ -67,7 +67,7 @@ pub struct KeeperView {
     pub seated: u64,
     /// All attaches and detaches so far, the first one first.
     pub history: LinkedList<Change>,
-    /// By slot: what stands there.
+    /// The state of each slot.
     pub slots: LinkedList<Slot>,
     /// By slot, and there by CPU: what the keeper has noted of the CPU for the slot's retired entry.
     pub marks: LinkedList<LinkedList<Mark>>,
@@ -87,7 +87,7 @@ pub struct KeeperView {
     pub counts: LinkedList<LinkedList<u64>>,
     /// By number: the local references given up under the interlock; one that is taken in counts before it is subtracted.
     pub given_up: LinkedList<u64>,
-    /// How many looks it has made: loads of a CPU's section or passive word, but for the snapshots of an unlinking.
+    /// How many looks it has made: loads of a CPU's section or passive word, except the snapshots of an unlinking.
     pub looks: u64,
     /// The last of them.
     pub last_look: Option<Looked>,
@@ -132,6 +132,7 @@ pub struct ReferenceView {
     pub collected: Option<u64>,
 }
 
+/// What the owner of a seat knows, by the kind of seat.
 pub enum View {
     Keeper(KeeperView),
     Cpu(CpuView),

@@ -1,4 +1,5 @@
--- A struct of one pointer to a row, whose length stands beside it: whether it is null is told, and the row leaves as a `&mut [T]`, which the struct follows.
+-- A struct of one pointer to a row, with its length beside it: whether it is null is told, and the row leaves as a `&mut [T]`, which the
+-- struct follows.
 use Rattle.std.proofs.Common.{◌≡◌, ℕ, ◌<◌, ◌^◌, List, [], ◌∷◌, ◌++◌, length, refl, sym, ap, ◌∙◌, subst, Bool, Option, Some, None, MutBor}
 use seplogic.Ra.Ura.{Ura}
 use mir.Syntax.{Fn, Callee, Ty, named, erased, mut, local, value_local, ty_ptr, ty_ref, ty_bool, ty_int, place, deref, field, assign, rv_opd, op2, ptr_eq, copy, int, w64, aggregate, block, seq}

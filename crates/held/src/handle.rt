@@ -61,11 +61,12 @@ impl<T> Handle<T> {
     }
 }
 
-/// A handle as C has it. No generic struct can stand in an export, so each kind is a struct of its own of one pointer, and a `Handle` to and fro.
+/// A handle as C has it. No generic struct can be in an export, so each kind is a struct of one pointer, which converts to a `Handle` and
+/// back.
 pub trait CHandle: Sized {
     type Body;
 
-    /// What stands behind it.
+    /// The body that it points to.
     ghost body: { Self → Option Self.Body };
 
     /// It, with that behind it.
@@ -77,15 +78,15 @@ pub trait CHandle: Sized {
     fn into_handle(self) -> Handle<Self::Body>
         ensures { result.body ≡ body self };
 
-    /// What stands behind it, if anything does, in its place: a call works on it there.
+    /// The body, if there is one, in its place: a call works on it there.
     fn body_mut(&mut self) -> Option<&mut Self::Body>
         ensures* writes_back { sem 𝓛 (LendsIf Self.row Self.Body.row self.entry result (filled self.old) self.old) }
         ensures value { IsLent (body self.old) result };
 
-    /// What is put behind it stands there.
+    /// What is put into it is its body.
     ghost fills: { (h : Self) (x : Self.Body) → body (filled h x) ≡ Some x };
 
-    /// Whether nothing stands behind it.
+    /// Whether it has no body.
     final fn is_empty(&mut self) -> bool
         ensures same { body self.new ≡ body self.old }
         ensures empty { result ≡ true → body self.old ≡ None }
@@ -105,7 +106,7 @@ pub trait CHandle: Sized {
         mem::replace(self, Self::of_handle(other)).into_handle()
     }
 
-    /// What stands behind it, if anything does, and the block that it stood in. It is empty then.
+    /// Takes the body, if there is one, and its block. The handle is empty then.
     final fn take(&mut self, alloc: Global) -> Option<(Self::Body, Vacant<Self::Body, Global>)>
         ensures body { MatchOption result (body self.old ≡ None) (λ taken. body self.old ≡ Some taken.0) }
         ensures empty { body self.new ≡ None }

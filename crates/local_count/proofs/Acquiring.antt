@@ -34,7 +34,7 @@ pub record MayAcquire (x : CpuView) (k : Found) : Type 0 where
   pub none : why_not_acquired_local x x.found ≡ None
   pub kept : IsFoundAs x k
 
--- by the answer that was given of the CPU, which is y to a contract
+-- by the result for the CPU, which is y to a contract
 pub may_acquire : (x y : CpuView) (k : Found) (why : Option Refusal) → IsShownCpu x → IsKept k x.found → x ≡ y → why ≡ why_not_acquired_local y y.found → ((f : Refusal) → why ≡ Some f → ⊥)
     → MayAcquire x k
 may_acquire x y k (Some f) shown kept view told off = absurd (off f refl)

@@ -56,7 +56,8 @@ HasReleased a v b = b ≡ record a {
   log = a.log ++ did (JoinRef a.view.id v.entry.number) Done ++ did (CountDown a.view.id) (Word (net_word a.view v.entry.number));
 }
 
--- The CPU found its count word collected, by a compare-exchange that it made: the reference is to the same entry, and shows it; the CPU is as it was, but for its log.
+-- The CPU found its count word collected, by a compare-exchange that it made. The reference is to the same entry, and shows it; the CPU is
+-- as it was, except its log.
 pub record HasComeBack (a : OnCpu) (v : ReferenceView) (b : OnCpu) (w : ReferenceView) : Type 0 where
   pub cpu : b ≡ record a { log = a.log ++ did (JoinRef a.view.id v.entry.number) Done ++ did (CountDown a.view.id) Collected ++ did (SplitBack a.view.id) (Ref 0) }
   pub is : w ≡ record { entry = v.entry; collected = Some a.view.id }

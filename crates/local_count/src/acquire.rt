@@ -14,8 +14,8 @@ use registry_values::{BIAS, Refusal, why_uncounted};
 use std::marker::PhantomData;
 
 /// Acquires a local reference to the CPU's last found entry: the CPU's own net count for it grows by one.
-/// Refused: `NothingFound` where this CPU has no last found entry, then `LocalFull` where its own net count for that entry is
-/// `count_limit`. Nothing changes then.
+/// Refused: `NothingFound` if this CPU has no last found entry, then `LocalFull` if its own net count for that entry is `count_limit`.
+/// Nothing changes then.
 pub fn acquire_local<D: Domain>(words: &Words, cpu: &mut Cpu<D>) -> Result<LocalRef<D>, Refusal>
     requires words { AreWordsOf words.now D.table D.settings }
     ensures { AnswersAcquireLocal cpu.old cpu.new result (λ v. v) }

@@ -12,11 +12,15 @@ use cpu_words::Words;
 use passive_list::{Keeper, publish_keeping};
 use registry_values::{Entry, Record};
 
-/// Publishes an interface in `slot`, which keeps the reference to its driver from now on: as `publish` does, with the reference spent
-/// before the first word is stored. It answers the entry.
-/// Condition: the slot is one of the table's and vacant, and keeps nothing (`Keeper::keeps`). The record's kind is Iface, the reference
-/// is to a driver, live or retired; the name is lawful, no live entry has this kind and name, and the history has room for this change and
-/// for the detach of each live entry, the new one too. The reference is of the keeper's table.
+/// Publishes an interface in `slot`, which keeps the reference to its driver from now on. It does what `publish` does, and spends the
+/// reference before the first word is stored. Returns the entry.
+///
+/// Conditions:
+///
+/// - the slot is one of the table's and vacant, and keeps nothing (`Keeper::keeps`);
+/// - the record's kind is Iface, its name is lawful, and no live entry has this kind and name;
+/// - the reference is of the keeper's table, to a driver, live or retired;
+/// - the history has room for this change and for the detach of each live entry, the new one too.
 pub fn publish_iface(
     words: &Words,
     keeper: &mut Keeper,

@@ -42,7 +42,7 @@ impl<D: Domain> LocalRef<D> {
         self.plain.kind()
     }
 
-    /// The record of the reference's entry, just as it was published, whatever became of the entry since: four loads.
+    /// The record of the reference's entry as it was published, also once the entry is detached: four loads.
     pub fn record(&mut self, words: &Words) -> Record
         requires words { words.now.table ≡ D.table }
         ensures same { self.new ≡ self.old }

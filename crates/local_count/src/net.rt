@@ -17,7 +17,7 @@ pub fn net_count(place: NumberedCount, number: u64) -> u64
     }
 }
 
-/// Makes the place that of `number`, with that count. It stores the number only where another one stands there: the next atomic operation
+/// Makes the place that of `number`, with that count. It stores the number only if the place has another one: the next atomic operation
 /// waits for each store before it.
 pub(crate) fn set_net(place: &mut NumberedCount, number: u64, count: u64)
     ensures { place.new ≡ record { number = number; count = count } }

@@ -50,7 +50,7 @@ impl PlainRef {
         self.kind
     }
 
-    /// The record of the reference's entry, just as it was published, whatever became of the entry since: four loads.
+    /// The record of the reference's entry as it was published, also once the entry is detached: four loads.
     pub fn record(&mut self, words: &Words) -> Record
         requires words { words.now.table ≡ self.old.table }
         ensures same { self.new ≡ self.old }

@@ -10,10 +10,9 @@ use crate::plain_ref::PlainRef;
 use cpu_words::{Domain, Words, steps};
 use passive_list::{Cpu, PlainCpu};
 
-/// Releases a local reference on this CPU, which needn't be the one that acquired it: this CPU's own net count for the entry goes down
-/// by one, and may be negative.
-/// The reference comes back just where the keeper had collected this CPU's count word for its slot: the reference shows that then, and
-/// the CPU is as it was but for its log.
+/// Releases a local reference on this CPU, which needn't be the one that acquired it: this CPU's net count for the entry goes down by one,
+/// and may be negative. The reference comes back only if the keeper had collected this CPU's count word for its slot. It shows that then,
+/// and the CPU is as it was, except its log.
 pub fn try_release<D: Domain>(
     words: &Words,
     cpu: &mut Cpu<D>,

@@ -25,7 +25,7 @@ pub detach_counted : (x y z : OnCpu) (e : Entry) (n : ℕ) → z ≡ record y { 
 detach_counted x y z e n is has = subst (λ (o : OnCpu). HasLearned x o × HasSeenDetach x o e) (sym is)
     (counted n x y has.0, record { end = has.1.end; later = has.1.later; ends = has.1.ends; attached = has.1.attached; log = has.1.log })
 
--- it made just the change that was counted
+-- it made exactly the change that was counted
 pub one_made : (note : List Change) (x y z : OnCpu) (c : Change) → number_of c ≤ MOST_CHANGES → HasHeardOn note x y → z ≡ record y { made = y.made + weight c } → HasMade x c z
 one_made note x y z c le hears is = record { number = le; made = ap (λ (o : OnCpu). o.made) is ∙ ap (λ (o : OnCpu). o.made + weight c) hears.is }
 

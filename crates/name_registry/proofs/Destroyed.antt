@@ -1,4 +1,4 @@
--- What a caller keeps of the turns of a destroy, whatever is known of the keeper between them.
+-- What a caller keeps of the turns of a destroy, though nothing is known of the keeper between them.
 use Rattle.std.proofs.Common.{◌≡◌, ℕ, zero, suc, ◌<◌, Bool, true, false, inl, ⊎_elim, List, ◌∷◌, ◌++◌, Result, Ok, Err, IfOk, IfErr, refl, sym, ap, ◌∙◌, subst, append_assoc, arith}
 use mathlib.Core.List.{IsPrefix}
 use Rattle.name_registry.specs.Types.{Refusal, Inside, NotRetired, Settings, Slot, Retired, Stage, Grace, Passive, Local, Freed, LogItem}

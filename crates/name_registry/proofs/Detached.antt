@@ -36,7 +36,7 @@ keeper_shows a k rows n x our is =
           (ap (λ (xs : List Slot). slot_at xs e.slot) seen.slots ∙ shown.placed e (subst (λ (h : List Change). IsLiveAt h (length h) e) seen.history live));
     }
 
--- what stands at the first place with a live entry of the key
+-- the first place with a live entry of the key
 pub place_tells : (x : OnKeeper) (key : Key) (t : ℕ) → ShowsLive x → position (is_live_as key) x.slots ≡ Some t → IsLivePlace x key (Some t)
 place_tells x key t shows at =
     let found = position-Some (is_live_as key) x.slots t Slot.Vacant at in

@@ -136,9 +136,6 @@ pub record HaveSeen (ys : List OnCpu) (n : ℕ) (h p : List Change) : Type 0 whe
   pub told : IsPrefix h p
   pub each : (c : ℕ) (y : OnCpu) → c < n → get_elem? ys c ≡ some y → IsPrefix h y.view.pass × IsPrefix y.view.pass p
 
-pub seen_none : (ys : List OnCpu) (h p : List Change) → p ≡ h → HaveSeen ys 0 h p
-seen_none ys h p is = record { told = ([], append-nil h ∙ sym is); each = λ c y lt. absurd (omega (arith, lt)) }
-
 pub seen_more : (ys : List OnCpu) (n : ℕ) (h p q : List Change) (x y : OnCpu) → HaveSeen ys n h p → HasHeardOn p x y → q ≡ y.view.pass → HaveSeen (set ys n y) (n + 1) h q
 seen_more ys n h p q x y so_far heard is =
     let next : IsPrefix p q = subst (IsPrefix p) (sym is) heard.told in
@@ -219,7 +216,7 @@ listened a b h log more view slots is = record {
   is = (h, λ j. record { view = view j; slots = slots j; log = b.log });
 }
 
--- What it answers is by the places, which are as they were
+-- Its result is by the places, which are as they were
 
 map_learned : (f : OnCpu → ℤ) (xs ys : List OnCpu) → length ys ≡ length xs → ((c : ℕ) (x y : OnCpu) → get_elem? xs c ≡ some x → get_elem? ys c ≡ some y → f y ≡ f x) → map f ys ≡ map f xs
 map_learned f [] [] size each = refl

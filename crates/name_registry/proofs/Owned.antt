@@ -1,4 +1,4 @@
--- What a caller keeps of a call through the lock, whatever is known of the keeper.
+-- What a caller keeps of a call through the lock, though nothing is known of the keeper.
 use Rattle.std.proofs.Common.{◌≡◌, ◌⊎◌, ⊎_elim, inl, inr, ℕ, zero, suc, ◌<◌, Bool, true, false, if◌then◌else◌, List, Option, Some, None, Result, Ok, Err, IfOk, IfErr, IfSome, refl, sym, ap, subst}
 use Rattle.std.proofs.Common.{arith}
 use Rattle.name_registry.specs.Types.{Room, Change, Entry, Record, Refusal, NameTaken, NoSlot, HistoryFull, Inside, NeedsDriver, Settings, Key, ReferenceView}

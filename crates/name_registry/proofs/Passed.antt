@@ -140,7 +140,7 @@ by_slot z numbers h end before since gap more t n c (Retired e) at on low number
     (λ (met : (j : ℕ) × MeetsGrace p.before t j p.after). absurd (met_none z numbers h end before since gap more t met.0 on p snapped all keeps met.1))
     p.passes.met
 
--- so the entry that had been detached by then has passed, if its slot wasn't given again
+-- so the entry that had been detached by then has passed, unless its slot was reused
 pub passed_end : (z : Settings) (numbers : List (Option ℕ)) (h end : OnKeeper) (before since gap more : List LogItem) (t n c : ℕ) → Passing z numbers h end before since gap → c < z.cpus
     → IsDetachedFrom t n before → get_or numbers t None ≡ Some n
     → ((j : ℕ) → j < z.cpus → (w : ℕ) × IsSnapped t j w before) → end.log ≡ before ++ more → KeepsSlot t more → HasPassedOn t c end.log

@@ -1,4 +1,4 @@
--- In whatever state shows the views, what an audit says is held of an entry is its tally.
+-- In any state that shows the views, what an audit says is held of an entry is its tally.
 use Rattle.std.proofs.Common.{◌≡◌, ◌≢◌, inl, inr, ⊎_elim, ℕ, zero, suc, ◌+◌, ◌*◌, ◌<◌, ◌≤◌, ◌&&◌, ℤ, pos, ◌+ℤ◌, List, [], ◌∷◌, length, get_or, map, fold, cond, sum_by, Bool, true, false, Some, refl}
 use Rattle.std.proofs.Common.{sym, ap, ◌∙◌, subst, arith}
 use Rattle.std.specs.List.{zip}
@@ -176,7 +176,7 @@ own_tally a k xs g t e known shown is =
     ap (λ locals. tally_by k locals e.number t)
     (locals_same (local_met k t e.number) (local_of k t e.number) xs (λ c x at. ap (λ net. local_by k t net x) (own_net g x t e (shown.cpus c x at) here)))
 
--- Where a state of its own shows each view, and the keeper had done just the same in all of them
+-- Where a state of its own shows each view, and the keeper had done the same in all of them
 
 pub in_occupant : (e : Entry) (x : Slot) → IsIn e x → occupant_of x ≡ Some e.number
 in_occupant e x is = ⊎_elim (λ (live : x ≡ Live e). ap occupant_of live) (λ (gone : x ≡ Retired e). ap occupant_of gone) is

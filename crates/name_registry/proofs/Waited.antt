@@ -22,7 +22,7 @@ use Rattle.name_registry.proofs.Worked.{prefix_on}
 use Rattle.name_registry.proofs.Noted.{by_meeting, by_meeting_again}
 use Rattle.passive_list.proofs.Logs.{goes_on, no_more}
 
--- What stands in a log
+-- What is in a log
 
 -- the word of c was taken
 pub record IsTaken (c w : ℕ) (log : List LogItem) : Type 0 where

@@ -1,4 +1,4 @@
--- A turn of the work on a retired entry: what it answers is what the keeper saw, and what it leaves.
+-- A turn of the work on a retired entry: its result is what the keeper saw.
 use Rattle.std.specs.Prelude.{◌≡◌, ◌≢◌, ◌⊎◌, ℕ, zero, suc, ◌+◌, ◌<◌, ◌≤◌, ◌%◌, List, [], ◌∷◌, ◌++◌, Option, true, false, Some, None, Bool, Result, Ok, Err, IfOk}
 use Rattle.name_registry.specs.Types.{Entry, Iface, Event, Look, PassiveLook, Word, Refusal, NotRetired, Settings, Stage, Grace, Passive, Local, Freed, Rest, Retired, LogItem, KeeperView, Keeper}
 use Rattle.name_registry.specs.Types.{KeptSlot}
@@ -34,9 +34,9 @@ pub record HasLookedFor (a : OnKeeper) (t : ℕ) (b : OnKeeper) : Type 0 where
   pub worked : HasWorkedFor a t b
   pub totals : b.view.totals ≡ a.view.totals
 
--- Which looks were made for the slot t, and that they stand in the keeper's log
+-- The looks that were made for the slot t, all of them in the keeper's log
 
--- just one look more at the section word of c, which was w: its mark says what the word tells
+-- exactly one look more at the section word of c, which was w: its mark says what the word tells
 pub record LooksFor (a : OnKeeper) (t c w : ℕ) (b : OnKeeper) : Type 0 where
   pub event : Makes (Look (Some t) c) (Word w) (Keeper a.view) (Keeper b.view)
   pub change : HasLooked a.view (Look (Some t) c) (Word w) t c w b.view

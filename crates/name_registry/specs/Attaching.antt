@@ -19,7 +19,7 @@ room_of a k = record { changes = length k.view.history; live = live_count k.slot
 abbrev pub given_entry : Settings → OnKeeper → Record → Result Entry Refusal
 given_entry a k rec = answers.given_entry (is_taken (key_of_record rec) k.slots) (first_fit k) (room_of a k) rec
 
--- The answers of the two calls: the record of an interface is unfit for the one, a reference to an interface for the other.
+-- The results of the two calls: the record of an interface is unfit for the one, a reference to an interface for the other.
 
 abbrev pub attach_answer : Settings → OnKeeper → OnCpu → Record → Result Entry Refusal
 attach_answer a k x rec = answers.attach_answer (is_inside x) (is_iface rec.kind) (given_entry a k rec)

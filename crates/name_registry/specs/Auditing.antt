@@ -124,14 +124,14 @@ pub record AreShown (g : State) (k : OnKeeper) (xs : List OnCpu) : Type 0 where
 abbrev pub IsTallied : OnKeeper → List OnCpu → Tally → Type 0
 IsTallied k xs b = b.held ≡ tally k xs b.number
 
--- Before it sums, an audit lets all know the same of the keeper's log: the keeper tells, each CPU hears in turn and tells on, and the keeper hears the last one. Then each view is shown by a state of
--- its own, in which the keeper had done just the same.
+-- Before it sums, an audit lets all know the same of the keeper's log: the keeper tells, each CPU hears in turn and tells on, and the
+-- keeper hears the last one. Then some state shows each view, and in it the keeper had done exactly this.
 
--- with another note beside it, some state shows the CPU, in which the keeper had done just this
+-- with another note beside it, some state shows the CPU, in which the keeper had done exactly this
 abbrev pub IsShownOn : List LogItem → OnCpu → Type 0
 IsShownOn log x = (h : List Change) × IsShownAfter log (Cpu (with_note x.view h))
 
--- each of the CPUs knows just this of the keeper's log
+-- each of the CPUs knows exactly this of the keeper's log
 abbrev pub KnowAll : List LogItem → List OnCpu → Type 0
 KnowAll log ys = (c : ℕ) (y : OnCpu) → get_elem? ys c ≡ some y → y.known_log ≡ log
 

@@ -7,7 +7,7 @@ use Rattle.registry_values.specs.Common.{slot_at}
 use Rattle.passive_list.specs.Common.{OnCpu, OnKeeper, HasHeardOn, HasDetached}
 use Rattle.name_registry.specs.Meeting.{is_inside, keeper_after_hear, HasSeenDetach}
 
--- the answer of a lookup now
+-- the result of a lookup now
 abbrev pub IsLookupNow : OnKeeper → Key → Option Entry → Type 0
 IsLookupNow k key answer = IsLookup k.view.history (length k.view.history) key answer
 

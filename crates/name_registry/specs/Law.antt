@@ -1,5 +1,5 @@
--- Laws over whatever table it is.
--- The free interlock: whoever holds the keeper, and has made no step yet, finds the balance of each slot equal to the local references held.
+-- Laws over any table. The free interlock: whoever holds the keeper, and has made no step yet, finds the balance of each slot equal to the
+-- local references held.
 use Rattle.std.specs.Prelude.{◌≡◌, ℕ, ◌+◌, ◌*◌, pos, All, List, [], map, sum_by, slice_index_or}
 use mathlib.Core.Option.{some}
 use lib.ListN.{get_elem?}
@@ -28,7 +28,7 @@ pub record IsBalancedRun (a : Settings) (s : Table ℕ View) (k : KeeperView) : 
   -- all that the protocol says of balances at rest: of vacant slots too, and that the references held are those of the model
   pub at_rest : BalancesAtRest (after (opening a) run.events)
 
--- whatever the table is while the keeper's seat has this view
+-- for any table while the keeper's seat has this view
 abbrev pub FreeInterlock : Settings → OnKeeper → Type 0
 FreeInterlock a k = (s : Table ℕ View) (i : ℕ) → Ruled a s → get_elem? s.views i ≡ some (Keeper k.view) → IsBalancedRun a s k.view
 
@@ -48,6 +48,6 @@ pub record IsExactRun (a : Settings) (s : Table ℕ View) (k : OnKeeper) (xs : L
   -- of all CPUs: what is held are the local references held to the entry
   pub held : AreAllCpus a.cpus xs → (list : List Balance) → IsAuditOf a k xs list → All (λ b. b.held ≡ pos (held_of (after (opening a) run.events) b.number)) list
 
--- whatever the table is while the seats have these views
+-- for any table while the seats have these views
 abbrev pub ExactAudit : Settings → OnKeeper → List OnCpu → Type 0
 ExactAudit a k xs = (s : Table ℕ View) → Ruled a s → AreSeated s k xs → IsExactRun a s k xs

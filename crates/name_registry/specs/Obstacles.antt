@@ -1,4 +1,4 @@
--- What a turn of the work on a retired entry met, by the keeper's log: so a CPU that has heard the log knows it, whatever the keeper does later.
+-- What a turn of the work on a retired entry met, by the keeper's log. A CPU that has heard the log knows it, also after later turns.
 use Rattle.std.specs.Prelude.{◌≡◌, ◌≢◌, ℕ, ◌+◌, ◌*◌, ◌<◌, ◌≤◌, ◌%◌, List, [], ◌∷◌, ◌++◌, length, Some, Result, Ok, Err}
 use mathlib.Core.List.{IsPrefix}
 use Rattle.name_registry.specs.Types.{Refusal, Inside, NotRetired, StillHeld, Settings, Stage, Grace, Passive, Local, Freed, LogItem}
@@ -14,8 +14,8 @@ IsRetiredIn t n log = (occupant t log ≡ Some n) × IsDetachedFrom t n log
 abbrev pub IsNotRetired : ℕ → List LogItem → Type 0
 IsNotRetired n log = (t : ℕ) → IsRetiredIn t n log → ⊥
 
--- The last thing that the keeper did, and in this turn, which began after `begin`, was to load the section word of c, which was odd, and as it was at the snapshot: the section that was open then was
--- open still, and may hold the entry. The CPUs before c have passed.
+-- The last thing that the keeper did, and in this turn, which began after `begin`, was to load the section word of c. The word was odd and
+-- as at the snapshot: the section from then was still open, and may hold the entry. The CPUs before c have passed.
 pub record MetSection (t c : ℕ) (begin log : List LogItem) : Type 0 where
   pub word : ℕ
   pub before : List LogItem

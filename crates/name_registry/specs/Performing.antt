@@ -18,7 +18,7 @@ pub record Looking : Type 0 where
 abbrev pub looking : OnKeeper → Looking
 looking k = record { view = k.view; log = k.log }
 
--- just this look more was made, and found the word w: it is counted with its answer and stands in the log, and nothing else changed
+-- exactly this look more was made, and found the word w: it is counted with its result and in the log, and nothing else changed
 pub record LooksOnce (k : Looking) (e : Event) (w : ℕ) (l : Looking) : Type 0 where
   pub event : Makes e (Word w) (Keeper k.view) (Keeper l.view)
   pub change : l ≡ record { view = keeper_after_look k.view e (Word w); log = k.log ++ did e (Word w) }
@@ -36,7 +36,8 @@ abbrev pub SnapshotsBelow : List ℕ → ℕ → Looking → Looking → Type 0
 SnapshotsBelow words zero k l = l ≡ k
 SnapshotsBelow words (suc n) k l = (m : Looking) × SnapshotsBelow words n k m × LooksOnce m (Snapshot None n) (word_of words n) l
 
--- The CPU c is glanced at once, unless it was seen out of the section of its snapshot before. It counts as seen then just where its own word, as this glance found it, is out of that section.
+-- The CPU c is glanced at once, unless it was seen out of the section of its snapshot before. It counts as seen exactly if its own word, as
+-- this glance found it, is out of that section.
 abbrev pub GlancesOnce : ℕ → ℕ → Bool → Looking → Bool → Looking → Type 0
 GlancesOnce snapshot c true k after l = (after ≡ true) × (l ≡ k)
 GlancesOnce snapshot c false k after l = (w : ℕ) × LooksOnce k (Look None c) w l × (after ≡ is_out snapshot w)
@@ -164,7 +165,7 @@ SomeGlanced z snapshots x seen told after y = (a : OnKeeper) × (b : OnKeeper) �
 abbrev pub SomePassed : Settings → OnCpu → List (Option ℕ) → OnCpu → Type 0
 SomePassed z x numbers y = (a : OnKeeper) × (b : OnKeeper) × HasPassedAll z a x numbers b y
 
--- What a call of perform made, by the least CPU that it told.
+-- What a call of perform made, by the lowest-numbered CPU that it told.
 abbrev pub HasPerformed : Settings → ℕ → OnCpu → Option ℕ → OnCpu → Type 0
 HasPerformed z turns x told y = Performs (SomeBegan z) (SomeGlanced z) (SomePassed z) turns x told y
 
@@ -175,9 +176,10 @@ PerformsOutside z turns false x result y = (told : Option ℕ) × (result ≡ wa
 
 -- What the caller's CPU knows at the end
 
--- When the keeper had done just `before`, it had heard the CPU, which told it all that it knew as the call began: what it knew of the keeper's log, and its pass. Since then the keeper saw each CPU
--- out of a section: by the law `running_headline` (`waiting`) each section has ended that was open then, or at any moment before the CPU told the keeper: so each that was open as the call began. And
--- each entry that had been detached by then, and whose slot wasn't given again since, has passed on each CPU.
+-- When the keeper had done `before` and no more, it had heard the CPU, which told all that it knew as the call began: its known log and its
+-- pass. Since then the keeper saw each CPU out of a section. By the law `running_headline` (`waiting`) each section has ended that was open
+-- then, or at any moment before the CPU told the keeper; so each that was open as the call began. And each entry that had been detached by
+-- then has passed on each CPU, unless its slot was reused.
 pub record HasSeenAllOut (cpus : ℕ) (x y : OnCpu) : Type 0 where
   pub before : List LogItem
   pub since : List LogItem

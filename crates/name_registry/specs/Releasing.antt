@@ -7,8 +7,8 @@ use Rattle.local_count.specs.References.{HasReleased, HasComeBack}
 use Rattle.passive_list.specs.Common.{OnCpu, OnKeeper, HasGivenUp, HasHeardOn}
 use Rattle.name_registry.specs.Meeting.{HasLearned, keeper_after_hear, keeper_after_tell, tells_and_hears}
 
--- Only where a compare-exchange found the CPU's own count word collected is the CPU as it was but for its log: the exchange stands there with its reply, and
--- after it that the reference came back.
+-- The CPU is as it was, except its log, only where a compare-exchange found the CPU's own count word collected. The exchange is in the log
+-- with its reply, and after it that the reference came back.
 abbrev pub IsLetGo : OnCpu → ReferenceView → OnCpu → Type 0
 IsLetGo x v y = HasReleased x v y ⊎ ((back : ReferenceView) × HasComeBack x v y back)
 

@@ -14,12 +14,17 @@ use local_count::{PlainRef, publish_iface};
 use passive_list::{Keeper, PlainCpu, publish};
 use registry_values::{Entry, Record, Refusal, attach_answer, is_iface};
 
-/// Attaches a driver: it gets the next number, from 1, and the least slot, from 0, that is vacant and keeps nothing; lookups that begin
-/// from now on find it, and the caller's CPU has seen its change. No retired slot is freed by it. It takes no memory.
+/// Attaches a driver: it gets the next number, from 1, and the lowest-numbered slot, from 0, that is vacant and keeps nothing. Lookups that
+/// begin from now on find it, and the caller's CPU has seen its change. It frees no retired slot, and takes no memory.
 /// Condition: the name is lawful, as `Name::parse` gives it.
-/// Refused, in this order, and nothing has changed then: `Inside` where the CPU is inside a section; `NeedsDriver` where the record's kind
-/// is Iface; `NameTaken` where a live entry has this kind and name; `NoSlot`; `HistoryFull` where the history has no room for this attach
-/// and the detach of each live entry, the new one too.
+///
+/// Refused, in this order, and nothing has changed then:
+///
+/// - `Inside`: the CPU is inside a section;
+/// - `NeedsDriver`: the record's kind is Iface;
+/// - `NameTaken`: a live entry has this kind and name;
+/// - `NoSlot`;
+/// - `HistoryFull`: the history has no room for this attach and the detach of each live entry, the new one too.
 pub fn attach_in(
     words: &Words,
     keeper: &mut Keeper,
@@ -42,11 +47,10 @@ pub fn attach_in(
     Ok(entry)
 }
 
-/// Attaches an interface on the driver that the reference is to: its slot keeps the reference until it is freed. Else it is as
-/// `attach_in`.
+/// Attaches an interface on the driver that the reference is to: its slot keeps the reference until it is freed. Else it is as `attach_in`.
 /// Condition: the record's kind is Iface, and its name is lawful.
-/// Refused, in this order, and nothing has changed then, and the reference comes back: `Inside` where the CPU is inside a section;
-/// `NeedsDriver` where the reference is to an interface; `NameTaken`; `NoSlot`; `HistoryFull`.
+/// Refused, in this order, and nothing has changed then, and the reference comes back: `Inside` if the CPU is inside a section;
+/// `NeedsDriver` if the reference is to an interface; `NameTaken`; `NoSlot`; `HistoryFull`.
 pub fn attach_iface_in(
     words: &Words,
     keeper: &mut Keeper,

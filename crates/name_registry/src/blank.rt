@@ -40,7 +40,7 @@ impl Model for Blank {
 
 impl Blank {
     /// The words of a registry with these settings: nothing is attached, and all its CPUs are outside.
-    /// Refused: `BadSettings` where `Settings::check` refuses them, and `NoMemory`.
+    /// Refused: `BadSettings` if `Settings::check` refuses them, and `NoMemory`.
     pub fn new(alloc: Global, settings: Settings) -> Result<Blank, Refusal>
         ensures ok { IfOk result (λ blank. blank.settings ≡ settings) }
         ensures bad { IsErrOf result Refusal.BadSettings ↔ are_fit settings ≡ false }

@@ -18,20 +18,18 @@ use std::sync::Wait;
 use std::thread::yield_now;
 
 impl<D: Domain> Registry<D> {
-    /// Destroys the retired entry `number` (psref_target_destroy of psref(9), localcount_drain of localcount(9)): `advance` at most `turns`
-    /// times. Between them the interlock is free, and other threads may have the processor. The answer is the slot, from 0, that is vacant
-    /// again.
-    ///
-    /// Ok says in what this CPU knows (`gone`): the entry was attached in that slot and detached, and then the keeper made the slot vacant. By the
-    /// law `running_headline` (`freed`) it has no slot, and no section, passive reference or local reference holds it: whatever the table is, now
-    /// or later. What the last turn met is in what the CPU knows, too (`answer`): as that turn began the keeper had heard all that the caller knew
-    /// at the call, and by the keeper's log then the entry was retired, or, for `NotRetired`, it wasn't; as it ended the slot was free, or the last
-    /// word that it loaded stopped it, or so many local references were left. To know this the CPU tells the keeper what it knows as a turn begins
-    /// and ends, and hears it then: nine loads in each turn beside those of the work, and its pass grows as by `hear`.
+    /// Destroys the retired entry `number`: at most `turns` turns of `advance` (psref_target_destroy(9), localcount_drain(9)), with the
+    /// interlock free between them. Returns the slot, from 0, that is vacant again.
     /// Condition: at least one turn.
-    /// Refused, in this order: `Inside` where the CPU is inside a section, and nothing has changed then; `NotRetired` where no slot has the
-    /// retired entry `number`, also where another caller freed it between two turns; `StillHeld` with the obstacle that the last turn met.
-    /// What the turns made before either noted and collected stays.
+    ///
+    /// - Ok (`gone`): nothing holds the entry, now or later, by the law `running_headline` (`freed`).
+    /// - Each result (`answer`): the caller's CPU knows what the last turn met, at nine loads a turn; its pass grows as by `hear`.
+    ///
+    /// Refused, in this order:
+    ///
+    /// - `Inside`: the CPU is inside a section; nothing has changed then;
+    /// - `NotRetired`: no slot has the retired entry `number`, also if another caller freed it between two turns;
+    /// - `StillHeld`, with the obstacle of the last turn. What turns noted and collected stays.
     pub fn destroy<R: Wait>(
         &self,
         rt: &R,
@@ -55,7 +53,7 @@ impl<D: Domain> Registry<D> {
     }
 }
 
-/// What a `destroy` does under the interlock, which it takes anew for each turn. What stands between two turns is the caller's CPU.
+/// What a `destroy` does under the interlock, which it takes anew for each turn. Only the caller's CPU lasts from one to the next.
 trait AdvancesUnderInterlock<D: Domain> {
     ghost use Rattle.std.specs.Prelude.{ℕ, Result};
     ghost use Rattle.name_registry.specs.Types.{Refusal, Stage};

@@ -12,10 +12,9 @@ use cpu_words::Words;
 use passive_list::{Keeper, KeptSlot, PlainCpu, retire};
 use registry_values::{Entry, Key, Kind, Name, Refusal, detach_answer, is_live_as};
 
-/// Detaches the live entry with the kind and the name, and answers it: lookups that begin from now on don't find it, the caller's CPU has
-/// seen its change, and it is retired, which `advance_in` works on. It takes no memory.
-/// Refused, in this order, and nothing has changed then: `Inside` where the CPU is inside a section; `NotFound` where no live entry has
-/// both.
+/// Detaches the live entry with the kind and the name, and returns it. Lookups that begin from now on don't find it, and the caller's CPU
+/// has seen its change. It is retired: `advance_in` works on it. It takes no memory.
+/// Refused, in this order, and nothing has changed then: `Inside` if the CPU is inside a section; `NotFound` if no live entry has both.
 pub fn detach_in(
     words: &Words,
     keeper: &mut Keeper,

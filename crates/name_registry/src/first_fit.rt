@@ -38,7 +38,7 @@ fn is_live_in(rows: &[KeptSlot], key: Key) -> bool
     rows.iter().any(|row| is_live_as(key, &row.state))
 }
 
-/// The least slot that is vacant and keeps nothing.
+/// The lowest-numbered slot that is vacant and keeps nothing.
 fn first_fit(keeper: &Keeper) -> Option<u8>
     ensures value { result ≡ first_fit keeper.now.keeper }
     ensures within { IfSome result (λ t. t < keeper.now.words.settings.slots) }

@@ -56,8 +56,8 @@ fn retired_numbers(keeper: &Keeper) -> [Option<u64>; MOST_SLOTS]
     numbers
 }
 
-/// One turn of such a wait: a glance at each CPU that wasn't seen out of the section of its snapshot yet. The answer is the least that still
-/// wasn't. It takes no memory.
+/// One turn of such a wait: a glance at each CPU that wasn't seen out of the section of its snapshot yet. Returns the lowest-numbered CPU
+/// that still wasn't seen. It takes no memory.
 pub fn glance_at_all(
     words: &Words,
     keeper: &mut Keeper,

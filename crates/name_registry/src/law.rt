@@ -6,9 +6,12 @@ ghost use Rattle.name_registry.specs.Law.{ExactAudit, FreeInterlock};
 use cpu_words::Domain;
 use passive_list::{Cpu, Keeper};
 
-/// Whoever holds the keeper, and has made no step yet, finds the balance of each slot equal to the local references held to its entry
-/// (localcount(9)): whatever the words and the seats of all threads are then. A list of events leads to the state that is balanced, and
-/// the words and the views of all seats show it. The answer says nothing; the contract is the law.
+/// Theorem, no effect at run time: the balance of each slot is the local references held to its entry (localcount(9)).
+///
+/// Hypotheses: the caller holds the keeper, and has made no step yet.
+///
+/// Conclusion, for the words and seats of all threads at that time: a list of events leads to a state that they all show, and in that state
+/// each slot is balanced. The result says nothing.
 pub fn free_interlock(keeper: &Keeper) -> u64
     ensures law { FreeInterlock keeper.now.words.settings keeper.now.keeper }
 {
@@ -17,10 +20,17 @@ pub fn free_interlock(keeper: &Keeper) -> u64
     keeper.changes()
 }
 
-/// Whoever holds the keeper and CPUs, and has made no step yet, has the views of one state: whatever the words and the seats of all threads
-/// are then, a list of events leads to a state that the words, this keeper and these CPUs show. So what an audit of them lists
-/// (localcount(9)) are the CPUs' net counts, and what it says is held is the tally, and, where they are all CPUs, the number of local
-/// references held to the entry. The answer says nothing; the contract is the law.
+/// Theorem, no effect at run time: an audit lists the right numbers (localcount(9)).
+///
+/// Hypotheses: the caller holds the keeper and some CPUs, and has made no step yet.
+///
+/// Conclusions, for the words and seats of all threads at that time:
+///
+/// 1. a list of events leads to one state that the words, this keeper and these CPUs show;
+/// 2. what an audit of them lists is the CPUs' net counts, and what it says is held is the tally;
+/// 3. if they are all CPUs, that is the number of local references held to the entry.
+///
+/// The result says nothing.
 pub fn exact_audit<D: Domain>(keeper: &Keeper, cpus: &[Cpu<D>]) -> u64
     ensures law { ExactAudit keeper.now.words.settings keeper.now.keeper cpus.now }
 {
@@ -29,9 +39,10 @@ pub fn exact_audit<D: Domain>(keeper: &Keeper, cpus: &[Cpu<D>]) -> u64
     keeper.changes()
 }
 
-/// What a CPU's share has grown by tells which change its calls made: where it is one change's weight, they made one change, an attach or a
-/// detach as that one and of its number, whatever changes one might think of that weigh as much together. The answer says nothing; the
-/// contract is the law.
+/// Theorem, no effect at run time: a CPU's share tells which change its calls made.
+///
+/// If the share has grown by the weight of one change, the calls made one change, of that kind and number. No other changes weigh as much
+/// together. The result says nothing.
 #[tactic(auto, using(crate::proofs::Weights::weights_tell))]
 pub fn weights_law() -> u64
     ensures law { WeightsTell }

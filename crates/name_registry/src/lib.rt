@@ -1,10 +1,11 @@
 //! A registry of network interfaces and device drivers behind one interlock.
 //!
-//! Lookups and references need the words alone (`Registry::words`) and never wait. What changes the registry goes through the interlock,
-//! a lock round the keeper: attaching, detaching, and the work on retired entries, of which `destroy` makes several turns and gives the
-//! interlock up between them. Each such call has a lent form, `attach_in` and its like, for a caller that holds the keeper: what a call
-//! did to the keeper can be said of these alone, since no contract can name the value of a lock. Which change a call made is told through
-//! the lock, too, by the share of a ledger that each CPU has.
+//! - Lookups and references need only the words (`Registry::words`), and never wait.
+//! - Attaching, detaching and the work on retired entries take the interlock, a lock around the keeper. `destroy` makes several turns of
+//!   that work, and releases the interlock between them.
+//! - Each such call has a lent form, `attach_in` and its like, for a caller that holds the keeper. Only a lent form says what a call did to
+//!   the keeper: no contract can name the value of a lock. Through the lock the share of a ledger tells which change a call made; each CPU
+//!   has one.
 #![tactic(auto)]
 
 mod advancing;

@@ -16,22 +16,20 @@ use std::sync::Wait;
 use std::thread::yield_now;
 
 impl<D: Domain> Registry<D> {
-    /// Waits, for at most `turns` turns, until each section that is open as the call begins has ended (pserialize_perform of
-    /// pserialize(9)); between the turns the interlock is free, and other threads may have the processor. As it begins it takes the section
-    /// word of each CPU and the numbers of the retired entries. Each turn loads the word of each CPU that wasn't seen yet, and a CPU counts
-    /// as seen once its own word was even or another one. Once all were seen, each CPU that hasn't passed for one of those entries is looked
-    /// at for it, so that it passes, as `advance` has it.
-    ///
-    /// Ok says in what this CPU knows (`waited`): each section that was open as the call began, of whatever CPU, has ended, whether or not this
-    /// CPU knew of it. For there was a moment at which the keeper had heard this CPU, which had told it all that it knew; the keeper's log says
-    /// so; and each section that was open then, or at any moment before the CPU told, has ended. So no section that is open now or later may
-    /// hold an entry that was detached as the call began: whatever the table is, the law `running_headline` says so of it (`waiting`). And each
-    /// such entry has passed on each CPU, if its slot wasn't given again since: the looks at the end met no section that was open still. To
-    /// know this the CPU tells the keeper first as it begins, in each turn and at the end, and hears it at the end of each: its pass grows as
-    /// by `hear`.
+    /// Waits, for at most `turns` turns, until each section that is open as the call begins has ended (pserialize_perform(9)). The
+    /// interlock is free between the turns. The pass grows as by `hear`.
     /// Condition: at least one turn.
-    /// Refused, in this order: `Inside` where the CPU is inside a section, and nothing has changed then; `Waiting` with the least CPU that
-    /// wasn't seen out of its section in any of the turns: no CPU was looked at for an entry then, so no mark has changed.
+    ///
+    /// Ok (`waited`), by the law `running_headline` (`waiting`):
+    ///
+    /// 1. each section that was open as the call began has ended, on any CPU;
+    /// 2. no section may hold an entry that was detached by then;
+    /// 3. each such entry has passed on each CPU, unless its slot was reused.
+    ///
+    /// Refused, in this order:
+    ///
+    /// - `Inside`: the CPU is inside a section; nothing has changed then;
+    /// - `Waiting`, with the lowest-numbered CPU that wasn't seen out of its section; no mark has changed then.
     pub fn perform<R: Wait>(&self, rt: &R, cpu: &mut Cpu<D>, turns: u32) -> Result<(), Refusal>
         requires { 1 ≤ turns }
         ensures done { IfOk result (λ _. is_inside cpu.old ≡ false) }
@@ -48,8 +46,8 @@ impl<D: Domain> Registry<D> {
     }
 }
 
-/// What a `perform` does under the interlock, which it takes anew for each of these calls. What stands between two of them is the caller's
-/// CPU.
+/// What a `perform` does under the interlock, which it takes anew for each of these calls. Only the caller's CPU lasts from one to the
+/// next.
 trait UnderInterlock<D: Domain> {
     ghost use Rattle.std.specs.Prelude.{ℕ, List, Option, Bool};
     ghost use Rattle.passive_list.specs.Common.{OnCpu};
@@ -69,7 +67,7 @@ trait UnderInterlock<D: Domain> {
     ) -> ([u64; MOST_CPUS], [Option<u64>; MOST_SLOTS])
         ensures { begins cpu.old result.0 result.1 cpu.new };
 
-    /// One turn: a glance at each CPU that wasn't seen yet. The answer is the least that still wasn't.
+    /// One turn: a glance at each CPU that wasn't seen yet. Returns the lowest-numbered that still wasn't.
     fn glance<R: Wait>(
         &mut self,
         rt: &R,
@@ -84,8 +82,8 @@ trait UnderInterlock<D: Domain> {
         ensures { passes cpu.old numbers.now cpu.new };
 }
 
-/// Begins, waits for at most `turns` turns, and passes what was retired as it began. The answer is the least CPU that wasn't seen out of the
-/// section of its snapshot; nothing is passed then.
+/// Begins, waits for at most `turns` turns, and passes what was retired as it began. Returns the lowest-numbered CPU that wasn't seen out
+/// of the section of its snapshot; nothing is passed then.
 fn perform_in_turns<D: Domain, I: UnderInterlock<D>, R: Wait>(
     rt: &R,
     interlock: &mut I,

@@ -32,7 +32,7 @@ pub struct Registry<D: Domain> {
 }
 
 impl<D: Domain> Registry<D> {
-    /// The shared words, with which sections, lookups and references are made. No call on them waits.
+    /// The shared words. Sections, lookups and references need them, and no call on them waits.
     pub fn words(&self) -> &Words
         ensures { AreWordsOf result.now D.table D.settings }
     {
@@ -42,8 +42,8 @@ impl<D: Domain> Registry<D> {
     /// Attaches a driver under the interlock, as `attach_in` does; the caller's CPU has seen its change then, and its share tells that this
     /// one was made, and no other.
     /// Condition: the name is lawful, as `Name::parse` gives it.
-    /// Refused, in this order, and nothing has changed then: `Inside` where the CPU is inside a section; `NeedsDriver` where the record's
-    /// kind is Iface; `NameTaken`; `NoSlot`; `HistoryFull`.
+    /// Refused, in this order, and nothing has changed then: `Inside` if the CPU is inside a section; `NeedsDriver` if the record's kind is
+    /// Iface; `NameTaken`; `NoSlot`; `HistoryFull`.
     pub fn attach<R: Wait>(&self, rt: &R, cpu: &mut Cpu<D>, rec: Record) -> Result<Entry, Refusal>
         requires name { IsTrue (is_lawful rec.name) }
         ensures may { IfOk result (λ _. MayAttach (is_inside cpu.old) (is_iface rec.kind)) }
@@ -57,8 +57,8 @@ impl<D: Domain> Registry<D> {
     /// Attaches an interface under the interlock, on the driver that the reference is to, as `attach_iface_in` does; the caller's CPU has
     /// seen its change then, and its share tells that this one was made, and no other.
     /// Condition: the record's kind is Iface, and its name is lawful.
-    /// Refused, in this order, and nothing has changed then, and the reference comes back: `Inside` where the CPU is inside a section;
-    /// `NeedsDriver` where the reference is to an interface; `NameTaken`; `NoSlot`; `HistoryFull`.
+    /// Refused, in this order, and nothing has changed then, and the reference comes back: `Inside` if the CPU is inside a section;
+    /// `NeedsDriver` if the reference is to an interface; `NameTaken`; `NoSlot`; `HistoryFull`.
     pub fn attach_iface<R: Wait>(
         &self,
         rt: &R,
@@ -78,10 +78,9 @@ impl<D: Domain> Registry<D> {
         interlock.attach_iface(&self.words, cpu, rec, reference)
     }
 
-    /// Detaches the live entry with the kind and the name under the interlock, as `detach_in` does, and answers it; the caller's CPU has
-    /// seen its change then, and its share tells that this one was made, and no other.
-    /// Refused, in this order, and nothing has changed then: `Inside` where the CPU is inside a section; `NotFound` where no live entry has
-    /// both.
+    /// Detaches the live entry with the kind and the name under the interlock, as `detach_in` does, and returns it. The caller's CPU has
+    /// seen its change then, and its share tells that this change was made and no other.
+    /// Refused, in this order, and nothing has changed then: `Inside` if the CPU is inside a section; `NotFound` if no live entry has both.
     pub fn detach<R: Wait>(
         &self,
         rt: &R,

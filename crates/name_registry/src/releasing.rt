@@ -13,9 +13,10 @@ use passive_list::{Cpu, Keeper, PlainCpu};
 use std::sync::Wait;
 
 impl<D: Domain> Registry<D> {
-    /// Releases a local reference (localcount(9)), by this CPU's own count, or, where a compare-exchange finds its count word collected, under the
-    /// interlock: the CPU is as it was then but for its log, which has that exchange. It always succeeds. Any CPU may release it, also inside a
-    /// section.
+    /// Releases a local reference (localcount(9)), and always succeeds. Any CPU may release it, also inside a section.
+    ///
+    /// It is released by this CPU's own count. Where a compare-exchange finds that count word collected, it is given up under the
+    /// interlock: the CPU is as it was then, except its log, which has that exchange.
     pub fn release_local<R: Wait>(&self, rt: &R, cpu: &mut Cpu<D>, reference: LocalRef<D>)
         ensures { IsLetGo cpu.old reference cpu.new }
     {

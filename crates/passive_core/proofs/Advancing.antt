@@ -65,7 +65,7 @@ not_true true r is at = absurd (let q : ◌≡◌ {A = Bool} false true = sym is
 pub examines : (s : State) (t c : ℕ) → at_rest s.due ≡ true → is_retired (slot_at s.slots t) ≡ true → c < s.settings.cpus → may_examine s t c ≡ true
 examines s t c rest gone lt = and_from (at_rest s.due) _ rest (and_from (nat_lt c s.settings.cpus) _ (lt-ltb c s.settings.cpus lt) gone)
 
--- a look passes just where the section isn't the one of the snapshot
+-- a look passes exactly where the section isn't the one of the snapshot
 shows_passed : (m : Mark) (w x : ℕ) (begin : Option ℕ) → m.snapshot ≡ Some x → (begin ≡ None → w % 2 ≡ 0) → ((b : ℕ) → begin ≡ Some b → w % 2 ≡ 1)
     → ((b : ℕ) → begin ≡ Some b → m.passed ≡ true → w ≡ x → ⊥)
     → (mark_after_look m w).passed ≡ not (is_some begin && is_snapshot m.snapshot w)

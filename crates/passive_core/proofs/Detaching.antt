@@ -19,7 +19,7 @@ use Rattle.registry_values.proofs.Slots.{key_same, live_tells}
 
 -- Live entries and keys
 
--- what stands at the first place with a live entry of the key
+-- the first place with a live entry of the key
 pub place_lookup : (s : State) (key : Key) (t : ℕ) → Holds s → position (is_live_as key) s.slots ≡ Some t
     → (e : Entry) × (slot_at s.slots t ≡ Live e) × IsLookupNow s key (Some e) × (slot_at s.slots e.slot ≡ Live e)
 place_lookup s key t on at =

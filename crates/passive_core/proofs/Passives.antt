@@ -150,7 +150,7 @@ abbrev replied : Option Outcome → ℕ
 replied None = 0
 replied (Some o) = word_in o.reply
 
--- the word that a load replied is the one that stands there
+-- the word that a load replied is the word there
 pub same_word : (s : State) (o : Option Outcome) (v w : ℕ) → o ≡ some_outcome s (Word v) → o ≡ some_outcome s (Word w) → v ≡ w
 same_word s o v w is was = ap replied (sym is ∙ was)
 

@@ -15,7 +15,7 @@ use Rattle.protocol.proofs.slots.Numbers.{position_passes}
 use Rattle.protocol.proofs.slots.Occupied.{in_within, one_number}
 use Rattle.protocol.proofs.Either.{either}
 
--- A word that hasn't changed is out of its section just where the CPU is outside.
+-- A word that hasn't changed is out of its section exactly where the CPU is outside.
 
 out_shown : (w : ℕ) (begin : Option ℕ) → (begin ≡ None → w % 2 ≡ 0) → ((b : ℕ) → begin ≡ Some b → w % 2 ≡ 1) → is_out w w ≡ not (is_some begin)
 out_shown w None outside inside = ap (λ (b : Bool). b || not (w == w)) (eq-eqb (w % 2) 0 (outside refl))

@@ -15,7 +15,7 @@ is_snapshot (Some x) w = x == w
 abbrev pub is_open_since : State → ℕ → ℕ → Bool
 is_open_since s t c = is_inside s c && is_snapshot (mark_at s.marks t c).snapshot (section_at s c)
 
--- c has a passive reference to what stands in t
+-- c has a passive reference to the entry in t
 abbrev pub has_passive : State → ℕ → ℕ → Bool
 has_passive s t c = nat_lt 0 (passive_at s.passive c t)
 
@@ -26,7 +26,7 @@ first_obstacle s t n = stage_of t (least_below (is_open_since s t) s.settings.cp
 abbrev pub stage_in : State → ℕ → Option ℕ → Result Stage Refusal
 stage_in s n place = stages.stage_in (λ t. first_obstacle s t n) place
 
--- The answer of advance.
+-- The result of advance.
 abbrev pub advance_answer : State → ℕ → Result Stage Refusal
 advance_answer s n = stage_in s n (retired_slot s.slots n)
 
@@ -83,7 +83,7 @@ pub record AllNoted (s : State) (t : ℕ) : Type 0 where
   pub clear : AllClear s t
   pub collected : AllCollected s t
 
--- a section or a passive reference stands in the way: seats and marks of the slot t are all that changes
+-- a section or a passive reference is in the way: only seats and marks of the slot t change
 pub record LeavesMarks (old new : State) (t : ℕ) : Type 0 where
   pub only : new ≡ record old { seated = old.settings.cpus; marks = new.marks }
   pub marks : MarksGrow old.marks new.marks t
@@ -155,7 +155,7 @@ abbrev pub AdvanceMarks : State → State → ℕ → Result Stage Refusal → T
 AdvanceMarks old new n (Err refusal) = new.marks ≡ old.marks
 AdvanceMarks old new n (Ok stage) = (t : ℕ) × (retired_slot old.slots n ≡ Some t) × StageMarks old new t stage
 
--- The answer of destroy.
+-- The result of destroy.
 abbrev pub destroy_answer : State → ℕ → ℕ → Result ℕ Refusal
 destroy_answer s c n = stages.destroy_answer (is_inside s c) (advance_answer s n)
 

@@ -22,7 +22,7 @@ abbrev pub after_detach : State → ℕ → Result Entry Refusal → State
 after_detach s c (Ok e) = with_detached s c e
 after_detach s c (Err r) = s
 
--- the answer of a lookup now
+-- the result of a lookup now
 abbrev pub IsLookupNow : State → Key → Option Entry → Type 0
 IsLookupNow s key answer = IsLookup s.history (length s.history) key answer
 
@@ -32,7 +32,7 @@ IsDetachRefusal s c key NotFound = (is_inside s c ≡ false) × IsLookupNow s ke
 IsDetachRefusal s c key NoMemory = (is_inside s c ≡ false) × ((e : Entry) × IsLookupNow s key (Some e))
 IsDetachRefusal s c key _ = ⊥
 
--- The entry that a lookup of the key gives now. Refused inside a section, where there is none, and for want of memory, in this order.
+-- The entry that a lookup of the key gives now. Refused inside a section, if there is none, and if memory runs out, in this order.
 abbrev pub IsDetachAnswer : State → ℕ → Key → Result Entry Refusal → Type 0
 IsDetachAnswer s c key (Ok e) = (is_inside s c ≡ false) × IsLookupNow s key (Some e)
 IsDetachAnswer s c key (Err r) = IsDetachRefusal s c key r

@@ -6,7 +6,7 @@ use Rattle.registry_values.specs.Answers as answers
 use Rattle.registry_values.specs.Common.{bias, slot_of}
 use Rattle.passive_core.specs.Commands.{all_seated}
 
--- the count word of c, or its net count word, for what stands in that slot
+-- the count word of c, or its net count word, for the entry in that slot
 abbrev pub count_in : List (List ℕ) → ℕ → Option ℕ → ℕ
 count_in counts c None = 0
 count_in counts c (Some t) = count_at counts c t
@@ -16,7 +16,7 @@ abbrev pub count_refusal : State → ℕ → Option Entry → Option Refusal
 count_refusal s c None = Some NothingFound
 count_refusal s c (Some e) = answers.why_uncounted (count_in s.nets c (slot_of s.slots e.number)) (bias + s.settings.count_limit)
 
--- the answer: the least id that no live reference and no hand has; memory is refused only where each id up to the greatest is in use
+-- the result: the lowest id that no live reference and no hand has; memory is refused only if each id up to the greatest is in use
 abbrev pub IsCounted : State → Option Refusal → Result ℕ Refusal → Type 0
 IsCounted s refusal (Ok id) = (refusal ≡ None) × (id ≡ least_id s.locals)
 IsCounted s refusal (Err NoMemory) = (refusal ≡ None) × (position is_free s.locals ≡ None)

@@ -38,7 +38,8 @@ abbrev pub snapshots_from : ℕ → ℕ → ℕ → List Event
 snapshots_from t c zero = []
 snapshots_from t c (suc n) = Snapshot (Some t) c ∷ snapshots_from t (c + 1) n
 
--- The events of a detach by c of what stands in the slot t, once all CPUs are seated: c tells the keeper of its pass, the entry is unlinked and each CPU's snapshot taken, and c hears of it.
+-- The events of a detach by c of the entry in the slot t, once all CPUs are seated: c tells the keeper of its pass, the entry is unlinked
+-- and each CPU's snapshot taken, and c hears of it.
 abbrev pub detach_events : ℕ → ℕ → ℕ → List Event
 detach_events cpus c t = Tell (Some c) ∷ Hear None ∷ Unpublish t ∷ (snapshots_from t 0 cpus ++ Tell None ∷ Hear (Some c) ∷ [])
 

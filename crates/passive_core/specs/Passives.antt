@@ -42,7 +42,7 @@ IsRecordOf h n r = (e : Entry) × IsAttached h e × (e.number ≡ n) × (r ≡ e
 abbrev pub IsWordLoad : State → RecordOf → Type 0
 IsWordLoad s of = (w : ℕ) × (load_record s of ≡ some_outcome s (Word w))
 
--- all CPUs are seated, and c has a reference more, or less, to what stands in that slot
+-- all CPUs are seated, and c has a reference more, or less, to the entry in that slot
 abbrev pub with_one_more : State → ℕ → Option ℕ → State
 with_one_more s c None = all_seated s
 with_one_more s c (Some t) = after_add (all_seated s) c t

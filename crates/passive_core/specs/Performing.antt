@@ -7,7 +7,7 @@ use Rattle.passive_core.specs.Commands.{all_seated}
 use Rattle.passive_core.specs.Advancing.{Passes}
 use Rattle.registry_values.specs.Answers as answers
 
--- The answer of perform: whether the caller is inside a section, else the least CPU that is.
+-- The result of perform: whether the caller is inside a section, else the lowest-numbered CPU that is.
 abbrev pub perform_answer : State → ℕ → Result (Unit {0}) Refusal
 perform_answer s c = answers.perform_answer (is_inside s c) (least_below (is_inside s) s.settings.cpus)
 

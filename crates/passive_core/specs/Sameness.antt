@@ -2,7 +2,7 @@
 use Rattle.std.specs.Prelude.{◌≡◌}
 use Rattle.protocol.specs.Common.{State}
 
--- the list, what stands in its slots, their marks, and the history
+-- the list, its slots, their marks, and the history
 pub record HaveSameSlots (s t : State) : Type 0 where
   pub head : s.head ≡ t.head
   pub next : s.next ≡ t.next

@@ -1,9 +1,9 @@
 //! The protocol of read sections, passive references and local counts, as a pure machine.
 //!
 //! A `Core` owns one state of the protocol, for all CPUs, and takes one event at a time: `step` makes it where it is allowed. The commands
-//! (`attach`, `enter`, `find`, ..) make the events that a registry's call makes, one after the other, and answer as the call does. There
-//! are no threads and no shared words here, so a test bench can drive any order of events, and each contract says exactly what is answered
-//! and left.
+//! (`attach`, `enter`, `find`, ..) make the events of a registry's call, one after the other, and return what the call returns. There are
+//! no threads and no shared words here, so a test bench can drive any order of events. Each contract says exactly what is returned and
+//! left.
 #![tactic(auto)]
 
 mod machine;

@@ -32,7 +32,7 @@ const NO_WORDS: RecordWords = RecordWords {
     value: 0,
 };
 
-/// The machine: the words, and what stands beside them.
+/// The machine: the shared words, and the plain state of each CPU and of the keeper.
 #[derive(Drop)]
 pub struct Core {
     settings: Settings,
@@ -74,7 +74,7 @@ impl Model for Core {
 
 impl Core {
     /// A core with these settings: no history, all slots vacant, all words 0 but the totals, and no CPU seated.
-    /// Refused: `BadSettings` where `Settings::check` refuses them, and `NoMemory`.
+    /// Refused: `BadSettings` if `Settings::check` refuses them, and `NoMemory`.
     pub fn new(alloc: Global, settings: Settings) -> Result<Core, Refusal>
         ensures ok { IfOk result (λ core. IsTrue (are_fit settings) × (core ≡ opening settings)) }
         ensures quiet { IfOk result (λ core. IsQuiet core) }

@@ -184,7 +184,7 @@ published_at_rest a k rows e v asked =
           omega (arith, more, count, long, room);
     }
 
--- what the keeper has agrees with what it publishes, whatever step before brought its seat to the view k
+-- what the keeper has agrees with what it publishes, after any step that brought its seat to the view k
 pub published_keeper : (a : Settings) (k l : KeeperView) (rows : List KeptSlot) (n : ℕ) (e : Entry) (v : ℕ) → n ≡ length k.history → MayAttach a k rows e → l ≡ keeper_after_publish k e v → IsShown l
     → IsOurKeeper a l (set rows e.slot (row_live (row_at rows e.slot) e)) (n + 1)
 published_keeper a k l rows n e v was asked change is_shown =

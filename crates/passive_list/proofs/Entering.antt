@@ -12,7 +12,7 @@ few : (b : Option ℕ) → depth_of b ≤ 1
 few None = omega arith
 few (Some b) = omega arith
 
--- the CPU may begin a section just where it has ended fewer than that
+-- the CPU may begin a section exactly where it has ended fewer than that
 pub may_begin_is : (z : TableId) (a : Settings) (t : TableId) (x : CpuView) (c w d : ℕ) (e : Found) (ps ns : List NumberedCount) (limit : ℕ) → IsOurCpu z a t x c w d e ps ns → limit ≡ a.section_limit
     → nat_lt w limit ≡ may_begin x
 may_begin_is z a t x c w d e ps ns limit our is =

@@ -54,7 +54,7 @@ keeping_rows a k rows t n v at agree lt number =
     }
     (λ u off was. row_stays k l u (row_at rows u) refl refl refl (get_or-set_other k.keeps t u some None off) was)
 
--- what stands in the slots stays
+-- the slots stay
 pub states_keeping : (rows : List KeptSlot) (t n : ℕ) → states_of (rows_keeping rows t n) ≡ states_of rows
 states_keeping rows t n = map-set_same state_of rows t (row_keeping (row_at rows t) n) no_row refl
 

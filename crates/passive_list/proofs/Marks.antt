@@ -102,7 +102,7 @@ looked_mark a k l rows ev r t c f m e at agree is cpu made change =
     made ∙ ap f (row_mark a k rows t c e agree is) ∙ sym (ap (λ (x : KeeperView). mark_at x.marks t c) change
     ∙ cell_here no_mark k.marks t c (f (mark_at k.marks t c)) within (omega (arith, long, few, cpu)))
 
--- what stands in the slots stays
+-- the slots stay
 pub looked_states : (rows : List KeptSlot) (t c : ℕ) (m : Mark) → states_of (set rows t (row_marked (row_at rows t) c m)) ≡ states_of rows
 looked_states rows t c m = map-set_same state_of rows t (row_marked (row_at rows t) c m) no_row refl
 

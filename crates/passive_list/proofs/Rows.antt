@@ -39,7 +39,7 @@ new_at_rest a fit = record {
 abbrev pub first_row : KeptSlot
 first_row = record { state = Vacant; marks = replicate MOST_CPUS no_mark; total = bias; keeps = None }
 
--- what stands in a slot, by its row
+-- the state of a slot, by its row
 pub state_at : (rows : List KeptSlot) (t : ℕ) → slot_at (states_of rows) t ≡ (row_at rows t).state
 state_at [] t = refl
 state_at (r ∷ rows) zero = refl

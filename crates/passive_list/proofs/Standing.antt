@@ -15,7 +15,7 @@ prefix_length p h pre =
     let whole : length p + length pre.0 ≡ length h = sym (length-append p pre.0) ∙ ap (λ (l : List Change). length l) pre.1 in
     omega (arith, whole)
 
--- in a prefix stands what stands in the whole there
+-- a prefix has what the whole has there
 same_at : (p h : List Change) (k : ℕ) → IsPrefix p h → k ≤ length p → change_at h k ≡ change_at p k
 same_at p h k pre le = ap (λ l. change_at l k) (sym pre.1) ∙ at_prefix p pre.0 k le
 

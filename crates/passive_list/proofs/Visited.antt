@@ -1,4 +1,4 @@
--- The entries that a lookup has visited: its search may stand on each of them, so they are no more than there are slots.
+-- The entries that a lookup has visited: its search may be at each of them, so they are no more than there are slots.
 use Rattle.std.proofs.Common.{◌≡◌, ⊎_elim, ℕ, ◌+◌, ◌<◌, ◌≤◌, Bool, true, false, List, [], ◌∷◌, ◌++◌, length, get_or, Option, refl, sym, ap, subst, arith, length-append}
 use Rattle.std.proofs.lemmas.List.{append-nil}
 use Rattle.std.proofs.lemmas.List.Elements.{Contains-get_or, Contains-push_cases}

@@ -9,8 +9,8 @@ use Rattle.cpu_words.specs.Common.{Named, number_at, references_to, depth_of, Se
 use Rattle.passive_list.specs.declared.place.Found.{Found}
 use Rattle.passive_list.specs.declared.place.NumberedCount.{NumberedCount}
 
--- a CPU, to a contract: what its seat knows, the depth of its section, what the changes that its calls have made come to in the ledger, what it has heard of the keeper's log, and all that its seat
--- did
+-- a CPU, to a contract: what its seat knows, the depth of its section, the sum of its calls' changes in the ledger, what it has heard of
+-- the keeper's log, and all that its seat did
 pub record OnCpu : Type 0 where
   pub view : CpuView
   pub depth : ℕ

@@ -24,7 +24,7 @@ pub record HasCollectedInto (a : OnKeeper) (t c : ℕ) (b : OnKeeper) : Type 0 w
   pub slots : b.slots ≡ a.slots
   pub log : b.log ≡ a.log ++ did (Collect t c) (Word word) ++ did (TotalAdd t) Done
 
--- the local references held to the retired entry in the slot t are n, in whatever state of the core shows the keeper's view
+-- the local references held to the retired entry in the slot t are n, in any state of the core that shows the keeper's view
 pub record AreHeld (k : KeeperView) (t n : ℕ) : Type 0 where
   pub e : Entry
   pub retired : slot_at k.slots t ≡ Retired e

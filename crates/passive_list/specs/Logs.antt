@@ -12,8 +12,8 @@ pub record GoesOnBy (P : LogItem → Type 0) (old new : List LogItem) : Type 0 w
   pub are : new ≡ old ++ since
   pub only : All P since
 
--- The keeper is at rest. The history is as long as the log says, the marks, the slots and their entries, as the keeper has them, are in it, each retired entry was snapped on each CPU, and the words
--- that were found grow
+-- The keeper is at rest. The history is as long as the log says. The marks, the slots and their entries, as the keeper has them, are in the
+-- log. Each retired entry was snapped on each CPU, and the words that were found grow.
 pub record HasOwnLog (z : Settings) (a : OnKeeper) : Type 0 where
   pub settings : a.view.settings ≡ z
   pub rest : a.view.due ≡ Rest
@@ -24,5 +24,5 @@ pub record HasOwnLog (z : Settings) (a : OnKeeper) : Type 0 where
   pub occupants : (t : ℕ) → occupant t a.log ≡ occupant_of (slot_at a.slots t)
   pub snapped : (t c : ℕ) (e : Entry) → slot_at a.slots t ≡ Retired e → c < z.cpus → (w : ℕ) × IsSnapped t c w a.log
   pub grow : WordsGrow a.log
-  -- with another note beside it, some state shows the view, in which the keeper had done just this
+  -- with another note beside it, some state shows the view, and in it the keeper had done exactly this
   pub counts : (h : List Change) × IsShownAfter a.log (Keeper (keeper_with_note a.view h))

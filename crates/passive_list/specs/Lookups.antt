@@ -1,4 +1,4 @@
--- A lookup: what it answers, and what it leaves of the CPU.
+-- A lookup: its result, and what it leaves of the CPU.
 use Rattle.std.specs.Prelude.{◌≡◌, length, Option, Some}
 use mathlib.Core.List.{IsPrefix}
 use Rattle.passive_list.specs.Types.{Entry, Key}
@@ -7,7 +7,8 @@ use Rattle.passive_list.specs.Cpus.{OnCpu}
 use Rattle.passive_list.specs.Searches.{SearchesOnce}
 use Rattle.passive_list.specs.Sections.{HasEnteredOn, HasExitedOn}
 
--- Just the pass and the last found entry change, by one search, which replied the answer. It is the registry's at some point not before what the CPU had seen.
+-- Only the pass and the last found entry change, by one search, which replied the result. It is the registry's at some point not before
+-- what the CPU had seen.
 pub record HasFound (key : Key) (a b : OnCpu) (answer : Option Entry) : Type 0 where
   pub pass : IsPrefix a.view.pass b.view.pass
   pub is : b ≡ record a { view = record a.view { pass = b.view.pass; found = answer }; log = b.log }

@@ -15,7 +15,7 @@ use Rattle.passive_list.specs.Walks.{AreNewestFirst, WasLive}
 abbrev pub noted_of : Entry → Noted
 noted_of e = record { number = e.number; kind = kind_word e.rec.kind; high = e.rec.name.high; low = e.rec.name.low }
 
--- a search that started at `from` may stand on each of these, as the pass h tells, in a table of so many slots
+-- a search that started at `from` may be at each of these, as the pass h tells, in a table of so many slots
 pub record AreStoodOn (h : List Change) (from slots : ℕ) (es : List Entry) : Type 0 where
   pub stands : (e : Entry) → Contains es e → StandsOn h from (length h) e.slot e
   pub slot : (e : Entry) → Contains es e → (e.slot < slots) × (e.slot < MOST_SLOTS)
@@ -67,7 +67,7 @@ pub record AreNoted (h : List Change) (noted : List Noted) (es : List Entry) : T
   pub attached : (e : Entry) → Contains es e → IsAttached h e
   pub newest_first : AreNewestFirst es
 
--- searches are over that changed just the pass and the last found entry
+-- searches are over that changed only the pass and the last found entry
 pub record HaveSearched (x y : CpuView) : Type 0 where
   pub pass : IsPrefix x.pass y.pass
   pub is : y ≡ record x { pass = y.pass; search = None; found = y.found }

@@ -13,7 +13,7 @@ use Rattle.passive_list.specs.Keepers.{OnKeeper, IsAtRest, RowsAgree, states_of}
 abbrev pub with_row : KeeperView → ℕ → RecordWords → KeeperView
 with_row k t r = record k { rows = slice_set k.rows t r }
 
--- the count words of the first c CPUs for the slot t stand for no reference
+-- the count words of the first c CPUs for the slot t count no reference
 abbrev pub with_counts : KeeperView → ℕ → ℕ → KeeperView
 with_counts k t c = record k { counts = slice_set k.counts t (with_biases c (slice_index_or k.counts t [])) }
 
@@ -44,7 +44,7 @@ pub record MayAttach (a : Settings) (k : KeeperView) (rows : List KeptSlot) (e :
   pub room : length k.history + live_count (states_of rows) + 2 ≤ a.change_limit
   pub number : e.number ≡ suc (length k.history)
 
--- just that, where the link leads to the newest live entry there was: all words were stored, and then the event made
+-- exactly that, if the link leads to the newest live entry there was: all words were stored, and then the event made
 pub record HasEntry (k : KeeperView) (e : Entry) (l : KeeperView) : Type 0 where
   pub link : ℕ
   pub leads : LeadsBelow k.slots e.number link

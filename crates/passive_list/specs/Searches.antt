@@ -25,7 +25,7 @@ pub record GoesOnByLoads (c n : ℕ) (old new : List LogItem) : Type 0 where
 abbrev pub HasSearchedFor : ℕ → Key → ℕ → List LogItem → List LogItem → Type 0
 HasSearchedFor c key visited old new = GoesOnByLoads c (1 + 5 * visited) (old ++ did (Seek c key.kind key.name) Done) new
 
--- the load by which a search of the CPU c replied its answer: of a link where it missed, of the value where it found an entry
+-- the last load of a search of the CPU c, which replied its result: of a link if it missed, of the value if it found an entry
 abbrev pub replied : ℕ → Option Entry → List LogItem
 replied c None = did (LoadLink c) Missed
 replied c (Some e) = did (LoadRecord (OfSearch c)) (Found e)
@@ -54,7 +54,7 @@ SearchesEach c slots (l ∷ ls) old new = (m : List LogItem) × SearchesOnce c s
 abbrev pub found_by_name : Entry → Lookup
 found_by_name e = record { key = key_of e; answer = Some e }
 
--- by a search for each of the entries es, by its kind and name; each entry of the row is one of them, and the answer of its own search
+-- by a search for each of the entries es, by its kind and name; each entry of the row is one of them, and the result of its own search
 pub record LooksUpEach (c slots : ℕ) (es row : List Entry) (old new : List LogItem) : Type 0 where
   pub lookups : List Lookup
   pub keys : map (λ (l : Lookup). l.key) lookups ≡ map key_of es

@@ -27,7 +27,8 @@ pub record AreGoneBy (h : List Change) (from to : ℕ) (noted : List Entry) : Ty
   pub each : (e : Entry) → Contains noted e → WasLive h from to e
   pub newest_first : AreNewestFirst noted
 
--- just the pass changes and the last found entry, which is cleared, by searches alone; the row has the registry's entries at points not before what the CPU had seen
+-- only the pass changes and the last found entry, which is cleared, by searches alone; the row has the registry's entries at points not
+-- before what the CPU had seen
 pub record HasWalked (a b : OnCpu) (row : List Entry) : Type 0 where
   pub pass : IsPrefix a.view.pass b.view.pass
   pub is : b ≡ record a { view = record a.view { pass = b.view.pass; found = None }; log = b.log }

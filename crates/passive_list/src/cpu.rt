@@ -10,10 +10,14 @@ use cpu_words::{CpuSeat, Domain};
 use std::marker::Model;
 use std::sync::ledger::Share;
 
-/// A virtual CPU of the table that D names. To a contract it is what its seat knows, the depth of its section, what its calls have
-/// changed behind the interlock, as far as that is counted in the ledger that D names, what it has heard of the keeper's log, and all that its
-/// seat did: each event with its reply, in order.
-/// Binding is ownership: the thread that owns the value runs on that CPU.
+/// A virtual CPU of the table that D names. Binding is ownership: the thread that owns the value runs on that CPU.
+///
+/// To a contract it is
+///
+/// - what its seat knows, and all that its seat did: each event with its reply, in order;
+/// - the depth of its section;
+/// - what its calls changed behind the interlock, as the ledger that D names counts it;
+/// - what it has heard of the keeper's log.
 #[derive(Drop)]
 pub struct Cpu<D: Domain> {
     pub plain: PlainCpu,
@@ -65,7 +69,7 @@ impl<D: Domain> Cpu<D> {
         self.plain.depth()
     }
 
-    /// The test for being inside a section.
+    /// Whether the CPU is inside a section.
     pub fn inside(&self) -> bool
         ensures { IsTrue result ↔ self.now.view.begin ≢ None }
     {

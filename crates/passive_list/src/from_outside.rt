@@ -12,9 +12,9 @@ use crate::plain_cpu::PlainCpu;
 use cpu_words::{CpuSeat, Words, steps};
 use registry_values::{Kind, MOST_CPUS, MOST_SLOTS, Name};
 
-/// Looks an entry up in a read section of its own (pserialize(9)), and answers its words, or `None` where none was found: an enter, a find and
-/// an exit in one. What a CPU keeps for the calls that come in a section, its depth and the last found entry, isn't written. Each answer has an
-/// exit of its own: with one for both more words would be carried past it.
+/// Looks an entry up in a read section of its own (pserialize(9)), and returns its words, or `None` if none was found: an enter, a find and
+/// an exit in one. It doesn't write the depth and the last found entry, which a CPU keeps for calls in a section. Each result has an exit
+/// of its own: one for both would carry more words past it.
 /// Conditions: the words are the CPU's table's; it is outside, and has a section left (`may_begin_on`).
 #[inline(always)]
 pub fn find_from_outside(words: &Words, cpu: &mut PlainCpu, kind: Kind, name: Name) -> Option<Seen>

@@ -10,7 +10,7 @@ use cpu_words::KeeperSeat;
 use registry_values::{BIAS, MOST_CPUS, MOST_SLOTS, Mark, NO_MARK, Settings};
 use std::marker::Model;
 
-/// What stands in a slot, as the keeper has it: a slot that was retired and drained is `Vacant` once it was vacated.
+/// The state of a slot, as the keeper has it. A slot that was retired and drained is `Vacant` once it was vacated.
 pub use registry_values::Slot as SlotState;
 
 /// What the keeper has of a slot.
@@ -22,7 +22,7 @@ pub struct KeptSlot {
     pub marks: [Mark; MOST_CPUS],
     /// The slot's total: the bias, what was collected, less the references given up under the interlock.
     pub total: u64,
-    /// The number of the driver to which the slot keeps a reference.
+    /// The number of the driver that the slot keeps a reference to.
     pub keeps: Option<u64>,
 }
 
@@ -76,7 +76,7 @@ impl Keeper {
         }
     }
 
-    /// What stands in a slot, from 0.
+    /// The state of a slot, from 0.
     /// Condition: the slot is below `MOST_SLOTS`.
     pub fn slot(&self, s: u8) -> SlotState
         requires { s < MOST_SLOTS }
@@ -92,7 +92,7 @@ impl Keeper {
         self.changes
     }
 
-    /// The number of the driver to which a slot keeps a reference.
+    /// The number of the driver that a slot keeps a reference to.
     /// Condition: the slot is one of the table's.
     pub fn keeps(&self, s: u8) -> Option<u64>
         requires { s < self.now.words.settings.slots }

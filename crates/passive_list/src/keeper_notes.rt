@@ -9,7 +9,7 @@ ghost use Rattle.passive_list.specs.Logs.{HasOwnLog};
 use crate::keeper::Keeper;
 use cpu_words::{NoteSeat, Words, steps};
 
-/// The keeper tells the history: the note has just that, and all that the keeper did, this with it. It changes nothing but the log.
+/// The keeper tells its history and its whole log, this event with it, as a note. It changes nothing but the log.
 pub fn tell_keeper(words: &Words, keeper: &mut Keeper) -> NoteSeat
     requires words { AreWordsOf words.now keeper.old.words.table keeper.old.words.settings }
     ensures table { result.table ≡ keeper.old.words.table }

@@ -12,12 +12,16 @@ use crate::publishing::publish_entry;
 use cpu_words::{ReferenceSeat, Words, steps};
 use registry_values::{Entry, Record};
 
-/// Publishes an interface in `slot`, which keeps the reference whose seat this is from now on: as `publish` does, with the seat spent before
-/// the first word is stored. It answers the entry.
-/// Condition: the slot is one of the table's and vacant, and keeps nothing (`Keeper::keeps`). The record's kind is Iface; the reference is
-/// to a driver, live or retired, whose number this is (`PlainRef` has both beside the seat); words and seat are of the keeper's table. The
-/// name is lawful, no live entry has this kind and name, and the history has room for this change and for the detach of each live entry, the
-/// new one too.
+/// Publishes an interface in `slot`, which keeps the reference of this seat from now on. It does what `publish` does, and spends the seat
+/// before the first word is stored. Returns the entry.
+///
+/// Conditions:
+///
+/// - the slot is one of the table's and vacant, and keeps nothing (`Keeper::keeps`);
+/// - the record's kind is Iface, its name is lawful, and no live entry has this kind and name;
+/// - the reference is to a driver, live or retired, with this number (`PlainRef` has both beside the seat);
+/// - words and seat are of the keeper's table;
+/// - the history has room for this change and for the detach of each live entry, the new one too.
 pub fn publish_keeping(
     words: &Words,
     keeper: &mut Keeper,

@@ -18,11 +18,13 @@ use registry_values::{
 /// Above every number that an entry can have.
 const ABOVE_ALL: u64 = MOST_CHANGES + 1;
 
-/// Looks an entry up by its kind and name, and keeps the answer as the last found entry: `None` clears it. The answer is the registry's
-/// at some point from what this CPU had seen at the call to what it has seen at the return; a found entry keeps its slot until this
-/// section ends. The steps are one search's: loads alone, one and five for each entry visited, no more entries than there are slots; the
-/// last load replies the answer. It takes no memory.
+/// Looks an entry up by its kind and name, and keeps the result as the last found entry: `None` clears it. A found entry keeps its slot
+/// until this section ends. It takes no memory.
 /// Condition: inside.
+///
+/// - The result is the registry's at some point from what this CPU had seen at the call to what it has seen at the return.
+/// - It is one search, of loads alone: one, and five for each entry visited. It visits no more entries than there are slots. The last load
+///   replies the result.
 pub fn find<D: Domain>(words: &Words, cpu: &mut Cpu<D>, kind: Kind, name: &Name) -> Option<Entry>
     requires words { AreWordsOf words.now D.table D.settings }
     requires inside { cpu.old.view.begin ≢ None }
@@ -54,7 +56,7 @@ pub struct Seen {
     pub value: u64,
 }
 
-/// Keeps what a search found, and answers it. The entry is put together here, once and from words: it has bytes between its fields, and
+/// Keeps what a search found, and returns it. The entry is put together here, once and from words: it has bytes between its fields, and
 /// handing it on from call to call takes longer than the search.
 fn keep(found: &mut Found, seen: Option<Seen>, kind: Kind, name: Name) -> Option<Entry>
     requires slot { IfSome seen (λ s. s.slot < MOST_SLOTS) }
@@ -110,7 +112,7 @@ pub fn look_up(words: &Words, seat: &mut CpuSeat, cpu: u8, kind: Kind, name: Nam
     None
 }
 
-/// Loads the number, the kind and the name of a slot. It answers the number, and whether kind and name are those sought.
+/// Loads the number, the kind and the name of a slot. Returns the number, and whether kind and name are those sought.
 fn visit(
     words: &Words,
     seat: &mut CpuSeat,

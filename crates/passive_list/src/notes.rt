@@ -10,9 +10,10 @@ use crate::plain_cpu::PlainCpu;
 use cpu_words::{Domain, NoteSeat, Words, steps};
 use std::marker::{Model, PhantomData};
 
-/// What a CPU or the keeper of the table that D names had seen as it told. To a contract it is that prefix of the history, what its
-/// teller knew of the keeper's log, and, where a CPU told it, which one, and how many events that had made. It moves between threads, and may
-/// be dropped.
+/// A note: what a CPU or the keeper of the table that D names had seen as it told. It moves between threads, and may be dropped.
+///
+/// To a contract it is that prefix of the history, and what its teller knew of the keeper's log. If a CPU told it, also which one, and how
+/// many events that CPU had made.
 #[derive(Drop)]
 pub struct Note<D: Domain> {
     pub seat: NoteSeat,
@@ -30,8 +31,8 @@ impl<D: Domain> Model for Note<D> {
     ghost invariant = { λ n. n.seat.table ≡ D.table };
 }
 
-/// Tells what this CPU has seen: the note has just its pass, and what it has heard of the keeper's log, and names the CPU. It changes nothing
-/// but the CPU's own log, inside a section or outside.
+/// Tells what this CPU has seen: the note has its pass and what it has heard of the keeper's log, and names the CPU. It changes nothing but
+/// the CPU's own log, inside a section or outside.
 pub fn tell<D: Domain>(words: &Words, cpu: &mut Cpu<D>) -> Note<D>
     requires words { AreWordsOf words.now D.table D.settings }
     ensures note { result ≡ record { pass = cpu.old.view.pass; known_log = cpu.old.known_log; teller = Some (as_teller cpu.old) } }
@@ -54,9 +55,9 @@ pub fn tell_on(words: &Words, cpu: &mut PlainCpu) -> NoteSeat
     steps::tell(words, &mut cpu.seat, cpu.id)
 }
 
-/// Hears a note: from here on this CPU has seen what the note tells, and every lookup answers from there on. Its pass grows, and has what the
-/// note told, and it has heard what the note tells of the keeper's log; nothing else changes but the note that it heard last, inside a
-/// section or outside.
+/// Hears a note: from here on this CPU has seen what the note tells, and every lookup is at least as new. Its pass grows, and has what the
+/// note told, and it has heard what the note tells of the keeper's log. Nothing else changes except the note that it heard last. It may be
+/// inside a section or outside.
 pub fn hear<D: Domain>(words: &Words, cpu: &mut Cpu<D>, note: Note<D>)
     requires words { AreWordsOf words.now D.table D.settings }
     ensures heard { HasHeardOn note.pass cpu.old cpu.new }

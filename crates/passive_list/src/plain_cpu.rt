@@ -75,7 +75,7 @@ impl PlainCpu {
         self.depth
     }
 
-    /// The test for being inside a section.
+    /// Whether the CPU is inside a section.
     pub fn inside(&self) -> bool
         ensures { IsTrue result ↔ self.now.cpu.view.begin ≢ None }
     {

@@ -14,9 +14,13 @@ use cpu_words::{KeeperSeat, Words, steps};
 use registry_values::{BIAS, Entry, MOST_CPUS, MOST_SLOTS, Record, kind_word};
 
 /// Publishes an entry in `slot`: from now on lookups find it, and the history ends with its attach. Its number is how many changes there
-/// are then. It answers the entry.
-/// Condition: the slot is one of the table's and vacant, and keeps a reference exactly if the kind is Iface. The name is lawful, no live
-/// entry has this kind and name, and the history has room for this change and for the detach of each live entry, the new one too.
+/// are then. Returns the entry.
+///
+/// Conditions:
+///
+/// - the slot is one of the table's and vacant, and keeps a reference exactly if the kind is Iface;
+/// - the name is lawful, and no live entry has this kind and name;
+/// - the history has room for this change and for the detach of each live entry, the new one too.
 pub fn publish(words: &Words, keeper: &mut Keeper, slot: u8, rec: Record) -> Entry
     requires words { AreWordsOf words.now keeper.old.words.table keeper.old.words.settings }
     requires vacant { (slot < keeper.old.words.settings.slots) × (slot_at keeper.old.keeper.slots slot ≡ Vacant) }
@@ -39,8 +43,8 @@ pub fn publish(words: &Words, keeper: &mut Keeper, slot: u8, rec: Record) -> Ent
     entry
 }
 
-/// Publishes the entry by the keeper's seat alone, as `publish` does, where the rows say what stands in each slot: for calls that have
-/// done another step with the seat, which the rows say already.
+/// Publishes the entry by the keeper's seat alone, as `publish` does, when the rows say already what is in each slot: for calls that have
+/// made another step with the seat.
 /// Condition: that of `publish`, of the seat and the rows; the entry's number is how many changes there are then.
 pub(crate) fn publish_entry(
     words: &Words,

@@ -11,8 +11,8 @@ use crate::links::{link_below, slot_above};
 use cpu_words::{KeeperSeat, Words, steps};
 use registry_values::{Entry, MOST_CPUS, Mark, NO_MARK};
 
-/// Retires the live entry in `slot`: from now on lookups that begin don't find it, the history ends with its detach, and a section that
-/// may hold it is one that is open at a snapshot. It answers the entry.
+/// Retires the live entry in `slot`: from now on lookups that begin don't find it, and the history ends with its detach. A section that may
+/// hold it is one that is open at a snapshot. Returns the entry.
 /// Condition: the slot's entry is live.
 pub fn retire(words: &Words, keeper: &mut Keeper, slot: u8) -> Entry
     requires words { AreWordsOf words.now keeper.old.words.table keeper.old.words.settings }
@@ -38,7 +38,7 @@ pub fn retire(words: &Words, keeper: &mut Keeper, slot: u8) -> Entry
     entry
 }
 
-/// Takes the snapshots of all CPUs, CPU 0 first, and answers the marks with them.
+/// Takes the snapshots of all CPUs, CPU 0 first, and returns the marks with them.
 fn snapshots(words: &Words, seat: &mut KeeperSeat, slot: u8, cpus: u8) -> [Mark; MOST_CPUS]
     requires table { seat.old.table ≡ words.now.table }
     requires due { seat.old.view.due ≡ Snapshots slot 0 }

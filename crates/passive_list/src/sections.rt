@@ -10,7 +10,7 @@ use cpu_words::{Domain, Words, steps};
 use registry_values::{Refusal, enter_answer};
 
 /// Enters a section, or the open one once more. Where a section begins, the pass becomes the whole history.
-/// Refused: `TooDeep` where the depth is `MOST_DEPTH`, then `SectionsSpent` where a section would begin and this CPU has begun `section_limit` of
+/// Refused: `TooDeep` if the depth is `MOST_DEPTH`, then `SectionsSpent` if a section would begin and this CPU has begun `section_limit` of
 /// them. Nothing changes then.
 pub fn enter<D: Domain>(words: &Words, cpu: &mut Cpu<D>) -> Result<(), Refusal>
     requires words { AreWordsOf words.now D.table D.settings }

@@ -10,8 +10,8 @@ use cpu_words::{Words, steps};
 use registry_values::{BIAS, are_clear, are_collected, have_passed};
 
 impl Keeper {
-    /// Whether the entry in `slot` is retired and drained: all CPUs have passed, are clear and collected, and the total stands for no
-    /// local reference.
+    /// Whether the entry in `slot` is retired and drained: all CPUs have passed, are clear and collected, and the total counts no local
+    /// reference.
     /// Condition: the slot is one of the table's.
     pub fn is_drained(&self, slot: u8) -> bool
         requires { slot < self.now.words.settings.slots }
@@ -21,7 +21,7 @@ impl Keeper {
     }
 }
 
-/// Makes the slot of a drained entry vacant: the event Vacate, with a load by which the keeper hears.
+/// Makes the slot of a drained entry vacant: the event Vacate, and a load that lets the keeper hear.
 /// Condition: the slot is drained (`Keeper::is_drained`), and keeps nothing (`Keeper::keeps`).
 pub fn vacate(words: &Words, keeper: &mut Keeper, slot: u8)
     requires words { AreWordsOf words.now keeper.old.words.table keeper.old.words.settings }

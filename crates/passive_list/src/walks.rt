@@ -1,8 +1,9 @@
 //! A walk over all entries in a section: loads alone. No shared word is written, and nobody waits.
 //!
-//! A search answers the value of the one entry that it finds, and is over then. So a walk has two parts. The first is one search for what no
-//! entry is named: it goes by each entry on the list, and the walk notes its number, its kind and its name. The second is a search for each of
-//! these, which finds its value. Where that finds another entry or none, the noted one was detached since, and is left out.
+//! A search returns the value of the one entry that it finds, and is over then. So a walk has two parts:
+//!
+//! 1. One search for a name that no entry has: it goes by each entry on the list, and the walk notes its number, its kind and its name.
+//! 2. A search for each of these, which finds its value. If that finds another entry or none, the noted one was detached since, and is left out.
 
 ghost use Rattle.std.specs.Prelude.{◌≡◌, ◌≢◌, ◌<◌, ◌≤◌, None, List, take, drop, length};
 ghost use Rattle.passive_list.specs.Types.{Entry, Kind};
@@ -39,14 +40,15 @@ impl Noted {
     };
 }
 
-/// Walks over all entries: it writes the live ones into the row, the newest first, and answers how many they are. What stands in the row
-/// past them stays. Each entry that is live from the start to the end is among them, once; each of them was live at some point from what this
-/// CPU had seen at the call to what it has seen at the return, and keeps its slot until this section ends. An entry that is attached or
-/// detached meanwhile may be among them or not. The last found entry is cleared.
-/// The steps are loads alone, and it takes no memory: a search that goes by each entry on the list, one for each of these by its kind and
-/// name, which replies what is written, and one for nobody. Where n entries stand on the list and none changes, the loads are
-/// 5 n (n + 5) / 2 + n + 2.
+/// Walks over all entries: writes the live ones into the row, the newest first, and returns how many there are. The rest of the row stays.
+/// The last found entry is cleared. It takes no memory.
 /// Condition: inside.
+///
+/// 1. Each entry that is live from the start to the end is in the row, once.
+/// 2. Each entry in the row was live at some point from what this CPU had seen at the call to what it has seen at the return.
+/// 3. Each of them keeps its slot until this section ends.
+///
+/// With n entries on the list, and no change, there are 5 n (n + 5) / 2 + n + 2 loads.
 pub fn walk<D: Domain>(words: &Words, cpu: &mut Cpu<D>, row: &mut [Entry; MOST_SLOTS]) -> usize
     requires words { AreWordsOf words.now D.table D.settings }
     requires inside { cpu.old.view.begin ≢ None }
@@ -91,7 +93,7 @@ fn go_over(words: &Words, seat: &mut CpuSeat, cpu: u8, row: &mut [Entry; MOST_SL
     found
 }
 
-/// The first part: it notes each entry on the list, and answers how many they are.
+/// The first part: notes each entry on the list, and returns how many there are.
 fn note_all(words: &Words, seat: &mut CpuSeat, cpu: u8, noted: &mut [Noted; MOST_SLOTS]) -> usize
     requires table { seat.old.table ≡ words.now.table }
     requires cpu { (cpu < MOST_CPUS) × (seat.old.view.id ≡ cpu) }
@@ -137,7 +139,7 @@ fn note(words: &Words, seat: &mut CpuSeat, cpu: u8, slot: usize) -> Noted
     }
 }
 
-/// The second part: it looks each noted entry up by its kind and name, and writes it where that finds it. It answers how many it wrote.
+/// The second part: looks each noted entry up by its kind and name, and writes it if it is found. Returns how many it wrote.
 fn find_noted(
     words: &Words,
     seat: &mut CpuSeat,
@@ -177,7 +179,7 @@ fn write_next(row: &mut [Entry; MOST_SLOTS], place: usize, found: Option<Entry>)
     place + 1
 }
 
-/// Looks a noted entry up. The answer is `None` where that finds another one or none: then it was detached meanwhile.
+/// Looks a noted entry up. The answer is `None` if that finds another one or none: then it was detached meanwhile.
 fn find_again(words: &Words, seat: &mut CpuSeat, cpu: u8, noted: Noted) -> Option<Entry>
     requires table { seat.old.table ≡ words.now.table }
     requires cpu { (cpu < MOST_CPUS) × (seat.old.view.id ≡ cpu) }

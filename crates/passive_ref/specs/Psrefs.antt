@@ -1,4 +1,4 @@
--- Passive references of a CPU (psref(9)): why a call is refused, and what it answers and leaves.
+-- Passive references of a CPU (psref(9)): why a call is refused, what it returns and leaves.
 use Rattle.std.specs.Prelude.{◌≡◌, ◌⊎◌, ℕ, ◌<◌, ◌==◌, ◌&&◌, nat_lt, Bool, List, ◌∷◌, ◌++◌, Option, Some, None, Result, Ok, Err}
 use Rattle.std.specs.List.{Contains}
 use Rattle.passive_list.specs.Types.{Entry, Record, Refusal, NothingFound, MOST_SLOTS, LoadRecord, PassiveAdd, PassiveSub, Passive, Word, CpuView, LogItem}
@@ -31,7 +31,7 @@ pub record IsNew (e : Entry) (a b : OnCpu) (p : OnPsref) : Type 0 where
 abbrev pub IsAcquired : OnCpu → OnCpu → OnPsref → Type 0
 IsAcquired a b p = (e : Entry) × (a.view.found ≡ Some e) × IsNew e a b p
 
--- it is to the entry n, to which this CPU has a reference
+-- it is to the entry n; this CPU has a reference to n
 abbrev pub IsCopied : ℕ → OnCpu → OnCpu → OnPsref → Type 0
 IsCopied n a b p = (e : Entry) × Contains a.view.references e × (e.number ≡ n) × IsNew e a b p
 
@@ -39,7 +39,7 @@ IsCopied n a b p = (e : Entry) × Contains a.view.references e × (e.number ≡ 
 abbrev pub IsAdded : ℕ → ℕ → OnCpu → OnCpu → OnPsref → Type 0
 IsAdded t n a b p = (e : Entry) × IsAt e t n × IsAttached a.view.pass e × IsNew e a b p
 
--- e is the entry n, to which this CPU refers
+-- e is the entry n, and this CPU refers to it
 pub record IsReferredTo (x : CpuView) (n : ℕ) (e : Entry) : Type 0 where
   pub held : Contains x.references e
   pub attached : IsAttached x.pass e
@@ -102,7 +102,7 @@ abbrev pub why_not_copied : CpuView → ℕ → Option Refusal → Option Refusa
 why_not_copied x n None = why_full x n
 why_not_copied x n (Some f) = Some f
 
--- the answer of a call that is refused just where there is a refusal, and gives the reference p back with it, as it was
+-- the result of a call that is refused exactly where there is a refusal, and gives the reference p back with it, as it was
 abbrev pub GivesBack : {X : Type 0} → Option Refusal → OnPsref → (X → Type 0) → Result X (Refusal × OnPsref) → Type 0
 GivesBack why p P (Ok x) = (why ≡ None) × P x
 GivesBack why p P (Err r) = (why ≡ Some r.0) × (r.1 ≡ p)

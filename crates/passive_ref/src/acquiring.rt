@@ -11,9 +11,9 @@ use cpu_words::{Domain, Words, steps};
 use passive_list::{Cpu, NumberedCount, PlainCpu};
 use registry_values::{Refusal, why_full};
 
-/// Acquires a passive reference to this CPU's last found entry (psref(9)). It outlives the section, and the entry keeps its slot until
-/// it is released.
-/// Refused, in this order, and nothing has changed: `NothingFound` where this CPU has no last found entry; `PassiveFull` where it has
+/// Acquires a passive reference to this CPU's last found entry (psref(9)). It outlives the section, and the entry keeps its slot until it
+/// is released.
+/// Refused, in this order, and nothing has changed: `NothingFound` if this CPU has no last found entry; `PassiveFull` if it has
 /// `passive_limit` references to that entry.
 pub fn acquire<D: Domain>(words: &Words, cpu: &mut Cpu<D>) -> Result<Psref, Refusal>
     requires words { AreWordsOf words.now D.table D.settings }
@@ -38,8 +38,8 @@ pub fn acquire_on(words: &Words, cpu: &mut PlainCpu) -> Result<Psref, Refusal>
 }
 
 /// Acquires a second reference on the first one's CPU, to the same entry; each is released by itself (psref(9)). It needs no section.
-/// Refused, in this order, and nothing has changed: `WrongCpu` where the reference names another CPU; `NotHeld` where this CPU holds no
-/// passive reference to that number; `PassiveFull` where it has `passive_limit` of them.
+/// Refused, in this order, and nothing has changed: `WrongCpu` if the reference names another CPU; `NotHeld` if this CPU holds no passive
+/// reference to that number; `PassiveFull` if it has `passive_limit` of them.
 pub fn copy<D: Domain>(words: &Words, cpu: &mut Cpu<D>, psref: &Psref) -> Result<Psref, Refusal>
     requires words { AreWordsOf words.now D.table D.settings }
     ensures answer { Answers (why_not_copied cpu.old.view psref.now.number (why_unusable cpu.old.view psref.now)) (IsCopied psref.now.number cpu.old cpu.new) result }
@@ -60,8 +60,8 @@ pub fn copy_on(words: &Words, cpu: &mut PlainCpu, psref: &Psref) -> Result<Psref
 }
 
 /// Releases a passive reference, on the CPU that it was acquired on (psref(9)). It needs no section.
-/// Refused, in this order, and nothing has changed: `WrongCpu` where the reference names another CPU; `NotHeld` where this CPU holds no
-/// passive reference to that number. The reference comes back with the refusal.
+/// Refused, in this order, and nothing has changed: `WrongCpu` if the reference names another CPU; `NotHeld` if this CPU holds no passive
+/// reference to that number. The reference comes back with the refusal.
 pub fn release<D: Domain>(
     words: &Words,
     cpu: &mut Cpu<D>,

@@ -2,11 +2,10 @@
 //!
 //! A passive reference holds an entry beyond the section that found it. A CPU acquires one inside a section, to the entry that it found
 //! last, by one step on a word of its own. From then on the entry keeps its slot: its record is read outside any section, and a second
-//! reference is copied from the first. Each is released on the CPU that it was acquired on.
+//! reference is copied from the first. Each is released on the CPU that acquired it.
 //!
-//! The keeper waits for them after it has retired the entry and all CPUs have passed: from then on no section may acquire another, and a
-//! look at each CPU's word, a load, sees whether it has any left. Once all CPUs are clear, nothing passive keeps the slot from being given
-//! again.
+//! The keeper waits for them after the entry is retired and all CPUs have passed: no section may acquire another then. A load of each CPU's
+//! word shows whether it has any left. Once all CPUs are clear, no passive reference prevents reuse.
 #![tactic(auto)]
 
 mod acquiring;

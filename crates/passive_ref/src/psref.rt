@@ -1,4 +1,4 @@
-//! What stands for a passive reference that is held.
+//! A passive reference that is held.
 
 ghost use Rattle.std.specs.Prelude.{◌≡◌};
 

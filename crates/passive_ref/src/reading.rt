@@ -12,10 +12,9 @@ use cpu_words::{Domain, Words, steps};
 use passive_list::{Cpu, PlainCpu};
 use registry_values::{Entry, Record, Refusal, record_from};
 
-/// The record of the entry that the reference is to, which stays while the reference is held (psref(9)). It needs no section, and
-/// changes nothing but the CPU's log, which has the four loads.
-/// Refused, in this order: `WrongCpu` where the reference names another CPU; `NotHeld` where this CPU holds no passive reference to that
-/// number.
+/// The record of the entry that the reference is to, which stays while the reference is held (psref(9)). It needs no section, and changes
+/// nothing but the CPU's log, which has the four loads.
+/// Refused, in this order: `WrongCpu` if the reference names another CPU; `NotHeld` if this CPU holds no passive reference to that number.
 pub fn read<D: Domain>(words: &Words, cpu: &mut Cpu<D>, psref: &Psref) -> Result<Record, Refusal>
     requires words { AreWordsOf words.now D.table D.settings }
     ensures answer { Answers (why_unusable cpu.old.view psref.now) (IsRead psref.now.number cpu.old cpu.new) result }

@@ -1,5 +1,5 @@
-//! Tests of what stands below the programs: `bench_plans`, `run_tasks` and `script_comparison`. They are a crate of their own so that they are
-//! proved once, and no program with them.
+//! Tests of the libraries beneath the programs: `bench_plans`, `run_tasks` and `script_comparison`. They are a crate of their own, so that
+//! they are proved once, and no program with them.
 #![tactic(auto)]
 
 #[cfg(test)]

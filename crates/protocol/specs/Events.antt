@@ -201,7 +201,7 @@ store_slot s t k v = if nat_lt k 5 then guard (may_write s t) (some_outcome (aft
 abbrev pub after_link_store : State → ℕ → ℕ → State
 after_link_store s t v = record s { next = slice_set s.next t v }
 
--- the kind that a word stands for
+-- the kind of a word
 abbrev pub kind_of : ℕ → Option Kind
 kind_of zero = None
 kind_of (suc zero) = Some Iface
@@ -345,7 +345,7 @@ after_count_add s c n t = after_count s c t (count_at s.counts c t + 1) (count_a
 abbrev pub count_add : State → ℕ → Entry → Option Outcome
 count_add s c e = with_some (slot_of s.slots e.number) (λ t. guard (may_count s c t) (some_outcome (after_count_add s c e.number t) (Word (count_at s.counts c t))))
 
--- the least id that no live reference and no hand has
+-- the lowest id that no live reference and no hand has
 abbrev pub is_free : LocalPlace → Bool
 is_free Free = true
 is_free (Standing n) = false
@@ -518,7 +518,7 @@ abbrev pub state_after : State → Option Outcome → State
 state_after s None = s
 state_after s (Some o) = o.state
 
--- the events for which a list may have to grow
+-- the events that may have to grow a list
 abbrev pub grows : Event → Bool
 grows (Publish t) = true
 grows (Unpublish t) = true

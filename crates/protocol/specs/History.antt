@@ -38,7 +38,7 @@ pub record MayHold (h : List Change) (b : ℕ) (e : Entry) : Type 0 where
   pub attached : IsAttached h e
   pub unended : (p : ℕ) → EndsAt h e.number p → b < p
 
--- the answer of a lookup over the first k changes
+-- the result of a lookup over the first k changes
 abbrev pub IsLookup : List Change → ℕ → Key → Option Entry → Type 0
 IsLookup h k key None = (e : Entry) → IsLiveAt h k e → key_of e ≡ key → ⊥
 IsLookup h k key (Some e) = IsLiveAt h k e × (key_of e ≡ key)

@@ -1,4 +1,5 @@
--- The core invariant: what holds in every state that events reach. Each clause takes just the lists that it speaks of, so an event passes on what it leaves alone.
+-- The core invariant: what is true in every state that events reach. Each clause takes only the lists that it is about, so an event passes
+-- on what it leaves alone.
 use Rattle.std.specs.Prelude.{◌≡◌, ℕ, zero, suc, ◌+◌, ◌*◌, ◌<◌, ◌≤◌, ◌%◌, ◌⊎◌, List, [], length, sum_by, Option, Some, None, Bool, true, false, IsTrue, ◌==◌, if◌then◌else◌, slice_index_or}
 use Rattle.protocol.specs.Types.{Driver, Entry, Change, Settings, MOST_COUNT, MOST_CPUS, MOST_DEPTH, Key, Slot, Vacant, Live, Retired, Mark}
 use Rattle.protocol.specs.declared.state.RecordWords.{RecordWords}
@@ -66,7 +67,7 @@ pub data Leads (h : List Change) (k n : ℕ) : ℕ → Type 0 where
   To_end : ((f : Entry) → IsLiveAt h k f → f.number < n → ⊥) → Leads h k n 0
   To_entry : (e : Entry) → IsLiveAt h k e → e.number < n → ((f : Entry) → IsLiveAt h k f → f.number < n → f.number ≤ e.number) → Leads h k n (suc e.slot)
 
--- published: the list shows just the live entries, newest first
+-- published: the list shows exactly the live entries, newest first
 pub record ListShows (h : List Change) (slots : List Slot) (head : ℕ) (next : List ℕ) : Type 0 where
   pub first : Leads h (length h) (suc (length h)) head
   pub links : (t : ℕ) (e : Entry) → slot_at slots t ≡ Live e → Leads h (length h) e.number (slice_index_or next t 0)
@@ -116,7 +117,7 @@ pub record SeatsShow (cpus seated : ℕ) (begins : List (Option ℕ)) (searches 
 abbrev pub AllBelow : List Change → ℕ → ℕ → Key → ℕ → Type 0
 AllBelow h from to key n = (f : Entry) → IsLiveAt h from f → ((p : ℕ) → EndsAt h f.number p → to < p) → key_of f ≡ key → f.number < n
 
--- a search that started at `from` stands on e, and the pass ends at `to`
+-- a search that started at `from` is at e, and the pass ends at `to`
 pub record StandsOn (h : List Change) (from to t : ℕ) (e : Entry) : Type 0 where
   pub attached : IsAttached h e
   pub at : e.slot ≡ t
@@ -153,7 +154,7 @@ pub record PassiveShow (cpus limit : ℕ) (slots : List Slot) (marks : List (Lis
   pub beyond : (c t : ℕ) → cpus ≤ c → passive_at passive c t ≡ 0
   pub limited : (c t : ℕ) → passive_at passive c t ≤ limit
 
--- How many local references to n stand in a place, in a hand, in a slot that keeps them, or wait for the keeper's subtraction at the slot t.
+-- How many local references to n are in a place, in a hand, in a slot that keeps them, or wait for the keeper's subtraction at the slot t.
 abbrev pub one_if : Bool → ℕ
 one_if b = if b then 1 else 0
 

@@ -63,7 +63,7 @@ pub record ReusesSafely (s : State) : Type 0 where
   -- one comes only by Publish, into a slot without one, and its number is new
   pub comes : (event : Event) (t n : ℕ) → (occupant_of s t ≡ Some n → ⊥) → occupant_of (after_event s event) t ≡ Some n
       → (event ≡ Publish t) × (occupant_of s t ≡ None) × (n ≡ suc (length s.history))
-  -- only a slot without an occupant is given again
+  -- only a slot without an occupant is reused
   pub given : (event : Event) (t : ℕ) → given_slot event ≡ Some t → IsAllowed s event → occupant_of s t ≡ None
   -- a number of the history that doesn't have a slot never has it again
   pub never : (later : List Event) (t n : ℕ) → n ≤ length s.history → (occupant_of s t ≡ Some n → ⊥) → occupant_of (after s later) t ≡ Some n → ⊥
@@ -91,7 +91,7 @@ DriversOutlive = Always OutliveInterfaces
 
 -- Lawful answers
 
--- the answer of a lookup, if a reply is one
+-- the result of a lookup, if a reply is one
 abbrev pub answer_of : Reply → Option (Option Entry)
 answer_of Done = None
 answer_of (Word w) = None
@@ -127,7 +127,7 @@ pub record AnswersLawfully (s : State) : Type 0 where
   pub passes : (event : Event) (c : ℕ) → seen_at s c ≤ seen_at (after_event s event) c
   pub history : (event : Event) → (more : List Change) × ((after_event s event).history ≡ s.history ++ more)
 
--- each answer of a lookup is lawful
+-- the result of each lookup is lawful
 abbrev pub LawfulAnswers : Type 0
 LawfulAnswers = Always AnswersLawfully
 
@@ -226,7 +226,7 @@ GraceLaw = Always EndsByExit
 pub record IsSafe (s : State) : Type 0 where
   -- no slot is destroyed while a read section that may have found an entry of it, a passive reference, a local reference or a kept one holds that entry
   pub destroyed : (event : Event) (e : Entry) → destroyed_slot event ≡ Some e.slot → IsAllowed s event → IsAttached s.history e → IsUnheld (picture s) e.number
-  -- and none is given again
+  -- and none is reused
   pub given : (event : Event) (e : Entry) → given_slot event ≡ Some e.slot → IsAllowed s event → IsAttached s.history e → IsUnheld (picture s) e.number
   -- at rest each slot's balance is exactly its local references held
   pub balanced : at_rest s.due ≡ true → (t n : ℕ) → occupant_of s t ≡ Some n → IsBalanced s t n
@@ -236,8 +236,9 @@ pub record IsSafe (s : State) : Type 0 where
   -- which is what the caller had seen at its Seek
   pub begun : (event : Event) (c : ℕ) (q : Search) → search_at (after_event s event) c ≡ Some q → HasBegun s event c q
 
--- Over every list of events no slot is destroyed or given again while a read section that may have found it, a passive reference or a local reference holds it; whenever the keeper is at rest each
--- slot's balance is exactly its local references held; and each lookup's answer is the registry's at some point of its one history, not before what the caller had seen.
+-- Over every list of events: no slot is destroyed or given again while a read section that may have found it, a passive reference or a
+-- local reference holds it. Whenever the keeper is at rest, each slot's balance is exactly its local references held. The result of each
+-- lookup is the registry's at some point of its one history, not before what the caller had seen.
 abbrev pub Headline : Type 0
 Headline = Always IsSafe
 
@@ -257,6 +258,6 @@ pub record ObeysLaws (s : State) : Type 0 where
   pub keeps : (later : List Event) → Holds (after s later)
   pub modelled : (later : List Event) → IsModelRun (picture s) (picture (after s later))
 
--- the invariant is enough for them, whatever led to the state
+-- the invariant is enough for them, in any state that has it
 abbrev pub InvariantSuffices : Type 0
 InvariantSuffices = (s : State) → Holds s → ObeysLaws s

@@ -23,7 +23,7 @@ pub record Model : Type 0 where
   -- passive references, how many of each CPU to each number (psref(9)); local references, how many to each number (localcount(9))
   pub passive : ℕ → ℕ → ℕ
   pub locals : ℕ → ℕ
-  -- of each slot: the number of its occupant, and that of the driver to which it keeps a reference
+  -- for each slot the number of its occupant, and that of the driver that it keeps a reference to
   pub occupants : ℕ → Option ℕ
   pub keeps : ℕ → Option ℕ
 
@@ -48,7 +48,7 @@ pub record IsUnheld (m : Model) (n : ℕ) : Type 0 where
   pub locals : m.locals n ≡ 0
   pub keeps : (t : ℕ) → m.keeps t ≡ Some n → ⊥
 
--- a driver that stands in some slot
+-- a driver that is in some slot
 pub record IsDriverHere (m : Model) (d : ℕ) : Type 0 where
   pub entry : Entry
   pub attached : IsAttached m.history entry

@@ -20,7 +20,7 @@ number_in Vacant = None
 number_in (Live e) = Some e.number
 number_in (Retired e) = Some e.number
 
--- the passive references of c to what stands in that slot
+-- the passive references of c to the entry in that slot
 abbrev pub passive_in : List (List ℕ) → ℕ → Option ℕ → ℕ
 passive_in passive c None = 0
 passive_in passive c (Some t) = passive_at passive c t

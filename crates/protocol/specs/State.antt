@@ -1,4 +1,4 @@
--- The state of the core: its words, and what stands beside them.
+-- The state of the core: its words, and the plain state of each CPU and of the keeper.
 use Rattle.std.specs.Prelude.{ℕ, List, [], false, Option, None, replicate, slice_index_or, slice_set, Bool, true, ◌++◌, drop}
 use Rattle.protocol.specs.Types.{Entry, Change, Settings, MOST_CPUS, Slot, Vacant, Mark}
 use Rattle.protocol.specs.declared.state.RecordWords.{RecordWords}
@@ -74,7 +74,7 @@ row_at rows t = slice_index_or rows t no_words
 abbrev pub mark_at : List (List Mark) → ℕ → ℕ → Mark
 mark_at marks t c = cell no_mark marks t c
 
--- passive references of the CPU c to what stands in t
+-- passive references of the CPU c to the entry in t
 abbrev pub passive_at : List (List ℕ) → ℕ → ℕ → ℕ
 passive_at passive c t = cell 0 passive t c
 
@@ -129,6 +129,6 @@ at_rest (Snapshots t c) = false
 at_rest (Adding t old) = false
 at_rest (Subtracting t) = false
 
--- the count words of the first CPUs stand for no reference
+-- the count words of the first CPUs count no reference
 abbrev pub with_biases : ℕ → List ℕ → List ℕ
 with_biases cpus row = replicate cpus bias ++ drop cpus row

@@ -6,7 +6,7 @@ use thiserror::Error;
 /// Whose record a load reads.
 #[derive(Clone, Copy, Debug, PartialEq, Eq)]
 pub enum RecordOf {
-    /// The slot that the search of this CPU stands on.
+    /// By the search of this CPU: the record of the slot that it is at.
     Search(u8),
     /// By this CPU's passive reference to this number: word k, from 0 to 4.
     Passive(u8, u64, u8),
@@ -29,7 +29,7 @@ pub enum Event {
     LoadLink(u8),
     /// A word of a record is loaded.
     LoadRecord(RecordOf),
-    /// Of a vacant slot a word k is stored, with this value: 0 to 4 of its record, 5 + c the count word of CPU c. The slot, k, the value.
+    /// Word k of a vacant slot is stored: 0 to 4 of its record, 5 + c the count word of CPU c. The slot, k, the value.
     StoreSlot(u8, u8, u64),
     /// The link of a vacant slot is stored. The slot; 0 for the end of the list, else a slot plus 1.
     StoreNext(u8, u64),
@@ -77,7 +77,7 @@ pub enum Event {
     Vacate(u8),
 }
 
-/// What an event answers.
+/// The reply of an event.
 #[derive(Clone, Copy, Debug, PartialEq, Eq)]
 pub enum Reply {
     /// Nothing but that it was made.

@@ -1,13 +1,17 @@
-//! The protocol of read sections, passive references and local counts: its state, its events, the invariant that they keep, the registry
-//! that a state shows, and the laws over every list of events. Nothing here runs: the machine (`passive_core`) and the shared words
-//! (`cpu_words`) are proved to make these events.
+//! The protocol of read sections, passive references and local counts: state, events, the invariant that they keep, the model, and the laws
+//! over every list of events. Nothing here runs: the machine (`passive_core`) and the shared words (`cpu_words`) are proved to make these
+//! events.
 //!
-//! The life of an entry here: `Publish` puts it at the head of the list, and from then on sections find it. `Unpublish` takes it out, and
-//! its slot is retired: a `Snapshot` of each CPU's section word, and `Look`s until no section that may hold it is open; `PassiveLook`s
-//! until no CPU has a passive reference to it; a `Collect` of each CPU's count word, which a `TotalAdd` adds to the slot's total, and
-//! `TotalSub`s until the total is the bare bias. Only then the slot is given back: by `KeptSub` where it keeps a driver's reference, which is
-//! given up with it, else by `Vacate`. The invariant says at each moment in between who may still hold the entry, and
-//! the laws draw from it that the slot isn't given back before.
+//! The life of an entry:
+//!
+//! 1. `Publish` links it: sections find it from then on.
+//! 2. `Unpublish` takes it out, and its slot is retired, with a `Snapshot` of each CPU.
+//! 3. `Look`s, until no open section may hold it.
+//! 4. `PassiveLook`s, until no CPU has a passive reference to it.
+//! 5. `Collect` and `TotalAdd` for each CPU's count word, and `TotalSub`s, until the total is its bias.
+//! 6. `Vacate` frees the slot; `KeptSub` does if it keeps a driver's reference.
+//!
+//! The invariant says at each moment who may still hold the entry.
 #![tactic(auto)]
 
 mod event;

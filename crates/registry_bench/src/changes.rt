@@ -1,5 +1,5 @@
-//! What each call behind the interlock takes, on one thread: nobody else wants the lock, and the other CPU is inside, or has a reference, only
-//! where that is what a turn is to meet.
+//! Measures each call behind the interlock on one thread. Nobody else takes the lock. The other CPU is inside, or has a reference, only
+//! where a turn is to meet that.
 
 ghost use Rattle.std.specs.Prelude.{◌≡◌, IsTrue};
 ghost use Rattle.registry_values.specs.Common.{is_lawful};
@@ -166,7 +166,7 @@ impl<'a, D: Domain> Changer<'a, D> {
         Ok(())
     }
 
-    /// Detaches them, and answers their numbers.
+    /// Detaches them, and returns their numbers.
     fn detach_each<R: Wait>(
         &self,
         rt: &R,
@@ -196,8 +196,8 @@ impl<'a, D: Domain> Changer<'a, D> {
         }
     }
 
-    /// Makes so many turns of the work on an entry that a section of the other CPU holds, and as many while a local reference does. It answers
-    /// the nanoseconds that the ones and the others took.
+    /// Makes so many turns of the work on an entry that a section of the other CPU holds, and as many while a local reference holds it.
+    /// Returns the nanoseconds of both.
     fn meet_all<R: Wait + Clock>(
         &self,
         rt: &R,
@@ -238,7 +238,7 @@ impl<'a, D: Domain> Changer<'a, D> {
         Ok((grace?, local?))
     }
 
-    /// Makes so many turns, each of which meets this. It answers the nanoseconds that all took.
+    /// Makes so many turns that all meet this. Returns their nanoseconds.
     fn turn_all<R: Wait + Clock>(
         &self,
         rt: &R,
@@ -255,7 +255,7 @@ impl<'a, D: Domain> Changer<'a, D> {
         Ok(nanoseconds(began, Instant::now(rt)?))
     }
 
-    /// Makes so many performs of one turn, which nobody keeps waiting. It answers the nanoseconds that all took.
+    /// Makes so many performs of one turn that nobody delays. Returns their nanoseconds.
     fn perform_all<R: Wait + Clock>(
         &self,
         rt: &R,
@@ -269,7 +269,7 @@ impl<'a, D: Domain> Changer<'a, D> {
         Ok(nanoseconds(began, Instant::now(rt)?))
     }
 
-    /// Makes so many audits. It answers the nanoseconds that all took.
+    /// Makes so many audits. Returns their nanoseconds.
     fn audit_all<R: Wait + Clock>(
         &self,
         rt: &R,

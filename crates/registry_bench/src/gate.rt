@@ -15,6 +15,7 @@ pub struct Gate {
 }
 
 impl Gate {
+    /// A closed gate for so many threads.
     pub fn new(threads: u64) -> Gate {
         Gate {
             come: AtomicU64::new(0),

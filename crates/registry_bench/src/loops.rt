@@ -1,4 +1,4 @@
-//! The loops that are measured. Each answers how many operations it made before the first that went wrong.
+//! The loops that are measured. Each returns how many operations it made before the first that went wrong.
 
 ghost use Rattle.std.specs.Prelude.{◌≢◌, None};
 ghost use Rattle.cpu_words.specs.Common.{AreWordsOf};
@@ -64,7 +64,7 @@ fn look_up_all<D: Domain>(words: &Words, cpu: &mut Cpu<D>, names: &[Name], count
     count
 }
 
-/// Enters, finds the driver and exits. It answers the value found.
+/// Enters, finds the driver and exits. Returns the value found.
 fn look_up<D: Domain>(words: &Words, cpu: &mut Cpu<D>, name: &Name) -> Option<u64>
     requires words { AreWordsOf words.now D.table D.settings }
 {
@@ -133,7 +133,7 @@ fn find_all<D: Domain>(
     many
 }
 
-/// Finds the driver, and answers its value.
+/// Finds the driver, and returns its value.
 fn found_value<D: Domain>(words: &Words, cpu: &mut Cpu<D>, name: &Name) -> Option<u64>
     requires words { AreWordsOf words.now D.table D.settings }
     requires inside { cpu.old.view.begin ≢ None }
@@ -222,7 +222,7 @@ fn hold<D: Domain, R: Wait>(rt: &R, _reference: LocalRef<D>) -> bool {
     unreachable!()
 }
 
-/// Begins a section and finds the driver in it, so that references to it can be acquired. It answers the value found.
+/// Begins a section and finds the driver in it, so that references to it can be acquired. Returns the value found.
 fn begin_at<D: Domain>(words: &Words, cpu: &mut Cpu<D>, name: &Name) -> Option<u64>
     requires words { AreWordsOf words.now D.table D.settings }
 {

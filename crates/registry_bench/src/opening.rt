@@ -35,7 +35,7 @@ pub fn driver(place: u8) -> Result<Record, Failure>
     })
 }
 
-/// Attaches so many entries, each in a slot of its own. It answers their names.
+/// Attaches so many entries, each in a slot of its own. Returns their names.
 pub fn attach_all<D: Domain, R: Wait>(
     rt: &R,
     alloc: Global,

@@ -47,7 +47,7 @@ impl Parts {
 }
 
 impl<'a, D: Domain> Bench<'a, D> {
-    /// Replaces the entry as often as the plan says, with so many references held. It answers what a replacement's parts took.
+    /// Replaces the entry as often as the plan says, with so many references held. Returns what the parts of a replacement took.
     pub fn replace_in_parts<R: Wait + Clock>(
         &self,
         rt: &R,

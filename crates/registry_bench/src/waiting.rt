@@ -181,7 +181,7 @@ impl<'a, D: Domain> Bench<'a, D> {
         })
     }
 
-    /// Replaces the entry so many times. It answers the nanoseconds that all took.
+    /// Replaces the entry so many times. Returns the nanoseconds.
     fn replace_all<R: Wait + Clock>(
         &self,
         rt: &R,
@@ -204,7 +204,7 @@ impl<'a, D: Domain> Bench<'a, D> {
         Ok(())
     }
 
-    /// Waits so many times for all open sections. It answers the nanoseconds that all took.
+    /// Waits so many times for all open sections. Returns the nanoseconds.
     fn perform_all<R: Wait + Clock>(
         &self,
         rt: &R,

@@ -67,8 +67,9 @@
  * THE PLATFORM
  *
  * The library is built for Linux with glibc, on x86-64 (level x86-64-v2) and aarch64 (ARMv8.0). For aarch64 it is proved as well, and tested under qemu on
- * x86-64, which shows no memory order weaker than that processor's; each access to the shared words is by one of aarch64's sequentially
- * consistent instructions. From nothing the library takes about half an hour to build, nearly all of it proofs.
+ * x86-64, which shows no memory order weaker than that processor's. There each access of the tests to the shared words is by one of aarch64's
+ * sequentially consistent instructions, and the library has no other atomic one. From nothing the library takes about half an hour to build, nearly
+ * all of it proofs.
  */
 #ifndef REGISTRY_H
 #define REGISTRY_H

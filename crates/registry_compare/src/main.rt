@@ -1,9 +1,15 @@
 //! Makes scripts from a seed, runs both engines on each, and compares what they write and how they end: `registry_compare COUNT SEED`.
 //!
-//! The script with number n, from 0, comes of the seed SEED + n alone. At the end it prints how many lines were carried out, how far the scripts
-//! got, and how often each answer and each fault was met. Where the engines differ it prints the script, cut down to the shortest on which they
-//! still do, with what each writes on it, and its status is 1. It is 2 where the arguments aren't these, 3 where a line can't be written, 4 for
-//! want of memory.
+//! Script number n, from 0, depends on SEED + n alone. At the end it prints how many lines were carried out, how far the scripts got, and
+//! how often each answer and each fault was met. If the engines differ it prints the script, cut down to the shortest on which they still
+//! do, with what each writes on it.
+//!
+//! Exit status:
+//!
+//! - 1 if the engines differ;
+//! - 2 for bad arguments;
+//! - 3 if a line can't be written;
+//! - 4 if memory ran out.
 #![tactic(auto)]
 
 use registry_script::parse_number;
@@ -28,7 +34,7 @@ fn main(rt: HostRuntime) -> ExitCode {
     exit_code(compared)
 }
 
-/// How many scripts the arguments ask for, and from which seed.
+/// Parses the arguments: how many scripts, and the first seed.
 fn asked(rt: &(impl Env + Alloc<A = Global>)) -> Option<SeedRange> {
     let mut words = env::args(rt).ok()?;
     let _program = words.next();

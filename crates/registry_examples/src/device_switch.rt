@@ -166,7 +166,7 @@ fn run_switch<D: Domain + Send + Sync, R: Threads + Wait + Sync>(
     })
 }
 
-/// Opens on one thread while another closes all but the last. It answers how many opens and closes were made.
+/// Opens on one thread while another closes all but the last. Returns how many opens and closes were made.
 fn open_and_close<D: Domain + Send + Sync, R: Threads + Wait + Sync>(
     rt: &R,
     switch: &Switch<D>,
@@ -181,7 +181,7 @@ fn open_and_close<D: Domain + Send + Sync, R: Threads + Wait + Sync>(
     Ok((opened?, closed?))
 }
 
-/// Closes the last open on one thread while another destroys the retired driver, which waits for that. It answers the slot that is free.
+/// Closes the last open on one thread while another destroys the retired driver, which waits for that. Returns the slot that is free.
 fn close_and_destroy<D: Domain + Send + Sync, R: Threads + Wait + Sync>(
     rt: &R,
     switch: &Switch<D>,
@@ -270,14 +270,14 @@ impl<'a, D: Domain> Switch<'a, D> {
         None
     }
 
-    /// Pulls the driver out: no open finds it from now on. It answers the number by which it is destroyed.
+    /// Detaches the driver: no open finds it from now on. Returns its number, for the destroy.
     fn pull_out<R: Wait>(&self, rt: &R, cpu: &mut Cpu<D>) -> Result<u64, Failure> {
         let name = self.driver.name;
         let entry = self.registry.detach(rt, cpu, Kind::Driver, &name)?;
         Ok(entry.number)
     }
 
-    /// One turn of the destruction, which is refused while the device is open. It answers how many opens there are.
+    /// One turn of the destroy, which fails while the device is open. Returns how many opens there are.
     fn first_turn<R: Wait>(&self, rt: &R, cpu: &mut Cpu<D>, number: u64) -> Result<u64, Failure> {
         match self.registry.destroy(rt, cpu, number, 1) {
             Err(Refusal::StillHeld(Stage::Local(held))) => Ok(held),

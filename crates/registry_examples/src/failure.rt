@@ -16,7 +16,7 @@ pub enum Failure {
     Memory,
     #[error("no line could be written")]
     Output,
-    /// The text says which answer.
+    /// A wrong answer; the text says which.
     #[error("a wrong answer: {0}")]
     Wrong(&'static str),
 }

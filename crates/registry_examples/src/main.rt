@@ -26,7 +26,7 @@ fn main(rt: HostRuntime) -> ExitCode {
     }
 }
 
-/// Runs the examples one after the other. What they print is the same in every run, in whatever order the threads get on.
+/// Runs the examples one after the other. Every run prints the same, in any order of the threads.
 fn run_all<R: Print + Alloc<A = Global> + Threads + Wait + Sync>(rt: &R) -> Result<(), Failure> {
     print_packet_loop(rt)?;
     print_device_switch(rt)?;

@@ -51,12 +51,12 @@ struct Bus<'a, D: Domain> {
     registry: &'a Registry<D>,
     driver: Name,
     iface: Name,
-    /// How many batches were carried, by which CPU 4 paces itself.
+    /// How many batches were carried. CPU 4 paces itself by it.
     carried: AtomicU64,
     ghost lawful: { IsTrue (is_lawful driver) × IsTrue (is_lawful iface) },
 }
 
-/// How many packets were carried for each value of the interface; place 0 counts those for which there was none.
+/// How many packets were carried for each value of the interface. Place 0 counts those without an interface.
 #[derive(Clone, Copy)]
 struct Tally([u64; 9]);
 
@@ -160,7 +160,7 @@ impl<'a, D: Domain> Bus<'a, D> {
         }
     }
 
-    /// Looks up the interface of each packet of a batch, and counts it. It answers what the last one found.
+    /// Looks up the interface of each packet of a batch, and counts it. Returns what the last one found.
     fn look_up_all(&self, cpu: &mut Cpu<D>, tally: &mut Tally) -> Option<Entry>
         requires inside { cpu.old.view.begin ≢ None }
         ensures inside { cpu.new.view.begin ≢ None }
@@ -206,7 +206,7 @@ impl<'a, D: Domain> Bus<'a, D> {
         Ok(())
     }
 
-    /// Plugs the interface in and pulls it out, again and again. It answers how often its slot was freed.
+    /// Attaches the interface and detaches it, again and again. Returns how often its slot was freed.
     fn plug_all<R: Wait>(&self, rt: &R, cpu: &mut Cpu<D>) -> Result<u64, Failure> {
         for plug in 0..PLUGS {
             self.plug_in(rt, cpu, plug + 1)?;

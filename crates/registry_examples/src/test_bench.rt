@@ -87,7 +87,7 @@ pub fn run_test_bench(alloc: Global) -> Result<BenchSum, Failure> {
     Ok(sum)
 }
 
-/// One order: command k is CPU 1's next where bit k is set, else CPU 0's next. It answers what CPU 1's turn met.
+/// Runs one order: command k is CPU 1's next if bit k is set, else CPU 0's next. Returns what CPU 1's turn met.
 fn run_order(alloc: Global, order: u32) -> Result<Stage, Failure> {
     let mut bench = Bench::new(alloc)?;
     let mut reader = READER.iter();
@@ -217,8 +217,8 @@ impl Bench {
         }
     }
 
-    /// What holds in each state: a slot that CPU 0's section or reference may hold wasn't freed and given again, and the balance of each
-    /// entry is the number of references to it.
+    /// Checks what is true of each state: a slot that CPU 0's section or reference may hold wasn't freed and reused, and the balance of
+    /// each entry is the number of references to it.
     fn check(&self) -> Result<(), Failure> {
         let holds = self.found || self.reference.is_some();
         let freed = matches!(self.stage, Some(Stage::Freed(_)));
@@ -240,8 +240,8 @@ impl Bench {
         }
     }
 
-    /// All commands were made, so nothing is held: one more turn frees the driver's slot, unless the first has. It answers what the first
-    /// turn met.
+    /// Ends an order: nothing is held then, so one more turn frees the driver's slot, unless the first did. Returns what the first turn
+    /// met.
     fn end(&mut self) -> Result<Stage, Failure> {
         match self.stage {
             Some(Stage::Freed(slot)) => Ok(Stage::Freed(slot)),

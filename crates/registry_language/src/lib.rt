@@ -1,7 +1,7 @@
 //! The language of scripts: words, labels, commands, the parser, and why a script was not run to its end.
 //!
-//! `parse_script` takes the bytes line by line: a line's words, the command that they name, and whether it may stand there after the lines
-//! before it. The first fault ends it; a `Script` has none, and each CPU that its commands name is one of its settings'.
+//! `parse_script` takes the bytes line by line: a line's words, the command that they name, and whether it may come after the lines before
+//! it. The first fault ends it. A `Script` has none, and its settings have each CPU that its commands name.
 #![tactic(auto)]
 
 mod command;

@@ -1,4 +1,4 @@
-//! Where a command stands in its script.
+//! The place of a command in its script.
 
 ghost use Rattle.std.specs.Prelude.{◌≡◌};
 ghost use Rattle.registry_language.specs.Program.{settings_for, with_limits, settings_after, position_after};

@@ -42,7 +42,7 @@ impl Script {
         self.settings
     }
 
-    /// The commands, of which each has a CPU of the settings.
+    /// The commands. The settings have each CPU that they name.
     pub fn commands(&self) -> &[Command]
         ensures value { result.now ≡ self.now.commands }
         ensures suited { IsTrue (list_all (suits self.now.settings) self.now.commands) }

@@ -1,4 +1,4 @@
--- What becomes of the references that CPUs hold and of those that labels stand for, call by call.
+-- What becomes of the references that CPUs hold and of those that labels name, call by call.
 use Rattle.std.proofs.Common.{◌≡◌, ◌≢◌, ◌⊎◌, ⊎_elim, ℕ, zero, suc, ◌+◌, ◌-◌, ◌<◌, ◌≤◌, ◌==◌, ◌&&◌, Bool, true, false, cond, List, [], ◌∷◌, length, map, get_or, take, set, replicate, Option, Some}
 use Rattle.std.proofs.Common.{None, refl, sym, ap, ◌∙◌, subst, nat_lt, ℤ, pos, ◌-ℤ◌, arith}
 use mathlib.Core.Path.{subst₂}
@@ -22,7 +22,7 @@ use Rattle.registry_report.specs.declared.hitch.Hitch.{Hitch}
 use Rattle.registry_live.specs.Calls.{Decides, Has, hitch_of, unless_free, unless_taken}
 use Rattle.registry_live.specs.Labels.{HaveReleased, HoldTheSame, Lent, StayInside, inside_of, is_label_to, labels_to, references_at, unlabelled}
 
--- from the CPUs xs and the places ps to ys and qs: each CPU holds what it held beside what labels stand for
+-- from the CPUs xs and the places ps to ys and qs: each CPU holds what it held beside what labels name
 abbrev pub Keeps : List OnCpu → List (Option OnPsref) → List OnCpu → List (Option OnPsref) → Type 0
 Keeps xs ps ys qs = unlabelled ys qs ≡ unlabelled xs ps
 
@@ -86,7 +86,7 @@ less_each (x ∷ xs) (suc c) m d y lt is some zero n =
     sym (plus_none (references_to n x.view.references) (one_label (suc c) m zero n) (ap (λ (b : Bool). cond (b && m == n) 1 0) (ne_eqb (suc c) zero (λ is. omega (arith, is)))))
 less_each (x ∷ xs) (suc c) m d y lt is some (suc k) n = ap (λ (b : ℕ). references_at (set xs c y) k n + b) (one_later c m k n) ∙ less_each xs c m d y (omega (arith, lt)) is some k n
 
--- What labels stand for, where one place has changed
+-- What labels name, if one place has changed
 
 filled : (ps : List (Option OnPsref)) (i : ℕ) (d : Option OnPsref) (p : OnPsref) → i < length ps → get_or ps i d ≡ None → (k n : ℕ)
     → labels_to (set ps i (Some p)) k n ≡ labels_to ps k n + one_label p.cpu p.number k n
@@ -158,7 +158,7 @@ free_of : (o : Option OnPsref) (why : Option Refusal) → unless_taken (is_some 
 free_of None why is = refl
 free_of (Some p) why is = absurd (false≢true (sym (ap is_some is)))
 
--- the label stands for what was acquired, or the call was refused
+-- the label names what was acquired, or the call was refused
 pub refers : (xs : List OnCpu) (ps : List (Option OnPsref)) (c i : ℕ) (d y : OnCpu) (o q : Option OnPsref) (why : Option Refusal) (answer : Result ℕ Hitch) → c < length xs
     → (get_or xs c d).view.id ≡ c → i < length ps
     → Decides (unless_taken (is_some (get_or ps i o)) why) (λ m. Has q (λ p. (p.number ≡ m) × IsAcquired (get_or xs c d) y p)) answer → IfErr answer (λ h. (q ≡ get_or ps i o) × (y ≡ get_or xs c d))

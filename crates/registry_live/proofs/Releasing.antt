@@ -15,7 +15,7 @@ use Rattle.registry_live.specs.Releases.{AllOnlyRelease, IsRelease, OnlyReleases
 
 -- One CPU
 
--- y is x, but for these references and its log
+-- y is x, except these references and its log
 abbrev with_releases : OnCpu → List Entry → List LogItem → OnCpu
 with_releases x es log = record x { view = record x.view { references = es }; log = log }
 

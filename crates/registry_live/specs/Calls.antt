@@ -1,4 +1,4 @@
--- The calls of a session over a running registry: why a command has no answer, and what stands in a label's place.
+-- The calls of a session over a running registry: why a command has no answer, and what is in a label's place.
 use Rattle.std.specs.Prelude.{◌≡◌, ℕ, Bool, List, [], ◌∷◌, slice_set, true, false, Option, Some, None, Result, Ok, Err, if◌then◌else◌}
 use mathlib.Core.Option.{some}
 use lib.ListN.{get_elem?}
@@ -11,7 +11,7 @@ use Rattle.registry_report.specs.Common.{command_answer}
 use Rattle.registry_report.specs.declared.hitch.Hitch.{Hitch}
 use Rattle.registry_report.specs.declared.hitch.Hitch.TheVariants.{NoLabel, LabelTaken, NotInside, Refused}
 
--- there is an answer just where nothing stands against it
+-- there is an answer exactly where nothing speaks against it
 abbrev pub Decides : {X : Type 0} → Option Hitch → (X → Type 0) → Result X Hitch → Type 0
 Decides why P (Ok x) = (why ≡ None) × P x
 Decides why P (Err h) = why ≡ Some h
@@ -35,7 +35,7 @@ abbrev pub unless_free : {X : Type 0} → Option X → (X → Option Hitch) → 
 unless_free None why = Some NoLabel
 unless_free (Some x) why = why x
 
--- the place has a reference, of which this is so
+-- the place has a reference, and this is so for it
 abbrev pub Has : {X : Type 0} → Option X → (X → Type 0) → Type 0
 Has {X} place P = (x : X) × (place ≡ Some x) × P x
 

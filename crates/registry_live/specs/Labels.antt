@@ -1,4 +1,4 @@
--- The passive references that labels stand for, beside those that the CPUs hold.
+-- The passive references that labels name, beside those that the CPUs hold.
 use Rattle.std.specs.Prelude.{◌≡◌, ℕ, zero, suc, ◌-◌, ℤ, pos, ◌-ℤ◌, ◌==◌, ◌&&◌, Bool, false, List, [], ◌∷◌, map, Option, Some, None}
 use Rattle.std.specs.List.{count_by}
 use Rattle.cpu_words.specs.Common.{references_to}
@@ -20,7 +20,7 @@ is_label_to c n (Some p) = p.cpu == c && p.number == n
 abbrev pub labels_to : List (Option OnPsref) → ℕ → ℕ → ℕ
 labels_to places c n = count_by (is_label_to c n) places
 
--- what the CPU c holds to the entry n, less what labels stand for
+-- what the CPU c holds to the entry n, less what labels name
 abbrev pub unlabelled : List OnCpu → List (Option OnPsref) → ℕ → ℕ → ℤ
 unlabelled xs places c n = pos (references_at xs c n) -ℤ pos (labels_to places c n)
 

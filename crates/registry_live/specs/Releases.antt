@@ -9,8 +9,8 @@ use Rattle.passive_list.specs.Common.{OnCpu}
 abbrev pub IsRelease : ℕ → LogItem → Type 0
 IsRelease c d = (n : ℕ) × (d.event ≡ PassiveSub c n)
 
--- The CPU's log goes on, and each item since is such a release. Beside its log just its passive references change: what it has counted of local
--- references stays, so each of these that it let go of before still shows.
+-- The CPU's log goes on, and each item since is such a release. Beside its log only its passive references change. What it has counted of
+-- local references stays, so each of these that it let go of before still shows.
 pub record OnlyReleases (x y : OnCpu) : Type 0 where
   pub since : List LogItem
   pub is : y ≡ record x { view = record x.view { references = y.view.references }; log = x.log ++ since }

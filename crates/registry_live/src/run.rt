@@ -17,8 +17,8 @@ use std::marker::Brand;
 use std::sync::Wait;
 
 /// Runs a script over a new registry of its own, and writes the text of each command, in order.
-/// Refused: `Memory` where the registry couldn't be made, and nothing was written; `Memory` or `Write` in a run, and a
-/// front of the report was written.
+/// Refused: `Memory` if the registry couldn't be made, and nothing was written; `Memory` or `Write` in a run, and a front of the report was
+/// written.
 pub fn run_live<R: Wait, W: Write>(
     rt: &R,
     alloc: Global,
@@ -56,10 +56,11 @@ fn run_on_blank<D: Domain, R: Wait, W: Write>(
 }
 
 /// Runs a script over a registry that others may use too, and writes the text of each command, in order.
-/// At the end, and after a fault, all references that the run still holds are given back, and nothing is printed for
-/// them; a section that is open stays open. So each CPU holds the passive references that it held before the run, to
-/// each entry as many. A local reference is no CPU's: one that a label still stood for is released on CPU 0. That it is,
-/// and that a section stays open, `give_back` of the session says; of the whole run tests say both.
+///
+/// At the end, and after a fault, it releases all references that the run still holds, and prints nothing for them. An open section stays
+/// open. Each CPU then holds the passive references that it held before. A local reference that a label still named is released on CPU 0;
+/// `give_back` of the session says that, and tests say it of the whole run.
+///
 /// Refused: `Memory` or `Write`, and a front of the report was written.
 /// Condition: the registry has the script's settings, and the slice is all its CPUs in order; so it is afterwards.
 pub fn run_live_on<D: Domain, R: Wait, W: Write>(

@@ -1,4 +1,4 @@
-//! A script's run over a registry that is running: its CPUs, and the references that labels stand for.
+//! A script's run over a running registry: its CPUs, and the references that labels name.
 
 ghost use Rattle.std.specs.Prelude.{◌≡◌, ◌<◌, ◌∷◌, [], IfSome, List, None, replicate};
 ghost use Rattle.passive_list.specs.Common.{OnCpu};
@@ -36,8 +36,7 @@ macro_rules! spend_each {
     };
 }
 
-/// All CPUs of a registry that is running, and the references that labels stand for. A value that is left over is
-/// spent by `give_back`.
+/// All CPUs of a running registry, and the references that labels name. `give_back` spends a value that is left over.
 pub struct LiveSession<'a, D: Domain, R: Wait> {
     cpus: &'a mut [Cpu<D>],
     rt: &'a R,
@@ -49,7 +48,7 @@ pub struct LiveSession<'a, D: Domain, R: Wait> {
 }
 
 impl<'a, D: Domain, R: Wait> LiveSession<'a, D, R> {
-    /// A session in which no label stands for a reference.
+    /// A session in which no label names a reference.
     /// Condition: the slice is all CPUs of the registry, in order.
     pub fn new(
         rt: &'a R,
@@ -73,11 +72,13 @@ impl<'a, D: Domain, R: Wait> LiveSession<'a, D, R> {
         }
     }
 
-    /// Gives back all references that labels stand for: the local ones first, each on CPU 0, and then the passive ones,
-    /// each on its own CPU, which holds then what no label stood for. Sections stay open (`released`). CPU 0's counts and
-    /// log show each local reference that it let go of, and after these the CPUs do nothing but release passive ones
-    /// (`locals`). Where CPU 0's count for it was collected, its log shows that the reference came back. That the keeper
-    /// gave it up then no clause says: what the lock guards has no name there.
+    /// Releases all references that labels name:
+    ///
+    /// - the local ones first, on CPU 0, whose counts and log show each (`locals`);
+    /// - then the passive ones, each on its own CPU, which then holds what no label named (`released`).
+    ///
+    /// Sections stay open. Where CPU 0's count for a local reference was collected, its log shows that the reference came back. No clause
+    /// says that the keeper gave it up then: no contract can name what the lock guards.
     pub fn give_back(self)
         ensures all { AreAllCpus D.settings.cpus self.exit.0.now }
         ensures locals { (between : List OnCpu) × LetGo self.entry.cpus.now self.entry.locals between × AllOnlyRelease between self.exit.0.now }
@@ -153,8 +154,7 @@ fn release_passives<D: Domain>(
     spend_each!(passives, place => release_passive(registry, cpus, place));
 }
 
-/// Releases the passive reference in a place, on its own CPU. One of another registry, which no label stands for, is
-/// forgotten.
+/// Releases the passive reference in a place, on its own CPU. One of another registry is forgotten; no label names one.
 fn release_passive<D: Domain>(registry: &Registry<D>, cpus: &mut [Cpu<D>], place: Option<Psref>)
     requires { AreAllCpus D.settings.cpus cpus.old }
     ensures all { AreAllCpus D.settings.cpus cpus.new }
@@ -180,7 +180,7 @@ impl<'a, D: Domain, R: Wait> Session for LiveSession<'a, D, R> {
     ghost use Rattle.registry_live.specs.Calls.{DestroysBy, OnOne, PerformsBy};
     ghost use Rattle.registry_live.specs.Labels.{Lent, unlabelled};
 
-    // which slice of CPUs the session has, and what each CPU holds that no label stands for
+    // which slice of CPUs the session has, and what each CPU holds that no label names
     ghost Kept = { Lent };
 
     ghost kept = { λ s. record { slice = s.cpus.ghost_name; unlabelled = unlabelled s.cpus.now s.passives } };

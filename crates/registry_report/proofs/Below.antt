@@ -26,7 +26,7 @@ position_by p xs d (Some i) at =
     let first = position-Some p xs i d at in
     sym (least_is (λ t. p (get_or xs t d)) i (length xs) first.0 first.1 first.2)
 
--- The first element that passes stands in the least place that does.
+-- The first element that passes is in the lowest place that does.
 pub position_is : {X : Type 0} (p : X → Bool) (xs : List X) (d : X) → position p xs ≡ least_below (λ t. p (get_or xs t d)) (length xs)
 position_is p xs d = position_by p xs d (position p xs) refl
 

@@ -58,7 +58,7 @@ abbrev pub with_label : {L X : Type 0} → Option L → (L → Result X Hitch) �
 with_label None f = Err NoLabel
 with_label (Some l) f = f l
 
--- a label that is to be filled stands for nothing
+-- a label that is to be filled has no reference
 abbrev pub if_free : {L X : Type 0} → Option L → Result X Hitch → Result X Hitch
 if_free None answer = answer
 if_free (Some l) answer = Err LabelTaken
@@ -177,7 +177,7 @@ advance_answer r n = stage_in r n (retired_slot r n)
 abbrev pub destroy_answer : Registry → ℕ → ℕ → Result ℕ Refusal
 destroy_answer r c n = stages.destroy_answer (is_inside r c) (advance_answer r n)
 
--- whether the caller is inside a section, else the least CPU that is
+-- whether the caller is inside a section, else the lowest-numbered CPU that is
 abbrev pub perform_answer : Registry → ℕ → Result (Unit {0}) Refusal
 perform_answer r c = answers.perform_answer (is_inside r c) (least_below (is_inside r) r.settings.cpus)
 

@@ -1,4 +1,4 @@
--- What a history says: the answer of a lookup, the entry with a number, its end, how many entries are live.
+-- What a history says: the result of a lookup, the entry with a number, its end, how many entries are live.
 use Rattle.std.specs.Prelude.{ℕ, zero, suc, ◌-◌, ◌==◌, nat_lt, List, position, count_by, Option, Some, None, is_some, Bool, true, false, not, if◌then◌else◌}
 use Rattle.registry_report.specs.Types.{Entry, Change, Attach, Detach, Key}
 use Rattle.protocol.specs.History.{change_at}

@@ -132,7 +132,7 @@ refused_line refusal = line_of_words (codes "refused" ∷ refusal_words refusal)
 abbrev pub stage_line : Stage → List ℕ
 stage_line stage = line_of_words (stage_words stage)
 
--- why a command has no answer of its own
+-- why a command has no answer
 abbrev pub hitch_line : Hitch → List ℕ
 hitch_line NoLabel = line_of_words (codes "no" ∷ codes "label" ∷ [])
 hitch_line LabelTaken = line_of_words (codes "label" ∷ codes "taken" ∷ [])

@@ -1,4 +1,4 @@
--- What each command may print, whatever registry it is carried out on: its line, with some values, or why it has no answer.
+-- What each command may print, on any registry: its line, with some values, or why it has no answer.
 use Rattle.std.specs.Prelude.{◌≡◌, ℕ, List, [], ◌∷◌, ◌++◌, Option, true, ◌⊎◌, Result, IfErr}
 use Rattle.std.specs.Io.KnownBytes.{Appends}
 use Rattle.registry_values.specs.Common.{Tally, IsObstacle}
@@ -14,7 +14,7 @@ use Rattle.registry_report.specs.Lines.{uncounted_line, stage_line, destroyed_li
 use Rattle.registry_report.specs.Report.{answer_line}
 use Rattle.registry_report.specs.Written.{AppendsPrefix}
 
--- The refusals of the calls, but for want of memory, which has no line
+-- The refusals of the calls, except out of memory, which has no line
 
 -- of attach and of attach_iface
 abbrev pub IsOfAttach : Refusal → Type 0
@@ -100,7 +100,7 @@ IsHitchOf (Destroy c n turns) (Refused f) = IsOfDestroy f
 IsHitchOf (Perform c turns) (Refused f) = IsOfPerform f
 IsHitchOf _ _ = ⊥
 
--- the commands that may want memory: those that make a change of the history, and the one that makes a local reference
+-- the commands that may run out of memory: those that change the history, and the one that makes a local reference
 abbrev pub MayWantMemory : Command → Type 0
 MayWantMemory (Attach c rec) = Unit {0}
 MayWantMemory (Plug c rec x) = Unit {0}
@@ -108,7 +108,7 @@ MayWantMemory (Detach c kind name) = Unit {0}
 MayWantMemory (Count c x) = Unit {0}
 MayWantMemory _ = ⊥
 
--- so it is, or memory was refused to a command that may want any
+-- so it is, or memory was refused to a command that may take some
 abbrev pub MayHitch : Command → Hitch → Type 0
 MayHitch command hitch = (MayWantMemory command × (hitch ≡ Refused NoMemory)) ⊎ IsHitchOf command hitch
 
@@ -144,7 +144,7 @@ abbrev pub IsRunOf : List Command → List ℕ → Type 0
 IsRunOf [] text = text ≡ []
 IsRunOf (command ∷ commands) text = (first rest : List ℕ) × IsLineOf command first × IsRunOf commands rest × (text ≡ first ++ rest)
 
--- just that was written
+-- exactly that was written
 abbrev pub WritesRun : Option (List ℕ) → Option (List ℕ) → List Command → Type 0
 WritesRun old new commands = (text : List ℕ) × IsRunOf commands text × Appends old new text
 

@@ -15,7 +15,7 @@ pub record Registry : Type 0 where
   -- of each number: the local references given up under the interlock, and whether an advance has come past its passive references
   pub given_up : ℕ → ℕ
   pub is_collected : ℕ → Bool
-  -- what the labels stand for: a passive reference, and the number that a local one is to
+  -- what the labels name: a passive reference, and the entry's number of a local one
   pub passive_labels : ℕ → Option CorePsref
   pub local_labels : ℕ → Option ℕ
 

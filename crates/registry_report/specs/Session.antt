@@ -1,4 +1,4 @@
--- The core, and what the labels stand for.
+-- The core, and the references of the labels.
 use Rattle.std.specs.Prelude.{◌≡◌, ℕ, true, List, length, Option, Some, None, Result, Ok, Err, replicate, slice_index_or}
 use Rattle.registry_report.specs.Types.{CorePsref}
 use Rattle.passive_core.specs.Common.{IsQuiet, is_live_local}
@@ -16,11 +16,11 @@ pub record SessionState : Type 0 where
 abbrev pub with_core : SessionState → State → SessionState
 with_core s core = record s { core = core }
 
--- what a label stands for
+-- the reference of a label
 abbrev pub label_at : {X : Type 0} → List (Option X) → ℕ → Option X
 label_at labels x = slice_index_or labels x None
 
--- each label of local references stands for a live one, and for another than the others do
+-- each label of local references names a live one, and no two the same
 pub record IsSession (s : SessionState) : Type 0 where
   pub quiet : IsQuiet s.core
   pub holds : Holds s.core
@@ -29,11 +29,11 @@ pub record IsSession (s : SessionState) : Type 0 where
   pub live : (x id : ℕ) → slice_index_or s.locals x None ≡ Some id → is_live_local s.core id ≡ true
   pub apart : (x y id : ℕ) → slice_index_or s.locals x None ≡ Some id → slice_index_or s.locals y None ≡ Some id → x ≡ y
 
--- no label stands for a reference
+-- no label has a reference
 abbrev pub without_labels : State → SessionState
 without_labels core = record { core = core; passives = replicate 26 None; locals = replicate 26 None }
 
--- what a label stands for, if it stands for something
+-- the reference of a label, if it has one
 abbrev pub label_answer : {X : Type 0} → Option X → Result X Hitch
 label_answer None = Err NoLabel
 label_answer (Some x) = Ok x

@@ -7,7 +7,7 @@ use Rattle.registry_report.specs.Changes.{is_attach}
 use Rattle.registry_report.specs.Registry.{Registry}
 use Rattle.registry_report.specs.Session.{SessionState}
 
--- the history, who found what, who holds what, and what stands in the slots
+-- the history, who found what, who holds what, and what is in the slots
 pub record ShowsModel (h : List Change) (begins : List (Option ℕ)) (found : List (Option Entry)) (passive : List (List ℕ)) (slots : List Slot) (locals : List LocalPlace) (keeps : List (Option ℕ))
     (m : Model) : Type 0 where
   pub history : m.history ≡ h

@@ -66,7 +66,7 @@ with_section_exited r c false = with_section_ended r c
 abbrev pub with_found : Registry → ℕ → Option Entry → Registry
 with_found r c answer = with_model r (record (with_all_seen r.model c) { found = put r.model.found c answer })
 
--- one passive reference of c to n more, which the label stands for
+-- one passive reference of c to n more, which the label names
 abbrev pub with_reference : Registry → ℕ → ℕ → ℕ → Registry
 with_reference r c a n = record r {
   model = with_passive r.model c n (r.model.passive c n + 1);
@@ -82,7 +82,7 @@ without_reference r c a n = record r {
 abbrev pub put_at : {X : Type 0} → (ℕ → ℕ → X) → ℕ → ℕ → X → ℕ → ℕ → X
 put_at f c n x = put f c (put (f c) n x)
 
--- one local reference to n more, counted by c, which the label stands for
+-- one local reference to n more, counted by c, which the label names
 abbrev pub with_one_counted : Registry → ℕ → ℕ → ℕ → Registry
 with_one_counted r c x n = record r {
   model = with_locals r.model n (r.model.locals n + 1);

@@ -1,4 +1,4 @@
-//! A script's run over a core: the core, and what the labels stand for.
+//! A script's run over a core: the core, and the references of the labels.
 
 ghost use Rattle.std.specs.Prelude.{◌≡◌, ◌<◌};
 ghost use Rattle.passive_core.specs.Common.{IsQuiet};
@@ -11,7 +11,7 @@ use registry_language::Label;
 use registry_values::{Balance, Entry, Kind, Name, Record, Stage};
 use std::marker::Model;
 
-/// A core, and the references that labels stand for.
+/// A core, and the references of the labels.
 #[derive(Drop)]
 pub struct CoreSession {
     core: Core,
@@ -32,7 +32,7 @@ impl Model for CoreSession {
 }
 
 impl CoreSession {
-    /// A session in which no label stands for a reference.
+    /// A session in which no label has a reference.
     pub fn new(core: Core) -> CoreSession
         requires { IsQuiet core }
         ensures { result ≡ without_labels core }
@@ -45,7 +45,7 @@ impl CoreSession {
         }
     }
 
-    /// The passive reference that the label stands for.
+    /// The passive reference of the label.
     fn passive(&self, label: Label) -> Result<CorePsref, Hitch>
         requires { label.place < 26 }
         ensures { result ≡ label_answer (label_at self.now.passives label.place) }
@@ -53,7 +53,7 @@ impl CoreSession {
         self.passives[label.place as usize].ok_or(Hitch::NoLabel)
     }
 
-    /// The local reference that the label stands for.
+    /// The local reference of the label.
     fn local(&self, label: Label) -> Result<u64, Hitch>
         requires { label.place < 26 }
         ensures { result ≡ label_answer (label_at self.now.locals label.place) }
@@ -74,7 +74,7 @@ impl Session for CoreSession {
 
     ghost shows = { Shows };
 
-    // Nobody else acts between the turns of the pure machine, so each answers as the first.
+    // Nobody else acts between the turns of the pure machine, so each returns what the first does.
     ghost destroys = { λ _ _ _ _ _ _. Unit {0} };
 
     ghost performs = { λ _ _ _ _ _. Unit {0} };

@@ -1,4 +1,4 @@
-//! Why a command has no answer of its own.
+//! Why a command has no answer.
 
 ghost use Rattle.std.specs.Prelude.{◌≡◌};
 ghost use Rattle.registry_report.specs.declared.hitch.Hitch.TheVariants as hitch;
@@ -6,12 +6,12 @@ ghost use Rattle.registry_report.specs.Answers.{command_answer};
 
 use registry_values::Refusal;
 
-/// Why a command has no answer of its own.
+/// Why a command has no answer.
 #[derive(Clone, Copy, Debug, PartialEq, Eq)]
 pub enum Hitch {
-    /// The label stands for no reference.
+    /// The label has no reference.
     NoLabel,
-    /// The label to be filled stands for one.
+    /// The label to be filled has one.
     LabelTaken,
     /// The CPU is outside its section.
     NotInside,

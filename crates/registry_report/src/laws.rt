@@ -2,10 +2,11 @@
 
 ghost use Rattle.registry_report.specs.Laws.{EndIsExact, LeastIsLeast, LookupIsExact, ReportIsModelRun};
 
-/// Does nothing; its contract ties the report of a script to the model. `modelled`: over the commands of every script
-/// the registry that the report speaks of goes on by lawful steps of the model. `lookups` and `ends`: what the report
-/// computes of the history is what the history says. `least`: the first-fit slot, and the first obstacle of a destruction,
-/// are the least.
+/// Theorem, no effect at run time: the report of a script follows the model.
+///
+/// - `modelled`: over the commands of every script the registry of the report goes on by lawful steps of the model.
+/// - `lookups`, `ends`: what the report computes of the history is what the history says.
+/// - `least`: the first-fit slot, and the first obstacle of a destroy, are the lowest-numbered.
 pub fn report_laws()
     ensures modelled { ReportIsModelRun }
     ensures lookups { LookupIsExact }

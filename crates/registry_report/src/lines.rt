@@ -183,7 +183,7 @@ pub fn stage(alloc: Global, front: &str, stage: Stage) -> Result<String, RunFaul
     Ok(line)
 }
 
-/// Why a command has no answer of its own. Want of memory has no line.
+/// The line of a command that has no answer. Out of memory has no line.
 pub fn hitched(alloc: Global, hitch: Hitch) -> Result<String, RunFault>
     ensures line { IfOk result (λ text. string_bytes text ≡ hitch_line hitch) }
     ensures silent { hitch ≡ Hitch.Refused Refusal.NoMemory → IsErrOf result RunFault.Memory }
@@ -197,7 +197,7 @@ pub fn hitched(alloc: Global, hitch: Hitch) -> Result<String, RunFault>
     }
 }
 
-/// The refusal's name and what it carries. Want of memory has no line.
+/// The refusal's name and what it carries. Out of memory has no line.
 fn refused(alloc: Global, refusal: Refusal) -> Result<String, RunFault>
     ensures line { IfOk result (λ text. string_bytes text ≡ refused_line refusal) }
     ensures silent { refusal ≡ Refusal.NoMemory → IsErrOf result RunFault.Memory }

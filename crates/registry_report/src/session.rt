@@ -24,18 +24,17 @@ pub struct Reading {
     pub value: u64,
 }
 
-/// Carries commands out, one after the other, on a registry whose CPUs and settings are those of a script.
-/// Labels stand for the references that the commands acquire.
+/// Carries commands out, one after the other, on a registry whose CPUs and settings are those of a script. Labels name the references that
+/// the commands acquire.
 ///
-/// Where a session shows the registry that the report speaks of, each answer is the report's. A session over
-/// a registry that others use too shows none.
+/// Where a session shows the registry of the report, each answer is the report's. A session over a registry that others use too shows none.
 pub trait Session {
     ghost use Rattle.std.specs.Prelude.{ℕ, Result};
     ghost use Rattle.registry_report.specs.Types.{Settings};
     ghost use Rattle.registry_report.specs.declared.hitch.Hitch.{Hitch};
     ghost use Rattle.registry_report.specs.Registry.{Registry};
 
-    // What no command changes: the settings of the registry, and whatever else a session says of itself.
+    // What no command changes: the settings of the registry, and what else a session says of itself.
     ghost Kept: { Type 0 };
 
     ghost kept: { Self → Kept };
@@ -102,8 +101,7 @@ pub trait Session {
         ensures shows { LeavesFor (shows self.old) (shows self.new) (command.Find cpu kind name) result }
         ensures hitch { IfErr result (MayHitch (command.Find cpu kind name)) };
 
-    /// The CPU acquires a passive reference to what it found last; the label stands for it then. The number that it
-    /// is to.
+    /// The CPU acquires a passive reference to what it found last, and the label gets it. Returns the entry's number.
     fn reference(&mut self, cpu: u8, label: Label) -> Result<u64, Hitch>
         requires known { cpu < (settings (kept self.old)).cpus }
         requires label { label.place < 26 }
@@ -112,8 +110,7 @@ pub trait Session {
         ensures shows { LeavesFor (shows self.old) (shows self.new) (command.Reference cpu label) result }
         ensures hitch { IfErr result (MayHitch (command.Reference cpu label)) };
 
-    /// The CPU makes a second passive reference of the source's; the target stands for it then. The number that both
-    /// are to.
+    /// The CPU makes a second passive reference of the source's, and the target gets it. Returns the entry's number.
     fn copy(&mut self, cpu: u8, source: Label, target: Label) -> Result<u64, Hitch>
         requires known { cpu < (settings (kept self.old)).cpus }
         requires source { source.place < 26 }
@@ -148,8 +145,7 @@ pub trait Session {
         ensures shows { LeavesFor (shows self.old) (shows self.new) (command.Release cpu label) result }
         ensures hitch { IfErr result (MayHitch (command.Release cpu label)) };
 
-    /// The CPU acquires a local reference to what it found last; the label stands for it then. The number that it is
-    /// to.
+    /// The CPU acquires a local reference to what it found last, and the label gets it. Returns the entry's number.
     fn count(&mut self, cpu: u8, label: Label) -> Result<u64, Hitch>
         requires known { cpu < (settings (kept self.old)).cpus }
         requires label { label.place < 26 }

@@ -1,5 +1,5 @@
-//! The calls of a storm, each with the judgement of its answer. A contract here says that just this answer was judged: so an answer can't be passed over,
-//! nor another one judged in its place.
+//! The calls of a storm, each with the judgement of its answer. A contract here says that exactly this answer was judged: none is passed
+//! over, and none is judged instead.
 
 ghost use Rattle.std.specs.Prelude.{◌≡◌, IsSome, IsTrue, Some, None, Ok};
 ghost use Rattle.passive_ref.specs.Psrefs.{why_unusable};
@@ -30,7 +30,7 @@ fn looked_up<D: Domain>(
     }
 }
 
-/// Begins a section, and answers whether it is begun. Right: it is.
+/// Begins a section, and returns whether it is begun. Right: it is.
 pub fn begin<D: Domain>(registry: &Registry<D>, cpu: &mut Cpu<D>, counts: &mut Counts) -> bool
     ensures judged { IsJudged (IsTrue result) counts.old counts.new }
 {

@@ -20,8 +20,8 @@ use std::sync::Wait;
 pub struct Churn {
     /// The interface, where it is attached now.
     pub live: Option<Entry>,
-    /// By slot: the number of the interface that was retired in it and not yet seen freed, 0 for none. A slot is not given again before
-    /// that, so there is one at most.
+    /// For each slot the number of the interface that was retired in it and isn't known to be freed, 0 for none. A slot is reused only
+    /// after that, so there is at most one.
     pub retired: [u64; 4],
 }
 

@@ -31,13 +31,18 @@ pub struct StormRun {
     pub deeds: StormDeeds,
 }
 
-/// A storm over a registry of its own: one driver, `drv`, and one worker for each CPU, all at once. In each turn a worker enters a section,
-/// passes the gate in it, looks up the interface `wm0` and then the driver, acquires a passive and a local reference to the driver, exits,
-/// reads the driver's record by both, releases the passive one, and exchanges the local one with what lies in the next CPU's basket; what
-/// it gets, and what the CPU before has laid into its own basket, it releases on its own CPU. CPU 0 also attaches or detaches the interface in
-/// each turn, and works on what it has detached. At the end everything is released, audited and destroyed on CPU 0.
+/// A storm over a registry of its own: one driver, `drv`, and one worker for each CPU, all at once. In each turn a worker
+///
+/// 1. enters, passes the gate, looks up the interface `wm0` and the driver, and acquires both references to the driver;
+/// 2. exits, and reads the record by both;
+/// 3. releases the passive one, and exchanges the local one with what is in the next CPU's basket;
+/// 4. releases what it got, and what is in its own basket.
+///
+/// CPU 0 also attaches or detaches the interface, and works on what it has detached. At the end everything is released, audited and
+/// destroyed.
+///
 /// Condition: 1 to `MOST_CPUS` CPUs, and 1 to 100,000 turns.
-/// Refused: `Memory`; `NoThread` where a worker couldn't be started. The workers that were started have ended then.
+/// Refused: `Memory`; `NoThread` if a worker couldn't be started.
 pub fn storm<R: Threads + Wait + Sync, G: Gate + Sync>(
     rt: &R,
     alloc: Global,

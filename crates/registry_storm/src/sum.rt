@@ -98,7 +98,7 @@ impl Counts {
         self.references = added(self.references, 1);
     }
 
-    /// Counts an answer that isn't right.
+    /// Counts a wrong answer, and nothing for a right one.
     pub fn judge(&mut self, is_right: bool)
         ensures { IsJudged (IsTrue is_right) self.old self.new }
     {

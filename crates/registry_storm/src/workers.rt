@@ -24,8 +24,8 @@ impl Promise<Done> for Turns {
     ghost kept_by = { λ p done. done.counts.lookups ≡ 2 * p.0 };
 }
 
-/// Starts a worker for each CPU, and answers what all have counted once all have ended, and what the first, of CPU 0, has left.
-/// Refused: `NoThread` where a worker couldn't be started, and `Memory`; those that were started have ended then.
+/// Starts a worker for each CPU. Once all have ended, returns what they counted, and what the first one, of CPU 0, has left.
+/// Refused: `NoThread` if a worker couldn't be started, and `Memory`. Those that were started have ended then.
 pub fn work_all<D: Domain + Send + Sync, R: Threads + Wait + Sync, G: Gate + Sync>(
     rt: &R,
     alloc: Global,

@@ -38,7 +38,7 @@ pub handed_on : {X : Type 0} (result : Result X Refusal) (f : Refusal) → IsErr
 handed_on (Ok x) f is and = absurd (let q : ◌≡◌ {A = Bool} false true = is in cc)
 handed_on (Err r) f is and = ap (λ (g : Refusal). Err g) and
 
--- two tests of which each passes where the other does
+-- two tests; each passes where the other does
 pub same_test : (a b c d : ℕ) → (a < b → c < d) → (b ≤ a → d ≤ c) → nat_lt a b ≡ nat_lt c d
 same_test a b c d less more = ⊎_elim
     (λ (lt : a < b). lt-ltb a b lt ∙ sym (lt-ltb c d (less lt)))

@@ -1,4 +1,4 @@
--- What a call answers, by plain values: where the caller is, what stands in the slots, and how far the history and the counts have come.
+-- The results of calls, from plain values: where the caller is, what is in the slots, and how far the history and the counts have come.
 use Rattle.std.specs.Prelude.{ℕ, ◌+◌, ◌==◌, nat_lt, nat_le, List, position, Option, Some, None, Bool, not, ◌&&◌, Result, Ok, Err, if◌then◌else◌}
 use Rattle.std.specs.List.{zip}
 use Rattle.registry_values.specs.declared.answer.Room.{Room}
@@ -13,7 +13,7 @@ use Rattle.registry_values.specs.Slots.{is_available}
 
 -- Attaching
 
--- the least slot that is vacant and keeps nothing
+-- the lowest-numbered slot that is vacant and keeps nothing
 abbrev pub first_fit : List Slot → List (Option ℕ) → Option ℕ
 first_fit slots keeps = position is_available (zip slots keeps)
 
@@ -57,7 +57,7 @@ enter_answer depth outside may_begin = if depth == MOST_DEPTH then Err TooDeep e
 
 -- Waiting
 
--- the least CPU that is inside a section is waited for
+-- the lowest-numbered CPU that is inside a section is waited for
 abbrev pub wait_answer : Option ℕ → Result (Unit {0}) Refusal
 wait_answer None = Ok tt
 wait_answer (Some c) = Err (Waiting c)

@@ -8,7 +8,7 @@ pub use Rattle.registry_values.specs.declared.name.Name.{Name}
 pub use Rattle.registry_values.specs.declared.refusal.Refusal.{Refusal}
 pub use Rattle.registry_values.specs.declared.refusal.Refusal.TheVariants.{HistoryFull, Inside, LocalFull, NameTaken, NeedsDriver, NoSlot}
 pub use Rattle.registry_values.specs.declared.settings.Settings.{Settings}
-pub use Rattle.registry_values.specs.declared.limits.TheConstants.{BIAS, MOST_CHANGES, MOST_COUNT, MOST_CPUS, MOST_DEPTH, MOST_SECTIONS, MOST_SLOTS}
+pub use Rattle.registry_values.specs.declared.limits.TheConstants.{MOST_CHANGES, MOST_COUNT, MOST_CPUS, MOST_SECTIONS, MOST_SLOTS}
 pub use Rattle.registry_values.specs.declared.slot.Key.{Key}
 pub use Rattle.registry_values.specs.declared.slot.Slot.{Slot}
 pub use Rattle.registry_values.specs.declared.slot.Slot.TheVariants.{Live, Retired, Vacant}

@@ -11,7 +11,7 @@ use Rattle.registry_values.specs.declared.name.NameFault.TheVariants.{Empty, Too
 abbrev pub is_allowed : ℕ → ℕ → Bool
 is_allowed place b = is_ascii_lowercase b || (not (place == 0) && is_ascii_digit b)
 
--- the first place, counted on from the number given, whose byte may not stand there
+-- the first place, counted on from the number given, with a byte that may not be there
 abbrev pub bad_place : ℕ → List ℕ → Option ℕ
 bad_place i [] = None
 bad_place i (b ∷ bs) = if is_allowed i b then bad_place (i + 1) bs else Some i

@@ -31,7 +31,7 @@ IsRefusalOfNew NoMemory = Unit {0}
 IsRefusalOfNew BadSettings = Unit {0}
 IsRefusalOfNew _ = ⊥
 
--- the answer of a call that is refused just where there is a refusal
+-- the result of a call that is refused exactly where there is a refusal
 abbrev pub Answers : {X : Type 0} → Option Refusal → (X → Type 0) → Result X Refusal → Type 0
 Answers refusal P (Ok x) = (refusal ≡ None) × P x
 Answers refusal P (Err f) = refusal ≡ Some f

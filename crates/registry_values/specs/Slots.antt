@@ -1,4 +1,4 @@
--- What stands in the slots: who is live, which slot has a number, what the marks of a slot say.
+-- The slots: who is live, which slot has a number, what the marks of a slot say.
 use Rattle.std.specs.Prelude.{ℕ, ◌+◌, ◌==◌, Bool, true, false, ◌&&◌, List, count_by, position, Option, Some, None, slice_index_or, is_none}
 use Rattle.std.specs.List.{list_any, zip}
 use Rattle.registry_values.specs.declared.entry.Kind.{Kind}

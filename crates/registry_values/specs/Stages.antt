@@ -1,4 +1,4 @@
--- The stage of a retired entry, and what a destroy answers by its last stage.
+-- The stage of a retired entry, and the result of a destroy from its last stage.
 use Rattle.std.specs.Prelude.{ℕ, zero, suc, Bool, Option, Some, None, Result, Ok, Err, if◌then◌else◌}
 use Rattle.registry_values.specs.declared.refusal.Refusal.{Refusal}
 use Rattle.registry_values.specs.declared.refusal.Refusal.TheVariants.{Inside, NotRetired, StillHeld}
@@ -22,7 +22,7 @@ abbrev pub IsObstacle : Stage → Type 0
 IsObstacle (Freed t) = ⊥
 IsObstacle _ = Unit {0}
 
--- Destroying an entry: the answer of an advance, where what stands in the way is a refusal.
+-- Destroying an entry: the result of an advance, with an obstacle as a refusal.
 abbrev pub destroy_result : Stage → Result ℕ Refusal
 destroy_result (Grace c) = Err (StillHeld (Grace c))
 destroy_result (Passive c) = Err (StillHeld (Passive c))

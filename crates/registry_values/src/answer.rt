@@ -1,4 +1,4 @@
-//! What a call answers, by plain values: where the caller is, what stands in the slots, and how far the history and the counts have come.
+//! The results of calls, from plain values: where the caller is, what is in the slots, and how far the history and the counts have come.
 
 ghost use Rattle.std.specs.Prelude.{◌≡◌, ◌<◌, nat_lt, IfOk, Ok, Some, None, true, false};
 ghost use Rattle.registry_values.specs.Answers.{attach_answer, detach_answer, enter_answer, given_entry, has_room, wait_answer, why_full, why_uncounted, why_unusable};
@@ -27,7 +27,7 @@ pub fn has_room(room: Room) -> bool
 }
 
 /// The entry that an attach of the record makes: its number is that of the next change, from 1, and its slot is the first-fit one.
-/// Refused, in this order: `NameTaken` where a live entry has its kind and name; `NoSlot` where no slot is available; `HistoryFull` where the
+/// Refused, in this order: `NameTaken` if a live entry has its kind and name; `NoSlot` if no slot is available; `HistoryFull` if the
 /// history has no room for this attach and the detach of each entry that is live then.
 pub fn given_entry(
     rec: Record,
@@ -51,8 +51,9 @@ pub fn given_entry(
     Ok(Entry { number, slot, rec })
 }
 
-/// What an attach answers, by the entry that is given. Refused, in this order: `Inside` where the caller's CPU is inside a section;
-/// `NeedsDriver` where the call isn't for such an entry or such a reference; then as `given` is.
+/// The result of an attach, from the entry that is given.
+/// Refused, in this order: `Inside` if the caller's CPU is inside a section; `NeedsDriver` if the call isn't for such an entry or such a
+/// reference; then as `given` is.
 pub fn attach_answer(
     inside: bool,
     unfit: bool,
@@ -70,8 +71,8 @@ pub fn attach_answer(
     given
 }
 
-/// What a detach answers, by what a lookup of its kind and name gives now: the entry, or the slot of it. Refused, in this order: `Inside`
-/// where the caller's CPU is inside a section; `NotFound` where there is no such live entry.
+/// The result of a detach, from what a lookup of its kind and name gives now: the entry, or the slot of it.
+/// Refused, in this order: `Inside` if the caller's CPU is inside a section; `NotFound` if there is no such live entry.
 pub fn detach_answer<T: Drop>(inside: bool, found: Option<T>) -> Result<T, Refusal>
     ensures value { result ≡ detach_answer inside found }
     ensures found { IfOk result (λ given. (inside ≡ false) × (found ≡ Some given)) }
@@ -85,8 +86,8 @@ pub fn detach_answer<T: Drop>(inside: bool, found: Option<T>) -> Result<T, Refus
     }
 }
 
-/// What an enter answers (pserialize(9)), on a CPU whose section has this depth. Refused, in this order: `TooDeep` where the depth is `MOST_DEPTH`;
-/// `SectionsSpent` where a section would begin and the CPU may not begin one more.
+/// The result of an enter (pserialize(9)), on a CPU whose section has this depth. Refused, in this order: `TooDeep` if the depth is `MOST_DEPTH`;
+/// `SectionsSpent` if a section would begin and the CPU may not begin one more.
 pub fn enter_answer(depth: u8, outside: bool, may_begin: bool) -> Result<(), Refusal>
     ensures value { result ≡ enter_answer depth outside may_begin }
     ensures may { IfOk result (λ _. (depth < MOST_DEPTH) × (outside ≡ true → may_begin ≡ true)) }
@@ -100,7 +101,8 @@ pub fn enter_answer(depth: u8, outside: bool, may_begin: bool) -> Result<(), Ref
     Ok(())
 }
 
-/// What a wait answers whose least CPU that wasn't seen out of its section is this one (pserialize(9)). Refused: `Waiting`.
+/// The result of a wait (pserialize(9)), from the lowest-numbered CPU that wasn't seen out of its section.
+/// Refused: `Waiting`.
 pub fn waiting_for(first: Option<u8>) -> Result<(), Refusal>
     ensures value { result ≡ wait_answer first }
     ensures none { IfOk result (λ _. first ≡ None) }
@@ -111,7 +113,7 @@ pub fn waiting_for(first: Option<u8>) -> Result<(), Refusal>
     }
 }
 
-/// Why a CPU may not have one passive reference more to an entry, of which it has so many (psref(9)): `PassiveFull` at the limit.
+/// Why a CPU may not have one more passive reference to an entry than it has (psref(9)): `PassiveFull` at the limit.
 pub fn why_full(count: u64, limit: u64) -> Option<Refusal>
     ensures value { result ≡ why_full count limit }
     ensures room { result ≡ None → nat_lt count limit ≡ true }
@@ -123,8 +125,8 @@ pub fn why_full(count: u64, limit: u64) -> Option<Refusal>
     }
 }
 
-/// Why a CPU may not use a passive reference (psref(9)): `WrongCpu` where the reference names another CPU, then `NotHeld` where this CPU
-/// holds none to that number.
+/// Why a CPU may not use a passive reference (psref(9)): `WrongCpu` if the reference names another CPU, then `NotHeld` if this CPU holds
+/// none to that number.
 pub fn why_unusable(is_own: bool, is_held: bool) -> Option<Refusal>
     ensures value { result ≡ why_unusable is_own is_held }
     ensures held { result ≡ None → is_held ≡ true }
@@ -138,8 +140,8 @@ pub fn why_unusable(is_own: bool, is_held: bool) -> Option<Refusal>
     None
 }
 
-/// Why a CPU may not acquire a local reference more to an entry (localcount(9)), where its own net count for it may be below `most`:
-/// `LocalFull` where it isn't.
+/// Why a CPU may not acquire one more local reference to an entry (localcount(9)), where its own net count for it may be below `most`:
+/// `LocalFull` if it isn't.
 pub fn why_uncounted(count: u64, most: u64) -> Option<Refusal>
     ensures value { result ≡ why_uncounted count most }
     ensures room { result ≡ None → nat_lt count most ≡ true }

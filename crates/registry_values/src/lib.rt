@@ -1,5 +1,5 @@
-//! The plain values of the registry: names, records and settings; why a call was refused; what is judged of one slot, of the marks that a
-//! keeper has of the CPUs, and of count words; and what a call answers by such values. Nothing here has a state.
+//! The plain values of the registry: names, records and settings; why a call was refused; judgements of one slot, of the marks that a
+//! keeper has of the CPUs, and of count words; and what a call returns by such values. Nothing here has a state.
 #![tactic(auto)]
 
 mod answer;

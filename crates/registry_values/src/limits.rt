@@ -1,5 +1,5 @@
 //! The limits of a build. This file alone says them; everything else, in code, definitions, proofs, tests and texts, speaks by these names.
-//! A build with other numbers is proved like this one: `tools/build-archive.sh` makes it in a copy. `limits_law` says that they leave room.
+//! A build with other numbers has to be proved like this one. `limits_law` says that they leave room for each other.
 
 ghost use Rattle.registry_values.specs.Limits.{LimitsLeaveRoom};
 

@@ -95,7 +95,7 @@ pub fn is_some_collected(cpus: u8, row: &[Mark]) -> bool
     row.iter().take(cpus as usize).any(|mark| mark.collected)
 }
 
-/// The least CPU, below `cpus`, that wasn't seen.
+/// The lowest-numbered CPU, below `cpus`, that wasn't seen.
 pub fn first_unseen(cpus: u8, seen: &[bool; MOST_CPUS]) -> Option<u8>
     requires { cpus ≤ MOST_CPUS }
     ensures { result ≡ least_below (λ c. not (slice_index_or seen.now c false)) cpus }

@@ -53,7 +53,7 @@ impl Name {
         (self.high, self.low)
     }
 
-    /// The name that has these words; `None` where no name has them.
+    /// The name that has these words; `None` if no name has them.
     pub fn from_words(high: u64, low: u64) -> Option<Name>
         ensures { result ≡ name_of_words high low }
     {
@@ -83,8 +83,10 @@ impl Name {
     }
 }
 
-/// Does nothing; its contract says what the words of names mean. `round_trip`: a name's words give the name back.
-/// `written`: what two words give is the name of some bytes, so there is `None` exactly where no name has them.
+/// Theorem, no effect at run time: what the words of names mean.
+///
+/// - `round_trip`: a name's words give the name back.
+/// - `written`: what two words give is the name of some bytes, so there is `None` exactly where no name has them.
 pub fn name_laws()
     ensures round_trip { RoundTrip }
     ensures written { IsWritten }
@@ -102,7 +104,7 @@ fn padded(text: &[u8]) -> [u8; 16]
     bytes
 }
 
-/// The first place whose byte may not stand there.
+/// The first place with a byte that may not be there.
 fn bad_place(bytes: &[u8]) -> Option<usize>
     ensures first { result ≡ bad_place 0 bytes.now }
     ensures within { IfSome result (λ place. place < length bytes.now) }
@@ -130,7 +132,7 @@ fn are_name_words(high: u64, low: u64) -> bool
     is_padded(&bytes)
 }
 
-/// Whether a letter stands there, then letters and digits, and then zero bytes only, at least one.
+/// Whether these are a letter, then letters and digits, and then zero bytes only, at least one.
 fn is_padded(bytes: &[u8]) -> bool
     ensures { result ≡ is_padded bytes.now }
 {
@@ -152,7 +154,7 @@ fn bytes_of(high: u64, low: u64) -> [u8; 16]
     ]
 }
 
-/// Whether letters and digits stand there, and then zero bytes only, at least one.
+/// Whether these are letters and digits, and then zero bytes only, at least one.
 fn is_rest(bytes: &[u8]) -> bool
     ensures { result ≡ is_rest bytes.now }
 {
@@ -167,7 +169,7 @@ fn is_rest(bytes: &[u8]) -> bool
     false
 }
 
-/// Whether only zero bytes stand there.
+/// Whether these are zero bytes only.
 fn are_zeros(bytes: &[u8]) -> bool
     ensures { result ≡ are_zeros bytes.now }
 {

@@ -6,7 +6,7 @@ ghost use Rattle.registry_values.specs.Refusals.{number_of_refusal};
 use crate::stage::Stage;
 use thiserror::Error;
 
-/// Why a call was refused. Each call lists the refusals that it answers, in the order in which it tests them.
+/// Why a call was refused. Each call lists its refusals, in the order in which it tests them.
 #[derive(Clone, Copy, Debug, PartialEq, Eq, Error)]
 pub enum Refusal {
     /// A growth was really refused.
@@ -57,7 +57,7 @@ pub enum Refusal {
     /// The last turn met this obstacle.
     #[error("the entry is still held")]
     StillHeld(Stage),
-    /// The least CPU that wasn't seen out of its section.
+    /// The lowest-numbered CPU that wasn't seen out of its section.
     #[error("CPU {0} is still inside its section")]
     Waiting(u8),
     /// The CPU's section has depth `MOST_DEPTH`.
@@ -69,7 +69,7 @@ pub enum Refusal {
 }
 
 impl Refusal {
-    /// The number by which the refusal is known, from 1 to 19.
+    /// The refusal's number, from 1 to 19.
     pub fn number(&self) -> u8
         ensures { result ≡ number_of_refusal self.now }
     {

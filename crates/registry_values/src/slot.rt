@@ -1,4 +1,4 @@
-//! What stands in a slot, and tests of one slot by it.
+//! The state of a slot, and tests of one slot by it.
 
 ghost use Rattle.std.specs.Prelude.{◌≡◌};
 ghost use Rattle.registry_values.specs.Slots.{are_words_of, is_retired_as, is_available, key_of, retired_number, has_number, is_live, is_live_as, same_key};
@@ -6,7 +6,7 @@ ghost use Rattle.registry_values.specs.Slots.{are_words_of, is_retired_as, is_av
 use crate::entry::{Entry, Kind, kind_word};
 use crate::name::Name;
 
-/// What stands in a slot.
+/// The state of a slot.
 #[derive(Clone, Copy, Debug, PartialEq, Eq)]
 pub enum Slot {
     /// Nothing: it may be given.
@@ -36,7 +36,7 @@ pub fn key_of(entry: &Entry) -> Key
     }
 }
 
-/// Whether these words, as they stand in a record, are those of the kind and the name that are sought.
+/// Whether these words of a record are those of the kind and the name that are sought.
 pub fn are_words_of(key: Key, kind: u64, high: u64, low: u64) -> bool
     ensures { result ≡ are_words_of key kind high low }
 {

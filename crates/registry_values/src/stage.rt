@@ -5,7 +5,7 @@ ghost use Rattle.registry_values.specs.Stages.{destroy_result, stage_of};
 
 use crate::refusal::Refusal;
 
-/// What stands between a retired entry and the freeing of its slot, the first in this order.
+/// The first obstacle, in this order, between a retired entry and the freeing of its slot.
 #[derive(Clone, Copy, Debug, PartialEq, Eq)]
 pub enum Stage {
     /// A section of this CPU may still hold the entry (pserialize(9)).
@@ -30,7 +30,7 @@ pub fn settled(held: u64, slot: u8) -> Stage
     }
 }
 
-/// What a destroy answers by its last stage: the slot that was freed, or the obstacle as a refusal.
+/// The result of a destroy, from its last stage: the slot that was freed, or the obstacle as a refusal.
 pub fn destroyed(stage: Stage) -> Result<u8, Refusal>
     ensures { result ≡ destroy_result stage }
 {

@@ -45,8 +45,8 @@ module _ {X : Type 0} (made : X → StormSize → Result StormSum RunFault → X
   abbrev pub TellsStorm : StormSize → X → X → (StormSum → Type 0) → Type 0
   TellsStorm size before after was_written = (sum : StormSum) × made before size (Ok sum) after × IsSumOf size.cpus size.turns sum × was_written sum
 
-  -- What a storm wrote: its five lines; where the writer failed a front of them; else nothing, for want of memory or of a thread. One storm was made, or
-  -- begun
+  -- What a storm wrote: its five lines; if the writer failed, a front of them; else nothing, as memory ran out or no thread came. One storm
+  -- was made, or begun
   abbrev pub Stormed : StormSize → X → X → Option (List ℕ) → Option (List ℕ) → Result (Unit {0}) RunFault → Type 0
   Stormed size before after old new (Ok u) = TellsStorm size before after (λ sum. Appends old new (storm_text sum))
   Stormed size before after old new (Err run.Write) = TellsStorm size before after (λ sum. AppendsPrefix old new (storm_text sum))

@@ -103,7 +103,7 @@ fn told(alloc: Global, sum: StormSum) -> Result<String, RunFault>
     )?)
 }
 
-/// The lines of what was counted, but for the lookups.
+/// The lines of a storm's counts, except the lookups.
 fn counted(alloc: Global, references: u64, wrong: u64, held: i64) -> Result<String, RunFault>
     ensures text { IfOk result (λ text. string_bytes text ≡ count_lines references wrong held) }
     ensures memory { IfErr result (λ it. it ≡ fault.Memory) }

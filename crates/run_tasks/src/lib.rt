@@ -1,5 +1,5 @@
-//! What the program's words ask for, what is done of it, and how the program ends. It stands below the program, so that its tests are proved
-//! beside it.
+//! The program's task: parses its arguments, runs the script or the storm, and maps the outcome to an exit status. It is a library, so that
+//! its tests needn't prove the program.
 #![tactic(auto)]
 
 mod doing;

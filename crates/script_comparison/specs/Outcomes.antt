@@ -1,5 +1,5 @@
--- Runs of two engines on one script, and whether they came to the same. What a run is, is left open: `ran engine script before written ended
--- after`. X is what stands between two runs. Of our own engines a run is what `run` promises; a run may end for want of memory at any place.
+-- Runs of two engines on one script, and whether they came to the same. What a run is, is left open: `ran engine script before written
+-- ended after`. X is the value between two runs. A run of our own engines is what `run` promises; it may run out of memory at any place.
 use Rattle.std.specs.Prelude.{◌≡◌, ℕ, List, [], Result, Some}
 use Rattle.registry_script.specs.declared.engine.Engine.{Engine}
 use Rattle.registry_script.specs.declared.engine.Engine.TheVariants.{Core, Live}

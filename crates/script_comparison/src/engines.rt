@@ -15,6 +15,7 @@ pub struct Outcome {
 }
 
 impl Outcome {
+    /// Whether both wrote the same and ended alike.
     pub fn is_same(&self, other: &Outcome) -> bool
         ensures { IsTrue result ↔ ((self.now.written.items ≡ other.now.written.items) × (self.now.ended ≡ other.now.ended)) }
     {

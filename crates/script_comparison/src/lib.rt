@@ -1,5 +1,5 @@
-//! Scripts made from a seed, both engines run on each, and what comes of it: whether they differ, the shortest script on which they do, how far
-//! the scripts got, and which answers were met.
+//! Makes scripts from a seed, runs both engines on each, and compares. The outcome: whether they differ, the shortest script on which they
+//! do, how far the scripts got, and the answers that were met.
 #![tactic(auto)]
 
 mod comparing;

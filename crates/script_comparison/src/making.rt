@@ -29,7 +29,7 @@ const FEW_NAMES: usize = 3;
 /// How many slots of a registry that is to be full may be vacant still.
 const VACANT: usize = 9;
 
-/// How often a slot is given again in a long script: more often would be more bytes than a script may have.
+/// How often a slot is reused in a long script. A greater number would make more bytes than a script may have.
 const ROUNDS: u32 = 1040;
 
 /// What is odd about a script.
@@ -284,7 +284,7 @@ impl Maker {
         Ok(text.push(b'\n')?)
     }
 
-    /// Adds a word that the letter stands for: what the line says of it, or any.
+    /// Adds the word for a letter: the one that the line fixes, or any.
     fn add_argument(
         &mut self,
         text: &mut Vec<u8>,

@@ -22,7 +22,7 @@ pub enum Effect {
     Nothing,
 }
 
-/// The arguments of a line, each by its place among the words that its letter stands for.
+/// The arguments of a line, each by its place among the words for its letter.
 #[derive(Clone, Copy)]
 pub struct Line {
     pub cpu: usize,
@@ -76,7 +76,7 @@ impl Hold {
 /// What a slot has: an entry, live or retired, or none.
 #[derive(Clone, Copy)]
 struct Row {
-    /// Of the entry, 0 where there is none.
+    /// The entry's number, 0 if there is none.
     number: usize,
     key: usize,
     is_retired: bool,
@@ -104,7 +104,7 @@ impl Row {
     }
 }
 
-/// What the lines so far leave. Entries go by their numbers, of which 0 is none.
+/// What the lines so far leave. Entries have their numbers, and 0 means none.
 #[derive(Clone, Copy, Drop)]
 pub struct Sketch {
     cpus: usize,
@@ -238,7 +238,7 @@ impl Sketch {
         }
     }
 
-    /// The least slot that is vacant.
+    /// The lowest-numbered vacant slot.
     fn vacant_slot(&self) -> Option<usize> {
         let rows = self.rows.get(..self.slots)?;
         rows.iter().position(|row| row.number == 0)
@@ -317,7 +317,7 @@ impl Sketch {
         }
     }
 
-    /// The free label stands for a passive reference, unless it is in use.
+    /// Gives the free label to a passive reference, unless it is in use.
     fn hold(&mut self, line: &Line, number: usize) {
         if at(&self.held, line.unheld, Hold::NONE).number == 0 {
             let cpu = line.cpu;

@@ -1,4 +1,4 @@
-//! Which answers the reports have to which commands and how often, how many of the lines were carried out, and how far the scripts got.
+//! Counts the answers in reports: to each command how often, how many of the lines were carried out, and how far the scripts got.
 
 use super::engines::Outcome;
 use super::reach::Reach;
@@ -6,11 +6,11 @@ use registry_script::{Cause, RunFault, write_text};
 use std::alloc::Global;
 use std::io::Write;
 
-/// A command, and how a line begins that answers it.
+/// A command, and the beginning of a line that is one of its answers.
 type Answer = (&'static [u8], &'static [u8]);
 
-/// Each answer that a script can meet. It can't meet these: `NotHeld`, since a label stands only for a reference that its CPU holds, and
-/// `NoMemory`, which ends a run without a line.
+/// Each answer that a script can meet. A script can't meet `NotHeld`: a label names only a reference that its CPU holds. Nor `NoMemory`,
+/// which ends a run without a line.
 const ANSWERS: [Answer; 88] = [
     (b"domain", b"domain"),
     (b"limits", b"limits"),
@@ -102,7 +102,7 @@ const ANSWERS: [Answer; 88] = [
     (b"audit", b"total -1\n"),
 ];
 
-/// The faults that a script can have, but for TooLong and NoDomain: the parser alone answers them, and it is the same for both engines.
+/// The faults that a script can have, except TooLong and NoDomain. Only the parser reports those, and it is the same for both engines.
 const FAULTS: [Cause; 11] = [
     Cause::LongLine,
     Cause::BadByte,
@@ -158,6 +158,7 @@ fn is_of(line: &[u8], command: &[u8]) -> bool {
 }
 
 impl Tally {
+    /// A tally of no reports.
     pub fn new() -> Tally {
         Tally {
             lines: 0,

@@ -15,9 +15,9 @@ use std::alloc::Global;
 use std::io::Write;
 use std::process::ExitCode;
 
-/// Whether the engines do the same on each script of the range. It writes how far the scripts got and what was met; or the first script on which
-/// the engines differ, cut down to the shortest on which they still do, with what each writes on it.
-/// Refused: `Memory`, and `Write` where a line can't be written.
+/// Whether the engines do the same on each script of the range. It writes how far the scripts got and what was met; or the first script on
+/// which the engines differ, cut down to the shortest on which they still do, with what each writes on it.
+/// Refused: `Memory`, and `Write` if a line can't be written.
 pub fn compare<E: Runs, S: Scripts, W: Write>(
     alloc: Global,
     engines: &mut E,
@@ -70,8 +70,12 @@ fn tell_apart<E: Runs, W: Write>(
     Ok(())
 }
 
-/// The code that the program ends with: 0 where the engines do the same on all scripts, 1 where they differ on one, 3 where a line couldn't be
-/// written, 4 for want of memory.
+/// The exit status:
+///
+/// - 0 if the engines do the same on all scripts;
+/// - 1 if they differ on one;
+/// - 3 if a line couldn't be written;
+/// - 4 if memory ran out.
 pub fn exit_code(compared: Result<bool, RunFault>) -> ExitCode
     ensures { exit_status result ≡ status_of compared }
 {

@@ -2,12 +2,14 @@
 
 use super::sketch::Effect;
 
-/// Commands, where a capital letter stands for an argument; the oftener, the likelier.
+/// Commands, with a capital letter for each argument. The more often one is listed, the likelier it is.
 ///
-/// `I` is a CPU inside its section, `O` one outside, `F` one that has found an entry, `P` the CPU of the passive label `A`, `C` any. `A` is a
-/// passive label in use, `B` a free one; `X` is a local label of a driver, `Z` any in use, `Y` a free one. `D` is the kind and the name of a
-/// live entry, `E` the name of a live interface; `U` and `W` are names that no live driver and no live interface has, while a slot is vacant.
-/// `R` is the number of a retired entry, `V` a value and `T` a number of turns.
+/// - `I` is a CPU inside its section, `O` one outside, `F` one that has found an entry, `P` that of the passive label `A`, `C` any.
+/// - `A` is a passive label in use, `B` a free one.
+/// - `X` is a local label of a driver, `Z` any in use, `Y` a free one.
+/// - `D` is the kind and name of a live entry, `E` the name of a live interface.
+/// - `U`, `W`: while a slot is vacant, names that no live driver or interface has.
+/// - `R` is the number of a retired entry, `V` a value, `T` a number of turns.
 pub const COMMANDS: &[(&[u8], Effect)] = &[
     (b"attach O driver U V", Effect::Attach),
     (b"attach O driver U V", Effect::Attach),
@@ -57,7 +59,7 @@ pub const COMMANDS: &[(&[u8], Effect)] = &[
 /// A driver, as a crowd has many.
 pub const CROWD: (&[u8], Effect) = (b"attach O driver U 7", Effect::Attach);
 
-/// A slot is given again.
+/// Lines that reuse a slot.
 pub const CHURN: &[(&[u8], Effect)] = &[
     (b"detach O D", Effect::Detach),
     (b"advance R", Effect::Advance),
@@ -78,7 +80,7 @@ pub const SETTINGS: &[&[u8]] = &[
     b"limits H M Q Q",
 ];
 
-/// What a letter stands for.
+/// What a letter means.
 pub struct Argument {
     pub letter: u8,
     /// Words at both ends of the range, and some between.
@@ -147,7 +149,7 @@ const BAD_LIMITS: &[&[u8]] = &[b"0", b"1099511627777"];
 /// What is no number of an entry.
 pub const BAD_NUMBERS: &[&[u8]] = &[b"-1", b"x", b"18446744073709551616"];
 
-/// What each letter stands for that isn't a number of the script's own.
+/// What each letter means that isn't a number of the script's own.
 pub const ARGUMENTS: &[Argument] = &[
     Argument {
         letter: b'U',
@@ -226,8 +228,8 @@ pub const ARGUMENTS: &[Argument] = &[
     },
 ];
 
-/// Lines that no script may have: a command that there isn't, one that may only come first, one with a word too many, a byte that may not
-/// stand in a line, and a line that is too long by one byte.
+/// Lines that no script may have: an unknown command, one that may only come first, one with a word too many, a bad byte, and a line that
+/// is one byte too long.
 pub const FAULTY_LINES: &[&[u8]] = &[
     b"lookup 0\n",
     b"domain 1 1\n",

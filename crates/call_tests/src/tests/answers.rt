@@ -3,7 +3,7 @@
 use registry_values::{Balance, Entry, Record, Refusal, Stage};
 use std::process::Abort;
 
-/// What a call answers.
+/// The answer of a call.
 #[derive(Clone, Copy, Debug, PartialEq)]
 pub(crate) enum Answer {
     Done,
@@ -20,7 +20,7 @@ pub(crate) enum Answer {
     Is(bool),
     /// A reference names this CPU and this number.
     Names(u8, u64),
-    /// What a look at CPU 0 answers, and one at CPU 1.
+    /// The results of a look at CPU 0 and of one at CPU 1.
     Looks(bool, bool),
 }
 

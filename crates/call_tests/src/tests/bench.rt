@@ -73,14 +73,14 @@ impl<D: Domain> Bench<D> {
         }
     }
 
-    /// Each step answers as the row says, and no reference is held at the end.
+    /// Checks that each step returns what the row says, and that no reference is held at the end.
     pub(crate) fn run<R: Wait + Abort>(&mut self, rt: &R, name: &str, steps: &[(Step, Answer)]) {
         let mut refs = Held::nothing();
         self.follow(rt, &mut refs, name, steps);
         refs.end(rt);
     }
 
-    /// Each step answers as the row says.
+    /// Checks that each step returns what the row says.
     pub(crate) fn follow<R: Wait + Abort>(
         &mut self,
         rt: &R,

@@ -30,7 +30,7 @@ pub(crate) enum Writer {
     LookPassive,
 }
 
-/// What the call answers.
+/// Makes the call; its answer.
 pub(crate) fn by_keeper<R: Abort>(
     rt: &R,
     words: &Words,
@@ -98,7 +98,7 @@ pub(crate) fn retired<R: Abort>(rt: &R, words: &Words, keeper: &mut Keeper) -> E
     retire(words, keeper, 0)
 }
 
-/// What a look at the CPU's section answers.
+/// The result of a look at the CPU's section.
 pub(crate) fn looked<R: Abort>(rt: &R, words: &Words, keeper: &mut Keeper, cpu: u8) -> bool
     requires words { AreWordsOf words.now keeper.old.words.table keeper.old.words.settings }
     ensures words { keeper.new.words ≡ keeper.old.words }
@@ -108,7 +108,7 @@ pub(crate) fn looked<R: Abort>(rt: &R, words: &Words, keeper: &mut Keeper, cpu: 
     look(words, keeper, 0, cpu)
 }
 
-/// What a look at the CPU's passive references answers, once all CPUs have passed.
+/// The result of a look at the CPU's passive references, once all CPUs have passed.
 pub(crate) fn passive_look<R: Abort>(rt: &R, words: &Words, keeper: &mut Keeper, cpu: u8) -> bool
     requires words { AreWordsOf words.now keeper.old.words.table keeper.old.words.settings }
     ensures words { keeper.new.words ≡ keeper.old.words }

@@ -1,7 +1,7 @@
-//! Want of memory: a blank that can't be opened comes back and opens then, and after a refused audit the registry answers as before.
+//! Out of memory: a blank that can't be opened comes back and opens then. After a refused audit the registry is as before.
 //!
-//! Where memory is ample these tests compare answers alone. `tools/refuse-memory.sh` refuses each of their allocations in
-//! turn; each refusal that is met is noted on standard error.
+//! With ample memory these tests compare answers only. `tools/refuse-memory.sh` refuses each of their allocations in turn; each refusal
+//! that is met is noted on standard error.
 
 ghost use Rattle.name_registry.specs.Common.{IsBlankOf};
 
@@ -32,7 +32,7 @@ const COUNTED: &[(Step, Answer)] = &[
     (Reads(0, Exit), Done),
 ];
 
-/// The registry answers as before: CPU 1 finds the second driver.
+/// The registry is as before: CPU 1 finds the second driver.
 const AS_BEFORE: &[(Step, Answer)] = &[
     (Reads(1, Enter), Done),
     (Reads(1, Find(VGA)), At(2, 1)),
@@ -80,7 +80,7 @@ fn open_and_audit(rt: HostRuntime) -> Result<(), Fail> {
     audited_again::<Brand, _>(&rt, rt.alloc(), made(&rt, rt.alloc())?)
 }
 
-/// Of two drivers one has a local reference.
+/// Audits two drivers, one with a local reference.
 fn audited_again<D: Domain, R: Wait + Abort + Eprint>(
     rt: &R,
     alloc: Global,
@@ -121,7 +121,7 @@ fn audited_again<D: Domain, R: Wait + Abort + Eprint>(
     Ok(())
 }
 
-/// An audit, made again where memory is refused; the registry answers as before in between.
+/// Audits, again if memory was refused; in between the registry is as before.
 fn audited<D: Domain, R: Wait + Abort + Eprint>(
     rt: &R,
     alloc: Global,

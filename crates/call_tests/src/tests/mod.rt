@@ -1,5 +1,5 @@
-//! Tests of what no contract says: worked rows on the bare words and on a registry, calls on threads, and want of memory. Rows that a script can say are
-//! rows of `script_tests`.
+//! Tests of what no contract says: worked rows on the bare words and on a registry, calls on threads, and running out of memory. Rows that
+//! a script can say are rows of `script_tests`.
 
 mod answers;
 mod bench;

@@ -23,7 +23,7 @@ pub(crate) enum Reader {
     Count,
     /// It acquires a passive reference to what it found last.
     Acquire,
-    /// It copies the passive reference. Once that is released, or forgotten, the copy stands for it.
+    /// Copies the passive reference. Once that is released, or forgotten, the copy takes its place.
     Copy,
     /// What the passive reference names.
     Reference,
@@ -89,7 +89,7 @@ impl<D: Domain> Held<D> {
         }
     }
 
-    /// The copy stands for the reference that is gone.
+    /// Uses the copy as the reference that is gone.
     fn use_copy<R: Abort>(&mut self, rt: &R) {
         if let Some(psref) = self.copied.take() {
             put(rt, &mut self.passive, psref);
@@ -109,7 +109,7 @@ fn none<T, R: Abort>(rt: &R, place: Option<T>) {
     };
 }
 
-/// What the call answers.
+/// Makes the call; its answer.
 pub(crate) fn by_reader<D: Domain, R: Abort>(
     rt: &R,
     words: &Words,

@@ -93,7 +93,10 @@ fn change<D: Domain, R: Wait + Abort>(
     assert_eq!(rt; (entry.number, entry.slot, entry.rec), (number, 0, rec));
     let gone = registry.detach(rt, second, rec.kind, &rec.name);
     assert!(rt; gone == Ok(entry), "a detach");
-    assert!(rt; registry.advance(rt, number) == Ok(Stage::Freed(0)), "a turn");
+    assert!(rt;
+        registry.advance(rt, number) == Ok(Stage::Freed(0)),
+        "a turn"
+    );
 }
 
 #[test]

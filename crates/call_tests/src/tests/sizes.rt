@@ -6,10 +6,9 @@ ghost use Rattle.std.specs.Thread.{IsSync};
 
 use super::answers::Answer::{self, At, Come, Done, Number, Refused};
 use super::answers::{Line, come, line_of};
-use super::bench::Bench;
 use super::bench::Call::{Attach, Destroy, Detach, Uncount};
 use super::bench::Step::{self, By, Reads};
-use super::bench::by_cpu;
+use super::bench::{Bench, by_cpu};
 use super::readers::Reader::{Acquire, Count, Enter, Exit, Find, Forget};
 use super::readers::{Held, by_reader};
 use super::records::WM;
@@ -129,7 +128,10 @@ fn retire_held<D: Domain, R: Wait + Abort>(
     bench.run(rt, "retired", RETIRED);
     assert_eq!(rt; come(bench.registry.advance(rt, 1)), Come(Stage::Grace(2)));
     bench.run(rt, "outside", OUTSIDE);
-    assert_eq!(rt; come(bench.registry.advance(rt, 1)), Come(Stage::Passive(2)));
+    assert_eq!(rt;
+        come(bench.registry.advance(rt, 1)),
+        Come(Stage::Passive(2))
+    );
     release_all(rt, bench);
     let local = Stage::Local(u64::from(AT_ONCE));
     assert_eq!(rt; come(bench.registry.advance(rt, 1)), Come(local));
@@ -206,7 +208,10 @@ fn retired_and_filled<D: Domain, R: Wait + Abort>(
     let list = bench.registry.audit(rt, alloc, &mut bench.cpus)?;
     assert_eq!(rt; list.len(), 32);
     for (balance, slot) in list.as_slice().iter().zip(0..32u8) {
-        assert_eq!(rt; (balance.slot, balance.held, balance.locals.len()), (slot, 0, 8));
+        assert_eq!(rt;
+            (balance.slot, balance.held, balance.locals.len()),
+            (slot, 0, 8)
+        );
     }
     let (registry, mut first, mut second, mut last) = bench.apart()?;
     retire(rt, &registry, &mut first, 31)?;
@@ -217,7 +222,12 @@ fn retired_and_filled<D: Domain, R: Wait + Abort>(
     }
     let made = registry.attach(rt, &mut first, nth(rt, 0))?;
     assert_eq!(rt; (made.number, made.slot), (65, 31));
-    assert!(rt; matches!(registry.attach(rt, &mut first, nth(rt, 1)), Err(Refusal::NoSlot)));
+    assert!(rt;
+        matches!(
+            registry.attach(rt, &mut first, nth(rt, 1)),
+            Err(Refusal::NoSlot)
+        )
+    );
     for number in 1..32u64 {
         assert_eq!(rt; come(registry.advance(rt, number)), Come(Stage::Grace(7)));
     }

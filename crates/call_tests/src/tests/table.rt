@@ -88,7 +88,7 @@ impl<D: Domain> Seats<D> {
         }
     }
 
-    /// Each step answers as the row says.
+    /// Checks that each step returns what the row says.
     pub(crate) fn follow<R: Abort>(
         &mut self,
         rt: &R,

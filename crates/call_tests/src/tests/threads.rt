@@ -62,7 +62,7 @@ fn one_lookup<D: Domain + Send, R: Threads + Abort + Sync>(rt: &R, table: Table)
     assert_eq!(rt; found, Some(1));
 }
 
-/// Looks the driver up, in a section each time, until it is found. It sets the flag where it isn't, and answers the number found.
+/// Looks the driver up, in a section each time, until it is found. It sets the flag where it isn't, and returns the number found.
 fn find_at_last<D: Domain>(
     words: &Words,
     mut cpu: Cpu<D>,
@@ -97,7 +97,7 @@ fn find_in_section<D: Domain>(
     Ok(found)
 }
 
-/// Waits until the flag is set, and then publishes the driver. It answers the number.
+/// Waits until the flag is set, and then publishes the driver. Returns its number.
 fn publish_once_missed<R: Abort>(
     rt: &R,
     words: &Words,
@@ -166,7 +166,7 @@ fn told_twice<D: Domain + Send, R: Threads + Abort + Sync>(rt: &R, table: Table)
     Ok(())
 }
 
-/// Publishes the driver. It answers the number, and a note of what the keeper has seen then.
+/// Publishes the driver. Returns its number, and a note of what the keeper has seen then.
 fn publish_and_tell<D: Domain, R: Abort>(
     rt: &R,
     words: &Words,
@@ -188,7 +188,7 @@ fn publish_and_tell<D: Domain, R: Abort>(
     )
 }
 
-/// Hears the note in the open section, and looks the driver up. It answers the number found, and a note of what the CPU has seen then.
+/// Hears the note in the open section, and looks the driver up. Returns the number found, and a note of what the CPU has seen then.
 fn find_once_told<D: Domain>(
     words: &Words,
     mut cpu: Cpu<D>,
@@ -253,7 +253,7 @@ fn acquired<D: Domain>(words: &Words, cpu: &mut Cpu<D>, name: &Name) -> Option<L
     reference
 }
 
-/// Takes the reference, reads it, and releases it on this CPU. It answers the number, the kind and the record that it read.
+/// Takes the reference, reads it, and releases it on this CPU. Returns the number, the kind and the record that it read.
 fn read_and_release<D: Domain, R: Abort>(
     rt: &R,
     words: &Words,
@@ -271,7 +271,7 @@ fn read_and_release<D: Domain, R: Abort>(
     }
 }
 
-/// Drains the retired driver as far as looks and collections go. It answers how many local references to it are held.
+/// Drains the retired driver as far as looks and collections go. Returns how many local references to it are held.
 fn total_once_drained<R: Abort>(rt: &R, words: &Words, keeper: &mut Keeper) -> u64
     requires words { AreWordsOf words.now keeper.old.words.table keeper.old.words.settings }
     ensures words { keeper.new.words ≡ keeper.old.words }

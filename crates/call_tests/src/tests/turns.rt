@@ -45,7 +45,7 @@ struct Row {
     /// Whether CPU 1 advances the entry once it has left.
     frees: bool,
     answer: Answer,
-    /// What an advance of the entry answers then.
+    /// The result of an advance of the entry then.
     after: Answer,
 }
 
@@ -276,7 +276,7 @@ fn wait_for(begun: &AtomicBool) {
     }
 }
 
-/// Sets the flag, and makes the call again until the entry has its slot no more. It answers what the last one did.
+/// Sets the flag, and repeats the call until the entry has lost its slot. Returns what the last one did.
 fn insist<D: Domain, R: Wait + Abort>(
     rt: &R,
     registry: &Registry<D>,

@@ -145,8 +145,8 @@ fn meets_another<D: Domain, R: Abort>(rt: &R, words: &Words, cpu: &mut Cpu<D>) -
     count == 2
 }
 
-/// Attaches vga, detaches and destroys it, until it was missed after it was met. At the latest it is met by the last attach, which waits for
-/// that, and missed after the last detach: so it doesn't matter which thread has a processor when. It answers how often.
+/// Attaches vga, detaches and destroys it, until it was missed after it was met. At the latest the last attach, which waits for that, makes
+/// it met, and the last detach missed. So it doesn't matter when a thread has a processor. Returns how often.
 fn change_until<D: Domain, R: Wait + Abort>(
     rt: &R,
     registry: &Registry<D>,

@@ -1,6 +1,6 @@
 //! Rows of commands and of events with the answers that are expected of them, and what runs them.
 //!
-//! A row is plain data: a name stands in it as text, a passive reference as its CPU and number, a local one as its id.
+//! A row is plain data: a name is text in it, a passive reference its CPU and number, a local one its id.
 
 ghost use Rattle.std.specs.Prelude.{IsTrue};
 ghost use Rattle.registry_values.specs.Common.{is_lawful};
@@ -51,7 +51,7 @@ pub(super) enum Ask {
     Audit,
     /// A single event.
     Step(Event),
-    /// The event by which the CPU begins a search.
+    /// The CPU begins a search.
     Seek(Rec),
     /// What was noted of the CPU for the slot.
     Mark(u8),

@@ -39,7 +39,7 @@ pub(super) const WM0_IFACE: Rec = Rec {
 /// CPU 0's passive reference to entry 1.
 pub(super) const A: CorePsref = CorePsref { cpu: 0, number: 1 };
 
-/// Lines by which CPU 0 attaches the driver wm, and is inside a section in which it has found it.
+/// CPU 0 attaches the driver wm, enters a section and finds it.
 pub(super) const ATTACH_WM: Line = (0, Ask::Attach(WM), Ok(Told::Entry(1, 0, 7)));
 
 pub(super) const ENTER: Line = (0, Ask::Enter, Ok(Told::Depth(1)));

@@ -46,7 +46,7 @@ const OUTSIDE: Mark = Mark {
 };
 
 const ROWS: [Row; 5] = [
-    // A search that stands on an entry that is unlinked goes on over its link.
+    // A search at an entry that is unlinked goes on over its link.
     Row {
         name: "frozen-link",
         settings: Settings { slots: 3, ..USUAL },

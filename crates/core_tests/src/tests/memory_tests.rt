@@ -1,7 +1,7 @@
-//! Want of memory: a refused call has changed nothing, and made again it answers as it would have at first.
+//! Out of memory: a refused call has changed nothing, and repeated it does what it would have done at first.
 //!
-//! Where memory is ample these tests compare answers alone. `tools/refuse-memory.sh` refuses each of their allocations in
-//! turn; each refusal that is met is noted on standard error.
+//! With ample memory these tests compare answers only. `tools/refuse-memory.sh` refuses each of their allocations in turn; each refusal
+//! that is met is noted on standard error.
 
 use super::bench::{Ask, Line, Rec, Told, run};
 use super::data::{ENTER, EXIT, USUAL, VGA, WM0, WM0_IFACE};
@@ -133,7 +133,7 @@ fn new(rt: HostRuntime) -> Result<(), Fail> {
     Ok(())
 }
 
-/// The events by which the keeper writes what slot 3 is to show, the driver disk, which is to be linked before slot 2.
+/// The keeper's stores for slot 3: the driver disk, which is to be linked before slot 2.
 const STORES: &[Line] = &[
     (0, Ask::Step(Event::StoreSlot(3, 0, 5)), Ok(Told::Done)),
     (0, Ask::Step(Event::StoreSlot(3, 1, 2)), Ok(Told::Done)),

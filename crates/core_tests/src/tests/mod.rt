@@ -1,4 +1,4 @@
-//! Tests of what no contract says: rows of single events, values, and want of memory.
+//! Tests of what no contract says: rows of single events, values, and running out of memory.
 //!
 //! The rows of commands are scripts, which `script_tests` runs over a core too.
 

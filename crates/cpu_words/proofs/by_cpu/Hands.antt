@@ -263,7 +263,7 @@ coming x c id idle e g good had attached some_one =
       count = λ k. let a = local_changed k g.locals p (Standing n) (Lifted x.id) (standing_within g.locals p n place.1) place.1 in omega arith;
     })
 
--- the core has the reference that the seat stands for
+-- the core has the reference of the seat
 stands_for : (g : State) (v : ReferenceView) → ((n : ℕ) → reference_to n (Reference v) ≤ standing_in n g) → 0 < standing_in v.entry.number g
 stands_for g v has =
     let n = v.entry.number in

@@ -48,7 +48,7 @@ loaded_words words g l i m found agrees section passive counts =
     same (record_of t k) = refl
     same (total_of t) = refl
 
--- What a search stands on, by the pass and by the history
+-- Where a search is, by the pass and by the history
 
 ends_prefix : (p h : List Change) (n k : ℕ) → IsPrefix p h → EndsAt p n k → EndsAt h n k
 ends_prefix p h n k pre ends = ap (λ l. change_at l k) (sym pre.1) ∙ at_prefix p pre.0 k (at_within p k (Detach n) ends).1 ∙ ends
@@ -79,7 +79,7 @@ stands_by_history h to t q e within from stands =
           (cases_lt p (suc to));
     }
 
--- a search stands on one entry of a slot
+-- a search is at one entry of a slot
 one_stands : (g : State) (c from to after t : ℕ) (e f : Entry) → Holds g → Walks g c from → StandsOn g.history from to t e → StandsOn g.history from after t f → f.number ≡ e.number
 one_stands g c from to after t e f on walk here there =
     ap (λ (d : Entry). d.number) (one_in e f (slot_at g.slots t) (stands_in g c from to t e on walk here) (stands_in g c from after t f on walk there))

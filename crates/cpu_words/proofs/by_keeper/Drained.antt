@@ -93,6 +93,6 @@ vacated_counts g k t e had drained c u vacant = ⊎_elim
     (λ (off : u ≢ t). had.counts c u (sym (slot_other g.slots t Vacant u off) ∙ vacant) ∙ sym (cell_in_old 0 k.counts t (replicate MOST_CPUS 0) u c off))
     (cases_eq u t)
 
--- what stands in the other slots
+-- the other slots
 pub stood : (g : State) (t u : ℕ) (e f : Entry) (x : Slot) → Drained g t e → slot_at (set g.slots t Vacant) u ≡ x → IsIn f x → slot_at g.slots u ≡ x
 stood g t u e f x drained is here = sym (slot_other g.slots t Vacant u (in_vacated g.slots t u e f drained.retired (subst (IsIn f) (sym is) here)).0) ∙ is

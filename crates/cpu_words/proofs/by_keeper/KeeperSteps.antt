@@ -86,7 +86,7 @@ pub record LeavesCpus (g : State) (l : KeeperLists) : Type 0 where
   pub collected : (t c : ℕ) (e : Entry) → slot_at g.slots t ≡ Retired e → (mark_at g.marks t c).collected ≡ true → Occupies l.slots e.number
       → (slot_at l.slots t ≡ Retired e) × ((mark_at l.marks t c).collected ≡ true)
 
--- a reference that a seat stands for has its slot
+-- the reference of a seat has its slot
 pub reference_occupies : (g : State) (v : ReferenceView) → Holds g → IsBacked g (Reference v) → Occupies g.slots v.entry.number
 reference_occupies g v holds backed =
     let n = v.entry.number in

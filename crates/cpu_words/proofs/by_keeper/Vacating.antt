@@ -1,4 +1,4 @@
--- Vacate by the keeper's seat: it changes no word, so it is made just before the load of the head by which the keeper hears.
+-- Vacate by the keeper's seat: it changes no word, so it is made right before the load of the head that lets the keeper hear.
 use Rattle.std.proofs.Common.{◌≡◌, inl, inr, ℕ, zero, suc, List, [], ◌∷◌, ◌++◌, set, replicate, Option, Some, None, refl, sym, ap, ◌∙◌, subst, length-set}
 use Rattle.std.proofs.lemmas.List.{set-get_or}
 use Rattle.std.specs.Prelude.{slice_index}
@@ -84,7 +84,7 @@ moves_after z v u i f before es tells T first then s r id at fits =
       (a.1, b.2),
     )
 
--- Vacate with a load by which the keeper hears
+-- Vacate with a load that lets the keeper hear
 pub vacating_may : (z : Settings) (k : KeeperView) (t : ℕ) → MayVacate k t
     → KeeperMay z k (index head_word) (λ n. n) (λ n. did (Vacate t) Done ++ did (Hear None) Done)
     (λ v n l. Makes (Vacate t) Done (Keeper v) (Keeper l) × Makes (Hear None) Done (Keeper l) (Keeper l) × VacateTold (Vacate t) v l)

@@ -156,7 +156,7 @@ gone_of m g seat s t k good shows grows f =
       seats = λ j v there holds. none (f.e.slot, f.e, seat_has_slot g f.e v good (shows.fits j v there).1 (backed g seat s.views j v shows there) attached holds, f.number);
     }
 
--- among acts of which a seat's are d and more, no own one stands before d
+-- among acts with d and more by a seat, no own one comes before d
 none_before : (a : List LogItem) (d : LogItem) (more : List LogItem) (b : List LogItem) → a ++ d ∷ b ≡ d ∷ more → b ≡ more → a ≡ []
 none_before [] d more b is same = refl
 none_before (x ∷ xs) d more b is same =

@@ -18,7 +18,7 @@ use Rattle.protocol.proofs.runs.Answers.{history_grows}
 use Rattle.protocol.proofs.runs.Fresh.{answers_freshly, sees_all}
 use Rattle.protocol.proofs.runs.Steps.{after_more}
 use Rattle.cpu_words.specs.Common.{CpuView, LogItem, Logged, Teller, Cpu, View, by_number, reply_without_id, maker, the_cpu, IsSeatOf, AreByOwn, part, has_heard_from, IsStanding, RunsAsLogged, Sits, IsBeforeTelling}
-use Rattle.cpu_words.specs.Fresh.{has_sought, HasAnswered, until_reply, with_reply, IsAnsweredFreshly, LookupsAreFresh, history_length, PassesAreWhole, WholeInTheList}
+use Rattle.cpu_words.specs.Common.{has_sought, HasAnswered, until_reply, with_reply, IsAnsweredFreshly, LookupsAreFresh, history_length, PassesAreWhole, WholeInTheList}
 use Rattle.cpu_words.proofs.laws.Waiting.{own_first, part_placed, fewer_acts, cut_at}
 use Rattle.cpu_words.proofs.logs.Changes.{run_as_logged}
 use Rattle.cpu_words.proofs.logs.Loads.{same_event, part_same, part_off, place, run_since}

@@ -9,7 +9,7 @@ use lib.ListN.{get_elem?}
 use Rattle.atomic_table.specs.Table.{State as Table}
 use Rattle.cpu_words.specs.Types.{Settings}
 use Rattle.cpu_words.specs.Common.{LogItem, Logged, part, RunsAsLogged}
-use Rattle.cpu_words.specs.Ordered.{TwoMoments, StandsPast, OrderedInTime}
+use Rattle.cpu_words.specs.Common.{TwoMoments, StandsPast, OrderedInTime}
 use Rattle.cpu_words.proofs.laws.Safety.{running_headline}
 use Rattle.cpu_words.proofs.laws.Waiting.{part_placed}
 use Rattle.cpu_words.proofs.logs.Loads.{part_same, place}

@@ -47,7 +47,7 @@ record WaitedFor (c : ℕ) (s : State) (acts : List (ℕ × LogItem)) (es : List
   own : (b : ℕ) → begin_at between c ≡ Some b → HasExit between c later
   late : Late (length between.history) c t
 
--- what a seat had done before an item of its own that stands in the acts
+-- what a seat had done before an item of its own among the acts
 pub part_placed : (i : ℕ) (acts : List (ℕ × LogItem)) (a b : List LogItem) (d : LogItem) → part i acts ≡ a ++ d ∷ b → (p : Placed i acts d b) → part i p.first ≡ a
 part_placed i acts a b d is p = append_cancel_right (part i p.first) a (d ∷ b)
     (sym (part_append i p.first ((i, d) ∷ p.second) ∙ ap (λ (l : List LogItem). part i p.first ++ l) (part_same i (i, d) p.second refl ∙ ap (λ (l : List LogItem). d ∷ l) p.rest))

@@ -1,4 +1,4 @@
--- What a run does to the section of each CPU, where an item of a seat stands in it, and what an item that loads a section word tells of the state.
+-- What a run does to the section of each CPU that an item of a seat is in, and what an item that loads a section word tells of the state.
 use Rattle.std.proofs.Common.{◌≡◌, ◌≢◌, ◌⊎◌, inl, inr, ⊎_elim, ℕ, suc, ◌+◌, ◌*◌, ◌<◌, ◌≤◌, ◌==◌, ◌&&◌, Bool, true, false, cond, nat_lt, List, [], ◌∷◌, ◌++◌, length, set, get_or, Option, Some, None}
 use Rattle.std.proofs.Common.{eq-eqb, ne_eqb, refl, sym, ap, ◌∙◌, subst, length-append, get_or-set_same, get_or-set_other, arith}
 use Rattle.std.proofs.lemmas.Bool.{and_parts, cases_eq}

@@ -70,11 +70,12 @@ keeper_sits seat i (Reference v) is sits = absurd is
 keeper_sits seat i (Note h) is sits = absurd is
 keeper_sits seat i Spent is sits = absurd is
 
--- what a seat that is cut off may have heard: of whatever the keeper did, as far as the other seat has heard it, and all of it where that is the keeper's
+-- what a seat that is cut off may have heard: of the keeper's log as much as the other seat has heard, and all of it if that is the
+-- keeper's
 abbrev pub MayTell : Logged → List LogItem → List LogItem → Type 0
 MayTell l ds known_log = (all : List LogItem) → IsPrefix l.known_log all → (IsKeeper l.view → l.log ++ ds ≡ all) → IsPrefix known_log all
 
--- who may be named as the teller of what is cut off: one who has come so far, whatever was done, where the seat did this
+-- who may be named as the teller of what is cut off: one who has come so far, after any events, where the seat did this
 abbrev pub MayName : Logged → List LogItem → Option Teller → Type 0
 MayName l ds h = (g : State) (seat : ℕ → ℕ) (i : ℕ) (acts : List (ℕ × LogItem)) → Sits seat i l.view → Shown g l.view → l.log ++ ds ≡ part i acts → HasComeIf seat g.seated acts h
 
@@ -130,7 +131,7 @@ went z s r id l its ds t goes at stands by events told =
       newer = λ h come. come_seats r.run.seat goes.ruled.seat r.run.g.seated goes.ruled.g.seated (r.acts ++ by_seat id its) h goes.seated goes.seats come;
     }
 
--- the events of a run, and so the items by which no note was heard
+-- the events of a run, and so the items without a note
 plain : (z : Settings) (s : Table ℕ View) (r : Ruled z s) (ds : List LogItem) (t : Table ℕ View) → GoesOn z s r ds t → map untold ds ≡ ds
 plain z s r ds t goes = plain_of_end (log_of_events z r.reached.events) ds
     (subst (λ (l : List LogItem). map untold l ≡ l) goes.goes_on (plain_from (empty_run (opening z)) goes.ruled.reached.events))
@@ -147,7 +148,7 @@ went_plainly z s r id l ds t goes at stands by =
 abbrev moved_to : Logged → View → List LogItem → List LogItem → List (ℕ × LogItem) → Logged
 moved_to l w ds d all = record l { view = w; log = l.log ++ ds; known_log = d; list = all }
 
--- the rule holds on, whatever prefix of the keeper's log the seat has heard then
+-- the rule holds on, for any prefix of the keeper's log that the seat has heard then
 logged_goes : (z : Settings) (l : Logged) (i : ℕ) (n : ℕ) (its ds : List LogItem) (w : View) (s : Table ℕ Logged) (r : LoggedRuled z s) (id : ℕ) → get_elem? s.views id ≡ some l → IsStanding l.view
     → AreBy (who l.view) its
     → map untold its ≡ ds → AreToldPast r.run.seat r.run.g.seated r.acts (by_seat id its)
@@ -211,9 +212,13 @@ pub logged_moves : (z : Settings) (l : Logged) (i : ℕ) (f : ℕ → ℕ) (ds :
     → Moves z l.view i f ds tells → LoggedMoves z l i f ds tells
 logged_moves z l i f ds tells stands by moves s r id at fits =
     let word = slice_index s.words i in
-    let done = moves (without_logs s) r.run id (at_map (λ (x : Logged). x.view) s.views id l at) fits in
-    (done.0, r.acts ++ by_seat id (ds word), goes_plainly z l i (f word) (ds word) done.0 s r id at stands (by word) done.1 l.known_log (r.known id l at).0, done.2,
-    list_goes_on z s r id l (ds word) at stands)
+    let done = moves (without_logs s) r.run id (at_map (λ (x : Logged). x.view) s.views id l at) fits in (
+      done.0,
+      r.acts ++ by_seat id (ds word),
+      goes_plainly z l i (f word) (ds word) done.0 s r id at stands (by word) done.1 l.known_log (r.known id l at).0,
+      done.2,
+      list_goes_on z s r id l (ds word) at stands,
+    )
 
 -- the same of a load that hears: what the seat has heard then is all that the keeper did, and its log says who told the note
 abbrev pub LoggedHears : Settings → Logged → ℕ → (ℕ → ℕ) → Option ℕ → (ℕ → View → Type 0) → Type 0

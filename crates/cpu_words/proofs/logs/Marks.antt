@@ -27,7 +27,7 @@ marks_after s (PassiveLook t c) = with_cell s.marks t c (mark_after_passive_look
 marks_after s (Collect t c) = with_cell s.marks t c (mark_after_collect (mark_at s.marks t c))
 marks_after s e = s.marks
 
--- a load of a section word answers that word
+-- a load of a section word returns that word
 abbrev pub HasReply : State → Event → Reply → Type 0
 HasReply s (Snapshot to c) r = r ≡ Word (section_at s c)
 HasReply s (Look to c) r = r ≡ Word (section_at s c)

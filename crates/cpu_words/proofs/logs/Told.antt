@@ -8,7 +8,7 @@ use Rattle.cpu_words.specs.Common.{heard_from}
 use Rattle.cpu_words.proofs.logs.Parts.{by_seat, part_append}
 use Rattle.cpu_words.proofs.logs.Runs.{same_first, same_rest}
 
--- Where an act stands in two lists, one after the other
+-- Where an act is in two lists, one after the other
 
 abbrev first_act : ℕ × LogItem → List (ℕ × LogItem) → ℕ × LogItem
 first_act x [] = x
@@ -81,7 +81,7 @@ told_more seat next n all acts new le same told past i d first rest is = ⊎_eli
     subst (λ (l : List (ℕ × LogItem)). IsToldBefore next all l d) (sym p.1) (told_seats seat next n all (acts ++ p.0) d le same (past i d p.0 rest p.2)))
     (stands acts new first rest (i, d) is)
 
--- Items by which no note was heard
+-- Items without a note
 
 plain_with : (s : State) (e : Event) (o : Option Outcome) (ds : List LogItem) → map untold ds ≡ ds → map untold (log_with s e o ds) ≡ log_with s e o ds
 plain_with s e None ds plain = plain

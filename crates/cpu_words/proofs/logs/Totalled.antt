@@ -52,7 +52,7 @@ sum_other f g (suc n) same =
     let here = same n (omega arith) in
     omega (arith, rest, here)
 
--- just one place has another word
+-- only one place has another word
 sum_changed : (f g : ℕ → ℕ) (c n : ℕ) → c < n → ((d : ℕ) → (d ≡ c → ⊥) → g d ≡ f d) → sum_below g n + f c ≡ sum_below f n + g c
 sum_changed f g c zero lt same = absurd (omega arith)
 sum_changed f g c (suc n) lt same = ⊎_elim
@@ -471,7 +471,7 @@ totals_off seat n i log s e o is off made are =
 pub no_totals : (z : Settings) → AreTotalsOf [] (opening z)
 no_totals z = record { total = λ t n is. absurd (let q : ◌≡◌ {A = Option ℕ} None (Some n) = is in cc); later = λ n above. refl }
 
--- What callers want
+-- What callers need
 
 -- at rest a total is by the log alone
 pub total_by_log : (log : List LogItem) (s : State) (t n : ℕ) → AreTotalsOf log s → s.due ≡ Rest → occupant t log ≡ Some n

@@ -16,7 +16,7 @@ new_cpu_is_shown z fit c lt =
     let seated = seats_by (keeper_with z c) record { rest = refl; left = lt } was.g was.good was.shown in
     record { g = seated.after; good = seated.good_after; shown = seated.shown_right }
 
--- just one state is left by an event that leaves this one
+-- only one state is left by an event that leaves this one
 left_by : (b : Bool) (s t : State) → guard b (some_outcome s Done) ≡ Some (record { state = t; reply = Done }) → t ≡ s
 left_by true s t q =
     let same : ◌≡◌ {A = Outcome} (record { state = s; reply = Done }) (record { state = t; reply = Done }) = cc in

@@ -35,7 +35,7 @@ weight_at f (x ∷ xs) (suc i) v e =
 abbrev pub standing_in : ℕ → State → ℕ
 standing_in n g = sum_by (standing_of n) g.locals
 
--- the core has the references that the view stands for
+-- the core has the references of the view
 abbrev pub IsBacked : State → View → Type 0
 IsBacked g v = (n : ℕ) → reference_to n v ≤ standing_in n g
 

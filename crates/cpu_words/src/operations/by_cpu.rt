@@ -11,7 +11,7 @@ use crate::layout::WORDS;
 use crate::seat::CpuSeat;
 use protocol::Event;
 
-/// Adds to a word. It answers the word as it was.
+/// Adds to a word. Returns the word as it was.
 pub(crate) fn add<T: CpuTale>(
     words: &Words,
     seat: &mut CpuSeat,
@@ -34,7 +34,7 @@ pub(crate) fn add<T: CpuTale>(
         .fetch_add::<CpuPlay<T>>(&mut seat.token, word, k)
 }
 
-/// Subtracts from a word. It answers the word as it was.
+/// Subtracts from a word. Returns the word as it was.
 pub(crate) fn subtract<T: CpuTale>(
     words: &Words,
     seat: &mut CpuSeat,
@@ -71,7 +71,7 @@ pub(crate) fn load<T: CpuTale>(words: &Words, seat: &mut CpuSeat, word: usize, e
     words.table.shared.load::<CpuPlay<T>>(&mut seat.token, word)
 }
 
-/// Writes `new` where the word is `old`. It answers the word as it was.
+/// Writes `new` if the word is `old`. Returns the word as it was.
 pub(crate) fn compare_exchange<T: CpuTale>(
     words: &Words,
     seat: &mut CpuSeat,

@@ -56,7 +56,7 @@ pub(crate) fn store<T: KeeperTale>(
         .store::<KeeperHearing<T>>(&mut seat.token, word, value);
 }
 
-/// Writes a word. It answers the word as it was.
+/// Writes a word. Returns the word as it was.
 pub(crate) fn swap<T: KeeperTale>(
     words: &Words,
     seat: &mut KeeperSeat,
@@ -79,7 +79,7 @@ pub(crate) fn swap<T: KeeperTale>(
         .swap::<KeeperPlay<T>>(&mut seat.token, word, value)
 }
 
-/// Subtracts from a word, and hears what its log has. It answers the word as it was.
+/// Subtracts from a word, and hears what its log has. Returns the word as it was.
 pub(crate) fn subtract<T: KeeperTale>(
     words: &Words,
     seat: &mut KeeperSeat,

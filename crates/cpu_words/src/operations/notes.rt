@@ -92,7 +92,7 @@ pub(crate) fn lay_by_keeper(words: &Words, keeper: &mut KeeperSeat, note: NoteSe
         .join_seat::<KeeperNote>(&mut keeper.token, token);
 }
 
-/// The load of its section word by which a CPU hears the note that lies beside its view: its log says who told it.
+/// Hears the note that is beside a CPU's view, by a load of the CPU's section word: its log says who told it.
 pub(crate) fn listen(words: &Words, seat: &mut CpuSeat, cpu: u8)
     requires table { seat.old.table ≡ words.now.table }
     requires cpu { (cpu < MOST_CPUS) × (seat.old.view.id ≡ cpu) }
@@ -110,7 +110,7 @@ pub(crate) fn listen(words: &Words, seat: &mut CpuSeat, cpu: u8)
         .load::<CpuHearing>(&mut seat.token, section_place(cpu));
 }
 
-/// The load of the head by which the keeper hears the note that lies beside its view: its log says who told it.
+/// Hears the note that is beside the keeper's view, by a load of the head: its log says who told it.
 pub(crate) fn hear_noted(words: &Words, keeper: &mut KeeperSeat)
     requires table { keeper.old.table ≡ words.now.table }
     requires may { keeper.old.view.due ≡ Rest }

@@ -3,7 +3,7 @@
 use crate::view::Logged;
 use atomic_table::Split;
 
-/// The seat of the least CPU without one.
+/// The seat of the lowest-numbered CPU without one.
 pub(crate) struct NextSeat;
 
 impl Split<Logged> for NextSeat {

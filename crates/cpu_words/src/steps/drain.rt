@@ -19,8 +19,8 @@ use protocol::Event;
 use registry_values::{MOST_CPUS, MOST_SLOTS};
 use std::marker::Brand;
 
-/// Looks at the passive word of CPU `cpu` for the retired entry in `slot`: the CPU is clear where the word is 0. It answers the word, and
-/// is counted as a look.
+/// Looks at the passive word of CPU `cpu` for the retired entry in `slot`: the CPU is clear if the word is 0. Returns the word, and is
+/// counted as a look.
 /// Condition: the keeper is at rest, the slot's entry is retired, the CPU is one of the table's, and all CPUs have passed for the slot.
 pub fn passive_look(words: &Words, keeper: &mut KeeperSeat, slot: u8, cpu: u8) -> u64
     requires table { keeper.old.table ≡ words.now.table }
@@ -38,9 +38,9 @@ pub fn passive_look(words: &Words, keeper: &mut KeeperSeat, slot: u8, cpu: u8) -
 }
 
 /// Collects the count word of CPU `cpu` for the retired entry in `slot`: the word becomes 0, and what it was is to be added to the slot's
-/// total. It answers what the word was.
-/// Condition: the keeper is at rest, the slot's entry is retired, the CPU is one of the table's, all CPUs have passed and are clear for the
-/// slot, and this CPU's word isn't collected yet.
+/// total. Returns what the word was.
+/// Condition: the keeper is at rest, the slot's entry is retired, and the CPU is one of the table's. All CPUs have passed and are clear for
+/// the slot, and this CPU's word isn't collected yet.
 pub fn collect(words: &Words, keeper: &mut KeeperSeat, slot: u8, cpu: u8) -> u64
     requires table { keeper.old.table ≡ words.now.table }
     requires place { cpu < MOST_CPUS }

@@ -14,8 +14,8 @@ use protocol::Event;
 use registry_values::MOST_CPUS;
 use std::marker::Brand;
 
-/// Looks at the section word of CPU `cpu` for the retired entry in `slot`: the CPU has passed where the word is even or differs from its
-/// snapshot. It answers the word, and is counted as a look.
+/// Looks at the section word of CPU `cpu` for the retired entry in `slot`: the CPU has passed if the word is even or differs from its
+/// snapshot. Returns the word, and is counted as a look.
 /// Condition: the keeper is at rest, the slot's entry is retired, and the CPU is one of the table's.
 pub fn look(words: &Words, keeper: &mut KeeperSeat, slot: u8, cpu: u8) -> u64
     requires table { keeper.old.table ≡ words.now.table }

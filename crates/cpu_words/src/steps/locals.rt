@@ -20,9 +20,9 @@ use registry_values::{MOST_CPUS, MOST_SLOTS};
 use std::marker::Brand;
 
 /// CPU `cpu` counts a local reference to its last found entry, the one with `number` (from 1) in `slot` (from 0), and has it in its hand:
-/// one addition to its count word. It answers the word as it was, which is its net count for that number, over the bias.
-/// Condition: the seat is that CPU's, idle, and its net count for that number is below the count limit, by its place of that slot: where it
-/// last counted another number there, it has counted none to this one.
+/// one addition to its count word. Returns the word as it was, which is its net count for that number, over the bias.
+/// Condition: the seat is that CPU's, idle, and its net count for that number is below the count limit. The CPU's place of that slot has
+/// that count; if the place has another number, the count is 0.
 pub fn count_add(words: &Words, seat: &mut CpuSeat, cpu: u8, slot: u8, number: u64) -> u64
     requires table { seat.old.table ≡ words.now.table }
     requires place { (cpu < MOST_CPUS) × (slot < MOST_SLOTS) }
@@ -101,10 +101,10 @@ pub fn join_ref(words: &Words, seat: &mut CpuSeat, cpu: u8, reference: Reference
 }
 
 /// CPU `cpu` counts the reference in its hand, to the entry with `number` (from 1) in `slot` (from 0), down: one compare-exchange of its
-/// count word from `expected` to one less. It answers the word as it was. Another word than `expected` says that the keeper has collected
-/// it: then the reference stays in the hand, to go back.
-/// Condition: the seat is that CPU's, with such a reference in its hand, and `expected` is its net count for that number, over the bias, by
-/// its place of that slot: where it last counted another number there, it has counted none to this one, and `expected` is the bias.
+/// count word from `expected` to one less. Returns the word as it was. If it isn't `expected`, the keeper has collected the word, and the
+/// reference stays in the hand, to go back.
+/// Condition: the seat is that CPU's, with such a reference in its hand, and `expected` is its net count for that number, over the bias.
+/// The CPU's place of that slot has that count; if the place has another number, the count is 0, and `expected` is the bias.
 pub fn count_down(
     words: &Words,
     seat: &mut CpuSeat,

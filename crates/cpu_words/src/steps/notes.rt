@@ -60,9 +60,10 @@ pub fn tell_keeper(words: &Words, keeper: &mut KeeperSeat) -> NoteSeat
     }
 }
 
-/// CPU `cpu` hears a note: its pass becomes the whole history, with what the note tells in it, and what it has heard of the keeper's log
-/// goes on to all that the note tells of it. The note is laid beside the seat's view, and one load of the CPU's section word is the event, which
-/// stands in the CPU's log with the note's teller. Condition: the seat is that CPU's, and idle.
+/// CPU `cpu` hears a note. Its pass becomes the whole history, with what the note tells in it; what it has heard of the keeper's log goes
+/// on to all that the note tells of it. The note is laid beside the seat's view, and one load of the CPU's section word is the event. The
+/// CPU's log has it with the note's teller.
+/// Condition: the seat is that CPU's, and idle.
 pub fn hear(words: &Words, seat: &mut CpuSeat, cpu: u8, note: NoteSeat)
     requires table { (seat.old.table ≡ words.now.table) × (note.table ≡ words.now.table) }
     requires cpu { (cpu < MOST_CPUS) × (seat.old.view.id ≡ cpu) }
@@ -80,9 +81,10 @@ pub fn hear(words: &Words, seat: &mut CpuSeat, cpu: u8, note: NoteSeat)
     notes::listen(words, seat, cpu);
 }
 
-/// The keeper hears a note: what the note tells is in its history, what it tells of the keeper's log begins that log, and the
-/// history is as long as the log says. The note is laid beside the seat's view, and one load of the head is the event, which stands in the
-/// keeper's log with the note's teller: so whoever hears that log knows how far the teller had come by then. Condition: the keeper is at rest.
+/// The keeper hears a note. What the note tells is in its history, what it tells of the keeper's log begins that log, and the history is as
+/// long as the log says. The note is laid beside the seat's view, and one load of the head is the event. The keeper's log has it with the
+/// note's teller: whoever hears that log knows how far the teller had come by then.
+/// Condition: the keeper is at rest.
 pub fn hear_keeper(words: &Words, keeper: &mut KeeperSeat, note: NoteSeat)
     requires table { (keeper.old.table ≡ words.now.table) × (note.table ≡ words.now.table) }
     requires may { keeper.old.view.due ≡ Rest }

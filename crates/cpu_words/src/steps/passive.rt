@@ -15,10 +15,10 @@ use protocol::{Event, RecordOf};
 use registry_values::{MOST_CPUS, MOST_SLOTS};
 use std::marker::Brand;
 
-/// CPU `cpu` gets a passive reference to the entry `number` of slot `slot`, by one addition to its passive word for that slot.
-/// It answers how many it had. Its references into the slot are all to that entry.
-/// Condition: the seat is that CPU's and idle, the entry is its last found one or it has a passive reference to it already, and it
-/// has fewer of them than the passive limit.
+/// CPU `cpu` gets a passive reference to the entry `number` of slot `slot`, by one addition to its passive word for that slot. Returns how
+/// many it had. Its references into the slot are all to that entry.
+/// Condition: the seat is that CPU's and idle. The entry is its last found one, or it has a passive reference to it already. It has fewer
+/// of them than the passive limit.
 pub fn passive_add(words: &Words, seat: &mut CpuSeat, cpu: u8, slot: u8, number: u64) -> u64
     requires table { seat.old.table ≡ words.now.table }
     requires cpu { (cpu < MOST_CPUS) × (seat.old.view.id ≡ cpu) }
@@ -33,8 +33,8 @@ pub fn passive_add(words: &Words, seat: &mut CpuSeat, cpu: u8, slot: u8, number:
     by_cpu::add::<Brand>(words, seat, word, 1, Event::PassiveAdd(cpu, number))
 }
 
-/// CPU `cpu` gives up a passive reference to the entry `number` of slot `slot`, by one subtraction from its passive word for that
-/// slot. It answers how many it had.
+/// CPU `cpu` gives up a passive reference to the entry `number` of slot `slot`, by one subtraction from its passive word for that slot.
+/// Returns how many it had.
 /// Condition: the seat is that CPU's and idle, and has such a reference.
 pub fn passive_sub(words: &Words, seat: &mut CpuSeat, cpu: u8, slot: u8, number: u64) -> u64
     requires table { seat.old.table ≡ words.now.table }

@@ -18,10 +18,14 @@ use std::marker::Brand;
 
 /// Publishes the entry whose words the vacant slot `slot` has: the head is stored, from now on searches find the entry, and the history
 /// ends with its attach.
-/// Condition: the keeper is at rest, and all is stored that the entry needs. The slot's record has the next number (from 1) and a kind
-/// and name that no live entry has, its link leads to the newest live entry, its count words and its total stand for no reference, it
-/// keeps a driver exactly if the entry is an interface, and the history has room for this change and for the detaches of all live
-/// entries, the new one too.
+///
+/// Conditions:
+///
+/// - the keeper is at rest;
+/// - the slot's record has the next number (from 1), and a kind and name that no live entry has;
+/// - its link leads to the newest live entry, and its count words and its total count no reference;
+/// - it keeps a driver exactly if the entry is an interface;
+/// - the history has room for this change and for the detaches of all live entries, the new one too.
 pub fn publish(words: &Words, keeper: &mut KeeperSeat, slot: u8)
     requires table { keeper.old.table ≡ words.now.table }
     requires may { (e : Entry) × MayPublish keeper.old.view slot e }

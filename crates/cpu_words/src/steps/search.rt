@@ -31,9 +31,10 @@ pub fn seek(words: &Words, seat: &mut CpuSeat, cpu: u8, kind: Kind, name: Name) 
     by_cpu::load::<Brand>(words, seat, HEAD, Event::Seek(cpu, kind, name))
 }
 
-/// The search of CPU `cpu` loads the link of the slot that `link` led to, `link - 1`: a slot plus 1, or 0 where no entry has the kind and
-/// the name. Condition: the seat is that CPU's, and its search stands at the link of that slot; slots count from 0.
-/// By the link the place is known a subtraction earlier than the record's: so this load, for which the next entry waits, goes first.
+/// The search of CPU `cpu` loads the link of the slot that `link` led to, `link - 1`. Returns a slot plus 1, or 0 if no entry has the kind
+/// and the name.
+/// Condition: the seat is that CPU's, and its search is at the link of that slot; slots count from 0. The link's place is known a
+/// subtraction earlier than the record's, and the next entry waits for this load: so it goes first.
 pub fn load_link(words: &Words, seat: &mut CpuSeat, cpu: u8, link: u64) -> u64
     requires table { seat.old.table ≡ words.now.table }
     requires cpu { (cpu < MOST_CPUS) × (seat.old.view.id ≡ cpu) }
@@ -45,9 +46,9 @@ pub fn load_link(words: &Words, seat: &mut CpuSeat, cpu: u8, link: u64) -> u64
     by_cpu::load::<Brand>(words, seat, linked_place(link), Event::LoadLink(cpu))
 }
 
-/// The search of CPU `cpu` loads record word `k` of `slot`: 0 the number, 1 the kind, 2 and 3 the words of the name, and where these
-/// are those sought 4, the value, which ends the search. It answers the word.
-/// Condition: the seat is that CPU's, and its search stands at that word; slots count from 0.
+/// The search of CPU `cpu` loads record word `k` of `slot`: 0 the number, 1 the kind, 2 and 3 the words of the name. If these are those
+/// sought, word 4, the value, ends the search. Returns the word.
+/// Condition: the seat is that CPU's, and its search is at that word; slots count from 0.
 pub fn load_searched(words: &Words, seat: &mut CpuSeat, cpu: u8, slot: usize, k: u8) -> u64
     requires table { seat.old.table ≡ words.now.table }
     requires cpu { (cpu < MOST_CPUS) × (seat.old.view.id ≡ cpu) }

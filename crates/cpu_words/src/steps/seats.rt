@@ -11,7 +11,7 @@ use crate::law::Words;
 use crate::operations::seats::NextSeat;
 use crate::seat::{CpuSeat, KeeperSeat};
 
-/// The least CPU without a seat gets its seat, cut from the keeper's.
+/// The lowest-numbered CPU without a seat gets its seat, split from the keeper's.
 /// Condition: the keeper is at rest, and has given out fewer seats than the table has CPUs.
 pub fn seat(words: &Words, keeper: &mut KeeperSeat) -> CpuSeat
     requires table { keeper.old.table ≡ words.now.table }

@@ -16,8 +16,8 @@ use crate::seat::KeeperSeat;
 use protocol::Event;
 use std::marker::Brand;
 
-/// Makes the slot vacant, and hears. Vacate touches no word; the load of the head by which the keeper hears tells that the entry, which its log
-/// has as detached from the slot, has gone from there (`freed`): by the law `running_headline` nothing holds it, now or later.
+/// Makes the slot vacant, and hears. Vacate touches no word; the keeper hears by a load of the head. It tells that the entry, detached from
+/// the slot by the keeper's log, has gone from there (`freed`): by the law `running_headline` nothing holds it, now or later.
 /// Condition: the keeper is at rest, and the slot is retired and drained, and keeps nothing.
 pub fn vacate(words: &Words, keeper: &mut KeeperSeat, slot: u8)
     requires table { keeper.old.table ≡ words.now.table }

@@ -1,6 +1,8 @@
 //! The commands of the core: what a caller asks for, made of the events of the protocol.
 //!
 //! Before its first event a command seats all CPUs. A command that is refused has made no event, unless it says so.
+//!
+//! A line `let _ = &self.field;` is for the proof alone: reading a field opens what the type keeps.
 
 mod advance;
 mod attach;

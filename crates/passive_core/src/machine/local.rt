@@ -56,7 +56,7 @@ impl Core {
         Ok(Reply::Word(word))
     }
 
-    /// The least id that no live reference and no hand has.
+    /// The lowest id that no live reference and no hand has.
     fn least_id(&self) -> u64
         ensures value { result ≡ least_id self.now.locals }
         ensures within { result ≤ length self.now.locals }
@@ -90,7 +90,7 @@ impl Core {
         }
     }
 
-    /// `SplitRef` where a place is free already.
+    /// `SplitRef` if a place is free already.
     pub(crate) fn split_in_place(&mut self, c: u8, number: u64) -> u64
         requires hand { hand_at self.old c ≡ Taking number }
         requires room { least_id self.old.locals < length self.old.locals }

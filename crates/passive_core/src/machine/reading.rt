@@ -89,7 +89,7 @@ impl Core {
         }
     }
 
-    /// What stands in the slot, from 0; vacant where the slot isn't known.
+    /// The state of the slot, from 0; vacant if the slot isn't known.
     pub fn slot_at(&self, t: u8) -> Slot
         ensures value { result ≡ slot_at self.now.slots t }
     {

@@ -57,8 +57,8 @@ impl Core {
     }
 }
 
-/// Makes all events in order; those that aren't allowed are counted and left out. Refused: `Short` at the first event
-/// for which memory was refused; the state is that of the events before it.
+/// Makes all events in order, and counts and skips those that aren't allowed.
+/// Refused: `Short` at the first event that needs memory and gets none; the state is that of the events before it.
 pub fn run_events(core: &mut Core, events: &[Event]) -> Result<Counted, Short>
     ensures ok { IfOk result (λ counted. record { state = core.new; counted = counted } ≡ run_of_events (empty_run core.old) events.now) }
     ensures short { IfErr result (λ short. (short.done < length events.now) × (core.new ≡ (run_of_events (empty_run core.old) (take short.done events.now)).state)) }

@@ -19,7 +19,7 @@ impl Core {
             && self.has_same_cpus(other)
     }
 
-    /// Whether the list, what stands in its slots, their marks and the history are the same.
+    /// Whether the list, the slots, their marks and the history are the same.
     fn has_same_slots(&self, other: &Core) -> bool
         ensures { Decides result (HaveSameSlots self.now other.now) }
     {

@@ -7,7 +7,7 @@ use script_comparison::{
 use std::alloc::{AllocError, Global};
 use std::test::*;
 
-/// Stands for two engines that write the script, but that the second writes nothing where the script has both lines.
+/// A stand-in for two engines. Both write the script, but the second writes nothing if the script has both lines.
 #[derive(Drop)]
 struct Twins<'a> {
     alloc: Global,
@@ -278,7 +278,7 @@ fn engines_write_the_same(rt: HostRuntime) {
     assert!(rt; agreed(&mut engines, script).is_some());
 }
 
-/// A script and its report, of which no line is an answer of that command's.
+/// A script and its report without any answer of that command.
 const STRANGE: [(&[u8], &[u8]); 8] = [
     (b"enter 0\n", b"outside\n"),
     (b"exit 0\n", b"none\n"),

@@ -181,7 +181,7 @@ fn tasks_that_are_done(rt: HostRuntime) -> Result<(), Fail> {
     Ok(())
 }
 
-/// Stands for storms that go wrong, each with more wrong answers than the one before; there is memory for two of them.
+/// A stand-in for storms that go wrong, each with more wrong answers than the one before; there is memory for two of them.
 #[derive(Drop)]
 struct Wrongs {
     made: u64,

@@ -65,7 +65,7 @@ pub total_at_rest : {z : Settings} {slots : List Slot} {marks : List (List Mark)
     → IsIn e (slot_at slots t) → (bias + held_at locals hands keeps due e.number t ≤ total_at totals t + MOST_CPUS * greatest_limit) × (total_at totals t ≤ bias + MOST_CPUS * greatest_limit)
 total_at_rest {z} {slots} {marks} {counts} {nets} {totals} {hands} {keeps} {due} {locals} on fit t e rest is = total_range on fit t e (ap (addition_due_at t) rest) (ap (is_adding_at t) rest) is
 
--- a total from which a reference is subtracted is above 0
+-- a total is above 0 before a reference is subtracted
 pub total_at_subtraction : {z : Settings} {slots : List Slot} {marks : List (List Mark)} {counts nets : List (List ℕ)} {totals : List ℕ} {hands : List Hand} {keeps : List (Option ℕ)} {due : Due}
     {locals : List LocalPlace} → CountsHold z slots marks counts nets totals hands keeps due locals → CountsFit z slots marks counts nets totals hands keeps → (t u : ℕ) (e : Entry)
     → due ≡ Subtracting u → IsIn e (slot_at slots t) → (0 < total_at totals t) × (total_at totals t ≤ bias + MOST_CPUS * greatest_limit)
@@ -82,7 +82,7 @@ all_collected {z} {slots} {marks} {counts} {nets} {totals} {hands} {keeps} {due}
     (subst (λ (a : ℕ). Balances (get_or counts t []) (total_at totals t) (held_at locals hands keeps due e.number t) a 0) (ap (addition_due_at t) rest)
     (subst (λ (i : ℕ). Balances (get_or counts t []) (total_at totals t) (held_at locals hands keeps due e.number t) (addition_due_at t due) i) (ap (is_adding_at t) rest) (on.balance t e (inr gone))))
 
--- and is the bias just where nothing is
+-- and is the bias exactly where nothing is
 pub none_held_at_bias : {z : Settings} {slots : List Slot} {marks : List (List Mark)} {counts nets : List (List ℕ)} {totals : List ℕ} {hands : List Hand} {keeps : List (Option ℕ)} {due : Due}
     {locals : List LocalPlace} → CountsHold z slots marks counts nets totals hands keeps due locals → (t : ℕ) (e : Entry) → due ≡ Rest → slot_at slots t ≡ Retired e
     → ((c : ℕ) → c < z.cpus → (mark_at marks t c).collected ≡ true) → total_at totals t ≡ bias → held_at locals hands keeps due e.number t ≡ 0

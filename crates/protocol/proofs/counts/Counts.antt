@@ -152,7 +152,7 @@ pub keep : {z : Settings} {slots : List Slot} {marks : List (List Mark)} {counts
 keep {z} {slots} {marks} {counts} {nets} {totals} {hands} {keeps} {due} {locals} on t n id lt none at = held_stays on hands (set keeps t (Some n)) (set locals id Free)
     (λ m. omega (arith, kept_changed m keeps t None (Some n) lt none, local_changed m locals id (Standing n) Free (standing_within locals id n at) at))
 
--- a reference to n is one to what stands in t
+-- a reference to n is one to the entry in t
 at_slot : (slots : List Slot) (t n : ℕ) (e : Entry) → IsIn e (slot_at slots t) → e.number ≡ n → ((u : ℕ) (f : Entry) → IsIn f (slot_at slots u) → f.number ≡ n → u ≡ t) → (u : ℕ) (f : Entry)
     → IsIn f (slot_at slots u) → one_if (n == f.number) ≡ one_if (t == u)
 at_slot slots t n e is number one u f in_ = by_place (λ (k : ℕ). IsIn f (slot_at slots k) → one_if (n == f.number) ≡ one_if (t == k)) t u

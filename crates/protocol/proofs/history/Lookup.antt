@@ -126,7 +126,7 @@ missed_lawful h legal from to key le below = either (look_by h legal from key fr
       answered = λ f live same. none f live live.begun same;
     })
 
--- an answer that was right at one point only
+-- a result that was right at one point only
 pub find_exact : (h : List Change) (k : ℕ) (key : Key) (answer : Option Entry) → IsLawful h k k key answer → IsLookup h k key answer
 find_exact h k key answer lawful =
     let at : lawful.point ≡ k = omega (arith, lawful.from_on, lawful.up_to) in

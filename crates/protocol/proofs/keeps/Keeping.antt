@@ -101,7 +101,7 @@ pub some_keeps : {X : Type 0} (o : Option X) (f : X → Option Outcome) → ((x 
 some_keeps None f keeps = tt
 some_keeps (Some x) f keeps = keeps x refl
 
--- what stands in a place
+-- what is in a place
 pub standing_keeps : (s : State) (id : ℕ) (f : ℕ → Option Outcome) → ((n : ℕ) → local_at s.locals id ≡ Standing n → Keeps (f n)) → Keeps (with_some (number_standing (local_at s.locals id)) f)
 standing_keeps s id f keeps = some_keeps (number_standing (local_at s.locals id)) f (λ n is. keeps n (standing_tells (local_at s.locals id) n is))
 

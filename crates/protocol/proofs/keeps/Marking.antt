@@ -171,7 +171,7 @@ marks_vacate h slots marks section begins t lt m = record {
   left = λ u c b w f is. m.left u c b w f (sym (vacated_before slots t u f lt (inr is)).1 ∙ is);
 }
 
--- No section may hold an entry for which every CPU has passed.
+-- No section may hold an entry once every CPU has passed for it.
 pub held_vacate : (h : List Change) (slots : List Slot) (marks : List (List Mark)) (section : List ℕ) (begins : List (Option ℕ)) (t : ℕ) (e : Entry) → t < length slots → slot_at slots t ≡ Retired e
     → SlotsShow h slots
     → ((c b : ℕ) → get_or begins c None ≡ Some b → (mark_at marks t c).passed ≡ true) → MarksHold h slots marks section begins → HeldStay h slots begins → HeldStay h (set slots t Vacant) begins

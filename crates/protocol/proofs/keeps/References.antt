@@ -201,7 +201,7 @@ pub references_count_add : (cpus : ℕ) (slots : List Slot) (hands : List Hand) 
 references_count_add cpus slots hands due locals c n is refer =
     references_hand cpus slots hands due locals locals c (Taking n) refer.standing (λ d id off at. at) is refer
 
--- the least id that is free
+-- the lowest id that is free
 
 free_tells : (p : LocalPlace) → is_free p ≡ true → p ≡ Free
 free_tells Free test = refl
@@ -238,7 +238,7 @@ local_cases locals id p j le = either (cases_eq j id)
     (λ same. inl (same, ap (local_at (with_local locals id p)) same ∙ with_local_same locals id p le))
     (λ off. inr (off, with_local_other locals id p j le off))
 
--- a place that was not free stays where another is written at the least id
+-- a place that was not free stays where another is written at the lowest id
 pub least_stays : (locals : List LocalPlace) (p q : LocalPlace) (j : ℕ) → (Free ≡ q → ⊥) → local_at locals j ≡ q → local_at (with_local locals (least_id locals) p) j ≡ q
 least_stays locals p q j off at = with_local_other locals (least_id locals) p j (least_within locals) (λ same. off (sym (least_free locals) ∙ (ap (local_at locals) (sym same) ∙ at))) ∙ at
 

@@ -69,7 +69,7 @@ walks_now s c q on is =
     let was : SearchHolds s.history (begin_at s c) (seen_at s c) q = on.searches c q is in
     record { begin = was.begun.0; open_since = was.begun.1; since = omega (arith, was.begun.2, was.started, on.sections.prefix c); by_now = omega arith }
 
--- an entry that a walk stands on has its slot
+-- the entry of a walk has its slot
 pub stands_in : (s : State) (c from to t : ℕ) (e : Entry) → Holds s → Walks s c from → StandsOn s.history from to t e → IsIn e (slot_at s.slots t)
 stands_in s c from to t e on walk stands =
     subst (λ (u : ℕ). IsIn e (slot_at s.slots u)) stands.at
@@ -78,7 +78,7 @@ stands_in s c from to t e on walk stands =
 pub stands_within : (s : State) (c from to t : ℕ) (e : Entry) → Holds s → Walks s c from → StandsOn s.history from to t e → t < length s.slots
 stands_within s c from to t e on walk stands = in_within s.slots t e (stands_in s c from to t e on walk stands)
 
--- the words of the entry that a walk stands on
+-- the words of the entry of a walk
 pub words_stand : (s : State) (c from to t : ℕ) (e : Entry) → Holds s → Walks s c from → StandsOn s.history from to t e → row_at s.rows t ≡ words_of e
 words_stand s c from to t e on walk stands = (on.rows t e (stands_in s c from to t e on walk stands)).0
 
@@ -99,7 +99,7 @@ head_ahead s from key on le =
     (λ f live un same. omega (arith, (at_within s.history f.number (Attach f) live.attached).1))
     on.list.first
 
--- and so does the link of the entry that the walk stands on, a live one or a retired one, to a smaller number
+-- and so does the link of the walk's entry, a live one or a retired one, to a smaller number
 pub next_ahead : (s : State) (c from to t : ℕ) (key : Key) (e : Entry) → Holds s → Walks s c from → to ≤ length s.history
     → StandsOn s.history from to t e → AllBelow s.history from to key e.number → Ahead s.history from (length s.history) key e.number (get_or s.next t 0)
 next_ahead s c from to t key e on walk le stands below =
@@ -219,7 +219,7 @@ key_from_words key e holds =
 pub key_to_words : (key : Key) → are_words_of key (kind_word key.kind) key.name.high key.name.low ≡ true
 key_to_words key = grind arith
 
--- the entry that a walk stands on has another key: what is left is below it
+-- the walk's entry has another key: what is left is below it
 pub key_differs : (s : State) (from to t : ℕ) (key : Key) (e : Entry) → StandsOn s.history from to t e → AllBelow s.history from to key (suc e.number)
     → are_words_of key (kind_word e.rec.kind) e.rec.name.high e.rec.name.low ≡ false → AllBelow s.history from to key e.number
 key_differs s from to t key e stands below test f live un same = either (cases_lt f.number e.number)
@@ -233,14 +233,14 @@ key_differs s from to t key e stands below test f live un same = either (cases_l
     let no : ◌≡◌ {A = Bool} true false = sym yes ∙ test in
     absurd cc)
 
--- the walk stands on just the entry that is answered
+-- the walk is at exactly the entry that is returned
 pub found_is : (s : State) (c from to t n : ℕ) (q : Search) (e : Entry) → Holds s → Walks s c from → StandsOn s.history from to t e → n ≡ e.number → q.key ≡ key_of e
     → e ≡ entry_with q.key t n (row_at s.rows t).value
 found_is s c from to t n q e on walk stands number same =
     let row : row_at s.rows t ≡ words_of e = words_stand s c from to t e on walk stands in
     λ i. record { number = sym number i; slot = stands.at i; rec = record { kind = (sym same i).kind; name = (sym same i).name; value = (sym row i).value } }
 
--- the place to which the load of a record word leads
+-- the next place after a load of a record word
 abbrev pub GoesOn : State → ℕ → ℕ → Key → SearchPlace → Type 0
 GoesOn s from to key AtHead = Unit {0}
 GoesOn s from to key (AtNext t) = Unit {0}
@@ -302,7 +302,7 @@ pub record Finds (s : State) (c : ℕ) (q : Search) : Type 0 where
   pub stands : PlaceHolds s.history (length s.history) (seen_at s c) q.key q.place
   pub seen : (q.place ≡ AtHead) ⊎ (seen_at s c ≡ length s.history)
 
--- what a load leaves of it: less of it, or the answer of a lookup over the whole history
+-- what a load leaves of it: less of it, or the result of a lookup over the whole history
 abbrev pub IsFindStep : State → ℕ → Search → ℕ → Reply → Type 0
 IsFindStep s c q n Done = Unit {0}
 IsFindStep s c q n (Word w) = (place : SearchPlace) × Finds s c (placed q place) × (weight s place < n)

@@ -41,7 +41,7 @@ legal_detach h e legal live = record {
       (e, live_old h (Detach e.number) k e (omega arith) (subst (λ (m : ℕ). IsLiveAt h m e) now live), same));
 }
 
--- what is live after the detach: all that was, but for e
+-- what is live after the detach: all that was, except e
 pub still_there : (h : List Change) (e f : Entry) → IsLiveAt h (length h) f → f.number ≢ e.number → IsLiveAt (after_change h (Detach e.number)) (suc (length h)) f
 still_there h e f live off = record {
   attached = attached_old h (Detach e.number) f live.attached;

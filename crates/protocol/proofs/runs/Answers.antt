@@ -1,4 +1,4 @@
--- Each answer of a lookup is lawful, and a search has its start from its Seek on.
+-- The result of each lookup is lawful, and a search has its start from its Seek on.
 use Rattle.std.proofs.Common.{◌≡◌, ℕ, ◌≤◌, inl, inr, List, [], ◌∷◌, ◌++◌, length, get_or, set, Option, Some, None, refl, sym, ap, subst, ◌∙◌, arith}
 use Rattle.std.proofs.lemmas.Option.{none-some, same_Some}
 use Rattle.protocol.specs.Types.{Entry, Change, Attach, Detach, Key}

@@ -16,7 +16,7 @@ Same c s t = (section_at t c ≡ section_at s c) × (begin_at t c ≡ begin_at s
 lists_same : (c : ℕ) (s t : State) → t.section ≡ s.section → t.begins ≡ s.begins → Same c s t
 lists_same c s t words begins = (ap (λ (xs : List ℕ). get_or xs c 0) words, ap (λ (xs : List (Option ℕ)). get_or xs c None) begins)
 
--- each event leaves an open section of c, but for its exit
+-- each event leaves an open section of c, except its exit
 stays_open : (s : State) (c b : ℕ) (e : Event) (o : Option Outcome) → Sort s e o → begin_at s c ≡ Some b → Same c s (state_after s o) ⊎ ((e ≡ Exit c) × IsSome o)
 stays_open s c b _ _ (Left e o same) in_ = inl (lists_same c s o.state same.section same.begins)
 stays_open s c b _ _ (Entered j may) in_ = either (cases_eq c j)

@@ -33,7 +33,7 @@ number_is (Retired e) n is = (e, inr refl, same_Some e.number n is)
 moved : (slots : List Slot) (t : ℕ) (x : Slot) (u : ℕ) → ((u ≡ t) × (number_in (slot_at (set slots t x) u) ≡ number_in x)) ⊎ (number_in (slot_at (set slots t x) u) ≡ number_in (slot_at slots u))
 moved slots t x u = either (written_cases Vacant slots t x u) (λ here. inl (here.0, ap number_in here.1)) (λ off. inr (ap number_in off.1))
 
--- an event by which n goes from t
+-- an event that takes n from t
 abbrev Goes : State → Event → ℕ → ℕ → Type 0
 Goes s e t n = (destroyed_slot e ≡ Some t) × ((p : ℕ) × EndsAt s.history n p) × IsUnheld (picture s) n
 
@@ -65,7 +65,7 @@ goes s _ _ t n on (Gave_up u d v keeps of ok) is off = vacated_goes s (KeptSub u
 goes s _ _ t n on (Vacated u may) is off = vacated_goes s (Vacate u) t u n on refl (and_parts _ (is_drained s u) may).1 is off
 goes s _ _ t n on _ is off = absurd (off is)
 
--- an event by which n comes into t
+-- an event that brings n into t
 abbrev Comes : State → Event → ℕ → ℕ → Type 0
 Comes s e t n = (e ≡ Publish t) × (occupant_of s t ≡ None) × (n ≡ suc (length s.history))
 

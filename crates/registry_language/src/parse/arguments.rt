@@ -71,7 +71,8 @@ pub fn turns(word: &[u8]) -> Result<u32, Cause>
     }
 }
 
-/// A CPU alone. Refused: `BadCpu`; `WrongCount` where this isn't one word.
+/// A CPU alone.
+/// Refused: `BadCpu`; `WrongCount` if this isn't one word.
 #[tactic(auto, unfolding(crate::specs::Grammar::cpu_alone_of))]
 pub fn cpu_alone(settings: Settings, arguments: &[&[u8]]) -> Result<u8, Cause>
     ensures said { result ≡ cpu_alone_of settings (map (λ x. x.now) arguments.now) }
@@ -83,8 +84,8 @@ pub fn cpu_alone(settings: Settings, arguments: &[&[u8]]) -> Result<u8, Cause>
     cpu(settings, word)
 }
 
-/// A CPU, a kind and a name. Refused by the first word that is none: `BadCpu`, `BadKind`, `BadName`; `WrongCount` where these aren't
-/// three words.
+/// A CPU, a kind and a name. Refused by the first word that is none: `BadCpu`, `BadKind`, `BadName`; `WrongCount` if these aren't three
+/// words.
 pub fn cpu_and_key(settings: Settings, arguments: &[&[u8]]) -> Result<(u8, Kind, Name), Cause>
     ensures said { result ≡ cpu_key_of settings (map (λ x. x.now) arguments.now) }
     ensures below { IfOk result (λ p. p.0 < settings.cpus) }
@@ -111,7 +112,7 @@ fn cpu_key_words(
     Ok((cpu, kind, name))
 }
 
-/// A CPU and a label. Refused by the first word that is none: `BadCpu`, `BadLabel`; `WrongCount` where these aren't two words.
+/// A CPU and a label. Refused by the first word that is none: `BadCpu`, `BadLabel`; `WrongCount` if these aren't two words.
 pub fn cpu_and_label(settings: Settings, arguments: &[&[u8]]) -> Result<(u8, Label), Cause>
     ensures said { result ≡ cpu_label_of settings (map (λ x. x.now) arguments.now) }
     ensures below { IfOk result (λ p. p.0 < settings.cpus) }

@@ -42,8 +42,8 @@ fn attach_words(
     Ok(Command::Attach { cpu, rec })
 }
 
-/// `plug C NAME VALUE LABEL`: what is plugged in is an interface. Refused by the first word that is none: `BadCpu`, `BadName`,
-/// `BadNumber`, `BadLabel`; `WrongCount` where these aren't four words.
+/// `plug C NAME VALUE LABEL`: what is plugged in is an interface. Refused by the first word that is none: `BadCpu`, `BadName`, `BadNumber`,
+/// `BadLabel`; `WrongCount` if these aren't four words.
 pub fn plug(settings: Settings, arguments: &[&[u8]]) -> Result<Command, Cause>
     ensures said { result ≡ plug_of settings (map (λ x. x.now) arguments.now) }
     ensures follows { IfOk result (λ command. IsTrue (may_follow (Position.Later settings) command)) }
@@ -77,7 +77,7 @@ fn plug_words(
     Ok(Command::Plug { cpu, rec, label })
 }
 
-/// `copy C SOURCE TARGET`. Refused by the first word that is none: `BadCpu`, `BadLabel`; `WrongCount` where these aren't three words.
+/// `copy C SOURCE TARGET`. Refused by the first word that is none: `BadCpu`, `BadLabel`; `WrongCount` if these aren't three words.
 pub fn copy(settings: Settings, arguments: &[&[u8]]) -> Result<Command, Cause>
     ensures said { result ≡ copy_of settings (map (λ x. x.now) arguments.now) }
     ensures follows { IfOk result (λ command. IsTrue (may_follow (Position.Later settings) command)) }
@@ -108,7 +108,8 @@ fn copy_words(
     })
 }
 
-/// `peek LABEL`. Refused: `BadLabel`; `WrongCount` where this isn't one word.
+/// `peek LABEL`.
+/// Refused: `BadLabel`; `WrongCount` if this isn't one word.
 #[tactic(auto, unfolding(crate::specs::Grammar::peek_of))]
 pub fn peek(settings: Settings, arguments: &[&[u8]]) -> Result<Command, Cause>
     ensures said { result ≡ peek_of (map (λ x. x.now) arguments.now) }
@@ -121,7 +122,8 @@ pub fn peek(settings: Settings, arguments: &[&[u8]]) -> Result<Command, Cause>
     Ok(Command::Peek { label })
 }
 
-/// `advance NUMBER`. Refused: `BadNumber`; `WrongCount` where this isn't one word.
+/// `advance NUMBER`.
+/// Refused: `BadNumber`; `WrongCount` if this isn't one word.
 #[tactic(auto, unfolding(crate::specs::Grammar::advance_of))]
 pub fn advance(settings: Settings, arguments: &[&[u8]]) -> Result<Command, Cause>
     ensures said { result ≡ advance_of (map (λ x. x.now) arguments.now) }
@@ -162,7 +164,7 @@ fn destroy_words(
     Ok(Command::Destroy { cpu, number, turns })
 }
 
-/// `perform C TURNS`. Refused by the first word that is none: `BadCpu`, `BadNumber`; `WrongCount` where these aren't two words.
+/// `perform C TURNS`. Refused by the first word that is none: `BadCpu`, `BadNumber`; `WrongCount` if these aren't two words.
 pub fn perform(settings: Settings, arguments: &[&[u8]]) -> Result<Command, Cause>
     ensures said { result ≡ perform_of settings (map (λ x. x.now) arguments.now) }
     ensures follows { IfOk result (λ command. IsTrue (may_follow (Position.Later settings) command)) }
@@ -183,7 +185,8 @@ fn perform_words(settings: Settings, first: &[u8], second: &[u8]) -> Result<Comm
     Ok(Command::Perform { cpu, turns })
 }
 
-/// `audit`. Refused: `WrongCount` where a word follows.
+/// `audit`.
+/// Refused: `WrongCount` if a word follows.
 pub fn audit(settings: Settings, arguments: &[&[u8]]) -> Result<Command, Cause>
     ensures said { result ≡ audit_of (map (λ x. x.now) arguments.now) }
     ensures follows { IfOk result (λ command. IsTrue (may_follow (Position.Later settings) command)) }

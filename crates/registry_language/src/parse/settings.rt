@@ -11,8 +11,8 @@ use crate::position::{Position, settings_for, with_limits};
 use crate::words::number;
 use registry_values::{MOST_CPUS, MOST_SLOTS, Settings};
 
-/// `domain CPUS SLOTS`. Refused: `WrongCount` where these aren't two words; `BadNumber` where one isn't a number; `BadSettings` where
-/// there is no such registry.
+/// `domain CPUS SLOTS`.
+/// Refused: `WrongCount` if these aren't two words; `BadNumber` if one isn't a number; `BadSettings` if there is no such registry.
 #[tactic(auto, unfolding(crate::specs::Grammar::domain_of))]
 pub fn domain(arguments: &[&[u8]]) -> Result<Command, Cause>
     ensures said { result ≡ domain_of (map (λ x. x.now) arguments.now) }
@@ -51,8 +51,9 @@ fn fitting(settings: Settings, command: Command) -> Result<Command, Cause>
     }
 }
 
-/// `limits CHANGES SECTIONS PASSIVE COUNT`. Refused: `WrongCount` where these aren't four words; `BadNumber` where one isn't a number;
-/// `BadSettings` where the settings with these limits can't be used.
+/// `limits CHANGES SECTIONS PASSIVE COUNT`.
+/// Refused: `WrongCount` if these aren't four words; `BadNumber` if one isn't a number; `BadSettings` if the settings with these limits
+/// can't be used.
 pub fn limits(settings: Settings, arguments: &[&[u8]]) -> Result<Command, Cause>
     ensures said { result ≡ limits_of settings (map (λ x. x.now) arguments.now) }
     ensures follows { IfOk result (λ command. IsTrue (may_follow (Position.Second settings) command)) }

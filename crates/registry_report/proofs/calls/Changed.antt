@@ -90,7 +90,7 @@ abbrev PlugDone : SessionState → Registry → ℕ → Record → ℕ → ℕ �
 PlugDone s r c rec x id result =
     Gives (command_answer result) (plug_answer r c rec x) × Leaves (command_answer result) (Shows (after_plugging s c x id result) (after_plug r c x (plug_answer r c rec x)))
 
--- the label stands for the driver's number
+-- the label names the driver's number
 label_is : (s : SessionState) (r : Registry) (x id n : ℕ) → Shows s r → get_or s.locals x None ≡ Some id → local_at s.core.locals id ≡ Standing n → r.local_labels x ≡ Some n
 label_is s r x id n on at place = on.labels.local x ∙ (ap (number_at s.core.locals) at ∙ ap events.number_standing place)
 

@@ -67,7 +67,7 @@ enter_does s v k r c result given view is on told low due left =
     (as_left (command_answer result) (command_answer (enter_answer r c)) s k (after_enter_command s.core c) (on_ok r (enter_answer r c) (λ done. with_section_entered r c)) left
     (enter_done s r c result is.holds (seen s v r view on) low due))
 
--- an answer that is the core's, and a registry that is shown
+-- a result that is the core's, and a registry that is shown
 told_does : {X : Type 0} (result answer : Result X Refusal) (given : Result X Hitch) (s : SessionState) (r : Registry) → given ≡ command_answer result → answer ≡ result → Shows s r
     → Does given (command_answer answer) s r
 told_does result answer given s r told is on =

@@ -27,12 +27,12 @@ pub told_err : {X : Type 0} (result : Result X Hitch) (f : Refusal) → IsErr re
 told_err (Ok x) f is and = absurd (let q : ◌≡◌ {A = Bool} false true = is in cc)
 told_err (Err h) f is and = ap (λ (g : Hitch). Err g) and
 
--- a label that is not filled stands for nothing
+-- a label that is not filled has no reference
 pub unfilled : {X : Type 0} (o : Option X) (h : Hitch) → label_answer o ≡ Err h → o ≡ None
 unfilled None h is = refl
 unfilled (Some x) h is = absurd (let q : ◌≡◌ {A = Result _ Hitch} (Ok x) (Err h) = is in cc)
 
--- a label that was tested stands for nothing, or for something
+-- a label that was tested has no reference, or has one
 free_by : {X : Type 0} (o : Option X) (b : Bool) → b ≡ is_ok (label_answer o) → b ≡ false → o ≡ None
 free_by None b test is = refl
 free_by (Some x) b test is = absurd (let q : ◌≡◌ {A = Bool} true false = sym test ∙ is in cc)
@@ -47,15 +47,15 @@ free_label o found b is test no_ = free_by o b (test ∙ ap (λ (q : Result _ Hi
 pub taken_label : {X : Type 0} (o : Option X) (found : Result X Hitch) (b : Bool) → found ≡ label_answer o → b ≡ is_ok found → b ≡ true → (x : X) × (o ≡ Some x)
 taken_label o found b is test yes_ = taken_by o b (test ∙ ap (λ (q : Result _ Hitch). is_ok q) is) yes_
 
--- a label whose reference is looked up stands for a live one
+-- a label whose reference is looked up names a live one
 live_number : (s : SessionState) (x id : ℕ) → IsSession s → get_or s.locals x None ≡ Some id → (n : ℕ) × (local_at s.core.locals id ≡ Standing n)
 live_number s x id is at = live_place (local_at s.core.locals id) (is.live x id at)
 
--- what an answer that isn't due leaves
+-- what a result that isn't due leaves
 pub unanswered : {X : Type 0} (given answer : Result X Hitch) (h : Hitch) (s : SessionState) (r : Registry) (f : X → Registry) → answer ≡ Err h → Shows s r → Leaves given (Shows s (on_ok r answer f))
 unanswered given answer h s r f is on = leaves given s (on_ok r answer f) (subst (λ (a : Result _ Hitch). Shows s (on_ok r a f)) (sym is) on)
 
--- an answer that is refused gives and leaves nothing
+-- a result that is refused gives and leaves nothing
 refused_does : {X : Type 0} (given answer : Result X Hitch) (f : Refusal) (s v : SessionState) (k : State) (r : Registry) (then : X → Registry) → given ≡ Err (Refused f) → answer ≡ Err (Refused f)
     → k ≡ s.core → Shows s r
     → Does given answer (with_core s k) (on_ok r answer then)

@@ -1,4 +1,4 @@
--- An answer that is the one due is given, and what shows the registry is left.
+-- A result that is due is given, and what shows the registry is left.
 use Rattle.std.proofs.Common.{◌≡◌}
 use Rattle.std.specs.Prelude.{Result, Err}
 use Rattle.registry_report.specs.Types.{NoMemory}

@@ -52,7 +52,7 @@ pub hitch_is : {X : Type 0} (command : Command) (given : Result X Hitch) (result
 hitch_is command given result (Ok x) told is h = rw (told ∙ ap command_answer is) tt
 hitch_is command given result (Err f) told is h = rw (told ∙ ap command_answer is) (inr h)
 
--- the same of a call that may want memory
+-- the same for a call that may run out of memory
 pub attach_hitch : (command : Command) (given : Result Entry Hitch) (result answer : Result Entry Refusal) → MayWantMemory command → given ≡ command_answer result → IsAnswer answer result
     → IfErr answer (λ f. IsHitchOf command (Refused f)) → IfErr given (MayHitch command)
 attach_hitch command given result (Ok e) may told (inl is) h = rw (told ∙ ap command_answer is) tt

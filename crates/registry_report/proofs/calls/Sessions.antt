@@ -56,12 +56,12 @@ same_else d zero x = refl
 same_else d (suc n) zero = refl
 same_else d (suc n) (suc x) = same_else d n x
 
--- what a filled label stands for
+-- the reference of a filled label
 pub filled_tells : {X : Type 0} (o : Option X) (x : X) → Ok x ≡ label_answer o → o ≡ Some x
 filled_tells None x h = let no : ⊥ = cc in absurd no
 filled_tells (Some y) x h = cc
 
--- no label stands for a reference
+-- no label has a reference
 pub unlabelled_holds : (core : State) → IsQuiet core → Holds core → IsSession (record { core = core; passives = replicate 26 None; locals = replicate 26 None })
 unlabelled_holds core quiet holds = record {
   quiet = quiet;
@@ -92,7 +92,7 @@ same_places s core on stays same = record {
   apart = on.apart;
 }
 
--- what stands at the label that was written, or at another
+-- what is at the label that was written, or at another
 label_cases : (labels : List (Option ℕ)) (x y : ℕ) (o : Option ℕ) → x < length labels
     → ((y ≡ x) × (slice_index_or (slice_set labels x o) y None ≡ o)) ⊎ ((y ≡ x → ⊥) × (slice_index_or (slice_set labels x o) y None ≡ slice_index_or labels y None))
 label_cases labels x y o below = either (cases_eq y x)
@@ -121,7 +121,7 @@ given_up s core x id on stays low stood is =
       apart = λ y z j at and. on.apart y z j (emptied s.locals x y j below at).1 (emptied s.locals x z j below and).1;
     }
 
--- a new reference stands at the least id, and nothing stood there
+-- a new reference is at the lowest id, and nothing was there
 free_dies : (s : SessionState) (y id : ℕ) → IsSession s → id ≡ least_id s.core.locals → slice_index_or s.locals y None ≡ Some id → ⊥
 free_dies s y id on least at =
     let p = live_place (local_at s.core.locals id) (on.live y id at) in
@@ -143,7 +143,7 @@ new_place s core id n least is = ap (λ (l : List LocalPlace). local_at l id) is
 pub new_live : (s : SessionState) (core : State) (id n : ℕ) → id ≡ least_id s.core.locals → core.locals ≡ with_local s.core.locals (least_id s.core.locals) (Standing n) → is_live_local core id ≡ true
 new_live s core id n least is = live_at core id id n refl (new_place s core id n least is)
 
--- the label stands for a new reference
+-- the label names a new reference
 pub taken_up : (s : SessionState) (core : State) (x id n : ℕ) → IsSession s → Stays s.core core → x < 26 → id ≡ least_id s.core.locals
     → core.locals ≡ with_local s.core.locals (least_id s.core.locals) (Standing n)
     → IsSession (record { core = core; passives = s.passives; locals = slice_set s.locals x (Some id) })

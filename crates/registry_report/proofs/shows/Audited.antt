@@ -1,4 +1,4 @@
--- Audit: the registry that the session shows answers as the core does.
+-- Audit: the registry that the session shows returns what the core does.
 use Rattle.std.proofs.Common.{◌≡◌, ℕ, zero, suc, ◌<◌, ◌≤◌, inl, inr, pos, ◌-ℤ◌, neg_ℤ, List, [], ◌∷◌, ◌++◌, length, get_or, map, take, Bool, true, false, refl, sym, ap, ◌∙◌, add-one, arith, ne_eqb}
 use Rattle.std.specs.Prelude.{if◌then◌else◌}
 use Rattle.std.proofs.lemmas.Int.{ints}
@@ -78,6 +78,6 @@ tallies_are s r (suc t) is on =
     slot_tallies s r t (slot_at s.core.slots t) is on refl ∙ ap (tallies_in r t) (sym (on.model.occupants t)) in
     λ i. before i ++ here i
 
--- The answers of an audit are the same.
+-- The results of an audit are the same.
 pub audit_answers : (s : SessionState) (r : Registry) → IsSession s → Shows s r → audit_of s.core ≡ audit_answer r
 audit_answers s r is on = tallies_are s r s.core.settings.slots is on ∙ ap (λ z. tallies_below r z.slots) (sym on.settings)

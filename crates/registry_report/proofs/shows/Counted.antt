@@ -39,7 +39,7 @@ put_at_other {X} f c n x d m off = either (cases_eq d c)
 
 -- The place of a count
 
--- the entry n stands in the slot t, and c has its words for it
+-- the entry n is in the slot t, and c has its words for it
 record HasWords (s : State) (c n t : ℕ) : Type 0 where
   entry : Entry
   there : IsIn entry (slot_at s.slots t)
@@ -70,7 +70,7 @@ has_words s c n t on low of =
       totals = omega (arith, at.0, on.shape.slots, on.shape.totals);
     }
 
--- who stands in that slot has that number, and who has the number stands there
+-- the entry in that slot has that number, and the one with the number is there
 is_there : {s : State} {c n t : ℕ} → HasWords s c n t → (u : ℕ) (f : Entry) → IsIn f (slot_at s.slots u) → u ≡ t → f.number ≡ n
 is_there {s} {c} {n} {t} has u f at same = ap (λ (g : Entry). g.number) (one_in has.entry f (slot_at s.slots t) has.there (subst (λ (k : ℕ). IsIn f (slot_at s.slots k)) same at)) ∙ has.numbered
 
@@ -144,7 +144,7 @@ given s c n t k acquired released given_up is_collected show has gone on = recor
 
 -- Answers
 
--- the answer of a count that isn't refused
+-- the result of a count that isn't refused
 abbrev pub found_number : Option Entry → Result ℕ Refusal
 found_number None = Err NothingFound
 found_number (Some e) = Ok e.number
@@ -190,7 +190,7 @@ pub count_error : (s : State) (refusal : Option Refusal) (f : Refusal) → IsCou
 count_error s refusal NoMemory is = inl refl
 count_error s refusal f is = inr is
 
--- a label's number is that of the live reference that it stands for
+-- a label's number is that of its live reference
 pub label_is : (s : SessionState) (r : Registry) (x id n : ℕ) → Shows s r → get_or s.locals x None ≡ Some id → number_standing (local_at s.core.locals id) ≡ Some n → r.local_labels x ≡ Some n
 label_is s r x id n on at live = on.labels.local x ∙ (ap (number_at s.core.locals) at ∙ live)
 
@@ -202,7 +202,7 @@ uncount_answers s r x id n on at live = ap (λ (o : Option ℕ). with_label o (�
 
 -- Labels
 
--- each label stands for a live reference, and no two for one
+-- each label names a live reference, and no two the same
 abbrev AreLive : List LocalPlace → List (Option ℕ) → Type 0
 AreLive places ids = (x id : ℕ) → get_or ids x None ≡ Some id → is_some (number_standing (local_at places id)) ≡ true
 
@@ -309,7 +309,7 @@ counting_shows s r c x e session on low within found =
     (subst (λ (o : Option ℕ). Shows (record s { core = with_count_more s.core c e.number o; locals = set s.locals x (Some (least_id s.core.locals)) }) (with_one_counted r c x e.number)) (sym at.1)
     (more_shows s r c x e.number at.0 session on low within at.1 (found_uncollected s r c at.0 e session.holds on low found at.1)))
 
--- of an acquire that answers id: the entry, the registry's answer, and the session that stands for what that leaves
+-- for an acquire that returns id: the entry, the registry's result, and the session for what that leaves
 pub record Counts (s : SessionState) (r : Registry) (c x id : ℕ) : Type 0 where
   pub entry : Entry
   pub found : found_at s.core c ≡ Some entry

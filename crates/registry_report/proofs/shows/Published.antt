@@ -13,7 +13,7 @@ use Rattle.protocol.proofs.slots.Occupied.{in_published, in_unpublished, not_vac
 use Rattle.registry_report.specs.Common.{is_attach, CountsLive, IsFresh, ShowsTallies, SnapshotsFollow}
 use Rattle.protocol.proofs.Either.{either}
 
--- what stands in a slot is the new entry, or what stood there
+-- a slot has the new entry, or what it had
 pub by_published : (P : ℕ → Entry → Type 0) (slots : List Slot) (e : Entry) (t : ℕ) (f : Entry) → e.slot < length slots → slot_at slots e.slot ≡ Vacant → IsIn f (slot_at (set slots e.slot (Live e)) t)
     → P e.slot e → ((t ≡ e.slot → ⊥) → IsIn f (slot_at slots t) → P t f) → P t f
 by_published P slots e t f lt vacant is new old = either (in_published slots e.slot t e f lt is)
@@ -27,7 +27,7 @@ retired_before slots e t f lt vacant is = either (slot_cases slots e.slot (Live 
     (λ here. absurd (let q : Live e ≡ Retired f = sym here.1 ∙ is in cc))
     (λ there. sym there.1 ∙ is)
 
--- the first count words stand for no reference
+-- the first count words count no reference
 pub biases_at : (cpus c : ℕ) (row : List ℕ) → c < cpus → get_or (with_biases cpus row) c 0 ≡ bias
 biases_at cpus c row lt = get_or_append_left (replicate cpus bias) (drop cpus row) 0 c (omega (arith, length-replicate cpus bias)) ∙ get_or-replicate cpus c bias 0 lt
 
@@ -61,7 +61,7 @@ published_tallies cpus h slots counts nets totals acquired released given_up is_
       fresh = λ n later. on.fresh n (omega (arith, length-after_change h (Attach e)));
     }
 
--- what stood there is what stands there, once an entry is retired
+-- what was there is what is there, once an entry is retired
 pub retired_tallies : (cpus : ℕ) (h : List Change) (slots : List Slot) (counts nets : List (List ℕ)) (totals : List ℕ) (acquired released : ℕ → ℕ → ℕ) (given_up : ℕ → ℕ) (is_collected : ℕ → Bool)
     (t : ℕ) (e : Entry) → slot_at slots t ≡ Live e
     → ShowsTallies cpus h slots counts nets totals acquired released given_up is_collected

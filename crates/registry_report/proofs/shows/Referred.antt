@@ -21,7 +21,7 @@ abbrev pub image : {X Y E : Type 0} → (X → Y) → Result X E → Result Y E
 image f (Ok x) = Ok (f x)
 image f (Err e) = Err e
 
--- a call that is refused just where there is a refusal answers its one value, else that refusal
+-- a call that is refused exactly where there is a refusal returns its one value, else that refusal
 pub answers_image : {X Y : Type 0} (refusal : Option Refusal) (P : X → Type 0) (f : X → Y) (y : Y) (result : Result X Refusal)
     → Answers refusal P result → ((x : X) → P x → f x ≡ y) → image f result ≡ unless refusal (Ok y)
 answers_image {X} {Y} refusal P f y (Ok x) is one = ap (λ (v : Y). Ok v) (one x is.1) ∙ ap (λ (o : Option Refusal). unless o (Ok y)) (sym is.0)
@@ -131,7 +131,7 @@ referred_shows s r c n a holds on low within has = more_by s r c n a (slot_of s.
     (λ d m. put_both r.model.passive (passive_of s.core) c n (r.model.passive c n + 1) (passive_of s.core c n + 1) on.model.held (ap (λ (k : ℕ). k + 1) (on.model.held c n)) d m
     ∙ sym (counted_more s.core c n holds low has d m))
 
--- one less, and the label stands for none
+-- one less, and the label has none
 pub released_shows : (s : SessionState) (r : Registry) (c n a : ℕ) → Holds s.core → Shows s r → c < s.core.settings.cpus → a < length s.passives
     → nat_lt 0 (passive_of s.core c n) ≡ true
     → Shows (record s { core = with_one_less s.core c (slot_of s.core.slots n); passives = set s.passives a None }) (without_reference r c a n)
@@ -211,7 +211,7 @@ read_shows s r (Err f) on = on
 pub passive_label_is : (s : SessionState) (r : Registry) (a : ℕ) (o : Option CorePsref) → Shows s r → get_or s.passives a None ≡ o → r.passive_labels a ≡ o
 passive_label_is s r a o on at = on.labels.passive a ∙ at
 
--- what follows from a label that stands for something, or for nothing
+-- what follows from a label that has a reference, or none
 pub at_label : {L X : Type 0} (label : Option L) (l : L) (f : L → Result X Hitch) → label ≡ Some l → with_label label f ≡ f l
 at_label {L} label l f is = ap (λ (o : Option L). with_label o f) is
 
@@ -221,7 +221,7 @@ at_free_label {L} label answer is = ap (λ (o : Option L). if_free o answer) is
 pub at_taken_label : {L X : Type 0} (label : Option L) (l : L) (answer : Result X Hitch) → label ≡ Some l → if_free label answer ≡ Err LabelTaken
 at_taken_label {L} label l answer is = ap (λ (o : Option L). if_free o answer) is
 
--- a command's answer, where its labels stand for what it needs
+-- a command's result, if its labels have what it needs
 pub reference_answers : (s : SessionState) (r : Registry) (c a : ℕ) → Shows s r → get_or s.passives a None ≡ None
     → reference_answer r c a ≡ command_answer (number_if (psref_to_found s.core c (found_at s.core c)))
 reference_answers s r c a on free =

@@ -105,7 +105,7 @@ retired_slot_is s r n holds on =
     ∙ (none_pass (has_ended r.model.history n) (λ t. is_this n (r.model.occupants t)) (length s.core.slots)
     ∙ ap (λ k. if has_ended r.model.history n then least_below (λ t. is_this n (r.model.occupants t)) k else None) (holds.shape.slots ∙ sym (ap (λ z. z.slots) on.settings))))
 
--- What stands in its way
+-- What is in its way
 
 -- whether a section may still hold the retired entry
 section_is : (begin : Option ℕ) (p w now : ℕ) → ((b : ℕ) → begin ≡ Some b → now ≡ w → b < p) → ((b : ℕ) → begin ≡ Some b → (now ≡ w → ⊥) → p ≤ b)
@@ -147,7 +147,7 @@ stage_by s r n (Some t) is on at =
     let told = retired_slot_tells s.core.slots n t at in
     ap Ok (subst (λ k. core.first_obstacle s.core t k ≡ first_obstacle r k t) told.1.2 (stage_is s r t told.1.0 is on told.1.1))
 
--- The answers of an advance are the same.
+-- The results of an advance are the same.
 pub advance_answers : (s : SessionState) (r : Registry) (n : ℕ) → IsSession s → Shows s r → core.advance_answer s.core n ≡ advance_answer r n
 advance_answers s r n is on = stage_by s r n (values.retired_slot s.core.slots n) is on refl ∙ ap (stage_in r n) (retired_slot_is s r n is.holds on)
 
@@ -243,7 +243,7 @@ gives_one slots given d u f is = either (cases_eq f.number d)
     let lacks : one_if (has_number d (slot_at slots u)) ≡ 0 = ap one_if (lacks_it d f (slot_at slots u) is off) in
     omega (arith, lacks, put_other given d (given d + 1) f.number off))
 
--- retired entries and live ones, but for the one whose slot is vacant
+-- retired entries and live ones, except the one whose slot is vacant
 vacant_follows : (h : List Change) (slots : List Slot) (marks : List (List Mark)) (section : List ℕ) (begins : List (Option ℕ)) (t : ℕ) (e : Entry) → slot_at slots t ≡ Retired e
     → SnapshotsFollow h slots marks section begins → SnapshotsFollow h (set slots t Vacant) marks section begins
 vacant_follows h slots marks section begins t e gone was u p c b w f at end begun snapshot word =

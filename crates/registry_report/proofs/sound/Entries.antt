@@ -158,7 +158,7 @@ keep_keeps z m labels t x d on lt at = record {
   counted = dropped_counts labels m.locals x d at on.counted;
 }
 
--- what a label stands for, and is a driver by its number, is one that stands in its slot
+-- what a label names, and is a driver by its number, is in its slot
 driver_here : (m : Model) (d : ℕ) → HasSlot m.history m.occupants d → is_driver_number m.history d ≡ true → IsDriverHere m d
 driver_here m d has is = record {
   entry = has.entry;

@@ -1,4 +1,4 @@
--- Where nothing stands in the way of a retired entry, its slot is freed by lawful steps.
+-- If nothing is in the way of a retired entry, its slot is freed by lawful steps.
 use Rattle.std.proofs.Common.{◌≡◌, ℕ, zero, suc, ◌+◌, ◌-◌, ◌<◌, Option, Some, None, Bool, true, false, refl, sym, ap, subst, ◌∙◌, arith}
 use Rattle.std.specs.Prelude.{Ok, if◌then◌else◌}
 use Rattle.std.proofs.lemmas.Bool.{both_ways, cases_lt, lt-ltb}
@@ -31,7 +31,7 @@ record IsFree (r : Registry) (n t : ℕ) : Type 0 where
   occupant : r.model.occupants t ≡ Some n
   unheld : IsUnheld r.model n
 
--- no section may hold an entry that ended where each such section would stand in the way
+-- no section may hold an entry that ended if each such section would be in the way
 unheld_from : (r : Registry) (n t p : ℕ) → IsSound r → end_of r.model.history n ≡ Some p → EndsAt r.model.history n p → first_obstacle r n t ≡ Freed t → IsUnheld r.model n
 unheld_from r n t p on end ends stage =
     let none = freed_tells t t (least_below (has_section r n) r.settings.cpus) (least_below (has_passive r n) r.settings.cpus) (held_count r n) stage in

@@ -12,7 +12,7 @@ use Rattle.registry_values.specs.Common.{why_full}
 use Rattle.registry_report.proofs.sound.Turns.{added_counts, dropped_counts, hitched_ok, labelled_counts, not_ok, ok_turn, put_cases, put_none, same_ok}
 use Rattle.protocol.proofs.Either.{either}
 
--- Answers by labels
+-- Results by labels
 
 label_ok : {L X : Type 0} (o : Option L) (f : L → Result X Hitch) (x : X) → with_label o f ≡ Ok x → (l : L) × (o ≡ Some l) × (f l ≡ Ok x)
 label_ok None f x is = absurd (not_ok NoLabel x is)

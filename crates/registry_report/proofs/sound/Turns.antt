@@ -72,7 +72,7 @@ count_more p k (suc j) =
     let same : k + suc j ≡ suc (k + j) = omega arith in
     omega (arith, ap (count_below p) same, count_more p k j)
 
--- a number that a label stands for is counted
+-- a number that a label names is counted
 pub labelled_counts : (labels : ℕ → Option ℕ) (x n : ℕ) → labels x ≡ Some n → 0 < labels_for labels n (suc x)
 labelled_counts labels x n is =
     let one : one_if (is_this n (labels x)) ≡ 1 = ap (λ (o : Option ℕ). one_if (is_this n o)) is ∙ ap one_if (is_this_own n) in
@@ -84,7 +84,7 @@ count_beside labels n x l k was now = either (cases_lt x k)
     (λ low. omega (arith, ap one_if was, ap one_if now, count_past labels n x l k low))
     (λ ge. count_before labels n x l k ge)
 
--- a label is given up with the reference that it stands for
+-- a label is given up with its reference
 pub dropped_counts : (labels : ℕ → Option ℕ) (locals : ℕ → ℕ) (x n : ℕ) → labels x ≡ Some n → ((m k : ℕ) → labels_for labels m k ≤ locals m)
     → (m k : ℕ) → labels_for (put labels x None) m k ≤ put locals n (locals n - 1) m
 dropped_counts labels locals x n is all m k = either (put_cases locals n (locals n - 1) m)
@@ -148,7 +148,7 @@ same_ok a b is = cc
 pub not_ok : {X E : Type 0} (f : E) (x : X) → ◌≡◌ {A = Result X E} (Err f) (Ok x) → ⊥
 not_ok f x is = cc
 
--- an answer that a test refuses, or lets through
+-- a result that a test refuses, or accepts
 pub else_ok : {X E : Type 0} (b : Bool) (f : E) (answer : Result X E) (x : X) → ◌≡◌ {A = Result X E} (if b then Err f else answer) (Ok x) → (b ≡ false) × (answer ≡ Ok x)
 else_ok true f answer x is = absurd (not_ok f x is)
 else_ok false f answer x is = (refl, is)
@@ -175,7 +175,7 @@ ok_turn r (Err e) f on turn = idle_turn r on
 pub join_turns : (p q r : Registry) → IsLawfulTurn p q → IsLawfulTurn q r → IsLawfulTurn p r
 join_turns p q r first second = (second.0, join_runs p.model q.model r.model first.1 second.1, second.2 ∙ first.2)
 
--- commands that fit the settings, each of which makes a lawful turn
+-- commands that fit the settings; each makes a lawful turn
 pub each_turn : {C : Type 0} (after : Registry → C → Registry) (Fits : Settings → C → Type 0) → ((r : Registry) (x : C) → IsSound r → Fits r.settings x → IsLawfulTurn r (after r x))
     → (r : Registry) (xs : List C) → IsSound r → All (Fits r.settings) xs → IsLawfulTurn r (after_each after r xs)
 each_turn {C} after Fits turn r [] on fits = idle_turn r on

@@ -7,7 +7,7 @@ use std::process::Abort;
 use std::sync::Wait;
 use std::test::Fail;
 
-/// A piece, which stands once for each number from the first up to the second. In it `%` and a letter stand for a number, as `number_of` says.
+/// A piece, which is repeated for each number from the first up to the second. In it `%` and a letter mean a number, as `number_of` says.
 type Piece = (&'static [u8], i64, i64);
 
 /// Pieces, one after the other.
@@ -150,8 +150,8 @@ const ROWS: &[Row] = &[
     ),
 ];
 
-/// What a letter stands for in a piece for the number n: n itself, a number beside it, or one of eight CPUs; a digit is the CPU of a net count, where
-/// a reference went from the CPU of n to the one after it.
+/// The number for a letter in a piece for the number n: n itself, a number beside it, or one of eight CPUs. A digit is the CPU of a net
+/// count, where a reference went from the CPU of n to the one after it.
 fn number_of(letter: u8, n: i64) -> i64 {
     match letter {
         b's' => n,

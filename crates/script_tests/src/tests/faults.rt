@@ -10,7 +10,7 @@ use std::test::Fail;
 /// A script, and the line and the cause of its first fault.
 type Row = (&'static str, u32, Cause);
 
-/// The rows script-faults, more-script-faults and outer-limits, but for those that `built` has.
+/// The rows script-faults, more-script-faults and outer-limits, except those of `built`.
 const FAULTS: &[Row] = &[
     ("domain 0 2", 1, Cause::BadSettings),
     ("domain 2 2; enter 2", 2, Cause::BadCpu),

@@ -1,7 +1,7 @@
-//! Want of memory: a run that meets it ends so, what it wrote is a prefix of the report, and made again it gives the whole report.
+//! Out of memory: a run that meets it ends so, and what it wrote is a prefix of the report. Repeated, it gives the whole report.
 //!
-//! Where memory is ample these tests compare reports alone. `tools/refuse-memory.sh` refuses each of their allocations in turn; each
-//! refusal that is met is noted on standard error.
+//! With ample memory these tests compare reports only. `tools/refuse-memory.sh` refuses each of their allocations in turn; each refusal
+//! that is met is noted on standard error.
 
 ghost use Rattle.std.specs.Prelude.{◌≡◌, IfOk};
 ghost use Rattle.name_registry.specs.Common.{AreAllCpus, AreNewCpus, IsBlankOf};
@@ -183,7 +183,7 @@ fn a_run_on_a_registry_may_be_refused_memory(rt: HostRuntime) -> Result<(), Fail
     audited_and_found::<Brand, _>(&rt, blank, &audit, &found)
 }
 
-/// An audit of the registry that is empty; then it answers the row found, whether memory was refused to the audit or not.
+/// Audits the empty registry. Then it returns the row found, whether or not memory was refused to the audit.
 fn audited_and_found<D: Domain, R: Wait + Abort + AllocGlobal + Eprint>(
     rt: &R,
     blank: Blank,

@@ -46,7 +46,7 @@ fn outcome<R: Wait>(
     (written, result)
 }
 
-/// Whether the run of the script writes just this and ends so, at once and with one byte at each call of reader and writer.
+/// Whether the run of the script writes exactly this and ends so, at once and with one byte at each call of reader and writer.
 fn writes<R: Wait>(
     rt: &R,
     alloc: Global,

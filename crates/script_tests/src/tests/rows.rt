@@ -152,7 +152,7 @@ const ROWS: &[Row] = &[
         "domain 2 2; attach 00000000000000000001 driver abcdefghijklmno 00000000000000000001; enter 1; find 1 driver abcdefghijklmno",
         "domain 2 2; attached 1 slot 0; inside; found 1 slot 0 value 1",
     ),
-    // Commands on CPUs of which each stands otherwise, and on labels that stand for references to different entries.
+    // Commands on CPUs in different states, and on labels of references to different entries.
     (
         "named-cpus",
         "domain 3 4; attach 0 driver wm 7; enter 0; attach 1 driver vga 8; enter 1; enter 1; find 1 driver wm; ref 1 a; count 1 x; find 1 driver vga; ref 1 b; count 1 y; exit 1; exit 1; find 1 driver wm; copy 1 b c; held 1 c; held 0 c; read 1 a; read 1 b; drop 1 a; read 1 c; drop 1 c; peek x; peek y; plug 1 em0 9 y; uncount 2 x; audit; perform 1 1; drop 1 b; detach 1 driver wm; destroy 1 1 1; exit 0; destroy 1 1 1",
@@ -160,9 +160,9 @@ const ROWS: &[Row] = &[
     ),
 ];
 
-/// What one call answers and leaves, and that it does nothing else.
+/// What one call returns and leaves, and that it does nothing else.
 const ROWS_OF_CALLS: &[Row] = &[
-    // Three CPUs, and an entry in slot 1: the least CPU is told, and an attach frees nothing.
+    // Three CPUs, and an entry in slot 1: the lowest-numbered CPU is told, and an attach frees nothing.
     (
         "three-cpus",
         "domain 3 3; attach 0 driver wm 7; attach 0 driver vga 8; enter 1; enter 2; find 2 driver vga; ref 2 a; count 2 x; detach 0 driver vga; advance 2; exit 1; enter 1; advance 2; destroy 0 2 3; exit 2; advance 2; destroy 0 2 1; drop 2 a; destroy 0 2 2; attach 0 driver em 9; attach 0 driver tty 1; uncount 1 x; attach 0 driver tty 1; advance 2; attach 0 driver tty 1; detach 0 driver tty; destroy 0 5 3; exit 1; destroy 0 5 1; audit",
@@ -179,7 +179,7 @@ const ROWS_OF_CALLS: &[Row] = &[
         "domain 3 2; attach 0 driver wm 7; enter 0; attach 0 driver wm 7; detach 0 driver wm; perform 0 1; destroy 0 1 1; exit 0; attach 0 driver wm 7; detach 0 driver wm; detach 0 driver wm",
         "domain 3 2; attached 1 slot 0; inside; refused Inside; refused Inside; refused Inside; refused Inside; outside; refused NameTaken; retired 1 slot 0; refused NotFound",
     ),
-    // What a call behind the lock did to the registry, which its contract can't name: just what it answers, and nothing where it is refused.
+    // What a call behind the lock did to the registry, which its contract can't name: exactly its answer, and nothing if it is refused.
     (
         "one-change-a-call",
         "domain 3 4; attach 0 driver wm 7; attach 0 driver vga 8; detach 0 driver wm; enter 0; find 0 driver wm; find 0 driver vga; count 0 x; exit 0; attach 0 driver wm 7; enter 0; find 0 driver wm; exit 0; plug 0 wm0 1500 x; enter 0; find 0 iface wm0; exit 0; detach 1 driver vga; advance 1; attach 0 driver vga 8",

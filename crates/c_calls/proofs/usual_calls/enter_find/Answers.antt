@@ -1,16 +1,15 @@
 -- Where the find is refused, an exit is done.
-use Rattle.std.proofs.Common.{refl, ap, ◌∙◌}
-use Rattle.c_values.specs.Places.{put}
+use Rattle.std.proofs.Common.{refl}
 use Rattle.c_calls.proofs.UsualCalls.{entered_and_found, exited}
 use Rattle.c_calls.proofs.usual_calls.enter_find.Goals as goal
 
-pub returns-in-Ok-clause-call : goal.returns-in-Ok-clause-call
-returns-in-Ok-clause-call c =
-    let finds = c.in-Ok.ensures.call _ _ _ (refl, c.put.ensures.value ∙ ap (put _) c.entry_out.ensures) in
-    entered_and_found _ _ _ _ _ _ _ _ _ _ c.enter_inside-entered.ensures.call c.if-entered-ne-DONE.false finds (λ is. refl) (λ off. absurd (off refl))
-
-pub returns-in-Err-clause-call : goal.returns-in-Err-clause-call
-returns-in-Err-clause-call c =
-    let finds = c.in-Err.ensures.call _ _ _ (refl, refl) in
-    entered_and_found _ _ _ _ _ _ _ _ _ _ c.enter_inside-entered.ensures.call c.if-entered-ne-DONE.false finds (λ is. absurd (c.in-Err.ensures.refused is))
+pub returns-then-answer-ne-DONE-clause-call : goal.returns-then-answer-ne-DONE-clause-call
+returns-then-answer-ne-DONE-clause-call c =
+    let finds = c.find_named-answer.ensures.call in
+    entered_and_found _ _ _ _ _ _ _ _ _ _ c.enter_inside-entered.ensures.call c.if-entered-ne-DONE.false finds (λ is. absurd (c.if-answer-ne-DONE.true is))
     (λ off. exited _ _ _ _ _ _ _ _ _ (c.enter_inside-entered.ensures.inside c.if-entered-ne-DONE.false) finds c.exit.ensures)
+
+pub returns-clause-call : goal.returns-clause-call
+returns-clause-call c =
+    entered_and_found _ _ _ _ _ _ _ _ _ _ c.enter_inside-entered.ensures.call c.if-entered-ne-DONE.false c.find_named-answer.ensures.call (λ is. refl)
+    (λ off. absurd (off c.if-answer-ne-DONE.false))

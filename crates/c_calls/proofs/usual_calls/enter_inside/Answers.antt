@@ -1,4 +1,4 @@
--- A section is open just where the depth isn't 0, by what the CPU says of itself.
+-- A section is open exactly where the depth isn't 0, by what the CPU says of itself.
 use Rattle.std.proofs.Common.{◌≡◌, None, ap, subst, ◌∙◌}
 use Rattle.std.specs.Prelude.{◌↔◌}
 use Rattle.passive_list.specs.Common.{OnPlainCpu}

@@ -1,4 +1,4 @@
--- The look-up from outside stands for the three calls.
+-- The look-up from outside is the three calls.
 use Rattle.std.proofs.Common.{None, Some, refl, ap, ◌∙◌}
 use Rattle.c_values.specs.Places.{put}
 use Rattle.c_calls.proofs.UsualCalls.{from_outside, told}

@@ -14,12 +14,14 @@ use protocol::Event;
 use registry_values::{BIAS, Refusal, Slot, Stage, is_retired_as, settled};
 
 impl Core {
-    /// One turn of the work on the retired entry `number`, up to the first obstacle, which is the answer (the least CPU
-    /// first): an open section that may hold the entry (pserialize(9)), a passive reference to it (psref(9)), or the
-    /// local references to it (localcount(9)), of which the count words are then collected. Where there is none its slot
-    /// becomes vacant, and the answer is `Freed` with the slot, from 0.
+    /// Makes one turn of the work on the retired entry `number`, up to its first obstacle. Returns, with the lowest-numbered CPU first:
     ///
-    /// Refused: `NotRetired` where no slot has the retired entry `number`; nothing has changed then.
+    /// - `Grace`: a CPU with an open section that may hold the entry (pserialize(9));
+    /// - `Passive`: a CPU with a passive reference to it (psref(9));
+    /// - `Local`: the local references to it (localcount(9)); its count words are collected then;
+    /// - `Freed`: nothing holds it, and its slot, from 0, is vacant now.
+    ///
+    /// Refused: `NotRetired` if no slot has the retired entry `number`; nothing has changed then.
     pub fn advance(&mut self, number: u64) -> Result<Stage, Refusal>
         requires { at_rest self.old.due ≡ true }
         ensures answer { result ≡ advance_answer self.old number }
@@ -31,7 +33,6 @@ impl Core {
         ensures rest { at_rest self.new.due ≡ true }
         ensures ready { (d : ℕ) → may_act self.old d ≡ true → may_act self.new d ≡ true }
     {
-        // For the proof alone: reading a field opens what the type keeps.
         let _ = &self.settings;
         let Some(t) = self.retired_slot(number) else {
             return Err(Refusal::NotRetired);
@@ -107,7 +108,6 @@ impl Core {
         ensures others { SameBut self.old.marks self.new.marks t c }
         ensures passed { result ≡ (mark_at self.new.marks t c).passed }
     {
-        // For the proof alone: reading a field opens what the type keeps.
         let _ = &self.settings;
         if self.mark_at(t, c).passed {
             return true;
@@ -153,7 +153,6 @@ impl Core {
         ensures others { SameBut self.old.marks self.new.marks t c }
         ensures clear { result ≡ (mark_at self.new.marks t c).clear }
     {
-        // For the proof alone: reading a field opens what the type keeps.
         let _ = &self.settings;
         if self.mark_at(t, c).clear {
             return true;
@@ -191,7 +190,6 @@ impl Core {
         ensures made { MakesOnly (IsCollectionFor t) self.old self.new }
         ensures collected { (mark_at self.new.marks t c).collected ≡ true }
     {
-        // For the proof alone: reading a field opens what the type keeps.
         let _ = &self.settings;
         if self.mark_at(t, c).collected {
             return;
@@ -213,7 +211,6 @@ impl Core {
         ensures made { MakesOnly (IsWork result t) self.old self.new }
         ensures emptied { (c : ℕ) → count_at self.old.counts c t ≡ 0 }
     {
-        // For the proof alone: reading a field opens what the type keeps.
         let _ = &self.settings;
         let held = self.total_at(t) - BIAS;
         let stage = settled(held, t);
@@ -231,7 +228,6 @@ impl Core {
         ensures after { Empties self.old self.new t }
         ensures made { MakesOnly (IsFreeingOf t) self.old self.new }
     {
-        // For the proof alone: reading a field opens what the type keeps.
         let _ = &self.settings;
         if self.kept_at(t).is_some() {
             self.make(Event::KeptSub(t));

@@ -27,11 +27,16 @@ struct Before {
 }
 
 impl Core {
-    /// Attaches a driver, by a caller on the CPU c: the entry gets the next number, from 1, and the least slot, from 0,
-    /// that is vacant and keeps nothing. Its words are stored, it is linked, and c has seen its change.
-    /// Refused, in this order, and nothing has changed then: `Inside` where c is inside a section; `NeedsDriver` where
-    /// the kind is `Iface`; `NameTaken`; `NoSlot`; `HistoryFull` where the history has no room for this attach and the
-    /// detach of each entry that is live then; `NoMemory`.
+    /// Attaches a driver, by a caller on the CPU c: the entry gets the next number, from 1, and the lowest-numbered slot, from 0, that is
+    /// vacant and keeps nothing. Its words are stored, it is linked, and c has seen its change.
+    ///
+    /// Refused, in this order, and nothing has changed then:
+    ///
+    /// - `Inside`: c is inside a section;
+    /// - `NeedsDriver`: the kind is `Iface`;
+    /// - `NameTaken`; `NoSlot`;
+    /// - `HistoryFull`: the history has no room for this attach and the detach of each entry that is live then;
+    /// - `NoMemory`.
     pub fn attach(&mut self, c: u8, rec: Record) -> Result<Entry, Refusal>
         requires known { c < self.old.settings.cpus }
         requires rest { at_rest self.old.due ≡ true }
@@ -44,7 +49,6 @@ impl Core {
         ensures rest { at_rest self.new.due ≡ true }
         ensures ready { (d : ℕ) → may_act self.old d ≡ true → may_act self.new d ≡ true }
     {
-        // For the proof alone: reading a field opens what the type keeps.
         let _ = &self.settings;
         let given = self.given_entry(rec);
         let entry = attach_answer(self.inside(c), is_iface(rec.kind), given)?;
@@ -64,11 +68,11 @@ impl Core {
         }
     }
 
-    /// Attaches an interface, by a caller on the CPU c, on the driver that the live local reference with this id is to
-    /// (localcount(9)): the slot takes the reference over and keeps it, so the id isn't live then. Else it is as `attach`.
-    /// Refused, in this order, and nothing has changed then: `Inside` where c is inside a section; `NeedsDriver` where
-    /// the reference is to an interface; `NameTaken`; `NoSlot`; `HistoryFull` where the history has no room for this
-    /// attach and the detach of each entry that is live then; `NoMemory`.
+    /// Attaches an interface, by a caller on the CPU c, on the driver that the live local reference with this id is to (localcount(9)): the
+    /// slot takes the reference over and keeps it, so the id isn't live then. Else it is as `attach`.
+    /// Refused, in this order, and nothing has changed then: `Inside` if c is inside a section; `NeedsDriver` if the reference is to an
+    /// interface; `NameTaken`; `NoSlot`; `HistoryFull` if the history has no room for this attach and the detach of each entry that is live
+    /// then; `NoMemory`.
     pub fn attach_iface(&mut self, c: u8, rec: Record, id: u64) -> Result<Entry, Refusal>
         requires known { c < self.old.settings.cpus }
         requires rest { at_rest self.old.due ≡ true }
@@ -83,7 +87,6 @@ impl Core {
         ensures rest { at_rest self.new.due ≡ true }
         ensures ready { (d : ℕ) → may_act self.old d ≡ true → may_act self.new d ≡ true }
     {
-        // For the proof alone: reading a field opens what the type keeps.
         let _ = &self.settings;
         let given = self.given_entry(rec);
         let entry = attach_answer(self.inside(c), !self.is_to_driver(id), given)?;
@@ -153,7 +156,7 @@ impl Core {
         is_driver_slot(&self.slot_at(t))
     }
 
-    /// The least slot that is vacant and keeps nothing.
+    /// The lowest-numbered slot that is vacant and keeps nothing.
     fn first_fit(&self) -> Option<u8>
         ensures value { result ≡ first_fit self.now }
         ensures within { IfSome result (λ t. t < self.now.settings.slots) }

@@ -11,7 +11,7 @@ use registry_values::{BIAS, Balance, Refusal, Slot, less_bias, local_of, sum};
 use std::alloc::AllocError;
 
 impl Core {
-    /// What the counts say of each live or retired entry, least slot first (localcount(9)). It makes no event.
+    /// Audits the counts of each live or retired entry, lowest slot first (localcount(9)). It makes no event.
     /// Refused: `NoMemory`, and not where there is no such entry.
     pub fn audit(&self) -> Result<Vec<Balance>, Refusal>
         requires { at_rest self.now.due ≡ true }
@@ -47,7 +47,6 @@ impl Core {
         requires occupied { (e : Entry) × IsIn e (slot_at self.now.slots t) }
         ensures { IfOk result (λ b. tally_shown b ≡ tally_of self.now number t) }
     {
-        // For the proof alone: reading a field opens what the type keeps.
         let _ = &self.settings;
         let locals = self.locals_at(t)?;
         let total = less_bias(self.total_at(t));

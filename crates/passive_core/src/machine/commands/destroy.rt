@@ -10,12 +10,11 @@ use crate::machine::Core;
 use registry_values::{Refusal, Stage, destroyed};
 
 impl Core {
-    /// Advances the retired entry `number` on behalf of the CPU `c`, at most `turns` times (psref_target_destroy of
-    /// psref(9), localcount_drain of localcount(9)). The answer is the slot, from 0, that is vacant again.
+    /// Advances the retired entry `number` on behalf of the CPU `c`, at most `turns` times (psref_target_destroy of psref(9),
+    /// localcount_drain of localcount(9)). The answer is the slot, from 0, that is vacant again.
     ///
-    /// Refused, in this order: `Inside` where the CPU is inside a section, and `NotRetired` where no slot has the retired
-    /// entry `number`; nothing has changed then. `StillHeld` with the obstacle that the last turn met; what the turns
-    /// noted and collected stays.
+    /// Refused, in this order: `Inside` if the CPU is inside a section, and `NotRetired` if no slot has the retired entry `number`; nothing
+    /// has changed then. `StillHeld` with the obstacle that the last turn met; what the turns noted and collected stays.
     pub fn destroy(&mut self, c: u8, number: u64, turns: u32) -> Result<u8, Refusal>
         requires known { c < self.old.settings.cpus }
         requires rest { at_rest self.old.due ≡ true }

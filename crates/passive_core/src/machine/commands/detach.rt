@@ -13,11 +13,11 @@ use protocol::Event;
 use registry_values::{Entry, Key, Kind, MOST_CPUS, Name, Refusal, Slot, detach_answer};
 
 impl Core {
-    /// Unlinks the live entry with the kind and the name, on CPU `c` (from 0), and answers it. It is retired then, with
-    /// the snapshot of each CPU's section word, and waits for grace (pserialize(9)) and for its references (psref(9),
-    /// localcount(9)); the CPU has seen the change.
-    /// Refused, in this order: `Inside` where the CPU is inside a section, `NotFound` where no live entry has both, and
-    /// `NoMemory` where the history can't grow. A refusal changes nothing.
+    /// Unlinks the live entry with the kind and the name, on CPU `c` (from 0), and returns it. It is retired then, with the snapshot of
+    /// each CPU's section word, and waits for grace (pserialize(9)) and for its references (psref(9), localcount(9)). The CPU has seen the
+    /// change.
+    /// Refused, in this order: `Inside` if the CPU is inside a section, `NotFound` if no live entry has both, and `NoMemory` if the history
+    /// can't grow. A refusal changes nothing.
     pub fn detach(&mut self, c: u8, kind: Kind, name: &Name) -> Result<Entry, Refusal>
         requires known { c < self.old.settings.cpus }
         requires rest { at_rest self.old.due ≡ true }
@@ -30,7 +30,6 @@ impl Core {
         ensures rest { at_rest self.new.due ≡ true }
         ensures ready { (d : ℕ) → may_act self.old d ≡ true → may_act self.new d ≡ true }
     {
-        // For the proof alone: reading a field opens what the type keeps.
         let _ = &self.due;
         let key = Key { kind, name: *name };
         let entry = detach_answer(self.inside(c), self.live_entry(key))?;
@@ -46,7 +45,6 @@ impl Core {
         ensures answer { IsLookupNow self.now key result }
         ensures live { IfSome result (λ e. slot_at self.now.slots e.slot ≡ Live e) }
     {
-        // For the proof alone: reading a field opens what the type keeps.
         let _ = &self.due;
         let t = self.live_place(key)?;
         match self.slot_at(t) {

@@ -26,7 +26,6 @@ impl Core {
         ensures rest { at_rest self.new.due ≡ true }
         ensures ready { (d : ℕ) → may_act self.old d ≡ true → may_act self.new d ≡ true }
     {
-        // For the proof alone: reading a field opens what the type keeps.
         let _ = &self.due;
         self.seat_all();
         self.make(Event::Seek(c, kind, *name));
@@ -46,7 +45,6 @@ impl Core {
         ensures holds { Holds self.old }
         ensures event { (event : AnEvent) × IsLoadOf c event × (step self.old event ≡ Some (record { state = self.new; reply = result })) }
     {
-        // For the proof alone: reading a field opens what the type keeps.
         let _ = &self.due;
         match self.search_at(c) {
             Some(

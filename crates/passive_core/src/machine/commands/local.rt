@@ -15,11 +15,12 @@ use protocol::{Event, RecordOf, Reply};
 use registry_values::{BIAS, Record, Refusal, record_from, why_uncounted};
 
 impl Core {
-    /// Acquires a local reference to the CPU's last found entry (localcount(9)), and answers its id: the least, from 0, that
-    /// no live reference and no hand has. The reference outlives the section and may be released on any CPU.
+    /// Acquires a local reference to the CPU's last found entry (localcount(9)), and returns its id: the lowest, from 0, that no live
+    /// reference and no hand has. The reference outlives the section and may be released on any CPU.
     ///
-    /// CPUs count from 0. Refused, in this order, and nothing has changed: `NothingFound` where the CPU has no last found
-    /// entry; `LocalFull` where the CPU's own net count for it is `count_limit`; `NoMemory`.
+    /// CPUs count from 0.
+    /// Refused, in this order, and nothing has changed: `NothingFound` if the CPU has no last found entry; `LocalFull` if the CPU's own net
+    /// count for it is `count_limit`; `NoMemory`.
     pub fn acquire_local(&mut self, c: u8) -> Result<u64, Refusal>
         requires known { c < self.old.settings.cpus }
         requires rest { at_rest self.old.due ≡ true }
@@ -31,7 +32,6 @@ impl Core {
         ensures rest { at_rest self.new.due ≡ true }
         ensures ready { (d : ℕ) → may_act self.old d ≡ true → may_act self.new d ≡ true }
     {
-        // For the proof alone: reading a field opens what the type keeps.
         let _ = &self.settings;
         let Some(found) = self.found_at(c) else {
             return Err(Refusal::NothingFound);
@@ -118,8 +118,7 @@ impl Core {
         }
     }
 
-    /// Gives the reference up by the CPU's own count. Where that was found collected it answers false, and the reference is
-    /// live as before.
+    /// Gives the reference up by the CPU's own count. If that was collected it returns false, and the reference is live as before.
     fn count_down(&mut self, c: u8, id: u64) -> bool
         requires idle { is_idle self.old c ≡ true }
         requires live { is_live_local self.old id ≡ true }
@@ -128,7 +127,6 @@ impl Core {
         ensures kept { result ≡ false → self.new ≡ self.old }
         ensures made { Makes self.old (JoinRef c id ∷ CountDown c ∷ (if result then [] else SplitBack c ∷ [])) self.new }
     {
-        // For the proof alone: reading a field opens what the type keeps.
         let _ = &self.settings;
         // For the proof alone: `number` says in its contract which entry the live reference is to.
         let _number = self.number(id);
@@ -151,7 +149,6 @@ impl Core {
         ensures after { self.new ≡ with_total_less self.old id (local_slot self.old id) }
         ensures made { Makes self.old (under_events id (local_slot self.old id)) self.new }
     {
-        // For the proof alone: reading a field opens what the type keeps.
         let _ = &self.settings;
         let number = self.number(id);
         let Some(t) = self.slot_of(number) else {
@@ -168,7 +165,6 @@ impl Core {
         ensures same { self.new ≡ self.old }
         ensures made { Makes self.old (record_loads (λ k. OfLocal id k)) self.new }
     {
-        // For the proof alone: reading a field opens what the type keeps.
         let _ = &self.settings;
         // For the proof alone: `number` says in its contract which entry the live reference is to.
         let _number = self.number(id);

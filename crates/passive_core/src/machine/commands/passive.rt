@@ -15,11 +15,12 @@ use protocol::{Event, RecordOf, Reply};
 use registry_values::{Record, Refusal, record_from, why_full, why_unusable};
 
 impl Core {
-    /// Acquires a passive reference to the CPU's last found entry (psref(9)). It outlives the section, and the entry's slot
-    /// isn't given again before it is released.
+    /// Acquires a passive reference to the CPU's last found entry (psref(9)). It outlives the section, and the entry's slot isn't reused
+    /// before it is released.
     ///
-    /// CPUs count from 0. Refused, in this order, and nothing has changed: `NothingFound` where the CPU has no last found
-    /// entry; `PassiveFull` where it has `passive_limit` references to the entry.
+    /// CPUs count from 0.
+    /// Refused, in this order, and nothing has changed: `NothingFound` if the CPU has no last found entry; `PassiveFull` if it has
+    /// `passive_limit` references to the entry.
     pub fn acquire(&mut self, c: u8) -> Result<CorePsref, Refusal>
         requires known { c < self.old.settings.cpus }
         requires rest { at_rest self.old.due ≡ true }
@@ -47,8 +48,8 @@ impl Core {
 
     /// Acquires a second reference on the first one's CPU, to the same entry; each is released by itself (psref(9)).
     ///
-    /// Refused, in this order, and nothing has changed: `WrongCpu` where the reference names another CPU; `NotHeld` where
-    /// this CPU holds no passive reference to that number; `PassiveFull` where it has `passive_limit` of them.
+    /// Refused, in this order, and nothing has changed: `WrongCpu` if the reference names another CPU; `NotHeld` if this CPU holds no
+    /// passive reference to that number; `PassiveFull` if it has `passive_limit` of them.
     pub fn copy(&mut self, c: u8, psref: CorePsref) -> Result<CorePsref, Refusal>
         requires known { c < self.old.settings.cpus }
         requires rest { at_rest self.old.due ≡ true }
@@ -81,8 +82,8 @@ impl Core {
 
     /// The record of the entry that the reference is to, which stays while the reference is held (psref(9)). It needs no section.
     ///
-    /// Refused, in this order, and nothing has changed: `WrongCpu` where the reference names another CPU; `NotHeld` where
-    /// this CPU holds no passive reference to that number.
+    /// Refused, in this order, and nothing has changed: `WrongCpu` if the reference names another CPU; `NotHeld` if this CPU holds no
+    /// passive reference to that number.
     pub fn read(&mut self, c: u8, psref: CorePsref) -> Result<Record, Refusal>
         requires known { c < self.old.settings.cpus }
         requires rest { at_rest self.old.due ≡ true }
@@ -103,8 +104,8 @@ impl Core {
 
     /// Releases a passive reference, on the CPU where it was acquired (psref(9)).
     ///
-    /// Refused, in this order, and nothing has changed: `WrongCpu` where the reference names another CPU; `NotHeld` where
-    /// this CPU holds no passive reference to that number.
+    /// Refused, in this order, and nothing has changed: `WrongCpu` if the reference names another CPU; `NotHeld` if this CPU holds no
+    /// passive reference to that number.
     pub fn release(&mut self, c: u8, psref: CorePsref) -> Result<(), Refusal>
         requires known { c < self.old.settings.cpus }
         requires rest { at_rest self.old.due ≡ true }
@@ -163,7 +164,6 @@ impl Core {
         ensures ready { (d : ℕ) → may_act self.old d ≡ true → may_act self.new d ≡ true }
         ensures sound { Holds self.old }
     {
-        // For the proof alone: reading a field opens what the type keeps.
         let _ = &self.settings;
         self.seat_all();
     }
@@ -176,7 +176,6 @@ impl Core {
         ensures same { self.new ≡ self.old }
         ensures made { Makes self.old (record_loads (λ k. OfPassive c number k)) self.new }
     {
-        // For the proof alone: reading a field opens what the type keeps.
         let _ = &self.settings;
         let kind = self.load_word(RecordOf::Passive(c, number, 1));
         let high = self.load_word(RecordOf::Passive(c, number, 2));

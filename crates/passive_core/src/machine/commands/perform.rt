@@ -14,11 +14,11 @@ use registry_values::{
 };
 
 impl Core {
-    /// Waits on behalf of the CPU `c`, for at most `turns` turns, until each section that is open as the call begins has
-    /// ended (pserialize_perform of pserialize(9)). Then every CPU has passed for each entry that was retired before.
+    /// Waits on behalf of the CPU `c`, for at most `turns` turns, until each section that is open as the call begins has ended
+    /// (pserialize_perform of pserialize(9)). Then every CPU has passed for each entry that was retired before.
     ///
-    /// Refused, in this order: `Inside` where the CPU is inside a section; nothing has changed then. `Waiting` with the
-    /// least CPU that wasn't seen out of its section; all CPUs have their seats then.
+    /// Refused, in this order: `Inside` if the CPU is inside a section; nothing has changed then. `Waiting` with the lowest-numbered CPU
+    /// that wasn't seen out of its section; all CPUs have their seats then.
     pub fn perform(&mut self, c: u8, turns: u32) -> Result<(), Refusal>
         requires known { c < self.old.settings.cpus }
         requires rest { at_rest self.old.due ≡ true }
@@ -31,7 +31,6 @@ impl Core {
         ensures rest { at_rest self.new.due ≡ true }
         ensures ready { (d : ℕ) → may_act self.old d ≡ true → may_act self.new d ≡ true }
     {
-        // For the proof alone: reading a field opens what the type keeps.
         let _ = &self.settings;
         if self.inside(c) {
             return Err(Refusal::Inside);
@@ -55,8 +54,8 @@ impl Core {
         numbers
     }
 
-    /// Takes a snapshot of each CPU's section word, and looks at it again for so many turns. The answer is the least CPU
-    /// that wasn't seen out of the section of its snapshot.
+    /// Takes a snapshot of each CPU's section word, and looks at it again for so many turns. Returns the lowest-numbered CPU that wasn't
+    /// seen out of the section of its snapshot.
     fn wait_for_sections(&mut self, turns: u32) -> Option<u8>
         requires { at_rest self.old.due ≡ true }
         ensures answer { result ≡ least_below (is_inside self.old) self.old.settings.cpus }
@@ -122,7 +121,6 @@ impl Core {
         ensures seen { result ≡ not (is_inside self.old c) }
         ensures same { self.new ≡ self.old }
     {
-        // For the proof alone: reading a field opens what the type keeps.
         let _ = &self.settings;
         if before {
             return true;
@@ -165,7 +163,6 @@ impl Core {
         ensures made { MakesOnly IsWaiting self.old self.new }
         ensures passed { (t : ℕ) → is_retired (slot_at self.old.slots t) ≡ true → number ≡ retired_number (slot_at self.old.slots t) → AllPassed self.new t }
     {
-        // For the proof alone: reading a field opens what the type keeps.
         let _ = &self.settings;
         let Some(number) = number else {
             return;

@@ -37,9 +37,9 @@ impl Core {
     }
 
     /// Begins a read section on the CPU, or nests the one that is open a level deeper (pserialize(9)). Inside a section
-    /// it only adds 1 to the depth and makes no event; outside all CPUs are seated and the event `Enter` is made, by
-    /// which the whole history is seen.
-    /// Refused, in this order, and nothing has changed then: `TooDeep` where the depth is `MOST_DEPTH`; `SectionsSpent` where the
+    /// it only adds 1 to the depth and makes no event; outside all CPUs are seated, and the event `Enter` is made, which
+    /// sees the whole history.
+    /// Refused, in this order, and nothing has changed then: `TooDeep` if the depth is `MOST_DEPTH`; `SectionsSpent` if the
     /// CPU is outside a section and has begun as many as the settings allow.
     pub fn enter(&mut self, c: u8) -> Result<(), Refusal>
         requires known { c < self.old.settings.cpus }
@@ -80,7 +80,6 @@ impl Core {
         ensures rest { at_rest self.new.due ≡ true }
         ensures ready { (d : ℕ) → may_act self.old d ≡ true → may_act self.new d ≡ true }
     {
-        // For the proof alone: reading a field opens what the type keeps.
         let _ = &self.depths;
         let depth = self.depth(c);
         if depth == 1 {
@@ -109,7 +108,6 @@ impl Core {
         ensures sound { Holds self.old }
         ensures ready { (d : ℕ) → may_act self.old d ≡ true → may_act self.new d ≡ true }
     {
-        // For the proof alone: reading a field opens what the type keeps.
         let _ = &self.seated;
         self.seat_all();
     }

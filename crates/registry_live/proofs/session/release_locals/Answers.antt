@@ -2,7 +2,7 @@ use Rattle.std.proofs.Common.{◌≡◌, ◌<◌, length, rules, arith}
 use Rattle.registry_live.proofs.LetGo.{all_gone, gone_next, none_gone}
 use Rattle.registry_live.proofs.session.release_locals.Goals as goal
 
--- what the pattern of the array says of each of its 26 values: the value stands at its place (`a-1.given.1`, and so on)
+-- what the pattern of the array says of each of its 26 values: the value is at its place (`a-1.given.1`, and so on)
 pub returns-clause-locals : goal.returns-clause-locals
 returns-clause-locals g c =
     let n : length c.args.locals ≡ 26 = search (rules, arith) in

@@ -3,7 +3,7 @@ use Rattle.registry_live.proofs.Labelled.{all_released, none_left, released_next
 use Rattle.registry_live.proofs.Releasing.{all_then}
 use Rattle.registry_live.proofs.session.release_passives.Goals as goal
 
--- what the pattern of the array says of each of its 26 values: the value stands at its place (`a-1.given.1`, and so on)
+-- what the pattern of the array says of each of its 26 values: the value is at its place (`a-1.given.1`, and so on)
 pub returns-clause-released : goal.returns-clause-released
 returns-clause-released g c =
     let n : length c.args.passives ≡ 26 = search (rules, arith) in

@@ -1,4 +1,4 @@
--- The handle of the keeper may go to another thread, as what stands behind it may.
+-- The handle of the keeper may go to another thread, as its body may.
 use denote.Param.Send.{IsSend}
 use Rattle.held.proofs.Sent.{keyless, sent}
 use Rattle.c_bodies.specs.contracts.keeper_body.KeeperBody.{the_row as body}

@@ -9,7 +9,7 @@ use Rattle.passive_core.proofs.Making.{makes_load}
 use Rattle.passive_core.proofs.machine.Core.record_by_local.Goals.{After-number-number}
 use Rattle.passive_core.proofs.machine.Core.record_by_local.Goals as goal
 
--- the words of the entry to which the reference is
+-- the words of the reference's entry
 shown : (c : After-number-number) → ShowsRecord c.args.self.now c.number-number.result (load_local c.args.self.now c.args.id)
 shown c = local_shows c.args.self.now c.args.id c.number-number.result (subst Holds c.self.view_is c.self.invariant) c.number-number.ensures
 

@@ -8,7 +8,7 @@ use Rattle.passive_core.proofs.Making.{makes_load}
 use Rattle.passive_core.proofs.machine.Core.record_by_passive.Goals.{After-self}
 use Rattle.passive_core.proofs.machine.Core.record_by_passive.Goals as goal
 
--- the words of the entry to which the reference is
+-- the words of the reference's entry
 shown : (c : After-self) → ShowsRecord c.args.self.now c.args.number (load_passive c.args.self.now c.args.c c.args.number)
 shown c = passive_shows c.args.self.now c.args.c c.args.number (subst Holds c.self.view_is c.self.invariant) c.requires.idle c.requires.held
 
