@@ -66,7 +66,7 @@ lay() {
     local to=$1 scripts
     scripts=$(first scripts ../examples)
     mkdir -p "$to/c" "$to/scripts"
-    cp -r Makefile ./*.mk ./*.map ./*.in ./*.sh ./*.md man netbsd examples debian "$to"
+    cp -r Makefile ./*.mk ./*.map ./*.in ./*.sh ./*.md man netbsd bench examples debian "$to"
     cp c/*.[ch] "$to/c"
     cp -r "$(first include ../crates/registry_c/include)" "$to/include"
     cp "$scripts"/*.txt "$scripts"/*.report "$to/scripts"

@@ -169,3 +169,5 @@ licence:
 	@echo $(LICENCE)
 
 .PHONY: library symbols install install-examples without_older installcheck uninstall dist version licence
+
+include bench/install.mk

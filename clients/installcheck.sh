@@ -45,5 +45,9 @@ try kupaldiz installed "C, version $version" "" --libs
 try kupaldiz installed "C, version $version" -static --static --libs
 try kupaldiz-netbsd installed_netbsd "C, by the pages' names" "" --libs
 try kupaldiz-netbsd installed_netbsd "C, by the pages' names" -static --static --libs
+if [ -f "$stage$libdir/pkgconfig/kupaldiz-bench.pc" ]; then
+    try kupaldiz-bench installed_bench "C, in every order" "" --libs
+    try kupaldiz-bench installed_bench "C, in every order" -static --static --libs
+fi
 echo "$passed passed, $failed failed"
 [ "$failed" -eq 0 ]

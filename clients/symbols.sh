@@ -1,5 +1,5 @@
 #!/usr/bin/env bash
-# Compares the public names of both libraries: symbols.sh HEADERS OUT VERSION. The calls that the headers declare are those that the maps name, those that the
+# Compares the public names of the libraries: symbols.sh HEADERS OUT VERSION. The calls that the headers declare are those that the maps name, those that the
 # shared libraries show and those that the static ones do. Else it prints the difference, and its status is 1. `make symbols` calls it.
 set -uo pipefail
 cd "$(dirname "$0")" || exit
@@ -43,9 +43,17 @@ calls=$(./calls-of.sh "$headers/registry.h" c/waiting.h)
 same kupaldiz.map "$calls" "$(mapped kupaldiz.map)"
 same libkupaldiz.so "$calls" "$(shared "$out/libkupaldiz.so.$version")"
 same libkupaldiz.a "$calls" "$(static "$out/libkupaldiz.a")"
-calls=$(./calls-of.sh netbsd/kupaldiz/*.h | with_prefix)
+# With the pages' names the bench has two calls more, and its own.
+pages=$(./calls-of.sh netbsd/kupaldiz/*.h | with_prefix)
+calls=$(grep -vxE 'kupaldiz_(point|from)' <<<"$pages")
 same netbsd.map "$calls" "$(mapped netbsd/netbsd.map)"
 same libkupaldiz_netbsd.so "$calls" "$(shared "$out/libkupaldiz_netbsd.so.$version")"
 # Two words of each thread, hidden, which the layer's parts share.
 same libkupaldiz_netbsd.a "$calls" "$(static "$out/libkupaldiz_netbsd.a" | grep -vxE 'kupaldiz_(self|places)')"
+if [ -f "$out/libkupaldiz_bench.a" ]; then
+    calls=$(sort <<<"$pages"$'\n'"$(./calls-of.sh bench/bench.h)")
+    same bench.map "$calls" "$(mapped bench/bench.map)"
+    same libkupaldiz_bench.so "$calls" "$(shared "$out/libkupaldiz_bench.so.$version")"
+    same libkupaldiz_bench.a "$calls" "$(static "$out/libkupaldiz_bench.a")"
+fi
 exit "$wrong"

@@ -35,6 +35,7 @@ sys.exit(gate(
         Part("aarch64, under qemu", "tools/test-aarch64.sh --built"),
         Part("memory behind entries", f"{FACE} heap"),
         Part("the manual pages' names", f"{FACE} netbsd"),
+        Part("the bench", f"{FACE} bench"),
         Part("manual page", f"{FACE} page"),
         Part("program", "tools/test-program.py"),
         Part("examples", f"tools/run-examples.py --program {PROGRAM}"),

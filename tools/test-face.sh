@@ -263,6 +263,10 @@ test_netbsd() {
     counted "C: the manual pages' own names" tools/test-netbsd.sh
 }
 
+test_bench() {
+    counted "C: a driver's threads in every order" tools/test-bench.sh
+}
+
 test_rust() {
     local storm
     cd clients/rust || return
@@ -305,7 +309,7 @@ test_rust_watched() {
     check "Rust: tests under valgrind, but for those that forget" guarded_tests
 }
 
-parts=(page build c watched heap netbsd rust rust-watched)
+parts=(page build c watched heap netbsd bench rust rust-watched)
 is_built=
 if [ "${1-}" = --built ]; then
     is_built=yes

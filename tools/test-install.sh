@@ -1,6 +1,6 @@
 #!/usr/bin/env bash
-# Installs libkupaldiz and libkupaldiz_netbsd into scratch folders, looks at each file that is there, builds and runs programs that know the libraries by
-# pkg-config alone, and uninstalls them: under a folder of its own, as Debian has it, in a path with blanks, and over an older version.
+# Installs libkupaldiz, libkupaldiz_netbsd and libkupaldiz_bench into scratch folders, looks at each file that is there, builds and runs programs that know
+# the libraries by pkg-config alone, and uninstalls them: under a folder of its own, as Debian has it, in a path with blanks, and over an older version.
 # It wants clients/out/libregistry.a; the last line is 'N passed, M failed'.
 set -uo pipefail
 cd "$(dirname "$0")/.." || exit
@@ -73,7 +73,7 @@ shown() {
 }
 
 calls_of_headers() {
-    clients/calls-of.sh "$stage$prefix"/include/kupaldiz/*.h
+    clients/calls-of.sh "$stage$prefix"/include/kupaldiz/registry*.h
 }
 
 # The shared library shows the calls of both headers and no other name.
@@ -81,14 +81,24 @@ shows_calls_alone() {
     diff <(calls_of_headers | sort) <(shown libkupaldiz)
 }
 
-# That of the pages' names shows the calls that its headers declare, each with the library's name before its own, and no other name.
+# The calls of the pages' names, each with the library's name before its own.
+calls_of_pages() {
+    clients/calls-of.sh "$stage$prefix"/include/kupaldiz/netbsd/kupaldiz/*.h | sed '/^kupaldiz_/!s/^/kupaldiz_/'
+}
+
+# That of the pages' names shows the calls that its headers declare and no other name. Two of the calls are the bench's.
 shows_pages_calls_alone() {
-    diff <(clients/calls-of.sh "$stage$prefix"/include/kupaldiz/netbsd/kupaldiz/*.h | sed '/^kupaldiz_/!s/^/kupaldiz_/' | sort) <(shown libkupaldiz_netbsd)
+    diff <(calls_of_pages | grep -vxE 'kupaldiz_(point|from)' | sort) <(shown libkupaldiz_netbsd)
+}
+
+# That of the bench shows these and its own.
+shows_bench_calls_alone() {
+    diff <({ calls_of_pages; clients/calls-of.sh "$stage$prefix/include/kupaldiz/bench.h"; } | sort) <(shown libkupaldiz_bench)
 }
 
 # Other objects see nothing of the static libraries but calls.
 static_shows_calls_alone() {
-    ! nm -g --defined-only "$stage$libdir"/*.a 2>/dev/null | awk 'NF == 3 { print $3 }' | grep -vE '^(registry|kupaldiz)_'
+    ! nm -g --defined-only "$stage$libdir"/*.a 2>/dev/null | awk 'NF == 3 { print $3 }' | grep -vE '^(registry|kupaldiz|bench)_'
 }
 
 # An #include of a plain name, as <cpu.h>, finds nothing of these libraries: what the folders for the compiler offer is in folders of its own.
@@ -96,17 +106,26 @@ offers_no_plain_name() {
     [ -z "$(find "$stage$prefix/include" "$stage$prefix/include/kupaldiz/netbsd" -maxdepth 1 -type f)" ]
 }
 
-# is_hardened LIBRARY: its relocations are done and read-only from the start on, its stack isn't run, it stays loaded, and returns lead where calls came from.
+# is_hardened LIBRARY: its relocations are done and read-only from the start on, its stack isn't run, and it stays loaded.
 is_hardened() {
     local said
     said=$(readelf -dlnW "$stage$libdir/$1.so")
     grep -q 'GNU_RELRO' <<<"$said" && grep -qE 'FLAGS_1.*NOW.*NODELETE|FLAGS_1.*NODELETE.*NOW' <<<"$said" && grep -qE 'GNU_STACK .* RW +0x' <<<"$said" &&
-        ! grep -q TEXTREL <<<"$said" && grep -q SHSTK <<<"$said" || { echo "$said"; return 1; }
+        ! grep -q TEXTREL <<<"$said" || { echo "$said"; return 1; }
+}
+
+# takes_shadow_stack LIBRARY: it is marked so: returns lead where calls came from.
+takes_shadow_stack() {
+    readelf -nW "$stage$libdir/$1.so" | grep SHSTK
+}
+
+takes_none() {
+    ! takes_shadow_stack "$1"
 }
 
 # A project of CMake's that knows the libraries by find_package alone, shared and static.
 found_by_cmake() {
-    mkdir -p "$room/cmake" && cp clients/c/installed.c clients/c/installed_netbsd.c "$room/cmake" && cat >"$room/cmake/CMakeLists.txt" <<'PROJECT'
+    mkdir -p "$room/cmake" && cp clients/c/installed{,_netbsd,_bench}.c "$room/cmake" && cat >"$room/cmake/CMakeLists.txt" <<'PROJECT'
 cmake_minimum_required(VERSION 3.13)
 project(installed C)
 find_package(kupaldiz 0.1 REQUIRED)
@@ -118,11 +137,16 @@ foreach(kind netbsd netbsd_static)
   add_executable(names-${kind} installed_netbsd.c)
   target_link_libraries(names-${kind} PRIVATE kupaldiz::${kind})
 endforeach()
+foreach(kind bench bench_static)
+  add_executable(orders-${kind} installed_bench.c)
+  target_link_libraries(orders-${kind} PRIVATE kupaldiz::${kind})
+endforeach()
 PROJECT
     cmake -S "$room/cmake" -B "$room/cmake/out" -DCMAKE_PREFIX_PATH="$stage$prefix" -DCMAKE_C_FLAGS="-Wall -Wextra -Werror" &&
         cmake --build "$room/cmake/out" &&
         runs cmake/out/registry-kupaldiz "C, version $(version)" && runs cmake/out/registry-static "C, version $(version)" &&
-        runs cmake/out/names-netbsd "C, by the pages' names" && runs cmake/out/names-netbsd_static "C, by the pages' names"
+        runs cmake/out/names-netbsd "C, by the pages' names" && runs cmake/out/names-netbsd_static "C, by the pages' names" &&
+        runs cmake/out/orders-bench "C, in every order" && runs cmake/out/orders-bench_static "C, in every order"
 }
 
 # Another version is asked for than the one that is there.
@@ -169,6 +193,9 @@ test_places() {
     module=kupaldiz-netbsd program=installed_netbsd
     check "$1: a program of the pages' names is built" built c gcc c c99 "" --libs
     check "$1: it runs" runs c "C, by the pages' names"
+    module=kupaldiz-bench program=installed_bench
+    check "$1: a program of the bench is built" built c gcc c c99 "" --libs
+    check "$1: it runs" runs c "C, in every order"
     module=kupaldiz program=installed
 }
 
@@ -187,10 +214,10 @@ pages_are_found() {
 # The words that a distribution gives reach the compiler and the linker.
 flags_are_taken() {
     local library
-    rm -rf "$clients/out/installed-netbsd" "$clients/out/waiting.o" "$clients"/out/libkupaldiz*
+    rm -rf "$clients"/out/installed-{netbsd,bench} "$clients/out/waiting.o" "$clients"/out/libkupaldiz*
     echo 'static const char of_cppflags[] __attribute__((used, section("seen"))) = "CPPFLAGS";' >"$room/seen.h"
     made library CPPFLAGS="-include $room/seen.h" CFLAGS='-O1 -frecord-gcc-switches' LDFLAGS=-Wl,--build-id=0xfeedfeed || return
-    for library in "$clients"/out/libkupaldiz{,_netbsd}.so."$(version)"; do
+    for library in "$clients"/out/libkupaldiz{,_netbsd,_bench}.so."$(version)"; do
         readelf -p seen "$library" | grep CPPFLAGS && readelf -p .GCC.command.line "$library" | grep -e -O1 && readelf -n "$library" | grep feedfeed || return
     done
 }
@@ -199,13 +226,14 @@ flags_are_taken() {
 wanted() {
     local me major=${1%%.*} file library
     me=$(id -un)
-    for library in libkupaldiz libkupaldiz_netbsd; do
+    for library in libkupaldiz libkupaldiz_netbsd libkupaldiz_bench; do
         echo "f 644 $me $libdir/$library.a"
         echo "f 755 $me $libdir/$library.so.$1"
         echo "l 777 $me $libdir/$library.so.$major -> $library.so.$1"
         echo "l 777 $me $libdir/$library.so -> $library.so.$major"
     done
-    for file in "$libdir"/pkgconfig/{kupaldiz,kupaldiz-netbsd}.pc "$libdir"/cmake/kupaldiz/kupaldizConfig{,Version}.cmake "$prefix"/include/kupaldiz/{registry,registry_waiting}.h "$prefix/share/doc/kupaldiz/CHANGELOG.md"; do
+    for file in "$libdir"/pkgconfig/kupaldiz{,-netbsd,-bench}.pc "$libdir"/cmake/kupaldiz/kupaldizConfig{,Version}.cmake \
+        "$prefix"/include/kupaldiz/{registry,registry_waiting,bench}.h "$prefix/share/doc/kupaldiz/CHANGELOG.md"; do
         echo "f 644 $me $file"
     done
     (cd "$clients/netbsd" && find . -name '*.h' -not -path './tests/*' -not -path './src/*' -not -path './examples/*') | sed "s|^\.|f 644 $me $prefix/include/kupaldiz/netbsd|"
@@ -267,14 +295,14 @@ relinks() {
 copy_clients() {
     local copy=$room/a\ copy
     mkdir -p "$copy/clients/out" "$copy/crates/registry_c"
-    (cd clients && cp -r Makefile ./*.mk ./*.in ./*.map ./*.sh CHANGELOG.md c examples man netbsd "$copy/clients") || return
+    (cd clients && cp -r Makefile ./*.mk ./*.in ./*.map ./*.sh CHANGELOG.md c examples man netbsd bench "$copy/clients") || return
     cp clients/out/libregistry.a "$copy/clients/out" && cp -r crates/registry_c/include "$copy/crates/registry_c"
     clients=$copy/clients header=$copy/$header
 }
 
 # mark FILE NAME: a function more, which the maps name.
 mark() {
-    sed -i "0,/^\tglobal:/s//\tglobal:\n\t\t$2;/" "$clients/kupaldiz.map" "$clients/netbsd/netbsd.map"
+    sed -i "0,/^\tglobal:/s//\tglobal:\n\t\t$2;/" "$clients/kupaldiz.map" "$clients/netbsd/netbsd.map" "$clients/bench/bench.map"
     printf '\nvoid %s(void);\nvoid %s(void)\n{\n}\n' "$2" "$2" >>"$1"
 }
 
@@ -284,6 +312,10 @@ change_archive() {
 
 change_waiting() {
     mark "$clients/c/waiting.c" "$1"
+}
+
+change_bench() {
+    mark "$clients/bench/src/show.c" "$1"
 }
 
 change_layer() {
@@ -312,13 +344,23 @@ module=kupaldiz-netbsd
 program=installed_netbsd
 check "what kupaldiz-netbsd.pc says" pc_says "-lkupaldiz_netbsd" "-lkupaldiz_netbsd -pthread -lkupaldiz -pthread"
 test_programs "by the pages' names" libkupaldiz_netbsd
+module=kupaldiz-bench
+program=installed_bench
+check "the sonames of the bench" has_soname libkupaldiz_bench
+check "what kupaldiz-bench.pc says" pc_says "-lkupaldiz_bench" "-lkupaldiz_bench -pthread -lkupaldiz -pthread"
+test_programs "in every order" libkupaldiz_bench
 check "the shared library shows the calls alone" shows_calls_alone
 check "the shared library of the pages' names shows their calls alone" shows_pages_calls_alone
+check "the shared library of the bench shows their calls and its own alone" shows_bench_calls_alone
 check "the static libraries show calls alone" static_shows_calls_alone
 check "headers, maps and libraries have the same names" made symbols
 check "no folder of headers offers a plain name" offers_no_plain_name
-check "libkupaldiz is hardened" is_hardened libkupaldiz
-check "libkupaldiz_netbsd is hardened" is_hardened libkupaldiz_netbsd
+for library in libkupaldiz libkupaldiz_netbsd libkupaldiz_bench; do
+    check "$library is hardened" is_hardened "$library"
+done
+check "libkupaldiz takes a shadow stack" takes_shadow_stack libkupaldiz
+check "libkupaldiz_netbsd takes a shadow stack" takes_shadow_stack libkupaldiz_netbsd
+check "libkupaldiz_bench, which switches stacks, takes none" takes_none libkupaldiz_bench
 check "make installcheck" made installcheck
 if command -v cmake >/dev/null; then
     check "CMake: find_package finds the libraries" found_by_cmake
@@ -358,6 +400,7 @@ check "an upgrade: each of its files" holds_files "$older"
 check "no stale object is linked: a changed archive" relinks registry_mark_of_archive libkupaldiz change_archive
 check "no stale object is linked: changed waits" relinks registry_mark_of_waiting libkupaldiz change_waiting
 check "no stale object is linked: changed names of the pages" relinks kupaldiz_mark libkupaldiz_netbsd change_layer
+check "no stale object is linked: a changed bench" relinks kupaldiz_mark_of_bench libkupaldiz_bench change_bench
 check "an upgrade: the later version" make_later
 check "an upgrade: it is installed over the older one" made install
 check "an upgrade: each file, and none of the older version" holds_files "${older%.*}.7"

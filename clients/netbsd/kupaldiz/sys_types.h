@@ -25,10 +25,27 @@ extern "C" {
 /* kupaldiz_at - the next call of this thread is at this place. The text isn't copied. */
 void kupaldiz_at(const char *place);
 
-/* KUPALDIZ_POINT - before an atomic access or a barrier of the code's own, with the address, which is NULL for a barrier. It is evaluated once more for the
- * access. Nothing here; a library that tries schedules defines it. */
-#ifndef KUPALDIZ_POINT
-#define KUPALDIZ_POINT(address)	((void)0)
+/* What a point says of an atomic access or a barrier: KUPALDIZ_EXCHANGES is all of it. */
+enum {
+	KUPALDIZ_LOADS = 1,
+	KUPALDIZ_STORES = 2,
+	KUPALDIZ_ACQUIRES = 4,
+	KUPALDIZ_RELEASES = 8,
+	KUPALDIZ_EXCHANGES = 15
+};
+
+/* KUPALDIZ_POINT, KUPALDIZ_BARRIER - before an atomic access or a barrier of the code's own. The address is evaluated once more for the access. Nothing here;
+ * kupaldiz_bench(7), which tries schedules, has a call there. KUPALDIZ_FROM gives it the place of a macro whose accesses lie in a header. */
+#ifdef KUPALDIZ_BENCH
+void kupaldiz_point(const volatile void *address, size_t size, unsigned how, const char *place);
+#define KUPALDIZ_POINT(address, how)	kupaldiz_point(address, sizeof(*(address)), how, KUPALDIZ_HERE)
+#define KUPALDIZ_BARRIER(how)		kupaldiz_point(NULL, 0, how, KUPALDIZ_HERE)
+void kupaldiz_from(const char *place);
+#define KUPALDIZ_FROM(call)		(kupaldiz_from(KUPALDIZ_HERE), (call))
+#else
+#define KUPALDIZ_POINT(address, how)	((void)0)
+#define KUPALDIZ_BARRIER(how)		((void)0)
+#define KUPALDIZ_FROM(call)		(call)
 #endif
 
 /* Priority levels, the lowest first. A soft interrupt runs on its CPU where the CPU's level is below its own. */

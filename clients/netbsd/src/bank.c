@@ -1,6 +1,5 @@
 /* bank.c - registries and their rows, and the sections and waits that go over all of them */
 #include <errno.h>
-#include <sched.h>
 #include <stdio.h>
 #include <stdlib.h>
 
@@ -277,39 +276,6 @@ void exit_section(struct thread *me)
 
 /* ---- Waits. ---- */
 
-struct pauses begin_pauses(void)
-{
-	return (struct pauses){0, time_after(KUPALDIZ_PATIENCE * INT64_C(1000000))};
-}
-
-static bool is_past(const struct timespec *time)
-{
-	struct timespec now = time_after(0);
-	return now.tv_sec > time->tv_sec || (now.tv_sec == time->tv_sec && now.tv_nsec >= time->tv_nsec);
-}
-
-/* Whether it is time to say what the wait waits for: once. */
-bool pauses_are_over(struct pauses *pauses)
-{
-	if (pauses->tells.tv_sec == 0 || !is_past(&pauses->tells))
-		return false;
-	pauses->tells.tv_sec = 0;
-	return true;
-}
-
-/* Lets others run: at first at once, then for a time that doubles up to the longest pause. Whether it is time to say what it waits for. */
-bool pause_longer(struct pauses *pauses)
-{
-	const struct timespec pause = {0, pauses->nanoseconds};
-	if (pauses->nanoseconds < 1000)
-		sched_yield();
-	else
-		nanosleep(&pause, NULL);
-	if (pauses->nanoseconds < LONGEST_PAUSE / 2)
-		pauses->nanoseconds = pauses->nanoseconds * 2 + 1;
-	return pauses_are_over(pauses);
-}
-
 /* A wait for the sections of one bank. */
 struct bank_wait {
 	struct bank *bank;
@@ -352,12 +318,56 @@ void perform_all(struct thread *me)
 {
 	struct bank_wait waits[KUPALDIZ_CPUS];
 	struct pauses pauses = begin_pauses();
-	uint64_t waited = 0;
+	struct registry_stage met = {REGISTRY_GRACE, 0};
 	unsigned count = begin_waits(me, waits);
 	for (unsigned place = 0; place < count; place++)
-		while (!have_ended(me, &waits[place], &waited))
-			if (pause_longer(&pauses))
-				tell_of_section(me, waited);
+		while (!have_ended(me, &waits[place], &met.what))
+			if (pause_longer(&pauses, &met))
+				tell_of_section(me, met.what);
 	for (unsigned cpu = 0; cpu < KUPALDIZ_CPUS; cpu++)
 		COMES_AFTER(&cpus[cpu].edge);
+}
+
+/* ---- The end of all banks, for a process that begins anew with them. ---- */
+
+/* The owner of a row that is live; NULL where there is none. The references to it that the row notes are written to `held`. */
+const void *live_owner(size_t *held)
+{
+	for (unsigned bank = 0; bank < bank_count; bank++)
+		for (unsigned slot = 0; slot < ROWS; slot++)
+			if (banks[bank]->owners[slot] != NULL) {
+				*held = banks[bank]->rows[slot].count;
+				return banks[bank]->owners[slot];
+			}
+	return NULL;
+}
+
+/* Closes a CPU's handle, whatever the CPU was left in. */
+static void close_cpu(struct thread *me, struct registry_cpu *cpu)
+{
+	while (registry_exit(cpu) == REGISTRY_DONE)
+		;
+	done(me, registry_close_cpu(cpu));
+}
+
+static void forget_held(struct thread *me, struct row *row)
+{
+	for (size_t place = 0; place < row->count; place++)
+		done(me, registry_local_forget(&row->held[place].local));
+}
+
+static void close_bank(struct thread *me, struct bank *bank)
+{
+	for (unsigned slot = 0; slot < ROWS; slot++)
+		forget_held(me, &bank->rows[slot]);
+	for (unsigned cpu = 0; cpu < ALL_CPUS; cpu++)
+		close_cpu(me, &bank->cpus[cpu].cpu);
+	done(me, registry_close_keeper(&bank->keeper));
+}
+
+/* Closes each registry. No thread goes on in a call, and none calls the layer again. */
+void close_banks(struct thread *me)
+{
+	for (unsigned place = 0; place < bank_count; place++)
+		close_bank(me, banks[place]);
 }

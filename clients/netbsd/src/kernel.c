@@ -93,7 +93,6 @@ struct kthread {
 static pthread_mutex_t kthreads_lock = PTHREAD_MUTEX_INITIALIZER;
 static pthread_cond_t begun = PTHREAD_COND_INITIALIZER;
 static struct kthread *kthreads;	/* those that are joined at their end */
-static _Thread_local bool is_kthread;
 
 /* Runs what it was made for. */
 static void *run_kthread(void *of)
@@ -102,7 +101,7 @@ static void *run_kthread(void *of)
 	void (*body)(void *) = kthread->body;
 	void *arg = kthread->arg;
 	struct thread *me = named_thread("kthread_create", kthread->name);
-	is_kthread = true;
+	me->kthread = true;
 	me->kept = kthread->joined;
 	if (kthread->cpu != NULL)
 		bind_to(me, &cpus[kthread->cpu->ci_index]);
@@ -160,7 +159,7 @@ void kthread_exit(int code)
 {
 	struct thread *me = begin_call(__func__);
 	(void)code;
-	if (!is_kthread)
+	if (!me->kthread)
 		stop(me, "kthread_create did not make this thread");
 	pthread_exit(NULL);
 }

@@ -64,6 +64,9 @@
 #ifndef KUPALDIZ_ROWS
 #define KUPALDIZ_ROWS		REGISTRY_MOST_SLOTS
 #endif
+#ifndef KUPALDIZ_BANKS
+#define KUPALDIZ_BANKS		8192
+#endif
 #ifndef KUPALDIZ_CHANGES
 #define KUPALDIZ_CHANGES	REGISTRY_MOST_CHANGES
 #endif
@@ -84,7 +87,7 @@ enum {
 	WRITERS = KUPALDIZ_CPUS,
 	ALL_CPUS = KUPALDIZ_CPUS + 1,
 	ROWS = KUPALDIZ_ROWS,
-	MOST_BANKS = 8192,
+	MOST_BANKS = KUPALDIZ_BANKS,
 	LINE = 64,
 	MOST_PLACES = 6,
 	CHAINS = 128,
@@ -156,6 +159,7 @@ struct thread {
 	unsigned spins;			/* spin locks */
 	int level, level_before;	/* the CPU's level, and what it was before the first spin lock */
 	bool softint;
+	bool kthread;			/* kthread_create made it */
 	bool kept;			/* its memory is used again once it was joined */
 	struct thread *lender;		/* of a soft interrupt: the thread whose CPU it has */
 	struct thread *next;		/* in the list of those that are free, or in a wait */
@@ -258,7 +262,14 @@ static inline void end_wait(int before)
 	pthread_setcancelstate(before, NULL);
 }
 
-/* ---- softint.c ---- */
+/* ---- softint.c, and the threads of soft interrupts in softint_thread.c ---- */
+
+extern pthread_mutex_t pending_list;
+extern pthread_cond_t pending_changed;
+
+void note_pending(struct cpu *cpu);
+bool run_softint(struct thread *me);
+void want_softint_thread(struct thread *me, struct cpu *cpu);
 
 void offer_cpu(struct thread *me);
 void step_off(struct thread *me);
@@ -341,6 +352,10 @@ void enter_section(struct thread *me);
 void exit_section(struct thread *me);
 void perform_all(struct thread *me);
 void sweep_banks(struct thread *me);
+const void *live_owner(size_t *held);
+void close_banks(struct thread *me);
+
+/* ---- pause.c: waits. ---- */
 
 /* A wait's pauses: how long the next one is, and when it says what it waits for. */
 struct pauses {
@@ -349,7 +364,7 @@ struct pauses {
 };
 
 struct pauses begin_pauses(void);
-bool pause_longer(struct pauses *pauses);
+bool pause_longer(struct pauses *pauses, const struct registry_stage *met);
 bool pauses_are_over(struct pauses *pauses);
 
 void tell_of_section(struct thread *me, uint64_t cpu);

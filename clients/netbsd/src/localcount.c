@@ -168,7 +168,7 @@ static bool wait_once(struct thread *me, const struct registry_stage *met, kcond
 		return pauses_are_over(pauses);
 	}
 	give_mutex(me, interlock);
-	bool over = pause_longer(pauses);
+	bool over = pause_longer(pauses, met);
 	take_mutex(me, interlock);
 	return over;
 }

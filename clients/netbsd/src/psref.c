@@ -297,7 +297,7 @@ void psref_target_destroy(struct psref_target *target, struct psref_class *psref
 	int waits = begin_wait();
 	retire_row(me, at, target);
 	while (!is_freed(me, at, &met))
-		if (pause_longer(&pauses))
+		if (pause_longer(&pauses, &met))
 			tell_of_stage(me, &met, target);
 	/* A section may have released the last reference and still follow the links of what the target lies in. */
 	perform_all(me);

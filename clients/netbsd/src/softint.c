@@ -1,10 +1,4 @@
-/*
- * softint.c - softint(9) and spl(9)
- *
- * Each CPU has a thread for its soft interrupts from the first one that is scheduled there. It has the CPU while it runs a handler: by taking its
- * lock, or by getting it from the thread that has it, which waits meanwhile and gets it back. It gets it back, too, where a handler waits for a lock.
- */
-#include <stdio.h>
+/* softint.c - softint(9) and spl(9) */
 #include <stdlib.h>
 
 #include "layer.h"
@@ -18,22 +12,10 @@ struct softint {
 	bool dead, pending[KUPALDIZ_CPUS];
 };
 
-struct softint_thread {
-	struct cpu *cpu;
-	struct thread *thread;	/* NULL until it has begun */
-	bool blocked;		/* an atomic: a handler waits for a lock */
-};
-
 /* The lock of all that follows. Each CPU's `pending` is written under it, too. */
-static pthread_mutex_t list = PTHREAD_MUTEX_INITIALIZER;
-static pthread_cond_t changed = PTHREAD_COND_INITIALIZER;
+pthread_mutex_t pending_list = PTHREAD_MUTEX_INITIALIZER;
+pthread_cond_t pending_changed = PTHREAD_COND_INITIALIZER;
 static struct softint *softints;
-static struct softint_thread threads[KUPALDIZ_CPUS];
-
-static struct softint_thread *thread_of(const struct cpu *cpu)
-{
-	return &threads[cpu->info.ci_index];
-}
 
 /* ---- Levels. ---- */
 
@@ -72,10 +54,10 @@ void splx(int level)
 	end_call(me);
 }
 
-/* ---- The threads of soft interrupts. ---- */
+/* ---- Handlers. ---- */
 
 /* Writes down which levels have a soft interrupt that waits on a CPU. The caller has the list. */
-static void note_pending(struct cpu *cpu)
+void note_pending(struct cpu *cpu)
 {
 	uint32_t pending = 0;
 	for (struct softint *at = softints; at != NULL; at = at->next)
@@ -106,17 +88,17 @@ static void judge_handler(const struct thread *me)
 }
 
 /* Runs the next handler. Whether there was one. */
-static bool run_next(struct thread *me)
+bool run_softint(struct thread *me)
 {
 	int above = me->lender == NULL ? IPL_NONE : me->lender->level;
-	pthread_mutex_lock(&list);
+	pthread_mutex_lock(&pending_list);
 	struct softint *next = next_of(me->cpu, above);
 	if (next != NULL) {
 		next->pending[me->cpu->info.ci_index] = false;
 		next->running++;
 	}
 	note_pending(me->cpu);
-	pthread_mutex_unlock(&list);
+	pthread_mutex_unlock(&pending_list);
 	if (next == NULL)
 		return false;
 	me->level = next->level;
@@ -124,114 +106,11 @@ static bool run_next(struct thread *me)
 	me->call = "softint";
 	me->place = NULL;
 	judge_handler(me);
-	pthread_mutex_lock(&list);
+	pthread_mutex_lock(&pending_list);
 	if (--next->running == 0)
-		pthread_cond_broadcast(&changed);
-	pthread_mutex_unlock(&list);
+		pthread_cond_broadcast(&pending_changed);
+	pthread_mutex_unlock(&pending_list);
 	return true;
-}
-
-/* Gives the CPU back to whoever lent it, else to all. */
-static void give_cpu(struct thread *me)
-{
-	struct thread *lender = me->lender;
-	me->lender = NULL;
-	if (lender != NULL)
-		lock_pass(&me->cpu->hold, lender);
-	else
-		lock_give(&me->cpu->hold, me);
-}
-
-/* Waits for a soft interrupt of this CPU. */
-static void await_pending(struct thread *me)
-{
-	pthread_mutex_lock(&list);
-	while (me->cpu->pending == 0 && lock_owner(&me->cpu->hold) != me)
-		pthread_cond_wait(&changed, &list);
-	pthread_mutex_unlock(&list);
-}
-
-static _Noreturn void *run_all(void *of)
-{
-	struct softint_thread *softint_thread = of;
-	char name[32];
-	snprintf(name, sizeof(name), "softint/%u", softint_thread->cpu->info.ci_index);
-	struct thread *me = named_thread("softint", name);
-	me->softint = true;
-	me->cpu = softint_thread->cpu;
-	me->lwp.l_cpu = &me->cpu->info;
-	me->lwp.l_pflag = LP_BOUND | LP_INTR;
-	pthread_mutex_lock(&list);
-	softint_thread->thread = me;
-	pthread_cond_broadcast(&changed);
-	pthread_mutex_unlock(&list);
-	for (;;) {
-		await_pending(me);
-		lock_take(&me->cpu->hold, me, NULL);
-		me->holds = 1;
-		while (run_next(me))
-			;
-		me->holds = 0;
-		me->level = IPL_NONE;
-		give_cpu(me);
-	}
-}
-
-/* The thread of a CPU, which is begun where it isn't. The caller has the list. */
-static void want_thread(struct thread *me, struct cpu *cpu)
-{
-	pthread_t thread;
-	struct softint_thread *softint_thread = thread_of(cpu);
-	if (softint_thread->cpu == NULL) {
-		softint_thread->cpu = cpu;
-		if (pthread_create(&thread, NULL, run_all, softint_thread) != 0)
-			stop(me, "no thread is left");
-		pthread_detach(thread);
-	}
-	while (softint_thread->thread == NULL)
-		pthread_cond_wait(&changed, &list);
-}
-
-/* Lets the soft interrupts that wait have the CPU, and waits for it. */
-void offer_cpu(struct thread *me)
-{
-	struct softint_thread *softint_thread = thread_of(me->cpu);
-	if (__atomic_load_n(&softint_thread->blocked, __ATOMIC_ACQUIRE))
-		return;
-	softint_thread->thread->lender = me;
-	lock_pass(&me->cpu->hold, softint_thread->thread);
-	pthread_mutex_lock(&list);
-	pthread_cond_broadcast(&changed);
-	pthread_mutex_unlock(&list);
-	lock_await(&me->cpu->hold, me);
-}
-
-/* A thread that has its CPU waits for a lock: others get the CPU meanwhile. */
-void step_off(struct thread *me)
-{
-	if (!me->softint) {
-		lock_give(&me->cpu->hold, me);
-		return;
-	}
-	__atomic_store_n(&thread_of(me->cpu)->blocked, true, __ATOMIC_RELEASE);
-	give_cpu(me);
-}
-
-/* It has the lock, and goes on once it has the CPU again. */
-void step_on(struct thread *me)
-{
-	if (!me->softint) {
-		lock_take(&me->cpu->hold, me, tell_of_cpu);
-		return;
-	}
-	pthread_mutex_lock(&list);
-	__atomic_fetch_or(&me->cpu->pending, UINT32_C(1) << me->level, __ATOMIC_RELEASE);
-	__atomic_store_n(&thread_of(me->cpu)->blocked, false, __ATOMIC_RELEASE);
-	pthread_mutex_unlock(&list);
-	lock_take(&me->cpu->hold, me, NULL);
-	pthread_mutex_lock(&list);
-	note_pending(me->cpu);
-	pthread_mutex_unlock(&list);
 }
 
 /* ---- softint(9). ---- */
@@ -245,10 +124,10 @@ void *softint_establish(unsigned flags, void (*handler)(void *), void *arg)
 	made->handler = handler;
 	made->arg = arg;
 	made->level = IPL_SOFTCLOCK + (int)(flags & SOFTINT_LVLMASK & 3);
-	pthread_mutex_lock(&list);
+	pthread_mutex_lock(&pending_list);
 	made->next = softints;
 	softints = made;
-	pthread_mutex_unlock(&list);
+	pthread_mutex_unlock(&pending_list);
 	return made;
 }
 
@@ -271,13 +150,13 @@ static void want_established(const struct thread *me, const struct softint *soft
 void schedule_on(struct thread *me, void *cookie, struct cpu *cpu)
 {
 	struct softint *softint = cookie;
-	pthread_mutex_lock(&list);
+	pthread_mutex_lock(&pending_list);
 	want_established(me, softint);
-	want_thread(me, cpu);
+	want_softint_thread(me, cpu);
 	softint->pending[cpu->info.ci_index] = true;
 	note_pending(cpu);
-	pthread_cond_broadcast(&changed);
-	pthread_mutex_unlock(&list);
+	pthread_cond_broadcast(&pending_changed);
+	pthread_mutex_unlock(&pending_list);
 }
 
 void softint_schedule(void *cookie)
@@ -294,10 +173,10 @@ static void await_handlers(struct thread *me, struct softint *softint)
 {
 	struct pauses pauses = begin_pauses();
 	while (softint->running > 0) {
-		pthread_mutex_unlock(&list);
-		if (pause_longer(&pauses))
+		pthread_mutex_unlock(&pending_list);
+		if (pause_longer(&pauses, NULL))
 			say(me, "waits for its handler");
-		pthread_mutex_lock(&list);
+		pthread_mutex_lock(&pending_list);
 	}
 }
 
@@ -307,7 +186,7 @@ void softint_disestablish(void *cookie)
 	struct softint *softint = cookie, **at = &softints;
 	want_sleepable(me);
 	int waits = begin_wait();
-	pthread_mutex_lock(&list);
+	pthread_mutex_lock(&pending_list);
 	want_established(me, softint);
 	softint->dead = true;
 	for (unsigned cpu = 0; cpu < KUPALDIZ_CPUS; cpu++) {
@@ -318,7 +197,7 @@ void softint_disestablish(void *cookie)
 	while (*at != softint)
 		at = &(*at)->next;
 	*at = softint->next;
-	pthread_mutex_unlock(&list);
+	pthread_mutex_unlock(&pending_list);
 	end_wait(waits);
 	free(softint);
 }

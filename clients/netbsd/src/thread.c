@@ -89,6 +89,7 @@ struct thread *named_thread(const char *call, const char *name)
 	snprintf(me->name, sizeof(me->name), "%s", name);
 	me->lwp.l_name = me->name;
 	me->rounds = 0;
+	me->kthread = false;
 	__atomic_store_n(&me->id, gettid(), __ATOMIC_RELAXED);
 	kupaldiz_self = me;
 	return me;

@@ -18,27 +18,27 @@ extern "C" {
 #pragma GCC diagnostic ignored "-Wtsan"
 #endif
 
-#define atomic_load_relaxed(at)	(__extension__({ KUPALDIZ_POINT(at); __atomic_load_n(at, __ATOMIC_RELAXED); }))
-#define atomic_load_acquire(at)	(__extension__({ KUPALDIZ_POINT(at); __atomic_load_n(at, __ATOMIC_ACQUIRE); }))
-#define atomic_load_consume(at)	(__extension__({ KUPALDIZ_POINT(at); __atomic_load_n(at, __ATOMIC_ACQUIRE); }))
-#define atomic_store_relaxed(at, value)	(__extension__({ KUPALDIZ_POINT(at); __atomic_store_n(at, value, __ATOMIC_RELAXED); }))
-#define atomic_store_release(at, value)	(__extension__({ KUPALDIZ_POINT(at); __atomic_store_n(at, value, __ATOMIC_RELEASE); }))
+#define atomic_load_relaxed(at)	(__extension__({ KUPALDIZ_POINT(at, KUPALDIZ_LOADS); __atomic_load_n(at, __ATOMIC_RELAXED); }))
+#define atomic_load_acquire(at)	(__extension__({ KUPALDIZ_POINT(at, KUPALDIZ_LOADS | KUPALDIZ_ACQUIRES); __atomic_load_n(at, __ATOMIC_ACQUIRE); }))
+#define atomic_load_consume(at)	(__extension__({ KUPALDIZ_POINT(at, KUPALDIZ_LOADS | KUPALDIZ_ACQUIRES); __atomic_load_n(at, __ATOMIC_ACQUIRE); }))
+#define atomic_store_relaxed(at, value)	(__extension__({ KUPALDIZ_POINT(at, KUPALDIZ_STORES); __atomic_store_n(at, value, __ATOMIC_RELAXED); }))
+#define atomic_store_release(at, value)	(__extension__({ KUPALDIZ_POINT(at, KUPALDIZ_STORES | KUPALDIZ_RELEASES); __atomic_store_n(at, value, __ATOMIC_RELEASE); }))
 
 static inline void membar_acquire(void)
 {
-	KUPALDIZ_POINT(NULL);
+	KUPALDIZ_BARRIER(KUPALDIZ_ACQUIRES);
 	__atomic_thread_fence(__ATOMIC_ACQUIRE);
 }
 
 static inline void membar_release(void)
 {
-	KUPALDIZ_POINT(NULL);
+	KUPALDIZ_BARRIER(KUPALDIZ_RELEASES);
 	__atomic_thread_fence(__ATOMIC_RELEASE);
 }
 
 static inline void membar_sync(void)
 {
-	KUPALDIZ_POINT(NULL);
+	KUPALDIZ_BARRIER(KUPALDIZ_ACQUIRES | KUPALDIZ_RELEASES);
 	__atomic_thread_fence(__ATOMIC_SEQ_CST);
 }
 
@@ -52,68 +52,68 @@ static inline void membar_sync(void)
 #define KUPALDIZ_ATOMICS(name, type, number) \
 	static inline void atomic_add_##name(volatile type *at, number value) \
 	{ \
-		KUPALDIZ_POINT(at); \
+		KUPALDIZ_POINT(at, KUPALDIZ_EXCHANGES); \
 		__atomic_fetch_add(at, value, __ATOMIC_SEQ_CST); \
 	} \
 	static inline type atomic_add_##name##_nv(volatile type *at, number value) \
 	{ \
-		KUPALDIZ_POINT(at); \
+		KUPALDIZ_POINT(at, KUPALDIZ_EXCHANGES); \
 		return (type)__atomic_add_fetch(at, value, __ATOMIC_SEQ_CST); \
 	}
 
 #define KUPALDIZ_COUNTS(name, type) \
 	static inline void atomic_inc_##name(volatile type *at) \
 	{ \
-		KUPALDIZ_POINT(at); \
+		KUPALDIZ_POINT(at, KUPALDIZ_EXCHANGES); \
 		__atomic_fetch_add(at, 1, __ATOMIC_SEQ_CST); \
 	} \
 	static inline type atomic_inc_##name##_nv(volatile type *at) \
 	{ \
-		KUPALDIZ_POINT(at); \
+		KUPALDIZ_POINT(at, KUPALDIZ_EXCHANGES); \
 		return (type)__atomic_add_fetch(at, 1, __ATOMIC_SEQ_CST); \
 	} \
 	static inline void atomic_dec_##name(volatile type *at) \
 	{ \
-		KUPALDIZ_POINT(at); \
+		KUPALDIZ_POINT(at, KUPALDIZ_EXCHANGES); \
 		__atomic_fetch_sub(at, 1, __ATOMIC_SEQ_CST); \
 	} \
 	static inline type atomic_dec_##name##_nv(volatile type *at) \
 	{ \
-		KUPALDIZ_POINT(at); \
+		KUPALDIZ_POINT(at, KUPALDIZ_EXCHANGES); \
 		return (type)__atomic_sub_fetch(at, 1, __ATOMIC_SEQ_CST); \
 	}
 
 #define KUPALDIZ_BITS(name, type) \
 	static inline void atomic_or_##name(volatile type *at, type bits) \
 	{ \
-		KUPALDIZ_POINT(at); \
+		KUPALDIZ_POINT(at, KUPALDIZ_EXCHANGES); \
 		__atomic_fetch_or(at, bits, __ATOMIC_SEQ_CST); \
 	} \
 	static inline type atomic_or_##name##_nv(volatile type *at, type bits) \
 	{ \
-		KUPALDIZ_POINT(at); \
+		KUPALDIZ_POINT(at, KUPALDIZ_EXCHANGES); \
 		return __atomic_or_fetch(at, bits, __ATOMIC_SEQ_CST); \
 	} \
 	static inline void atomic_and_##name(volatile type *at, type bits) \
 	{ \
-		KUPALDIZ_POINT(at); \
+		KUPALDIZ_POINT(at, KUPALDIZ_EXCHANGES); \
 		__atomic_fetch_and(at, bits, __ATOMIC_SEQ_CST); \
 	} \
 	static inline type atomic_and_##name##_nv(volatile type *at, type bits) \
 	{ \
-		KUPALDIZ_POINT(at); \
+		KUPALDIZ_POINT(at, KUPALDIZ_EXCHANGES); \
 		return __atomic_and_fetch(at, bits, __ATOMIC_SEQ_CST); \
 	}
 
 #define KUPALDIZ_SWAPS(name, type) \
 	static inline type atomic_swap_##name(volatile type *at, type value) \
 	{ \
-		KUPALDIZ_POINT(at); \
+		KUPALDIZ_POINT(at, KUPALDIZ_EXCHANGES); \
 		return __atomic_exchange_n(at, value, __ATOMIC_SEQ_CST); \
 	} \
 	static inline type atomic_cas_##name(volatile type *at, type expected, type value) \
 	{ \
-		KUPALDIZ_POINT(at); \
+		KUPALDIZ_POINT(at, KUPALDIZ_EXCHANGES); \
 		__atomic_compare_exchange_n(at, &expected, value, false, __ATOMIC_SEQ_CST, __ATOMIC_SEQ_CST); \
 		return expected; \
 	} \
@@ -141,13 +141,13 @@ KUPALDIZ_SWAPS(64, uint64_t)
 
 static inline void *atomic_swap_ptr(volatile void *at, void *value)
 {
-	KUPALDIZ_POINT(at);
+	KUPALDIZ_POINT((void *volatile *)at, KUPALDIZ_EXCHANGES);
 	return __atomic_exchange_n((void *volatile *)at, value, __ATOMIC_SEQ_CST);
 }
 
 static inline void *atomic_cas_ptr(volatile void *at, void *expected, void *value)
 {
-	KUPALDIZ_POINT(at);
+	KUPALDIZ_POINT((void *volatile *)at, KUPALDIZ_EXCHANGES);
 	__atomic_compare_exchange_n((void *volatile *)at, &expected, value, false, __ATOMIC_SEQ_CST, __ATOMIC_SEQ_CST);
 	return expected;
 }

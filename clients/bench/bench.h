@@ -1,0 +1,110 @@
+/*
+ * bench.h - run a driver's threads in every order
+ *
+ * A test writes a function that prepares the driver and makes threads, and calls bench_explore with it. The threads call the driver, which includes
+ * sys/ and net/ as with kupaldiz_netbsd(7). Each call of the layer, each atomic access and each barrier is a point: the bench may go on with another
+ * thread there. bench_explore runs the threads in one order after another, and stops at the first order in which something is wrong.
+ *
+ * Nothing of the layer is called outside of bench_explore. All threads run in one thread of the process, in a child of it. Before each run the writable
+ * memory of the program gets the bytes that it had when bench_explore was called; what the program itself has allocated is left as it is.
+ */
+#ifndef KUPALDIZ_BENCH_H
+#define KUPALDIZ_BENCH_H
+
+#include <stdbool.h>
+#include <stddef.h>
+#include <stdint.h>
+
+#include <kupaldiz/cpu.h>
+
+#ifdef __cplusplus
+extern "C" {
+#endif
+
+enum {
+	BENCH_THREADS = 16,	/* at most, with the first one and the layer's own */
+	BENCH_POINTS = 2000,	/* of one run, at most */
+	BENCH_OUTCOMES = 256,
+	BENCH_TEXT = 64,
+	BENCH_LINE = 768,
+	BENCH_SCHEDULE = BENCH_POINTS + 16
+};
+
+/* How often the runs that were tried came to an outcome. */
+struct bench_outcome {
+	char text[BENCH_TEXT];
+	uint64_t count;
+};
+
+/* What bench_explore has found. */
+struct bench_found {
+	uint64_t schedules;	/* runs that came to their end */
+	uint64_t cut;		/* runs that were left: the rest of each is the same as one that was tried */
+	uint64_t states;	/* points that were come to by a new way */
+	uint64_t switches;	/* from one thread to another */
+	uint64_t points;
+	uint64_t barred;	/* points at which a thread, after 200 without another one, didn't go on */
+	bool exhausted;		/* every schedule was tried, or is the same as one that was */
+	int bound;		/* every schedule with at most so many preemptions was tried; -1 where none */
+	uint64_t random;	/* runs by random priorities */
+	uint64_t first;		/* how many runs it took until the fault; 0 where none was found */
+	unsigned preemptions;	/* of the schedule below */
+	char schedule[BENCH_SCHEDULE];	/* with the fault, as few preemptions as were found */
+	char line[BENCH_LINE];	/* what is wrong; empty where nothing is */
+	uint64_t others;	/* runs with an outcome beyond the room */
+	unsigned outcomes;
+	struct bench_outcome outcome[BENCH_OUTCOMES];
+};
+
+/* How bench_explore goes about it. What is 0 has the value that is told here. */
+struct bench_options {
+	const char *name;	/* for its lines; "bench" */
+	void (*finish)(void);	/* runs when all threads have ended */
+	uint64_t schedules;	/* of the search through all: at most so many; 100,000 */
+	uint64_t bounded;	/* then, for each number of preemptions from 0 on: at most so many; 20,000 */
+	unsigned preemptions;	/* up to this number; 2 */
+	uint64_t random;	/* then so many runs by random priorities; 10,000 */
+	uint64_t seed;		/* of these; 1 */
+	unsigned ticks;		/* how often the clock goes on while a thread could; 1 */
+	unsigned left;		/* blocks of memory that may be left at the end */
+	bool whole;		/* without the reduction */
+	bool frees;		/* a free commutes with no step: plain accesses that aren't announced are tried before and after it */
+	bool quiet;		/* prints nothing */
+	const char *replay;	/* a schedule: this one alone is run */
+	const char *picture;	/* the name of a file that gets the picture of the fault */
+	struct bench_found *found;	/* gets what was found, unless NULL */
+};
+
+/*
+ * bench_explore - run what `setup` prepares in one order after another
+ *
+ * `setup` runs in the first thread and makes the others by bench_thread or kthread_create; they begin when it has returned. `options` may be NULL.
+ * Returns 0 where no run went wrong, 1 where one did. Without a thread, or with a schedule that doesn't fit, it ends the process with
+ * status 2 after one line on standard error.
+ */
+int bench_explore(void (*setup)(void), const struct bench_options *options);
+
+/* bench_thread - a thread that runs `body(arg)`. Its name isn't copied. Only `setup` and threads make threads. */
+void bench_thread(const char *name, void (*body)(void *), void *arg);
+
+/* bench_point - a point of the test's own, which touches nothing. */
+void bench_point(void);
+
+/* bench_outcome - add a text to the outcome of this run. */
+void bench_outcome(const char *format, ...) __attribute__((format(printf, 1, 2)));
+
+/*
+ * bench_reads, bench_writes - the caller reads or writes this memory by plain accesses
+ *
+ * The run is wrong where another thread accesses it without an order, and one of the two writes. Locks, waits, and atomics with acquire and release
+ * make an order. It is wrong, too, where the memory was given back by kmem_free.
+ */
+void bench_reads(const volatile void *at, size_t size, const char *place);
+void bench_writes(const volatile void *at, size_t size, const char *place);
+#define BENCH_READS(lvalue)	bench_reads(&(lvalue), sizeof(lvalue), KUPALDIZ_HERE)
+#define BENCH_WRITES(lvalue)	bench_writes(&(lvalue), sizeof(lvalue), KUPALDIZ_HERE)
+
+#ifdef __cplusplus
+}
+#endif
+#endif

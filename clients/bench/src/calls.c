@@ -1,0 +1,440 @@
+/*
+ * calls.c - the layer's calls for locks, sections and references, each with its point
+ *
+ * A call announces where it is and what must hold before it can go on, says what it touches, and then is the layer's own. Calls that only look at what
+ * is the thread's have no point.
+ */
+#include <stdio.h>
+#include <string.h>
+
+#include "inside.h"
+
+struct cpu *cpu_here(const struct routine *me)
+{
+	return me->self->cpu;
+}
+
+/* ---- Calls that touch one thing. ---- */
+
+void at_thing(const char *call, enum kind kind, const void *thing, size_t size, unsigned how)
+{
+	point(call, NULL, NULL, NULL);
+	if (thing != NULL)
+		want_live(call, thing, size);
+	touch(kind, thing, 0, how);
+}
+
+/* ---- Calls for which the thread has its CPU. ---- */
+
+void at_cpu(const char *call, unsigned how)
+{
+	struct routine *me = here(call);
+	bool needs = me->self->holds == 0;
+	point(call, NULL, needs ? is_free : NULL, &cpu_here(me)->hold);
+	if (needs)
+		touch(ON_LOCK, &cpu_here(me)->hold, 0, WRITES | TAKES | how);
+}
+
+/* A call that may give the CPU back. */
+void leaving_cpu(const char *call)
+{
+	struct routine *me = here(call);
+	point(call, NULL, NULL, NULL);
+	if (me->self->holds == 1)
+		touch(ON_LOCK, &cpu_here(me)->hold, 0, WRITES | GIVES);
+}
+
+/* ---- mutex(9). ---- */
+
+LAYER(void, mutex_enter, (kmutex_t *mutex));
+LAYER(void, mutex_exit, (kmutex_t *mutex));
+LAYER(void, mutex_spin_enter, (kmutex_t *mutex));
+LAYER(void, mutex_spin_exit, (kmutex_t *mutex));
+LAYER(int, mutex_tryenter, (kmutex_t *mutex));
+LAYER(void, mutex_destroy, (kmutex_t *mutex));
+LAYER(bool, mutex_obj_free, (kmutex_t *mutex));
+
+static bool is_mutex(const kmutex_t *mutex)
+{
+	return is_live(mutex) && mutex->mtx_made == A_MUTEX;
+}
+
+/* Whether the thread has its CPU, as a soft interrupt has, and gives it back where it waits for the mutex. */
+static bool steps_off(const struct routine *me, const kmutex_t *mutex)
+{
+	return me->self->holds > 0 && !mutex->mtx_spins;
+}
+
+/* Whether a mutex is free, and the CPU too where the mutex spins. What isn't a mutex, or is the thread's already, is for the layer to judge. */
+static bool can_take(const struct routine *me)
+{
+	const kmutex_t *mutex = me->of;
+	if (!is_mutex(mutex) || mutex->mtx_word == (uintptr_t)me->self || steps_off(me, mutex))
+		return true;
+	const uintptr_t *hold = &me->self->cpu->hold;
+	return mutex->mtx_word == 0 && (!mutex->mtx_spins || me->self->holds > 0 || *hold == 0);
+}
+
+static void at_mutex(const char *call, kmutex_t *mutex, guard_fn *guard, unsigned how)
+{
+	struct routine *me = here(call);
+	point(call, NULL, guard, mutex);
+	want_live(call, mutex, sizeof(*mutex));
+	touch(ON_LOCK, mutex, 0, WRITES | (how == TAKES && steps_off(me, mutex) ? TRIES : how));
+	if (mutex->mtx_spins)
+		touch(ON_LOCK, &cpu_here(me)->hold, 0, WRITES | how);
+}
+
+void mutex_enter(kmutex_t *mutex)
+{
+	at_mutex(__func__, mutex, can_take, TAKES);
+	layer_mutex_enter(mutex);
+}
+
+void mutex_spin_enter(kmutex_t *mutex)
+{
+	at_mutex(__func__, mutex, can_take, TAKES);
+	layer_mutex_spin_enter(mutex);
+}
+
+void mutex_exit(kmutex_t *mutex)
+{
+	at_mutex(__func__, mutex, NULL, GIVES);
+	layer_mutex_exit(mutex);
+}
+
+void mutex_spin_exit(kmutex_t *mutex)
+{
+	at_mutex(__func__, mutex, NULL, GIVES);
+	layer_mutex_spin_exit(mutex);
+}
+
+int mutex_tryenter(kmutex_t *mutex)
+{
+	at_mutex(__func__, mutex, NULL, 0);
+	int taken = layer_mutex_tryenter(mutex);
+	if (taken)
+		take_clock(ON_LOCK, mutex, 0);
+	return taken;
+}
+
+void mutex_destroy(kmutex_t *mutex)
+{
+	at_thing(__func__, ON_LOCK, mutex, sizeof(*mutex), WRITES);
+	note_ended(mutex);
+	layer_mutex_destroy(mutex);
+}
+
+bool mutex_obj_free(kmutex_t *mutex)
+{
+	at_thing(__func__, ON_LOCK, mutex, sizeof(*mutex), WRITES);
+	return layer_mutex_obj_free(mutex);
+}
+
+/* ---- condvar(9). ---- */
+
+LAYER(void, cv_wait, (kcondvar_t *cv, kmutex_t *mutex));
+LAYER(int, cv_wait_sig, (kcondvar_t *cv, kmutex_t *mutex));
+LAYER(int, cv_timedwait, (kcondvar_t *cv, kmutex_t *mutex, int ticks));
+LAYER(int, cv_timedwait_sig, (kcondvar_t *cv, kmutex_t *mutex, int ticks));
+LAYER(void, cv_signal, (kcondvar_t *cv));
+LAYER(void, cv_broadcast, (kcondvar_t *cv));
+LAYER(bool, cv_has_waiters, (kcondvar_t *cv));
+LAYER(void, cv_destroy, (kcondvar_t *cv));
+
+/* A wait gives the lock back, and takes it again in the step in which the thread goes on. */
+static struct routine *begin_cv_wait(const char *call, kcondvar_t *cv, kmutex_t *mutex)
+{
+	struct routine *me = here(call);
+	point(call, NULL, NULL, NULL);
+	want_live(call, cv, sizeof(*cv));
+	want_live(call, mutex, sizeof(*mutex));
+	touch(ON_CV, cv, 0, WRITES);
+	touch(ON_LOCK, mutex, 0, WRITES | GIVES);
+	me->retake = mutex;
+	return me;
+}
+
+static void end_cv_wait(struct routine *me, kmutex_t *mutex)
+{
+	touch(ON_LOCK, mutex, 0, WRITES | TAKES);
+	me->retake = NULL;
+}
+
+void cv_wait(kcondvar_t *cv, kmutex_t *mutex)
+{
+	struct routine *me = begin_cv_wait(__func__, cv, mutex);
+	layer_cv_wait(cv, mutex);
+	end_cv_wait(me, mutex);
+}
+
+int cv_wait_sig(kcondvar_t *cv, kmutex_t *mutex)
+{
+	struct routine *me = begin_cv_wait(__func__, cv, mutex);
+	int answer = layer_cv_wait_sig(cv, mutex);
+	end_cv_wait(me, mutex);
+	return answer;
+}
+
+int cv_timedwait(kcondvar_t *cv, kmutex_t *mutex, int ticks)
+{
+	struct routine *me = begin_cv_wait(__func__, cv, mutex);
+	int answer = layer_cv_timedwait(cv, mutex, ticks);
+	end_cv_wait(me, mutex);
+	return answer;
+}
+
+int cv_timedwait_sig(kcondvar_t *cv, kmutex_t *mutex, int ticks)
+{
+	struct routine *me = begin_cv_wait(__func__, cv, mutex);
+	int answer = layer_cv_timedwait_sig(cv, mutex, ticks);
+	end_cv_wait(me, mutex);
+	return answer;
+}
+
+static void at_wake(const char *call, kcondvar_t *cv)
+{
+	at_thing(call, ON_CV, cv, sizeof(*cv), WRITES);
+	note_wake(call, run.now_runs->place, cv, bucket_has(NULL, cv));
+}
+
+void cv_signal(kcondvar_t *cv)
+{
+	at_wake(__func__, cv);
+	layer_cv_signal(cv);
+}
+
+void cv_broadcast(kcondvar_t *cv)
+{
+	at_wake(__func__, cv);
+	layer_cv_broadcast(cv);
+}
+
+bool cv_has_waiters(kcondvar_t *cv)
+{
+	at_thing(__func__, ON_CV, cv, sizeof(*cv), 0);
+	return layer_cv_has_waiters(cv);
+}
+
+void cv_destroy(kcondvar_t *cv)
+{
+	at_thing(__func__, ON_CV, cv, sizeof(*cv), WRITES);
+	note_ended(cv);
+	layer_cv_destroy(cv);
+}
+
+/* ---- rwlock(9): a thread that waits for one is in the lock's own queue. ---- */
+
+LAYER(void, rw_enter, (krwlock_t *rw, const krw_t how));
+LAYER(int, rw_tryenter, (krwlock_t *rw, const krw_t how));
+LAYER(void, rw_exit, (krwlock_t *rw));
+LAYER(int, rw_tryupgrade, (krwlock_t *rw));
+LAYER(void, rw_downgrade, (krwlock_t *rw));
+LAYER(void, rw_destroy, (krwlock_t *rw));
+
+void rw_enter(krwlock_t *rw, const krw_t how)
+{
+	at_thing(__func__, ON_LOCK, rw, sizeof(*rw), WRITES);
+	layer_rw_enter(rw, how);
+	touch(ON_LOCK, rw, 0, WRITES);
+	take_clock(ON_LOCK, rw, 0);
+}
+
+int rw_tryenter(krwlock_t *rw, const krw_t how)
+{
+	at_thing(__func__, ON_LOCK, rw, sizeof(*rw), WRITES);
+	int taken = layer_rw_tryenter(rw, how);
+	if (taken)
+		take_clock(ON_LOCK, rw, 0);
+	return taken;
+}
+
+void rw_exit(krwlock_t *rw)
+{
+	at_thing(__func__, ON_LOCK, rw, sizeof(*rw), WRITES);
+	give_clock(ON_LOCK, rw, 0);
+	layer_rw_exit(rw);
+}
+
+int rw_tryupgrade(krwlock_t *rw)
+{
+	at_thing(__func__, ON_LOCK, rw, sizeof(*rw), WRITES);
+	return layer_rw_tryupgrade(rw);
+}
+
+void rw_downgrade(krwlock_t *rw)
+{
+	at_thing(__func__, ON_LOCK, rw, sizeof(*rw), WRITES);
+	give_clock(ON_LOCK, rw, 0);
+	layer_rw_downgrade(rw);
+}
+
+void rw_destroy(krwlock_t *rw)
+{
+	at_thing(__func__, ON_LOCK, rw, sizeof(*rw), WRITES);
+	note_ended(rw);
+	layer_rw_destroy(rw);
+}
+
+/* ---- pserialize(9). ---- */
+
+LAYER(int, pserialize_read_enter, (void));
+LAYER(void, pserialize_read_exit, (int s));
+LAYER(void, pserialize_perform, (pserialize_t psz));
+LAYER(void, pserialize_destroy, (pserialize_t psz));
+
+int pserialize_read_enter(void)
+{
+	at_cpu(__func__, 0);
+	return layer_pserialize_read_enter();
+}
+
+void pserialize_read_exit(int s)
+{
+	leaving_cpu(__func__);
+	layer_pserialize_read_exit(s);
+}
+
+void pserialize_perform(pserialize_t psz)
+{
+	at_thing(__func__, ON_TARGET, psz, 1, 0);
+	layer_pserialize_perform(psz);
+	touch(ON_TARGET, psz, 0, 0);
+	for (unsigned cpu = 0; cpu < KUPALDIZ_CPUS; cpu++)
+		take_clock(ON_SECTION, NULL, cpu);
+}
+
+void pserialize_destroy(pserialize_t psz)
+{
+	at_thing(__func__, ON_TARGET, psz, 1, WRITES);
+	layer_pserialize_destroy(psz);
+}
+
+/* ---- psref(9). ---- */
+
+LAYER(void, psref_class_destroy, (struct psref_class *psref_class));
+LAYER(void, psref_target_init, (struct psref_target *target, struct psref_class *psref_class));
+LAYER(void, psref_target_destroy, (struct psref_target *target, struct psref_class *psref_class));
+LAYER(void, psref_acquire, (struct psref *psref, const struct psref_target *target, struct psref_class *psref_class));
+LAYER(void, psref_release, (struct psref *psref, const struct psref_target *target, struct psref_class *psref_class));
+LAYER(void, psref_copy, (struct psref *to, const struct psref *from, struct psref_class *psref_class));
+LAYER(bool, psref_held, (const struct psref_target *target, struct psref_class *psref_class));
+
+void psref_class_destroy(struct psref_class *psref_class)
+{
+	at_thing(__func__, ON_TARGET, psref_class, 1, WRITES);
+	layer_psref_class_destroy(psref_class);
+}
+
+void psref_target_init(struct psref_target *target, struct psref_class *psref_class)
+{
+	at_thing(__func__, ON_TARGET, target, sizeof(*target), WRITES);
+	want_live(__func__, psref_class, 1);
+	touch(ON_TARGET, psref_class, 0, 0);
+	layer_psref_target_init(target, psref_class);
+}
+
+void psref_target_destroy(struct psref_target *target, struct psref_class *psref_class)
+{
+	struct routine *me = here(__func__);
+	at_thing(__func__, ON_TARGET, target, sizeof(*target), WRITES);
+	want_live(__func__, psref_class, 1);
+	touch(ON_TARGET, psref_class, 0, 0);
+	me->target = target;
+	layer_psref_target_destroy(target, psref_class);
+	me->target = NULL;
+	touch(ON_TARGET, psref_class, 0, 0);
+	take_clock(ON_REFERENCES, target, 0);
+}
+
+/* A call with a reference of this CPU's to a target. */
+static void at_reference(const char *call, const struct psref_target *target, unsigned how)
+{
+	struct routine *me = here(call);
+	at_cpu(call, GIVES);
+	want_live(call, target, sizeof(*target));
+	touch(ON_REFERENCES, target, cpu_here(me)->info.ci_index, how);
+	touch(ON_TARGET, target, 0, 0);
+}
+
+void psref_acquire(struct psref *psref, const struct psref_target *target, struct psref_class *psref_class)
+{
+	at_reference(__func__, target, WRITES);
+	layer_psref_acquire(psref, target, psref_class);
+}
+
+void psref_release(struct psref *psref, const struct psref_target *target, struct psref_class *psref_class)
+{
+	at_reference(__func__, target, WRITES);
+	give_clock(ON_REFERENCES, target, 0);
+	layer_psref_release(psref, target, psref_class);
+	++*releases_of(target);
+}
+
+void psref_copy(struct psref *to, const struct psref *from, struct psref_class *psref_class)
+{
+	at_reference(__func__, from->psref_target, WRITES);
+	layer_psref_copy(to, from, psref_class);
+}
+
+bool psref_held(const struct psref_target *target, struct psref_class *psref_class)
+{
+	at_reference(__func__, target, 0);
+	return layer_psref_held(target, psref_class);
+}
+
+/* ---- localcount(9). ---- */
+
+LAYER(void, localcount_init, (struct localcount *lc));
+LAYER(void, localcount_fini, (struct localcount *lc));
+LAYER(void, localcount_drain, (struct localcount *lc, kcondvar_t *cv, kmutex_t *interlock));
+LAYER(void, localcount_acquire, (struct localcount *lc));
+LAYER(void, localcount_release, (struct localcount *lc, kcondvar_t *cv, kmutex_t *interlock));
+
+void localcount_init(struct localcount *lc)
+{
+	at_thing(__func__, ON_TARGET, lc, sizeof(*lc), WRITES);
+	layer_localcount_init(lc);
+}
+
+void localcount_fini(struct localcount *lc)
+{
+	at_thing(__func__, ON_TARGET, lc, sizeof(*lc), WRITES);
+	layer_localcount_fini(lc);
+}
+
+void localcount_drain(struct localcount *lc, kcondvar_t *cv, kmutex_t *interlock)
+{
+	struct routine *me = here(__func__);
+	at_thing(__func__, ON_TARGET, lc, sizeof(*lc), WRITES);
+	want_live(__func__, interlock, sizeof(*interlock));
+	touch(ON_LOCK, interlock, 0, WRITES | GIVES);
+	me->target = lc;
+	me->retake = interlock;
+	layer_localcount_drain(lc, cv, interlock);
+	end_cv_wait(me, interlock);
+	me->target = NULL;
+	take_clock(ON_REFERENCES, lc, 0);
+}
+
+void localcount_acquire(struct localcount *lc)
+{
+	struct routine *me = here(__func__);
+	at_cpu(__func__, GIVES);
+	want_live(__func__, lc, sizeof(*lc));
+	touch(ON_REFERENCES, lc, cpu_here(me)->info.ci_index, WRITES);
+	touch(ON_TARGET, lc, 0, 0);
+	layer_localcount_acquire(lc);
+}
+
+void localcount_release(struct localcount *lc, kcondvar_t *cv, kmutex_t *interlock)
+{
+	struct routine *me = here(__func__);
+	at_cpu(__func__, GIVES);
+	want_live(__func__, lc, sizeof(*lc));
+	touch(ON_REFERENCES, lc, cpu_here(me)->info.ci_index, WRITES);
+	touch(ON_TARGET, lc, 0, 0);
+	give_clock(ON_REFERENCES, lc, 0);
+	layer_localcount_release(lc, cv, interlock);
+	++*releases_of(lc);
+}

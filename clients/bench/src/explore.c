@@ -1,0 +1,464 @@
+/*
+ * explore.c - the search: one run after another, in a child of the process
+ *
+ * First all schedules, with the reduction; where these don't end, all with at most 0, 1, 2, .. preemptions; and then some by random priorities. Once a run
+ * goes wrong, schedules with fewer preemptions are tried until one of them does.
+ */
+#include <signal.h>
+#include <stdarg.h>
+#include <stdio.h>
+#include <stdlib.h>
+#include <string.h>
+#include <sys/mman.h>
+#include <sys/wait.h>
+#include <unistd.h>
+
+#include "inside.h"
+
+struct board *board;
+struct bench_options options;
+static void (*prepare)(void);
+
+void refuse(const char *format, ...)
+{
+	va_list words;
+	fprintf(stderr, "%s: ", options.name == NULL ? "bench" : options.name);
+	va_start(words, format);
+	vfprintf(stderr, format, words);
+	va_end(words);
+	fputc('\n', stderr);
+	fflush(NULL);
+	_exit(2);
+}
+
+/* The run is wrong: it is left. */
+void fail(const char *format, ...)
+{
+	va_list words;
+	va_start(words, format);
+	vsnprintf(board->found.line, sizeof(board->found.line), format, words);
+	va_end(words);
+	leave_run(FAILED);
+}
+
+/* ---- One run. ---- */
+
+static void judge_end(void)
+{
+	size_t held = 0;
+	if (live_owner(&held) != NULL)
+		fail(held > 0 ? "a local count with %zu references is left at the end" : "a target or a local count is left at the end", held);
+	judge_heap();
+}
+
+/* The body of the first thread. */
+static void run_setup(void *arg)
+{
+	(void)arg;
+	kupaldiz_self = named_thread("bench_explore", "setup");
+	prepare();
+	if (run.count == 1)
+		refuse("setup has made no thread");
+	start_routines();
+	run.phase = RUNNING;
+	point("finish", NULL, all_have_ended, NULL);
+	for (unsigned number = 1; number < run.count; number++)
+		touch(ON_THREAD, &run.routines[number], 0, ORDERS | WRITES | TAKES);
+	run.phase = FINISHING;
+	if (options.finish != NULL)
+		options.finish();
+	judge_end();
+	leave_run(ENDED_WELL);
+}
+
+static void keep_names(void)
+{
+	board->ended = 0;
+	for (unsigned number = 0; number < run.count; number++) {
+		const struct routine *at = &run.routines[number];
+		const char *name = at->name != NULL ? at->name : at->self != NULL ? at->self->name : "?";
+		snprintf(board->names[number], sizeof(board->names[number]), "%s", name);
+		board->ended |= (uint32_t)at->ended << number;
+	}
+	snprintf(board->names[THREADS - 1], sizeof(board->names[0]), "clock");
+}
+
+static void keep_outcome(void)
+{
+	struct bench_found *found = &board->found;
+	for (unsigned at = 0; at < found->outcomes; at++) {
+		if (strcmp(found->outcome[at].text, run.outcome) == 0) {
+			found->outcome[at].count++;
+			return;
+		}
+	}
+	if (found->outcomes == BENCH_OUTCOMES) {
+		found->others++;
+		return;
+	}
+	struct bench_outcome *made = &found->outcome[found->outcomes++];
+	memcpy(made->text, run.outcome, sizeof(made->text));
+	made->count = 1;
+}
+
+/* Executes one schedule in this process. */
+static enum end run_here(void)
+{
+	struct thread nobody = {.call = "bench_explore"};
+	restore_state();
+	board->end = DIED;
+	board->length = 0;
+	board->stuck = false;
+	run_main(run_setup);
+	board->runs++;
+	keep_names();
+	kupaldiz_self = NULL;
+	if (board->end == ENDED_WELL) {
+		board->found.schedules++;
+		keep_outcome();
+	}
+	board->found.cut += board->end == CUT;
+	if (board->end == ENDED_WELL || board->end == CUT)
+		close_banks(&nobody);
+	return board->end;
+}
+
+/* Executes one in a process of its own, and ends as that one does where it crashes. */
+static enum end run_apart(void)
+{
+	int status;
+	fflush(NULL);
+	pid_t child = fork();
+	if (child < 0)
+		refuse("no process is left");
+	if (child == 0) {
+		run_here();
+		_exit(0);
+	}
+	if (waitpid(child, &status, 0) != child)
+		refuse("the child is gone");
+	if (WIFSIGNALED(status)) {
+		signal(WTERMSIG(status), SIG_DFL);
+		raise(WTERMSIG(status));
+	}
+	if (status != 0)
+		_exit(WIFEXITED(status) ? WEXITSTATUS(status) : 1);
+	return board->end;
+}
+
+static enum end run_once(void)
+{
+	return board->apart ? run_apart() : run_here();
+}
+
+/* ---- The next schedule. ---- */
+
+/* The last step at which something else is planned. Whether there is one. */
+static bool next_schedule(void)
+{
+	for (unsigned at = board->length; at-- > 0;) {
+		struct step *step = &board->steps[at];
+		uint32_t chosen = UINT32_C(1) << step->chosen;
+		step->done |= chosen;
+		step->tried[step->chosen] = step->set;
+		uint32_t left = step->planned & ~step->done & ~step->asleep;
+		if (left == 0)
+			continue;
+		step->chosen = (uint8_t)__builtin_ctz(left);
+		board->prefix = at + 1;
+		board->fresh = at;
+		return true;
+	}
+	return false;
+}
+
+static void begin_search(enum way way, uint64_t limit, unsigned bound)
+{
+	board->way = way;
+	board->limit = limit;
+	board->bound = bound;
+	board->prefix = board->fresh = 0;
+}
+
+/* Runs one schedule after another. Whether all were run and none was wrong. */
+static bool run_all(void)
+{
+	for (uint64_t count = 0; count < board->limit; count++) {
+		enum end end = run_once();
+		if (end == FAILED || end == UNFIT)
+			return false;
+		if (!next_schedule())
+			return true;
+	}
+	return false;
+}
+
+static bool is_wrong(void)
+{
+	return board->end == FAILED || board->end == UNFIT;
+}
+
+static void run_bounded(void)
+{
+	for (unsigned bound = 0; bound <= options.preemptions && !is_wrong(); bound++) {
+		begin_search(BOUNDED, options.bounded, bound);
+		if (!run_all())
+			return;
+		board->found.bound = (int)bound;
+	}
+}
+
+static uint64_t random_number(void)
+{
+	uint64_t at = board->seed;
+	at ^= at << 13;
+	at ^= at >> 7;
+	at ^= at << 17;
+	return board->seed = at;
+}
+
+static void draw_priorities(void)
+{
+	for (unsigned at = 0; at < THREADS; at++)
+		board->priorities[at] = 16 + (unsigned)(random_number() >> 33 & 0xffffff);
+}
+
+/* The points at which they fall. */
+static void draw_changes(unsigned length)
+{
+	for (unsigned at = 0; at < sizeof(board->changes) / sizeof(board->changes[0]); at++)
+		board->changes[at] = (unsigned)(random_number() % (length + 1));
+}
+
+static void run_random(void)
+{
+	unsigned length = board->length;
+	begin_search(RANDOM, options.random, 0);
+	for (uint64_t count = 0; count < options.random && !is_wrong(); count++) {
+		draw_priorities();
+		draw_changes(length);
+		run_once();
+		length = board->length > length ? board->length : length;
+		board->found.random++;
+	}
+}
+
+/* ---- In the child. ---- */
+
+static void search(void)
+{
+	begin_search(options.whole ? WHOLE : REDUCED, options.schedules, 0);
+	board->found.exhausted = run_all();
+	if (board->found.exhausted || is_wrong() || options.whole)
+		return;
+	run_bounded();
+	if (!is_wrong())
+		run_random();
+}
+
+static void search_below(void)
+{
+	run_all();
+}
+
+/* Does something in a child. How its last run ended. */
+static enum end in_child(void (*body)(void), bool silent)
+{
+	int status;
+	board->over = false;
+	board->end = ENDED_WELL;
+	fflush(NULL);
+	pid_t child = fork();
+	if (child < 0)
+		refuse("no process is left");
+	if (child == 0) {
+		if (silent && freopen("/dev/null", "w", stderr) == NULL)
+			_exit(2);
+		note_state();
+		body();
+		board->over = true;
+		fflush(NULL);
+		_exit(0);
+	}
+	if (waitpid(child, &status, 0) != child)
+		refuse("the child is gone");
+	if (board->over)
+		return board->end;
+	if (WIFEXITED(status) && WEXITSTATUS(status) == 2)
+		_exit(2);
+	if (WIFSIGNALED(status))
+		snprintf(board->found.line, sizeof(board->found.line), "the code ends by signal %d, %s", WTERMSIG(status), strsignal(WTERMSIG(status)));
+	else
+		snprintf(board->found.line, sizeof(board->found.line), "the code ends the process with status %d", WEXITSTATUS(status));
+	board->runs++;
+	return FAILED;
+}
+
+/* ---- In the parent. ---- */
+
+static unsigned preemptions_of_run(void)
+{
+	return board->length == 0 ? 0 : board->steps[board->length - 1].preemptions;
+}
+
+/* Runs the schedule of the fault once more, so that the steps are its own. */
+static void replay_once(void)
+{
+	run_once();
+}
+
+/* Looks for a schedule of a fault with fewer preemptions. */
+static void cut_down(struct bench_found *found)
+{
+	for (unsigned bound = 0; bound < found->preemptions; bound++) {
+		begin_search(BOUNDED, options.bounded, bound);
+		if (in_child(search_below, true) != FAILED)
+			continue;
+		found->preemptions = preemptions_of_run();
+		write_schedule(found->schedule, sizeof(found->schedule));
+		memcpy(found->line, board->found.line, sizeof(found->line));
+		return;
+	}
+}
+
+/* A thread goes on for so many points. How many there are then. */
+static unsigned add_turns(unsigned count, unsigned thread, unsigned long turns)
+{
+	if (turns > POINTS - count)
+		refuse("the schedule is too long");
+	for (; turns > 0; turns--)
+		board->steps[count++].chosen = (uint8_t)thread;
+	return count;
+}
+
+/* The threads of a schedule, as the choices of the first steps. */
+static void read_schedule(const char *text)
+{
+	unsigned count = 0;
+	for (const char *at = text; *at != '\0';) {
+		unsigned thread = *at == '.' ? THREADS - 1 : (unsigned)(*at - 'a');
+		char *end = (char *)at + 1;
+		unsigned long turns = at[1] >= '0' && at[1] <= '9' ? strtoul(at + 1, &end, 10) : 1;
+		if (thread >= THREADS || turns == 0)
+			refuse("\"%s\" is no schedule: a letter for each thread, or a dot for the clock, and how many points it goes on", text);
+		count = add_turns(count, thread, turns);
+		at = end;
+	}
+	begin_search(REPLAYED, 1, 0);
+	board->prefix = count;
+	board->fresh = 0;
+}
+
+static void replay(struct bench_found *found)
+{
+	read_schedule(options.replay);
+	enum end end = in_child(replay_once, false);
+	*found = board->found;
+	if (end == UNFIT)
+		refuse("%s", found->line);
+	found->first = end == FAILED;
+	found->preemptions = preemptions_of_run();
+	write_schedule(found->schedule, sizeof(found->schedule));
+}
+
+static void explore(struct bench_found *found)
+{
+	enum end end = in_child(search, false);
+	*found = board->found;
+	if (end == UNFIT)
+		refuse("%s", found->line);
+	if (end != FAILED)
+		return;
+	found->first = board->runs;
+	found->exhausted = false;
+	found->preemptions = preemptions_of_run();
+	write_schedule(found->schedule, sizeof(found->schedule));
+	cut_down(found);
+	/* The steps that are shown are those of the schedule that is told. */
+	read_schedule(found->schedule);
+	in_child(replay_once, true);
+}
+
+static void fill_options(const struct bench_options *given)
+{
+	options = given == NULL ? (struct bench_options){0} : *given;
+	options.name = options.name == NULL ? "bench" : options.name;
+	options.schedules = options.schedules == 0 ? 100000 : options.schedules;
+	options.bounded = options.bounded == 0 ? 20000 : options.bounded;
+	options.preemptions = options.preemptions == 0 ? 2 : options.preemptions;
+	options.random = options.random == 0 ? 10000 : options.random;
+	options.seed = options.seed == 0 ? 1 : options.seed;
+	options.ticks = options.ticks == 0 ? 1 : options.ticks;
+}
+
+static void make_board(void)
+{
+	board = mmap(NULL, sizeof(*board), PROT_READ | PROT_WRITE, MAP_SHARED | MAP_ANONYMOUS | MAP_NORESERVE, -1, 0);
+	if (board == MAP_FAILED)
+		refuse("out of memory");
+	board->found.bound = -1;
+	board->seed = options.seed * 0x9e3779b97f4a7c15;
+	prepare_stacks();
+	prepare_heap();
+}
+
+int bench_explore(void (*setup)(void), const struct bench_options *given)
+{
+	static struct bench_found found;
+	if (run.now_runs != NULL)
+		refuse("bench_explore inside of a run");
+	fill_options(given);
+	prepare = setup;
+	make_board();
+	if (options.replay != NULL)
+		replay(&found);
+	else
+		explore(&found);
+	if (!options.quiet)
+		show(stdout, &found);
+	if (options.picture != NULL && found.first != 0 && !draw(options.picture, &found))
+		refuse("%s can't be written", options.picture);
+	if (options.found != NULL)
+		*options.found = found;
+	munmap(board, sizeof(*board));
+	release_stacks();
+	release_heap();
+	return found.first != 0;
+}
+
+/* ---- What a test calls. ---- */
+
+/* The body of a thread that a test has made. */
+struct body {
+	void (*body)(void *);
+	void *arg;
+	const char *name;
+};
+
+static void run_body(void *of)
+{
+	const struct body body = *(const struct body *)of;
+	kupaldiz_self = named_thread("bench_thread", body.name);
+	body.body(body.arg);
+	end_of_thread(kupaldiz_self);
+}
+
+void bench_thread(const char *name, void (*body)(void *), void *arg)
+{
+	struct routine *me = here(__func__);
+	struct body *made = allocate(sizeof(*made), 16, false);
+	(void)me;
+	*made = (struct body){body, arg, name};
+	make_routine(name, run_body, made, false);
+	if (run.phase != SETTING_UP)
+		start_routines();
+}
+
+void bench_outcome(const char *format, ...)
+{
+	size_t length = strlen(run.outcome);
+	va_list words;
+	va_start(words, format);
+	vsnprintf(run.outcome + length, sizeof(run.outcome) - length, format, words);
+	va_end(words);
+}

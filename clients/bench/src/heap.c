@@ -1,0 +1,190 @@
+/*
+ * heap.c - the memory of a run
+ *
+ * Each thread takes memory from a part of its own, so that an address doesn't depend on the order of the threads. Nothing is used again in a run. What is given
+ * back is filled, and looked at again at the end. Behind each block lies a fence.
+ */
+#include <stdio.h>
+#include <string.h>
+#include <sys/mman.h>
+
+#include "inside.h"
+
+void __asan_poison_memory_region(const volatile void *at, size_t size) __attribute__((weak));
+void __asan_unpoison_memory_region(const volatile void *at, size_t size) __attribute__((weak));
+
+enum { PART = 4 * 1024 * 1024, FENCE = 32, NEW = 0xa5, FREED = 0xdf, BEHIND = 0xfd };
+
+static unsigned block_count;
+static size_t used[THREADS];
+static unsigned char *parts;
+struct beside *beside;
+
+void prepare_heap(void)
+{
+	parts = mmap(NULL, (size_t)THREADS * PART, PROT_READ | PROT_WRITE, MAP_PRIVATE | MAP_ANONYMOUS | MAP_NORESERVE, -1, 0);
+	beside = mmap(NULL, sizeof(*beside), PROT_READ | PROT_WRITE, MAP_PRIVATE | MAP_ANONYMOUS, -1, 0);
+	if (parts == MAP_FAILED || beside == MAP_FAILED)
+		refuse("out of memory");
+}
+
+void release_heap(void)
+{
+	munmap(parts, (size_t)THREADS * PART);
+	munmap(beside, sizeof(*beside));
+}
+
+static void forbid(const void *at, size_t size)
+{
+	if (__asan_poison_memory_region != NULL)
+		__asan_poison_memory_region(at, size);
+}
+
+static void allow(const void *at, size_t size)
+{
+	if (__asan_unpoison_memory_region != NULL)
+		__asan_unpoison_memory_region(at, size);
+}
+
+static const char *called(const struct thread *self)
+{
+	return self == NULL || self->call == NULL ? "setup" : self->call;
+}
+
+/* Room in the part of the thread that runs. */
+static unsigned char *take_room(unsigned number, size_t size, size_t align)
+{
+	size_t begin = (used[number] + align - 1) / align * align;
+	if (size > PART || begin + size + FENCE > PART)
+		refuse("the code takes more than %d bytes in one run", PART);
+	used[number] = begin + size + FENCE;
+	return parts + (size_t)number * PART + begin;
+}
+
+/* A block of memory. One that is judged must be given back by the end. */
+void *allocate(size_t size, size_t align, bool judged)
+{
+	unsigned number = run.now_runs == NULL ? 0 : run.now_runs->number;
+	const struct thread *self = kupaldiz_self;
+	if (block_count == BLOCKS)
+		refuse("the code takes more than %d blocks of memory in one run", BLOCKS);
+	unsigned char *at = take_room(number, size, align < 16 ? 16 : align);
+	allow(at, size + FENCE);
+	memset(at, NEW, size);
+	memset(at + size, BEHIND, FENCE);
+	forbid(at + size, FENCE);
+	beside->blocks[block_count++] = (struct block){.at = at, .size = size, .live = true, .judged = judged, .by = number, .call = called(self),
+	    .place = self == NULL ? NULL : self->place};
+	return at;
+}
+
+/* The block that has this address, in it or in its fence; NULL where none has. */
+static struct block *block_at(const volatile void *address)
+{
+	const volatile unsigned char *at = address;
+	if (at < parts || at >= parts + (size_t)THREADS * PART)
+		return NULL;
+	for (unsigned place = block_count; place-- > 0;)
+		if (at >= beside->blocks[place].at && at < beside->blocks[place].at + beside->blocks[place].size + FENCE)
+			return &beside->blocks[place];
+	return NULL;
+}
+
+bool is_live(const void *at)
+{
+	const struct block *block = block_at(at);
+	return block == NULL || block->live;
+}
+
+static const char *at_or_nothing(const char *place, char *text, size_t room)
+{
+	if (place == NULL)
+		return "";
+	snprintf(text, room, " at %s", place);
+	return text;
+}
+
+/* Stops where the memory was given back, or lies beyond its block. That it is used comes before or after its end. */
+void want_live(const char *call, const volatile void *at, size_t size)
+{
+	char where[256], here_at[256];
+	const struct block *block = block_at(at);
+	const struct routine *me = run.now_runs;
+	if (block == NULL)
+		return;
+	touch_memory(at, size, 0);
+	if (!block->live)
+		fail("%s%s: use of freed memory: thread \"%s\" gave it back by %s%s", call, at_or_nothing(me->place, here_at, sizeof(here_at)),
+		    run.routines[block->freed_by].name, block->freed_call, at_or_nothing(block->freed_place, where, sizeof(where)));
+	if ((const volatile unsigned char *)at + size > block->at + block->size)
+		fail("%s%s: beyond a block of %zu bytes", call, at_or_nothing(me->place, here_at, sizeof(here_at)), block->size);
+}
+
+static bool is_filled(const unsigned char *at, size_t size, unsigned char byte)
+{
+	for (size_t place = 0; place < size; place++)
+		if (at[place] != byte)
+			return false;
+	return true;
+}
+
+/* Stops where something was written behind a block, or into one that was given back. */
+static void judge_block(const struct block *block)
+{
+	char where[256];
+	allow(block->at, block->size + FENCE);
+	if (!is_filled(block->at + block->size, FENCE, BEHIND))
+		fail("something was written behind a block of %zu bytes, taken by %s%s", block->size, block->call,
+		    at_or_nothing(block->place, where, sizeof(where)));
+	if (!block->live && !is_filled(block->at, block->size, FREED))
+		fail("something was written to freed memory: thread \"%s\" gave it back by %s%s", run.routines[block->freed_by].name, block->freed_call,
+		    at_or_nothing(block->freed_place, where, sizeof(where)));
+	forbid(block->at + (block->live ? block->size : 0), FENCE + (block->live ? 0 : block->size));
+}
+
+void release(void *address)
+{
+	struct block *block = block_at(address);
+	const struct thread *self = kupaldiz_self;
+	if (address == NULL)
+		return;
+	if (block == NULL || block->at != address)
+		fail("%s: no block of memory", called(self));
+	judge_block(block);
+	block->live = false;
+	block->freed_by = run.now_runs->number;
+	block->freed_call = called(self);
+	block->freed_place = self == NULL ? NULL : self->place;
+	memset(block->at, FREED, block->size);
+	forbid(block->at, block->size);
+}
+
+void *resize(void *address, size_t size)
+{
+	const struct block *block = address == NULL ? NULL : block_at(address);
+	void *made = allocate(size, 16, false);
+	if (block != NULL) {
+		memcpy(made, address, block->size < size ? block->size : size);
+		release(address);
+	}
+	return made;
+}
+
+/* Stops where more is left than may be, or something was written where nothing may. */
+void judge_heap(void)
+{
+	char where[256];
+	unsigned left = 0;
+	const struct block *first = NULL;
+	for (unsigned place = 0; place < block_count; place++) {
+		const struct block *block = &beside->blocks[place];
+		judge_block(block);
+		if (!block->live || !block->judged)
+			continue;
+		left++;
+		first = block;
+	}
+	if (left > options.left)
+		fail("%u blocks of memory are left at the end, one of them taken by %s%s", left, first->call,
+		    at_or_nothing(first->place, where, sizeof(where)));
+}

@@ -1,0 +1,297 @@
+/* inside.h - what the parts of the bench share; no program includes it */
+#ifndef KUPALDIZ_BENCH_INSIDE_H
+#define KUPALDIZ_BENCH_INSIDE_H
+
+#include <stdio.h>
+
+#include "layer.h"
+
+#include "../bench.h"
+
+enum { THREADS = BENCH_THREADS, POINTS = BENCH_POINTS, ACCESSES = 12, STACK = 256 * 1024, ANY = 0xffff, NOBODY = 0xff, TARGETS = 32, LOCKS = 64 };
+
+#define NEVER	INT64_MAX
+
+/* ---- What a step touches. ---- */
+
+/* Two steps commute unless they touch the same thing and one of them writes it. */
+enum kind {
+	ON_NOTHING,
+	ON_LOCK,	/* a mutex, an rwlock, a CPU's own lock */
+	ON_CV,
+	ON_SECTION,	/* of a CPU */
+	ON_END,		/* of one section of a CPU */
+	ON_REFERENCES,	/* of a CPU, to a target or a count */
+	ON_TARGET,	/* a target, a count or a class */
+	ON_MEMORY,
+	ON_THREAD,
+	ON_PENDING,	/* soft interrupts of a CPU */
+	ON_TIME,
+	ON_WAKE		/* of a thread that waits */
+};
+
+enum {
+	WRITES = 1,
+	TAKES = 2,	/* what others gave comes before it */
+	GIVES = 4,
+	ORDERS = 8,	/* the other step can't come first */
+	TRIES = 16	/* takes it where it is free, and else goes on */
+};
+
+struct access {
+	uintptr_t address;
+	uint32_t size;
+	uint16_t cpu;		/* or ANY */
+	uint8_t kind, how;
+};
+
+struct set {
+	uint32_t count;
+	bool full;		/* there was more: it commutes with nothing */
+	struct access of[ACCESSES];
+};
+
+/* ---- A run: it is begun anew with the program's memory. ---- */
+
+struct routine;
+typedef bool guard_fn(const struct routine *routine);
+
+typedef uint32_t clocks[THREADS];
+
+/* A thread as the bench has it. */
+struct routine {
+	void *stack;		/* where it was left */
+	void *fake_stack;
+	bool made, begun, ended;
+	bool daemon;		/* the layer's own, which never ends */
+	bool visits;		/* it goes to each CPU in turn: each is a point */
+	bool off;		/* it has given its CPU back and goes on having it later */
+	unsigned number;
+	const char *name;
+	void (*body)(void *);
+	void *arg;
+	struct thread *self;
+	struct places places;
+	const char *from;	/* the place of the next point that lies in a header */
+	const char *call, *place;	/* the point where it is */
+	guard_fn *guard;	/* NULL, or whether it can go on from there */
+	const void *of;		/* what the guard looks at */
+	uint64_t noted;
+	int64_t deadline;
+	const void *queue;	/* what it waits to be woken for */
+	uint64_t arrived;
+	bool woken;
+	kmutex_t *retake;	/* the lock that it takes when it was woken */
+	const void *target;	/* of the call that it is in */
+	int made_at;		/* the step; -1 for none */
+	clocks clock, released, pending;
+};
+
+enum phase { SETTING_UP, RUNNING, FINISHING };
+
+struct run {
+	struct routine routines[THREADS];
+	unsigned count;
+	struct routine *now_runs;
+	enum phase phase;
+	unsigned step;		/* the number of steps begun */
+	int64_t time;
+	unsigned ticks;
+	uint64_t arrivals;
+	uint64_t ends[ALL_CPUS];	/* of sections */
+	uint64_t handlers;		/* that have ended */
+	struct {
+		const void *target;
+		uint64_t count;
+	} releases[TARGETS];
+	bool own_memory;	/* what is taken now is the layer's own */
+	struct made {
+		const void *lock;	/* that was initialised and not destroyed; NULL where there is none */
+		const char *call;
+	} made[LOCKS];
+	struct missed {
+		const void *cv;
+		const char *call, *place;
+	} missed[TARGETS];		/* the last wake-up of each that nobody waited for */
+	char outcome[BENCH_TEXT];
+};
+
+extern struct run run;
+
+/* ---- The search: it lies in memory that the parent shares. ---- */
+
+/* One step of the run, and what is known of the others there. */
+struct step {
+	uint32_t enabled, planned, done, asleep, barred;	/* a bit for each thread */
+	uint8_t chosen, cpu;
+	uint16_t preemptions;	/* up to it */
+	uint16_t turns;		/* of the thread without another one between */
+	const char *call, *place;
+	uint32_t clock[THREADS];
+	struct set set;
+	struct set tried[THREADS];
+	const struct set *slept[THREADS];
+};
+
+enum way { REDUCED, WHOLE, BOUNDED, RANDOM, REPLAYED };
+enum end { ENDED_WELL, CUT, FAILED, UNFIT, DIED };
+
+struct board {
+	enum way way;
+	enum end end;
+	bool over;		/* the child has said all */
+	bool apart;		/* each run has a process of its own */
+	unsigned bound;
+	uint64_t limit;
+	unsigned prefix;	/* so many steps are given */
+	unsigned fresh;		/* those from here on are new */
+	unsigned length;	/* of the run */
+	unsigned priorities[THREADS], changes[3];
+	uint64_t seed;
+	uint64_t runs;
+	struct bench_found found;
+	char names[THREADS][32];
+	uint32_t ended;		/* a bit for each thread that has */
+	bool stuck;		/* the others can't go on */
+	struct step steps[POINTS + 1];
+};
+
+extern struct board *board;
+extern struct bench_options options;
+
+/* ---- What a run needs and the next one needn't find empty: it lies in memory of its own. ---- */
+
+enum { BLOCKS = 512, GIVEN = 256, PLAIN = 256 };
+
+/* A block of memory of the code's. */
+struct block {
+	unsigned char *at;
+	size_t size;
+	bool live, judged;
+	unsigned by, freed_by;
+	const char *call, *place, *freed_call, *freed_place;
+};
+
+/* What was left at a thing. */
+struct given {
+	uint64_t run;
+	uintptr_t of;
+	clocks clock;
+};
+
+/* An access to memory. */
+struct plain {
+	uintptr_t from, to;
+	bool writes, atomic;
+	unsigned thread;
+	uint32_t at;
+	const char *place;
+};
+
+struct beside {
+	struct block blocks[BLOCKS];
+	struct given given[GIVEN];
+	struct plain plain[PLAIN];
+	unsigned list[POINTS], races[POINTS];
+};
+
+extern struct beside *beside;
+
+/* ---- routine.c ---- */
+
+void prepare_stacks(void);
+void release_stacks(void);
+struct routine *make_routine(const char *name, void (*body)(void *), void *arg, bool daemon);
+void switch_to(struct routine *routine);
+void first_point(struct routine *me);
+void run_main(void (*body)(void *));
+_Noreturn void leave_run(enum end end);
+_Noreturn void end_routine(void);
+
+/* ---- schedule.c ---- */
+
+void point(const char *call, const char *place, guard_fn *guard, const void *of);
+void wait_here(guard_fn *guard, const void *of);
+void touch(enum kind kind, const volatile void *address, unsigned cpu, unsigned how);
+void touch_memory(const volatile void *address, size_t size, unsigned how);
+void touch_all(void);
+void start_routines(void);
+struct routine *here(const char *call);
+bool is_enabled(const struct routine *routine);
+bool all_have_ended(const struct routine *routine);
+uint32_t enabled_now(void);
+
+/* ---- calls.c and more_calls.c ---- */
+
+/* LAYER - the layer's own call, whose name has layer_ before it in this library. */
+#define LAYER(type, name, parameters)	type layer_##name parameters
+
+struct cpu *cpu_here(const struct routine *me);
+void at_thing(const char *call, enum kind kind, const void *thing, size_t size, unsigned how);
+void at_cpu(const char *call, unsigned how);
+void leaving_cpu(const char *call);
+
+/* ---- made.c: what is initialised and must be ended, and wake-ups that came too early. ---- */
+
+void note_made(const char *call, const void *lock);
+void note_ended(const void *lock);
+void want_none_made(const char *call, const void *from, size_t size);
+void note_wake(const char *call, const char *place, const void *cv, bool waited);
+const struct missed *missed_by(const void *cv);
+
+/* ---- What guards are: locks.c. ---- */
+
+bool is_free(const struct routine *me);
+bool was_woken(const struct routine *me);
+bool has_ended_section(const struct routine *me);
+bool was_released(const struct routine *me);
+bool has_ended_handler(const struct routine *me);
+bool has_ended(const struct routine *me);
+uint64_t *releases_of(const void *target);
+void sleep_until(int64_t time);
+
+/* ---- commute.c ---- */
+
+bool do_conflict(const struct set *one, const struct set *other);
+void judge_step(unsigned at);
+
+/* ---- words.c ---- */
+
+void give_clock(enum kind kind, const volatile void *address, unsigned cpu);
+void take_clock(enum kind kind, const volatile void *address, unsigned cpu);
+void inherit_clock(struct routine *made);
+
+/* ---- heap.c ---- */
+
+void prepare_heap(void);
+void release_heap(void);
+bool is_live(const void *at);
+void *resize(void *block, size_t size);
+void want_live(const char *call, const volatile void *at, size_t size);
+void *allocate(size_t size, size_t align, bool judged);
+void release(void *block);
+void judge_heap(void);
+
+/* ---- state.c ---- */
+
+void note_state(void);
+void restore_state(void);
+
+/* ---- locks.c, for the scheduler. ---- */
+
+int64_t next_time(void);
+
+/* ---- stuck.c ---- */
+
+void tell_stuck(void);
+
+/* ---- explore.c, show.c ---- */
+
+_Noreturn void fail(const char *format, ...) __attribute__((format(printf, 1, 2)));
+_Noreturn void refuse(const char *format, ...) __attribute__((format(printf, 1, 2)));
+void write_schedule(char *text, size_t room);
+const char *short_place(const char *place);
+void show(FILE *to, const struct bench_found *found);
+bool draw(const char *name, const struct bench_found *found);
+
+#endif

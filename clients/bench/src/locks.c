@@ -1,0 +1,410 @@
+/*
+ * locks.c - lock.c, pause.c and the C library's threads, as the bench has them
+ *
+ * A thread that waits names what it waits for; the scheduler asks that before it goes on with the thread. Nothing looks again and again.
+ */
+#include <errno.h>
+#include <stdio.h>
+#include <string.h>
+
+#include "inside.h"
+#include "stand_ins.h"
+
+/* ---- Time. ---- */
+
+enum { DAY = 86400 };
+
+struct timespec time_after(int64_t nanoseconds)
+{
+	int64_t time = run.time + nanoseconds;
+	touch(ON_TIME, NULL, 0, 0);
+	return (struct timespec){(time_t)(time / 1000000000), (long)(time % 1000000000)};
+}
+
+/* A deadline; one that is more than a day away never comes. */
+static int64_t time_of(const struct timespec *deadline)
+{
+	if (deadline == NULL || deadline->tv_sec > run.time / 1000000000 + DAY)
+		return NEVER;
+	return (int64_t)deadline->tv_sec * 1000000000 + deadline->tv_nsec;
+}
+
+/* When the next of those that wait for a time goes on; NEVER where none does. */
+int64_t next_time(void)
+{
+	int64_t next = NEVER;
+	for (unsigned number = 0; number < run.count; number++) {
+		const struct routine *at = &run.routines[number];
+		if (!at->ended && at->deadline < next && at->deadline > run.time)
+			next = at->deadline;
+	}
+	return next;
+}
+
+static bool is_late(const struct routine *me)
+{
+	return run.time >= me->deadline;
+}
+
+/* ---- The lock: one word, its owner. ---- */
+
+struct thread *lock_owner(const uintptr_t *word)
+{
+	return (struct thread *)*word;
+}
+
+bool lock_try(uintptr_t *word, struct thread *me)
+{
+	touch(ON_LOCK, word, 0, WRITES | TRIES);
+	if (*word != 0)
+		return false;
+	*word = (uintptr_t)me;
+	take_clock(ON_LOCK, word, 0);
+	return true;
+}
+
+bool is_free(const struct routine *me)
+{
+	const uintptr_t *word = me->of;
+	return *word == 0 || *word == (uintptr_t)me->self;
+}
+
+/* Waits until it is free. Whoever waits for its own CPU doesn't have it, although it has begun to. */
+static void await_lock(uintptr_t *word, const struct thread *me)
+{
+	bool off = run.now_runs->off;
+	if (me->cpu != NULL && word == &me->cpu->hold)
+		run.now_runs->off = true;
+	wait_here(is_free, word);
+	run.now_runs->off = off;
+}
+
+void lock_take(uintptr_t *word, struct thread *me, tell_fn *tell)
+{
+	(void)tell;
+	if (run.now_runs->visits || *word != 0)
+		await_lock(word, me);
+	touch(ON_LOCK, word, 0, WRITES | TAKES);
+	*word = (uintptr_t)me;
+}
+
+void lock_give(uintptr_t *word, struct thread *me)
+{
+	(void)me;
+	touch(ON_LOCK, word, 0, WRITES | GIVES);
+	*word = 0;
+}
+
+/* ---- What threads wait in. ---- */
+
+struct bucket {
+	int none;
+};
+
+struct bucket *bucket_of(const void *address)
+{
+	static struct bucket all;
+	(void)address;
+	return &all;
+}
+
+void bucket_lock(struct bucket *bucket)
+{
+	(void)bucket;
+}
+
+void bucket_unlock(struct bucket *bucket)
+{
+	(void)bucket;
+}
+
+/* Whether it was woken, or its time is over, and the lock is free that it takes then. */
+bool was_woken(const struct routine *me)
+{
+	if (!me->woken && !is_late(me))
+		return false;
+	return me->retake == NULL || !is_live(me->retake) || me->retake->mtx_word == 0;
+}
+
+/* Waits to be woken for something, until a time at most. */
+static bool wait_for_wake(const void *of, int64_t deadline)
+{
+	struct routine *me = run.now_runs;
+	me->queue = of;
+	me->woken = false;
+	me->deadline = deadline;
+	me->arrived = ++run.arrivals;
+	wait_here(was_woken, of);
+	if (me->retake != NULL)
+		want_live(me->call, me->retake, sizeof(*me->retake));
+	touch(ON_WAKE, me, 0, ORDERS | WRITES | TAKES);
+	if (deadline != NEVER)
+		touch(ON_TIME, NULL, 0, 0);
+	me->queue = NULL;
+	me->deadline = NEVER;
+	return me->woken;
+}
+
+bool bucket_wait(struct bucket *bucket, const void *of, struct thread *me, const struct timespec *deadline)
+{
+	(void)bucket;
+	(void)me;
+	return wait_for_wake(of, time_of(deadline));
+}
+
+/* The thread that waits the longest for something and wasn't woken; NULL where none does. */
+static struct routine *first_for(const void *of)
+{
+	struct routine *first = NULL;
+	for (unsigned number = 0; number < run.count; number++) {
+		struct routine *at = &run.routines[number];
+		if (at->queue == of && !at->woken && (first == NULL || at->arrived < first->arrived))
+			first = at;
+	}
+	return first;
+}
+
+bool bucket_wake(struct bucket *bucket, const void *of)
+{
+	struct routine *first = first_for(of);
+	(void)bucket;
+	touch(ON_CV, of, 0, WRITES);
+	if (first == NULL)
+		return false;
+	touch(ON_WAKE, first, 0, ORDERS | WRITES | GIVES);
+	first->woken = true;
+	return true;
+}
+
+void bucket_wake_all(struct bucket *bucket, const void *of)
+{
+	while (bucket_wake(bucket, of))
+		;
+}
+
+bool bucket_has(struct bucket *bucket, const void *of)
+{
+	(void)bucket;
+	touch(ON_CV, of, 0, 0);
+	return first_for(of) != NULL;
+}
+
+/* ---- Pauses: what the registry has named must change. ---- */
+
+struct pauses begin_pauses(void)
+{
+	return (struct pauses){0, {0, 0}};
+}
+
+bool pauses_are_over(struct pauses *pauses)
+{
+	(void)pauses;
+	return false;
+}
+
+bool has_ended_section(const struct routine *me)
+{
+	return run.ends[(uintptr_t)me->of] != me->noted;
+}
+
+/* How many references to a target were released; the last count stands for all beyond the room. */
+uint64_t *releases_of(const void *target)
+{
+	unsigned at = 0;
+	while (at < TARGETS - 1 && run.releases[at].target != NULL && run.releases[at].target != target)
+		at++;
+	run.releases[at].target = target;
+	return &run.releases[at].count;
+}
+
+bool was_released(const struct routine *me)
+{
+	return *releases_of(me->target) != me->noted;
+}
+
+bool has_ended_handler(const struct routine *me)
+{
+	(void)me;
+	return run.handlers != me->noted;
+}
+
+/* A wait for the section that a CPU is in. */
+static void await_section(struct routine *me, unsigned cpu)
+{
+	uint64_t number = run.ends[cpu];
+	me->noted = number;
+	wait_here(has_ended_section, (const void *)(uintptr_t)cpu);
+	touch(ON_END, (const void *)(uintptr_t)(number + 1), cpu, ORDERS | WRITES);
+}
+
+bool pause_longer(struct pauses *pauses, const struct registry_stage *met)
+{
+	struct routine *me = run.now_runs;
+	(void)pauses;
+	if (met != NULL && met->stage == REGISTRY_GRACE) {
+		await_section(me, (unsigned)met->what);
+		return false;
+	}
+	me->noted = met == NULL ? run.handlers : *releases_of(me->target);
+	wait_here(met == NULL ? has_ended_handler : was_released, met == NULL ? NULL : (const void *)(uintptr_t)met->what);
+	if (met == NULL)
+		touch(ON_PENDING, NULL, ANY, 0);
+	return false;
+}
+
+/* ---- The registry's calls that others see. ---- */
+
+uint32_t bench_enter(struct registry_cpu *cpu)
+{
+	touch(ON_SECTION, NULL, kupaldiz_self->cpu->info.ci_index, WRITES);
+	return registry_enter(cpu);
+}
+
+uint32_t bench_section_exit(struct registry_cpu *cpu)
+{
+	unsigned number = kupaldiz_self == NULL ? 0 : kupaldiz_self->cpu->info.ci_index;
+	uint32_t answer = registry_exit(cpu);
+	bool inside = kupaldiz_self == NULL;
+	if (inside || answer != REGISTRY_DONE || registry_inside(cpu, &inside) != REGISTRY_DONE || inside)
+		return answer;
+	run.ends[number]++;
+	touch(ON_SECTION, NULL, number, WRITES | GIVES);
+	touch(ON_END, (const void *)(uintptr_t)run.ends[number], number, ORDERS | WRITES);
+	return answer;
+}
+
+/* What ended sections and releases on all CPUs have left comes before what a wait has waited for. */
+static void take_sections(void)
+{
+	for (unsigned cpu = 0; cpu < KUPALDIZ_CPUS; cpu++)
+		take_clock(ON_SECTION, NULL, cpu);
+}
+
+uint32_t bench_destroy(struct registry_keeper *keeper, struct registry_cpu *cpu, uint64_t number, struct registry_stage *met)
+{
+	const void *target = run.now_runs->target;
+	touch(ON_SECTION, NULL, ANY, 0);
+	touch(ON_REFERENCES, target, ANY, 0);
+	touch(ON_TARGET, target, 0, WRITES);
+	uint32_t answer = registry_destroy(keeper, cpu, number, met);
+	take_sections();
+	if (answer == REGISTRY_DONE)
+		take_clock(ON_REFERENCES, target, 0);
+	return answer;
+}
+
+uint32_t bench_perform_begin(struct registry_keeper *keeper, struct registry_cpu *cpu, struct registry_wait *wait)
+{
+	touch(ON_SECTION, NULL, ANY, 0);
+	return registry_perform_begin(keeper, cpu, wait);
+}
+
+/* ---- The C library's threads and time. ---- */
+
+struct start {
+	void *(*body)(void *);
+	void *arg;
+};
+
+/* The body of a thread that the layer makes. */
+static void run_start(void *of)
+{
+	struct start start = *(struct start *)of;
+	start.body(start.arg);
+	if (kupaldiz_self != NULL)
+		end_of_thread(kupaldiz_self);
+}
+
+int bench_create(pthread_t *id, void *(*body)(void *), void *arg, const char *file)
+{
+	struct start *start = allocate(sizeof(*start), 16, false);
+	*start = (struct start){body, arg};
+	bool daemon = strstr(file, "callout") != NULL;
+	struct routine *made = make_routine(daemon ? "callout" : NULL, run_start, start, daemon);
+	*id = (pthread_t)made->number;
+	start_routines();
+	return 0;
+}
+
+bool has_ended(const struct routine *me)
+{
+	return ((const struct routine *)me->of)->ended;
+}
+
+int bench_join(pthread_t id)
+{
+	struct routine *joined = &run.routines[id];
+	wait_here(has_ended, joined);
+	touch(ON_THREAD, joined, 0, ORDERS | WRITES | TAKES);
+	return 0;
+}
+
+void bench_exit(void)
+{
+	end_of_thread(kupaldiz_self);
+	end_routine();
+}
+
+int bench_cond_wait(const void *cond, const struct timespec *deadline)
+{
+	return wait_for_wake(cond, time_of(deadline)) ? 0 : ETIMEDOUT;
+}
+
+void bench_cond_broadcast(const void *cond)
+{
+	bucket_wake_all(NULL, cond);
+}
+
+void sleep_until(int64_t time)
+{
+	run.now_runs->deadline = time;
+	wait_here(is_late, NULL);
+	touch(ON_TIME, NULL, 0, 0);
+	run.now_runs->deadline = NEVER;
+}
+
+void bench_sleep(const struct timespec *time)
+{
+	sleep_until(run.time + (int64_t)time->tv_sec * 1000000000 + time->tv_nsec);
+}
+
+/* ---- Its memory, and the line before it ends. ---- */
+
+static char line[BENCH_LINE];
+
+void *bench_malloc(size_t size)
+{
+	return allocate(size, 16, true);
+}
+
+void *bench_calloc(size_t count, size_t size)
+{
+	return memset(allocate(count * size, 16, kupaldiz_self != NULL && !run.own_memory), 0, count * size);
+}
+
+void *bench_realloc(void *block, size_t size)
+{
+	return resize(block, size);
+}
+
+void bench_free(void *block)
+{
+	release(block);
+}
+
+int bench_aligned(void **block, size_t align, size_t size)
+{
+	*block = allocate(size, align, false);
+	return 0;
+}
+
+ssize_t bench_write(const void *text, size_t length)
+{
+	snprintf(line, sizeof(line), "%.*s", (int)length - 1, (const char *)text);
+	return (ssize_t)length;
+}
+
+void bench_abort(void)
+{
+	fail("%s", line);
+}

@@ -1,0 +1,395 @@
+/* more_calls.c - the layer's calls for memory, CPUs, soft interrupts, callouts, threads and time, each with its point */
+#include "inside.h"
+
+/* ---- kmem(9), pool(9), percpu(9). ---- */
+
+LAYER(void *, kmem_alloc, (size_t size, km_flag_t flags));
+LAYER(void *, kmem_zalloc, (size_t size, km_flag_t flags));
+LAYER(void *, kmem_intr_alloc, (size_t size, km_flag_t flags));
+LAYER(void *, kmem_intr_zalloc, (size_t size, km_flag_t flags));
+LAYER(char *, kmem_strdupsize, (const char *text, size_t *size, km_flag_t flags));
+LAYER(void, kmem_strfree, (char *text));
+LAYER(void *, pool_get, (struct pool *pool, int flags));
+LAYER(void *, pool_cache_get, (pool_cache_t cache, int flags));
+LAYER(void, pool_destroy, (struct pool *pool));
+LAYER(void, pool_cache_destroy, (pool_cache_t cache));
+LAYER(void, kmem_free, (void *block, size_t size));
+LAYER(void, kmem_intr_free, (void *block, size_t size));
+LAYER(void, pool_put, (struct pool *pool, void *object));
+LAYER(void, pool_cache_put, (pool_cache_t cache, void *object));
+LAYER(void, percpu_free, (percpu_t *percpu, size_t size));
+LAYER(void, percpu_foreach_xcall, (percpu_t *percpu, unsigned flags, percpu_callback_t look, void *arg));
+LAYER(void *, percpu_getref, (percpu_t *percpu));
+LAYER(void, percpu_putref, (percpu_t *percpu));
+
+/* A call that gives memory back. */
+static void at_block(const char *call, const void *block, size_t size)
+{
+	point(call, NULL, NULL, NULL);
+	if (block == NULL)
+		return;
+	want_live(call, block, 1);
+	want_none_made(call, block, size);
+	touch_memory(block, size, WRITES);
+	if (options.frees)
+		touch_all();
+}
+
+void *kmem_alloc(size_t size, km_flag_t flags)
+{
+	point(__func__, NULL, NULL, NULL);
+	return layer_kmem_alloc(size, flags);
+}
+
+void *kmem_zalloc(size_t size, km_flag_t flags)
+{
+	point(__func__, NULL, NULL, NULL);
+	return layer_kmem_zalloc(size, flags);
+}
+
+void *kmem_intr_alloc(size_t size, km_flag_t flags)
+{
+	point(__func__, NULL, NULL, NULL);
+	return layer_kmem_intr_alloc(size, flags);
+}
+
+void *kmem_intr_zalloc(size_t size, km_flag_t flags)
+{
+	point(__func__, NULL, NULL, NULL);
+	return layer_kmem_intr_zalloc(size, flags);
+}
+
+char *kmem_strdupsize(const char *text, size_t *size, km_flag_t flags)
+{
+	point(__func__, NULL, NULL, NULL);
+	return layer_kmem_strdupsize(text, size, flags);
+}
+
+void kmem_strfree(char *text)
+{
+	at_block(__func__, text, 1);
+	layer_kmem_strfree(text);
+}
+
+void kmem_free(void *block, size_t size)
+{
+	at_block(__func__, block, size);
+	layer_kmem_free(block, size);
+}
+
+void kmem_intr_free(void *block, size_t size)
+{
+	at_block(__func__, block, size);
+	layer_kmem_intr_free(block, size);
+}
+
+/* What a pool has out is one of its words. */
+static void at_pool(const char *call, const struct pool *pool, unsigned how)
+{
+	point(call, NULL, NULL, NULL);
+	want_live(call, pool, sizeof(*pool));
+	touch_memory(&pool->pr_out, sizeof(pool->pr_out), how);
+}
+
+static struct pool *pool_of(pool_cache_t cache)
+{
+	return (struct pool *)(void *)cache;
+}
+
+void *pool_get(struct pool *pool, int flags)
+{
+	at_pool(__func__, pool, 0);
+	return layer_pool_get(pool, flags);
+}
+
+void *pool_cache_get(pool_cache_t cache, int flags)
+{
+	at_pool(__func__, pool_of(cache), 0);
+	return layer_pool_cache_get(cache, flags);
+}
+
+void pool_destroy(struct pool *pool)
+{
+	at_pool(__func__, pool, WRITES);
+	layer_pool_destroy(pool);
+}
+
+void pool_cache_destroy(pool_cache_t cache)
+{
+	at_pool(__func__, pool_of(cache), WRITES);
+	layer_pool_cache_destroy(cache);
+}
+
+void pool_put(struct pool *pool, void *object)
+{
+	at_block(__func__, object, pool->pr_size);
+	touch_memory(&pool->pr_out, sizeof(pool->pr_out), 0);
+	layer_pool_put(pool, object);
+}
+
+void pool_cache_put(pool_cache_t cache, void *object)
+{
+	at_block(__func__, object, pool_of(cache)->pr_size);
+	touch_memory(&pool_of(cache)->pr_out, sizeof(size_t), 0);
+	layer_pool_cache_put(cache, object);
+}
+
+void *percpu_getref(percpu_t *percpu)
+{
+	at_cpu(__func__, 0);
+	return layer_percpu_getref(percpu);
+}
+
+void percpu_putref(percpu_t *percpu)
+{
+	leaving_cpu(__func__);
+	layer_percpu_putref(percpu);
+}
+
+void percpu_free(percpu_t *percpu, size_t size)
+{
+	at_thing(__func__, ON_TARGET, percpu, 1, WRITES);
+	layer_percpu_free(percpu, size);
+}
+
+/* ---- CPUs, softint(9), xcall(9). ---- */
+
+LAYER(void, kpreempt_disable, (void));
+LAYER(void, kpreempt_enable, (void));
+LAYER(int, kupaldiz_splraise, (int level));
+LAYER(void, splx, (int level));
+LAYER(void, softint_schedule, (void *cookie));
+LAYER(void, softint_disestablish, (void *cookie));
+LAYER(uint64_t, xc_broadcast, (unsigned flags, xcfunc_t body, void *arg_a, void *arg_b));
+LAYER(uint64_t, xc_unicast, (unsigned flags, xcfunc_t body, void *arg_a, void *arg_b, struct cpu_info *cpu));
+LAYER(void, xc_barrier, (unsigned flags));
+
+void kpreempt_disable(void)
+{
+	at_cpu(__func__, 0);
+	layer_kpreempt_disable();
+}
+
+void kpreempt_enable(void)
+{
+	leaving_cpu(__func__);
+	layer_kpreempt_enable();
+}
+
+/* A new level lets soft interrupts of the CPU go on, or keeps them off. */
+static void at_level(void)
+{
+	touch(ON_LOCK, &cpu_here(run.now_runs)->hold, 0, WRITES);
+}
+
+int kupaldiz_splraise(int level)
+{
+	at_cpu("splraise", 0);
+	at_level();
+	return layer_kupaldiz_splraise(level);
+}
+
+void splx(int level)
+{
+	leaving_cpu(__func__);
+	at_level();
+	layer_splx(level);
+}
+
+void softint_schedule(void *cookie)
+{
+	struct routine *me = here(__func__);
+	at_cpu(__func__, GIVES);
+	touch(ON_PENDING, NULL, cpu_here(me)->info.ci_index, WRITES | GIVES);
+	layer_softint_schedule(cookie);
+}
+
+void softint_disestablish(void *cookie)
+{
+	point(__func__, NULL, NULL, NULL);
+	touch(ON_PENDING, NULL, ANY, WRITES);
+	layer_softint_disestablish(cookie);
+}
+
+/* A call that goes to CPUs, each of which is a point of its own. */
+static struct routine *begin_visit(const char *call)
+{
+	struct routine *me = here(call);
+	point(call, NULL, NULL, NULL);
+	me->visits = true;
+	return me;
+}
+
+uint64_t xc_broadcast(unsigned flags, xcfunc_t body, void *arg_a, void *arg_b)
+{
+	struct routine *me = begin_visit(__func__);
+	uint64_t ticket = layer_xc_broadcast(flags, body, arg_a, arg_b);
+	me->visits = false;
+	return ticket;
+}
+
+uint64_t xc_unicast(unsigned flags, xcfunc_t body, void *arg_a, void *arg_b, struct cpu_info *cpu)
+{
+	struct routine *me = begin_visit(__func__);
+	uint64_t ticket = layer_xc_unicast(flags, body, arg_a, arg_b, cpu);
+	me->visits = false;
+	return ticket;
+}
+
+void xc_barrier(unsigned flags)
+{
+	struct routine *me = begin_visit(__func__);
+	layer_xc_barrier(flags);
+	me->visits = false;
+}
+
+void percpu_foreach_xcall(percpu_t *percpu, unsigned flags, percpu_callback_t look, void *arg)
+{
+	struct routine *me = begin_visit(__func__);
+	layer_percpu_foreach_xcall(percpu, flags, look, arg);
+	me->visits = false;
+}
+
+/* ---- callout(9), kthread(9), time and copies. ---- */
+
+LAYER(void, callout_init, (callout_t *callout, unsigned flags));
+LAYER(void, callout_destroy, (callout_t *callout));
+LAYER(void, callout_reset, (callout_t *callout, int ticks, void (*body)(void *), void *arg));
+LAYER(void, callout_schedule, (callout_t *callout, int ticks));
+LAYER(bool, callout_stop, (callout_t *callout));
+LAYER(bool, callout_halt, (callout_t *callout, void *interlock));
+LAYER(bool, callout_pending, (callout_t *callout));
+LAYER(bool, callout_expired, (callout_t *callout));
+LAYER(bool, callout_active, (callout_t *callout));
+LAYER(bool, callout_invoking, (callout_t *callout));
+LAYER(void, callout_ack, (callout_t *callout));
+LAYER(int, getticks, (void));
+LAYER(int, kthread_join, (lwp_t *thread));
+LAYER(int, kpause, (const char *name, bool interruptible, int ticks, kmutex_t *mutex));
+LAYER(void, delay, (unsigned microseconds));
+LAYER(int, copyinstr, (const void *user, void *kernel, size_t length, size_t *copied));
+LAYER(int, copyoutstr, (const void *kernel, void *user, size_t length, size_t *copied));
+LAYER(int, copyin, (const void *user, void *kernel, size_t length));
+LAYER(int, copyout, (const void *kernel, void *user, size_t length));
+
+static void at_callout(const char *call, callout_t *callout)
+{
+	at_thing(call, ON_TIME, callout, sizeof(*callout), 0);
+	touch(ON_TIME, NULL, 0, WRITES);
+}
+
+/* The layer's own soft interrupt for callouts is never ended. */
+void callout_init(callout_t *callout, unsigned flags)
+{
+	run.own_memory = true;
+	layer_callout_init(callout, flags);
+	run.own_memory = false;
+}
+
+void callout_destroy(callout_t *callout)
+{
+	at_callout(__func__, callout);
+	layer_callout_destroy(callout);
+}
+
+void callout_reset(callout_t *callout, int ticks, void (*body)(void *), void *arg)
+{
+	at_callout(__func__, callout);
+	layer_callout_reset(callout, ticks, body, arg);
+}
+
+void callout_schedule(callout_t *callout, int ticks)
+{
+	at_callout(__func__, callout);
+	layer_callout_schedule(callout, ticks);
+}
+
+bool callout_stop(callout_t *callout)
+{
+	at_callout(__func__, callout);
+	return layer_callout_stop(callout);
+}
+
+bool callout_halt(callout_t *callout, void *interlock)
+{
+	at_callout(__func__, callout);
+	return layer_callout_halt(callout, interlock);
+}
+
+bool callout_pending(callout_t *callout)
+{
+	at_callout(__func__, callout);
+	return layer_callout_pending(callout);
+}
+
+bool callout_expired(callout_t *callout)
+{
+	at_callout(__func__, callout);
+	return layer_callout_expired(callout);
+}
+
+bool callout_active(callout_t *callout)
+{
+	at_callout(__func__, callout);
+	return layer_callout_active(callout);
+}
+
+bool callout_invoking(callout_t *callout)
+{
+	at_callout(__func__, callout);
+	return layer_callout_invoking(callout);
+}
+
+void callout_ack(callout_t *callout)
+{
+	at_callout(__func__, callout);
+	layer_callout_ack(callout);
+}
+
+int getticks(void)
+{
+	at_thing(__func__, ON_TIME, NULL, 0, 0);
+	return layer_getticks();
+}
+
+int kthread_join(lwp_t *thread)
+{
+	point(__func__, NULL, NULL, NULL);
+	return layer_kthread_join(thread);
+}
+
+int kpause(const char *name, bool interruptible, int ticks, kmutex_t *mutex)
+{
+	point(__func__, NULL, NULL, NULL);
+	return layer_kpause(name, interruptible, ticks, mutex);
+}
+
+void delay(unsigned microseconds)
+{
+	point(__func__, NULL, NULL, NULL);
+	sleep_until(run.time + (int64_t)microseconds * 1000);
+}
+
+int copyin(const void *user, void *kernel, size_t length)
+{
+	point(__func__, NULL, NULL, NULL);
+	return layer_copyin(user, kernel, length);
+}
+
+int copyout(const void *kernel, void *user, size_t length)
+{
+	point(__func__, NULL, NULL, NULL);
+	return layer_copyout(kernel, user, length);
+}
+
+int copyinstr(const void *user, void *kernel, size_t length, size_t *copied)
+{
+	point(__func__, NULL, NULL, NULL);
+	return layer_copyinstr(user, kernel, length, copied);
+}
+
+int copyoutstr(const void *kernel, void *user, size_t length, size_t *copied)
+{
+	point(__func__, NULL, NULL, NULL);
+	return layer_copyoutstr(kernel, user, length, copied);
+}

@@ -1,0 +1,248 @@
+/* picture.c - a schedule as a picture: a row for each thread, time to the right, and the steps underneath */
+#include <stdio.h>
+#include <string.h>
+
+#include "inside.h"
+
+enum { WIDE = 900, LEFT = 110, RIGHT = 18, TOP = 60, ROW = 58, LINE_HIGH = 16, LETTERS = 125 };
+
+static const char style[] =
+    "text { font: 11px ui-monospace, 'DejaVu Sans Mono', Menlo, Consolas, monospace; fill: #1f2328 }\n"
+    ".paper { fill: #ffffff } .title { font: bold 15px sans-serif } .row { font: bold 12px sans-serif }\n"
+    ".faint { fill: #59636e } .said { fill: #b3141d }\n"
+    ".fault { fill: #b3141d; stroke: #b3141d; stroke-width: 2px } .base { stroke: #8c959f }\n"
+    ".section { fill: #cfe5ff; stroke: #0969da } .reference { fill: #8250df } .lock { fill: #9a6700 } .wait { fill: #ffe3c7; stroke: #bc4c00 }\n"
+    ".count { fill: #1a7f37 } .step { fill: #59636e }\n"
+    "@media (prefers-color-scheme: dark) {\n"
+    "text { fill: #e6edf3 } .paper { fill: #0d1117 }\n"
+    ".faint { fill: #9da7b1 } .said { fill: #ff8182 } .fault { fill: #ff8182; stroke: #ff8182 }\n"
+    ".base { stroke: #6e7681 } .section { fill: #14365f; stroke: #58a6ff } .reference { fill: #bc8cff } .lock { fill: #e3b341 }\n"
+    ".wait { fill: #4d2a0b; stroke: #f0883e } .count { fill: #3fb950 } .step { fill: #9da7b1 }\n"
+    "}\n";
+
+/* What begins a bar and what ends it. */
+static const struct pair {
+	const char *begins, *ends, *kind;
+	unsigned thing;		/* the kind of what it is of */
+	unsigned lane;
+} pairs[] = {
+	{"pserialize_read_enter", "pserialize_read_exit", "section", ON_NOTHING, 0},
+	{"mutex_enter", "mutex_exit", "lock", ON_LOCK, 1},
+	{"mutex_spin_enter", "mutex_spin_exit", "lock", ON_LOCK, 1},
+	{"rw_enter", "rw_exit", "lock", ON_LOCK, 1},
+	{"psref_acquire", "psref_release", "reference", ON_REFERENCES, 2},
+	{"localcount_acquire", "localcount_release", "count", ON_REFERENCES, 2},
+};
+
+static double x_of(unsigned at)
+{
+	return LEFT + (at + 0.5) * (WIDE - LEFT - RIGHT) / (board->length == 0 ? 1 : board->length);
+}
+
+static void escape(FILE *to, const char *text)
+{
+	for (; *text != '\0'; text++) {
+		if (*text == '<' || *text == '>' || *text == '&' || *text == '"')
+			fprintf(to, "&#%d;", *text);
+		else
+			fputc(*text, to);
+	}
+}
+
+static void text_at(FILE *to, double x, double y, const char *kind, const char *text)
+{
+	fprintf(to, "<text x=\"%.1f\" y=\"%.1f\" class=\"%s\">", x, y, kind);
+	escape(to, text);
+	fputs("</text>\n", to);
+}
+
+/* The address of what a step touches of a kind. */
+static uintptr_t thing_of(const struct step *step, unsigned kind)
+{
+	for (uint32_t at = 0; at < step->set.count; at++)
+		if (step->set.of[at].kind == kind)
+			return step->set.of[at].address;
+	return 0;
+}
+
+/* The row of a thread among those that have a step. */
+static unsigned row_of(unsigned thread)
+{
+	uint32_t seen = 0;
+	for (unsigned at = 0; at < board->length; at++)
+		seen |= UINT32_C(1) << board->steps[at].chosen;
+	return (unsigned)__builtin_popcount(seen & ((UINT32_C(1) << thread) - 1));
+}
+
+static unsigned rows(void)
+{
+	return row_of(THREADS);
+}
+
+/* The step that ends what this one begins; the end of the picture where none does. */
+static unsigned end_of(unsigned from, const struct pair *pair)
+{
+	const struct step *first = &board->steps[from];
+	unsigned depth = 1;
+	for (unsigned at = from + 1; at < board->length; at++) {
+		const struct step *step = &board->steps[at];
+		if (step->chosen != first->chosen || thing_of(step, pair->thing) != thing_of(first, pair->thing))
+			continue;
+		depth += strcmp(step->call, pair->begins) == 0;
+		if (strcmp(step->call, pair->ends) == 0 && --depth == 0)
+			return at;
+	}
+	return board->length;
+}
+
+static void draw_bar(FILE *to, unsigned from, unsigned until, const char *kind, unsigned lane)
+{
+	double top = TOP + row_of(board->steps[from].chosen) * ROW, left = x_of(from);
+	double right = until >= board->length ? WIDE - RIGHT : x_of(until);
+	double high = lane == 0 ? 16 : 4, y = lane == 0 ? top - 8 : top + 6 + 7 * lane;
+	fprintf(to, "<rect class=\"%s\" x=\"%.1f\" y=\"%.1f\" width=\"%.1f\" height=\"%.1f\" rx=\"2\"/>\n", kind, left, y, right - left, high);
+}
+
+static void draw_pairs(FILE *to, unsigned at)
+{
+	for (unsigned place = 0; place < sizeof(pairs) / sizeof(pairs[0]); place++)
+		if (strcmp(board->steps[at].call, pairs[place].begins) == 0)
+			draw_bar(to, at, end_of(at, &pairs[place]), pairs[place].kind, pairs[place].lane);
+}
+
+/* A thread that goes on in the call that it was in has waited, and so does one that can't go on at the end. */
+static void draw_wait(FILE *to, unsigned at)
+{
+	const struct step *step = &board->steps[at];
+	unsigned next = at + 1;
+	while (next < board->length && board->steps[next].chosen != step->chosen)
+		next++;
+	bool stuck = next == board->length && board->stuck && step->chosen != 0 && (board->ended >> step->chosen & 1) == 0;
+	bool waits = next < board->length && next > at + 1 && board->steps[next].call == step->call && board->steps[next].place == step->place;
+	if (stuck || waits)
+		draw_bar(to, at, next, "wait", 0);
+}
+
+static void draw_each(FILE *to, void (*draw_step)(FILE *, unsigned))
+{
+	for (unsigned at = 0; at < board->length; at++)
+		draw_step(to, at);
+}
+
+static void draw_rows(FILE *to)
+{
+	uint32_t seen = 0;
+	char cpu[16];
+	for (unsigned at = 0; at < board->length; at++) {
+		unsigned thread = board->steps[at].chosen;
+		double y = TOP + row_of(thread) * ROW;
+		if ((seen & UINT32_C(1) << thread) == 0) {
+			text_at(to, 14, y + 4, "row", board->names[thread]);
+			if (board->steps[at].cpu != NOBODY) {
+				snprintf(cpu, sizeof(cpu), "CPU %u", board->steps[at].cpu);
+				text_at(to, 14, y + 18, "faint", cpu);
+			}
+			fprintf(to, "<line class=\"base\" x1=\"%d\" y1=\"%.1f\" x2=\"%d\" y2=\"%.1f\"/>\n", LEFT, y, WIDE - RIGHT, y);
+		}
+		seen |= UINT32_C(1) << thread;
+	}
+}
+
+static void draw_steps(FILE *to)
+{
+	char number[16];
+	for (unsigned at = 0; at < board->length; at++) {
+		double x = x_of(at), y = TOP + row_of(board->steps[at].chosen) * ROW;
+		fprintf(to, "<circle class=\"step\" cx=\"%.1f\" cy=\"%.1f\" r=\"3\"><title>", x, y);
+		fprintf(to, "%u ", at + 1);
+		escape(to, board->steps[at].call);
+		fputc(' ', to);
+		escape(to, short_place(board->steps[at].place));
+		fputs("</title></circle>\n", to);
+		if (board->length > 45 && (at + 1) % 5 != 0)
+			continue;
+		snprintf(number, sizeof(number), "%u", at + 1);
+		text_at(to, x - 4, y - 12, "faint", number);
+	}
+}
+
+static void draw_fault(FILE *to)
+{
+	if (board->length == 0)
+		return;
+	double x = x_of(board->length - 1), middle = TOP + row_of(board->steps[board->length - 1].chosen) * ROW;
+	fprintf(to, "<path class=\"fault\" d=\"M%.1f %.1fl12 12m0 -12l-12 12\"/>\n", x - 6, middle - 6);
+}
+
+/* The steps, one a line. Where the list ends. */
+static double list_steps(FILE *to, double y)
+{
+	char line[256];
+	for (unsigned at = 0; at < board->length; at++, y += LINE_HIGH) {
+		const struct step *step = &board->steps[at];
+		snprintf(line, sizeof(line), "%3u  ", at + 1);
+		text_at(to, 14, y, "faint", line);
+		text_at(to, 50, y, at == 0 || board->steps[at - 1].chosen != step->chosen ? "" : "faint", board->names[step->chosen]);
+		text_at(to, 180, y, "", step->call);
+		text_at(to, 380, y, "", short_place(step->place));
+	}
+	return y;
+}
+
+/* How much of a text is a line: up to a blank, where there is one. */
+static size_t length_of_line(const char *text)
+{
+	size_t length = strlen(text), cut = LETTERS;
+	if (length <= LETTERS)
+		return length;
+	while (cut > 0 && text[cut] != ' ')
+		cut--;
+	return cut == 0 ? LETTERS : cut;
+}
+
+/* A text in lines of so many letters, cut at blanks. */
+static void write_lines(FILE *to, double y, const char *text)
+{
+	char line[LETTERS + 1];
+	while (*text != '\0') {
+		size_t cut = length_of_line(text);
+		snprintf(line, sizeof(line), "%.*s", (int)cut, text);
+		text_at(to, 14, y, "said", line);
+		text += cut + (text[cut] == ' ');
+		y += LINE_HIGH;
+	}
+}
+
+static void draw_legend(FILE *to)
+{
+	static const char *const kinds[] = {"section", "lock", "reference", "count", "wait"};
+	double x = 430;
+	for (unsigned at = 0; at < sizeof(kinds) / sizeof(kinds[0]); at++, x += 92) {
+		fprintf(to, "<rect class=\"%s\" x=\"%.1f\" y=\"14\" width=\"16\" height=\"9\" rx=\"1\"/>\n", kinds[at], x);
+		text_at(to, x + 21, 23, "", kinds[at]);
+	}
+}
+
+/* The picture of the schedule that was run last, with its fault. Whether it could be written. */
+bool draw(const char *name, const struct bench_found *found)
+{
+	FILE *to = fopen(name, "w");
+	double list = TOP + rows() * ROW + 20, high = list + (board->length + 2 + (unsigned)strlen(found->line) / 100) * LINE_HIGH;
+	if (to == NULL)
+		return false;
+	fprintf(to, "<svg xmlns=\"http://www.w3.org/2000/svg\" width=\"%d\" height=\"%.0f\" viewBox=\"0 0 %d %.0f\" role=\"img\">\n<title>", WIDE, high,
+	    WIDE, high);
+	escape(to, found->line);
+	fprintf(to, "</title>\n<style>%s</style>\n<rect class=\"paper\" width=\"100%%\" height=\"100%%\"/>\n", style);
+	text_at(to, 14, 24, "title", options.name);
+	draw_legend(to);
+	draw_rows(to);
+	draw_each(to, draw_wait);
+	draw_each(to, draw_pairs);
+	draw_steps(to);
+	draw_fault(to);
+	write_lines(to, list_steps(to, list) + 6, found->line);
+	fputs("</svg>\n", to);
+	bool written = ferror(to) == 0;
+	return fclose(to) == 0 && written;
+}

@@ -1,0 +1,212 @@
+/* routine.c - threads as coroutines of one thread, each with a stack of its own. The switch is for x86-64. */
+#include <stdio.h>
+#include <string.h>
+#include <sys/mman.h>
+#include <unistd.h>
+
+#if __has_include(<valgrind/valgrind.h>)
+#include <valgrind/valgrind.h>
+#else
+#define VALGRIND_STACK_REGISTER(from, to)	0
+#define VALGRIND_STACK_DEREGISTER(stack)	((void)(stack))
+#endif
+
+#include "inside.h"
+
+/* What the address sanitizer is told of a switch, where the program is built with it. */
+void __sanitizer_start_switch_fiber(void **fake_stack, const void *bottom, size_t size) __attribute__((weak));
+void __sanitizer_finish_switch_fiber(void *fake_stack, const void **bottom, size_t *size) __attribute__((weak));
+void __asan_unpoison_memory_region(const volatile void *at, size_t size) __attribute__((weak));
+
+/* Of the child's own stack, on which no thread of the code runs. */
+static void *home, *home_fake;
+static const void *home_bottom;
+static size_t home_size;
+
+static struct routine *starter;	/* who waits until a new one has come to its first point */
+static char *stacks;
+static unsigned known[THREADS];	/* by valgrind */
+
+static char *stack_of(unsigned number)
+{
+	return stacks + (size_t)number * 2 * STACK + STACK;
+}
+
+/* A stack for each, with as much room below that nothing may touch. */
+void prepare_stacks(void)
+{
+	size_t size = (size_t)THREADS * 2 * STACK;
+	stacks = mmap(NULL, size, PROT_READ | PROT_WRITE, MAP_PRIVATE | MAP_ANONYMOUS | MAP_NORESERVE, -1, 0);
+	if (stacks == MAP_FAILED)
+		refuse("out of memory");
+	for (unsigned number = 0; number < THREADS; number++) {
+		mprotect(stack_of(number) - STACK, STACK, PROT_NONE);
+		known[number] = VALGRIND_STACK_REGISTER(stack_of(number), stack_of(number) + STACK);
+	}
+}
+
+void release_stacks(void)
+{
+	for (unsigned number = 0; number < THREADS; number++)
+		VALGRIND_STACK_DEREGISTER(known[number]);
+	munmap(stacks, (size_t)THREADS * 2 * STACK);
+}
+
+/* ---- Switching. ---- */
+
+/* Leaves one stack, with the registers that a call keeps, and goes on where another one was left. */
+void bench_switch(void **left, void *to);
+__asm__(".text\n"
+	".globl bench_switch\n"
+	".hidden bench_switch\n"
+	".type bench_switch, @function\n"
+	"bench_switch:\n"
+	"	pushq %rbp\n"
+	"	pushq %rbx\n"
+	"	pushq %r12\n"
+	"	pushq %r13\n"
+	"	pushq %r14\n"
+	"	pushq %r15\n"
+	"	movq %rsp, (%rdi)\n"
+	"	movq %rsi, %rsp\n"
+	"	popq %r15\n"
+	"	popq %r14\n"
+	"	popq %r13\n"
+	"	popq %r12\n"
+	"	popq %rbx\n"
+	"	popq %rbp\n"
+	"	ret\n"
+	".size bench_switch, . - bench_switch\n");
+
+enum { KEPT = 6 };	/* registers */
+
+static void leave_stack(void **fake, const void *bottom, size_t size)
+{
+	if (__sanitizer_start_switch_fiber != NULL)
+		__sanitizer_start_switch_fiber(fake, bottom, size);
+}
+
+static void come_to_stack(void *fake, const void **bottom, size_t *size)
+{
+	if (__sanitizer_finish_switch_fiber != NULL)
+		__sanitizer_finish_switch_fiber(fake, bottom, size);
+}
+
+/* The thread's words of the layer are those of `to` from now on. */
+static void exchange(struct routine *from, struct routine *to)
+{
+	if (from != NULL) {
+		from->self = kupaldiz_self;
+		from->places = kupaldiz_places;
+	}
+	run.now_runs = to;
+	kupaldiz_self = to == NULL ? NULL : to->self;
+	kupaldiz_places = to == NULL ? (struct places){0} : to->places;
+}
+
+/* Goes on with another thread, and returns when this one is gone on with. */
+void switch_to(struct routine *to)
+{
+	struct routine *from = run.now_runs;
+	if (from == to)
+		return;
+	exchange(from, to);
+	leave_stack(from->ended ? NULL : &from->fake_stack, stack_of(to->number), STACK);
+	bench_switch(&from->stack, to->stack);
+	come_to_stack(from->fake_stack, NULL, NULL);
+}
+
+/* Ends the run, and goes on where it was begun. */
+void leave_run(enum end end)
+{
+	board->end = end;
+	exchange(NULL, NULL);
+	leave_stack(NULL, home_bottom, home_size);
+	void *left;
+	bench_switch(&left, home);
+	_exit(2);
+}
+
+/* ---- The life of a thread. ---- */
+
+static struct routine *take_starter(void)
+{
+	struct routine *found = starter;
+	starter = NULL;
+	return found;
+}
+
+/* The first thing that a new thread does. */
+static void begin_routine(void)
+{
+	struct routine *me = run.now_runs;
+	come_to_stack(NULL, me->number == 0 ? &home_bottom : NULL, me->number == 0 ? &home_size : NULL);
+	me->body(me->arg);
+	end_routine();
+}
+
+/* A thread that runs `body(arg)`. It isn't begun. */
+struct routine *make_routine(const char *name, void (*body)(void *), void *arg, bool daemon)
+{
+	if (run.count == THREADS - 1)
+		refuse("there are more than %d threads", THREADS - 1);
+	struct routine *made = &run.routines[run.count];
+	*made = (struct routine){.made = true, .daemon = daemon, .number = run.count, .name = name, .body = body, .arg = arg, .deadline = NEVER,
+	    .made_at = run.step == 0 ? -1 : (int)run.step - 1};
+	run.count++;
+	inherit_clock(made);
+	if (__asan_unpoison_memory_region != NULL)
+		__asan_unpoison_memory_region(stack_of(made->number), STACK);
+	/* As if it had been left at its begin: its registers, and where it returns to. */
+	uintptr_t *top = (uintptr_t *)(void *)(stack_of(made->number) + STACK) - 2;
+	top[0] = (uintptr_t)begin_routine;
+	top[1] = 0;
+	memset(top - KEPT, 0, KEPT * sizeof(*top));
+	made->stack = top - KEPT;
+	return made;
+}
+
+/* Each new thread runs up to its first point. */
+void start_routines(void)
+{
+	for (unsigned number = 0; number < run.count; number++) {
+		struct routine *at = &run.routines[number];
+		if (at->begun)
+			continue;
+		struct routine *before = starter;
+		starter = run.now_runs;
+		switch_to(at);
+		starter = before;
+	}
+}
+
+/* Whether this thread has come to its first point: whoever began it goes on, and this one when it is chosen. */
+void first_point(struct routine *me)
+{
+	struct routine *next = take_starter();
+	me->begun = true;
+	switch_to(next);
+}
+
+/* This thread has ended. Another one goes on. */
+void end_routine(void)
+{
+	struct routine *me = run.now_runs;
+	touch(ON_THREAD, me, 0, WRITES | GIVES);
+	me->ended = true;
+	if (!me->begun)
+		first_point(me);
+	point("thread end", NULL, NULL, NULL);
+	_exit(2);
+}
+
+/* Runs the first thread, with all that comes of it, until the run is left. */
+void run_main(void (*body)(void *))
+{
+	struct routine *first = make_routine("setup", body, NULL, false);
+	first->begun = true;
+	exchange(NULL, first);
+	leave_stack(&home_fake, stack_of(0), STACK);
+	bench_switch(&home, first->stack);
+	come_to_stack(home_fake, NULL, NULL);
+}

@@ -1,0 +1,314 @@
+/* schedule.c - points, and which thread goes on from one */
+#include <stdio.h>
+#include <string.h>
+
+#include "inside.h"
+
+struct run run;
+
+static uint32_t bit(unsigned number)
+{
+	return UINT32_C(1) << number;
+}
+
+enum {
+	CLOCK = THREADS - 1,	/* the bench's own, which lets time go on */
+	PATIENCE = 200		/* a thread that goes on for so many points may spin for another one: it doesn't go on before that */
+};
+
+/* ---- What a step touches. ---- */
+
+static void add(struct set *set, struct access access)
+{
+	for (uint32_t at = 0; at < set->count; at++) {
+		struct access *found = &set->of[at];
+		if (found->address == access.address && found->size == access.size && found->cpu == access.cpu && found->kind == access.kind) {
+			found->how |= access.how;
+			return;
+		}
+	}
+	if (set->count == ACCESSES)
+		set->full = true;
+	else
+		set->of[set->count++] = access;
+}
+
+static void note(struct access access)
+{
+	if (run.step > board->fresh && (board->way == REDUCED || board->way == REPLAYED))
+		add(&board->steps[run.step - 1].set, access);
+}
+
+void touch(enum kind kind, const volatile void *address, unsigned cpu, unsigned how)
+{
+	note((struct access){(uintptr_t)address, 1, (uint16_t)cpu, (uint8_t)kind, (uint8_t)how});
+	if ((how & TAKES) != 0)
+		take_clock(kind, address, cpu);
+	if ((how & GIVES) != 0)
+		give_clock(kind, address, cpu);
+}
+
+void touch_memory(const volatile void *address, size_t size, unsigned how)
+{
+	note((struct access){(uintptr_t)address, (uint32_t)size, 0, ON_MEMORY, (uint8_t)how});
+}
+
+/* The step commutes with no other. */
+void touch_all(void)
+{
+	if (run.step > board->fresh && board->way == REDUCED)
+		board->steps[run.step - 1].set.full = true;
+}
+
+/* ---- Who can go on. ---- */
+
+/* A thread that has its CPU can't while a soft interrupt has it. */
+static bool has_its_cpu(const struct routine *routine)
+{
+	const struct thread *self = routine->self;
+	return self == NULL || self->holds == 0 || routine->off || lock_owner(&self->cpu->hold) == self;
+}
+
+bool is_enabled(const struct routine *routine)
+{
+	if (!routine->made || routine->ended || (run.phase == SETTING_UP && routine->number != 0))
+		return false;
+	return has_its_cpu(routine) && (routine->guard == NULL || routine->guard(routine));
+}
+
+/* Whether time may go on although a thread can. */
+static bool clock_may_hurry(void)
+{
+	return run.ticks < options.ticks && next_time() != NEVER && run.phase == RUNNING;
+}
+
+/* Whether all threads have ended, and no soft interrupt waits. */
+bool all_have_ended(const struct routine *routine)
+{
+	for (unsigned number = 0; number < run.count; number++) {
+		const struct routine *other = &run.routines[number];
+		if (other != routine && (other->daemon ? is_enabled(other) : !other->ended))
+			return false;
+	}
+	return !clock_may_hurry();
+}
+
+uint32_t enabled_now(void)
+{
+	uint32_t enabled = 0;
+	for (unsigned number = 0; number < run.count; number++)
+		if (is_enabled(&run.routines[number]))
+			enabled |= bit(number);
+	if (clock_may_hurry() || (enabled == 0 && next_time() != NEVER))
+		enabled |= bit(CLOCK);
+	return enabled;
+}
+
+/* ---- Which one does. ---- */
+
+static unsigned lowest(uint32_t mask)
+{
+	return (unsigned)__builtin_ctz(mask);
+}
+
+/* Those of another step that sleep here, too: what they would do commutes with what was done. */
+static void hand_on_sleep(const struct step *before, struct step *step)
+{
+	uint32_t candidates = (before->asleep | before->done) & ~bit(before->chosen);
+	step->asleep = 0;
+	for (; candidates != 0; candidates &= candidates - 1) {
+		unsigned number = lowest(candidates);
+		const struct set *set = (before->asleep & bit(number)) != 0 ? before->slept[number] : &before->tried[number];
+		if (do_conflict(set, &before->set))
+			continue;
+		step->asleep |= bit(number);
+		step->slept[number] = set;
+	}
+}
+
+static unsigned highest_priority(uint32_t mask)
+{
+	unsigned best = lowest(mask);
+	for (; mask != 0; mask &= mask - 1)
+		if (board->priorities[lowest(mask)] > board->priorities[best])
+			best = lowest(mask);
+	return best;
+}
+
+/* By random priorities, which fall at some points. */
+static unsigned choose_random(uint32_t enabled)
+{
+	unsigned best = highest_priority(enabled);
+	for (unsigned at = 0; at < sizeof(board->changes) / sizeof(board->changes[0]); at++) {
+		if (board->changes[at] == run.step) {
+			board->priorities[best] = at;
+			best = highest_priority(enabled);
+		}
+	}
+	return best;
+}
+
+/* A thread that may spin doesn't go on where another one can. */
+static void bar(struct step *step, const struct step *before)
+{
+	uint32_t own = before == NULL || before->turns < PATIENCE ? 0 : bit(before->chosen);
+	step->barred = (step->enabled & ~own) != 0 ? own : 0;
+	board->found.barred += step->barred != 0;
+}
+
+/* What is tried at a new step, beginning with the thread that runs already. */
+static unsigned choose_new(struct step *step, const struct step *before)
+{
+	uint32_t enabled = step->enabled, can = enabled;
+	step->done = 0;
+	step->asleep = 0;
+	step->planned = 0;
+	bar(step, before);
+	if (board->way == RANDOM)
+		return choose_random(enabled);
+	if (board->way == REDUCED && before != NULL)
+		hand_on_sleep(before, step);
+	can &= ~step->asleep & ~step->barred;
+	if (can == 0)
+		leave_run(CUT);
+	bool stays = before != NULL && (can & bit(before->chosen)) != 0;
+	if (board->way == BOUNDED && stays && before->preemptions >= board->bound)
+		can = bit(before->chosen);
+	step->planned = board->way == REDUCED ? 0 : can;
+	return stays ? before->chosen : lowest(can);
+}
+
+static void judge_given(const struct step *step, uint32_t enabled)
+{
+	if ((enabled & bit(step->chosen)) == 0) {
+		snprintf(board->found.line, sizeof(board->found.line), "the schedule doesn't fit: at point %u thread \"%s\" can't go on", run.step,
+		    step->chosen < run.count && run.routines[step->chosen].name != NULL ? run.routines[step->chosen].name : "?");
+		leave_run(UNFIT);
+	}
+	if (board->way != REPLAYED && enabled != step->enabled) {
+		snprintf(board->found.line, sizeof(board->found.line),
+		    "two runs by one schedule differ at point %u: the code depends on something outside of it", run.step);
+		leave_run(UNFIT);
+	}
+}
+
+/* Begins a step of the thread that was chosen. */
+static unsigned begin_step(uint32_t enabled)
+{
+	struct step *step = &board->steps[run.step], *before = run.step == 0 ? NULL : step - 1;
+	unsigned chosen = step->chosen;
+	if (run.step < board->prefix) {
+		judge_given(step, enabled);
+		step->enabled = enabled;
+	} else {
+		step->enabled = enabled;
+		chosen = board->way == REPLAYED ? before != NULL && (enabled & bit(before->chosen)) != 0 ? before->chosen : lowest(enabled)
+						: choose_new(step, before);
+		board->found.states++;
+	}
+	bool changes = before != NULL && before->chosen != chosen;
+	step->chosen = (uint8_t)chosen;
+	bool preempts = changes && (enabled & bit(before->chosen)) != 0 && before->turns < PATIENCE;
+	step->preemptions = (uint16_t)(before == NULL ? 0 : before->preemptions + preempts);
+	step->turns = (uint16_t)(before == NULL || changes ? 0 : before->turns + 1);
+	board->found.switches += changes;
+	board->found.points++;
+	if (run.step >= board->fresh)
+		step->set = (struct set){0};
+	run.step++;
+	board->length = run.step;
+	return chosen;
+}
+
+static void name_step(struct step *step, const struct routine *routine)
+{
+	step->call = routine == NULL ? "clock" : routine->call;
+	step->place = routine == NULL ? NULL : routine->place;
+	step->cpu = routine == NULL || routine->self == NULL || routine->self->cpu == NULL ? NOBODY : (uint8_t)routine->self->cpu->info.ci_index;
+}
+
+static void end_step(void)
+{
+	if (run.step > board->fresh && board->way == REDUCED)
+		judge_step(run.step - 1);
+	if (run.step == POINTS)
+		fail("the run doesn't end: it has come to %d points", POINTS);
+}
+
+/* Lets time go on to the next thing that waits for it. */
+static void tick(uint32_t enabled)
+{
+	run.ticks += enabled != bit(CLOCK);
+	run.time = next_time();
+	touch(ON_TIME, NULL, 0, WRITES);
+}
+
+/* Goes on with the thread that is chosen. */
+static void choose(void)
+{
+	uint32_t enabled;
+	unsigned chosen;
+	do {
+		end_step();
+		enabled = enabled_now();
+		if (enabled == 0)
+			tell_stuck();
+		chosen = begin_step(enabled);
+		name_step(&board->steps[run.step - 1], chosen == CLOCK ? NULL : &run.routines[chosen]);
+		if (chosen == CLOCK)
+			tick(enabled);
+	} while (chosen == CLOCK);
+	switch_to(&run.routines[chosen]);
+}
+
+/* ---- Points. ---- */
+
+/* The thread that makes a call. It has a CPU from its first call on. */
+struct routine *here(const char *call)
+{
+	struct routine *me = run.now_runs;
+	if (me == NULL)
+		refuse("%s outside of bench_explore", call);
+	struct thread *self = kupaldiz_self;
+	me->self = self;
+	if (me->name == NULL && self != NULL)
+		me->name = self->name;
+	if (self != NULL && self->cpu == NULL) {
+		self->cpu = &cpus[me->number == 0 ? KUPALDIZ_CPUS - 1 : (me->number - 1) % (KUPALDIZ_CPUS - 1)];
+		self->lwp.l_cpu = &self->cpu->info;
+	}
+	return me;
+}
+
+/* A point of this thread. It returns when the thread is chosen, and the guard holds. */
+void point(const char *call, const char *place, guard_fn *guard, const void *of)
+{
+	struct routine *me = here(call);
+	me->call = call;
+	me->place = place != NULL ? place : me->from != NULL ? me->from
+	    : kupaldiz_places.count > 0			     ? kupaldiz_places.at[kupaldiz_places.count - 1]
+							     : NULL;
+	me->from = NULL;
+	me->guard = guard;
+	me->of = of;
+	if (!me->begun && !me->ended) {
+		first_point(me);
+		return;
+	}
+	if (run.phase == SETTING_UP && is_enabled(me) && !me->ended)
+		return;
+	if (run.phase == SETTING_UP)
+		run.phase = RUNNING;
+	choose();
+	/* A soft interrupt that takes its CPU comes before the step of a thread that has it, or after. */
+	if (me->self != NULL && me->self->holds > 0 && !me->off)
+		touch(ON_LOCK, &me->self->cpu->hold, 0, 0);
+}
+
+/* A wait inside a call. */
+void wait_here(guard_fn *guard, const void *of)
+{
+	struct routine *me = run.now_runs;
+	point(me->call != NULL ? me->call : "wait", me->place, guard, of);
+	me->guard = NULL;
+}

@@ -1,0 +1,65 @@
+/*
+ * shim.h - what the layer's sources call of the C library and of the registry, as the bench has it; the compiler reads it before each of them
+ */
+#ifndef KUPALDIZ_BENCH_SHIM_H
+#define KUPALDIZ_BENCH_SHIM_H
+
+#include <errno.h>
+#include <fcntl.h>
+#include <limits.h>
+#include <pthread.h>
+#include <sched.h>
+#include <stdarg.h>
+#include <stdbool.h>
+#include <stdio.h>
+#include <stdlib.h>
+#include <string.h>
+#include <sys/types.h>
+#include <time.h>
+#include <unistd.h>
+
+/* There are fewer banks, so that less is begun anew with each run. No wait says after a while what it waits for, and no drain looks without being woken. */
+#define KUPALDIZ_PATIENCE	1000000000
+#define KUPALDIZ_LOOKS		INT64_C(1000000000000000)
+#define KUPALDIZ_CHANGES	2000
+#define KUPALDIZ_BANKS		64
+
+#include "stand_ins.h"
+
+#define malloc(size)			bench_malloc(size)
+#define calloc(count, size)		bench_calloc(count, size)
+#define realloc(block, size)		bench_realloc(block, size)
+#define free(block)			bench_free(block)
+#define posix_memalign(block, align, size)	bench_aligned(block, align, size)
+
+#define pthread_mutex_init(mutex, attributes)	((void)(mutex))
+#define pthread_mutex_lock(mutex)	((void)(mutex))
+#define pthread_mutex_unlock(mutex)	((void)(mutex))
+#define pthread_cond_init(cond, attributes)	((void)(cond), (void)(attributes))
+#define pthread_cond_wait(cond, mutex)	bench_cond_wait(cond, NULL)
+#define pthread_cond_timedwait(cond, mutex, deadline)	bench_cond_wait(cond, deadline)
+#define pthread_cond_broadcast(cond)	bench_cond_broadcast(cond)
+#define pthread_condattr_init(attributes)	((void)(attributes))
+#define pthread_condattr_setclock(attributes, clock)	((void)(attributes))
+#define pthread_condattr_destroy(attributes)	((void)(attributes))
+#define pthread_once(once, body)	(*(once) == 0 ? (void)(*(once) = 1, (body)()) : (void)0)
+#define pthread_key_create(key, end)	((void)(end), bench_key(key))
+#define pthread_setspecific(key, value)	bench_key(&(key))
+#define pthread_atfork(prepare, parent, child)	((void)(child), 0)
+#define pthread_setcancelstate(state, before)	bench_cancel_state(state, before)
+#define pthread_create(id, attributes, body, arg)	bench_create(id, body, arg, __FILE__)
+#define pthread_detach(id)		((void)(id))
+#define pthread_join(id, answer)	bench_join(id)
+#define pthread_exit(answer)		bench_exit()
+
+#define nanosleep(time, rest)		bench_sleep(time)
+#define sched_yield()			((void)0)
+#define write(file, text, length)	bench_write(text, length)
+#define abort()				bench_abort()
+
+#define registry_enter(cpu)		bench_enter(cpu)
+#define registry_exit(cpu)		bench_section_exit(cpu)
+#define registry_destroy(keeper, cpu, number, met)	bench_destroy(keeper, cpu, number, met)
+#define registry_perform_begin(keeper, cpu, wait)	bench_perform_begin(keeper, cpu, wait)
+
+#endif

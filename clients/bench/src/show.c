@@ -1,0 +1,79 @@
+/* show.c - what was found, as lines; a schedule as a short text */
+#include <stdio.h>
+#include <string.h>
+
+#include "inside.h"
+
+/* How many points a thread goes on from a step. */
+static unsigned turns_from(unsigned from)
+{
+	unsigned at = from;
+	while (at < board->length && board->steps[at].chosen == board->steps[from].chosen)
+		at++;
+	return at - from;
+}
+
+/* A letter for each thread, a dot for the clock, and how many points it goes on where that isn't 1. */
+void write_schedule(char *text, size_t room)
+{
+	size_t length = 0;
+	for (unsigned at = 0, turns; at < board->length && length + 8 < room; at += turns) {
+		unsigned thread = board->steps[at].chosen;
+		turns = turns_from(at);
+		char letter = thread == THREADS - 1 ? '.' : (char)('a' + thread);
+		length += (size_t)snprintf(text + length, room - length, turns == 1 ? "%c" : "%c%u", letter, turns);
+	}
+	text[length] = '\0';
+}
+
+/* A file's name without its folders. */
+const char *short_place(const char *place)
+{
+	const char *slash = place == NULL ? NULL : strrchr(place, '/');
+	return place == NULL ? "" : slash == NULL ? place : slash + 1;
+}
+
+static void show_steps(FILE *to)
+{
+	for (unsigned at = 0; at < board->length; at++) {
+		const struct step *step = &board->steps[at];
+		bool changes = at == 0 || board->steps[at - 1].chosen != step->chosen;
+		char cpu[8] = "";
+		if (step->cpu != NOBODY)
+			snprintf(cpu, sizeof(cpu), "CPU %u", step->cpu);
+		fprintf(to, "  %4u  %-16s %-5s  %-22s %s\n", at + 1, changes ? board->names[step->chosen] : "", cpu, step->call, short_place(step->place));
+	}
+}
+
+static void show_counts(FILE *to, const struct bench_found *found)
+{
+	fprintf(to, "%s: %llu schedules, %llu cut short, %llu states, %llu points, %llu switches\n", options.name, (unsigned long long)found->schedules,
+	    (unsigned long long)found->cut, (unsigned long long)found->states, (unsigned long long)found->points, (unsigned long long)found->switches);
+	if (found->exhausted)
+		fprintf(to, "%s: every schedule was tried%s%s\n", options.name, options.whole ? "" : ", or one that is the same as it",
+		    found->barred == 0 ? "" : "; left out: those in which a thread goes on for more than 200 points while another can");
+	else if (found->first == 0 && options.replay == NULL)
+		fprintf(to, "%s: left out: schedules with more than %d preemptions, except %llu by random priorities, seed %llu\n", options.name, found->bound,
+		    (unsigned long long)found->random, (unsigned long long)options.seed);
+}
+
+static void show_outcomes(FILE *to, const struct bench_found *found)
+{
+	for (unsigned at = 0; at < found->outcomes; at++)
+		if (found->outcome[at].text[0] != '\0')
+			fprintf(to, "%s: outcome %s: %llu\n", options.name, found->outcome[at].text, (unsigned long long)found->outcome[at].count);
+	if (found->others > 0)
+		fprintf(to, "%s: other outcomes: %llu\n", options.name, (unsigned long long)found->others);
+}
+
+void show(FILE *to, const struct bench_found *found)
+{
+	show_counts(to, found);
+	show_outcomes(to, found);
+	if (found->first == 0)
+		return;
+	fprintf(to, "%s: FAULT: %s\n", options.name, found->line);
+	fprintf(to, "%s: found by run %llu; schedule %s, preemptions %u\n", options.name, (unsigned long long)found->first, found->schedule,
+	    found->preemptions);
+	show_steps(to);
+}

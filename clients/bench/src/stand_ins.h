@@ -1,0 +1,44 @@
+/* stand_ins.h - what stands in for calls of the C library and of the registry in the layer's sources; shim.h has their names */
+#ifndef KUPALDIZ_BENCH_STAND_INS_H
+#define KUPALDIZ_BENCH_STAND_INS_H
+
+#include <pthread.h>
+#include <stdint.h>
+#include <sys/types.h>
+#include <time.h>
+
+#include "registry.h"
+
+void *bench_malloc(size_t size);
+void *bench_calloc(size_t count, size_t size);
+void *bench_realloc(void *block, size_t size);
+void bench_free(void *block);
+int bench_aligned(void **block, size_t align, size_t size);
+int bench_create(pthread_t *id, void *(*body)(void *), void *arg, const char *file);
+int bench_join(pthread_t id);
+/* The end of a thread is told by the thread itself. */
+static inline int bench_key(const pthread_key_t *key)
+{
+	(void)key;
+	return 0;
+}
+
+/* No thread is cancelled. */
+static inline void bench_cancel_state(int state, int *before)
+{
+	if (before != NULL)
+		*before = state;
+}
+
+void bench_exit(void) __attribute__((noreturn));
+int bench_cond_wait(const void *cond, const struct timespec *deadline);
+void bench_cond_broadcast(const void *cond);
+void bench_sleep(const struct timespec *time);
+ssize_t bench_write(const void *text, size_t length);
+void bench_abort(void) __attribute__((noreturn));
+uint32_t bench_enter(struct registry_cpu *cpu);
+uint32_t bench_section_exit(struct registry_cpu *cpu);
+uint32_t bench_destroy(struct registry_keeper *keeper, struct registry_cpu *cpu, uint64_t number, struct registry_stage *met);
+uint32_t bench_perform_begin(struct registry_keeper *keeper, struct registry_cpu *cpu, struct registry_wait *wait);
+
+#endif

@@ -1,0 +1,128 @@
+/*
+ * state.c - the writable memory of the program and of the library, which each run finds as the first one did
+ *
+ * The search itself lies in memory of its own, so that it stays. The C library's memory stays, too: a program that was linked with -static has that among
+ * its own, and so each of its runs has a process of its own.
+ */
+#include <link.h>
+#include <string.h>
+#include <sys/mman.h>
+#include <unistd.h>
+
+#include "inside.h"
+
+enum { MOST_PARTS = 16 };
+
+static struct part {
+	char *at, *kept;
+	size_t size;
+} *parts;
+static unsigned count;
+
+/* Copies without the sanitizer's look at what lies between two variables. */
+__attribute__((no_sanitize_address, optimize("no-tree-loop-distribute-patterns"))) static void copy(char *to, const char *from, size_t size)
+{
+	uint64_t *to_words = (uint64_t *)(void *)to;
+	const uint64_t *words = (const uint64_t *)(const void *)from;
+	for (size_t at = 0; at < size / sizeof(*words); at++)
+		if (to_words[at] != words[at])
+			to_words[at] = words[at];
+}
+
+static void *pages(size_t size)
+{
+	void *at = mmap(NULL, size, PROT_READ | PROT_WRITE, MAP_PRIVATE | MAP_ANONYMOUS, -1, 0);
+	if (at == MAP_FAILED)
+		refuse("out of memory");
+	return at;
+}
+
+static void add_part(uintptr_t from, uintptr_t to)
+{
+	from = (from + 7) & ~(uintptr_t)7;
+	to &= ~(uintptr_t)7;
+	if (from >= to)
+		return;
+	if (count == MOST_PARTS)
+		refuse("the program has too many parts");
+	parts[count++] = (struct part){.at = (char *)from, .kept = pages(to - from), .size = to - from};
+}
+
+static uintptr_t page_of(uintptr_t address)
+{
+	return address & ~((uintptr_t)sysconf(_SC_PAGESIZE) - 1);
+}
+
+/* Whether an address lies in one of an object's parts. */
+static bool has_address(const struct dl_phdr_info *object, uintptr_t address)
+{
+	for (unsigned at = 0; at < object->dlpi_phnum; at++) {
+		const ElfW(Phdr) *part = &object->dlpi_phdr[at];
+		uintptr_t from = object->dlpi_addr + part->p_vaddr;
+		if (part->p_type == PT_LOAD && address >= from && address < from + part->p_memsz)
+			return true;
+	}
+	return false;
+}
+
+/* What of an object the loader has made read-only. */
+static void find_closed(const struct dl_phdr_info *object, uintptr_t *from, uintptr_t *to)
+{
+	*from = *to = 0;
+	for (unsigned at = 0; at < object->dlpi_phnum; at++) {
+		const ElfW(Phdr) *part = &object->dlpi_phdr[at];
+		if (part->p_type == PT_GNU_RELRO) {
+			*from = page_of(object->dlpi_addr + part->p_vaddr);
+			*to = page_of(object->dlpi_addr + part->p_vaddr + part->p_memsz);
+		}
+	}
+}
+
+/* Adds the writable parts of an object, without that. */
+static void add_object(const struct dl_phdr_info *object)
+{
+	uintptr_t closed_from, closed_to;
+	find_closed(object, &closed_from, &closed_to);
+	for (unsigned at = 0; at < object->dlpi_phnum; at++) {
+		const ElfW(Phdr) *part = &object->dlpi_phdr[at];
+		uintptr_t from = object->dlpi_addr + part->p_vaddr, to = from + part->p_memsz;
+		if (part->p_type != PT_LOAD || (part->p_flags & PF_W) == 0)
+			continue;
+		if (closed_from < to && closed_to > from) {
+			add_part(from, closed_from > from ? closed_from : from);
+			from = closed_to;
+		}
+		add_part(from, to);
+	}
+}
+
+/* The program comes first; of the others only the one that this function lies in is the bench's. */
+static int look_at(struct dl_phdr_info *object, size_t size, void *first)
+{
+	(void)size;
+	if (*(bool *)first && has_address(object, (uintptr_t)stdout))
+		board->apart = true;
+	if (*(bool *)first || has_address(object, (uintptr_t)look_at))
+		add_object(object);
+	*(bool *)first = false;
+	return 0;
+}
+
+/* Keeps what the memory has now. */
+void note_state(void)
+{
+	bool first = true;
+	count = 0;
+	parts = pages(MOST_PARTS * sizeof(*parts));
+	dl_iterate_phdr(look_at, &first);
+	for (unsigned at = 0; at < count; at++)
+		copy(parts[at].kept, parts[at].at, parts[at].size);
+}
+
+void restore_state(void)
+{
+	if (board->apart)
+		return;
+	for (unsigned at = 0; at < count; at++)
+		copy(parts[at].at, parts[at].kept, parts[at].size);
+}

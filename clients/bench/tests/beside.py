@@ -1,0 +1,38 @@
+#!/usr/bin/env python3
+"""Compares what small programs come to on real threads with what they come to in the bench.
+
+    beside.py BENCH THREADS FIRST COUNT    the two builds of tests/outcomes.c, and the seeds of the random programs
+
+Each outcome of real threads must be among the bench's. Programs in which the bench finds a fault, or has more schedules than it tries, are left
+out, and those whose threads took too long on a busy machine: less than half of the others.
+"""
+import os
+import subprocess
+import sys
+
+
+def outcomes(program, words, **variables):
+    """The outcomes by program text."""
+    ran = subprocess.run([program, "print", *words], stdout=subprocess.PIPE, text=True, check=True, env={**os.environ, **variables})
+    found = {}
+    for line in ran.stdout.splitlines():
+        text, _, outcome = line.partition(": ")
+        found.setdefault(text, set()).add(outcome)
+    return found
+
+
+def main():
+    bench, threads, *words = sys.argv[1:]
+    all_of = outcomes(bench, words)
+    seen = outcomes(threads, words, BENCH_RUNS="60", BENCH_YIELD="1")
+    fit = [text for text in all_of if all_of[text] != {"LEFT OUT"}]
+    compared = [text for text in fit if seen.get(text, {"LEFT OUT"}) != {"LEFT OUT"}]
+    wrong = [text for text in compared if not seen[text] <= all_of[text]]
+    for text in wrong:
+        print(f"{text}: real threads come to {sorted(seen[text] - all_of[text])}, and the bench to {sorted(all_of[text])}")
+    count = sum(len(seen[text]) for text in compared)
+    print(f"{len(compared)} programs: {count} outcomes of real threads are among the bench's {sum(len(all_of[text]) for text in compared)}")
+    sys.exit(bool(wrong) or 2 * len(compared) < len(fit))
+
+
+main()

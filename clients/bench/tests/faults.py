@@ -1,0 +1,259 @@
+#!/usr/bin/env python3
+"""Plants faults in the seven drivers, one at a time, and lets the bench look for each.
+
+    faults.py FOLDER WORDS..             plants in a folder, compiles with these words, runs, and prints a table; the last line is 'N passed, M failed'
+    faults.py FOLDER --threads WORDS..   the same with real threads, which may miss any
+
+A fault is found where some schedule of its case goes wrong with the line that is told here.
+"""
+import pathlib
+import re
+import subprocess
+import sys
+from typing import NamedTuple
+
+HERE = pathlib.Path(__file__).resolve().parent
+EXAMPLES = HERE.parent.parent / "netbsd/examples"
+
+
+class Fault(NamedTuple):
+    driver: str
+    case: str
+    name: str
+    line: str       # what the bench says, as a pattern
+    edits: list     # (before, after) pairs; each `before` is in the driver's file once
+
+
+FREED = r"use of freed memory|written to freed memory|is not live|being destroyed|being drained|ends by signal 11|AddressSanitizer|status 1"
+
+BRIDGE_END = """	PSLIST_WRITER_REMOVE(bif, bif_next);
+	BRIDGE_PSZ_PERFORM(sc);
+	BRIDGE_UNLOCK(sc);
+
+	psref_target_destroy(&bif->bif_psref, sc->sc_class);
+	PSLIST_ENTRY_DESTROY(bif, bif_next);
+	kmem_free(bif, sizeof(*bif));
+"""
+BRIDGE_ACQUIRE = """		psref_acquire(&psref, &bif->bif_psref, sc->sc_class);
+		BRIDGE_PSZ_REXIT(s);
+"""
+BRIDGE_RELEASE = """		BRIDGE_PSZ_RENTER(s);
+		psref_release(&psref, &bif->bif_psref, sc->sc_class);
+"""
+DETACH = """	atomic_store_release(&iftable->it_entries[index], NULL);
+	pserialize_perform(ifnet_psz);
+	mutex_exit(&ifnet_mtx);
+
+	psref_target_destroy(&ifp->if_psref, ifnet_psref_class);
+	kmem_free(ifp, sizeof(*ifp));
+"""
+GROW = """	atomic_store_release(&iftable, new);
+	pserialize_perform(ifnet_psz);
+	kmem_free(old, iftable_size(old->it_limit));
+"""
+IF_GET = """	if (__predict_true(ifp != NULL))
+		psref_acquire(psref, &ifp->if_psref, ifnet_psref_class);
+	pserialize_read_exit(s);
+"""
+DEVSW_END = """	atomic_store_relaxed(&devswrefs[major], NULL);
+	pserialize_perform(device_psz);
+	localcount_drain(&ref->dr_lc, &device_cv, &device_lock);
+	mutex_exit(&device_lock);
+
+	localcount_fini(&ref->dr_lc);
+	kmem_free(ref, sizeof(*ref));
+"""
+DEVSW_FIND = """	if (ref != NULL)
+		localcount_acquire(&ref->dr_lc);
+	pserialize_read_exit(s);
+"""
+DEVSW_RELEASE = """	localcount_release(&ref->dr_lc, &device_cv, &device_lock);
+"""
+OPEN = """	error = (*ref->dr_devsw->d_open)(minor);	/* may sleep */
+	devsw_release(ref);
+"""
+REMOVE = """	PSLIST_WRITER_REMOVE(e, e_link);
+	pserialize_perform(entry_psz);
+	mutex_exit(&entry_lock);
+	psref_target_destroy(&e->e_target, entry_class);
+	PSLIST_ENTRY_DESTROY(e, e_link);
+	pool_cache_put(entry_cache, e);
+"""
+REPLACE = """	PSLIST_WRITER_REMOVE(other, e_link);
+	pserialize_perform(entry_psz);
+	mutex_exit(&entry_lock);
+"""
+ENTRY_GET = """	if (e != NULL)
+		psref_acquire(psref, &e->e_target, entry_class);
+	pserialize_read_exit(s);
+"""
+COPYOUT = """	error = copyout(&e->e_content, data, sizeof(e->e_content));
+	psref_release(&psref, &e->e_target, entry_class);
+"""
+UNLISTEN = """	PSLIST_WRITER_REMOVE(l, l_link);
+	pserialize_perform(listener_psz);
+	mutex_exit(&listener_lock);
+	psref_target_destroy(&l->l_target, listener_class);
+	PSLIST_ENTRY_DESTROY(l, l_link);
+	kmem_free(l, sizeof(*l));
+"""
+DELIVER = """		psref_acquire(&psref, &l->l_target, listener_class);
+		pserialize_read_exit(s);
+"""
+FOUND_HOOK = """	localcount_acquire(&hook.lc);
+	pserialize_read_exit(s);
+"""
+UNHOOK = """	atomic_store_relaxed(&hook.sc, NULL);
+	pserialize_perform(hook.psz);
+	localcount_drain(&hook.lc, &hook.cv, &hook.lock);
+"""
+DYING = """	mutex_enter(&sc->sc_lock);
+	sc->sc_dying = true;
+	cv_broadcast(&sc->sc_cv);
+"""
+
+
+def swapped(text, first, second):
+    """The text with two of its lines in each other's place."""
+    lines = text.split("\n")
+    lines[first], lines[second] = lines[second], lines[first]
+    return "\n".join(lines)
+
+
+def without(text, *places):
+    return "\n".join(line for place, line in enumerate(text.split("\n")) if place not in places)
+
+
+FAULTS = [
+    Fault("bridge", "bridge", "a perform forgotten", FREED, [(BRIDGE_END, without(BRIDGE_END, 1))]),
+    Fault("bridge", "bridge", "a link cleared before the perform", r"signal 11|status 1", [
+        (BRIDGE_END, BRIDGE_END.replace("	PSLIST_ENTRY_DESTROY(bif, bif_next);\n", "").replace(
+            "	BRIDGE_PSZ_PERFORM(sc);\n", "	PSLIST_ENTRY_DESTROY(bif, bif_next);\n	BRIDGE_PSZ_PERFORM(sc);\n"))]),
+    Fault("bridge", "bridge", "a psref acquired after the section", FREED, [(BRIDGE_ACQUIRE, swapped(BRIDGE_ACQUIRE, 0, 1))]),
+    Fault("bridge", "bridge", "a free before the destroy", FREED, [
+        (BRIDGE_END, without(BRIDGE_END, 6).replace("	psref_target_destroy", "	kmem_free(bif, sizeof(*bif));\n	psref_target_destroy"))]),
+    Fault("bridge", "bridge", "a release before the section in which the link is followed", FREED, [(BRIDGE_RELEASE, swapped(BRIDGE_RELEASE, 0, 1))]),
+    Fault("bridge", "bridge", "a reference kept over unbind", r"curlwp_bindx: the thread has passive references|is held already", [
+        (BRIDGE_RELEASE, without(BRIDGE_RELEASE, 1))]),
+    Fault("ifindex", "ifindex", "a perform forgotten", FREED, [(DETACH, without(DETACH, 1))]),
+    Fault("ifindex", "growth", "the old table freed before the perform", FREED, [(GROW, swapped(GROW, 1, 2))]),
+    Fault("ifindex", "ifindex", "a psref acquired after the section", FREED, [
+        (IF_GET, IF_GET.replace("	pserialize_read_exit(s);\n", "").replace("	if (__predict", "	pserialize_read_exit(s);\n	if (__predict"))]),
+    Fault("ifindex", "ifindex", "a free before the destroy", FREED, [(DETACH, swapped(DETACH, 4, 5))]),
+    Fault("ifindex", "ifindex", "a thread that isn't bound", r"psref_acquire: the thread is not bound", [
+        ("	bound = curlwp_bind();\n", "	bound = 1;\n"), ("	curlwp_bindx(bound);\n", "	(void)bound;\n")]),
+    Fault("ifindex", "ifindex", "a reference kept over unbind", r"the thread has passive references", [
+        ("	if_put(ifp, &psref);\n", "	if (!sent)\n		if_put(ifp, &psref);\n")]),
+    Fault("devsw", "devsw", "a perform forgotten", FREED, [(DEVSW_END, without(DEVSW_END, 1))]),
+    Fault("devsw", "devsw", "a drain before the unlinking", FREED, [
+        (DEVSW_END, "	localcount_drain(&ref->dr_lc, &device_cv, &device_lock);\n" + without(DEVSW_END, 2))]),
+    Fault("devsw", "devsw", "a count acquired after the section", FREED, [
+        (DEVSW_FIND, "	pserialize_read_exit(s);\n" + without(DEVSW_FIND, 2))]),
+    Fault("devsw", "devsw", "a count released twice", r"no reference to the count is held|is not live|freed", [(DEVSW_RELEASE, DEVSW_RELEASE * 2)]),
+    Fault("devsw", "devsw", "the wrong lock", r"the interlock differs", [
+        ("static kmutex_t		device_lock;\n", "static kmutex_t		device_lock, other_lock;\n"),
+        ("	mutex_init(&device_lock, MUTEX_DEFAULT, IPL_NONE);\n", "	mutex_init(&device_lock, MUTEX_DEFAULT, IPL_NONE);\n	mutex_init(&other_lock, MUTEX_DEFAULT, IPL_NONE);\n"),
+        (DEVSW_RELEASE, DEVSW_RELEASE.replace("&device_lock", "&other_lock"))]),
+    Fault("devsw", "devsw", "a release forgotten", r"waits in localcount_drain at .*wake-up that nobody is left to give", [(OPEN, without(OPEN, 1))]),
+    Fault("ioctl", "ioctl", "a perform forgotten", FREED, [(REMOVE, without(REMOVE, 1))]),
+    Fault("ioctl", "replace", "a perform forgotten where an entry is replaced", FREED, [(REPLACE, without(REPLACE, 1))]),
+    Fault("ioctl", "ioctl", "a copy to the user inside the section", r"copyout: inside a read section", [
+        (ENTRY_GET, without(ENTRY_GET, 2)), (COPYOUT, COPYOUT.replace("	psref_release", "	pserialize_read_exit(0);\n	psref_release"))]),
+    Fault("ioctl", "ioctl", "a free before the destroy", FREED, [(REMOVE, swapped(without(REMOVE, 4), 3, 4))]),
+    Fault("ioctl", "ioctl", "a psref acquired after the section", FREED, [(ENTRY_GET, "	pserialize_read_exit(s);\n" + without(ENTRY_GET, 2))]),
+    Fault("ioctl", "ioctl", "a destroy with the lock that a holder waits for", r"deadlock: .*psref_target_destroy|deadlock: .*mutex_enter", [
+        (REMOVE, swapped(REMOVE, 2, 3)), (COPYOUT, COPYOUT.replace("	psref_release", "	mutex_enter(&entry_lock);\n	mutex_exit(&entry_lock);\n	psref_release"))]),
+    Fault("rxintr", "rxintr", "a perform forgotten", FREED, [(UNLISTEN, without(UNLISTEN, 1))]),
+    Fault("rxintr", "rxintr", "a lock of the wrong level", r"in a soft interrupt, and the lock is of IPL_NONE|at a raised level|with a spin lock", [
+        ("	mutex_init(&rxq_lock, MUTEX_DEFAULT, IPL_NET);\n", "	mutex_init(&rxq_lock, MUTEX_DEFAULT, IPL_NONE);\n")]),
+    Fault("rxintr", "rxintr", "a packet that is never freed", r"blocks of memory are left at the end, one of them taken by kmem_intr_alloc", [
+        ("		rx_deliver(p->p_number);\n		kmem_intr_free(p, sizeof(*p));\n", "		rx_deliver(p->p_number);\n")]),
+    Fault("rxintr", "rxintr", "a psref acquired after the section", FREED, [(DELIVER, swapped(DELIVER, 0, 1))]),
+    Fault("rxintr", "rxintr", "a free before the destroy", FREED, [(UNLISTEN, without(UNLISTEN, 5).replace("	psref_target", "	kmem_free(l, sizeof(*l));\n	psref_target"))]),
+    Fault("rxintr", "rxintr", "a sleep at a raised level", r"kmem_intr_alloc: at a raised level", [
+        ("KM_NOSLEEP", "KM_SLEEP")]),
+    Fault("counters", "counters", "a putref forgotten", r"with its CPU|with preemption", [
+        ("		_NET_STATADD(counters, which, number);\n", "		_NET_STATADD_REF(_NET_STAT_GETREF(counters), which, number);\n")]),
+    Fault("counters", "counters", "a sum without the cross call", r"KASSERT: not so: ci == curcpu\(\)", [
+        ("	percpu_foreach_xcall(counters, XC_HIGHPRI, counters_sum_cpu, sums);\n", "	percpu_foreach(counters, counters_sum_cpu, sums);\n")]),
+    Fault("counters", "counters", "a putref too much", r"percpu_putref: without a percpu_getref", [
+        ("		_NET_STATADD(counters, which, number);\n", "	{\n		_NET_STATADD(counters, which, number);\n		_NET_STAT_PUTREF(counters);\n	}\n")]),
+    Fault("counters", "counters", "the wrong size at the end", r"bytes are given back of", [
+        ("	percpu_free(counters, sizeof(uint64_t) * COUNTERS);\n", "	percpu_free(counters, sizeof(uint64_t));\n")]),
+    Fault("counters", "counters", "counters that are never freed", r"blocks of memory are left at the end, one of them taken by percpu_alloc", [
+        ("	percpu_free(counters, sizeof(uint64_t) * COUNTERS);\n", "")]),
+    Fault("unload", "unload", "a perform forgotten", FREED, [(UNHOOK, without(UNHOOK, 1))]),
+    Fault("unload", "unload", "a drain before the unlinking", FREED, [(UNHOOK, UNHOOK.split("\n")[2] + "\n" + without(UNHOOK, 2))]),
+    Fault("unload", "unload", "a count acquired after the section", FREED, [(FOUND_HOOK, swapped(FOUND_HOOK, 0, 1))]),
+    Fault("unload", "unload", "a broadcast forgotten", r"nobody can go on: .*kthread_join|nobody can go on: .*cv_wait", [(DYING, without(DYING, 2))]),
+    Fault("unload", "unload", "a wake-up that is lost: the flag set without the lock", r"nobody can go on: .*cv_wait", [
+        (DYING, "	sc->sc_dying = true;\n	cv_broadcast(&sc->sc_cv);\n	mutex_enter(&sc->sc_lock);\n")]),
+    Fault("unload", "unload", "a callout that is halted with its lock held", r"deadlock: .*callout_halt|deadlock: .*mutex_enter", [
+        ("	callout_halt(&sc->sc_callout, &sc->sc_lock);\n", "	callout_halt(&sc->sc_callout, NULL);\n")]),
+    Fault("unload", "unload", "a callout that isn't halted", r"callout_destroy: the callout is pending|callout_destroy: the callout runs|freed", [
+        ("	callout_halt(&sc->sc_callout, &sc->sc_lock);\n", "")]),
+    Fault("unload", "unload", "a worker that isn't joined", r"freed memory|a thread waits for|blocks of memory are left|signal 11|status 1", [
+        ("	kthread_join(sc->sc_worker);\n", "")]),
+]
+
+
+def plant(fault, folder):
+    """Writes the driver with the fault in it. Its file."""
+    text = (EXAMPLES / f"{fault.driver}.c").read_text()
+    for before, after in fault.edits:
+        if text.count(before) != 1:
+            sys.exit(f"{fault.driver}, {fault.name}: an edit fits {text.count(before)} times")
+        text = text.replace(before, after)
+    file = folder / f"{fault.driver}-{FAULTS.index(fault)}.c"
+    file.write_text(text)
+    return file
+
+
+def build(words, file, driver):
+    """Compiles the driver and links the cases with it. The program."""
+    program = file.with_suffix("")
+    driver_words = [word for word in words if not word.endswith((".o", ".a"))]
+    others = [word for word in words if word.endswith((".o", ".a")) and not word.endswith(f"driver-{driver}.o")]
+    made = file.with_suffix(".o")
+    subprocess.run([*driver_words, f"-I{EXAMPLES}", "-w", "-c", "-o", made, file], check=True)
+    subprocess.run([*driver_words, "-o", program, made, *others, "-pthread"], check=True)
+    return program
+
+
+def judge(fault, said):
+    """What the run tells: (found, by which run, preemptions, line)."""
+    line = re.search(r": FAULT: (.*)", said)
+    counts = re.search(r": found by run (\d+); schedule (\S*), preemptions (\d+)", said)
+    if line is None or counts is None:
+        return False, "", "", said.strip().split("\n")[-1]
+    return re.search(fault.line, line.group(1)) is not None, counts.group(1), counts.group(3), line.group(1)
+
+
+def run_threads(words, folder):
+    """How many runs real threads took for each."""
+    for fault in FAULTS:
+        program = build(words, plant(fault, folder), fault.driver)
+        ran = subprocess.run([program, fault.case], stdout=subprocess.PIPE, stderr=subprocess.DEVNULL, text=True, check=False)
+        runs = re.search(r": (\d+) runs(: FAULT)?", ran.stdout)
+        how = "found by run" if runs.group(2) else "not found in"
+        print(f"{fault.driver:9} {fault.name:55} {how} {runs.group(1)}", flush=True)
+
+
+def main():
+    words, folder = sys.argv[2:], pathlib.Path(sys.argv[1])
+    folder.mkdir(parents=True, exist_ok=True)
+    if words[0] == "--threads":
+        run_threads(words[1:], folder)
+        return
+    passed = failed = 0
+    for fault in FAULTS:
+        program = build(words, plant(fault, folder), fault.driver)
+        ran = subprocess.run([program, fault.case], stdout=subprocess.PIPE, stderr=subprocess.DEVNULL, text=True, timeout=120, check=False)
+        found, run, preemptions, line = judge(fault, ran.stdout)
+        passed, failed = passed + found, failed + (not found)
+        print(f"{'found ' if found else 'MISSED'} {fault.driver:9} {fault.name:55} run {run:>5}, preemptions {preemptions:>2}: {line}", flush=True)
+    print(f"{passed} passed, {failed} failed")
+    sys.exit(failed != 0)
+
+
+main()

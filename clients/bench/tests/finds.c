@@ -1,0 +1,626 @@
+/*
+ * finds - one small piece of code for each thing that the bench finds, and what it says; and what it refuses, with status 2
+ *
+ * The last line counts the cases.
+ */
+#include <string.h>
+#include <sys/atomic.h>
+#include <sys/condvar.h>
+#include <sys/intr.h>
+#include <sys/kmem.h>
+#include <sys/kthread.h>
+#include <sys/localcount.h>
+#include <sys/mutex.h>
+#include <sys/pserialize.h>
+#include <sys/psref.h>
+#include <sys/rwlock.h>
+#include <sys/systm.h>
+#include <sys/wait.h>
+#include <unistd.h>
+
+#include "../bench.h"
+#include "../../c/expect.h"
+
+static kmutex_t one, two;
+static krwlock_t rw;
+static kcondvar_t cv;
+static pserialize_t psz;
+static struct psref_class *things;
+static struct psref_target target;
+static unsigned word, other;
+static bool flag;
+static unsigned *block;
+
+static void make_things(void)
+{
+	mutex_init(&one, MUTEX_DEFAULT, IPL_NONE);
+	mutex_init(&two, MUTEX_DEFAULT, IPL_NONE);
+	rw_init(&rw);
+	cv_init(&cv, "cv");
+}
+
+static void make_two(void (*first)(void *), void (*second)(void *))
+{
+	make_things();
+	bench_thread("first", first, NULL);
+	bench_thread("second", second, NULL);
+}
+
+/* ---- Locks. ---- */
+
+static void one_two(void *arg)
+{
+	(void)arg;
+	mutex_enter(&one);
+	mutex_enter(&two);
+	mutex_exit(&two);
+	mutex_exit(&one);
+}
+
+static void two_one(void *arg)
+{
+	(void)arg;
+	mutex_enter(&two);
+	mutex_enter(&one);
+	mutex_exit(&one);
+	mutex_exit(&two);
+}
+
+static void two_orders(void)
+{
+	make_two(one_two, two_one);
+}
+
+static void read_twice(void *arg)
+{
+	(void)arg;
+	rw_enter(&rw, RW_READER);
+	rw_enter(&rw, RW_READER);
+	rw_exit(&rw);
+	rw_exit(&rw);
+}
+
+static void write_once(void *arg)
+{
+	(void)arg;
+	rw_enter(&rw, RW_WRITER);
+	rw_exit(&rw);
+}
+
+static void reader_again(void)
+{
+	make_two(read_twice, write_once);
+}
+
+static void keep_lock(void *arg)
+{
+	(void)arg;
+	mutex_enter(&one);
+}
+
+static void lock_at_end(void)
+{
+	make_two(keep_lock, write_once);
+}
+
+/* ---- Waking. ---- */
+
+static void wait_carelessly(void *arg)
+{
+	(void)arg;
+	if (!atomic_load_relaxed(&flag)) {
+		mutex_enter(&one);
+		cv_wait(&cv, &one);
+		mutex_exit(&one);
+	}
+}
+
+static void wake(void *arg)
+{
+	(void)arg;
+	atomic_store_relaxed(&flag, true);
+	mutex_enter(&one);
+	cv_broadcast(&cv);
+	mutex_exit(&one);
+}
+
+static void lost_wake(void)
+{
+	make_two(wait_carelessly, wake);
+}
+
+/* ---- Memory. ---- */
+
+static void read_word(void *arg)
+{
+	(void)arg;
+	if (atomic_load_acquire(&flag))
+		BENCH_READS(word);
+}
+
+static void write_word_early(void *arg)
+{
+	(void)arg;
+	atomic_store_relaxed(&flag, true);
+	BENCH_WRITES(word);
+}
+
+static void write_word_relaxed(void *arg)
+{
+	(void)arg;
+	BENCH_WRITES(word);
+	atomic_store_relaxed(&flag, true);
+}
+
+static void write_word_released(void *arg)
+{
+	(void)arg;
+	BENCH_WRITES(word);
+	atomic_store_release(&flag, true);
+}
+
+static void write_word_fenced(void *arg)
+{
+	(void)arg;
+	BENCH_WRITES(word);
+	membar_release();
+	atomic_store_relaxed(&flag, true);
+}
+
+static void unordered(void)
+{
+	make_two(read_word, write_word_early);
+}
+
+static void relaxed(void)
+{
+	make_two(read_word, write_word_relaxed);
+}
+
+static void released(void)
+{
+	make_two(read_word, write_word_released);
+}
+
+static void fenced(void)
+{
+	make_two(read_word, write_word_fenced);
+}
+
+static void use_block(void *arg)
+{
+	(void)arg;
+	atomic_inc_uint(block);
+}
+
+static void free_block(void *arg)
+{
+	(void)arg;
+	kmem_free(block, sizeof(*block));
+}
+
+static void make_block(void)
+{
+	block = kmem_zalloc(sizeof(*block), KM_SLEEP);
+}
+
+/* What a plain access reads is filled, and the address sanitizer sees it. */
+static void read_block(void *arg)
+{
+	volatile unsigned *at = block;
+	(void)arg;
+	bench_point();
+	KASSERT(*at == 0 || *at == 0xdfdfdfdf);
+}
+
+static void freed_plainly(void)
+{
+	make_block();
+	make_two(read_block, free_block);
+}
+
+static void freed(void)
+{
+	make_block();
+	make_two(use_block, free_block);
+}
+
+static void free_twice(void)
+{
+	make_block();
+	make_two(free_block, free_block);
+}
+
+static kmutex_t *locked_block;
+
+static void lock_block(void *arg)
+{
+	(void)arg;
+	mutex_enter(locked_block);
+	mutex_exit(locked_block);
+}
+
+static void free_locked(void *arg)
+{
+	(void)arg;
+	mutex_destroy(locked_block);
+	kmem_free(locked_block, sizeof(*locked_block));
+}
+
+static void freed_lock(void)
+{
+	locked_block = kmem_alloc(sizeof(*locked_block), KM_SLEEP);
+	mutex_init(locked_block, MUTEX_DEFAULT, IPL_NONE);
+	make_two(lock_block, free_locked);
+}
+
+static void leak(void)
+{
+	make_block();
+	make_two(use_block, use_block);
+}
+
+static void forget_lock(void *arg)
+{
+	kmutex_t *lock = kmem_alloc(sizeof(*lock), KM_SLEEP);
+	(void)arg;
+	mutex_init(lock, MUTEX_DEFAULT, IPL_NONE);
+	kmem_free(lock, sizeof(*lock));
+}
+
+static void forgotten_lock(void)
+{
+	make_two(forget_lock, write_once);
+}
+
+static void write_behind(void *arg)
+{
+	(void)arg;
+	((volatile unsigned char *)block)[sizeof(*block)] = 1;
+	kmem_free(block, sizeof(*block));
+}
+
+static void behind(void)
+{
+	make_block();
+	make_two(write_behind, write_once);
+}
+
+static void write_freed(void *arg)
+{
+	(void)arg;
+	kmem_free(block, sizeof(*block));
+	*(volatile unsigned *)block = 1;
+}
+
+static void written_after(void)
+{
+	make_block();
+	make_two(write_freed, write_once);
+}
+
+/* ---- References and sections. ---- */
+
+static void make_target(void)
+{
+	psz = pserialize_create();
+	things = psref_class_create("thing", IPL_SOFTNET);
+	psref_target_init(&target, things);
+}
+
+static void hold_and_lock(void *arg)
+{
+	struct psref psref;
+	int bound = curlwp_bind(), s = pserialize_read_enter();
+	bool found = !atomic_load_acquire(&flag);
+	(void)arg;
+	if (found)
+		psref_acquire(&psref, &target, things);
+	pserialize_read_exit(s);
+	if (found) {
+		mutex_enter(&one);
+		mutex_exit(&one);
+		psref_release(&psref, &target, things);
+	}
+	curlwp_bindx(bound);
+}
+
+static void destroy_locked(void *arg)
+{
+	(void)arg;
+	mutex_enter(&one);
+	atomic_store_release(&flag, true);
+	pserialize_perform(psz);
+	psref_target_destroy(&target, things);
+	mutex_exit(&one);
+	psref_class_destroy(things);
+	pserialize_destroy(psz);
+}
+
+static void destroyed_locked(void)
+{
+	make_target();
+	make_two(hold_and_lock, destroy_locked);
+}
+
+static void left_target(void)
+{
+	make_target();
+	make_two(write_once, write_once);
+}
+
+static void never_ends(void *arg)
+{
+	(void)arg;
+	while (!atomic_load_relaxed(&flag))
+		;
+}
+
+static void spins(void)
+{
+	make_two(never_ends, write_once);
+}
+
+static unsigned *volatile nowhere;
+
+static void spin_for_flag(void *arg)
+{
+	(void)arg;
+	while (!atomic_load_acquire(&flag))
+		;
+}
+
+static void set_flag(void *arg)
+{
+	(void)arg;
+	atomic_store_release(&flag, true);
+}
+
+static void spins_for_another(void)
+{
+	make_two(spin_for_flag, set_flag);
+}
+
+static void crash(void *arg)
+{
+	(void)arg;
+	if (atomic_load_relaxed(&word) == 1)
+		*(volatile unsigned *)nowhere = 1;
+}
+
+static void set_word(void *arg)
+{
+	(void)arg;
+	atomic_store_relaxed(&word, 1);
+}
+
+static void crashes(void)
+{
+	make_two(crash, set_word);
+}
+
+static void assert_it(void *arg)
+{
+	(void)arg;
+	KASSERTMSG(atomic_load_relaxed(&word) == 0, "word is %u", word);
+}
+
+static void asserts(void)
+{
+	make_two(assert_it, set_word);
+}
+
+static void dies(void *arg)
+{
+	(void)arg;
+	panic("out of %s", "luck");
+}
+
+static void panics(void)
+{
+	make_two(dies, set_word);
+}
+
+static void join_never(void *arg)
+{
+	lwp_t *made;
+	(void)arg;
+	(void)kthread_create(PRI_NONE, KTHREAD_MUSTJOIN, NULL, set_word, NULL, &made, "worker");
+}
+
+static void unjoined(void)
+{
+	make_two(join_never, write_once);
+}
+
+/* ---- What is found. ---- */
+
+static const struct find {
+	const char *name, *line;	/* NULL where nothing is wrong */
+	void (*setup)(void);
+} finds[] = {
+	{"two orders", "deadlock: thread \"first\" waits in mutex_enter at", two_orders},
+	{"a reader that enters again behind a writer", "nobody can go on: thread \"first\" waits in rw_enter", reader_again},
+	{"a lock at the end of a thread", "pthread_exit: with a lock", lock_at_end},
+	{"a lost wake-up", "came while nobody waited", lost_wake},
+	{"plain accesses without an order", "two accesses to one memory without an order", unordered},
+	{"a relaxed store where a release is needed", "two accesses to one memory without an order", relaxed},
+	{"a release", NULL, released},
+	{"a barrier", NULL, fenced},
+	{"freed memory", "atomic change at ", freed},
+#ifdef __SANITIZE_ADDRESS__
+	{"freed memory by a plain access", "status 1", freed_plainly},
+#else
+	{"freed memory by a plain access", NULL, freed_plainly},
+#endif
+	{"a lock that is freed in use", "mutex_", freed_lock},
+	{"freed twice", "use of freed memory", free_twice},
+	{"a leak", "1 blocks of memory are left at the end, one of them taken by kmem_zalloc at", leak},
+	{"a lock that is never destroyed", "what mutex_init has made lies in it and was never destroyed", forgotten_lock},
+	{"a write behind a block", "written behind a block of", behind},
+	{"a write to freed memory", "something was written to freed memory", written_after},
+	{"a destroy with the holder's lock", "waits in psref_target_destroy at", destroyed_locked},
+	{"a target that is left", "a target or a local count is left at the end", left_target},
+	{"a thread that never ends", "the run doesn't end", spins},
+	{"a thread that spins for another", NULL, spins_for_another},
+	{"a crash", "the code ends by signal 11", crashes},
+	{"an assertion", "KASSERTMSG: not so: ", asserts},
+	{"a panic", "panic: out of luck, at", panics},
+	{"a thread that isn't joined", "taken by kthread_create", unjoined},
+};
+
+/* Whether a line is the one that is looked for. The address sanitizer ends the process where it sees the fault first. */
+static bool is_line(const char *said, const char *looked_for)
+{
+#ifdef __SANITIZE_ADDRESS__
+	if (strcmp(said, "the code ends the process with status 1") == 0)
+		return true;
+#endif
+	return strstr(said, looked_for) != NULL;
+}
+
+/* Whether the bench finds it, and its schedule replays it. */
+static bool is_found(const struct find *find)
+{
+	struct bench_found found, again;
+	struct bench_options options = {.quiet = true, .found = &found, .frees = true};
+	bool wrong = bench_explore(find->setup, &options) != 0;
+	if (find->line == NULL)
+		return !wrong && found.exhausted;
+	options.found = &again;
+	options.replay = found.schedule;
+	return wrong && is_line(found.line, find->line) && bench_explore(find->setup, &options) == 1 && strcmp(found.line, again.line) == 0;
+}
+
+/* ---- What is refused. ---- */
+
+static void nobody(void)
+{
+}
+
+static void outside(void)
+{
+	make_things();
+	mutex_enter(&one);
+}
+
+static void no_thread(void)
+{
+	bench_explore(nobody, NULL);
+}
+
+static void bad_letter(void)
+{
+	const struct bench_options options = {.replay = "b3?"};
+	bench_explore(two_orders, &options);
+}
+
+static void bad_turn(void)
+{
+	const struct bench_options options = {.replay = "b2c99"};
+	bench_explore(two_orders, &options);
+}
+
+static void bad_count(void)
+{
+	const struct bench_options options = {.replay = "b0"};
+	bench_explore(two_orders, &options);
+}
+
+static void thread_outside(void)
+{
+	bench_thread("lost", one_two, NULL);
+}
+
+static unsigned *volatile shared;
+
+static void differ(void *arg)
+{
+	(void)arg;
+	if ((*shared)++ % 2 == 0)
+		atomic_inc_uint(&other);
+	atomic_inc_uint(&word);
+}
+
+static void differs(void)
+{
+	make_two(differ, set_word);
+}
+
+static void outside_of_schedule(void)
+{
+	shared = malloc(sizeof(*shared));
+	*shared = 0;
+	bench_explore(differs, NULL);
+}
+
+static const struct refusal {
+	const char *name, *line;
+	void (*body)(void);
+} refusals[] = {
+	{"a call outside", "bench: mutex_enter outside of bench_explore\n", outside},
+	{"a thread outside", "bench: bench_thread outside of bench_explore\n", thread_outside},
+	{"no thread", "bench: setup has made no thread\n", no_thread},
+	{"no schedule", "bench: \"b3?\" is no schedule: ", bad_letter},
+	{"no points", "bench: \"b0\" is no schedule: ", bad_count},
+	{"a schedule that doesn't fit", "bench: the schedule doesn't fit: at point ", bad_turn},
+	{"code that depends on something else", "bench: two runs by one schedule differ at point ", outside_of_schedule},
+};
+
+/* Whether a process ends with status 2 after the line. */
+static bool is_refused(const struct refusal *refusal)
+{
+	int ends[2], status;
+	char said[512];
+	EXPECT(pipe(ends) == 0);
+	fflush(NULL);
+	pid_t child = fork();
+	EXPECT(child >= 0);
+	if (child == 0) {
+		dup2(ends[1], STDERR_FILENO);
+		refusal->body();
+		_exit(0);
+	}
+	close(ends[1]);
+	size_t length = 0;
+	for (ssize_t part; length < sizeof(said) - 1 && (part = read(ends[0], said + length, sizeof(said) - 1 - length)) > 0;)
+		length += (size_t)part;
+	said[length] = '\0';
+	close(ends[0]);
+	EXPECT(waitpid(child, &status, 0) == child);
+	bool right = WIFEXITED(status) && WEXITSTATUS(status) == 2 && strncmp(said, refusal->line, strlen(refusal->line)) == 0 &&
+	    strchr(said, '\n') == said + length - 1;
+	if (!right)
+		printf("status %d, and said: %s\n", status, said);
+	return right;
+}
+
+static void judge_refusals(unsigned *passed, unsigned *failed)
+{
+	for (unsigned at = 0; at < sizeof(refusals) / sizeof(refusals[0]); at++) {
+		bool right = is_refused(&refusals[at]);
+		*passed += right;
+		*failed += !right;
+		if (!right)
+			printf("FAILED %s\n", refusals[at].name);
+	}
+}
+
+int main(int count, char **words)
+{
+	unsigned passed = 0, failed = 0;
+	for (unsigned at = 0; at < sizeof(finds) / sizeof(finds[0]); at++) {
+		bool right = is_found(&finds[at]);
+		passed += right;
+		failed += !right;
+		if (!right || count > 1) {
+			const struct bench_options options = {.name = finds[at].name};
+			printf("%s %s\n", right ? "ok" : "FAILED", finds[at].name);
+			bench_explore(finds[at].setup, &options);
+		}
+	}
+	judge_refusals(&passed, &failed);
+	(void)words;
+	printf("%u passed, %u failed\n", passed, failed);
+	return failed != 0;
+}

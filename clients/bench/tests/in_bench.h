@@ -1,0 +1,139 @@
+/*
+ * in_bench.h - read by the compiler before clients/netbsd/tests/misuse.c and misuse_kernel.c, in place of their stops.h: each case runs in the bench, which
+ * must find its line. All threads are called as the program is, as there. The case of a fork is left out: each run of the bench is in a child.
+ */
+#ifndef NETBSD_STOPS_H
+#define NETBSD_STOPS_H
+#define NETBSD_TEST_H
+
+#include <ctype.h>
+#include <pthread.h>
+#include <stdatomic.h>
+#include <stdio.h>
+#include <stdlib.h>
+#include <string.h>
+#include <sys/wait.h>
+#include <unistd.h>
+
+#include <kupaldiz/kernel.h>
+
+#include "../bench.h"
+#include "../../c/expect.h"
+
+struct stop_case {
+	void (*body)(void);
+	const char *line;
+};
+
+/* ---- Threads. ---- */
+
+enum { MOST_STARTED = 8 };
+
+static struct started {
+	void *(*body)(void *);
+	void *arg;
+	bool ended;
+} started[MOST_STARTED];
+static unsigned started_count;
+
+static inline void run_started(void *of)
+{
+	struct started *thread = of;
+	thread->body(thread->arg);
+	thread->ended = true;
+}
+
+static inline void start_thread(pthread_t *thread, void *(*body)(void *), void *arg)
+{
+	*thread = started_count;
+	started[started_count] = (struct started){body, arg, false};
+	bench_thread(PROGRAM, run_started, &started[started_count++]);
+}
+
+static inline void sleep_for(long microseconds)
+{
+	delay((unsigned)microseconds);
+}
+
+static inline void end_thread(pthread_t thread)
+{
+	while (!started[thread].ended)
+		sleep_for(10);
+}
+
+static inline void on_thread(void *(*body)(void *))
+{
+	pthread_t thread;
+	start_thread(&thread, body, NULL);
+	end_thread(thread);
+}
+
+static inline void on_two_threads(void *(*body)(void *))
+{
+	pthread_t first, second;
+	start_thread(&first, body, NULL);
+	start_thread(&second, body, NULL);
+	end_thread(first);
+	end_thread(second);
+}
+
+/* ---- Cases. ---- */
+
+static void (*begin_case)(void);
+static void (*body_of_case)(void);
+
+static inline void run_body(void *arg)
+{
+	(void)arg;
+	begin_case();
+	body_of_case();
+}
+
+static inline void make_case(void)
+{
+	bench_thread(PROGRAM, run_body, NULL);
+}
+
+/* Writes PLACE for each word in which ".c:" and digits stand. */
+static inline void hide_places(char *text)
+{
+	char *colon;
+	while ((colon = strstr(text, ".c:")) != NULL && isdigit((unsigned char)colon[3])) {
+		char *from = colon, *to = colon + 3;
+		while (from > text && from[-1] != ' ')
+			from--;
+		while (isdigit((unsigned char)*to))
+			to++;
+		memcpy(from, "PLACE", 5);
+		memmove(from + 5, to, strlen(to) + 1);
+	}
+}
+
+/* Whether the bench says the case's line. */
+static inline bool is_stopped(const struct stop_case *the_case)
+{
+	struct bench_found found;
+	const struct bench_options options = {.quiet = true, .found = &found, .schedules = 20, .bounded = 20, .preemptions = 1, .random = 20};
+	body_of_case = the_case->body;
+	bench_explore(make_case, &options);
+	hide_places(found.line);
+	bool right = strcmp(found.line, the_case->line) == 0;
+	if (!right)
+		printf("wanted: %s\n   and: %s\n", the_case->line, found.line);
+	return right;
+}
+
+static inline int run_cases(void (*begin)(void), const struct stop_case *cases, size_t count)
+{
+	size_t passed = 0, failed = 0;
+	begin_case = begin;
+	for (size_t place = 0; place < count; place++) {
+		bool left_out = strstr(cases[place].line, "in the child of a fork") != NULL, right = left_out || is_stopped(&cases[place]);
+		passed += right && !left_out;
+		failed += !right;
+	}
+	printf("%zu passed, %zu failed\n", passed, failed);
+	return failed != 0;
+}
+
+#endif

@@ -1,0 +1,192 @@
+/*
+ * threads.c - bench.h on real threads, to compare the bench with: the same tests, linked with this and with clients/netbsd
+ *
+ * Each run has a process of its own, in which all threads begin at once. A run is wrong where its process ends by a signal or with another status than 0,
+ * or takes more than five seconds. At each point stands a full barrier, and with BENCH_YIELD a chance to lose the processor: the bench's orders are those
+ * of one memory that all threads see alike.
+ *
+ * BENCH_RUNS says how many runs there are, and BENCH_SECONDS how long they may take.
+ */
+#include <pthread.h>
+#include <sched.h>
+#include <signal.h>
+#include <stdarg.h>
+#include <stdio.h>
+#include <stdlib.h>
+#include <string.h>
+#include <sys/mman.h>
+#include <sys/wait.h>
+#include <time.h>
+#include <unistd.h>
+
+#include <kupaldiz/kernel.h>
+
+#include "../bench.h"
+
+/* A thread that was made. */
+struct made {
+	const char *name;
+	void (*body)(void *);
+	void *arg;
+	pthread_t thread;
+};
+
+static struct made threads[BENCH_THREADS];
+static unsigned thread_count;
+static pthread_barrier_t begin;
+static bool yields;
+static char *outcome;	/* that of the run: the parent has it, too */
+
+void bench_thread(const char *name, void (*body)(void *), void *arg)
+{
+	threads[thread_count++] = (struct made){.name = name, .body = body, .arg = arg};
+}
+
+/* A number that differs from thread to thread. */
+static unsigned random_number(void)
+{
+	static _Thread_local uint64_t at;
+	if (at == 0)
+		at = (uint64_t)(uintptr_t)&at ^ (uint64_t)getpid() << 32;
+	at = at * 6364136223846793005u + 1442695040888963407u;
+	return (unsigned)(at >> 40);
+}
+
+void bench_point(void)
+{
+	__atomic_thread_fence(__ATOMIC_SEQ_CST);
+	if (yields && random_number() % 3 == 0)
+		sched_yield();
+}
+
+void kupaldiz_point(const volatile void *address, size_t size, unsigned how, const char *place)
+{
+	(void)address;
+	(void)size;
+	(void)how;
+	(void)place;
+	bench_point();
+}
+
+void kupaldiz_from(const char *place)
+{
+	(void)place;
+}
+
+void bench_reads(const volatile void *at, size_t size, const char *place)
+{
+	kupaldiz_point(at, size, 0, place);
+}
+
+void bench_writes(const volatile void *at, size_t size, const char *place)
+{
+	kupaldiz_point(at, size, 0, place);
+}
+
+void bench_outcome(const char *format, ...)
+{
+	size_t length = strlen(outcome);
+	va_list words;
+	va_start(words, format);
+	vsnprintf(outcome + length, BENCH_TEXT - length, format, words);
+	va_end(words);
+}
+
+static void *run_thread(void *of)
+{
+	const struct made *made = of;
+	pthread_barrier_wait(&begin);
+	made->body(made->arg);
+	return NULL;
+}
+
+static void start_all(void)
+{
+	for (unsigned at = 0; at < thread_count; at++)
+		if (pthread_create(&threads[at].thread, NULL, run_thread, &threads[at]) != 0)
+			_exit(3);
+}
+
+/* What a run does in its process. */
+static void run(void (*setup)(void), const struct bench_options *options)
+{
+	alarm(5);
+	setup();
+	pthread_barrier_init(&begin, NULL, thread_count);
+	start_all();
+	for (unsigned at = 0; at < thread_count; at++)
+		pthread_join(threads[at].thread, NULL);
+	if (options->finish != NULL)
+		options->finish();
+	_exit(0);
+}
+
+static void keep_outcome(struct bench_found *found)
+{
+	for (unsigned at = 0; at < found->outcomes; at++) {
+		if (strcmp(found->outcome[at].text, outcome) == 0) {
+			found->outcome[at].count++;
+			return;
+		}
+	}
+	if (found->outcomes < BENCH_OUTCOMES)
+		memcpy(found->outcome[found->outcomes++].text, outcome, BENCH_TEXT);
+}
+
+/* One run. Whether it was right. */
+static bool run_once(void (*setup)(void), const struct bench_options *options, struct bench_found *found)
+{
+	int status;
+	memset(outcome, 0, BENCH_TEXT);
+	fflush(NULL);
+	pid_t child = fork();
+	if (child == 0) {
+		if (freopen("/dev/null", "w", stderr) != NULL)
+			run(setup, options);
+		_exit(3);
+	}
+	if (child < 0 || waitpid(child, &status, 0) != child)
+		abort();
+	found->schedules++;
+	if (status == 0) {
+		keep_outcome(found);
+		return true;
+	}
+	snprintf(found->line, sizeof(found->line), "status %d", status);
+	return false;
+}
+
+static double seconds(void)
+{
+	struct timespec now;
+	clock_gettime(CLOCK_MONOTONIC, &now);
+	return (double)now.tv_sec + (double)now.tv_nsec / 1e9;
+}
+
+static uint64_t number_of(const char *variable, uint64_t otherwise)
+{
+	const char *text = getenv(variable);
+	return text == NULL ? otherwise : strtoull(text, NULL, 10);
+}
+
+int bench_explore(void (*setup)(void), const struct bench_options *given)
+{
+	static const struct bench_options none;
+	static struct bench_found found;
+	const struct bench_options *options = given == NULL ? &none : given;
+	uint64_t runs = number_of("BENCH_RUNS", 200);
+	double until = seconds() + (double)number_of("BENCH_SECONDS", 60);
+	outcome = mmap(NULL, BENCH_TEXT, PROT_READ | PROT_WRITE, MAP_SHARED | MAP_ANONYMOUS, -1, 0);
+	yields = getenv("BENCH_YIELD") != NULL;
+	found = (struct bench_found){.bound = -1};
+	while (found.schedules < runs && seconds() < until && found.first == 0)
+		if (!run_once(setup, options, &found))
+			found.first = found.schedules;
+	if (!options->quiet)
+		printf("%s: %llu runs%s%s\n", options->name == NULL ? "bench" : options->name, (unsigned long long)found.schedules,
+		    found.first == 0 ? ", none was wrong" : ": FAULT: ", found.line);
+	if (options->found != NULL)
+		*options->found = found;
+	munmap(outcome, BENCH_TEXT);
+	return found.first != 0;
+}

@@ -1,0 +1,50 @@
+/*
+ * installed_bench - a program over the installed bench, in C and in C++: two threads count under a lock, in every order.
+ */
+#include <kupaldiz/bench.h>
+#include <sys/mutex.h>
+
+#include <stdio.h>
+#include <string.h>
+
+#ifdef __cplusplus
+#define LANGUAGE "C++"
+#else
+#define LANGUAGE "C"
+#endif
+
+static kmutex_t lock;
+static unsigned counted;
+
+static void count(void *arg)
+{
+	(void)arg;
+	mutex_enter(&lock);
+	counted++;
+	mutex_exit(&lock);
+}
+
+static void begin(void)
+{
+	mutex_init(&lock, MUTEX_DEFAULT, IPL_NONE);
+	bench_thread("one", count, NULL);
+	bench_thread("two", count, NULL);
+}
+
+static void finish(void)
+{
+	bench_outcome("%u", counted);
+}
+
+int main(void)
+{
+	static struct bench_found found;
+	static struct bench_options options;
+	options.finish = finish;
+	options.found = &found;
+	options.quiet = true;
+	if (bench_explore(begin, &options) != 0 || !found.exhausted || found.schedules != 2 || found.outcomes != 1 || strcmp(found.outcome[0].text, "2") != 0)
+		return 1;
+	puts(LANGUAGE ", in every order");
+	return 0;
+}
