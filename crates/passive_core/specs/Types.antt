@@ -9,7 +9,7 @@ pub use Rattle.registry_values.specs.declared.mark.Mark.{Mark}
 pub use Rattle.registry_values.specs.declared.refusal.Refusal.{Refusal}
 pub use Rattle.registry_values.specs.declared.refusal.Refusal.TheVariants.{Inside, LocalFull, NoMemory, NotFound, NothingFound, StillHeld, Waiting}
 pub use Rattle.registry_values.specs.declared.settings.Settings.{Settings}
-pub use Rattle.registry_values.specs.declared.limits.TheConstants.{MOST_CPUS, MOST_DEPTH, MOST_SLOTS}
+pub use Rattle.registry_values.specs.declared.limits.TheConstants.{MOST_CPUS, MOST_DEPTH, MOST_SECTIONS, MOST_SLOTS}
 pub use Rattle.registry_values.specs.declared.slot.Key.{Key}
 pub use Rattle.registry_values.specs.declared.slot.Slot.{Slot}
 pub use Rattle.registry_values.specs.declared.slot.Slot.TheVariants.{Live, Retired, Vacant}

@@ -1,7 +1,7 @@
 -- The settings of a storm, its sum, and the faults that it may end with.
 use Rattle.std.specs.Prelude.{◌≡◌, ℕ, ◌*◌}
 use Rattle.name_registry.specs.Types.{MOST_CHANGES, Settings}
-use Rattle.registry_values.specs.Common.{MOST_COUNT, MOST_SECTIONS}
+use Rattle.registry_values.specs.declared.limits.TheConstants.{MOST_COUNT, MOST_SECTIONS}
 use Rattle.registry_language.specs.declared.fault.RunFault.{RunFault}
 use Rattle.registry_language.specs.declared.fault.RunFault.TheVariants as run
 use Rattle.registry_storm.specs.declared.sum.StormSum.{StormSum}
