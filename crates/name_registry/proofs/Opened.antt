@@ -15,7 +15,7 @@ at_seam (x ∷ xs) a ys = at_seam xs a ys
 
 -- the seat that comes after n others is the CPU n's
 pub seat_after : (table : TableId) (z : Settings) (all before after : List (Seated CpuView)) (s : Seated CpuView) → AreSeats table z z.cpus all → all ≡ before ++ s ∷ after
-    → (length before < z.cpus) × (s ≡ record { table = table; view = new_cpu z (length before); log = []; known_log = []; noted_log = []; teller = None })
+    → (length before < z.cpus) × (s ≡ record { table = table; view = new_cpu z (length before); log = []; known_log = []; noted_log = []; teller = None; list = [] })
 seat_after table z all before after s are is =
     let n = length before in
     let long : n < z.cpus = omega (arith, are.count, ap (λ (l : List (Seated CpuView)). length l) is ∙ length-append before (s ∷ after)) in
