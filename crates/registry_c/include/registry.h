@@ -40,8 +40,8 @@
  * - If it is NULL and the length isn't 0, the call returns REGISTRY_NULL and nothing changes. registry_text, which returns a length, then acts
  *   as with no room.
  * - Any other output may be NULL if the caller doesn't need it. The call then does and returns the same, and writes nothing there.
- * - If an input is NULL (a name, a wait, the settings of registry_open), the call returns REGISTRY_NULL and nothing changes. The exceptions are
- *   registry_look_up, registry_get and registry_enter_find: their section has then begun and ended.
+ * - If an input is NULL (a name, a wait, an entry to acquire, the settings of registry_open), the call returns REGISTRY_NULL and nothing changes.
+ *   The exceptions are registry_look_up, registry_get and registry_enter_find: their section has then begun and ended.
  *
  * WHAT THE CALLER MUST ENSURE
  *
