@@ -165,7 +165,7 @@ enum {
 	REGISTRY_DRIVER = 2
 };
 
-/* How far the destruction of a retired entry has come: the first thing that holds it. `what` is the number in each comment. */
+/* How far the destruction of a retired entry has come: the first thing that holds it. `what` says which CPU, how many, or which slot. */
 enum {
 	REGISTRY_GRACE = 0,	/* a section of this CPU may hold it */
 	REGISTRY_PASSIVE = 1,	/* this CPU has a passive reference to it */
@@ -351,7 +351,7 @@ registry_answer registry_depth(const struct registry_cpu *cpu, uint64_t *depth) 
  *
  * `found` may be NULL: the entry is the last found one all the same.
  * Returns REGISTRY_EMPTY_HANDLE, REGISTRY_NULL if `name` is NULL, REGISTRY_BAD_KIND, REGISTRY_OUTSIDE, REGISTRY_NOT_FOUND if no live entry has this
- * kind and name. No entry has two words that are no name. REGISTRY_NOT_FOUND clears the last found entry.
+ * kind and name. Two words that are no name match no entry. REGISTRY_NOT_FOUND clears the last found entry.
  */
 registry_answer registry_find(struct registry_cpu *cpu, uint64_t kind, const struct registry_name *name, struct registry_entry *found)
     REGISTRY_NONNULL(1) REGISTRY_CHECKED;
@@ -443,7 +443,7 @@ registry_answer registry_release(struct registry_cpu *cpu, uint64_t number) REGI
  * `found` may be NULL: the result says whether there is such an entry.
  * Returns REGISTRY_EMPTY_HANDLE, REGISTRY_TOO_DEEP, REGISTRY_SECTIONS_SPENT, REGISTRY_NULL if `name` is NULL, REGISTRY_BAD_KIND, REGISTRY_NOT_FOUND.
  * REGISTRY_NOT_FOUND clears the last found entry. After any result the CPU is as deep inside as before. Outside, the call's section counts like one of
- * registry_enter, unless the call fails with one of the first three.
+ * registry_enter, unless the call fails with one of the first three errors.
  */
 registry_answer registry_look_up(struct registry_cpu *cpu, uint64_t kind, const struct registry_name *name, struct registry_entry *found)
     REGISTRY_NONNULL(1) REGISTRY_CHECKED;
@@ -482,7 +482,7 @@ registry_answer registry_enter_find(struct registry_cpu *cpu, uint64_t kind, con
  * The local handle is empty before the call. The reference outlives the section and may go to another thread.
  * Each reference has a block of memory. Each CPU caches at most one such block:
  *
- * - It caches the block of a reference that was released on it, or that an interface was attached with on it, or that a failed acquire took.
+ * - It caches the block of a reference that was released on it, or that registry_attach_iface took on it, or the block that a failed acquire took.
  * - If it has one already, the second one is freed at once.
  * - If it has one, this call doesn't fail for memory. If it has none, the call allocates one.
  * - The cached block is freed when the CPU is closed.
@@ -516,6 +516,7 @@ registry_answer registry_local_release(struct registry_cpu *cpu, struct registry
 /*
  * registry_local_give_up - release a local reference under the interlock, if a count of its entry was collected, and empty its handle
  *
+ * It frees the handle's block of memory.
  * Returns REGISTRY_EMPTY_HANDLE for either handle, REGISTRY_NOT_COLLECTED. It never returns the latter for a reference whose release has returned
  * REGISTRY_COLLECTED.
  */
@@ -595,7 +596,7 @@ registry_answer registry_advance(struct registry_keeper *keeper, uint64_t number
  * held, and no slot keeps it. REGISTRY_FREED and the slot that it had are written to `met`, which may be NULL.
  * Returns REGISTRY_EMPTY_HANDLE for either handle, REGISTRY_INSIDE, REGISTRY_NOT_RETIRED, REGISTRY_STILL_HELD. With REGISTRY_STILL_HELD the first thing
  * that holds the entry is written to `met`. What the turn learned and collected stays. The CPU has seen every change so far, after any result except the
- * first two.
+ * first two errors.
  */
 registry_answer registry_destroy(struct registry_keeper *keeper, struct registry_cpu *cpu, uint64_t number, struct registry_stage *met)
     REGISTRY_NONNULL(1, 2) REGISTRY_CHECKED;
@@ -625,7 +626,7 @@ registry_answer registry_perform_begin(struct registry_keeper *keeper, struct re
  * registry. Between the calls the CPU may do anything else. Another CPU may make a turn after a registry_perform_begin, registry_perform_turn or
  * registry_destroy on it that was made since the last call with this wait. A wait may be abandoned after any of these calls: it holds nothing.
  * The CPUs whose sections the turn saw ended are written to the wait. The CPU has seen every change so far. Both hold for any result except the
- * first four.
+ * first four errors.
  * Returns REGISTRY_EMPTY_HANDLE for either handle, REGISTRY_NULL if `wait` is NULL, REGISTRY_NOT_BEGUN, REGISTRY_INSIDE, REGISTRY_WAITING.
  * REGISTRY_NOT_BEGUN is for a wait that is {0} or was never begun, whether or not the CPU is inside. With REGISTRY_WAITING the lowest-numbered CPU whose
  * section wasn't seen to have ended is written to `waited`, which may be NULL.
