@@ -1,7 +1,7 @@
 /*
- * registry_waiting.h - waits over the turns of registry.h, and a list of what was detached and isn't freed yet
+ * registry_waiting.h - waits over the turns of registry.h, and a list of entries that were detached and aren't freed yet
  *
- * Nothing here is proved. It is plain C over the calls of registry.h: it takes the interlock for one turn, and sleeps without it.
+ * Nothing here is proved. It is plain C over the calls of registry.h. It takes the interlock for one turn, and sleeps without it.
  */
 #ifndef REGISTRY_WAITING_H
 #define REGISTRY_WAITING_H
@@ -15,7 +15,7 @@
 extern "C" {
 #endif
 
-/* The interlock: how it is taken and given up, each called with `of`. */
+/* The interlock: `take` acquires it and `give` releases it. Each is called with `of`. */
 struct registry_lock {
 	void (*take)(void *of);
 	void (*give)(void *of);
@@ -25,20 +25,27 @@ struct registry_lock {
 /*
  * registry_lock_of_mutex - the interlock that is this mutex
  *
- * The program is aborted where the mutex refuses to be locked or unlocked.
+ * If locking or unlocking the mutex fails, the program is aborted.
  */
 struct registry_lock registry_lock_of_mutex(pthread_mutex_t *mutex) REGISTRY_NONNULL(1);
 
 /*
  * registry_destroy_wait - destroy the retired entry with this number: psref_target_destroy and localcount_drain, which wait
  *
- * The caller runs on the CPU, outside a section, and doesn't hold the interlock. Each turn is a registry_destroy under the interlock. Between
- * two turns the call spins at first: 16 times, for 256 pause instructions at most and 2,303 in all. Then it yields 8 times, and then it sleeps, for
- * 16 microseconds and twice as long each time, 8 milliseconds at most. It makes at least one turn, and no turn once a turn has ended after `deadline`, a
- * time of CLOCK_MONOTONIC; with NULL it waits for as long as it takes.
- * Answers what the last turn answered: REGISTRY_DONE as registry_destroy does, and the slot stands in `met`; REGISTRY_STILL_HELD where the
- * deadline has passed, and `met` is what held it last; REGISTRY_EMPTY_HANDLE, REGISTRY_INSIDE; REGISTRY_NOT_RETIRED where it isn't retired, or
- * another thread has freed it meanwhile. What the turns noted and collected stays, so a later call goes on from there. `met` may be NULL.
+ * The caller runs on the CPU, outside a section, and doesn't hold the interlock. Each turn is a registry_destroy under the interlock. The call makes at
+ * least one turn. Between two turns:
+ *
+ * - It spins at first: 16 times, for at most 256 pause instructions each time and 2,303 in all.
+ * - Then it yields 8 times.
+ * - Then it sleeps, for 16 microseconds at first, twice as long each time, 8 milliseconds at most.
+ *
+ * `deadline` is a time of CLOCK_MONOTONIC. Once a turn has ended after it, no other turn is made. With NULL the call waits until the entry is destroyed.
+ * Returns the result of its last turn. What the turns learned and collected stays, so a later call goes on from there. `met` may be NULL.
+ *
+ * - REGISTRY_DONE, as registry_destroy. The slot is in `met`.
+ * - REGISTRY_STILL_HELD if the deadline has passed. `met` is what held the entry last.
+ * - REGISTRY_EMPTY_HANDLE, REGISTRY_INSIDE.
+ * - REGISTRY_NOT_RETIRED if the entry isn't retired, or another thread has freed it meanwhile.
  */
 registry_answer registry_destroy_wait(const struct registry_lock *lock, struct registry_keeper *keeper, struct registry_cpu *cpu, uint64_t number,
     const struct timespec *deadline, struct registry_stage *met) REGISTRY_NONNULL(1, 2, 3) REGISTRY_CHECKED;
@@ -46,21 +53,23 @@ registry_answer registry_destroy_wait(const struct registry_lock *lock, struct r
 /*
  * registry_perform_wait - wait until each section that is open now has ended: pserialize_perform, which waits
  *
- * The caller runs on the CPU, outside a section, and doesn't hold the interlock. It takes the interlock once to begin, and then as
- * registry_destroy_wait once a turn.
- * Answers what the last call answered: REGISTRY_DONE as registry_perform_turn does; REGISTRY_WAITING where the deadline has passed, and the
- * CPU that it waited for stands in `waited`, which may be NULL; REGISTRY_EMPTY_HANDLE, REGISTRY_INSIDE. A later call begins anew, with the
- * sections that are open then.
+ * The caller runs on the CPU, outside a section, and doesn't hold the interlock. The call takes the interlock once to begin, and then once a turn, as
+ * registry_destroy_wait does. A later call begins anew, with the sections that are open then.
+ * Returns the result of its last call.
+ *
+ * - REGISTRY_DONE, as registry_perform_turn.
+ * - REGISTRY_WAITING if the deadline has passed. The CPU that it waited for is in `waited`, which may be NULL.
+ * - REGISTRY_EMPTY_HANDLE, REGISTRY_INSIDE.
  */
 registry_answer registry_perform_wait(const struct registry_lock *lock, struct registry_keeper *keeper, struct registry_cpu *cpu,
     const struct timespec *deadline, uint64_t *waited) REGISTRY_NONNULL(1, 2, 3) REGISTRY_CHECKED;
 
 /*
- * What was detached and isn't freed yet, oldest first. {0} is the empty list, then `freed` and `of` are set. One list works on what it has
- * alone: nobody else advances or destroys an entry of it. It has room for all entries that a registry can have, and takes no memory.
+ * The entries that were detached and aren't freed yet, oldest first. {0} is the empty list. The caller then sets `freed` and `of`. Only the list
+ * works on its entries: nothing else advances or destroys one. It has room for all entries that a registry can have, and allocates no memory.
  */
 struct registry_deferred {
-	/* Called for each entry once it is gone for good, under the interlock: it makes no call with the keeper. May be NULL. */
+	/* Called under the interlock for each entry once it is gone permanently. It makes no call with the keeper. May be NULL. */
 	void (*freed)(void *of, const struct registry_entry *gone);
 	void *of;
 	size_t count;
@@ -68,37 +77,39 @@ struct registry_deferred {
 };
 
 /*
- * registry_deferred_count - how many entries wait
+ * registry_deferred_count - the number of entries that wait in the list
  */
 size_t registry_deferred_count(const struct registry_deferred *deferred) REGISTRY_NONNULL(1);
 
 /*
- * registry_deferred_free - free what nobody holds any more, oldest first: one registry_advance for each entry that waits, 32 at most
+ * registry_deferred_free - free the entries that nothing holds any more, oldest first
  *
- * The caller holds the interlock, and may be inside a section: what that section may hold isn't freed. It waits for nobody.
- * Answers REGISTRY_EMPTY_HANDLE; else REGISTRY_DONE, and how many it freed is written to `freed`, which may be NULL.
+ * It makes one registry_advance for each entry that waits, 32 at most. The caller holds the interlock, and may be inside a section. An entry that this
+ * section may hold isn't freed. The call never waits.
+ * Returns REGISTRY_EMPTY_HANDLE or REGISTRY_DONE. With REGISTRY_DONE the number of freed entries is written to `freed`, which may be NULL.
  */
 registry_answer registry_deferred_free(struct registry_keeper *keeper, struct registry_deferred *deferred, size_t *freed) REGISTRY_NONNULL(1, 2);
 
 /*
- * registry_deferred_detach - registry_detach, and what was detached is put on the list's end
+ * registry_deferred_detach - registry_detach, and append the detached entry to the list
  *
- * Before that it frees as registry_deferred_free. Answers as registry_detach; where that is refused nothing is put on the list, and what was
- * freed stays so.
+ * It frees as registry_deferred_free first. Returns the result of registry_detach. If that fails, nothing is appended, and what was freed stays freed.
  */
 registry_answer registry_deferred_detach(struct registry_keeper *keeper, struct registry_cpu *cpu, uint64_t kind, const struct registry_name *name,
     struct registry_deferred *deferred, struct registry_entry *gone) REGISTRY_NONNULL(1, 2, 5) REGISTRY_CHECKED;
 
 /*
- * registry_deferred_attach - registry_attach, before which it frees as registry_deferred_free, so that there is a vacant slot where there can be
+ * registry_deferred_attach - registry_attach, after freeing as registry_deferred_free does
  *
- * Answers as registry_attach; what was freed stays so.
+ * So a slot is vacant if one can be. Returns the result of registry_attach. What was freed stays freed.
  */
 registry_answer registry_deferred_attach(struct registry_keeper *keeper, struct registry_cpu *cpu, const struct registry_name *name, uint64_t value,
     struct registry_deferred *deferred, struct registry_entry *made) REGISTRY_NONNULL(1, 2, 5) REGISTRY_CHECKED;
 
 /*
- * registry_deferred_attach_iface - the same of registry_attach_iface
+ * registry_deferred_attach_iface - registry_attach_iface, after freeing as registry_deferred_free does
+ *
+ * So a slot is vacant if one can be. Returns the result of registry_attach_iface. What was freed stays freed.
  */
 registry_answer registry_deferred_attach_iface(struct registry_keeper *keeper, struct registry_cpu *cpu, struct registry_local *driver,
     const struct registry_name *name, uint64_t value, struct registry_deferred *deferred, struct registry_entry *made)

@@ -93,6 +93,12 @@ def synopsis(prototype):
     return [f'.Ft "{answer}"', f".Fo {name}", *(f'.Fa "{parameter}"' for parameter in parameters), ".Fc"]
 
 
+def item(names):
+    """The head of a list's item that is about these calls: one line if it fits."""
+    line = f".It {' , '.join('Fn ' + name for name in names)}"
+    return [line] if len(line) <= 80 else [".It Xo", *(f".Fn {name} ," for name in names[:-1]), f".Fn {names[-1]}", ".Xc"]
+
+
 def page_of(name):
     includes, about = HEADERS[name]
     text = (HEADERS_AT / f"{name}.h").read_text()
@@ -109,7 +115,7 @@ def page_of(name):
     lines += [".Ss The calls", ".Bl -tag -width Ds"]
     for said, prototypes in calls:
         titles, _, rest = said.partition(" - ")
-        lines += [f".It {' , '.join('Fn ' + one[1] for one in prototypes)}" if titles else ".It", *paragraphs(rest[0].upper() + rest[1:])]
+        lines += [*(item([one[1] for one in prototypes]) if titles else [".It"]), *paragraphs(rest[0].upper() + rest[1:])]
     lines += [".El", ".Sh SEE ALSO", "kupaldiz_netbsd(7)", ""]
     return "\n".join(lines)
 

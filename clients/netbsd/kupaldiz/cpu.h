@@ -1,7 +1,7 @@
 /*
  * cpu.h - threads, and the CPUs that they run on
  *
- * A CPU is virtual, one of KUPALDIZ_CPUS. Any number of threads share them. A thread has its CPU during a call, a read section, a spin lock or a raised
+ * A CPU is virtual, one of KUPALDIZ_CPUS. Any number of threads use them. A thread has its CPU during a call, a read section, a spin lock or a raised
  * level; the other threads of that CPU wait meanwhile. Outside of these all threads run at once, on any processor.
  *
  * A thread that isn't bound gets a CPU that is free whenever it needs one, and may get another the next time. One that is bound keeps its CPU.

@@ -118,7 +118,7 @@ typedef struct krwlock {
 	const char *rw_place;	/* where it was taken last */
 	uint32_t rw_made;
 	uint32_t rw_readers;
-	uint32_t rw_wanted;	/* by so many writers, which readers let pass */
+	uint32_t rw_wanted;	/* by this many writers, which go before readers */
 } krwlock_t;
 
 typedef enum {

@@ -1,7 +1,7 @@
 /*
- * sys_types.h - what all headers of the layer share: the place of a call, priority levels, and where a test bench may look in
+ * sys_types.h - what all headers of the layer use: the place of a call, priority levels, and where a test bench may look in
  *
- * Each call that can stop or wait is also a macro of its own name, which notes file and line for the lines on standard error. Code that needs
+ * Each call that can stop or wait is also a macro of its own name, which records file and line for the lines on standard error. Code that needs
  * the plain functions defines KUPALDIZ_WITHOUT_PLACES before it includes anything of the layer.
  */
 #ifndef KUPALDIZ_NETBSD_SYS_TYPES_H

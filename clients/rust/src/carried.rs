@@ -9,8 +9,8 @@ use core::mem::MaybeUninit;
 
 /// The address of a value that was attached. C keeps it in the entry; what is found and each reference has a copy.
 ///
-/// The box is made by an attach, before any lookup can find the entry, and given back to Rust once, by the turn that frees the entry's slot
-/// or by the closing of the registry. Nobody writes the value between: all have it shared.
+/// An attach makes the box, before any lookup can find the entry. The turn that frees the entry's slot, or the closing of the registry, returns it to
+/// Rust, once. Nothing writes the value in between: every reference to it is a shared one.
 pub struct Carried<T> {
     at: *mut T,
 }

@@ -12,13 +12,14 @@ use core::cell::{Cell, UnsafeCell};
 use core::fmt;
 use core::mem;
 
-/// One of the registry's CPUs, for the thread that has it. It owns a share of its registry: it may be stored, and go to another thread; one
-/// thread at a time uses it. Sections and passive references borrow it, so it can't go while one is there.
+/// One of the registry's CPUs, for the thread that has it. It co-owns its registry. It may be stored, and go to another thread. One thread at a time
+/// uses it. Sections and passive references borrow it, so it can't be moved or dropped while one exists.
 ///
-/// A struct that owns its CPU and references acquired there has the CPU in an [`Rc`](std::rc::Rc), and a [`PassiveRc`](crate::PassiveRc) of each.
+/// A struct that owns its CPU and references acquired there has the CPU in an [`Rc`](std::rc::Rc), and each reference as a
+/// [`PassiveRc`](crate::PassiveRc).
 ///
-/// A CPU that is dropped goes back to its registry, which gives it out again: [`Registry::cpu`], [`Registry::any_cpu`]. A program with more
-/// threads than CPUs lends them from a [`CpuPool`](crate::CpuPool).
+/// A CPU that is dropped goes back to its registry. [`Registry::cpu`] and [`Registry::any_cpu`] return it again. A program with more threads than CPUs
+/// lends them from a [`CpuPool`](crate::CpuPool).
 ///
 /// ```
 /// use registry::{Kind, Name, Registry, Settings};
@@ -137,7 +138,7 @@ impl<T> Cpu<T> {
         Registry::of(Arc::clone(self.shared()))
     }
 
-    /// How many sections are open, one in another: 0 outside.
+    /// The number of open sections, one nested in another: 0 outside.
     pub fn depth(&self) -> u8 {
         let mut depth = 0;
         // SAFETY: this thread alone has the CPU, whose handle isn't empty.
@@ -150,8 +151,8 @@ impl<T> Cpu<T> {
         self.depth() != 0
     }
 
-    /// Enters a section, or the open one once more: `pserialize_read_enter`. It is open until the guard is dropped. One whose guard was
-    /// forgotten stays open until the CPU [leaves](Cpu::leave), is dropped or goes back to its pool; an enter before that is nested in it.
+    /// Enters a section, or nests one more in the open section: `pserialize_read_enter`. It is open until the guard is dropped. A section whose guard
+    /// was forgotten stays open until the CPU [leaves](Cpu::leave), is dropped or goes back to its pool. An enter before that is nested in it.
     ///
     /// # Errors
     ///
@@ -163,7 +164,7 @@ impl<T> Cpu<T> {
         Ok(Section::new(self))
     }
 
-    /// Exits all that is still open: sections whose guards were forgotten, since a guard that lives borrows the CPU.
+    /// Exits all sections that are still open. Their guards were forgotten: a guard that lives borrows the CPU.
     ///
     /// ```
     /// use registry::{Registry, Settings};
@@ -190,8 +191,8 @@ impl<T> Cpu<T> {
 
 /// Local references that were dropped without a CPU.
 impl<T> Cpu<T> {
-    /// Releases all local references that were dropped without a CPU before the call, on any thread, and waits for the interlock where a drain has
-    /// collected this CPU's count. No program needs it: [other calls](crate::LocalRef#dropped-without-a-cpu) release some each.
+    /// Releases all local references that were dropped without a CPU before the call, on any thread. If a drain has collected this CPU's count, it
+    /// waits for the interlock. No program needs this call: each of [other calls](crate::LocalRef#dropped-without-a-cpu) releases some.
     pub fn release_dropped(&self) {
         for of in self.shared().baskets().filled_from(self.id) {
             self.release_of(of, self.shared().baskets().count(of));

@@ -2,29 +2,29 @@
 //!
 //! # The problem
 //!
-//! A kernel looks up a network interface for each packet and a driver for each device call, on every CPU at once. A lock or a reference count
-//! that all of them write is a cache line that all of them fight for. But where a lookup writes nothing that others see, whoever removes an
-//! interface can't see who still uses it, and has to find out before its memory is used again.
+//! A kernel looks up a network interface for each packet and a driver for each device call, on every CPU at once. A lock or reference count that
+//! every CPU writes bounces its cache line among all of them. But if a lookup writes nothing that other CPUs see, the thread that removes an interface
+//! can't see who still uses it. It has to find out before the interface's memory is reused.
 //!
 //! # The mechanism
 //!
-//! A lookup writes one word of its own CPU as it begins and as it ends. Whoever removes an entry unlinks it, notes the word of each CPU, and
-//! looks again until each has changed or says that its CPU is outside: no lookup that began afterwards can have found the entry. References
-//! are counted on the CPU that acquires them, and the counts are looked at, or collected, after that. Only then is the entry freed: its slot
-//! is reused, and its `T` comes back.
+//! A lookup writes one word of its own CPU when it begins and when it ends. The thread that removes an entry unlinks it and records the word of each
+//! CPU. It reads the words again until each has changed or says that its CPU is outside. No lookup that began afterwards can have found the entry.
+//! References are counted on the CPU that acquires them. The counts are read, or collected, after that. Only then is the entry freed: its slot is
+//! reused, and its `T` is returned.
 //!
-//! # The notions
+//! # The terms
 //!
-//! - An [`Entry`] is a driver or an interface that was attached. It is live until it is detached, and retired until it is freed. It carries a
-//!   `T`, which everything that holds the entry derefs to. `T` is one type for all entries of a registry: an `enum` where drivers and
-//!   interfaces carry different things, `()` where they carry nothing.
-//! - A [`Cpu`] is a value that one thread at a time uses; a registry has 1 to 8. It needn't be a processor of the machine. A [`CpuPool`] lends
-//!   CPUs to more threads.
-//! - A [`Section`] is what a CPU is in while it looks entries up. What is [`Found`] in it keeps its slot while it is open.
-//! - A [`PassiveRef`] holds an entry beyond the section, on one CPU; it is cheap, and its holder may sleep. A [`PassiveRc`] owns a share of the
-//!   CPU in place of a borrow. A [`LocalRef`] may go to other threads, and be stored; a [`LocalGuard`] is one that a CPU releases as it is dropped.
+//! - An [`Entry`] is a driver or an interface that was attached. It is live until it is detached, and then retired until it is freed. It carries a
+//!   `T`, and everything that holds the entry derefs to it. `T` is one type for all entries of a registry: an `enum` if drivers and interfaces carry
+//!   different things, `()` if they carry nothing.
+//! - A [`Cpu`] is a value that one thread at a time uses. A registry has 1 to 8. It needn't be a processor of the machine. A [`CpuPool`] lends CPUs
+//!   to more threads.
+//! - A [`Section`] is open on a CPU while it looks entries up. An entry that is [`Found`] in it keeps its slot while it is open.
+//! - A [`PassiveRef`] holds an entry beyond the section, on one CPU. It is cheap, and its holder may sleep. A [`PassiveRc`] co-owns the CPU instead of
+//!   borrowing it. A [`LocalRef`] may be stored and go to other threads. A [`LocalGuard`] is one that a CPU releases when it is dropped.
 //! - A [`Retired`] is an entry that was detached and isn't freed yet.
-//! - The interlock is the lock of a [`Registry`], behind which changes are made, one turn at a time.
+//! - The interlock is the lock of a [`Registry`]. Changes are made under it, one turn at a time.
 //!
 //! # The calls
 //!
@@ -35,7 +35,7 @@
 //! | go over all | [`Section::entries`] in a section |
 //! | hold longer | [`Found::acquire`] on this CPU, [`Found::acquire_local`] for any thread |
 //! | look up by one call | [`Cpu::read`] returns the entry with its section, [`Cpu::get`], [`Cpu::get_rc`] and [`Cpu::get_local`] a reference, [`Cpu::look_up`] the record alone |
-//! | go on with a part | [`ReadGuard::map`], [`PassiveRef::map`], [`LocalRef::map`] |
+//! | use a part | [`ReadGuard::map`], [`PassiveRef::map`], [`LocalRef::map`] |
 //! | change | [`Registry::attach`], [`Registry::attach_iface`], [`Registry::detach`] |
 //! | free | [`Retired::destroy`] waits, [`Retired::advance`] doesn't; after [`Registry::retire`] or [`Retired::defer`] later changes do it, or [`Registry::collect`] |
 //! | wait for readers alone | [`Registry::perform`] |
@@ -72,28 +72,28 @@
 //!
 //! # The order of memory
 //!
-//! Whoever finds an entry sees what was written before its attach; and what was done with its `T` comes before the `T` is given back. Each
-//! step on a word that CPUs share is a sequentially consistent atomic operation of the archive. The attach stores the link that the lookup
-//! loads. A section's exit, and the release of a reference, write the word that is loaded or swapped by the turn that frees the entry.
+//! What was written before an attach is visible to any CPU that finds the entry. The last use of an entry's `T` comes before the `T` is returned. Each
+//! step on a word of the registry is a sequentially consistent atomic operation of the archive. The attach stores the link that the lookup loads.
+//! A section's exit, and the release of a reference, write the word that is loaded or swapped by the turn that frees the entry.
 //!
 //! # What is dropped, forgotten, or panics
 //!
-//! What is dropped is given back: a section is exited, a reference released, a CPU goes back to its registry. What is forgotten stays held,
-//! and nothing is freed under it: the entry of a forgotten reference is never freed, and its `T` never dropped. A section whose guard is
-//! forgotten stays open until its CPU is dropped, goes back to its pool, or [leaves](Cpu::leave). A panic is nothing else than drops. No lock
-//! of the registry is held while a `T` is dropped, so that may call the registry.
+//! Dropping a section exits it, dropping a reference releases it, and dropping a CPU returns it to its registry. What is forgotten stays held, and
+//! nothing is freed under it: the entry of a forgotten reference is never freed, and its `T` is never dropped. A section whose guard is forgotten
+//! stays open until its CPU is dropped, goes back to its pool, or [leaves](Cpu::leave). A panic only drops. No lock of the registry is held while a
+//! `T` is dropped, so its drop may call the registry.
 //!
 //! # What is proved
 //!
-//! The protocol, the shared words and the calls of registry.h are proved, in Rattle. This crate is not: it is tested, and its types rule out
-//! what the calls ask of their caller, or a test at run time refuses it by name ([`Refusal::OtherRegistry`]). Its uses of `unsafe` are the
-//! calls themselves, and the way from the word that an entry carries to the `T`; each says which sentence of registry.h makes it sound.
+//! The protocol, the shared words and the calls of registry.h are proved, in Rattle. This crate isn't proved: it is tested. Its types rule out misuse
+//! that the calls can't check, or a call returns an error of the crate's own ([`Refusal::OtherRegistry`]). It uses `unsafe` for the calls themselves,
+//! and for the way from the word that an entry carries to the `T`. Each use says which sentence of registry.h makes it sound.
 
 //!
 //! # Without the standard library
 //!
-//! The feature `std`, which is on unless `default-features` is false, is for [`CpuPool`], for a [`Patience`] with a deadline or without an end, and for
-//! the trait `Error`. What is left without it is all else, over `core` and `alloc`; [`Patience::Turns`] spins between two turns, and so do the
+//! The feature `std` is on unless `default-features` is false. It is needed for [`CpuPool`], for a [`Patience`] with a deadline or without an end, and
+//! for the trait `Error`. Everything else needs only `core` and `alloc`. Without `std`, [`Patience::Turns`] spins between two turns, and so do the
 //! registry's locks. The archive needs glibc in either case.
 
 #![warn(missing_docs)]

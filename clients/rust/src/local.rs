@@ -13,8 +13,8 @@ use core::fmt;
 use core::mem;
 use core::ops::Deref;
 
-/// A local reference, of localcount(9): its entry keeps its slot, and what it carries, until it is released on any CPU of the registry. It
-/// derefs to what the entry carries. It owns a share of its registry: it may be stored, shared and sent to other threads.
+/// A local reference, of localcount(9). Its entry keeps its slot and its value until the reference is released, on any CPU of the registry. It derefs
+/// to what the entry carries. It co-owns its registry. It may be stored, and other threads may use it and take it.
 ///
 /// All its functions are called by the type's name, so that none hides a method of `T`.
 ///
@@ -35,21 +35,21 @@ use core::ops::Deref;
 ///
 /// # Dropped without a CPU
 ///
-/// A release needs a CPU: [`guard`](LocalRef::guard) binds the reference to one that is at hand. One that is dropped without lies in a basket of
-/// the CPU that acquired it, and still holds its entry, until some call releases it. Each call takes a bounded number:
+/// A release needs a CPU. [`guard`](LocalRef::guard) binds the reference to a CPU that the caller has. A reference that is dropped without one lies in
+/// the basket of the CPU that acquired it. It still holds its entry until some call releases it. Each call releases a bounded number:
 ///
-/// | Call | takes at most |
+/// | Call | releases at most |
 /// |---|---|
-/// | an acquire of a local reference | 2, of its CPU's basket |
-/// | a release of a local reference on a CPU | 4, of its CPU's basket, and 4 of another's that has more than 64 |
-/// | a drop into a basket that has more than 64 | 4, of this basket, if there is a CPU that nobody has |
-/// | an attach, a detach, a destroy's turn, a perform | 64, of all baskets |
-/// | a CPU that is dropped | 64, of its own basket |
-/// | a turn of the work on a retired entry that nothing but local references holds | 256, of those to this entry |
+/// | an acquire of a local reference | 2, from its CPU's basket |
+/// | a release of a local reference on a CPU | 4, from its CPU's basket, and 4 from another's that has more than 64 |
+/// | a drop into a basket that has more than 64 | 4, from this basket, if some CPU has no handle |
+/// | an attach, a detach, a destroy's turn, a perform | 64, from all baskets |
+/// | a CPU that is dropped | 64, from its own basket |
+/// | a turn of the work on a retired entry that only local references hold | 256, of those to this entry |
 ///
-/// So a basket never has more in it than references of its CPU were held at once. A CPU's net count reaches `LocalFull` by references that are held,
-/// or were released elsewhere, and by no other. [`Registry::dropped`](crate::Registry::dropped) says how many there are. One that is forgotten stays held,
-/// and keeps its registry open.
+/// So a basket never has more references in it than were held at once of its CPU. Only references that are held, or were released elsewhere, bring a
+/// CPU's net count to `LocalFull`. [`Registry::dropped`](crate::Registry::dropped) returns how many dropped ones there are. A reference that is
+/// forgotten stays held, and keeps its registry open.
 #[must_use = "a reference that is dropped at once holds nothing"]
 pub struct LocalRef<T> {
     record: Record<T>,
@@ -87,12 +87,12 @@ impl<T> LocalRef<T> {
         reference.record.entry()
     }
 
-    /// Releases it on this CPU, which needn't be the one that acquired it: `localcount_release`. Where a drain has collected this CPU's count,
-    /// it waits for the interlock. Some references that were dropped are released with it.
+    /// Releases it on this CPU, which needn't be the one that acquired it: `localcount_release`. If a drain has collected this CPU's count, the call
+    /// waits for the interlock. Some references that were dropped are released with it.
     ///
     /// # Errors
     ///
-    /// `OtherRegistry` where the CPU is of another one; the reference comes back.
+    /// `OtherRegistry` if the CPU is of another one. The reference is returned.
     // Inlined, it is never moved as a whole: a pair of an acquire and a release takes an eighth less.
     #[inline(always)]
     pub fn release(mut reference: Self, cpu: &Cpu<T>) -> Result<(), Refused<Self>> {
@@ -109,8 +109,8 @@ impl<T> LocalRef<T> {
         Ok(())
     }
 
-    /// Acquires one more on this CPU, to the same entry, which it looks up. The archive has no call for it: a local reference is acquired to
-    /// what a section found.
+    /// Acquires one more on this CPU, to the same entry, which it looks up. The archive has no call for this: a local reference is acquired to an entry
+    /// that a section found.
     ///
     /// ```
     /// use registry::{Kind, LocalRef, Name, Refusal, Registry, Settings};
@@ -141,7 +141,7 @@ impl<T> LocalRef<T> {
         }
     }
 
-    /// Binds it to this CPU, which releases it as the guard is dropped: with the CPU at hand a drop is a release, and no basket is between.
+    /// Binds it to this CPU, which releases it when the guard is dropped, without a basket.
     ///
     /// ```
     /// use registry::{Kind, LocalRef, Name, Registry, Settings};
@@ -156,7 +156,7 @@ impl<T> LocalRef<T> {
     ///
     /// # Errors
     ///
-    /// `OtherRegistry` where the CPU is of another one; the reference comes back.
+    /// `OtherRegistry` if the CPU is of another one. The reference is returned.
     #[inline]
     pub fn guard(mut reference: Self, cpu: &Cpu<T>) -> Result<LocalGuard<'_, T>, Refused<Self>> {
         if !reference.is_of(cpu.shared()) {
@@ -230,7 +230,7 @@ impl<T: fmt::Debug> fmt::Debug for LocalRef<T> {
     }
 }
 
-/// A local reference that a CPU releases as it is dropped: [`LocalRef::guard`]. It derefs to what the entry carries, and stays on that CPU's
+/// A local reference that a CPU releases when it is dropped: [`LocalRef::guard`]. It derefs to what the entry carries, and stays on that CPU's
 /// thread.
 ///
 /// All its functions are called by the type's name, so that none hides a method of `T`.

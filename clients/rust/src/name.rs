@@ -32,7 +32,7 @@ pub struct Name {
 const ROOM: usize = 16;
 
 impl Name {
-    /// The name that this text is.
+    /// The name with this text.
     ///
     /// # Errors
     ///
@@ -41,7 +41,7 @@ impl Name {
         Name::from_bytes(text.as_bytes())
     }
 
-    /// The name that these bytes are.
+    /// The name with these bytes.
     ///
     /// # Errors
     ///
@@ -70,7 +70,7 @@ impl Name {
         Ok(Name { words, bytes })
     }
 
-    /// The name that this text is, for a constant: in one, a text that is no name is an error of the compiler.
+    /// The name with this text, for a constant. In a constant, a text that is no name is a compile error.
     ///
     /// ```compile_fail,E0080
     /// const WM: registry::Name = registry::Name::from_static("WM");
@@ -78,7 +78,7 @@ impl Name {
     ///
     /// # Panics
     ///
-    /// Where the text is no name.
+    /// If the text is no name.
     #[must_use]
     pub const fn from_static(text: &'static str) -> Name {
         match Name::parse(text) {
@@ -178,7 +178,7 @@ pub enum NameFault {
     Empty,
     /// There are more than 15 bytes.
     TooLong,
-    /// The byte at this place, from 0, may not stand there, and it is the first such byte.
+    /// The byte at this position, from 0, isn't allowed there. It is the first such byte.
     BadByte(usize),
 }
 

@@ -12,10 +12,10 @@ use core::mem;
 use core::ops::Deref;
 use core::ptr;
 
-/// A passive reference, of psref(9): its entry keeps its slot, and what it carries, until the reference is dropped. It outlives the section,
-/// and its holder may sleep; but it borrows its CPU, so neither can leave the thread. It derefs to what the entry carries.
+/// A passive reference, of psref(9). Its entry keeps its slot and its value until the reference is dropped. It outlives the section, and its holder may
+/// sleep. It borrows its CPU, so neither can leave the thread. It derefs to what the entry carries.
 ///
-/// One that is forgotten stays held: its entry is never freed, and what it carries never dropped.
+/// A reference that is forgotten stays held: its entry is never freed, and the entry's value is never dropped.
 ///
 /// All its functions are called by the type's name, so that none hides a method of `T`.
 ///
@@ -83,11 +83,11 @@ impl<'cpu, T> PassiveRef<'cpu, T> {
         Ok(PassiveRef::new(reference.cpu, reference.record))
     }
 
-    /// The same reference, which owns a share of its CPU in place of the borrow: a struct may own both.
+    /// The same reference, which co-owns its CPU instead of borrowing it: a struct may own both.
     ///
     /// # Errors
     ///
-    /// `WrongCpu` where it is of another CPU than this; the reference comes back.
+    /// `WrongCpu` if it is of another CPU. The reference is returned.
     pub fn into_rc(reference: Self, cpu: &Rc<Cpu<T>>) -> Result<PassiveRc<T>, Refused<Self>> {
         if !ptr::eq(reference.cpu, &**cpu) {
             let refusal = Refusal::WrongCpu;
@@ -145,8 +145,8 @@ impl<T: fmt::Debug> fmt::Debug for PassiveRef<'_, T> {
     }
 }
 
-/// A [`PassiveRef`] that owns a share of its CPU in place of a borrow: [`Cpu::get_rc`]. The CPU, which is in an [`Rc`], goes as the last share
-/// does; all stay on one thread.
+/// A [`PassiveRef`] that co-owns its CPU instead of borrowing it: [`Cpu::get_rc`]. The CPU is in an [`Rc`]: dropping the last owner drops it. All stay on
+/// one thread.
 ///
 /// ```compile_fail,E0277
 /// fn sent<S: Send>() {}

@@ -1,4 +1,4 @@
-//! How long a call waits for others, and what it does between two turns.
+//! How long a call waits, and what it does between two turns.
 
 use core::hint;
 #[cfg(feature = "std")]
@@ -6,15 +6,15 @@ use std::thread;
 #[cfg(feature = "std")]
 use std::time::{Duration, Instant};
 
-/// How long [`Retired::destroy`](crate::Retired::destroy) and [`Registry::perform`](crate::Registry::perform) wait. Each makes one turn at
-/// least. Between two turns it holds no lock, and lets time pass as `registry_destroy_wait` does, in this order:
+/// How long [`Retired::destroy`](crate::Retired::destroy) and [`Registry::perform`](crate::Registry::perform) wait. Each makes at least one turn.
+/// Between two turns it holds no lock, and waits as `registry_destroy_wait` does, in this order:
 ///
-/// 1. It spins 16 times, for 1, 2, 4, .. 256 and then 256 pause instructions: 2,303 in all, some 90 microseconds. A reader's section is over by
-///    then, where its thread runs.
+/// 1. It spins 16 times, for 1, 2, 4, .. 256 and then 256 pause instructions: 2,303 in all, some 90 microseconds. If a reader's thread runs, its
+///    section is over by then.
 /// 2. It yields 8 times: the reader's thread may wait for this processor.
-/// 3. It sleeps, for 16 microseconds and twice as long each time, 8 milliseconds at most.
+/// 3. It sleeps, for 16 microseconds at first, twice as long each time, 8 milliseconds at most.
 ///
-/// Without the feature `std` it spins alone.
+/// Without the feature `std` it only spins.
 ///
 /// ```
 /// use registry::{Holder, Kind, Name, Patience, Refusal, Registry, Settings};
@@ -34,19 +34,19 @@ use std::time::{Duration, Instant};
 /// ```
 #[derive(Clone, Copy, Debug, PartialEq, Eq, Hash)]
 pub enum Patience {
-    /// For so many turns; 0 is 1.
+    /// For this many turns. 0 means 1.
     Turns(u32),
     /// Until a turn that was made at this time or later.
     #[cfg(feature = "std")]
     Until(Instant),
-    /// Until it is done.
+    /// Until the call is done.
     #[cfg(feature = "std")]
     Forever,
 }
 
 #[cfg(feature = "std")]
 impl Patience {
-    /// Until a turn that was made when so much time has passed, from now on.
+    /// Until a turn that is made after this much time from now.
     #[must_use]
     pub fn at_most(time: Duration) -> Patience {
         match Instant::now().checked_add(time) {

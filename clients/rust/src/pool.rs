@@ -8,8 +8,8 @@ use std::ops::Deref;
 use std::sync::{Condvar, Mutex, MutexGuard, PoisonError};
 use std::time::Instant;
 
-/// CPUs of one registry that any thread may borrow, each for a call or a batch of calls. Threads share the pool by reference, and a `static`
-/// may have one. To lend and to take back are a lock each, so a lookup for its own sake is better made on a CPU that the thread keeps.
+/// CPUs of one registry that any thread may borrow, each for a call or a batch of calls. Threads use the pool by reference, and a `static` may have one.
+/// Lending and taking back take a lock each, so a single lookup is faster on a CPU that the thread keeps.
 ///
 /// ```
 /// use registry::{CpuPool, Kind, Name, Registry, Settings};
@@ -40,7 +40,7 @@ impl<T> CpuPool<T> {
     ///
     /// # Errors
     ///
-    /// `MissingCpu` where there is none, `OtherRegistry` where they aren't of one registry. The CPUs go back to their registries then.
+    /// `MissingCpu` if there is none, `OtherRegistry` if they aren't of one registry. The CPUs go back to their registries then.
     pub fn new<C: IntoIterator<Item = Cpu<T>>>(cpus: C) -> Result<CpuPool<T>, Refusal> {
         let cpus: Vec<Cpu<T>> = cpus.into_iter().collect();
         let first = cpus.first().ok_or(Refusal::MissingCpu)?;
@@ -53,7 +53,7 @@ impl<T> CpuPool<T> {
         })
     }
 
-    /// Lends a CPU. Where all are lent it waits until one comes back.
+    /// Lends a CPU. If all are lent, it waits until one comes back.
     pub fn lend(&self) -> Lent<'_, T> {
         let mut idle = locked(&self.idle);
         loop {
@@ -75,7 +75,7 @@ impl<T> CpuPool<T> {
         Lent { pool: self, cpu }
     }
 
-    /// Lends a CPU. Where all are lent it waits until one comes back, or the time has come.
+    /// Lends a CPU. If all are lent, it waits until one comes back, or the time has come.
     pub fn lend_until(&self, deadline: Instant) -> Option<Lent<'_, T>> {
         let mut idle = locked(&self.idle);
         loop {
@@ -106,7 +106,7 @@ impl<T> fmt::Debug for CpuPool<T> {
     }
 }
 
-/// A CPU that is lent. Dropping it gives the CPU back, outside of any section. One that is forgotten is lost to the pool, and to its registry.
+/// A CPU that is lent. Dropping it returns the CPU, outside of any section. If it is forgotten, the CPU is lost to the pool and to its registry.
 ///
 /// ```
 /// use registry::{CpuPool, Registry, Settings};
@@ -126,7 +126,7 @@ pub struct Lent<'pool, T> {
 }
 
 impl<T> Lent<'_, T> {
-    /// Exits all that is still open, as [`Cpu::leave`] does: sections whose guards were forgotten.
+    /// Exits all sections that are still open, as [`Cpu::leave`] does: their guards were forgotten.
     ///
     /// ```
     /// use registry::{CpuPool, Registry, Settings};

@@ -1,4 +1,4 @@
-//! Why a call was refused.
+//! The errors that calls return.
 
 use crate::ffi;
 use crate::values::Holder;
@@ -7,8 +7,8 @@ use core::fmt;
 #[cfg(feature = "std")]
 use std::error::Error;
 
-/// Why a call was refused. A call that is refused has changed nothing, unless it says so; each names what it refuses, in the order in which
-/// it tests it. What each asks of its caller is in `docs/DRIVERS.md` of the repository, and in registry(3).
+/// The error that a call returns. A call that fails has changed nothing, unless it says so. Each call lists its errors in the order in which it tests
+/// them. What each call requires of its caller is in `docs/DRIVERS.md` of the repository, and in registry(3).
 ///
 /// ```
 /// use registry::{Refusal, Registry, Settings};
@@ -20,7 +20,7 @@ use std::error::Error;
 #[derive(Clone, Copy, Debug, PartialEq, Eq, Hash)]
 #[non_exhaustive]
 pub enum Refusal {
-    /// Memory was refused.
+    /// Memory ran out.
     NoMemory,
     /// A setting is out of its range.
     BadSettings,
@@ -30,7 +30,7 @@ pub enum Refusal {
     NoSlot,
     /// The history has no room for this attach and the detaches to come.
     HistoryFull,
-    /// No live entry has this kind and name; or one has, and isn't the entry that is meant.
+    /// No live entry has this kind and name, or the one that has isn't the entry that is meant.
     NotFound,
     /// The CPU is inside a section.
     Inside,
@@ -42,11 +42,11 @@ pub enum Refusal {
     WrongCpu,
     /// The CPU's net count of local references to the entry is at its limit.
     LocalFull,
-    /// The CPUs aren't all CPUs of the registry, each once; or there is none.
+    /// The CPUs aren't all CPUs of the registry, each once, or there is none.
     MissingCpu,
     /// This holds the entry.
     StillHeld(Holder),
-    /// This CPU wasn't seen out of its section.
+    /// The section of this CPU wasn't seen to have ended.
     Waiting(u8),
     /// The section is nested as deep as it may be.
     TooDeep,
@@ -57,7 +57,7 @@ pub enum Refusal {
 }
 
 impl Refusal {
-    /// The number of the refusal in registry.h; 0 for `OtherRegistry`, which is this crate's own.
+    /// The number of the error in registry.h. It is 0 for `OtherRegistry`, which is this crate's own.
     #[must_use]
     pub fn number(&self) -> u32 {
         match self {
@@ -136,10 +136,10 @@ impl fmt::Display for Refusal {
 #[cfg(feature = "std")]
 impl Error for Refusal {}
 
-/// Why a call was refused that takes something, and what it was given: that comes back as it was.
+/// The error of a call that takes a value, together with that value, unchanged.
 ///
-/// In a function that returns a [`Refusal`], `?` makes it one, and drops what was given. Where the error has to be `Send` and `'static`, as a boxed
-/// one, [`Refused::into_refusal`] makes it one before.
+/// In a function that returns a [`Refusal`], `?` converts it, and drops what was given. If the error must be `Send` and `'static`, such as a boxed error,
+/// [`Refused::into_refusal`] converts it first.
 ///
 /// ```
 /// use registry::{Cpu, Name, Refusal, Refused, Registry, Settings};
@@ -160,14 +160,14 @@ impl Error for Refusal {}
 /// ```
 #[derive(Clone, Copy, PartialEq, Eq, Hash)]
 pub struct Refused<G> {
-    /// Why it was refused.
+    /// The error.
     pub refusal: Refusal,
     /// What was given.
     pub given: G,
 }
 
 impl<G> Refused<G> {
-    /// The refusal alone: what was given is dropped.
+    /// The error alone. What was given is dropped.
     #[must_use]
     pub fn into_refusal(self) -> Refusal {
         self.refusal

@@ -17,14 +17,14 @@ use alloc::vec::Vec;
 use core::fmt;
 use core::hash::{Hash, Hasher};
 
-/// An open registry. Each entry carries a `T` of the caller's. A clone is one more handle of the same registry; threads share them,
-/// and a `static` may have one.
+/// An open registry. Each entry carries a `T` of the caller's. A clone is one more handle of the same registry. Any thread may use a handle, and a
+/// `static` may have one.
 ///
-/// The registry is open as long as somebody has a handle of it: a `Registry`, a [`Cpu`], a [`LocalRef`] or a [`Retired`]. As the last one goes
-/// it is closed, and what its entries still carry is dropped; a handle that is forgotten keeps it open for ever, and so does one that an entry of
-/// the same registry carries.
+/// The registry is open as long as a handle of it exists: a `Registry`, a [`Cpu`], a [`LocalRef`] or a [`Retired`]. Dropping the last one closes it,
+/// and drops the values that its entries still carry. A handle that is forgotten keeps it open for ever. So does a handle that an entry of the same
+/// registry carries.
 ///
-/// The keeper is behind a lock, the interlock, which is held for one turn at a time, and never while a `T` is dropped: that may call the
+/// The keeper is behind a lock, the interlock. It is held for one turn at a time, and never while a `T` is dropped, so that drop may call the
 /// registry again.
 ///
 /// ```
@@ -64,20 +64,20 @@ impl<T> Registry<T> {
         Ok((registry, cpus))
     }
 
-    /// What it was opened with.
+    /// The settings that it was opened with.
     #[must_use]
     pub fn settings(&self) -> Settings {
         self.shared.settings()
     }
 
-    /// The CPU with this number, where nobody has it: each that was dropped may be had again, with the references that it still holds.
+    /// The CPU with this number, if no handle of it exists. A CPU that was dropped may be taken again, with the references that it still holds.
     #[must_use]
     pub fn cpu(&self, id: u8) -> Option<Cpu<T>> {
         let handle = self.shared.take_cpu(id)?;
         Some(Cpu::new(Arc::clone(&self.shared), id, handle))
     }
 
-    /// The lowest-numbered CPU that nobody has.
+    /// The lowest-numbered CPU that has no handle.
     ///
     /// ```
     /// use registry::{Registry, Settings};
@@ -114,13 +114,13 @@ impl<T> Registry<T> {
     }
 }
 
-/// Changes. Each first frees what was [retired](Registry::retire) and nobody holds any more.
+/// Changes. Each first frees what was [retired](Registry::retire) and nothing holds any more.
 impl<T> Registry<T> {
-    /// Attaches a driver that carries this value. Lookups that begin afterwards find it.
+    /// Attaches a driver that carries this value. Lookups that begin after this call has returned find it, until it is detached.
     ///
     /// # Errors
     ///
-    /// `OtherRegistry`, `Inside`, `NameTaken`, `NoSlot`, `HistoryFull`; the value comes back.
+    /// `OtherRegistry`, `Inside`, `NameTaken`, `NoSlot`, `HistoryFull`. The value is returned.
     pub fn attach(&self, cpu: &Cpu<T>, name: &Name, value: T) -> Result<Entry, Refused<T>> {
         if let Err(refusal) = self.tidy(cpu) {
             return Err(Refused { refusal, given: value });
@@ -131,8 +131,8 @@ impl<T> Registry<T> {
         })
     }
 
-    /// Attaches an interface that carries this value, on the driver that the reference is to. Its slot keeps the reference, so that the driver
-    /// outlives it.
+    /// Attaches an interface that carries this value, on the driver that the reference is to. The interface's slot keeps the reference, so the driver
+    /// outlives the interface.
     ///
     /// ```
     /// use registry::{Kind, Name, Registry, Settings};
@@ -147,8 +147,8 @@ impl<T> Registry<T> {
     ///
     /// # Errors
     ///
-    /// `OtherRegistry` of the CPU or the reference, `Inside`, `NeedsDriver` where the reference is to an interface, `NameTaken`, `NoSlot`,
-    /// `HistoryFull`; the reference and the value come back.
+    /// `OtherRegistry` for the CPU or the reference, `Inside`, `NeedsDriver` if the reference is to an interface, `NameTaken`, `NoSlot`,
+    /// `HistoryFull`. The reference and the value are returned.
     pub fn attach_iface(&self, cpu: &Cpu<T>, name: &Name, mut driver: LocalRef<T>, value: T) -> Result<Entry, Refused<(LocalRef<T>, T)>> {
         let other = if driver.is_of(&self.shared) {
             self.tidy(cpu).err()
@@ -194,8 +194,8 @@ impl<T> Registry<T> {
         }
     }
 
-    /// Detaches the live entry with this kind and name. Lookups that begin afterwards don't find it; it has its slot and what it carries until
-    /// the [`Retired`] that is returned has freed it, or later changes have.
+    /// Detaches the live entry with this kind and name. Lookups that begin after this call has returned don't find it. It keeps its slot and its value
+    /// until the returned [`Retired`] has freed it, or later changes have.
     ///
     /// ```
     /// use registry::{Kind, Name, Patience, Registry, Settings};
@@ -234,20 +234,20 @@ impl<T> Registry<T> {
 
 /// The work on retired entries, and the counts.
 impl<T> Registry<T> {
-    /// How many entries that were [retired](Registry::retire) or [deferred](Retired::defer) wait to be freed.
+    /// The number of entries that were [retired](Registry::retire) or [deferred](Retired::defer) and wait to be freed.
     #[must_use]
     pub fn retired(&self) -> usize {
         self.shared.deferred()
     }
 
-    /// How many local references were [dropped without a CPU](LocalRef#dropped-without-a-cpu) and aren't released yet.
+    /// The number of local references that were [dropped without a CPU](LocalRef#dropped-without-a-cpu) and aren't released yet.
     #[must_use]
     pub fn dropped(&self) -> usize {
         self.shared.baskets().total()
     }
 
-    /// Frees what was [retired](Registry::retire) and nobody holds any more, the oldest first, and returns what was freed. It makes one turn
-    /// for each that waits, and waits for nobody except for the interlock.
+    /// Frees what was [retired](Registry::retire) and nothing holds any more, the oldest first, and returns what was freed. It makes one turn
+    /// for each entry that waits, and waits only for the interlock.
     ///
     /// ```
     /// use registry::{Kind, Name, Registry, Settings};
@@ -266,10 +266,10 @@ impl<T> Registry<T> {
         self.shared.collect()
     }
 
-    /// Waits until each section that is open now has ended: `pserialize_perform`. In each turn the keeper first hears what the CPU has seen,
-    /// and after it the CPU has seen every change so far.
+    /// Waits until each section that is open now has ended: `pserialize_perform`. In each turn the keeper first learns what the CPU has seen.
+    /// Afterwards the CPU has seen every change so far.
     ///
-    /// Where this thread has a section open on another CPU, nobody ends that while it waits: with [`Patience::Forever`] it waits for ever.
+    /// If this thread has a section open on another CPU, nothing ends it while the thread waits: with [`Patience::Forever`] it waits for ever.
     ///
     /// ```
     /// use registry::{Patience, Refusal, Registry, Settings};
@@ -283,7 +283,7 @@ impl<T> Registry<T> {
     ///
     /// # Errors
     ///
-    /// `OtherRegistry`, `Inside`, and `Waiting` with the lowest-numbered CPU that wasn't seen out of its section.
+    /// `OtherRegistry`, `Inside`, `Waiting` with the lowest-numbered CPU whose section wasn't seen to have ended.
     pub fn perform(&self, cpu: &Cpu<T>, patience: Patience) -> Result<(), Refusal> {
         self.check(cpu)?;
         let mut wait = ffi::Wait::EMPTY;
@@ -326,7 +326,7 @@ impl<T> Registry<T> {
     ///
     /// # Errors
     ///
-    /// `OtherRegistry` of any of them; `MissingCpu` where they aren't all CPUs of the registry, each once.
+    /// `OtherRegistry` for any of them. `MissingCpu` if they aren't all CPUs of the registry, each once.
     pub fn audit<C>(&self, cpus: C) -> Result<Vec<Balance>, Refusal>
     where
         C: IntoIterator,

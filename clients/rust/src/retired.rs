@@ -10,11 +10,11 @@ use crate::values::{Entry, Freed, Met};
 use alloc::sync::Arc;
 use core::fmt;
 
-/// An entry that was detached: [`Registry::detach`] returns it. Lookups don't find it any more; it has its slot, and what it carries, until
-/// nothing holds it and it is freed: by [`destroy`](Retired::destroy), which waits, or [`advance`](Retired::advance), which doesn't. Whoever needs
-/// neither drops it or calls [`defer`](Retired::defer), which is the same: later changes free it.
+/// An entry that was detached: [`Registry::detach`] returns it. Lookups that begin afterwards don't find it. It keeps its slot and its value until
+/// nothing holds it and it is freed. [`destroy`](Retired::destroy) waits for that, and [`advance`](Retired::advance) doesn't. Dropping it is the same as
+/// [`defer`](Retired::defer): later changes free it.
 ///
-/// It owns a share of its registry: it may be stored, and go to other threads.
+/// It co-owns its registry. It may be stored, and go to other threads.
 ///
 /// ```
 /// use registry::{Holder, Kind, Name, Refusal, Registry, Settings};
@@ -55,24 +55,24 @@ impl<T> Retired<T> {
         Registry::of(Arc::clone(&self.shared))
     }
 
-    /// One turn of the work on it: it is freed and what it carried comes back, or something holds it. Nobody holds what was freed, now or later,
-    /// as after [`destroy`](Retired::destroy). It waits for nobody except for the interlock.
+    /// One turn of the work on it. Either it is freed and what it carried is returned, or something holds it. Nothing holds a freed entry, now or later,
+    /// as after [`destroy`](Retired::destroy). The call waits only for the interlock.
     ///
     /// # Errors
     ///
-    /// `StillHeld` with what holds it first; it comes back.
+    /// `StillHeld` with the first thing that holds it. The `Retired` is returned.
     pub fn advance(self) -> Result<Freed<T>, Refused<Retired<T>>> {
         // SAFETY: no CPU is given.
         let turned = unsafe { self.shared.turn(None, &self.entry) };
         self.after(turned.map_err(Met::refusal))
     }
 
-    /// Makes turns until it is freed: `psref_target_destroy`, `localcount_drain`. Nobody holds it then, now or later, and what it carried comes
-    /// back. After each turn the CPU has seen every change so far.
+    /// Makes turns until it is freed: `psref_target_destroy`, `localcount_drain`. Then nothing holds it, now or later, and what it carried is returned.
+    /// After each turn the CPU has seen every change so far.
     ///
-    /// What this CPU itself holds the entry by, nobody can let go while this thread waits: then the call makes one turn and no more, with any
-    /// patience. It can't see a local reference that this thread keeps without a guard, nor a section of this thread on another CPU: with
-    /// [`Patience::Forever`] it waits for these for ever.
+    /// If this CPU itself holds the entry, nothing can release it while this thread waits. The call then makes only one turn, with any patience. It
+    /// can't see a local reference that this thread keeps without a guard, or a section of this thread on another CPU. With [`Patience::Forever`] it
+    /// waits for these for ever.
     ///
     /// ```
     /// use registry::{Holder, Kind, Name, Patience, PassiveRef, Refusal, Registry, Settings};
@@ -90,7 +90,8 @@ impl<T> Retired<T> {
     ///
     /// # Errors
     ///
-    /// `OtherRegistry`; `Inside`; `StillHeld` with what this CPU itself holds the entry by, else with what the last turn met. It comes back.
+    /// `OtherRegistry`, `Inside`, `StillHeld` with what this CPU itself holds the entry by, otherwise with what the last turn met. The `Retired` is
+    /// returned.
     pub fn destroy(self, cpu: &Cpu<T>, patience: Patience) -> Result<Freed<T>, Refused<Retired<T>>> {
         let done = self.destroy_by(cpu, patience);
         self.after(done)
@@ -127,8 +128,8 @@ impl<T> Retired<T> {
         }
     }
 
-    /// Leaves it to later changes, as dropping it does: each of them, and [`Registry::collect`], frees what nobody holds any more, the oldest
-    /// first, and drops what it carried.
+    /// Leaves it to later changes, as dropping it does. Each of them, and [`Registry::collect`], frees the entries that nothing holds any more, the
+    /// oldest first, and drops what they carried.
     pub fn defer(self) {}
 }
 

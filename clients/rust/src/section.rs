@@ -13,7 +13,7 @@ use core::fmt;
 use core::marker::PhantomData;
 use core::ops::Deref;
 
-/// An open section, or one nesting of it: what is found in it keeps its slot, and what it carries, while it is open. Dropping it exits.
+/// An open section, or one nesting of it. An entry that is found in it keeps its slot and its value while it is open. Dropping it exits.
 ///
 /// It stays with its thread, so it isn't held across an `.await` of a future that may move to another.
 ///
@@ -42,7 +42,11 @@ impl<'cpu, T> Section<'cpu, T> {
         Section { cpu }
     }
 
-    /// Looks a live entry up. It takes no lock, waits for nobody, and writes no word that others write.
+    /// Looks a live entry up. It takes no lock, waits for no other thread, and writes no word that other CPUs write.
+    ///
+    /// The result is what the registry had at one moment between the call's first load and its last, however long the section has been open. So the call
+    /// finds an entry whose attach returned before it began, unless that entry is detached meanwhile. It doesn't find an entry whose detach returned
+    /// before it began.
     ///
     /// What was found can't be used past the section. Any number of entries may be in use at once.
     #[inline]
@@ -51,11 +55,11 @@ impl<'cpu, T> Section<'cpu, T> {
         look_up(self.cpu, kind.number(), &name.words)
     }
 
-    /// All live entries, the newest first. It takes no lock, waits for nobody, writes no word that others write, and takes no memory of the
-    /// heap.
+    /// All live entries, the newest first. It takes no lock, waits for no other thread, writes no word that other CPUs write, and allocates no memory.
     ///
-    /// Each entry that is live from the start of the call to its end is there, once. One that is attached or detached meanwhile may be there
-    /// or not. What was met can't be used past the section.
+    /// The walk covers the time from the last change that this CPU had seen at the call to the last that it has seen at the return. A CPU that enters a
+    /// section has seen all changes so far; nested enters don't count. Each entry that is live for all of that time is there, once. An entry that is
+    /// attached or detached during that time may be there or not. What was met can't be used past the section.
     ///
     /// ```
     /// use registry::{Found, Name, Registry, Settings};
@@ -118,8 +122,8 @@ impl<T> fmt::Debug for Section<'_, T> {
     }
 }
 
-/// An entry that was found in a section, by a lookup or a walk, for as long as the section is open. It derefs to what the entry carries. Whoever
-/// needs it longer acquires a reference.
+/// An entry that was found in a section, by a lookup or a walk, for as long as the section is open. It derefs to what the entry carries. To use the
+/// entry longer, acquire a reference.
 ///
 /// All its functions are called by the type's name, so that none hides a method of `T`.
 ///
@@ -170,13 +174,13 @@ impl<'section, 'cpu, T> Found<'section, 'cpu, T> {
         unsafe { found.record.value() }
     }
 
-    /// Acquires a passive reference: the entry keeps its slot until it is released, and it can't leave the CPU. `psref_acquire`.
+    /// Acquires a passive reference: `psref_acquire`. The entry keeps its slot until the reference is released. The reference can't leave the CPU.
     ///
-    /// Where this CPU has looked up something else since it found the entry, it is looked up once more, unless the CPU has a reference to it.
+    /// If this CPU has looked up something else since it found the entry, it looks the entry up once more, unless it has a reference to it.
     ///
     /// # Errors
     ///
-    /// `NotFound` where this CPU has looked up something else since and the entry was detached; `PassiveFull`.
+    /// `NotFound` if this CPU has looked up something else since and the entry was detached, `PassiveFull`.
     #[inline]
     pub fn acquire(found: &Self) -> Result<PassiveRef<'cpu, T>, Refusal> {
         if found.is_last() {
@@ -190,14 +194,14 @@ impl<'section, 'cpu, T> Found<'section, 'cpu, T> {
         Ok(PassiveRef::new(found.cpu, found.record))
     }
 
-    /// Acquires a local reference: the entry keeps its slot until it is released, on any CPU of the registry. `localcount_acquire`. It takes
-    /// no lock, unless references that were dropped are released by it.
+    /// Acquires a local reference: `localcount_acquire`. The entry keeps its slot until the reference is released, on any CPU of the registry. The call
+    /// takes no lock, unless it releases references that were dropped.
     ///
-    /// Where this CPU has looked up something else since it found the entry, it is looked up once more.
+    /// If this CPU has looked up something else since it found the entry, it looks the entry up once more.
     ///
     /// # Errors
     ///
-    /// `NotFound` where this CPU has looked up something else since and the entry was detached; `LocalFull`, `NoMemory`.
+    /// `NotFound` if this CPU has looked up something else since and the entry was detached, `LocalFull`, `NoMemory`.
     // Inlined, the reference is never moved as a whole.
     #[inline(always)]
     pub fn acquire_local(found: &Self) -> Result<LocalRef<T>, Refusal> {

@@ -1,8 +1,8 @@
-//! How large a registry is.
+//! The size of a registry.
 
 use crate::ffi;
 
-/// How large a registry is, and how far its counts may go. Each method sets one limit and returns the settings.
+/// The size of a registry, and the limits of its counts. Each method sets one limit and returns the settings.
 ///
 /// ```
 /// use registry::{Registry, Settings};
@@ -40,7 +40,7 @@ macro_rules! limit {
 }
 
 impl Settings {
-    /// So many CPUs and slots, and all limits as far as they go. [`Registry::open`](crate::Registry::open) judges them.
+    /// This many CPUs and slots, and the largest limits. [`Registry::open`](crate::Registry::open) checks them.
     #[must_use]
     pub const fn new(cpus: u8, slots: u8) -> Settings {
         Settings {
@@ -54,15 +54,15 @@ impl Settings {
     }
 
     limit! {
-        /// At most so many attaches and detaches in all.
+        /// At most this many attaches and detaches in all.
         changes
     }
     limit! {
-        /// At most so many outermost sections of each CPU.
+        /// At most this many outermost sections of each CPU.
         sections
     }
     limit! {
-        /// At most so many passive references of each CPU to an entry.
+        /// At most this many passive references of each CPU to an entry.
         passives
     }
     limit! {

@@ -62,7 +62,7 @@ impl<T> Kept<T> {
     unsafe fn turn(&mut self, cpu: Option<*mut ffi::Cpu>, number: u64) -> Met {
         let mut stage = ffi::Stage::default();
         let answer = match cpu {
-            // SAFETY: the keeper is locked, the caller sees to the CPU, both are of one registry, and their handles aren't empty.
+            // SAFETY: the keeper is locked, the caller upholds the contract for the CPU, both are of one registry, and their handles aren't empty.
             Some(cpu) => unsafe { ffi::registry_destroy(&mut self.keeper, cpu, number, &mut stage) },
             // SAFETY: as above, without a CPU.
             None => unsafe { ffi::registry_advance(&mut self.keeper, number, &mut stage) },
@@ -79,9 +79,9 @@ impl<T> Kept<T> {
         let place = self.rows.iter().position(|row| row.0.number == number);
         let (entry, carried) = self.rows.swap_remove(place.expect("a row of each entry that isn't freed"));
         self.deferred.retain(|other| other.number != number);
-        // SAFETY: registry.h says of FREED and of a destroy that is done: "no section may hold it, no passive and no local reference to it is
-        // held, and no slot keeps it, on whatever CPU, now or later". Each reference of Rust to the value lives as long as one of these. The
-        // number is never given again, and its row is gone, so this is the only time.
+        // SAFETY: registry.h says of FREED and of a destroy that is done: "on every CPU, now and later: no section may hold it, no passive and no local
+        // reference to it is held, and no slot keeps it". Each reference of Rust to the value lives as long as one of these. The number is never
+        // reused, and its row is gone, so this is the only time.
         let value = unsafe { carried.take() };
         Freed { entry, value }
     }
@@ -143,7 +143,7 @@ impl<T> Shared<T> {
     #[inline]
     pub unsafe fn turn(&self, cpu: Option<*mut ffi::Cpu>, entry: &Entry) -> Result<Freed<T>, Met> {
         let mut kept = self.kept();
-        // SAFETY: the caller sees to the CPU.
+        // SAFETY: the caller upholds the contract for the CPU.
         let mut met = unsafe { kept.turn(cpu, entry.number) };
         if met.is_local() && self.give_up_dropped(&mut kept.keeper, usize::from(entry.slot)) {
             // SAFETY: as above.
@@ -225,7 +225,7 @@ impl<T> Shared<T> {
     /// doesn't hold the interlock.
     #[inline]
     pub unsafe fn release_local(&self, handle: *mut ffi::Cpu, of: u8, slot: usize, mut local: ffi::Local) {
-        // SAFETY: the caller sees to both handles.
+        // SAFETY: the caller upholds the contract for both handles.
         if unsafe { ffi::registry_local_release(handle, &mut local) } != ffi::DONE {
             // SAFETY: the keeper is locked, and of the reference's registry.
             unsafe { ffi::registry_local_give_up(&mut self.kept().keeper, &mut local) };
@@ -244,7 +244,7 @@ impl<T> Shared<T> {
         let mut released = 0;
         while released < most {
             match self.baskets.take(of) {
-                // SAFETY: the caller sees to the CPU, and what lies in this registry's baskets is of it.
+                // SAFETY: the caller upholds the contract for the CPU, and what lies in this registry's baskets is of it.
                 Some((slot, local)) => unsafe { self.release_local(handle, of, slot, local) },
                 None => break,
             }
@@ -261,7 +261,7 @@ impl<T> Shared<T> {
     pub unsafe fn release_dropped(&self, handle: *mut ffi::Cpu, own: u8, most: usize) {
         let mut left = most;
         for of in self.baskets.filled_from(own) {
-            // SAFETY: the caller sees to the CPU.
+            // SAFETY: the caller upholds the contract for the CPU.
             left -= unsafe { self.release_of(handle, of, left) };
         }
     }
@@ -278,7 +278,7 @@ impl<T> Shared<T> {
             .find_map(|of| Some((of, self.baskets.take_of(of, slot)?)));
         match found {
             Some((of, local)) => {
-                // SAFETY: the caller sees to the CPU, and what lies in this registry's baskets is of it.
+                // SAFETY: the caller upholds the contract for the CPU, and what lies in this registry's baskets is of it.
                 unsafe { self.release_local(handle, of, slot, local) };
                 true
             }
@@ -306,8 +306,8 @@ impl<T> Shared<T> {
                 Some(local) => local,
                 None => break,
             };
-            // SAFETY: the caller holds the interlock of this registry, of which all are that lie in its baskets; this is the only use of the
-            // reference's handle.
+            // SAFETY: the caller holds the interlock of this registry. All references in its baskets are of this registry. This is the only use
+            // of the reference's handle.
             unsafe { ffi::registry_local_give_up(keeper, &mut local) };
             if !local.is_empty() {
                 self.baskets.lay(of, slot, local);
@@ -323,7 +323,7 @@ impl<T> Drop for Shared<T> {
     /// Closes the registry, and drops what its entries carry. Nobody has a handle of it by now, since each has a share of it: not even a
     /// forgotten one. All CPUs are spare.
     ///
-    /// What an entry carries to which a passive reference was forgotten isn't dropped: it stays held.
+    /// If a passive reference to an entry was forgotten, the entry stays held and its value isn't dropped.
     fn drop(&mut self) {
         let mut spare = mem::replace(&mut *locked(&self.spare), NO_CPUS);
         if let Some(cpu) = spare.iter_mut().find(|cpu| !cpu.is_empty()) {
@@ -354,7 +354,7 @@ impl<T> Drop for Shared<T> {
 /// Whether a CPU that nobody has holds a passive reference to the entry with that number.
 fn holds(cpu: &mut ffi::Cpu, number: u64) -> bool {
     let mut held = false;
-    // SAFETY: the caller alone has the CPU. Of an empty handle the call says so, and writes nothing.
+    // SAFETY: the caller alone has the CPU. With an empty handle the call returns an error, and writes nothing.
     unsafe { ffi::registry_held(cpu, number, &mut held) };
     held
 }

@@ -41,7 +41,7 @@ impl<T> Cpu<T> {
         Ok(PassiveRef::new(self, self.get_record(kind, name)?))
     }
 
-    /// The same reference, which owns a share of its CPU: a struct may own both.
+    /// The same reference, which co-owns its CPU: a struct may own both.
     ///
     /// ```
     /// use registry::{Cpu, Kind, Name, PassiveRc, Registry, Settings};
@@ -106,7 +106,7 @@ impl<T> Cpu<T> {
     ///
     /// # Errors
     ///
-    /// `TooDeep`, `SectionsSpent`, `NotFound`: the CPU is as deep inside then as before.
+    /// `TooDeep`, `SectionsSpent`, `NotFound`. The CPU is then as deep inside as before.
     #[inline]
     pub fn read(&self, kind: Kind, name: &Name) -> Result<ReadGuard<'_, T>, Refusal> {
         // SAFETY: this thread alone has the CPU, whose handle isn't empty.
@@ -118,9 +118,9 @@ impl<T> Cpu<T> {
         })
     }
 
-    /// The live entry with this kind and name, by one call: what [`enter`](Cpu::enter), [`find`](crate::Section::find) and
-    /// [`exit`](crate::Section::exit) give together. The entry was live at some point during the call, and nothing holds it afterwards: so its
-    /// record is all that is returned, and not what it carries.
+    /// The record of the live entry with this kind and name, by one call: what [`enter`](Cpu::enter), [`find`](crate::Section::find) and
+    /// [`exit`](crate::Section::exit) give together. The result is what the registry had at one moment during the call. Nothing holds the entry afterwards,
+    /// so the call returns the record alone, and not what the entry carries.
     ///
     /// ```
     /// use registry::{Kind, Name, Refusal, Registry, Settings};
@@ -169,10 +169,10 @@ impl<T> Cpu<T> {
     }
 }
 
-/// An entry together with the section in which it was found: [`Cpu::read`] returns it. It derefs to what the entry carries, and dropping it
-/// exits. The entry keeps its slot, and what it carries, until then. Whoever needs it longer acquires a reference.
+/// An entry together with the section in which it was found: [`Cpu::read`] returns it. It derefs to what the entry carries, and dropping it exits. The
+/// entry keeps its slot and its value until then. To use the entry longer, acquire a reference.
 ///
-/// It stays with its thread, as a [`Section`] does. One that is forgotten leaves its section open, as a forgotten [`Section`] does.
+/// It stays with its thread, as a [`Section`] does. If it is forgotten, its section stays open, as with a forgotten [`Section`].
 ///
 /// All its functions are called by the type's name, so that none hides a method of `T`.
 ///
@@ -217,7 +217,7 @@ impl<'cpu, T> ReadGuard<'cpu, T> {
     ///
     /// # Errors
     ///
-    /// As of [`Found::acquire`]: `NotFound`, `PassiveFull`.
+    /// As for [`Found::acquire`]: `NotFound`, `PassiveFull`.
     #[inline]
     pub fn acquire(guard: &Self) -> Result<PassiveRef<'cpu, T>, Refusal> {
         Found::acquire(&guard.found)
@@ -227,7 +227,7 @@ impl<'cpu, T> ReadGuard<'cpu, T> {
     ///
     /// # Errors
     ///
-    /// As of [`Found::acquire_local`]: `NotFound`, `LocalFull`, `NoMemory`.
+    /// As for [`Found::acquire_local`]: `NotFound`, `LocalFull`, `NoMemory`.
     #[inline]
     pub fn acquire_local(guard: &Self) -> Result<LocalRef<T>, Refusal> {
         Found::acquire_local(&guard.found)

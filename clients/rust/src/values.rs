@@ -83,7 +83,7 @@ pub enum Holder {
     Grace(u8),
     /// This CPU has a passive reference to it.
     Passive(u8),
-    /// So many local references to it are held. Those that interfaces keep count, and so do those that were dropped and aren't released yet.
+    /// This many local references to it are held. It includes those that interfaces keep, and those that were dropped and aren't released yet.
     Local(u64),
 }
 
@@ -141,13 +141,13 @@ impl Holder {
     }
 }
 
-/// An entry that is gone for good: nobody holds it, now or later, and its slot is vacant. What it carried is its owner's again.
+/// An entry that is gone permanently: nothing holds it, now or later, and its slot is vacant. What it carried belongs to its owner again.
 #[derive(Clone, Copy, Debug, PartialEq, Eq, Hash)]
 #[non_exhaustive]
 pub struct Freed<T> {
     /// The entry as it was attached.
     pub entry: Entry,
-    /// What it carried. Whoever doesn't want it drops it.
+    /// What it carried.
     pub value: T,
 }
 
@@ -157,7 +157,7 @@ impl<T> fmt::Display for Freed<T> {
     }
 }
 
-/// What the counts say of the local references to a live or retired entry.
+/// The counts of the local references to a live or retired entry.
 #[derive(Clone, Debug, PartialEq, Eq, Hash)]
 #[non_exhaustive]
 pub struct Balance {
@@ -165,11 +165,11 @@ pub struct Balance {
     pub number: u64,
     /// The entry's.
     pub slot: u8,
-    /// How many are held: the sum of `locals` and `total`.
+    /// The number held: the sum of `locals` and `total`.
     pub held: i64,
     /// Of each CPU, in order: 0 once collected.
     pub locals: Vec<i64>,
-    /// What was collected, less what was given up under the interlock.
+    /// What was collected less what was given up under the interlock.
     pub total: i64,
 }
 
