@@ -1,4 +1,4 @@
-use Rattle.registry_values.specs.declared.settings.TheConstants.{MOST_CPUS}
+use Rattle.registry_values.specs.declared.limits.TheConstants.{MOST_CPUS}
 use Rattle.call_tests.proofs.tests.sizes.a_wait_of_many_turns.Given as goal
 
 -- the registry that was just made
