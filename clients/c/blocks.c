@@ -185,7 +185,7 @@ static void read_and_refer(void)
 	struct registry_entry row[SLOTS];
 	size_t count;
 	bool flag;
-	PLAIN(REGISTRY_DONE, registry_name_parse((const uint8_t *)"wm", 2, &wm, &number));
+	PLAIN(REGISTRY_DONE, registry_name_parse("wm", 2, &wm, &number));
 	PLAIN(REGISTRY_DONE, registry_attach(&keeper, &cpus[0], &wm, 7, &entry));
 	PLAIN(REGISTRY_NAME_TAKEN, registry_attach(&keeper, &cpus[0], &wm, 7, &entry));
 	PLAIN(REGISTRY_DONE, registry_look_up(&cpus[0], REGISTRY_DRIVER, &wm, &entry));
