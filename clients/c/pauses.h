@@ -6,6 +6,6 @@
 
 void pause_seen(void);
 
-#define __builtin_ia32_pause pause_seen
+#define SPIN_PAUSE pause_seen
 
 #endif

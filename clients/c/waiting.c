@@ -56,16 +56,21 @@ static int64_t time_left(const struct timespec *deadline, int64_t most)
 	return left < most ? left : most;
 }
 
-/* Tells the processor that this thread spins, so many times. */
+/* Tells the processor that this thread spins. A test may define its own. */
+#ifndef SPIN_PAUSE
+#if defined(__x86_64__)
+#define SPIN_PAUSE() __builtin_ia32_pause()
+#elif defined(__aarch64__)
+#define SPIN_PAUSE() __asm__ volatile("isb")
+#else
+#define SPIN_PAUSE() ((void)0)
+#endif
+#endif
+
 static void spin(unsigned times)
 {
-	for (unsigned i = 0; i < times; i++) {
-#if defined(__x86_64__)
-		__builtin_ia32_pause();
-#elif defined(__aarch64__)
-		__asm__ volatile("isb");
-#endif
-	}
+	for (unsigned i = 0; i < times; i++)
+		SPIN_PAUSE();
 }
 
 /* Lets time pass between two turns, the more the more turns there were. False where the deadline has passed: there is no next turn. */
