@@ -20,6 +20,7 @@ sys.exit(gate(
         Part("limits", "tools/check-limits.py"),
         Part("imports", "tools/check-imports.py"),
         Part("table of the events", "tools/event-table.py check"),
+        Part("pages of the headers", "tools/header-pages.py check"),
     ],
     # Every proof and test of the crates, from nothing.
     [Part("rt ci, and the archive", "tools/archive-beside.py rt ci")],

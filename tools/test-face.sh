@@ -34,21 +34,9 @@ declared() {
     clients/calls-of.sh "$header"
 }
 
-# The page names each call of the header, and no other.
-page_names() {
-    diff <(declared) <(grep -E '^\.Nm registry_' "$page" | awk '{ print $2 }' | sort)
-}
-
-# same_parameters HEADER PAGE: the page gives each call the parameters that the header gives it.
-same_parameters() {
-    tools/face-page.py header "$1" >"$log.wanted" && tools/face-page.py page "$2" >"$log.said" && [ -s "$log.wanted" ] &&
-        diff "$log.wanted" "$log.said"
-}
-
-# The page of the waits names each call of their header, and no other.
-waiting_names() {
-    diff <(tools/face-page.py header clients/c/waiting.h | grep -oE 'registry_[a-z_]+\(' | tr -d '(' | sort) \
-        <(grep -E '^\.Nm registry_' clients/man/registry_waiting.3 | awk '{ print $2 }' | sort)
+# names HEADER PAGE: the page names each call of the header, and no other.
+names() {
+    diff <(clients/calls-of.sh "$1") <(grep -E '^\.Nm registry_' "$2" | awk '{ print $2 }' | sort)
 }
 
 page_lints() {
@@ -159,11 +147,8 @@ catches() {
 
 test_page() {
     check "the page: mandoc -T lint says nothing" page_lints
-    check "the page names the header's calls" page_names
-    check "the page has the header's parameters" same_parameters "$header" "$page"
-    check "the page of the waits names their calls" waiting_names
-    check "the page of the waits has their parameters" same_parameters clients/c/waiting.h clients/man/registry_waiting.3
-    check "the page's examples stand in a client" tools/face-page.py examples "$page" clients/c/*.c
+    check "the page names the header's calls" names "$header" "$page"
+    check "the page of the waits names their calls" names clients/c/waiting.h clients/man/registry_waiting.3
     check "the header alone, in four C standards" header_alone
     check "an answer that has to be looked at, and isn't, is warned of" warned unused-result '(void)entry; registry_enter(cpu);'
     check "a reference that isn't looked at is warned of" warned unused-result 'registry_acquire_entry(cpu, entry);'

@@ -89,7 +89,7 @@ static void check_string(registry_answer answer)
 	const char *string = registry_strerror(answer);
 	size_t length = registry_text(answer, told, sizeof told);
 	EXPECT(length < sizeof told && string == registry_strerror(answer));
-	EXPECT(strcmp(string, length > 0 ? told : "no call answers this") == 0);
+	EXPECT(strcmp(string, length > 0 ? told : "no call returns this") == 0);
 }
 
 int main(void)

@@ -42,7 +42,7 @@ static const char *const TEXTS[] = {
 const char *registry_strerror(registry_answer answer)
 {
 	const char *text = answer < sizeof TEXTS / sizeof TEXTS[0] ? TEXTS[answer] : NULL;
-	return text != NULL ? text : "no call answers this";
+	return text != NULL ? text : "no call returns this";
 }
 
 /* Writes the bytes of both words, and returns how many come before the first zero. */

@@ -1,54 +1,5 @@
-"""Faults of the face for C: tools/frames.py, tools/face-page.py and tools/atomics.py."""
+"""Faults of the archive for C: tools/frames.py and tools/atomics.py."""
 from .trees import Case, Fault
-
-HEADER = """/* registry_none(void); */
-uint32_t registry_open(struct registry *it, uint64_t cpus);
-struct registry_entry registry_find(const char *name,
-    size_t length);
-const char *registry_strerror(const struct registry *it)
-    REGISTRY_NONNULL(1) REGISTRY_CHECKED;
-"""
-PAGE = """.Sh NAME
-.Sh SYNOPSIS
-.Ft uint32_t
-.Fn registry_open "struct registry *it" "uint64_t cpus"
-.Ft "struct registry_entry"
-.Fo registry_find
-.Fa "const char *name"
-.Fa "size_t length"
-.Fc
-.Ft "const char *"
-.Fn registry_strerror "const struct registry *it"
-.Sh DESCRIPTION
-.Bd -literal
-int opened = 1;
-.Ed
-"""
-# What tools/test-face.sh does with it: the page and the header are compared.
-COMPARED = """#!/bin/sh
-tools/face-page.py header registry.h >header.said && tools/face-page.py page registry.3 >page.said && [ -s header.said ] && diff header.said page.said
-"""
-
-
-def faces():
-    tree = {"registry.h": HEADER, "registry.3": PAGE, "client.c": "int opened = 1;\n", "compare": COMPARED}
-    faults = (
-        Fault("another type of a parameter", "uint64_t cpus", (("registry.3", "uint64_t cpus", "uint32_t cpus"),)),
-        Fault("another name of a parameter", "size_t length", (("registry.3", "size_t length", "size_t size"),)),
-        Fault("another type of the result", "uint32_t registry_open", (("registry.3", ".Ft uint32_t", ".Ft int"),)),
-        Fault("a parameter less", "registry_find", (("registry.3", '.Fa "size_t length"\n', ""),)),
-        Fault("a parameter more in the header", "registry_open", (("registry.h", "uint64_t cpus)", "uint64_t cpus, int more)"),)),
-        Fault("a call that the page hasn't", "registry_open", (("registry.3", '.Ft uint32_t\n.Fn registry_open "struct registry *it" "uint64_t cpus"\n', ""),)),
-        Fault("a parameter of a call with attributes", "registry_strerror", (("registry.h", "const struct registry *it)", "struct registry *it)"),)),
-        Fault("a call that the header hasn't", "registry_find", (("registry.h", "struct registry_entry registry_find", "// struct registry_entry find"),)),
-    )
-    yield Case("face-page", ["face-page.py"], tree, ["./compare"], faults, counts=False)
-    strayed = (
-        Fault("an example of no source", "int opened = 1;", (("client.c", "opened", "closed"),)),
-        Fault("a second example of no source", "int more;", (("registry.3", ".Ed\n", ".Ed\n.Bd -literal -offset indent\nint more;\n.Ed\n"),)),
-    )
-    yield Case("face-page, examples", ["face-page.py"], tree, ["tools/face-page.py", "examples", "registry.3", "client.c"], strayed, counts=False)
-
 
 LIBRARY = """
 #include <stdlib.h>
@@ -130,4 +81,4 @@ def atomics():
 
 
 def cases():
-    return [*faces(), *frames(), *atomics()]
+    return [*frames(), *atomics()]

@@ -123,26 +123,26 @@ extern "C" {
 typedef uint32_t registry_answer;
 
 enum {
-	REGISTRY_DONE = 0,
-	REGISTRY_NO_MEMORY = 1,
-	REGISTRY_BAD_SETTINGS = 2,
-	REGISTRY_NAME_TAKEN = 3,
-	REGISTRY_NO_SLOT = 4,
-	REGISTRY_HISTORY_FULL = 5,
-	REGISTRY_NOT_FOUND = 6,
-	REGISTRY_INSIDE = 7,
-	REGISTRY_SECTIONS_SPENT = 8,
-	REGISTRY_NOTHING_FOUND = 9,
-	REGISTRY_PASSIVE_FULL = 10,
+	REGISTRY_DONE = 0,		/* the call has done what it says. */
+	REGISTRY_NO_MEMORY = 1,		/* memory ran out. */
+	REGISTRY_BAD_SETTINGS = 2,	/* a setting is out of its range. */
+	REGISTRY_NAME_TAKEN = 3,	/* a live entry has this kind and name. */
+	REGISTRY_NO_SLOT = 4,		/* no slot is vacant. */
+	REGISTRY_HISTORY_FULL = 5,	/* the history has no room for this attach and the detaches to come. */
+	REGISTRY_NOT_FOUND = 6,		/* no live entry has this kind and name. */
+	REGISTRY_INSIDE = 7,		/* the CPU is inside a section. */
+	REGISTRY_SECTIONS_SPENT = 8,	/* the CPU has begun as many sections as it may. */
+	REGISTRY_NOTHING_FOUND = 9,	/* the CPU has no last found entry. */
+	REGISTRY_PASSIVE_FULL = 10,	/* the CPU has as many passive references to the entry as it may. */
 	REGISTRY_WRONG_CPU = 11,	/* no call here returns it: a passive reference is a number. */
-	REGISTRY_NOT_HELD = 12,
-	REGISTRY_LOCAL_FULL = 13,
-	REGISTRY_NOT_RETIRED = 14,
-	REGISTRY_MISSING_CPU = 15,
-	REGISTRY_STILL_HELD = 16,
-	REGISTRY_WAITING = 17,
-	REGISTRY_TOO_DEEP = 18,
-	REGISTRY_NEEDS_DRIVER = 19,
+	REGISTRY_NOT_HELD = 12,		/* the CPU holds no passive reference to that entry. */
+	REGISTRY_LOCAL_FULL = 13,	/* the CPU's net count of local references to the entry is at its limit. */
+	REGISTRY_NOT_RETIRED = 14,	/* no retired entry has this number. */
+	REGISTRY_MISSING_CPU = 15,	/* the CPUs are not all CPUs in their order. */
+	REGISTRY_STILL_HELD = 16,	/* the entry is still held. */
+	REGISTRY_WAITING = 17,		/* a CPU is still inside its section. */
+	REGISTRY_TOO_DEEP = 18,		/* the section is nested as deep as it may be. */
+	REGISTRY_NEEDS_DRIVER = 19,	/* an interface needs a reference to a driver. */
 
 	REGISTRY_OUTSIDE = 64,		/* the CPU is outside any section. */
 	REGISTRY_EMPTY_HANDLE = 65,	/* a handle is empty that must not be. */
@@ -194,17 +194,19 @@ struct registry_settings {
 	uint64_t count_limit;	/* each CPU's net count of local references to an entry: 1 to 2^40 */
 };
 
+/* An entry, as a call writes it. */
 struct registry_entry {
-	uint64_t number;
-	uint64_t slot;
-	uint64_t kind;
+	uint64_t number;	/* from 1, never reused */
+	uint64_t slot;		/* from 0, reused once the entry is destroyed */
+	uint64_t kind;		/* REGISTRY_INTERFACE or REGISTRY_DRIVER */
 	struct registry_name name;
-	uint64_t value;
+	uint64_t value;		/* what its attacher gave. The registry never looks at it. */
 };
 
+/* How far the destruction of a retired entry has come. */
 struct registry_stage {
-	uint64_t stage;
-	uint64_t what;
+	uint64_t stage;		/* REGISTRY_GRACE, REGISTRY_PASSIVE, REGISTRY_LOCAL or REGISTRY_FREED */
+	uint64_t what;		/* a CPU, a number of references, or a slot */
 };
 
 /* The counts of the local references to a live or retired entry. */
@@ -251,7 +253,7 @@ size_t registry_text(registry_answer answer, char *text, size_t room);
  * registry_strerror - the English text of a result, as a string that is never freed
  *
  * It is the text of registry_text. It is never NULL, and never written to. For a number that no call returns it is "no call
- * answers this". It is C over registry_text: tested, not proved.
+ * returns this". It is C over registry_text: tested, not proved.
  */
 const char *registry_strerror(registry_answer answer);
 
@@ -307,7 +309,7 @@ registry_answer registry_close(struct registry_cpu *cpus, size_t count, struct r
  */
 registry_answer registry_settings_of(const struct registry_keeper *keeper, struct registry_settings *settings) REGISTRY_NONNULL(1);
 
-/* ---- Sections and lookups: pserialize(9). The caller runs on the CPU. ---- */
+/* ---- Sections and lookups. These are the read sections of pserialize(9). The caller runs on the CPU. ---- */
 
 /*
  * registry_enter - enter a section, or nest one more in the open section
@@ -374,7 +376,7 @@ registry_answer registry_find(struct registry_cpu *cpu, uint64_t kind, const str
  */
 registry_answer registry_walk(struct registry_cpu *cpu, struct registry_entry *row, size_t room, size_t *count) REGISTRY_NONNULL(1) REGISTRY_CHECKED;
 
-/* ---- Passive references: psref(9). The caller runs on the CPU. ---- */
+/* ---- Passive references. These are the references of psref(9): cheap, and bound to the CPU that acquired them. The caller runs on the CPU. ---- */
 
 /*
  * registry_acquire - acquire a passive reference to the last found entry, and write its number
@@ -429,7 +431,7 @@ registry_answer registry_read(const struct registry_cpu *cpu, uint64_t number, s
  */
 registry_answer registry_release(struct registry_cpu *cpu, uint64_t number) REGISTRY_NONNULL(1);
 
-/* ---- The usual path in one call, instead of the calls that each names. The caller runs on the CPU. ---- */
+/* ---- The usual path in one call. Each is the calls that it names, in their order. The caller runs on the CPU. ---- */
 
 /*
  * registry_look_up - enter, find and exit: a copy of the live entry with this kind and name
@@ -474,7 +476,7 @@ registry_answer registry_get(struct registry_cpu *cpu, uint64_t kind, const stru
 registry_answer registry_enter_find(struct registry_cpu *cpu, uint64_t kind, const struct registry_name *name, struct registry_entry *found)
     REGISTRY_NONNULL(1) REGISTRY_CHECKED;
 
-/* ---- Local references: localcount(9). The caller runs on the CPU, and holds the local handle. ---- */
+/* ---- Local references. These are the references of localcount(9). The caller runs on the CPU, and holds the local handle. ---- */
 
 /*
  * registry_local_acquire - acquire a local reference to the last found entry

@@ -1,0 +1,252 @@
+#!/usr/bin/env python3
+"""Makes the manual pages of the calls for C from their headers, which alone say what a call does.
+
+    tools/header-pages.py make      writes clients/man/PAGE.3 from clients/man/PAGE.3.in and its header, for each page
+    tools/header-pages.py check     says which page isn't what it would make, and ends with 'N passed, M failed'
+
+A page's frame, PAGE.3.in, is mdoc with lines that stand for parts of the header or of a program:
+
+    @names              .Nm of each call
+    @synopsis           each call as it is declared, by group
+    @section TITLE      the paragraphs under this title, in capitals, in the header's first comment
+    @calls              each group, and what its comments say of its calls
+    @types NAME..       these structs, with what their comments say of their members
+    @constants NAME..   from the enum that begins with NAME: what the comments say of each
+    @example FILE NAME  the function of that name
+
+A comment is in paragraphs and lists of lines that begin with '- '. In it names of calls, constants, `parameters` and other pages are marked up.
+"""
+import pathlib
+import re
+import sys
+import textwrap
+from typing import NamedTuple
+
+sys.dont_write_bytecode = True
+
+from counts import ended
+
+ROOT = pathlib.Path(__file__).resolve().parent.parent
+PAGES = {"registry": "crates/registry_c/include/registry.h", "registry_waiting": "clients/c/waiting.h"}
+WIDTH = 80
+
+GROUP = re.compile(r"/\* ---- (.*?) ---- \*/")
+CALL = re.compile(r"/\*\n \* (registry_\w+) - ((?:(?!\*/).)*)\*/\n([^;{]*);", re.S)
+ATTRIBUTE = re.compile(r"\s+REGISTRY_[A-Z]+(?:\([^)]*\))?")
+DECLARATION = re.compile(r"^(.*?)(registry_\w+)\((.*)\)$", re.S)
+# Words of a comment that have a macro of their own, with the marks before and after them.
+MARKED = re.compile(
+    r"(?P<open>[(\[]?)"
+    r"(?:`(?P<code>[^`]+)`|(?P<zero>\{0\})|(?P<call>registry_\w+)(?!\.h|\(\d\)|\w)|(?P<constant>REGISTRY_[A-Z_]+|NULL|CLOCK_MONOTONIC)\b"
+    r"|(?P<member>[a-z]+->[a-z]+)|(?P<header>registry\w*\.h))"
+    r"(?P<close>[.,:;)]*)(?=\s|$)")
+MACROS = {"code": "Fa", "zero": "Li", "call": "Fn", "constant": "Dv", "member": "Fa", "header": "In"}
+
+
+class Call(NamedTuple):
+    """A call of a header: its name, what its first line says, its comment's other lines, what it returns and its parameters."""
+    name: str
+    summary: str
+    comment: str
+    result: str
+    parameters: list
+
+
+def plain(text):
+    return " ".join(text.split())
+
+
+def uncommented(lines):
+    """The lines of a comment without its stars."""
+    return re.sub(r"^ \*(?: |$)", "", lines, flags=re.M).strip("\n")
+
+
+def call_of(found):
+    name, comment, declared = found.groups()
+    summary, _, rest = uncommented(comment).partition("\n\n")
+    result, _, parameters = DECLARATION.match(plain(ATTRIBUTE.sub("", declared))).groups()
+    return Call(name, plain(summary), rest, result.strip(), [plain(it) for it in parameters.split(",")])
+
+
+def groups_of(header):
+    """Each group of calls: its title, what is said of all of them, and its calls. Calls before the first group have no title."""
+    parts = GROUP.split(header)
+    for title, text in zip([""] + parts[1::2], parts[0::2]):
+        calls = [call_of(it) for it in CALL.finditer(text)]
+        if calls:
+            head, _, rest = title.partition(". ")
+            yield head.rstrip("."), rest, calls
+
+
+def marked_up(sentence):
+    """The lines of a sentence: text is filled, and what has a macro of its own is on a line of its own."""
+    lines, at = [], 0
+    for found in MARKED.finditer(sentence):
+        lines += filled(sentence[at:found.start()])
+        kind = found.lastgroup if found.lastgroup != "close" else next(it for it in MACROS if found[it])
+        lines.append(" ".join(["." + MACROS[kind], *found["open"], found[kind].replace(" ", "\\ "), *found["close"]]))
+        at = found.end()
+    return lines + filled(sentence[at:])
+
+
+def filled(text):
+    """The text in lines of the page's width, none of which is taken for a macro."""
+    lines = textwrap.wrap(plain(text), WIDTH - 1, break_long_words=False, break_on_hyphens=False)
+    return ["\\&" + it if it[0] in ".'" else it for it in lines]
+
+
+def sentences(text):
+    return re.split(r"(?<=[.?!])\s+(?=[A-Z`{(]|registry_)", plain(text))
+
+
+def prose(text):
+    return [line for sentence in sentences(text) if sentence for line in marked_up(sentence)]
+
+
+def blocks(comment):
+    """The paragraphs and list items of a comment, each with whether it is an item."""
+    for paragraph in re.split(r"\n\s*\n|\n(?=Returns )", comment):
+        if paragraph.startswith("- "):
+            yield from ((True, it) for it in re.split(r"\n?^- ", paragraph, flags=re.M) if it)
+        elif paragraph.strip():
+            yield False, paragraph
+
+
+def paragraphs(comment):
+    """A comment as mdoc: paragraphs apart, and lists."""
+    lines, listed = [], False
+    for is_item, text in blocks(comment):
+        if is_item and not listed:
+            lines.append(".Bl -bullet -offset indent -compact")
+        if not is_item:
+            lines += [".El"] * listed + [".Pp"] * bool(lines)
+        lines += [".It"] * is_item + prose(text)
+        listed = is_item
+    return lines + [".El"] * listed
+
+
+def names(header):
+    calls = [call.name for _, _, calls in groups_of(header) for call in calls]
+    return [f".Nm {name}" + " ," * (name != calls[-1]) for name in calls]
+
+
+def quoted(text):
+    return f'"{text}"' if " " in text else text
+
+
+def declared(call):
+    one_line = " ".join([f".Fn {call.name}", *map(quoted, call.parameters)])
+    several = [f".Fo {call.name}", *(f".Fa {quoted(it)}" for it in call.parameters), ".Fc"]
+    return [f".Ft {quoted(call.result)}", *([one_line] if len(one_line) <= WIDTH else several)]
+
+
+def synopsis(header):
+    lines = []
+    for title, _, calls in groups_of(header):
+        lines += [f".Ss {title}"] * bool(title)
+        lines += [line for call in calls for line in declared(call)]
+    return lines
+
+
+def described(call):
+    """What a call's comment says, under its name and its parameters' names."""
+    words = [re.split(r"[ *]+", it)[-1] for it in call.parameters]
+    summary = call.summary if call.summary.startswith("registry_") else call.summary[0].upper() + call.summary[1:]
+    return [" ".join([".It Fn", call.name, *words]), *prose(summary + "."),
+            *[".Pp"] * bool(call.comment), *paragraphs(call.comment)]
+
+
+def calls(header):
+    lines = []
+    for title, common, members in groups_of(header):
+        lines += [f".Ss {title}"] * bool(title) + prose(common) + [".Bl -tag -width Ds"]
+        lines += [line for call in members for line in described(call)]
+        lines.append(".El")
+    return lines
+
+
+def only(form, text):
+    """What has this form in the text."""
+    found = re.search(form, text, re.M | re.S)
+    if not found:
+        raise LookupError
+    return found
+
+
+def section(header, title):
+    return paragraphs(uncommented(only(rf"^ \* {title}\n \*\n(.*?)(?=^ \* [A-Z ]+\n \*\n|^ \*/)", header)[1]))
+
+
+def members(body):
+    """The members of a struct or an enum, each with its comment: the one after it, or the line of comment before it."""
+    for before, member, after in re.findall(r"(?:/\* (.*?) \*/\n\s*)?^\s*(\w[^;\n]*?)[;,]?\s*(?:/\* (.*?) \*/)?$", body, re.M):
+        yield plain(member), before or after
+
+
+def types(header, *chosen):
+    lines = [".Bl -tag -width Ds"]
+    for name in chosen:
+        comment, body = only(rf"/\*((?:(?!\*/).)*)\*/\nstruct {name} {{\n(.*?)^}};", header).groups()
+        lines += [f".It Vt struct {name}", *paragraphs(uncommented(comment).strip()), ".Bl -tag -width Ds -compact"]
+        for member, said in members(body):
+            lines += [".It Vt " + quoted(member), *prose(said)]
+        lines.append(".El")
+    return lines + [".El"]
+
+
+def constants(header, first):
+    body = only(rf"^enum {{\n(\s*{first}\b.*?)^}};", header)[1]
+    lines = [".Bl -tag -width REGISTRY_SECTIONS_SPENT -offset indent -compact"]
+    for member, said in members(body):
+        lines += [f".It Dv {member.split(' = ')[0]}", *prose(said)]
+    return lines + [".El"]
+
+
+def example(_, file, name):
+    found = only(rf"^[^\n]*\b{name}\([^;{{]*\)\n{{\n.*?^}}\n", (ROOT / file).read_text())
+    return [".Bd -literal -offset indent", *found[0].replace("\\", "\\e").splitlines(), ".Ed"]
+
+
+PARTS = {"names": names, "synopsis": synopsis, "calls": calls, "types": types, "constants": constants, "example": example}
+
+
+def part(header, line):
+    """What a line of the frame stands for."""
+    word, *rest = line[1:].split()
+    try:
+        return section(header, " ".join(rest)) if word == "section" else PARTS[word](header, *rest)
+    except (KeyError, LookupError, OSError, TypeError):
+        sys.exit(f"header-pages: '{line}' of the frame names nothing")
+
+
+def made(page):
+    """The page that its frame and its header make."""
+    header = (ROOT / PAGES[page]).read_text()
+    frame = (ROOT / f"clients/man/{page}.3.in").read_text()
+    lines = [f'.\\" Made by tools/header-pages.py from {PAGES[page]} and clients/man/{page}.3.in.']
+    for line in frame.splitlines():
+        lines += part(header, line) if line.startswith("@") else [line]
+    return "\n".join(lines) + "\n"
+
+
+def is_made(page):
+    standing = ROOT / f"clients/man/{page}.3"
+    same = standing.exists() and standing.read_text() == made(page)
+    if not same:
+        print(f"clients/man/{page}.3 isn't what tools/header-pages.py make writes")
+    return same
+
+
+def main():
+    if sys.argv[1:] == ["make"]:
+        for page in PAGES:
+            (ROOT / f"clients/man/{page}.3").write_text(made(page))
+    elif sys.argv[1:] == ["check"]:
+        right = [is_made(page) for page in PAGES]
+        sys.exit(ended(sum(right), len(right) - sum(right)))
+    else:
+        sys.exit(__doc__)
+
+
+if __name__ == "__main__":
+    main()

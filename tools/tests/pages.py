@@ -1,0 +1,133 @@
+"""Faults of the manual pages of the calls for C: tools/header-pages.py."""
+from .trees import Case, Fault
+
+HEADER = """/*
+ * registry.h - a registry
+ *
+ * THE OBJECTS
+ *
+ * A registry is a keeper and its CPUs.
+ */
+
+/* What a call returns. */
+enum {
+	REGISTRY_DONE = 0,	/* the call has done what it says */
+	REGISTRY_NULL = 77	/* a pointer is NULL */
+};
+
+/* How large a registry is. */
+struct registry_settings {
+	uint64_t cpus;	/* 1 to 8 */
+};
+
+/* ---- Opening. Any thread may call these. ---- */
+
+/*
+ * registry_open - make a registry
+ *
+ * `settings` may be NULL.
+ * Returns REGISTRY_DONE.
+ */
+registry_answer registry_open(struct registry *it, const struct registry_settings *settings)
+    REGISTRY_NONNULL(1) REGISTRY_CHECKED;
+"""
+FRAME = """.Sh NAME
+@names
+.Sh SYNOPSIS
+@synopsis
+.Sh DESCRIPTION
+@section THE OBJECTS
+@types registry_settings
+@constants REGISTRY_DONE
+@calls
+.Sh EXAMPLES
+@example clients/c/packet.c opened
+"""
+PACKET = "static int opened(void)\n{\n\treturn 1;\n}\n"
+WAITS = """/*
+ * registry_waits - whether the registry waits: {0} doesn't
+ */
+bool registry_waits(void);
+"""
+MADE = """.\\" Made by tools/header-pages.py from crates/registry_c/include/registry.h and clients/man/registry.3.in.
+.Sh NAME
+.Nm registry_open
+.Sh SYNOPSIS
+.Ss Opening
+.Ft registry_answer
+.Fo registry_open
+.Fa "struct registry *it"
+.Fa "const struct registry_settings *settings"
+.Fc
+.Sh DESCRIPTION
+A registry is a keeper and its CPUs.
+.Bl -tag -width Ds
+.It Vt struct registry_settings
+How large a registry is.
+.Bl -tag -width Ds -compact
+.It Vt "uint64_t cpus"
+1 to 8
+.El
+.El
+.Bl -tag -width REGISTRY_SECTIONS_SPENT -offset indent -compact
+.It Dv REGISTRY_DONE
+the call has done what it says
+.It Dv REGISTRY_NULL
+a pointer is
+.Dv NULL
+.El
+.Ss Opening
+Any thread may call these.
+.Bl -tag -width Ds
+.It Fn registry_open it settings
+Make a registry.
+.Pp
+.Fa settings
+may be
+.Dv NULL .
+.Pp
+Returns
+.Dv REGISTRY_DONE .
+.El
+.Sh EXAMPLES
+.Bd -literal -offset indent
+static int opened(void)
+{
+	return 1;
+}
+.Ed
+"""
+MADE_OF_WAITS = """.\\" Made by tools/header-pages.py from clients/c/waiting.h and clients/man/registry_waiting.3.in.
+.Ft bool
+.Fn registry_waits void
+.Bl -tag -width Ds
+.It Fn registry_waits void
+Whether the registry waits:
+.Li {0}
+doesn't.
+.El
+"""
+PAGE, FACE, CLIENT = "clients/man/registry.3", "crates/registry_c/include/registry.h", "clients/c/packet.c"
+
+
+def cases():
+    tree = {FACE: HEADER, f"{PAGE}.in": FRAME, PAGE: MADE, CLIENT: PACKET,
+            "clients/c/waiting.h": WAITS, "clients/man/registry_waiting.3.in": "@synopsis\n@calls\n", "clients/man/registry_waiting.3": MADE_OF_WAITS}
+    other = f"{PAGE} isn't what tools/header-pages.py make writes"
+    faults = (
+        Fault("another type of a parameter", other, ((FACE, "struct registry *it,", "struct keeper *it,"),)),
+        Fault("another type of the result", other, ((FACE, "registry_answer registry_open", "uint32_t registry_open"),)),
+        Fault("another summary of a call", other, ((FACE, "make a registry", "open a registry"),)),
+        Fault("another error", other, ((FACE, "Returns REGISTRY_DONE.", "Returns REGISTRY_NULL."),)),
+        Fault("another range of a member", other, ((FACE, "1 to 8", "1 to 9"),)),
+        Fault("another text of a constant", other, ((FACE, "a pointer is NULL", "a pointer isn't NULL"),)),
+        Fault("a call more", other, ((FACE, "REGISTRY_CHECKED;\n", "REGISTRY_CHECKED;\n\n/*\n * registry_close - close it\n */\nvoid registry_close(void);\n"),)),
+        Fault("another example", other, ((CLIENT, "return 1", "return 2"),)),
+        Fault("a page that was written by hand", other, ((PAGE, "Make a registry.", "Make a registry, at once."),)),
+        Fault("a page that is gone", other, ((PAGE, MADE, None),)),
+        Fault("an example that is gone", "'@example clients/c/packet.c opened' of the frame names nothing", ((CLIENT, "opened", "closed"),)),
+        Fault("a section that is gone", "'@section THE OBJECTS' of the frame names nothing", ((FACE, "THE OBJECTS", "OBJECTS"),)),
+        Fault("a struct that is gone", "'@types registry_settings' of the frame names nothing", ((FACE, "\nstruct registry_settings {", "\nstruct settings {"),)),
+        Fault("a part that isn't one", "'@call' of the frame names nothing", ((f"{PAGE}.in", "@calls", "@call"),)),
+    )
+    return [Case("header-pages", ["header-pages.py", "counts.py"], tree, ["tools/header-pages.py", "check"], faults)]
