@@ -29,6 +29,8 @@ struct contender {
     operations *lookups;
     /* BATCH of them in a section. */
     operations *batches;
+    /* Each copies the whole list, in a section of its own. */
+    operations *walks;
     operations *passives;
     operations *locals;
     /* Replaces the newest entry: takes it out of the list, waits until nobody can have it, and puts it in again. */
@@ -57,6 +59,11 @@ double nanoseconds_each(const struct contender *contender, operations *make, con
 /* Makes the change so many times, while so many readers enter and leave in threads of their own; the rest of the plan's threads, but for this
    one, sleep. It answers the nanoseconds that one took. A wrong answer to a reader ends the program. */
 double nanoseconds_waited(const struct contender *contender, void (*change)(void), const struct plan *plan, unsigned readers);
+
+/* Prints the percentiles 50, 99 and 99.9 of the nanoseconds of single lookups of the oldest entry, by so many readers, and of single
+   replacements of the newest one meanwhile, of which as many are made as the plan says. The time that the clock takes is within, and is printed
+   beside. A wrong answer to a reader ends the program. */
+void print_spread(const struct contender *contender, const struct plan *plan, unsigned readers);
 
 /* Nanoseconds from some point on. */
 double now(void);

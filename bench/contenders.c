@@ -15,7 +15,7 @@ enum { CONTENDERS = sizeof contenders / sizeof contenders[0] };
 _Noreturn static void usage(void)
 {
     fprintf(stderr, "usage: contenders CONTENDER THREADS ENTRIES OPERATIONS\n"
-                    "       contenders CONTENDER wait CPUS READERS ENTRIES COUNT\ncontenders:");
+                    "       contenders CONTENDER wait|spread CPUS READERS ENTRIES COUNT\ncontenders:");
     for (unsigned i = 0; i < CONTENDERS; i++)
         fprintf(stderr, " %s", contenders[i]->name);
     fprintf(stderr, "\n");
@@ -58,12 +58,22 @@ static void measure_operations(const struct contender *contender, char **words)
     printf("threads %u entries %u", plan.threads, plan.entries);
     measure(contender, "lookup", contender->lookups, &plan);
     measure(contender, "batch", contender->batches, &plan);
+    measure(contender, "walk", contender->walks, &plan);
     measure(contender, "passive", contender->passives, &plan);
     measure(contender, "local", contender->locals, &plan);
     printf("\n");
 }
 
-static void measure_waiting(const struct contender *contender, char **words)
+static void print_waits(const struct contender *contender, const struct plan *plan, unsigned readers)
+{
+    printf("cpus %u readers %u slots %u held 0", plan->threads, readers, plan->entries);
+    printf(" replace %.1f", nanoseconds_waited(contender, contender->replace, plan, readers));
+    printf(" perform %.1f\n", nanoseconds_waited(contender, contender->perform, plan, readers));
+}
+
+/* What is printed of changes beside readers. */
+static void measure_changes(const struct contender *contender, char **words,
+    void (*print)(const struct contender *contender, const struct plan *plan, unsigned readers))
 {
     unsigned cpus = (unsigned)number(words[0], 1, MOST_THREADS);
     unsigned readers = (unsigned)number(words[1], 0, cpus - 1);
@@ -76,9 +86,7 @@ static void measure_waiting(const struct contender *contender, char **words)
     if (contender->replace == NULL)
         fail("it has no such change");
     contender->open(&plan);
-    printf("cpus %u readers %u slots %u held 0", cpus, readers, plan.entries);
-    printf(" replace %.1f", nanoseconds_waited(contender, contender->replace, &plan, readers));
-    printf(" perform %.1f\n", nanoseconds_waited(contender, contender->perform, &plan, readers));
+    print(contender, &plan, readers);
 }
 
 int main(int argc, char **argv)
@@ -86,7 +94,9 @@ int main(int argc, char **argv)
     if (argc == 5)
         measure_operations(named(argv[1]), argv + 2);
     else if (argc == 7 && strcmp(argv[2], "wait") == 0)
-        measure_waiting(named(argv[1]), argv + 3);
+        measure_changes(named(argv[1]), argv + 3, print_waits);
+    else if (argc == 7 && strcmp(argv[2], "spread") == 0)
+        measure_changes(named(argv[1]), argv + 3, print_spread);
     else
         usage();
     return 0;

@@ -25,6 +25,13 @@ struct node {
     uint64_t value;
 };
 
+/* An entry as a walk copies it. */
+struct copied {
+    uint64_t number;
+    struct key key;
+    uint64_t value;
+};
+
 extern struct key keys[MOST_ENTRIES];
 extern unsigned entries;
 extern _Atomic(struct node *) newest;
@@ -58,6 +65,37 @@ INLINE uint64_t listed_value(const struct key *key)
         node = atomic_load_explicit(&node->next, memory_order_acquire);
     }
     return UINT64_MAX;
+}
+
+/* Copies the list to the row, the newest entry first. It answers how many entries it has. */
+INLINE unsigned copy_list(struct copied row[MOST_ENTRIES])
+{
+    const struct node *node = atomic_load_explicit(&newest, memory_order_acquire);
+    unsigned count = 0;
+
+    for (; node != NULL && count < MOST_ENTRIES; count++) {
+        row[count] = (struct copied){ node->number, node->key, node->value };
+        node = atomic_load_explicit(&node->next, memory_order_acquire);
+    }
+    return count;
+}
+
+/* Walks so often. It answers how many walks met all entries, the newest first. */
+INLINE uint64_t in_walks(unsigned thread, uint64_t count, void (*enter)(unsigned thread),
+    unsigned (*walk)(unsigned thread, struct copied row[MOST_ENTRIES]), void (*leave)(unsigned thread))
+{
+    struct copied row[MOST_ENTRIES];
+    uint64_t right = 0;
+
+    for (uint64_t made = 0; made < count; made++) {
+        unsigned met;
+
+        enter(thread);
+        met = walk(thread, row);
+        leave(thread);
+        right += met == entries && row[0].value == entries - 1 && row[met - 1].value == 0;
+    }
+    return right;
 }
 
 /* Looks the entries up in turn. It answers how many lookups answered the entry's value. */
@@ -95,7 +133,8 @@ INLINE uint64_t in_batches(unsigned thread, uint64_t count, void (*enter)(unsign
     return right;
 }
 
-/* Lookups by the functions NAME_enter, NAME_find and NAME_leave of a thread: the functions NAME_lookups and NAME_batches. */
+/* Lookups and walks by the functions NAME_enter, NAME_find, NAME_walk and NAME_leave of a thread: the functions NAME_lookups, NAME_batches and
+   NAME_walks. */
 #define LOOKUPS(NAME) \
     static uint64_t NAME##_look_up(unsigned thread, const struct key *key) \
     { \
@@ -112,9 +151,13 @@ INLINE uint64_t in_batches(unsigned thread, uint64_t count, void (*enter)(unsign
     static uint64_t NAME##_batches(unsigned thread, uint64_t count) \
     { \
         return in_batches(thread, count, NAME##_enter, NAME##_find, NAME##_leave); \
+    } \
+    static uint64_t NAME##_walks(unsigned thread, uint64_t count) \
+    { \
+        return in_walks(thread, count, NAME##_enter, NAME##_walk, NAME##_leave); \
     }
 
-/* Lookups in the list, between the statements ENTER and LEAVE, which may speak of `thread`: the functions NAME_lookups and NAME_batches. */
+/* Lookups in the list, between the statements ENTER and LEAVE, which may speak of `thread`: the same functions. */
 #define LISTED_LOOKUPS(NAME, ENTER, LEAVE) \
     INLINE void NAME##_enter(unsigned thread) \
     { \
@@ -130,6 +173,11 @@ INLINE uint64_t in_batches(unsigned thread, uint64_t count, void (*enter)(unsign
     { \
         (void)thread; \
         return listed_value(key); \
+    } \
+    INLINE unsigned NAME##_walk(unsigned thread, struct copied row[MOST_ENTRIES]) \
+    { \
+        (void)thread; \
+        return copy_list(row); \
     } \
     LOOKUPS(NAME)
 

@@ -38,6 +38,7 @@ const struct contender epoch = {
     .rest = do_nothing,
     .lookups = epoch_lookups,
     .batches = epoch_batches,
+    .walks = epoch_walks,
     .replace = replace,
     .perform = perform,
 };

@@ -89,6 +89,26 @@ INLINE uint64_t find(enum layout layout, const struct key *key)
     return UINT64_MAX;
 }
 
+/* Copies the list, newest first: six loads for each entry. */
+INLINE unsigned walk(enum layout layout, struct copied row[MOST_ENTRIES])
+{
+    uint64_t link = atomic_load(word(layout, HEAD));
+    unsigned count = 0;
+
+    for (; link != 0 && count < MOST_ENTRIES; count++) {
+        uint64_t place = 8 * (link - 1);
+        _Atomic uint64_t *record = word(layout, RECORD + place);
+
+        row[count] = (struct copied){
+            atomic_load(&record[0]),
+            { atomic_load(&record[1]), atomic_load(&record[2]), atomic_load(&record[3]) },
+            atomic_load(&record[4]),
+        };
+        link = atomic_load(word(layout, NEXT + place));
+    }
+    return count;
+}
+
 /* A section is entered and left by the same step. */
 INLINE void turn(enum layout layout, unsigned cpu)
 {
@@ -143,6 +163,11 @@ INLINE uint64_t locals(enum layout layout, unsigned cpu, uint64_t count)
         (void)cpu; \
         return find(LAYOUT, key); \
     } \
+    INLINE unsigned NAME##_walk(unsigned cpu, struct copied row[MOST_ENTRIES]) \
+    { \
+        (void)cpu; \
+        return walk(LAYOUT, row); \
+    } \
     LOOKUPS(NAME) \
     static uint64_t NAME##_passives(unsigned cpu, uint64_t count) \
     { \
@@ -159,6 +184,7 @@ INLINE uint64_t locals(enum layout layout, unsigned cpu, uint64_t count)
         .end = do_nothing, \
         .lookups = NAME##_lookups, \
         .batches = NAME##_batches, \
+        .walks = NAME##_walks, \
         .passives = NAME##_passives, \
         .locals = NAME##_locals, \
     }

@@ -130,6 +130,26 @@ INLINE uint64_t kept_find(unsigned thread, const struct key *key)
     return find(&cpus[thread].cpu, key);
 }
 
+/* Copies the list, newest first: six loads for each entry. */
+INLINE unsigned kept_walk(unsigned thread, struct copied row[MOST_ENTRIES])
+{
+    uint64_t link = atomic_load(word(HEAD));
+    unsigned count = 0;
+
+    for (; link != 0 && count < MOST_ENTRIES; count++) {
+        uint64_t place = 8 * (link - 1);
+
+        row[count] = (struct copied){
+            atomic_load(word(RECORD + place)),
+            { atomic_load(word(RECORD + place + 1)), atomic_load(word(RECORD + place + 2)), atomic_load(word(RECORD + place + 3)) },
+            atomic_load(word(RECORD + place + 4)),
+        };
+        link = atomic_load(word(NEXT + place));
+    }
+    cpus[thread].cpu.found_number = 0;
+    return count;
+}
+
 LOOKUPS(kept)
 
 const struct contender hand_kept = {
@@ -139,4 +159,5 @@ const struct contender hand_kept = {
     .end = do_nothing,
     .lookups = kept_lookups,
     .batches = kept_batches,
+    .walks = kept_walks,
 };

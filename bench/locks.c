@@ -16,6 +16,7 @@ const struct contender rwlock = {
     .end = do_nothing,
     .lookups = rwlock_lookups,
     .batches = rwlock_batches,
+    .walks = rwlock_walks,
 };
 
 const struct contender mutex = {
@@ -25,4 +26,5 @@ const struct contender mutex = {
     .end = do_nothing,
     .lookups = mutex_lookups,
     .batches = mutex_batches,
+    .walks = mutex_walks,
 };

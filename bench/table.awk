@@ -19,7 +19,7 @@ $2 == "threads" {
 }
 
 END {
-    operation_count = split("lookup batch passive local read look_up get", operations, " ")
+    operation_count = split("lookup batch walk passive local read look_up get", operations, " ")
     compare_at_once()
     for (o = 1; o <= operation_count; o++)
         for (l = 1; l <= list_count; l++)
@@ -79,6 +79,7 @@ function list_aims(entries,    o) {
     by_hand("batch", "hand-padded", entries, 1.15)
     by_hand("batch", "hand-pointed", entries, 1.15)
     by_hand("batch", "urcu-memb", entries, 1.25)
+    by_hand("walk", "urcu-memb", entries, 2)
     aim("lookup: pthread_rwlock / ours, " most " threads", time_of("pthread_rwlock", most, entries, "lookup") / ours(most, entries), "at least", most >= 4 ? 8 : 3)
     by_hand("passive", "hand-padded", entries, 1.15)
     by_hand("local", "hand-padded", entries, 1.25)

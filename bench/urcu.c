@@ -45,6 +45,7 @@
         .rest = NAME##_rest, \
         .lookups = NAME##_lookups, \
         .batches = NAME##_batches, \
+        .walks = NAME##_walks, \
         .replace = NAME##_replace, \
         .perform = NAME##_perform, \
     }

@@ -1,7 +1,7 @@
 # Reads lines 'NAME cpus C readers R slots S held H WHAT TIME ..', keeps the least time of each, and prints what changes cost, in
 # microseconds, by how many CPUs there are. The variable `processors` is how many threads can run at once.
 
-$2 == "cpus" {
+$2 == "cpus" && $8 == "held" {
     name = $1
     cpus = $3
     readers = $5

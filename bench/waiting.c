@@ -3,17 +3,27 @@
 
 #include <pthread.h>
 #include <sched.h>
+#include <stdio.h>
+#include <stdlib.h>
 
-/* How many times fewer changes are made before any is timed. */
-enum { WARMING = 10 };
+/* How many times fewer changes are made before any is timed, and the most times that a reader keeps. */
+enum { WARMING = 10, MOST_TIMES = 1000000 };
 
-/* A thread beside the one that makes the changes. It reads all the time, or sleeps. */
+/* A thread beside the one that makes the changes. It reads all the time, or sleeps. It keeps what its last lookups took, where there is room. */
 struct reader {
     const struct contender *contender;
     pthread_t thread;
     unsigned number;
     int reads;
     int wrong;
+    struct times *times;
+};
+
+/* The nanoseconds of single operations, the latest of them where there were more than there is room for. */
+struct times {
+    size_t made;
+    size_t room;
+    float *each;
 };
 
 static _Atomic unsigned come;
@@ -27,6 +37,24 @@ static void read_all(struct reader *reader)
     while (!atomic_load(&over))
         if (reader->contender->lookups(reader->number, entries) + 1 < entries)
             reader->wrong = 1;
+}
+
+static void keep(struct times *times, double took)
+{
+    times->each[times->made++ % times->room] = (float)took;
+}
+
+/* Each lookup is of the oldest entry, which is never replaced. */
+static void time_each(struct reader *reader)
+{
+    while (!atomic_load(&over)) {
+        double began = now();
+        uint64_t right = reader->contender->lookups(reader->number, 1);
+
+        keep(reader->times, now() - began);
+        if (right != 1)
+            reader->wrong = 1;
+    }
 }
 
 static void sleep_until_over(void)
@@ -43,7 +71,9 @@ static void *run_reader(void *argument)
     if (!reader->reads)
         reader->contender->rest(reader->number);
     atomic_fetch_add(&come, 1);
-    if (reader->reads)
+    if (reader->reads && reader->times != NULL)
+        time_each(reader);
+    else if (reader->reads)
         read_all(reader);
     else
         sleep_until_over();
@@ -51,13 +81,14 @@ static void *run_reader(void *argument)
     return NULL;
 }
 
-static void start(struct reader *all, const struct contender *contender, unsigned threads, unsigned readers)
+/* Starts the threads. Each reader keeps its times where there is a place for them. */
+static void start(struct reader *all, const struct contender *contender, unsigned threads, unsigned readers, struct times *times)
 {
     atomic_store(&come, 0);
     atomic_store(&over, 0);
     pthread_mutex_lock(&changing);
     for (unsigned i = 0; i < threads; i++) {
-        all[i] = (struct reader){ .contender = contender, .number = i, .reads = i < readers };
+        all[i] = (struct reader){ .contender = contender, .number = i, .reads = i < readers, .times = times == NULL ? NULL : &times[i] };
         if (pthread_create(&all[i].thread, NULL, run_reader, &all[i]) != 0)
             fail("no thread");
     }
@@ -91,9 +122,94 @@ double nanoseconds_waited(const struct contender *contender, void (*change)(void
     struct reader all[MOST_THREADS];
     double each;
 
-    start(all, contender, plan->threads - 1, readers);
+    start(all, contender, plan->threads - 1, readers, NULL);
     timed(change, plan->operations / WARMING + 1);
     each = timed(change, plan->operations);
     stop(all, plan->threads - 1);
     return each;
+}
+
+static struct times room_for(size_t room)
+{
+    struct times times = { .room = room, .each = malloc(room * sizeof(float)) };
+
+    if (times.each == NULL)
+        fail("out of memory");
+    return times;
+}
+
+static int compare(const void *left, const void *right)
+{
+    float a = *(const float *)left, b = *(const float *)right;
+
+    return (a > b) - (a < b);
+}
+
+/* Prints the percentiles of the times, and frees their room. */
+static void print_percentiles(const char *what, struct times times)
+{
+    size_t count = times.made < times.room ? times.made : times.room;
+
+    qsort(times.each, count, sizeof(float), compare);
+    if (count > 0)
+        printf(" %s_p50 %.0f %s_p99 %.0f %s_p999 %.0f", what, times.each[count / 2], what, times.each[count / 100 * 99], what,
+            times.each[count / 1000 * 999]);
+    free(times.each);
+}
+
+/* What the clock itself takes, at least. */
+static double clock_takes(void)
+{
+    double least = 1e9;
+
+    for (unsigned i = 0; i < 1000; i++) {
+        double took = now();
+
+        took = now() - took;
+        least = took < least ? took : least;
+    }
+    return least;
+}
+
+/* All readers' times in one. */
+static struct times together(const struct times *times, unsigned readers)
+{
+    struct times all = room_for((size_t)MOST_TIMES * (readers + 1));
+
+    for (unsigned i = 0; i < readers; i++) {
+        size_t count = times[i].made < times[i].room ? times[i].made : times[i].room;
+
+        for (size_t k = 0; k < count; k++)
+            keep(&all, times[i].each[k]);
+        free(times[i].each);
+    }
+    return all;
+}
+
+static void time_changes(const struct contender *contender, uint64_t count, struct times *times)
+{
+    for (uint64_t made = 0; made < count; made++) {
+        double began = now();
+
+        contender->replace();
+        keep(times, now() - began);
+    }
+}
+
+void print_spread(const struct contender *contender, const struct plan *plan, unsigned readers)
+{
+    struct reader all[MOST_THREADS];
+    struct times times[MOST_THREADS];
+    struct times changes = room_for(plan->operations);
+
+    for (unsigned i = 0; i < readers; i++)
+        times[i] = room_for(MOST_TIMES);
+    start(all, contender, plan->threads - 1, readers, times);
+    timed(contender->replace, plan->operations / WARMING + 1);
+    time_changes(contender, plan->operations, &changes);
+    stop(all, plan->threads - 1);
+    printf("cpus %u readers %u slots %u clock %.0f", plan->threads, readers, plan->entries, clock_takes());
+    print_percentiles("read", together(times, readers));
+    print_percentiles("replace", changes);
+    printf("\n");
 }

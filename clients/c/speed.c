@@ -1,5 +1,7 @@
 /*
- * speed THREADS ENTRIES OPERATIONS - what a lookup and a pair of acquire and release take, through registry.h
+ * speed THREADS ENTRIES OPERATIONS            - what a lookup, a walk and a pair of acquire and release take, through registry.h
+ * speed wait CPUS READERS ENTRIES COUNT       - what a replacement and a perform take beside readers, each call made by turns that wait
+ * speed spread CPUS READERS ENTRIES COUNT     - the percentiles of single lookups and replacements
  *
  * `lookup` makes three calls, `read` is the same in two (enter with find, and exit), `look_up` in one; `get` gets a reference in one call, and
  * releases it.
@@ -10,8 +12,15 @@
 #include "client.h"
 #include "common.h"
 #include "entries.h"
+#include "waiting.h"
 
 static struct registry_keeper keeper;
+static pthread_mutex_t interlock = PTHREAD_MUTEX_INITIALIZER;
+static struct registry_lock lock;
+
+/* The CPU of the thread that changes the registry, and the number of the newest entry. */
+static struct registry_cpu *changer;
+static uint64_t newest_number;
 
 /* The names that are looked up, in the order of the keys. */
 static struct registry_name names[MOST_ENTRIES];
@@ -28,6 +37,7 @@ static void attach_all(const struct plan *plan)
 	for (unsigned i = 0; i < entries; i++) {
 		names[i] = (struct registry_name){keys[i].high, keys[i].low};
 		DONE(registry_attach(&keeper, &seats[0].cpu, &names[i], i, &made));
+		newest_number = made.number;
 	}
 }
 
@@ -39,6 +49,8 @@ static void open_registry(const struct plan *plan)
 	DONE(registry_open(&settings, &keeper, cpus, plan->threads));
 	for (unsigned i = 0; i < plan->threads; i++)
 		seats[i].cpu = cpus[i];
+	changer = &seats[plan->threads - 1].cpu;
+	lock = registry_lock_of_mutex(&interlock);
 	attach_all(plan);
 }
 
@@ -97,19 +109,54 @@ static uint64_t gets(unsigned thread, uint64_t count)
 	return in_turn(thread, count, get);
 }
 
-/* Finds the first entry in a section, for what acquires references to it. */
-static void begin_at_first(struct registry_cpu *cpu)
+static uint64_t walks(unsigned thread, uint64_t count)
+{
+	struct registry_cpu *cpu = &seats[thread].cpu;
+	struct registry_entry row[REGISTRY_MOST_SLOTS];
+	uint64_t right = 0;
+	for (uint64_t made = 0; made < count; made++) {
+		size_t met = 0;
+		DONE(registry_enter(cpu));
+		DONE(registry_walk(cpu, row, REGISTRY_MOST_SLOTS, &met));
+		DONE(registry_exit(cpu));
+		right += met == entries && row[0].value == entries - 1 && row[met - 1].value == 0;
+	}
+	return right;
+}
+
+/* The newest entry is detached, destroyed and attached again. */
+static void replace(void)
+{
+	const struct registry_name *name = &names[entries - 1];
+	struct registry_entry entry;
+	pthread_mutex_lock(&interlock);
+	DONE(registry_detach(&keeper, changer, REGISTRY_DRIVER, name, NULL));
+	pthread_mutex_unlock(&interlock);
+	DONE(registry_destroy_wait(&lock, &keeper, changer, newest_number, NULL, NULL));
+	pthread_mutex_lock(&interlock);
+	DONE(registry_attach(&keeper, changer, name, entries - 1, &entry));
+	pthread_mutex_unlock(&interlock);
+	newest_number = entry.number;
+}
+
+static void perform(void)
+{
+	DONE(registry_perform_wait(&lock, &keeper, changer, NULL, NULL));
+}
+
+/* Finds the newest entry in a section, for what acquires references to it: its slot is the last one. */
+static void begin_at_newest(struct registry_cpu *cpu)
 {
 	struct registry_entry found;
 	DONE(registry_enter(cpu));
-	DONE(registry_find(cpu, REGISTRY_DRIVER, &names[0], &found));
+	DONE(registry_find(cpu, REGISTRY_DRIVER, &names[entries - 1], &found));
 }
 
 static uint64_t passives(unsigned thread, uint64_t count)
 {
 	struct registry_cpu *cpu = &seats[thread].cpu;
 	uint64_t right = 0, number;
-	begin_at_first(cpu);
+	begin_at_newest(cpu);
 	for (uint64_t made = 0; made < count; made++)
 		right += registry_acquire(cpu, &number) == REGISTRY_DONE && registry_release(cpu, number) == REGISTRY_DONE;
 	DONE(registry_exit(cpu));
@@ -121,7 +168,7 @@ static uint64_t locals(unsigned thread, uint64_t count)
 	struct registry_cpu *cpu = &seats[thread].cpu;
 	struct registry_local local = {0};
 	uint64_t right = 0;
-	begin_at_first(cpu);
+	begin_at_newest(cpu);
 	for (uint64_t made = 0; made < count; made++)
 		right += registry_local_acquire(cpu, &local) == REGISTRY_DONE && registry_local_release(cpu, &local) == REGISTRY_DONE;
 	DONE(registry_exit(cpu));
@@ -135,27 +182,62 @@ static const struct contender FACE = {
 	.end = do_nothing,
 	.rest = do_nothing,
 	.lookups = lookups,
+	.walks = walks,
 	.passives = passives,
 	.locals = locals,
+	.replace = replace,
+	.perform = perform,
 };
+
+static void print_operations(const struct plan *plan)
+{
+	printf("threads %u entries %u lookup %.2f", plan->threads, plan->entries, nanoseconds_each(&FACE, FACE.lookups, plan));
+	printf(" passive %.2f local %.2f", nanoseconds_each(&FACE, FACE.passives, plan), nanoseconds_each(&FACE, FACE.locals, plan));
+	printf(" read %.2f look_up %.2f", nanoseconds_each(&FACE, reads, plan), nanoseconds_each(&FACE, lookups_at_once, plan));
+	printf(" get %.2f walk %.2f\n", nanoseconds_each(&FACE, gets, plan), nanoseconds_each(&FACE, FACE.walks, plan));
+}
+
+static void print_waits(const struct plan *plan, unsigned readers)
+{
+	printf("cpus %u readers %u slots %u held 0", plan->threads, readers, plan->entries);
+	printf(" replace %.1f", nanoseconds_waited(&FACE, replace, plan, readers));
+	printf(" perform %.1f\n", nanoseconds_waited(&FACE, perform, plan, readers));
+}
+
+/* The number that the word says; 0 if it isn't one from 1 to `most`. */
+static unsigned long long number(const char *word, unsigned long long most)
+{
+	char *rest;
+	unsigned long long value = strtoull(word, &rest, 10);
+	return *word < '0' || *word > '9' || *rest != '\0' || value > most ? 0 : value;
+}
+
+static int usage(void)
+{
+	fprintf(stderr, "usage: speed THREADS ENTRIES OPERATIONS\n       speed wait|spread CPUS READERS ENTRIES COUNT\n");
+	return 2;
+}
 
 int main(int argc, char **argv)
 {
-	struct plan plan = {0};
-	if (argc == 4) {
-		plan.threads = (unsigned)strtoul(argv[1], NULL, 10);
-		plan.entries = (unsigned)strtoul(argv[2], NULL, 10);
-		plan.operations = strtoull(argv[3], NULL, 10);
-	}
-	if (plan.threads < 1 || plan.threads > MOST_THREADS || plan.entries < 1 || plan.entries > MOST_ENTRIES || plan.operations < 1) {
-		fprintf(stderr, "usage: speed THREADS ENTRIES OPERATIONS\n");
-		return 2;
-	}
+	bool waits = argc == 6 && strcmp(argv[1], "wait") == 0, spreads = argc == 6 && strcmp(argv[1], "spread") == 0;
+	if (argc != 4 && !waits && !spreads)
+		return usage();
+	const struct plan plan = {
+	    .threads = (unsigned)number(argv[waits || spreads ? 2 : 1], MOST_THREADS),
+	    .entries = (unsigned)number(argv[argc - 2], MOST_ENTRIES),
+	    .operations = number(argv[argc - 1], 1000000000),
+	};
+	unsigned readers = waits || spreads ? (unsigned)number(argv[3], MOST_THREADS) : 0;
+	if (plan.threads == 0 || plan.entries == 0 || plan.operations == 0 || readers >= plan.threads)
+		return usage();
 	FACE.open(&plan);
-	printf("threads %u entries %u lookup %.2f", plan.threads, plan.entries, nanoseconds_each(&FACE, FACE.lookups, &plan));
-	printf(" passive %.2f local %.2f", nanoseconds_each(&FACE, FACE.passives, &plan), nanoseconds_each(&FACE, FACE.locals, &plan));
-	printf(" read %.2f look_up %.2f", nanoseconds_each(&FACE, reads, &plan), nanoseconds_each(&FACE, lookups_at_once, &plan));
-	printf(" get %.2f\n", nanoseconds_each(&FACE, gets, &plan));
+	if (waits)
+		print_waits(&plan, readers);
+	else if (spreads)
+		print_spread(&FACE, &plan, readers);
+	else
+		print_operations(&plan);
 	for (unsigned i = 0; i < plan.threads; i++)
 		DONE(registry_close_cpu(&seats[i].cpu));
 	DONE(registry_close_keeper(&keeper));

@@ -76,6 +76,15 @@ fn gets(cpu: &Cpu<u64>, names: &[Name], count: u64) -> Result<u64, Refusal> {
     Ok(right)
 }
 
+fn walks(cpu: &Cpu<u64>, names: &[Name], count: u64) -> Result<u64, Refusal> {
+    let mut right = 0;
+    for _ in 0..count {
+        let section = cpu.enter()?;
+        right += u64::from(section.entries().count() == names.len());
+    }
+    Ok(right)
+}
+
 fn passives(cpu: &Cpu<u64>, names: &[Name], count: u64) -> Result<u64, Refusal> {
     let section = cpu.enter()?;
     let found = section.find(Kind::Driver, &names[0]).ok_or(Refusal::NotFound)?;
@@ -150,7 +159,7 @@ fn run(threads: u8, entries: u8, count: u64) -> Result<(), Box<dyn Error>> {
     let mut time = |make| nanoseconds_each(&mut cpus, &names, make, count);
     print!("threads {threads} entries {entries} lookup {:.2}", time(lookups)?);
     print!(" passive {:.2} local {:.2}", time(passives)?, time(locals)?);
-    print!(" plain {:.2}", time(plain_lookups)?);
+    print!(" plain {:.2} walk {:.2}", time(plain_lookups)?, time(walks)?);
     print!(" read {:.2}", time(reads)?);
     print!(" look_up {:.2} get {:.2}", time(lookups_at_once)?, time(gets)?);
     println!(" guarded {:.2} dropped {:.2}", time(guards)?, time(drops)?);

@@ -24,6 +24,8 @@ pub enum Operation {
     Lookup,
     /// A lookup in an open section: a section is entered and left for every 32 of them.
     Batch,
+    /// A section with one walk in it, which copies the whole list.
+    Walk,
     /// A passive reference is acquired and released.
     Passive,
     /// A local reference is acquired and released.

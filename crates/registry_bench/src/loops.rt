@@ -6,9 +6,9 @@ ghost use Rattle.cpu_words.specs.Common.{AreWordsOf};
 use bench_plans::Operation;
 use cpu_words::{Domain, Words};
 use local_count::{LocalRef, acquire_local, try_release};
-use passive_list::{Cpu, enter, exit, find};
+use passive_list::{Cpu, enter, exit, find, walk};
 use passive_ref::{acquire, release};
-use registry_values::{Kind, Name};
+use registry_values::{Entry, Kind, MOST_SLOTS, Name, Record};
 use std::sync::Wait;
 
 /// How many lookups a section of a batch has.
@@ -28,6 +28,7 @@ pub fn make<D: Domain, R: Wait>(
     match operation {
         Operation::Lookup => look_up_all(words, cpu, names, count),
         Operation::Batch => look_up_batches(words, cpu, names, count),
+        Operation::Walk => walk_all(words, cpu, names, count),
         Operation::Passive => refer_passively(words, cpu, names, false, count),
         Operation::Local => refer_locally(rt, words, cpu, count),
         Operation::Get => refer_passively(words, cpu, names, true, count),
@@ -131,6 +132,43 @@ fn find_all<D: Domain>(
     }
     *place = next;
     many
+}
+
+/// Walks the list, each time in a section of its own, until a walk doesn't meet so many entries as there are names.
+fn walk_all<D: Domain>(words: &Words, cpu: &mut Cpu<D>, names: &[Name], count: u32) -> u32
+    requires words { AreWordsOf words.now D.table D.settings }
+{
+    let Some(name) = names.first() else {
+        return 0;
+    };
+    let rec = Record {
+        kind: Kind::Driver,
+        name: *name,
+        value: 0,
+    };
+    let mut row = [Entry {
+        number: 0,
+        slot: 0,
+        rec,
+    }; MOST_SLOTS];
+    for made in 0..count {
+        if walk_once(words, cpu, &mut row) != names.len() {
+            return made;
+        }
+    }
+    count
+}
+
+/// Enters, walks and exits. Returns how many entries it met.
+fn walk_once<D: Domain>(words: &Words, cpu: &mut Cpu<D>, row: &mut [Entry; MOST_SLOTS]) -> usize
+    requires words { AreWordsOf words.now D.table D.settings }
+{
+    if enter(words, cpu).is_err() || !cpu.inside() {
+        return 0;
+    }
+    let met = walk(words, cpu, row);
+    leave(words, cpu);
+    met
 }
 
 /// Finds the driver, and returns its value.

@@ -114,10 +114,11 @@ fn run_one<R: Print + Alloc<A = Global> + Threads + Wait + Clock + Sync>(
     } = plan;
     let lookup = measure(rt, rt.alloc(), plan, Operation::Lookup)?.nanoseconds_each(operations);
     let batch = measure(rt, rt.alloc(), plan, Operation::Batch)?.nanoseconds_each(operations);
+    let walk = measure(rt, rt.alloc(), plan, Operation::Walk)?.nanoseconds_each(operations);
     let passive = measure(rt, rt.alloc(), plan, Operation::Passive)?.nanoseconds_each(operations);
     let local = measure(rt, rt.alloc(), plan, Operation::Local)?.nanoseconds_each(operations);
     let get = measure(rt, rt.alloc(), plan, Operation::Get)?.nanoseconds_each(operations);
-    print!(rt; "threads {threads} entries {entries} lookup {lookup:.2} batch {batch:.2}")?;
+    print!(rt; "threads {threads} entries {entries} lookup {lookup:.2} batch {batch:.2} walk {walk:.2}")?;
     println!(rt; " passive {passive:.2} local {local:.2} get {get:.2}")?;
     Ok(())
 }
@@ -186,10 +187,11 @@ fn check<R: Print + Alloc<A = Global> + Threads + Wait + Clock + Sync>(
         };
         let lookups = measure(rt, rt.alloc(), plan, Operation::Lookup)?.right;
         let batches = measure(rt, rt.alloc(), plan, Operation::Batch)?.right;
+        let walks = measure(rt, rt.alloc(), plan, Operation::Walk)?.right;
         let passives = measure(rt, rt.alloc(), plan, Operation::Passive)?.right;
         let locals = measure(rt, rt.alloc(), plan, Operation::Local)?.right;
         let gets = measure(rt, rt.alloc(), plan, Operation::Get)?.right;
-        print!(rt; "threads 2 entries {entries} lookups {lookups} batches {batches}")?;
+        print!(rt; "threads 2 entries {entries} lookups {lookups} batches {batches} walks {walks}")?;
         println!(rt; " passives {passives} locals {locals} gets {gets}")?;
     }
     check_waiting(rt)
