@@ -50,6 +50,9 @@ extern const struct contender urcu_bp;
 extern const struct contender epoch;
 extern const struct contender rwlock;
 extern const struct contender mutex;
+/* In optional/, where bench/run finds what they need. */
+extern const struct contender dpdk_qsbr;
+extern const struct contender xenium_epoch;
 
 /* Makes the operations in all threads of the plan at once: each makes some that don't count, and begins when all have. It answers the
    nanoseconds that one takes its thread: the time from the first thread's first operation to the last thread's last, over the operations of

@@ -8,6 +8,12 @@
 static const struct contender *const contenders[] = {
     &hand_padded, &hand_packed, &hand_pointed, &hand_kept, &urcu_memb, &urcu_mb,
     &urcu_bp, &urcu_qsbr, &epoch, &rwlock, &mutex,
+#ifdef WITH_DPDK
+    &dpdk_qsbr,
+#endif
+#ifdef WITH_XENIUM
+    &xenium_epoch,
+#endif
 };
 
 enum { CONTENDERS = sizeof contenders / sizeof contenders[0] };
