@@ -13,7 +13,7 @@ struct plan {
     uint64_t operations;
 };
 
-/* Makes `count` operations on behalf of a thread, numbered from 0. It answers how many went as they should. */
+/* Makes `count` operations on behalf of a thread, numbered from 0. It returns how many went as they should. */
 typedef uint64_t operations(unsigned thread, uint64_t count);
 
 /* A way to protect lookups. `begin` and `end` are called by each thread, around its operations.
@@ -59,8 +59,8 @@ extern const struct contender xenium_epoch;
    one thread. An operation that went wrong ends the program. */
 double nanoseconds_each(const struct contender *contender, operations *make, const struct plan *plan);
 
-/* Makes the change so many times, while so many readers enter and leave in threads of their own; the rest of the plan's threads, but for this
-   one, sleep. It answers the nanoseconds that one took. A wrong answer to a reader ends the program. */
+/* Makes the change so many times, while so many readers enter and leave in threads of their own; the rest of the plan's threads, except
+   this one, sleep. It returns the nanoseconds that one took. A wrong answer to a reader ends the program. */
 double nanoseconds_waited(const struct contender *contender, void (*change)(void), const struct plan *plan, unsigned readers);
 
 /* Prints the percentiles 50, 99 and 99.9 of the nanoseconds of single lookups of the oldest entry, by so many readers, and of single

@@ -2,7 +2,7 @@
  * blocks - how many blocks of memory each call takes, and how many it frees
  *
  * No contract knows the heap, so a proved body may free a block early, keep it for ever, or take one more. Here each call is made in each state that
- * matters, and has to take and to free just as many blocks as its line says. What is behind a handle is a block that was taken and isn't freed, and no two
+ * matters, and has to take and to free exactly as many blocks as its line says. What is behind a handle is a block that was taken and isn't freed, and no two
  * handles share one. The wrong bodies that this refuses, each by its line:
  *
  *     an acquire takes a block though the CPU keeps one, or shares one            "kept", takes 0
@@ -124,7 +124,7 @@ static void end_step(const char *call, int line, unsigned takes, unsigned frees)
 	steps[step_count++] = (struct step){takes, frees};
 }
 
-/* A call answers so, takes so many blocks, and frees so many. */
+/* A call returns so, takes so many blocks, and frees so many. */
 #define CALL(wanted, takes, frees, call)                                                                                           \
 	do {                                                                                                                       \
 		begin_step();                                                                                                      \
@@ -179,7 +179,7 @@ static void open_registry(void)
 	expect_apart(cpus[0].at, cpus[1].at);
 }
 
-/* Names, sections, lookups and passive references take nothing, whatever they answer. */
+/* Names, sections, lookups and passive references take nothing, for any result. */
 static void read_and_refer(void)
 {
 	struct registry_entry row[SLOTS];

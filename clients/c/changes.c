@@ -110,7 +110,7 @@ static struct replaced replace_all(unsigned count)
 	return replaced;
 }
 
-/* The nanoseconds that so many turns take, each of which meets this. */
+/* The nanoseconds that so many turns take. Each of them meets this. */
 static double turn_all(uint64_t number, uint64_t stage, unsigned count)
 {
 	double began = now();

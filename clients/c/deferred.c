@@ -89,7 +89,7 @@ static void attach(void)
 	expect_list(&freed);
 }
 
-/* An interface on a driver to which CPU 0 refers for the time of the call. */
+/* An interface. CPU 0 refers to its driver for the time of the call. */
 static void attach_iface(void)
 {
 	struct registry_entry made = {0}, wanted = {0};

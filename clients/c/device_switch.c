@@ -2,7 +2,7 @@
  * device_switch - a driver is loaded and unloaded while three CPUs open its device
  *
  * An open looks the driver up and takes a local reference along: the open file. Its close may be made by another thread, on another CPU. Whoever
- * unloads the driver detaches it and waits until no file is open; then the driver's memory, to which its entry's value points, is freed. Each open
+ * unloads the driver detaches it and waits until no file is open; then the driver's memory is freed. Its entry's value points to that memory. Each open
  * counts in its driver: at the end the counts of all drivers that were freed are the files that were opened.
  */
 #include <inttypes.h>

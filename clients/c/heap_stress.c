@@ -145,7 +145,7 @@ static void read_entry(struct registry_cpu *cpu, unsigned way)
 	DONE(registry_exit(cpu));
 }
 
-/* Uses what stands behind the pointer, in a section. */
+/* Uses what the pointer leads to, in a section. */
 static void read_pointer(struct registry_cpu *cpu)
 {
 	DONE(registry_enter(cpu));

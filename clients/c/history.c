@@ -427,7 +427,7 @@ static void run_small(uint64_t seed)
 	}
 }
 
-/* A CPU's sections come to an end, and then each enter is refused, but for one nested in an open section. */
+/* A CPU's sections come to an end. Then each enter is refused, except one nested in an open section. */
 static void spend_sections(void)
 {
 	const struct registry_settings settings = {1, 1, 10, 5, 1, 1};

@@ -20,7 +20,7 @@
 		}                                                                                                                  \
 	} while (0)
 
-/* The name that has this text, of which a program writes the text again. */
+/* The name that has this text. The text is written again from the name. */
 static struct registry_name name_of(const char *text)
 {
 	struct registry_name name;

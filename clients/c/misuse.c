@@ -1,7 +1,7 @@
 /*
  * misuse - what a caller can get wrong and a call can see: each answers its own number and changes nothing
  *
- * The tests of a call stand in the order of registry.h, so that one wrong thing is tested before the next.
+ * The tests of a call are in the order of registry.h, so one wrong thing is tested before the next.
  */
 #include "client.h"
 
@@ -569,7 +569,7 @@ static void expect_kept(struct bench *bench)
 	EXPECT(out.met.stage == REGISTRY_LOCAL && out.met.what == 1);
 }
 
-/* One reference of three is forgotten, and all that counts it goes on counting it, whatever becomes of the others. */
+/* One reference of three is forgotten, and all that counts it goes on counting it, even once the others are released. */
 static void check_forgotten(void)
 {
 	struct bench bench = {0};

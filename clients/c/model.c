@@ -129,7 +129,7 @@ uint32_t model_acquire(struct model *model, unsigned cpu, uint64_t *number)
 	return REGISTRY_DONE;
 }
 
-/* The slot to which the CPU has a passive reference by this number, or NULL. */
+/* The slot that the CPU has a passive reference to, by this number, or NULL. */
 static struct model_slot *held_slot(struct model *model, unsigned cpu, uint64_t number)
 {
 	struct model_slot *slot = model_slot_of(model, number);

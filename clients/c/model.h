@@ -1,5 +1,5 @@
 /*
- * model.h - a registry in plain C, without threads and without words: what each call answers, by the text of registry.h alone
+ * model.h - a registry in plain C, without threads and without words: what each call returns, by the text of registry.h alone
  *
  * One function for each call, with the same answer. A name is a small number here, and an entry is what registry.h writes.
  */
@@ -15,7 +15,7 @@ enum state { VACANT, LIVE, RETIRED };
 struct model_slot {
 	enum state state;
 	struct registry_entry entry;
-	uint64_t driver;		/* the number of the driver that an interface's slot keeps, or 0 */
+	uint64_t driver;		/* the number of the driver that the slot of an interface keeps, or 0 */
 	bool open[CPUS];		/* whether the section of that CPU which was open at the detach is open still */
 	bool collected;			/* whether the counts were collected for a drain */
 	uint64_t passive[CPUS];		/* passive references of that CPU */
@@ -56,7 +56,7 @@ uint32_t model_release(struct model *model, unsigned cpu, uint64_t number);
 uint32_t model_local_acquire(struct model *model, unsigned cpu, uint64_t *number);
 uint32_t model_local_release(struct model *model, unsigned cpu, uint64_t number);
 uint32_t model_local_give_up(struct model *model, uint64_t number);
-/* A driver is attached with `driver` 0, an interface with the number to which its local reference is. */
+/* A driver is attached with `driver` 0, an interface with the number of the entry that its local reference is to. */
 uint32_t model_attach(struct model *model, unsigned cpu, uint64_t driver, const struct registry_name *name, uint64_t value, struct registry_entry *made);
 uint32_t model_detach(struct model *model, unsigned cpu, uint64_t kind, const struct registry_name *name, struct registry_entry *gone);
 uint32_t model_advance(struct model *model, uint64_t number, struct registry_stage *met);

@@ -10,7 +10,7 @@ static const char LETTERS[] = "abcdefghijklmnopqrstuvwxyz0123456789";
 /* Where names are written to. */
 static char text[ROOM];
 
-/* Just the first bytes were written. */
+/* Only the first bytes were written. */
 static bool wrote(size_t bytes)
 {
 	for (size_t i = 0; i < ROOM; i++)

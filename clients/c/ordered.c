@@ -1,5 +1,5 @@
 /*
- * ordered - by which instructions a test's calls come to a registry's table: for aarch64
+ * ordered - the instructions that read and write a registry's table in a test's calls: for aarch64
  *
  * It is linked to a test of one thread, with --wrap for registry_open, malloc and free. Once a registry is opened nothing can be read from its table or
  * written to it: each access ends in a signal. The handler looks at the instruction, does what it says by a second mapping of the same memory, and goes
@@ -27,7 +27,7 @@
 #error "it reads the instructions of aarch64"
 #endif
 
-/* The words of a table, of whatever settings: `WORDS` of cpu_words. They are one block, and no other block is as long. */
+/* The words of a table, for any settings: `WORDS` of cpu_words. They are one block, and no other block is as long. */
 enum { WORDS = 960, TABLE_BYTES = 8 * WORDS, MOST_TABLES = 16, MOST_CODE = 1 << 18, ZERO_REGISTER = 31, DEEPEST = 64, LONGEST_PAIR = 12 };
 
 /* What an instruction does with a word. */
@@ -176,7 +176,7 @@ static void overwrite_end(uint32_t *load, uint64_t place, const struct table *ta
 	__builtin___clear_cache((char *)&load[i], (char *)&load[i + 1]);
 }
 
-/* The last place to which the stack leads. */
+/* The last place that the stack leads to. */
 static void *outermost(void)
 {
 	void *places[DEEPEST];

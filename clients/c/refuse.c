@@ -96,7 +96,7 @@ static void find_driver(const struct registry_name *wm)
 	DONE(registry_find(&cpus[0], REGISTRY_DRIVER, wm, &entry));
 }
 
-/* The audit of the driver with two references, one of which an interface keeps, and of the interface. */
+/* The audit of the interface, and of the driver with two references. An interface keeps one of them. */
 static void check_audit(void)
 {
 	struct registry_balance list[4];
@@ -160,7 +160,7 @@ static void journey_without_memory(const struct registry_name *wm)
 	close_all();
 }
 
-/* The blocks that local references stand in, and that CPUs keep. */
+/* The blocks of local references, and those that CPUs keep. */
 static uint64_t opened_with;
 
 static bool are_asked(uint64_t allocations, uint64_t kept)

@@ -2,7 +2,7 @@
  * script live - run the script on standard input through the C face, and print its report
  *
  * It prints what `registry_run live` prints, with the same status: 0; 2 after a fault of the script; 3 where input or output failed; 4 where
- * memory was refused. 1 means that a call gave an answer that it can't give.
+ * memory was refused. 1 means that a call returned what it can't return.
  */
 #include "script.h"
 

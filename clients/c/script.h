@@ -39,7 +39,7 @@ struct script {
 	size_t count;
 };
 
-/* How a run ended. END_WRONG: a call gave an answer that it can't give. */
+/* How a run ended. END_WRONG: a call returned what it can't return. */
 enum script_end { END_DONE, END_FAULT, END_WRITE, END_MEMORY, END_WRONG };
 
 /* The first fault of a script. */
@@ -49,7 +49,7 @@ struct script_fault {
 };
 
 /*
- * Parses a script. END_DONE: the script stands in *script, and script_free takes it away; END_FAULT: *fault says why not;
+ * Parses a script. END_DONE: the script is in *script, and script_free frees it; END_FAULT: *fault says why not;
  * END_MEMORY. Nothing is left behind where it isn't END_DONE.
  */
 enum script_end script_parse(const char *text, size_t length, struct script *script, struct script_fault *fault);

@@ -8,14 +8,14 @@
 
 #include <inttypes.h>
 
-/* What a label of passive references stands for. */
+/* What a label of passive references means. */
 struct passive {
 	bool taken;
 	uint8_t cpu;
 	uint64_t number;
 };
 
-/* What a label of local references stands for. */
+/* What a label of local references means. */
 struct local {
 	bool taken;
 	struct registry_local handle;
@@ -138,7 +138,7 @@ static enum script_end find(struct run *run, const struct script_command *comman
 	return END_DONE;
 }
 
-/* Lets a label stand for a passive reference. */
+/* Gives a passive reference to a label. */
 static enum script_end fill(struct run *run, const struct script_command *command, uint8_t label, uint64_t number)
 {
 	run->passives[label] = (struct passive){true, command->cpu, number};
@@ -381,7 +381,7 @@ static enum script_end carry(struct run *run, const struct script *script)
 	return ended;
 }
 
-/* Gives back what labels still stand for. Whether each call took it. */
+/* Gives back what labels still hold. Whether each call took it. */
 static bool give_back(struct run *run)
 {
 	bool good = true;

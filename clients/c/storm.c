@@ -4,7 +4,7 @@
  * In each turn a CPU enters a section, looks the interface `wm0` and then the driver `drv` up, acquires a passive and a local reference to the
  * driver, exits, reads the driver by both, releases the passive one, lays the local one into the next CPU's basket, and releases what it takes
  * out of baskets. CPU 0 also attaches or detaches the interface in each turn, and works on what it has detached. At the end everything is
- * released, audited and destroyed on CPU 0. It prints what `registry_run storm` prints; `wrong` counts each answer that wasn't the one
+ * released, audited and destroyed on CPU 0. It prints what `registry_run storm` prints; `wrong` counts each result that wasn't
  * expected.
  */
 #include <inttypes.h>
@@ -232,7 +232,7 @@ static void destroy(uint64_t number, uint64_t slot, struct counts *counts)
 	judge(counts, registry_destroy(&keeper, &cpus[0], number, &met) == REGISTRY_DONE && met.what == slot);
 }
 
-/* Takes away on CPU 0 what is left, and answers how many references to the driver are held then. */
+/* Takes away on CPU 0 what is left. Returns how many references to the driver are held then. */
 static int64_t finish(struct counts *counts)
 {
 	struct registry_balance list[SLOTS];

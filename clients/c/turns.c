@@ -1,7 +1,7 @@
 /*
  * turns - each step that the waits of waiting.h make: which calls, in which order, how long they sleep, and that they stop where they should
  *
- * The linker leads the registry's calls, the clock, nanosleep and sched_yield here (--wrap), and pauses.h the pause instruction. The calls answer what the
+ * The linker leads the registry's calls, the clock, nanosleep and sched_yield here (--wrap), and pauses.h the pause instruction. The calls return what the
  * test says, time is the test's own, and each step leaves a letter: t and g the interlock taken and given up, d a destroy's turn, b and p a perform's
  * begin and turn, y a yield, s a sleep.
  */

@@ -59,7 +59,7 @@ static uint64_t turn(uint64_t number)
 	return met.stage;
 }
 
-/* What registry_enter_find has entered is exited at once: that answers and leaves what registry_look_up does. */
+/* What registry_enter_find has entered is exited at once. That returns and leaves what registry_look_up does. */
 static uint32_t enter_find_exit(struct registry_cpu *cpu, uint64_t kind, const struct registry_name *name, struct registry_entry *found)
 {
 	uint32_t answer = registry_enter_find(cpu, kind, name, found);
@@ -82,7 +82,7 @@ static bool holds(struct registry_cpu *cpu, uint64_t number)
 	return held;
 }
 
-/* The call answers so, writes nothing, and leaves the CPU as deep inside as it was, without a reference to the driver. */
+/* The call returns so, writes nothing, and leaves the CPU as deep inside as it was, without a reference to the driver. */
 static void expect_refused(usual_call *call, struct registry_cpu *cpu, uint64_t kind, const struct registry_name *name, uint32_t answer)
 {
 	const struct registry_entry untouched = {91, 92, 93, {94, 95}, 96};
@@ -245,7 +245,7 @@ static void check_holding(struct registry_cpu *cpu)
 	EXPECT(turn(found.number) == REGISTRY_FREED);
 }
 
-/* A section that a call has begun counts, whatever the call answers; one that it is nested in doesn't. */
+/* A section that a call has begun counts, for any result. One that it is nested in doesn't. */
 static void check_spent(void)
 {
 	struct registry_cpu *cpu = &cpus[0];

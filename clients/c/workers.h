@@ -34,7 +34,7 @@ static inline void count_round(void)
 	atomic_fetch_add_explicit(&rounds, 1, memory_order_relaxed);
 }
 
-/* Waits until the workers have made so many rounds more. They go on meanwhile, whatever becomes of the entries. */
+/* Waits until the workers have made so many rounds more. They go on meanwhile, with any entries. */
 static inline void wait_for_rounds(uint64_t more)
 {
 	uint64_t before = atomic_load_explicit(&rounds, memory_order_relaxed);

@@ -175,7 +175,7 @@ impl Changer<'_> {
         (0..).zip(&self.yard.ports).try_for_each(|(label, name)| self.put_in(name, label))
     }
 
-    /// Takes so many ports out, and puts another in the place of each.
+    /// Replaces so many ports.
     fn change(&self, changes: u64) -> Result<(), Refusal> {
         for label in (PORTS as u64..).take(changes as usize) {
             let name = &self.yard.ports[(label % PORTS as u64) as usize];
