@@ -54,7 +54,7 @@ extern const struct contender mutex;
 extern const struct contender dpdk_qsbr;
 extern const struct contender xenium_epoch;
 
-/* Makes the operations in all threads of the plan at once: each makes some that don't count, and begins when all have. It answers the
+/* Makes the operations in all threads of the plan at once: each makes some that don't count, and begins when all have. It returns the
    nanoseconds that one takes its thread: the time from the first thread's first operation to the last thread's last, over the operations of
    one thread. An operation that went wrong ends the program. */
 double nanoseconds_each(const struct contender *contender, operations *make, const struct plan *plan);
@@ -63,9 +63,9 @@ double nanoseconds_each(const struct contender *contender, operations *make, con
    this one, sleep. It returns the nanoseconds that one took. A wrong answer to a reader ends the program. */
 double nanoseconds_waited(const struct contender *contender, void (*change)(void), const struct plan *plan, unsigned readers);
 
-/* Prints the percentiles 50, 99 and 99.9 of the nanoseconds of single lookups of the oldest entry, by so many readers, and of single
-   replacements of the newest one meanwhile, of which as many are made as the plan says. The time that the clock takes is within, and is printed
-   beside. A wrong answer to a reader ends the program. */
+/* Prints percentiles 50, 99 and 99.9 of the nanoseconds of single operations. So many readers look the oldest entry up. Meanwhile the newest
+   one is replaced, as often as the plan says. Each time includes what the clock takes, which is printed too. A wrong answer to a reader ends
+   the program. */
 void print_spread(const struct contender *contender, const struct plan *plan, unsigned readers);
 
 /* Nanoseconds from some point on. */

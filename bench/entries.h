@@ -67,7 +67,7 @@ INLINE uint64_t listed_value(const struct key *key)
     return UINT64_MAX;
 }
 
-/* Copies the list to the row, the newest entry first. It answers how many entries it has. */
+/* Copies the list to the row, the newest entry first. It returns how many entries it has. */
 INLINE unsigned copy_list(struct copied row[MOST_ENTRIES])
 {
     const struct node *node = atomic_load_explicit(&newest, memory_order_acquire);
@@ -80,7 +80,7 @@ INLINE unsigned copy_list(struct copied row[MOST_ENTRIES])
     return count;
 }
 
-/* Walks so often. It answers how many walks met all entries, the newest first. */
+/* Walks so often. It returns how many walks met all entries, the newest first. */
 INLINE uint64_t in_walks(unsigned thread, uint64_t count, void (*enter)(unsigned thread),
     unsigned (*walk)(unsigned thread, struct copied row[MOST_ENTRIES]), void (*leave)(unsigned thread))
 {
@@ -98,7 +98,7 @@ INLINE uint64_t in_walks(unsigned thread, uint64_t count, void (*enter)(unsigned
     return right;
 }
 
-/* Looks the entries up in turn. It answers how many lookups answered the entry's value. */
+/* Looks the entries up in turn. It returns how many lookups answered the entry's value. */
 INLINE uint64_t in_turn(unsigned thread, uint64_t count, uint64_t (*look_up)(unsigned thread, const struct key *key))
 {
     uint64_t right = 0;

@@ -36,7 +36,7 @@ PROCESSORS = {"x86_64": (), "aarch64": ("--target", "aarch64-unknown-linux-gnu")
 FIRST, *OTHERS = PROCESSORS
 # What a proof of the archive keeps for the next one in this copy of the repository, which begins with it.
 KEPT = OUT / "proof"
-# What `rt ci` says of a library that stands in its folder out/ from then on, and of one that won't.
+# What `rt ci` says of a library that is in its folder out/ from then on, and of one that won't.
 STANDS = re.compile(r"^rt: (\w+) (?:proved$|is kept: )")
 FAILED = re.compile(r"^rt: (\w+) NOT PROVED")
 # A check of the library takes at most this; it waits until so much is free.

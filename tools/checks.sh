@@ -36,7 +36,7 @@ check() {
     judge "$name" $?
 }
 
-# says FILE COMMAND..: the command's status is 0, and it prints what stands in the file.
+# says FILE COMMAND..: the command's status is 0, and it prints what is in the file.
 says() {
     local wanted=$1
     shift

@@ -72,7 +72,7 @@ need_proved() {
     fi
 }
 
-# quietly COMMAND..: the command, of which nothing is printed unless it fails.
+# quietly COMMAND..: runs the command, and prints nothing unless it fails.
 quietly() {
     if ! "$@" >"$room/log" 2>&1; then
         tail -n 40 "$room/log" >&2

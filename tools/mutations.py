@@ -41,7 +41,7 @@ ANSWERS = tuple(f"REGISTRY_{it}" for it in """
 """.split())
 # What gives something up that was taken: it may come too early.
 RELEASES = re.compile(r"(?:^|_)(?:give|unlock|unhold|exit|leave|release|drop|end|signal|broadcast|wake|notify|store|free)(?:_|$)")
-# What a function of Rust may do in place of its body, by the type that it answers.
+# What a function of Rust may do in place of its body, by the type that it returns.
 NUMBERS = ("u8", "u32", "u64", "usize", "i64")
 BODIES = {"()": ("",), "bool": ("true", "false"), "Option": ("None",), "Result<()>": ("Ok(())",), **{it: ("0", "1") for it in NUMBERS}}
 HEADS = ("if", "while", "for", "switch")

@@ -4,7 +4,7 @@
 # Each is also built over a wait that does nothing, and has to find that. It isn't in the gate: it fetches the packages by apt, from where the
 # system's own lists have theirs, and runs for some minutes. The last line is 'N passed, M failed'.
 #
-# It wants gcc, apt-get and dpkg-source (dpkg-dev).
+# It needs gcc, apt-get and dpkg-source (dpkg-dev).
 set -uo pipefail
 cd "$(dirname "$0")/.."
 work=$PWD/clients/out/peers

@@ -1,5 +1,5 @@
 #!/usr/bin/env bash
-# Proves the program with all that it stands on, and builds it: from then on ./registry_run runs what was proved.
+# Proves the program with all crates below it, and builds it: from then on ./registry_run runs what was proved.
 # From nothing it takes about ten minutes on four processors; over kept work, what has changed.
 set -euo pipefail
 cd "$(dirname "${BASH_SOURCE[0]}")/../crates/registry_run"

@@ -91,7 +91,7 @@ warned() {
     ! printf "$call" "$2" | gcc -O1 "${warnings[@]}" -Icrates/registry_c/include -c -o /dev/null -xc - 2>"$log.said" && grep -qe "-Werror=$1" "$log.said"
 }
 
-# valgrind runs one thread at a time: in turn, where it can. Else the threads that want on may keep one from it for minutes, while the rest wait for it.
+# valgrind runs one thread at a time: in turn, where it can. Else the threads that could go on may keep one from it for minutes, while the rest wait for it.
 watched() {
     limited valgrind -q --fair-sched=try --error-exitcode=99 --leak-check=full "$@"
 }
@@ -106,12 +106,12 @@ guarded_rust() {
     RUST_BACKTRACE=0 watched --show-leak-kinds=definite,indirect --errors-for-leak-kinds=definite,indirect "$@"
 }
 
-# The programs of the crate's tests, as cargo names them where it isn't told to be quiet; but for those that run the compiler or themselves, or look at types.
+# The programs of the crate's tests, as cargo names them where it isn't told to be quiet; except those that run the compiler or themselves, or look at types.
 rust_tests() {
     (cd clients/rust && CARGO_TERM_QUIET=false cargo test --offline --no-run --tests 2>&1) | grep -oE '/[^ ()]*/(basket|carried|edges|entries|face|memory|model|owned|pool|retired|sections|threads|together|two|usual)-[0-9a-f]+'
 }
 
-# Each of them under valgrind, but for what forgets on purpose; the stress with fewer changes.
+# Each of them under valgrind, except what forgets on purpose; the stress with fewer changes.
 guarded_tests() {
     local program programs
     programs=$(rust_tests)
@@ -229,7 +229,7 @@ test_heap() {
     done
 }
 
-# All that the parts below run, but for the crate's programs, which cargo builds when they are wanted.
+# All that the parts below run, except the crate's programs, which cargo builds when they are wanted.
 test_build() {
     check "the archive has the header's calls" archive_names
     check "no call takes more stack than the page says" stack_within

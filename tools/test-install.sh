@@ -1,7 +1,7 @@
 #!/usr/bin/env bash
 # Installs libkupaldiz, libkupaldiz_netbsd and libkupaldiz_bench into scratch folders, looks at each file that is there, builds and runs programs that know
 # the libraries by pkg-config alone, and uninstalls them: under a folder of its own, as Debian has it, in a path with blanks, and over an older version.
-# It wants clients/out/libregistry.a; the last line is 'N passed, M failed'.
+# It needs clients/out/libregistry.a; the last line is 'N passed, M failed'.
 set -uo pipefail
 cd "$(dirname "$0")/.." || exit
 # shellcheck source=tools/checks.sh
@@ -22,7 +22,7 @@ made() {
     (umask 077 && make -s -C "$clients" "$@" DESTDIR="$stage" PREFIX="$prefix" LIBDIR="$libdir")
 }
 
-# Like a user's own pkg-config, which finds what stands below the scratch folder.
+# Like a user's own pkg-config, which finds what is below the scratch folder.
 config() {
     PKG_CONFIG_PATH=$stage$libdir/pkgconfig PKG_CONFIG_SYSROOT_DIR=$stage pkg-config "$@" "$module"
 }
@@ -222,7 +222,7 @@ flags_are_taken() {
     done
 }
 
-# What is installed, but for the manual pages: kind, mode, owner and path of each file, and where a link leads.
+# What is installed, except the manual pages: kind, mode, owner and path of each file, and where a link leads.
 wanted() {
     local me major=${1%%.*} file library
     me=$(id -un)
@@ -260,7 +260,7 @@ names_no_place() {
     ! grep -rlF -e "$stage" -e "$PWD" "$stage$prefix" --include='*.pc' --include='*.cmake' --include='*.3' --include='*.h'
 }
 
-# asked WORDS..: what the .pc file of the module says where it is in place, as this test wants it: the folder of the libraries once, no blank at the end.
+# asked WORDS..: what the .pc file of the module says where it is in place, as this test needs it: the folder of the libraries once, no blank at the end.
 asked() {
     PKG_CONFIG_PATH=$stage$libdir/pkgconfig pkg-config "$@" "$module" | sed -E 's/ -L[^ ]+//g; s/ *$//'
 }

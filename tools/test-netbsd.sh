@@ -40,7 +40,7 @@ count_cases() {
     fi
 }
 
-# programs WAY: what the Makefile builds for a way, but for what counts its cases.
+# programs WAY: what the Makefile builds for a way, except what counts its cases.
 programs() {
     make -s -C $folder list-"$1" | tr ' ' '\n' | grep -vE '^(misuse|misuse_kernel|tells)$'
 }

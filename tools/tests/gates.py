@@ -80,7 +80,7 @@ BESIDE = {
     "clients/out/aarch64/libregistry_c.a": "older\n",
     "ci": '#!/bin/sh\necho "rt: low proved"\nsleep 1\necho "rt: registry_c proved"\necho 5 passed, 0 failed\n',
     "bin/rt": '#!/bin/sh\necho "$PWD/kit/START-HERE.md"\n',
-    # It proves over the library that stands beside it, and writes what -o names.
+    # It proves over the library beside it, and writes what -o names.
     "kit/bin/rattle": '#!/bin/sh\n[ "$(cat src/lib.rt ../low.rlib/format)" = "face\nlow" ] || exit 7\nfor made; do :; done\necho proved >"$made"\n',
     "tools/build-archive.sh": '#!/bin/sh\n[ $# = 2 ] && [ -f "$2" ] && cp "$1" clients/out/libregistry.a\n',
     # The archive is what was proved, or there is none: else nothing else is said, and the fault goes untold.

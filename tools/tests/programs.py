@@ -43,7 +43,7 @@ def conformance_run():
     return Case("conformance run", KIT, TREE, [*command, "./program"], faults, prepare=write_kit)
 
 
-# It says which commands stand in the scripts, and that there are as many as were asked for.
+# It says which commands the scripts have, and that there are as many as were asked for.
 WRITTEN = """#!/bin/sh
 tools/conformance.py write kit --scripts 12 --lines 30 --only "$1" || exit 1
 [ "$(ls kit/*.txt | wc -l)" = 12 ] && [ "$(ls kit/*.report | wc -l)" = 12 ] || exit 1

@@ -6,7 +6,7 @@ import subprocess
 
 from .trees import ROOT, Case, Fault
 
-# What the scripts call besides what stands in bin/ of the tree.
+# What the scripts call besides what is in bin/ of the tree.
 BASICS = ("sh bash echo env python3 git make ar awk basename cat chmod cp cut date diff dirname find grep head id install ln ls mkdir mktemp mv nproc readlink realpath "
           "rm sed sha256sum sort stat tail tar tee touch tr true uname wc xargs xz").split()
 # What a release needs besides, and the package that has it.

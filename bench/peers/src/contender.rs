@@ -25,7 +25,7 @@ pub trait Contender: Sync {
     fn perform(&self) -> Option<()>;
 }
 
-/// Looks the keys up in turn, each in a section of its own. It answers how many lookups answered the key's place.
+/// Looks the keys up in turn, each in a section of its own. It returns how many lookups answered the key's place.
 pub fn lookups<C: Contender>(contender: &C, keys: &[Key], count: u64) -> u64 {
     let mut right = 0;
     let mut place = 0;

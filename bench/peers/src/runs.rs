@@ -11,7 +11,7 @@ use std::time::Instant;
 const WARMING: u64 = 3;
 const WARMING_CHANGES: u64 = 10;
 
-/// So many operations, by a contender, on these keys. It answers how many went as they should.
+/// So many operations, by a contender, on these keys. It returns how many went as they should.
 pub type Operations<C> = fn(&C, &[Key], u64) -> u64;
 
 /// Waits until so many threads have come.
@@ -22,7 +22,7 @@ fn meet(come: &AtomicUsize, threads: usize) {
     }
 }
 
-/// Makes the operations in so many threads at once. It answers the nanoseconds that one took its thread, or `None` after a wrong answer.
+/// Makes the operations in so many threads at once. It returns the nanoseconds that one took its thread, or `None` after a wrong answer.
 pub fn nanoseconds_each<C: Contender>(
     contender: &C,
     make: Operations<C>,
@@ -48,7 +48,7 @@ pub fn nanoseconds_each<C: Contender>(
     right.then(|| (ended - began).as_secs_f64() * 1e9 / count as f64)
 }
 
-/// Makes the change so many times while so many readers look the keys up in turn; the rest of the threads, but for this one, sleep. It
+/// Makes the change so many times while so many readers look the keys up in turn; the other threads, except this one, sleep. It
 /// answers the nanoseconds that one took, or `None` after a wrong answer: in each turn of a reader only the newest entry may be missing.
 pub fn nanoseconds_waited<C: Contender>(
     contender: &C,
@@ -83,7 +83,7 @@ pub fn nanoseconds_waited<C: Contender>(
     })
 }
 
-/// Looks the keys up in turn until the changes are over. It answers whether all went well.
+/// Looks the keys up in turn until the changes are over. It returns whether all went well.
 fn read_until<C: Contender>(contender: &C, keys: &[Key], over: &AtomicBool) -> bool {
     let mut right = true;
     while !over.load(SeqCst) {
