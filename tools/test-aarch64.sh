@@ -52,7 +52,7 @@ build_archive() {
 
 # The archive has each call of the header, and no other name is seen.
 archive_names() {
-    diff <(clients/calls-of.sh crates/registry_c/include/registry.h) <("${cross}nm" --defined-only "$out/libregistry.a" | awk '$2 ~ /^[A-TV-Z]$/ { print $3 }' | sort)
+    diff <(clients/calls-of.sh crates/registry_c/include/registry{,_limits}.h) <("${cross}nm" --defined-only "$out/libregistry.a" | awk '$2 ~ /^[A-TV-Z]$/ { print $3 }' | sort)
 }
 
 # No call takes more stack than the page says.
