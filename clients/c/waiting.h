@@ -84,7 +84,7 @@ size_t registry_deferred_count(const struct registry_deferred *deferred) REGISTR
 /*
  * registry_deferred_free - free the entries that nothing holds any more, oldest first
  *
- * It makes one registry_advance for each entry that waits, 32 at most. The caller holds the interlock, and may be inside a section. An entry that this
+ * It makes one registry_advance for each entry that waits, REGISTRY_MOST_SLOTS at most. The caller holds the interlock, and may be inside a section. An entry that this
  * section may hold isn't freed. The call never waits.
  * Returns REGISTRY_EMPTY_HANDLE or REGISTRY_DONE. With REGISTRY_DONE the number of freed entries is written to `freed`, which may be NULL.
  */
