@@ -57,7 +57,7 @@ impl<T> Registry<T> {
     ///
     /// # Errors
     ///
-    /// `BadSettings`, `NoMemory`.
+    /// `OtherLimits`, `BadSettings`, `NoMemory`.
     pub fn open(settings: Settings) -> Result<(Registry<T>, Vec<Cpu<T>>), Refusal> {
         let registry = Registry::of(Arc::new(Shared::open(settings)?));
         let cpus = (0..settings.cpus).filter_map(|id| registry.cpu(id)).collect();
@@ -340,7 +340,7 @@ impl<T> Registry<T> {
             return Err(Refusal::MissingCpu);
         }
         cpus[0].release_dropped();
-        let mut list = [ffi::Balance::default(); ffi::MOST_SLOTS];
+        let mut list = [ffi::Balance::EMPTY; ffi::MOST_SLOTS];
         let length = self.audit_into(&cpus, &mut list)?;
         let count = self.settings().cpus;
         Ok(list[..length].iter().map(|balance| Balance::of(balance, count)).collect())
