@@ -36,7 +36,7 @@ CMAKEDIR = $(LIBDIR)/cmake/kupaldiz
 version_part = $(shell sed -n 's/^\#define REGISTRY_VERSION_$(1)[[:blank:]]*//p' $(HEADER)/registry.h)
 MAJOR := $(call version_part,MAJOR)
 VERSION := $(MAJOR).$(call version_part,MINOR).$(call version_part,PATCH)
-# The shared libraries of a build with other CPUs or slots have these in their names: no program for another build starts with them.
+# The shared libraries of a build with other CPUs or slots have these in their names, as libkupaldiz-64x128.so.0: no program for another build starts with them.
 BUILD := $(shell sed -n 's/^\#define REGISTRY_BUILD[[:blank:]]*"\(.*\)"/\1/p' $(HEADER)/registry_limits.h)
 SONAME = libkupaldiz$(BUILD).so.$(MAJOR)
 SHARED = libkupaldiz$(BUILD).so.$(VERSION)
@@ -118,7 +118,7 @@ install: library
 	$(foreach page,$(PAGES),$(call install_page,$(page),$(call named_by,$(page))))
 	$(foreach page,$(NETBSD_PAGES),$(call install_page,$(page),$(call netbsd_named_by,$(page))))
 	$(INSTALL) -m 644 man/kupaldiz_netbsd.7 $(DESTDIR)$(MANDIR)/man7/kupaldiz_netbsd.7
-	$(INSTALL) -m 644 CHANGELOG.md $(DESTDIR)$(DOCDIR)/CHANGELOG.md
+	$(INSTALL) -m 644 CHANGELOG.md VERSIONS.md $(DESTDIR)$(DOCDIR)/
 
 # In a .pc file a blank is written as in a shell, and sed takes a \ of its own. Whatever umask there is, everyone may read what is installed.
 in_sed = $(subst \,\\,$(1))
@@ -156,7 +156,7 @@ uninstall:
 	rm -f $(addprefix $(DESTDIR)$(MANDIR)/man3/,$(foreach page,$(PAGES),$(page).3 $(addsuffix .3$(MANSUFFIX),$(call named_by,$(page)))))
 	rm -f $(addprefix $(DESTDIR)$(MANDIR)/man3/,$(foreach page,$(NETBSD_PAGES),$(page).3 $(addsuffix .3$(MANSUFFIX),$(call netbsd_named_by,$(page)))))
 	rm -f $(DESTDIR)$(MANDIR)/man7/kupaldiz_netbsd.7
-	rm -f $(DESTDIR)$(DOCDIR)/CHANGELOG.md
+	rm -f $(addprefix $(DESTDIR)$(DOCDIR)/,CHANGELOG.md VERSIONS.md)
 	-rmdir $(NETBSD_FOLDERS:%=$(DESTDIR)$(INCLUDEDIR)/kupaldiz/netbsd/%) $(DESTDIR)$(INCLUDEDIR)/kupaldiz/netbsd $(DESTDIR)$(INCLUDEDIR)/kupaldiz \
 	    $(DESTDIR)$(CMAKEDIR) $(DESTDIR)$(DOCDIR)
 

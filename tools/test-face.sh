@@ -62,7 +62,7 @@ build_archive() {
 
 # Other objects see each call of the header in the archive, and no other name.
 archive_names() {
-    diff <(declared) <(nm -g --defined-only "$out/libregistry.a" 2>/dev/null | awk 'NF == 3 { print $3 }' | sort)
+    diff <(clients/calls-of.sh "${header%.h}"{,_limits}.h) <(nm -g --defined-only "$out/libregistry.a" 2>/dev/null | awk 'NF == 3 { print $3 }' | sort)
 }
 
 # The program whose stack is looked at makes each call of the header.
@@ -177,6 +177,8 @@ test_c() {
     check "C: misuse is answered" "$out/misuse"
     check "C: each allocation refused" "$out/refuse"
     check "C: what each call takes and frees, and what is planted" "$out/blocks"
+    check "C: the build's version and limits" "$out/built"
+    counted "C: programs compiled for other limits" clients/other-limits.sh "${header%/*}" "$out/libregistry.a"
     check "C: the layout of each struct" "$out/layout"
     check "C: unwinds makes each call" unwinds_calls
     check "C: a debugger's stack goes through each call" "$out/unwinds"
@@ -207,6 +209,7 @@ test_watched() {
     check "C: row under valgrind" row_says guarded "$out/row"
     check "C: packet under valgrind" guarded "$out/packet"
     check "C: misuse under valgrind" guarded "$out/misuse"
+    check "C: the build's limits under valgrind" guarded "$out/built"
     check "C: the layout of each struct under valgrind" guarded "$out/layout"
     check "C: waits under valgrind" guarded "$out/waits"
     check "C: walk under valgrind" guarded "$out/walk" 50
@@ -218,6 +221,7 @@ test_watched() {
     check "C: misuse with sanitizers" "$out/sanitized-misuse"
     check "C: packet with sanitizers" "$out/sanitized-packet"
     check "C: row with sanitizers" row_says "$out/sanitized-row"
+    check "C: the build's limits with sanitizers" "$out/sanitized-built"
     check "C: walk with sanitizers" "$out/sanitized-walk" 1000
     check "C: entries with sanitizers" "$out/sanitized-entries" 300
     check "C: names with sanitizers" "$out/sanitized-names"

@@ -22,6 +22,8 @@ struct registry_lock {
 	void *of;
 };
 
+REGISTRY_WORDS(struct registry_lock, 3);
+
 /*
  * registry_lock_of_mutex - the interlock that is this mutex
  *
@@ -75,6 +77,8 @@ struct registry_deferred {
 	size_t count;
 	struct registry_entry entries[REGISTRY_MOST_SLOTS];
 };
+
+REGISTRY_WORDS(struct registry_deferred, 3 + 6 * REGISTRY_MOST_SLOTS);
 
 /*
  * registry_deferred_count - the number of entries that wait in the list

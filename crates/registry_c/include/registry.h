@@ -246,7 +246,7 @@ struct registry_limits {
 #define REGISTRY_LIMITS                                                                                                            \
 	{REGISTRY_MOST_CPUS, REGISTRY_MOST_SLOTS, REGISTRY_MOST_CHANGES, REGISTRY_MOST_SECTIONS, REGISTRY_MOST_COUNT, REGISTRY_MOST_DEPTH}
 
-/* The sizes of all structs, in words of 64 bits. The library writes them so. No version with this major number changes one of a build with these limits. */
+/* The sizes of all structs, in words of 64 bits: as the library writes them. */
 #if defined(__cplusplus) && __cplusplus >= 201103L
 #define REGISTRY_WORDS(type, words)	static_assert(sizeof(type) == (words) * sizeof(uint64_t), "the library has another size of this")
 #elif defined(__STDC_VERSION__) && __STDC_VERSION__ >= 201112L
@@ -288,8 +288,8 @@ size_t registry_text(registry_answer answer, char *text, size_t room);
 /*
  * registry_strerror - the English text of a result, as a string that is never freed
  *
- * It is the text of registry_text. It is never NULL, and never written to. REGISTRY_OTHER_LIMITS has a text here alone. For a number that no call
- * returns it is "no call answers this". It is C: tested, not proved.
+ * It is the text of registry_text. It is never NULL, and never written to. REGISTRY_OTHER_LIMITS has a text here alone. For any other number it is "no call
+ * answers this". It is C: tested, not proved.
  */
 const char *registry_strerror(registry_answer answer);
 
