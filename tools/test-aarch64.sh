@@ -109,6 +109,8 @@ test_clients() {
     check "packet" emulated "$out/packet"
     check "misuse is answered" emulated "$out/misuse"
     check "each allocation refused" emulated -L "/usr/$processor-linux-gnu" "$out/refuse"
+    check "the build's version and limits" emulated "$out/built"
+    counted "programs compiled for other limits" env CC="${cross}gcc" RUN="$emulator" clients/other-limits.sh crates/registry_c/include "$out/libregistry.a"
     check "the layout of each struct" emulated "$out/layout"
     check "walk" emulated "$out/walk" 200
     check "usual" emulated "$out/usual" 50

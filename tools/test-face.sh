@@ -271,6 +271,15 @@ test_bench() {
     counted "C: a driver's threads in every order" tools/test-bench.sh
 }
 
+# A program over the crate that is compiled for other limits than the archive's opens nothing.
+refuses_other_limits() {
+    local room=$PWD/$out/other-limits
+    mkdir -p "$room" && cp "$out/libregistry.a" "$room" &&
+        sed -E 's/^(#define REGISTRY_MOST_CHANGES[[:blank:]]+)(.*)/\1(\2 + 1)/' "${header%.h}_limits.h" >"$room/registry_limits.h" || return 1
+    ! (cd clients/rust && REGISTRY_LIB_DIR=$room CARGO_TARGET_DIR=$room/target cargo run -q --offline --example row) >"$log.said" 2>&1 &&
+        grep -q OtherLimits "$log.said"
+}
+
 test_rust() {
     local storm
     cd clients/rust || return
@@ -287,6 +296,7 @@ test_rust() {
     check "Rust: the examples are built" cargo build --offline --release --examples
     cd ../.. || return
     check "Rust: packet" "$examples/packet"
+    check "Rust: compiled for other limits, nothing is opened" refuses_other_limits
     check "Rust: row" row_says "$examples/row"
     for storm in "1 1000" "2 3" "4 20000" "8 5000"; do
         # shellcheck disable=SC2086

@@ -60,10 +60,18 @@ struct Heavy {
 }
 
 /// The baskets of all CPUs.
-#[derive(Default)]
 pub struct Baskets {
     of_cpu: [Basket; ffi::MOST_CPUS],
     heavy: Heavy,
+}
+
+impl Default for Baskets {
+    fn default() -> Baskets {
+        Baskets {
+            of_cpu: [(); ffi::MOST_CPUS].map(|()| Basket::default()),
+            heavy: Heavy::default(),
+        }
+    }
 }
 
 impl Default for Dropped {
