@@ -98,6 +98,7 @@ no_start() {
 
 : "${CC:=gcc}" "${RUN:=}"
 check "the same limits: a registry is opened" says same '0: done'
+check "the symbol of this build is named by its limits" [ "$(asked_for same)" = "registry_for_$(limit CPUS)_cpus_$(limit SLOTS)_slots" ]
 for limit in CHANGES SECTIONS COUNT DEPTH; do
     check "other $limit: registry_open refuses it" says "$limit" "$refused"
 done
