@@ -41,7 +41,7 @@ lay_archive() {
     [ -n "$archive" ] || return 0
     [ -f "${archive%.a}.proved" ] || refuse "there is no ${archive%.a}.proved, the record of the archive's proof: tools/build-archive.sh writes it"
     mkdir -p "$to"
-    cp "$archive" "${archive%.a}.proved" "$to"
+    cp "$archive" "${archive%.a}.proved" "$(first "${archive%/*}/registry_limits.h" include/registry_limits.h ../crates/registry_c/include/registry_limits.h)" "$to"
     program=$(first archive/x86_64/registry_run ../crates/registry_run/out/registry_run)
     if [ "$1" = x86_64 ] && [ -n "$program" ]; then
         cp "$program" "$to/registry_run"
@@ -66,12 +66,13 @@ lay() {
     local to=$1 scripts
     scripts=$(first scripts ../examples)
     mkdir -p "$to/c" "$to/scripts"
-    cp -r Makefile ./*.mk ./*.map ./*.in ./*.sh ./*.md man netbsd bench examples debian "$to"
+    # The header of the limits is a link in some folders, and a file in each of these here.
+    cp -rL Makefile ./*.mk ./*.map ./*.in ./*.sh ./*.md man netbsd bench examples debian "$to"
     cp c/*.[ch] "$to/c"
     cp -r "$(first include ../crates/registry_c/include)" "$to/include"
     cp "$scripts"/*.txt "$scripts"/*.report "$to/scripts"
     mkdir "$to/rust"
-    cp -r rust/Cargo.toml rust/README.md rust/build.rs rust/src rust/examples rust/tests "$to/rust"
+    cp -rL rust/Cargo.toml rust/README.md rust/build.rs rust/registry_limits.h rust/src rust/examples rust/tests "$to/rust"
     lay_archive x86_64 "$to"
     lay_archive aarch64 "$to"
     [ ! -f debian/changelog.in ] || fill "$to/debian/changelog"

@@ -36,10 +36,12 @@ CMAKEDIR = $(LIBDIR)/cmake/kupaldiz
 version_part = $(shell sed -n 's/^\#define REGISTRY_VERSION_$(1)[[:blank:]]*//p' $(HEADER)/registry.h)
 MAJOR := $(call version_part,MAJOR)
 VERSION := $(MAJOR).$(call version_part,MINOR).$(call version_part,PATCH)
-SONAME = libkupaldiz.so.$(MAJOR)
-SHARED = libkupaldiz.so.$(VERSION)
-NETBSD_SONAME = libkupaldiz_netbsd.so.$(MAJOR)
-NETBSD_SHARED = libkupaldiz_netbsd.so.$(VERSION)
+# The shared libraries of a build with other CPUs or slots have these in their names, as libkupaldiz-64x128.so.0: no program for another build starts with them.
+BUILD := $(shell sed -n 's/^\#define REGISTRY_BUILD[[:blank:]]*"\(.*\)"/\1/p' $(HEADER)/registry_limits.h)
+SONAME = libkupaldiz$(BUILD).so.$(MAJOR)
+SHARED = libkupaldiz$(BUILD).so.$(VERSION)
+NETBSD_SONAME = libkupaldiz_netbsd$(BUILD).so.$(MAJOR)
+NETBSD_SHARED = libkupaldiz_netbsd$(BUILD).so.$(VERSION)
 
 # The headers of the pages' names: those that the pages name, in sys and net, and what these are made of. What the layer is built from.
 NETBSD_FOLDERS = kupaldiz sys net
@@ -60,7 +62,7 @@ LINKED = $(filter-out -flto%,$(CFLAGS)) $(LDFLAGS) -shared $(LINK_HARDENING) -Wl
 
 library: $(OUT)/libkupaldiz.a $(OUT)/$(SHARED) $(OUT)/libkupaldiz_netbsd.a $(OUT)/$(NETBSD_SHARED)
 
-$(OUT)/waiting.o: c/waiting.c c/waiting.h $(HEADER)/registry.h places.mk install.mk | $(OUT)
+$(OUT)/waiting.o: c/waiting.c c/waiting.h $(FACE) places.mk install.mk | $(OUT)
 	$(CC) $(COMPILED) -c -o $@ $<
 
 $(OUT)/libkupaldiz.a: $(ARCHIVE) $(OUT)/waiting.o
@@ -74,7 +76,7 @@ $(OUT)/$(SHARED): $(OUT)/libkupaldiz.a kupaldiz.map install.mk
 	$(CC) $(LINKED) -o $@ -Wl,-soname,$(SONAME) -Wl,--version-script=kupaldiz.map \
 	    -Wl,--whole-archive $(OUT)/libkupaldiz.a -Wl,--no-whole-archive -pthread
 
-$(NETBSD_OBJECTS): $(OUT)/installed-netbsd/%.o: netbsd/src/%.c netbsd/src/layer.h $(addprefix netbsd/,$(NETBSD_HEADERS)) $(HEADER)/registry.h places.mk install.mk
+$(NETBSD_OBJECTS): $(OUT)/installed-netbsd/%.o: netbsd/src/%.c netbsd/src/layer.h $(addprefix netbsd/,$(NETBSD_HEADERS)) $(FACE) places.mk install.mk
 	mkdir -p $(OUT)/installed-netbsd
 	$(CC) $(COMPILED) -Inetbsd -c -o $@ $<
 
@@ -93,7 +95,7 @@ comma := ,
 
 # The public names: those of the headers, of the maps, and of what was built.
 symbols: library
-	NM=$(CROSS)nm ./symbols.sh $(HEADER) $(OUT) $(VERSION)
+	NM=$(CROSS)nm ./symbols.sh $(HEADER) $(OUT) '$(BUILD)' $(VERSION)
 
 install: library
 	$(INSTALL) -d $(DESTDIR)$(PKGCONFIGDIR) $(DESTDIR)$(CMAKEDIR) $(NETBSD_FOLDERS:%=$(DESTDIR)$(INCLUDEDIR)/kupaldiz/netbsd/%) \
@@ -102,7 +104,7 @@ install: library
 	$(INSTALL) -m 755 $(OUT)/$(SHARED) $(DESTDIR)$(LIBDIR)/$(SHARED)
 	ln -sf $(SHARED) $(DESTDIR)$(LIBDIR)/$(SONAME)
 	ln -sf $(SONAME) $(DESTDIR)$(LIBDIR)/libkupaldiz.so
-	$(INSTALL) -m 644 $(HEADER)/registry.h $(DESTDIR)$(INCLUDEDIR)/kupaldiz/registry.h
+	$(INSTALL) -m 644 $(FACE) $(DESTDIR)$(INCLUDEDIR)/kupaldiz/
 	$(INSTALL) -m 644 c/waiting.h $(DESTDIR)$(INCLUDEDIR)/kupaldiz/registry_waiting.h
 	$(INSTALL) -m 644 $(OUT)/libkupaldiz_netbsd.a $(DESTDIR)$(LIBDIR)/libkupaldiz_netbsd.a
 	$(INSTALL) -m 755 $(OUT)/$(NETBSD_SHARED) $(DESTDIR)$(LIBDIR)/$(NETBSD_SHARED)
@@ -116,18 +118,18 @@ install: library
 	$(foreach page,$(PAGES),$(call install_page,$(page),$(call named_by,$(page))))
 	$(foreach page,$(NETBSD_PAGES),$(call install_page,$(page),$(call netbsd_named_by,$(page))))
 	$(INSTALL) -m 644 man/kupaldiz_netbsd.7 $(DESTDIR)$(MANDIR)/man7/kupaldiz_netbsd.7
-	$(INSTALL) -m 644 CHANGELOG.md $(DESTDIR)$(DOCDIR)/CHANGELOG.md
+	$(INSTALL) -m 644 CHANGELOG.md VERSIONS.md $(DESTDIR)$(DOCDIR)/
 
 # In a .pc file a blank is written as in a shell, and sed takes a \ of its own. Whatever umask there is, everyone may read what is installed.
 in_sed = $(subst \,\\,$(1))
 filled = umask 022; sed -e 's|@LIBDIR@|$(call in_sed,$(LIBDIR))|' -e 's|@INCLUDEDIR@|$(call in_sed,$(INCLUDEDIR))|' \
     -e 's|^\([a-z]*dir\)=$(call in_sed,$(PREFIX))/|\1=$${prefix}/|' -e 's|@PREFIX@|$(call in_sed,$(PC_PREFIX))|' \
-    -e 's|@VERSION@|$(VERSION)|' -e 's|@MAJOR@|$(MAJOR)|' -e 's|@LICENCE@|$(LICENCE)|' $(if $(LICENCE),,-e '/^License: *$$/d')
+    -e 's|@VERSION@|$(VERSION)|' -e 's|@BUILD@|$(BUILD)|' -e 's|@MAJOR@|$(MAJOR)|' -e 's|@LICENCE@|$(LICENCE)|' $(if $(LICENCE),,-e '/^License: *$$/d')
 
 # What an older version with the same soname has left: nothing asks for it by its whole number.
 install: without_older
 without_older: library
-	rm -f $(DESTDIR)$(LIBDIR)/libkupaldiz.so.$(MAJOR).* $(DESTDIR)$(LIBDIR)/libkupaldiz_netbsd.so.$(MAJOR).*
+	rm -f $(DESTDIR)$(LIBDIR)/$(SONAME).* $(DESTDIR)$(LIBDIR)/$(NETBSD_SONAME).*
 	rm -f $(DESTDIR)$(PKGCONFIGDIR)/kupaldiz.pc $(DESTDIR)$(PKGCONFIGDIR)/kupaldiz-netbsd.pc
 
 # install_page PAGE,CALLS: a page, and for each call that it names a page of one line that leads to it.
@@ -150,11 +152,11 @@ uninstall:
 	rm -f $(addprefix $(DESTDIR)$(LIBDIR)/,libkupaldiz_netbsd.a $(NETBSD_SHARED) $(NETBSD_SONAME) libkupaldiz_netbsd.so pkgconfig/kupaldiz-netbsd.pc)
 	rm -f $(addprefix $(DESTDIR)$(CMAKEDIR)/,kupaldizConfig.cmake kupaldizConfigVersion.cmake)
 	rm -f $(addprefix $(DESTDIR)$(INCLUDEDIR)/kupaldiz/netbsd/,$(NETBSD_HEADERS))
-	rm -f $(addprefix $(DESTDIR)$(INCLUDEDIR)/kupaldiz/,registry.h registry_waiting.h)
+	rm -f $(addprefix $(DESTDIR)$(INCLUDEDIR)/kupaldiz/,registry.h registry_limits.h registry_waiting.h)
 	rm -f $(addprefix $(DESTDIR)$(MANDIR)/man3/,$(foreach page,$(PAGES),$(page).3 $(addsuffix .3$(MANSUFFIX),$(call named_by,$(page)))))
 	rm -f $(addprefix $(DESTDIR)$(MANDIR)/man3/,$(foreach page,$(NETBSD_PAGES),$(page).3 $(addsuffix .3$(MANSUFFIX),$(call netbsd_named_by,$(page)))))
 	rm -f $(DESTDIR)$(MANDIR)/man7/kupaldiz_netbsd.7
-	rm -f $(DESTDIR)$(DOCDIR)/CHANGELOG.md
+	rm -f $(addprefix $(DESTDIR)$(DOCDIR)/,CHANGELOG.md VERSIONS.md)
 	-rmdir $(NETBSD_FOLDERS:%=$(DESTDIR)$(INCLUDEDIR)/kupaldiz/netbsd/%) $(DESTDIR)$(INCLUDEDIR)/kupaldiz/netbsd $(DESTDIR)$(INCLUDEDIR)/kupaldiz \
 	    $(DESTDIR)$(CMAKEDIR) $(DESTDIR)$(DOCDIR)
 

@@ -22,6 +22,8 @@ OBJCOPY = $(CROSS)objcopy
 
 # In the repository the header is the crate's, and archives are what tools/build-archive.sh makes. A release's source has both in folders of its own.
 HEADER := $(firstword $(wildcard $(TOP)include) $(TOP)../crates/registry_c/include)
+# What is proved, in C: its calls, and the limits of its build.
+FACE = $(HEADER)/registry.h $(HEADER)/registry_limits.h
 OUT := $(TOP)out$(if $(filter-out x86_64,$(PROCESSOR)),/$(PROCESSOR))
 ARCHIVE := $(firstword $(wildcard $(TOP)archive/$(PROCESSOR)/libregistry.a) $(OUT)/libregistry.a)
 

@@ -1,13 +1,13 @@
 #!/usr/bin/env bash
-# Compares the public names of the libraries: symbols.sh HEADERS OUT VERSION. The calls that the headers declare are those that the maps name, those that the
+# Compares the public names of the libraries: symbols.sh HEADERS OUT BUILD VERSION. The calls that the headers declare are those that the maps name, those that the
 # shared libraries show and those that the static ones do. Else it prints the difference, and its status is 1. `make symbols` calls it.
 set -uo pipefail
 cd "$(dirname "$0")" || exit
-if [ $# -ne 3 ]; then
-    echo "usage: symbols.sh HEADERS OUT VERSION" >&2
+if [ $# -ne 4 ]; then
+    echo "usage: symbols.sh HEADERS OUT BUILD VERSION" >&2
     exit 2
 fi
-headers=$1 out=$2 version=$3
+headers=$1 out=$2 suffix=$3.so.$4
 wrong=0
 
 # As the linker knows the calls of the pages' names.
@@ -17,7 +17,7 @@ with_prefix() {
 
 # The names in the nodes of a map.
 mapped() {
-    sed -nE 's/^\t\t([a-z][a-z0-9_]*);$/\1/p' "$1" | sort
+    sed -nE 's/^\t\t([a-z][a-z0-9_]*\*?);$/\1/p' "$1" | sort
 }
 
 # What a shared library shows, without its versions' own names.
@@ -39,21 +39,22 @@ same() {
     fi
 }
 
-calls=$(./calls-of.sh "$headers/registry.h" c/waiting.h)
-same kupaldiz.map "$calls" "$(mapped kupaldiz.map)"
-same libkupaldiz.so "$calls" "$(shared "$out/libkupaldiz.so.$version")"
+calls=$(./calls-of.sh "$headers"/registry{,_limits}.h c/waiting.h)
+# The map has one name for what the call is called in each build.
+same kupaldiz.map "$(sed -E 's/^registry_for_[0-9].*/registry_for_*/' < <(echo "$calls"))" "$(mapped kupaldiz.map)"
+same libkupaldiz.so "$calls" "$(shared "$out/libkupaldiz$suffix")"
 same libkupaldiz.a "$calls" "$(static "$out/libkupaldiz.a")"
 # With the pages' names the bench has two calls more, and its own.
 pages=$(./calls-of.sh netbsd/kupaldiz/*.h | with_prefix)
 calls=$(grep -vxE 'kupaldiz_(point|from)' <<<"$pages")
 same netbsd.map "$calls" "$(mapped netbsd/netbsd.map)"
-same libkupaldiz_netbsd.so "$calls" "$(shared "$out/libkupaldiz_netbsd.so.$version")"
+same libkupaldiz_netbsd.so "$calls" "$(shared "$out/libkupaldiz_netbsd$suffix")"
 # Two words of each thread, hidden, which the layer's parts share.
 same libkupaldiz_netbsd.a "$calls" "$(static "$out/libkupaldiz_netbsd.a" | grep -vxE 'kupaldiz_(self|places)')"
 if [ -f "$out/libkupaldiz_bench.a" ]; then
     calls=$(sort <<<"$pages"$'\n'"$(./calls-of.sh bench/bench.h)")
     same bench.map "$calls" "$(mapped bench/bench.map)"
-    same libkupaldiz_bench.so "$calls" "$(shared "$out/libkupaldiz_bench.so.$version")"
+    same libkupaldiz_bench.so "$calls" "$(shared "$out/libkupaldiz_bench$suffix")"
     same libkupaldiz_bench.a "$calls" "$(static "$out/libkupaldiz_bench.a")"
 fi
 exit "$wrong"

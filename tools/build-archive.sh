@@ -1,8 +1,8 @@
 #!/usr/bin/env bash
 # Proves and builds the static library of the C face, gives it unwind tables, and joins it with what is C of the archive into one object, in which only the
-# calls of registry.h are seen from outside: the three functions of the heap, and the few calls that are made of the others. That object alone is the
-# archive libregistry.a. Beside it lies libregistry.proved, the record of the proof. A C program needs registry.h, the archive and nothing else of the
-# repository.
+# calls of registry.h are seen from outside: the three functions of the heap, and the few calls that are made of the others or tell the build. That object
+# alone is the archive libregistry.a. Beside it lie libregistry.proved, the record of the proof, and registry_limits.h, the limits that it was built for. A C
+# program needs registry.h, registry_limits.h, the archive and nothing else of the repository.
 #
 #     tools/build-archive.sh                  proves and builds the library first: clients/out/libregistry.a
 #     tools/build-archive.sh LIBRARY LOG      takes libregistry_c.a as tools/archive-beside.py has proved and built it, and what the proof said
@@ -44,7 +44,7 @@ prove() {
     (cd crates/registry_c && rt lib "${target[@]}") 2>&1 | tee "$log"
 }
 
-# What is C of the archive, as objects: the functions of the heap, and the calls of the header that are made of its others.
+# What is C of the archive, as objects: the functions of the heap, the calls of the header that are made of its others, and those that tell the build.
 compile() {
     local part
     for part in $parts; do
@@ -60,7 +60,7 @@ parts=$(tools/proof-record.py parts)
 compile
 # shellcheck disable=SC2086
 (cd "$room" && "${tools}ld" -r -o whole.o registry_c.o ${parts// /.o }.o)
-clients/calls-of.sh crates/registry_c/include/registry.h >"$room/calls"
+clients/calls-of.sh crates/registry_c/include/registry{,_limits}.h >"$room/calls"
 [ -s "$room/calls" ] || refuse "registry.h declares no call"
 "${tools}objcopy" --keep-global-symbols="$room/calls" "$room/whole.o" "$room/registry.o"
 (cd "$room" && "${tools}ar" rcsD libregistry.a registry.o)
@@ -69,6 +69,7 @@ tools/proof-record.py write "$processor" "$log" "$room/compiled.o" "$room/regist
 mkdir -p "$out"
 rm -f "$out/libregistry.a"
 mv "$room/libregistry.proved" "$out/libregistry.proved"
+cp crates/registry_c/include/registry_limits.h "$out/registry_limits.h"
 mv "$room/libregistry.a" "$out/libregistry.a.new"
 mv "$out/libregistry.a.new" "$out/libregistry.a"
 echo "$out/libregistry.a"

@@ -5,37 +5,27 @@
 """
 import pathlib
 import re
+import subprocess
 import sys
 
 sys.dont_write_bytecode = True
 
 from counts import ended
+from limits import DEFAULTS, LIMITS, ROOT, limits, number
 
-ROOT = pathlib.Path(__file__).resolve().parent.parent
-LIMITS = "crates/registry_values/src/limits.rt"
+# The header with all limits, and the tool that makes it.
+HEADER = "crates/registry_c/include/registry_limits.h"
+MAKER = "tools/limits-header.py"
 
-# The default build has these, and keeps them.
-DEFAULTS = {"MOST_CPUS": 8, "MOST_SLOTS": 32, "MOST_CHANGES": 1_000_000, "MOST_SECTIONS": 1 << 40, "MOST_COUNT": 1 << 40, "MOST_DEPTH": 255}
+# Where the Rust crate has that header.
+IN_CRATE = "clients/rust/registry_limits.h"
 
 # Which constant a place has, and how it says it.
 PLACES = (
-    ("MOST_CPUS", "crates/registry_c/include/registry.h", r"#define REGISTRY_MOST_CPUS\s+(\d+)"),
-    ("MOST_SLOTS", "crates/registry_c/include/registry.h", r"#define REGISTRY_MOST_SLOTS\s+(\d+)"),
-    ("MOST_CHANGES", "crates/registry_c/include/registry.h", r"#define REGISTRY_MOST_CHANGES\s+(\d+)"),
-    ("MOST_COUNT", "crates/registry_c/include/registry.h", r"#define REGISTRY_MOST_COUNT\s+\(\(uint64_t\)(1 << \d+)\)"),
-    ("MOST_DEPTH", "crates/registry_c/include/registry.h", r"#define REGISTRY_MOST_DEPTH\s+(\d+)"),
-    ("MOST_CPUS", "clients/rust/src/ffi.rs", r"const MOST_CPUS: usize = (\d+);"),
-    ("MOST_SLOTS", "clients/rust/src/ffi.rs", r"const MOST_SLOTS: usize = (\d+);"),
     ("MOST_CPUS", "bench/common.h", r"MOST_THREADS = (\d+)"),
     ("MOST_SLOTS", "bench/common.h", r"MOST_ENTRIES = (\d+)"),
     ("MOST_SLOTS", "bench/peers/src/list.rs", r"const MOST_ENTRIES: usize = (\d+);"),
 )
-
-
-def number(word):
-    """The number that the word says: digits, or a power of 2."""
-    digits, _, power = word.replace("_", "").partition(" << ")
-    return int(digits) << int(power or 0)
 
 
 def said(path, pattern):
@@ -44,23 +34,29 @@ def said(path, pattern):
     return found and number(found[1])
 
 
-def limit(name):
-    """The limit of that name, as Rattle says it, or none."""
-    return said(LIMITS, rf"const {name}: \w+ = (\d[\d_]*(?: << \d+)?);")
+def same_header(path):
+    """Whether the header there is the one that the tool makes."""
+    made = subprocess.run([sys.executable, ROOT / MAKER], capture_output=True, text=True)
+    return made.returncode == 0 and pathlib.Path(ROOT / path).read_text() == made.stdout
 
 
 def main():
     failed = 0
+    of = limits()
+    for path in (HEADER, IN_CRATE):
+        if not same_header(path):
+            failed += 1
+            print(f"{path} isn't what {MAKER} makes of {LIMITS}: {MAKER} >{HEADER}")
     for name, path, pattern in PLACES:
-        wanted, found = limit(name), said(path, pattern)
-        if wanted is None or found != wanted:
+        found = said(path, pattern)
+        if of[name] is None or found != of[name]:
             failed += 1
-            print(f"{path}: {name} is {found} there, and {wanted} in {LIMITS}")
+            print(f"{path}: {name} is {found} there, and {of[name]} in {LIMITS}")
     for name, wanted in DEFAULTS.items():
-        if limit(name) != wanted:
+        if of[name] != wanted:
             failed += 1
-            print(f"{LIMITS}: {name} is {limit(name)}, and {wanted} in the default build")
-    return ended(len(PLACES) + len(DEFAULTS) - failed, failed)
+            print(f"{LIMITS}: {name} is {of[name]}, and {wanted} in the default build")
+    return ended(2 + len(PLACES) + len(DEFAULTS) - failed, failed)
 
 
 sys.exit(main())

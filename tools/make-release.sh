@@ -106,7 +106,7 @@ crate() {
     for processor in x86_64 aarch64; do
         if [ -d "$room/$source_name/archive/$processor" ]; then
             mkdir -p "$room/crate/archive/$processor"
-            cp "$room/$source_name/archive/$processor"/libregistry.* "$room/crate/archive/$processor"
+            cp "$room/$source_name/archive/$processor"/{libregistry.*,registry_limits.h} "$room/crate/archive/$processor"
         fi
     done
     (cd "$room/crate" && CARGO_TARGET_DIR=$room/target quietly cargo package --offline --no-verify --allow-dirty)

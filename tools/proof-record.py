@@ -20,7 +20,7 @@ sys.dont_write_bytecode = True
 from kit import ROOT, below
 
 LIBRARY = "registry_c"
-PARTS = ("heap", "composed", "strings")
+PARTS = ("heap", "composed", "strings", "limits")
 VERDICT = re.compile(r"^logic=proved .*$", re.M)
 NAMES = ("processor", "kit", "verdict", "sources", "commit", "compiled", "object")
 MAKE = "tools/build-archive.sh{} proves and builds it"
@@ -42,7 +42,8 @@ def sum_of(path):
 
 def sources():
     """The files that the archive is proved from, and those in C that are joined with it."""
-    files = [ROOT / "crates.txt", ROOT / "crates" / LIBRARY / "include/registry.h", *(ROOT / f"clients/c/{part}.c" for part in PARTS)]
+    headers = sorted((ROOT / "crates" / LIBRARY / "include").glob("*.h"))
+    files = [ROOT / "crates.txt", *headers, *(ROOT / f"clients/c/{part}.c" for part in PARTS)]
     for crate in sorted([LIBRARY, *below(LIBRARY)]):
         files += [it for part in ("src", "specs", "proofs") for it in sorted((ROOT / "crates" / crate / part).rglob("*")) if it.is_file()]
     return files

@@ -52,7 +52,7 @@ build_archive() {
 
 # The archive has each call of the header, and no other name is seen.
 archive_names() {
-    diff <(clients/calls-of.sh crates/registry_c/include/registry.h) <("${cross}nm" --defined-only "$out/libregistry.a" | awk '$2 ~ /^[A-TV-Z]$/ { print $3 }' | sort)
+    diff <(clients/calls-of.sh crates/registry_c/include/registry{,_limits}.h) <("${cross}nm" --defined-only "$out/libregistry.a" | awk '$2 ~ /^[A-TV-Z]$/ { print $3 }' | sort)
 }
 
 # No call takes more stack than the page says.
@@ -109,6 +109,8 @@ test_clients() {
     check "packet" emulated "$out/packet"
     check "misuse is answered" emulated "$out/misuse"
     check "each allocation refused" emulated -L "/usr/$processor-linux-gnu" "$out/refuse"
+    check "the build's version and limits" emulated "$out/built"
+    counted "programs compiled for other limits" env CC="${cross}gcc" RUN="$emulator" clients/other-limits.sh crates/registry_c/include "$out/libregistry.a"
     check "the layout of each struct" emulated "$out/layout"
     check "walk" emulated "$out/walk" 200
     check "usual" emulated "$out/usual" 50

@@ -50,7 +50,7 @@ build_archive() {
 
 # Other objects see each call of the header in the archive, and no other name.
 archive_names() {
-    diff <(declared) <(nm -g --defined-only "$out/libregistry.a" 2>/dev/null | awk 'NF == 3 { print $3 }' | sort)
+    diff <(clients/calls-of.sh "${header%.h}"{,_limits}.h) <(nm -g --defined-only "$out/libregistry.a" 2>/dev/null | awk 'NF == 3 { print $3 }' | sort)
 }
 
 # The program whose stack is looked at makes each call of the header.
@@ -162,6 +162,8 @@ test_c() {
     check "C: misuse is answered" "$out/misuse"
     check "C: each allocation refused" "$out/refuse"
     check "C: what each call takes and frees, and what is planted" "$out/blocks"
+    check "C: the build's version and limits" "$out/built"
+    counted "C: programs compiled for other limits" clients/other-limits.sh "${header%/*}" "$out/libregistry.a"
     check "C: the layout of each struct" "$out/layout"
     check "C: unwinds makes each call" unwinds_calls
     check "C: a debugger's stack goes through each call" "$out/unwinds"
@@ -192,6 +194,7 @@ test_watched() {
     check "C: row under valgrind" row_says guarded "$out/row"
     check "C: packet under valgrind" guarded "$out/packet"
     check "C: misuse under valgrind" guarded "$out/misuse"
+    check "C: the build's limits under valgrind" guarded "$out/built"
     check "C: the layout of each struct under valgrind" guarded "$out/layout"
     check "C: waits under valgrind" guarded "$out/waits"
     check "C: walk under valgrind" guarded "$out/walk" 50
@@ -203,6 +206,7 @@ test_watched() {
     check "C: misuse with sanitizers" "$out/sanitized-misuse"
     check "C: packet with sanitizers" "$out/sanitized-packet"
     check "C: row with sanitizers" row_says "$out/sanitized-row"
+    check "C: the build's limits with sanitizers" "$out/sanitized-built"
     check "C: walk with sanitizers" "$out/sanitized-walk" 1000
     check "C: entries with sanitizers" "$out/sanitized-entries" 300
     check "C: names with sanitizers" "$out/sanitized-names"
@@ -252,6 +256,15 @@ test_bench() {
     counted "C: a driver's threads in every order" tools/test-bench.sh
 }
 
+# A program over the crate that is compiled for other limits than the archive's opens nothing.
+refuses_other_limits() {
+    local room=$PWD/$out/other-limits
+    mkdir -p "$room" && cp "$out/libregistry.a" "$room" &&
+        sed -E 's/^(#define REGISTRY_MOST_CHANGES[[:blank:]]+)(.*)/\1(\2 + 1)/' "${header%.h}_limits.h" >"$room/registry_limits.h" || return 1
+    ! (cd clients/rust && REGISTRY_LIB_DIR=$room CARGO_TARGET_DIR=$room/target cargo run -q --offline --example row) >"$log.said" 2>&1 &&
+        grep -q OtherLimits "$log.said"
+}
+
 test_rust() {
     local storm
     cd clients/rust || return
@@ -268,6 +281,7 @@ test_rust() {
     check "Rust: the examples are built" cargo build --offline --release --examples
     cd ../.. || return
     check "Rust: packet" "$examples/packet"
+    check "Rust: compiled for other limits, nothing is opened" refuses_other_limits
     check "Rust: row" row_says "$examples/row"
     for storm in "1 1000" "2 3" "4 20000" "8 5000"; do
         # shellcheck disable=SC2086

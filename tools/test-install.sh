@@ -202,7 +202,7 @@ test_places() {
 # The page of each call is found by its name, and is the one that names it.
 pages_are_found() {
     local call page
-    for call in $(calls_of_headers); do
+    for call in $(calls_of_headers | grep -v '^registry_for_[0-9]'); do
         page=$(MANPAGER=cat MANROFFOPT='' man -M "$stage$prefix/share/man" 3 "$call" 2>/dev/null | col -b)
         if ! grep -q "$call" <<<"$page" || ! grep -qE '^NAME' <<<"$page"; then
             echo "no page $call(3)"
@@ -233,7 +233,7 @@ wanted() {
         echo "l 777 $me $libdir/$library.so -> $library.so.$major"
     done
     for file in "$libdir"/pkgconfig/kupaldiz{,-netbsd,-bench}.pc "$libdir"/cmake/kupaldiz/kupaldizConfig{,Version}.cmake \
-        "$prefix"/include/kupaldiz/{registry,registry_waiting,bench}.h "$prefix/share/doc/kupaldiz/CHANGELOG.md"; do
+        "$prefix"/include/kupaldiz/{registry,registry_limits,registry_waiting,bench}.h "$prefix"/share/doc/kupaldiz/{CHANGELOG,VERSIONS}.md; do
         echo "f 644 $me $file"
     done
     (cd "$clients/netbsd" && find . -name '*.h' -not -path './tests/*' -not -path './src/*' -not -path './examples/*') | sed "s|^\.|f 644 $me $prefix/include/kupaldiz/netbsd|"
@@ -295,7 +295,7 @@ relinks() {
 copy_clients() {
     local copy=$room/a\ copy
     mkdir -p "$copy/clients/out" "$copy/crates/registry_c"
-    (cd clients && cp -r Makefile ./*.mk ./*.in ./*.map ./*.sh CHANGELOG.md c examples man netbsd bench "$copy/clients") || return
+    (cd clients && cp -r Makefile ./*.mk ./*.in ./*.map ./*.sh CHANGELOG.md VERSIONS.md c examples man netbsd bench "$copy/clients") || return
     cp clients/out/libregistry.a "$copy/clients/out" && cp -r crates/registry_c/include "$copy/crates/registry_c"
     clients=$copy/clients header=$copy/$header
 }

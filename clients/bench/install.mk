@@ -3,10 +3,10 @@
 
 include bench/parts.mk
 
-BENCH_SONAME = libkupaldiz_bench.so.$(MAJOR)
-BENCH_SHARED = libkupaldiz_bench.so.$(VERSION)
+BENCH_SONAME = libkupaldiz_bench$(BUILD).so.$(MAJOR)
+BENCH_SHARED = libkupaldiz_bench$(BUILD).so.$(VERSION)
 BENCH_FOLDER = $(OUT)/installed-bench
-BENCH_HEADERS = bench/bench.h $(wildcard bench/src/*.h netbsd/src/*.h) $(addprefix netbsd/,$(NETBSD_HEADERS)) $(HEADER)/registry.h
+BENCH_HEADERS = bench/bench.h $(wildcard bench/src/*.h netbsd/src/*.h) $(addprefix netbsd/,$(NETBSD_HEADERS)) $(FACE)
 BENCH_LAYER = $(filter-out $(BENCH_INSTEAD:%=netbsd/src/%.c),$(wildcard netbsd/src/*.c))
 BENCH_OWN = $(wildcard bench/src/*.c)
 BENCH_OBJECTS = $(BENCH_OWN:bench/src/%.c=$(BENCH_FOLDER)/bench-%.o) $(BENCH_LAYER:netbsd/src/%.c=$(BENCH_FOLDER)/layer-%.o)
@@ -46,7 +46,7 @@ $(OUT)/$(BENCH_SHARED): $(OUT)/libkupaldiz_bench.a $(OUT)/$(SHARED) bench/bench.
 
 install_bench: library
 	$(INSTALL) -d $(DESTDIR)$(PKGCONFIGDIR) $(DESTDIR)$(INCLUDEDIR)/kupaldiz $(DESTDIR)$(MANDIR)/man7
-	rm -f $(DESTDIR)$(LIBDIR)/libkupaldiz_bench.so.$(MAJOR).* $(DESTDIR)$(PKGCONFIGDIR)/kupaldiz-bench.pc
+	rm -f $(DESTDIR)$(LIBDIR)/$(BENCH_SONAME).* $(DESTDIR)$(PKGCONFIGDIR)/kupaldiz-bench.pc
 	$(INSTALL) -m 644 $(OUT)/libkupaldiz_bench.a $(DESTDIR)$(LIBDIR)/libkupaldiz_bench.a
 	$(INSTALL) -m 755 $(OUT)/$(BENCH_SHARED) $(DESTDIR)$(LIBDIR)/$(BENCH_SHARED)
 	ln -sf $(BENCH_SHARED) $(DESTDIR)$(LIBDIR)/$(BENCH_SONAME)

@@ -63,10 +63,11 @@ static void turn(uint64_t number, uint64_t stage)
 static void open_registry(void)
 {
 	const struct registry_settings settings = {
-	    CPUS, REGISTRY_MOST_SLOTS, REGISTRY_MOST_CHANGES, REGISTRY_MOST_COUNT, REGISTRY_MOST_COUNT, REGISTRY_MOST_COUNT};
+	    CPUS, REGISTRY_MOST_SLOTS, REGISTRY_MOST_CHANGES, REGISTRY_MOST_SECTIONS, REGISTRY_MOST_COUNT, REGISTRY_MOST_COUNT};
 	DONE(registry_open(&settings, &keeper, cpus, CPUS));
 	for (unsigned place = 0; place < REGISTRY_MOST_SLOTS; place++) {
-		const char text[] = {'d', (char)('0' + place / 10), (char)('0' + place % 10), '\0'};
+		char text[8];
+		snprintf(text, sizeof text, "d%02u", place);
 		names[place] = name_of(text);
 	}
 	for (unsigned place = 0; place < STAYING; place++)

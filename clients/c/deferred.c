@@ -213,7 +213,7 @@ static void fill_and_free(void)
 int main(int argc, char **argv)
 {
 	unsigned long rounds = argc > 1 ? strtoul(argv[1], NULL, 10) : 1000;
-	const struct registry_settings settings = {2, SLOTS, REGISTRY_MOST_CHANGES, REGISTRY_MOST_COUNT, 100, REGISTRY_MOST_COUNT};
+	const struct registry_settings settings = {2, SLOTS, REGISTRY_MOST_CHANGES, REGISTRY_MOST_SECTIONS, 100, REGISTRY_MOST_COUNT};
 	random_state = (argc > 2 ? strtoull(argv[2], NULL, 10) : 1) * 0x9e3779b97f4a7c15 | 1;
 	model.settings = settings;
 	for (unsigned i = 0; i < NAMES; i++) {
@@ -222,7 +222,7 @@ int main(int argc, char **argv)
 		names[i] = name_of(text);
 	}
 	DONE(registry_open(&settings, &keeper, cpus, 2));
-	for (unsigned long round = 0; round < rounds && model.changes < 900000; round++) {
+	for (unsigned long round = 0; round < rounds && model.changes < REGISTRY_MOST_CHANGES / 10 * 9; round++) {
 		for (unsigned i = 0; i < 200; i++)
 			deeds[below(sizeof deeds / sizeof *deeds)]();
 		if (round % 16 == 0)

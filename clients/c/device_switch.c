@@ -146,7 +146,7 @@ static uint64_t load_and_unload(uint64_t version)
 
 int main(void)
 {
-	const struct registry_settings settings = {CPUS, 2, REGISTRY_MOST_CHANGES, REGISTRY_MOST_COUNT, 100, 100};
+	const struct registry_settings settings = {CPUS, 2, REGISTRY_MOST_CHANGES, REGISTRY_MOST_SECTIONS, 100, 100};
 	static struct worker openers[OPENERS];
 	uint64_t in_drivers = 0;
 	disk = name_of("disk");

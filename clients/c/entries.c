@@ -20,7 +20,7 @@ static struct registry_name names[DRIVERS];
 
 static void open_registry(uint64_t passive_limit)
 {
-	const struct registry_settings settings = {CPUS, 4, REGISTRY_MOST_CHANGES, REGISTRY_MOST_COUNT, passive_limit, 10};
+	const struct registry_settings settings = {CPUS, 4, REGISTRY_MOST_CHANGES, REGISTRY_MOST_SECTIONS, passive_limit, 10};
 	DONE(registry_open(&settings, &keeper, cpus, CPUS));
 }
 

@@ -163,7 +163,7 @@ static void open_all(void)
 {
 	/* Each port that is attached counts one more on its CPU, and what a freed port gives up lowers no CPU's count: the limit is far off. */
 	const struct registry_settings settings = {
-	    CPUS, PORTS + 3, REGISTRY_MOST_CHANGES, REGISTRY_MOST_COUNT, 100, REGISTRY_MOST_COUNT};
+	    CPUS, PORTS + 3, REGISTRY_MOST_CHANGES, REGISTRY_MOST_SECTIONS, 100, REGISTRY_MOST_COUNT};
 	struct registry_entry made;
 	driver = name_of("fwd");
 	for (unsigned i = 0; i < PORTS; i++) {

@@ -235,7 +235,7 @@ static void change_pointer(uint64_t round)
 
 static void open_registry(void)
 {
-	const struct registry_settings settings = {CPUS, 4, REGISTRY_MOST_CHANGES, REGISTRY_MOST_COUNT, 100, 100};
+	const struct registry_settings settings = {CPUS, 4, REGISTRY_MOST_CHANGES, REGISTRY_MOST_SECTIONS, 100, 100};
 	port = name_of("port");
 	DONE(registry_open(&settings, &keeper, cpus, CPUS));
 	atomic_store(&current, make_object(0));

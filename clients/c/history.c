@@ -3,8 +3,8 @@
  *
  *     history [CHANGES [SEED]]
  *
- * The largest registry goes through CHANGES changes, by default as many as there may be; smaller ones meet each limit. The last line says how many
- * calls were compared, of how many changes.
+ * The largest registry goes through CHANGES changes, by default as many as there may be, or a million where there may be more; smaller ones meet each limit.
+ * The last line says how many calls were compared, of how many changes.
  */
 #include <inttypes.h>
 
@@ -12,10 +12,11 @@
 
 /* Where each access takes long, the references to one entry and the small registries are fewer. */
 #ifdef HISTORY_BRIEFLY
-enum { NAMES = 24, HANDLES = 96, MANY = 101, SMALL = 4 };
+enum { MANY = 101, SMALL = 4 };
 #else
-enum { NAMES = 24, HANDLES = 96, MANY = 70001, SMALL = 200 };
+enum { MANY = 70001, SMALL = 200 };
 #endif
+enum { NAMES = SLOTS * 3 / 4, HANDLES = 3 * SLOTS, LONGEST = 1000 * 1000 };
 
 struct held {
 	struct registry_local handle;
@@ -419,7 +420,7 @@ static uint64_t run(const struct registry_settings *settings, uint64_t changes, 
 /* The registry's answers where sections, references and counts come to their limits: each registry is small, so that they come often. */
 static void run_small(uint64_t seed)
 {
-	struct registry_settings settings = {1, 1, 400, 1000000, 3, 3};
+	struct registry_settings settings = {1, 1, 400, REGISTRY_MOST_SECTIONS, 3, 3};
 	for (uint64_t i = 0; i < SMALL; i++) {
 		settings.cpus = 1 + i % CPUS;
 		settings.slots = 1 + i % SLOTS;
@@ -452,7 +453,7 @@ static void nest(struct world *world)
 /* More references of each kind to one entry than a word of 16 bits counts: each CPU has some, and they are told one by one. */
 static void refer_often(void)
 {
-	const struct registry_settings settings = {CPUS, SLOTS, REGISTRY_MOST_CHANGES, REGISTRY_MOST_COUNT, REGISTRY_MOST_COUNT, REGISTRY_MOST_COUNT};
+	const struct registry_settings settings = {CPUS, SLOTS, REGISTRY_MOST_CHANGES, REGISTRY_MOST_SECTIONS, REGISTRY_MOST_COUNT, REGISTRY_MOST_COUNT};
 	struct world *world = opened(&settings, 1);
 	struct registry_local *handles = calloc(MANY, sizeof *handles);
 	struct registry_entry entry = {0}, wanted = {0};
@@ -491,9 +492,10 @@ static void refer_often(void)
 
 int main(int argc, char **argv)
 {
-	uint64_t changes = argc > 1 ? strtoull(argv[1], NULL, 10) : REGISTRY_MOST_CHANGES;
+	uint64_t most = REGISTRY_MOST_CHANGES < LONGEST ? REGISTRY_MOST_CHANGES : LONGEST;
+	uint64_t changes = argc > 1 ? strtoull(argv[1], NULL, 10) : most;
 	uint64_t seed = argc > 2 ? strtoull(argv[2], NULL, 10) : 1;
-	const struct registry_settings largest = {CPUS, SLOTS, REGISTRY_MOST_CHANGES, REGISTRY_MOST_COUNT, REGISTRY_MOST_COUNT, REGISTRY_MOST_COUNT};
+	const struct registry_settings largest = {CPUS, SLOTS, REGISTRY_MOST_CHANGES, REGISTRY_MOST_SECTIONS, REGISTRY_MOST_COUNT, REGISTRY_MOST_COUNT};
 	for (unsigned i = 0; i < NAMES; i++) {
 		char text[8];
 		snprintf(text, sizeof text, "n%u", i);

@@ -6,7 +6,8 @@
  */
 #include "client.h"
 
-enum { ROOM = 64, SLOT = 3, NUMBER = 4, VALUE = 77 };
+enum { LISTED = 5, SLOT = 3, NUMBER = 4, VALUE = 77 };
+enum { ROOM = LISTED * (4 + REGISTRY_MOST_CPUS) + 2 * REGISTRY_MOST_CPUS + REGISTRY_MOST_SLOTS + 2 };
 
 static const uint64_t PATTERN = 0xa5a5a5a5a5a5a5a5;
 
@@ -18,8 +19,9 @@ static union {
 	struct registry_stage stage;
 	struct registry_settings settings;
 	struct registry_wait wait;
-	struct registry_balance balances[5];
+	struct registry_balance balances[LISTED];
 	struct registry_cpu cpus[3];
+	struct registry_limits limits;
 } out;
 
 static struct registry_keeper keeper;
@@ -59,6 +61,14 @@ static void test_name(void)
 	EXPECT(wrote(sizeof out.name));
 	EXPECT(out.name.high == 0x6162636465666768 && out.name.low == 0x696a000000000000);
 	name = out.name;
+}
+
+static void test_build(void)
+{
+	const struct registry_limits limits = REGISTRY_LIMITS;
+	spoil();
+	registry_limits(&out.limits);
+	EXPECT(wrote(sizeof out.limits) && memcmp(&limits, &out.limits, sizeof limits) == 0);
 }
 
 /* Opens a registry, and attaches three drivers before the one of the test. */
@@ -119,7 +129,7 @@ static const struct registry_balance *audited(void)
 {
 	size_t length;
 	spoil();
-	DONE(registry_audit(&keeper, cpus, 2, out.balances, 5, &length));
+	DONE(registry_audit(&keeper, cpus, 2, out.balances, LISTED, &length));
 	EXPECT(length == 4 && wrote(4 * sizeof out.balances[0]));
 	EXPECT(out.balances[0].number == 1 && out.balances[1].slot == 1 && out.balances[2].number == 3);
 	EXPECT(out.balances[3].number == NUMBER && out.balances[3].slot == SLOT && out.balances[3].held == 3);
@@ -228,6 +238,7 @@ static void test_limits(void)
 int main(void)
 {
 	test_name();
+	test_build();
 	test_open();
 	test_settings();
 	test_attach();

@@ -94,7 +94,7 @@ static void check_texts(void)
 static uint32_t opened(struct registry_settings settings, size_t count)
 {
 	struct registry_keeper keeper = {0};
-	struct registry_cpu cpus[8] = {{0}};
+	struct registry_cpu cpus[REGISTRY_MOST_CPUS] = {{0}};
 	uint32_t answer = registry_open(&settings, &keeper, cpus, count);
 	EXPECT(answer == REGISTRY_DONE || registry_close_keeper(&keeper) == REGISTRY_EMPTY_HANDLE);
 	return answer;
@@ -103,11 +103,11 @@ static uint32_t opened(struct registry_settings settings, size_t count)
 static void misuse_open(struct bench *bench)
 {
 	EXPECT(opened((struct registry_settings){0, 4, 100, 100, 10, 10}, 0) == REGISTRY_BAD_SETTINGS);
-	EXPECT(opened((struct registry_settings){9, 4, 100, 100, 10, 10}, 8) == REGISTRY_BAD_SETTINGS);
+	EXPECT(opened((struct registry_settings){REGISTRY_MOST_CPUS + 1, 4, 100, 100, 10, 10}, REGISTRY_MOST_CPUS) == REGISTRY_BAD_SETTINGS);
 	EXPECT(opened((struct registry_settings){258, 4, 100, 100, 10, 10}, 2) == REGISTRY_BAD_SETTINGS);
-	EXPECT(opened((struct registry_settings){2, 33, 100, 100, 10, 10}, 2) == REGISTRY_BAD_SETTINGS);
-	EXPECT(opened((struct registry_settings){2, 4, 1000001, 100, 10, 10}, 2) == REGISTRY_BAD_SETTINGS);
-	EXPECT(opened((struct registry_settings){2, 4, 100, ((uint64_t)1 << 40) + 1, 10, 10}, 2) == REGISTRY_BAD_SETTINGS);
+	EXPECT(opened((struct registry_settings){2, REGISTRY_MOST_SLOTS + 1, 100, 100, 10, 10}, 2) == REGISTRY_BAD_SETTINGS);
+	EXPECT(opened((struct registry_settings){2, 4, REGISTRY_MOST_CHANGES + 1, 100, 10, 10}, 2) == REGISTRY_BAD_SETTINGS);
+	EXPECT(opened((struct registry_settings){2, 4, 100, REGISTRY_MOST_SECTIONS + 1, 10, 10}, 2) == REGISTRY_BAD_SETTINGS);
 	EXPECT(opened((struct registry_settings){2, 4, 100, 100, 0, 10}, 2) == REGISTRY_BAD_SETTINGS);
 	EXPECT(opened((struct registry_settings){2, 4, 100, 100, 10, 0}, 2) == REGISTRY_BAD_SETTINGS);
 	EXPECT(opened(SETTINGS, 1) == REGISTRY_MISSING_CPU);

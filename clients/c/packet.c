@@ -105,7 +105,7 @@ static void attach_both(struct registry_cpu *cpu)
 int main(void)
 {
 	const struct registry_settings settings = {
-	    CPUS, 4, 100, REGISTRY_MOST_COUNT, REGISTRY_MOST_COUNT, REGISTRY_MOST_COUNT};
+	    CPUS, 4, 100, REGISTRY_MOST_SECTIONS, REGISTRY_MOST_COUNT, REGISTRY_MOST_COUNT};
 	pthread_t senders[SENDERS];
 	wm = name_of("wm");
 	wm0 = name_of("wm0");

@@ -160,7 +160,7 @@ static bool lies(uint64_t number, uint64_t most)
 static bool are_good(const struct registry_settings *settings)
 {
 	return lies(settings->cpus, REGISTRY_MOST_CPUS) && lies(settings->slots, REGISTRY_MOST_SLOTS)
-	    && lies(settings->change_limit, REGISTRY_MOST_CHANGES) && lies(settings->section_limit, REGISTRY_MOST_COUNT)
+	    && lies(settings->change_limit, REGISTRY_MOST_CHANGES) && lies(settings->section_limit, REGISTRY_MOST_SECTIONS)
 	    && lies(settings->passive_limit, REGISTRY_MOST_COUNT) && lies(settings->count_limit, REGISTRY_MOST_COUNT);
 }
 

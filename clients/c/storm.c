@@ -258,7 +258,7 @@ static int64_t finish(struct counts *counts)
 static void open_registry(void)
 {
 	const struct registry_settings settings = {
-	    count, SLOTS, REGISTRY_MOST_CHANGES, REGISTRY_MOST_COUNT, 4, REGISTRY_MOST_COUNT};
+	    count, SLOTS, REGISTRY_MOST_CHANGES, REGISTRY_MOST_SECTIONS, 4, REGISTRY_MOST_COUNT};
 	struct registry_entry made;
 	drv = name_of("drv");
 	wm0 = name_of("wm0");

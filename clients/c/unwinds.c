@@ -107,12 +107,14 @@ __attribute__((noinline)) static void call_all(void)
 {
 	const struct registry_settings settings = {2, 4, 100, 100, 10, 10};
 	struct registry_settings told;
+	struct registry_limits limits;
 	struct registry_keeper keeper = {0};
 	struct registry_cpu cpus[2] = {{0}};
 	struct registry_name name;
 	char text[80];
 	uint64_t place;
-	EXPECT(registry_strerror(REGISTRY_NO_SLOT) != NULL);
+	EXPECT(registry_strerror(REGISTRY_NO_SLOT) != NULL && registry_version() != NULL);
+	registry_limits(&limits);
 	DONE(registry_name_parse("wm", 2, &name, &place));
 	DONE(registry_open(&settings, &keeper, cpus, 2));
 	DONE(registry_settings_of(&keeper, &told));

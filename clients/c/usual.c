@@ -298,7 +298,7 @@ static void get_numbered(struct registry_cpu *cpu, uint64_t number)
 static void check_numbers(void)
 {
 	struct registry_cpu *cpu = &cpus[0];
-	open_registry(REGISTRY_MOST_COUNT, REGISTRY_MOST_COUNT);
+	open_registry(REGISTRY_MOST_SECTIONS, REGISTRY_MOST_COUNT);
 	for (uint64_t apart = 2, number = 1; apart <= 66; apart += 2) {
 		uint64_t first = number;
 		get_numbered(cpu, first);
@@ -319,7 +319,7 @@ static void check_numbers(void)
 static void check_answers(void)
 {
 	struct registry_cpu *cpu = &cpus[0];
-	open_registry(REGISTRY_MOST_COUNT, 2);
+	open_registry(REGISTRY_MOST_SECTIONS, 2);
 	check_empty(registry_look_up);
 	check_empty(registry_get);
 	check_empty(registry_enter_find);
@@ -419,7 +419,7 @@ static void *use_all(void *cpu)
 static void run_threads(unsigned long changes)
 {
 	pthread_t threads[USERS];
-	open_registry(REGISTRY_MOST_COUNT, REGISTRY_MOST_COUNT);
+	open_registry(REGISTRY_MOST_SECTIONS, REGISTRY_MOST_COUNT);
 	attach_object();
 	for (unsigned i = 0; i < USERS; i++)
 		EXPECT(pthread_create(&threads[i], NULL, use_all, &cpus[i]) == 0);

@@ -22,6 +22,8 @@ struct registry_lock {
 	void *of;
 };
 
+REGISTRY_WORDS(struct registry_lock, 3);
+
 /*
  * registry_lock_of_mutex - the interlock that is this mutex
  *
@@ -76,6 +78,8 @@ struct registry_deferred {
 	struct registry_entry entries[REGISTRY_MOST_SLOTS];
 };
 
+REGISTRY_WORDS(struct registry_deferred, 3 + 6 * REGISTRY_MOST_SLOTS);
+
 /*
  * registry_deferred_count - the number of entries that wait in the list
  */
@@ -84,7 +88,7 @@ size_t registry_deferred_count(const struct registry_deferred *deferred) REGISTR
 /*
  * registry_deferred_free - free the entries that nothing holds any more, oldest first
  *
- * It makes one registry_advance for each entry that waits, 32 at most. The caller holds the interlock, and may be inside a section. An entry that this
+ * It makes one registry_advance for each entry that waits, REGISTRY_MOST_SLOTS at most. The caller holds the interlock, and may be inside a section. An entry that this
  * section may hold isn't freed. The call never waits.
  * Returns REGISTRY_EMPTY_HANDLE or REGISTRY_DONE. With REGISTRY_DONE the number of freed entries is written to `freed`, which may be NULL.
  */

@@ -114,7 +114,7 @@ static void detach_port(const char *text)
 static void open_all(void)
 {
 	struct registry_settings settings = {
-		.cpus = CPUS, .slots = SLOTS, .change_limit = REGISTRY_MOST_CHANGES, .section_limit = REGISTRY_MOST_COUNT,
+		.cpus = CPUS, .slots = SLOTS, .change_limit = REGISTRY_MOST_CHANGES, .section_limit = REGISTRY_MOST_SECTIONS,
 		.passive_limit = 1, .count_limit = REGISTRY_MOST_COUNT,
 	};
 	struct registry_name name = name_of("drv");

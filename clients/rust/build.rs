@@ -7,6 +7,9 @@
 //!
 //! Where none is there, the crate is only checked: what links says how to get one.
 //!
+//! The limits that the archive was built for are in registry_limits.h: beside it, with the installed headers, or else in this crate. They are constants of
+//! the crate.
+//!
 //! The calls of the archive that tests/common/watched.rs names are led there in the programs of the tests, which watch who is in which call.
 
 use std::env;
@@ -14,15 +17,26 @@ use std::fs;
 use std::path::{Path, PathBuf};
 use std::process::Command;
 
-/// A library that may be linked: its folder, and its name without `lib` and `.a`.
+/// A library that may be linked: its folder, its name without `lib` and `.a`, and the folder of its header.
 struct Archive {
     folder: PathBuf,
     name: &'static str,
+    header: PathBuf,
 }
 
 impl Archive {
     fn path(&self) -> PathBuf {
         self.folder.join(format!("lib{}.a", self.name))
+    }
+
+    /// The header with its limits; this crate's own where none lies there.
+    fn limits(&self, here: &Path) -> PathBuf {
+        let beside = self.header.join("registry_limits.h");
+        if beside.exists() {
+            beside
+        } else {
+            here.join("registry_limits.h")
+        }
     }
 }
 
@@ -39,12 +53,17 @@ fn main() {
     println!("cargo:rustc-link-lib=static={}", found.name);
     println!("cargo:rerun-if-env-changed=REGISTRY_LIB_DIR");
     println!("cargo:rerun-if-changed={}", found.path().display());
+    write_limits(&found.limits(&here));
     lead_calls(&here.join("tests/common/watched.rs"));
 }
 
 /// The first archive that is there, else the one that the repository would have.
 fn find(here: &Path) -> Archive {
-    let registry = |folder| Archive { folder, name: "registry" };
+    let registry = |folder: PathBuf| Archive {
+        header: folder.clone(),
+        folder,
+        name: "registry",
+    };
     if let Some(folder) = env::var_os("REGISTRY_LIB_DIR") {
         return registry(PathBuf::from(folder));
     }
@@ -66,14 +85,54 @@ fn find(here: &Path) -> Archive {
 
 /// The library as it is installed, if pkg-config knows it.
 fn installed() -> Option<Archive> {
-    let command = env::var_os("PKG_CONFIG").unwrap_or_else(|| "pkg-config".into());
-    let said = Command::new(command).args(["--variable=libdir", "kupaldiz"]).output().ok()?;
-    let folder = String::from_utf8(said.stdout).ok()?;
     let archive = Archive {
-        folder: PathBuf::from(folder.trim()),
+        folder: variable("libdir")?,
         name: "kupaldiz",
+        header: variable("includedir")?.join("kupaldiz"),
     };
-    (said.status.success() && archive.path().exists()).then_some(archive)
+    archive.path().exists().then_some(archive)
+}
+
+/// A folder of the installed library, as pkg-config says it.
+fn variable(name: &str) -> Option<PathBuf> {
+    let command = env::var_os("PKG_CONFIG").unwrap_or_else(|| "pkg-config".into());
+    let said = Command::new(command)
+        .arg(format!("--variable={name}"))
+        .arg("kupaldiz")
+        .output()
+        .ok()?;
+    let folder = String::from_utf8(said.stdout).ok()?;
+    said.status.success().then(|| PathBuf::from(folder.trim()))
+}
+
+/// Writes limits.rs, which src/ffi.rs includes: the limits of the header as constants, and the call whose name has two of them.
+fn write_limits(header: &Path) {
+    println!("cargo:rerun-if-changed={}", header.display());
+    let text = fs::read_to_string(header).unwrap_or_else(|fault| panic!("{}: {fault}", header.display()));
+    let said = |name: &str| {
+        let mut lines = text
+            .lines()
+            .filter_map(|line| line.strip_prefix("#define REGISTRY_")?.strip_prefix(name));
+        let value = lines
+            .next()
+            .unwrap_or_else(|| panic!("{} has no REGISTRY_{name}", header.display()));
+        value.replace("UINT64_C", "").replace(['(', ')'], "").trim().to_string()
+    };
+    let mut limits = String::new();
+    for (name, kind) in [
+        ("CPUS", "usize"),
+        ("SLOTS", "usize"),
+        ("CHANGES", "u64"),
+        ("SECTIONS", "u64"),
+        ("COUNT", "u64"),
+        ("DEPTH", "u64"),
+    ] {
+        limits += &format!("pub const MOST_{name}: {kind} = {};\n", said(&format!("MOST_{name}")));
+    }
+    let call = "pub fn registry_built_for(limits: *const Limits) -> u32;";
+    limits += &format!("extern \"C\" {{\n    #[link_name = \"{}\"]\n    {call}\n}}\n", said("BUILT_FOR"));
+    let to = Path::new(&env::var_os("OUT_DIR").unwrap()).join("limits.rs");
+    fs::write(&to, limits).unwrap_or_else(|fault| panic!("{}: {fault}", to.display()));
 }
 
 /// Has the linker lead each call that the file wraps there.

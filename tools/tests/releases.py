@@ -14,12 +14,13 @@ COMMANDS = {"gcc": "gcc", "pkg-config": "pkg-config", "cargo": "cargo", "dpkg-bu
 DOES_NOTHING = "#!/bin/sh\n"
 CARGO = '#!/bin/sh\nmkdir -p "$CARGO_TARGET_DIR/package" && echo crate >"$CARGO_TARGET_DIR/package/kupaldiz-0.1.0.crate"\n'
 PACKAGES = "#!/bin/sh\necho deb >../libkupaldiz0.deb && echo changes >../kupaldiz.changes\n"
-PARTS = ("heap", "composed", "strings")
+PARTS = ("heap", "composed", "strings", "limits")
 SOURCES = {
     "crates.txt": "low: std\nregistry_c staticlib: low std\n",
     "crates/low/src/lib.rt": "low\n",
     "crates/registry_c/src/lib.rt": "face\n",
     "crates/registry_c/include/registry.h": "uint32_t registry_enter(struct registry_cpu *cpu);\n",
+    "crates/registry_c/include/registry_limits.h": "#define REGISTRY_MOST_CPUS\t8\n",
     **{f"clients/c/{part}.c": f"/* {part} */\n" for part in PARTS},
 }
 TREE = {

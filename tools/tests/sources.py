@@ -3,26 +3,30 @@ from .trees import Case, Fault, real
 
 # Each place that says a limit again: a part of the line, with its number.
 PLACES = (
-    ("crates/registry_c/include/registry.h", "REGISTRY_MOST_CPUS\t8", "MOST_CPUS"),
-    ("crates/registry_c/include/registry.h", "REGISTRY_MOST_SLOTS\t32", "MOST_SLOTS"),
-    ("clients/rust/src/ffi.rs", "MOST_CPUS: usize = 8;", "MOST_CPUS"),
-    ("clients/rust/src/ffi.rs", "MOST_SLOTS: usize = 32;", "MOST_SLOTS"),
     ("bench/common.h", "MOST_THREADS = 8", "MOST_CPUS"),
     ("bench/common.h", "MOST_ENTRIES = 32", "MOST_SLOTS"),
     ("bench/peers/src/list.rs", "MOST_ENTRIES: usize = 32;", "MOST_SLOTS"),
 )
 LIMITS = "crates/registry_values/src/limits.rt"
+# The header of all limits, and what it says of each.
+HEADER = "crates/registry_c/include/registry_limits.h"
+IN_CRATE = "clients/rust/registry_limits.h"
+SAID = ("MOST_CPUS\t8", "MOST_SLOTS\t32", "MOST_CHANGES\tUINT64_C(1000000)", "MOST_SECTIONS\t(UINT64_C(1) << 40)", "MOST_COUNT\t(UINT64_C(1) << 40)",
+        "MOST_DEPTH\t255", "BUILT_FOR\tregistry_for_8_cpus_32_slots", 'BUILD\t""')
 
 
 def check_limits():
     faults = [Fault(f"another number: {path}, {name}", f"{path}: {name} is", ((path, old, old.replace("8", "9").replace("32", "31")),))
               for path, old, name in PLACES]
     faults += [Fault(f"no number: {path}, {name}", f"{path}: {name} is None", ((path, old, "gone"),)) for path, old, name in PLACES]
+    faults += [Fault(f"another header: {old}", f"{HEADER} isn't what", ((HEADER, f"REGISTRY_{old}", "REGISTRY_OTHER 7"),)) for old in SAID]
+    faults.append(Fault("another header of the crate", f"{IN_CRATE} isn't what", ((IN_CRATE, "MOST_CPUS\t8", "MOST_CPUS\t9"),)))
+    faults.append(Fault("a limit that Rattle doesn't say", "MOST_DEPTH is None", ((LIMITS, "const MOST_DEPTH", "const DEPTH"),)))
     faults += [Fault(f"another {name} in Rattle", f"{name} is", ((LIMITS, f"const {name}: {kind} = {number};", f"const {name}: {kind} = 7;"),))
                for name, kind, number in (("MOST_CPUS", "usize", "8"), ("MOST_SLOTS", "usize", "32"), ("MOST_CHANGES", "u64", "1_000_000"),
                                           ("MOST_SECTIONS", "u64", "1 << 40"), ("MOST_COUNT", "u64", "1 << 40"), ("MOST_DEPTH", "u8", "255"))]
-    tree = real(LIMITS, *{path for path, _, _ in PLACES})
-    return Case("check-limits", ["check-limits.py", "counts.py"], tree, ["tools/check-limits.py"], faults)
+    tree = real(LIMITS, HEADER, IN_CRATE, *{path for path, _, _ in PLACES})
+    return Case("check-limits", ["check-limits.py", "counts.py", "limits-header.py", "limits.py"], tree, ["tools/check-limits.py"], faults)
 
 
 IMPORTS = {

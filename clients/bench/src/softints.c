@@ -7,6 +7,7 @@
 #include "inside.h"
 
 static struct routine *softints[KUPALDIZ_CPUS];
+static char names[KUPALDIZ_CPUS][sizeof("softint/4294967295")];
 
 /* The thread that has a CPU; NULL where none does. */
 static struct thread *owner_of(const struct cpu *cpu)
@@ -71,13 +72,14 @@ static void run_handlers(void *of)
 {
 	struct cpu *cpu = of;
 	struct routine *routine = run.now_runs;
-	static const char *const names[] = {"softint/0", "softint/1", "softint/2", "softint/3", "softint/4", "softint/5", "softint/6"};
-	struct thread *me = named_thread("softint", names[cpu->info.ci_index]);
+	char *name = names[cpu->info.ci_index];
+	snprintf(name, sizeof(names[0]), "softint/%u", cpu->info.ci_index);
+	struct thread *me = named_thread("softint", name);
 	me->softint = true;
 	me->cpu = cpu;
 	me->lwp.l_cpu = &cpu->info;
 	me->lwp.l_pflag = LP_BOUND | LP_INTR;
-	routine->name = names[cpu->info.ci_index];
+	routine->name = name;
 	for (;;) {
 		point("softint", NULL, can_begin, cpu);
 		run_waiting(me, cpu->info.ci_index);

@@ -20,7 +20,7 @@ static void join(uint32_t *clock, const uint32_t *other)
 /* What was left at a thing; the last one stands for all beyond the room. */
 static struct given *given_at(enum kind kind, const volatile void *address, unsigned cpu)
 {
-	uintptr_t of = ((uintptr_t)address * 31 + (uintptr_t)kind) * 64 + cpu % 64 + 1;
+	uintptr_t of = ((uintptr_t)address * 31 + (uintptr_t)kind) * (UINT8_MAX + 1) + cpu % (UINT8_MAX + 1) + 1;
 	uint64_t number = board->runs + 1;
 	unsigned at = (unsigned)(of * 0x9e3779b1u >> 8) % GIVEN;
 	for (unsigned turn = 0; turn < GIVEN - 1; turn++, at = (at + 1) % GIVEN)

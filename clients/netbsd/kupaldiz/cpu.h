@@ -12,14 +12,15 @@
 #ifndef KUPALDIZ_NETBSD_CPU_H
 #define KUPALDIZ_NETBSD_CPU_H
 
+#include "registry_limits.h"
 #include "sys_types.h"
 
 #ifdef __cplusplus
 extern "C" {
 #endif
 
-/* How many CPUs there are: 0 to 6. */
-#define KUPALDIZ_CPUS	7
+/* How many CPUs there are, numbered from 0: those of a registry without the one that the layer keeps for itself. */
+#define KUPALDIZ_CPUS	(REGISTRY_MOST_CPUS - 1)
 
 /* A CPU, as far as it is looked into. */
 struct cpu_info {

@@ -282,22 +282,12 @@ struct bank_wait {
 	struct registry_wait wait;
 };
 
-/* Begins a wait in each bank that a CPU takes for its sections. How many. */
-static unsigned begin_waits(struct thread *me, struct bank_wait *waits)
+/* Begins a wait in a bank. The caller has the interlock. */
+static void begin_bank_wait(struct thread *me, struct bank *bank, struct bank_wait *wait)
 {
-	unsigned count = 0;
-	enter_interlock();
-	__atomic_thread_fence(__ATOMIC_SEQ_CST);
-	for (unsigned place = 0; place < bank_count; place++) {
-		struct bank *bank = banks[place];
-		if (bank->hosts == 0)
-			continue;
-		bank->waits++;
-		waits[count].bank = bank;
-		done(me, registry_perform_begin(&bank->keeper, writers(bank), &waits[count++].wait));
-	}
-	exit_interlock();
-	return count;
+	bank->waits++;
+	wait->bank = bank;
+	done(me, registry_perform_begin(&bank->keeper, writers(bank), &wait->wait));
 }
 
 /* One turn of a wait: whether all sections that were open as it began have ended. */
@@ -313,17 +303,40 @@ static bool have_ended(struct thread *me, struct bank_wait *wait, uint64_t *wait
 	return answer == REGISTRY_DONE;
 }
 
+/* Waits until those sections have ended. */
+static void end_bank_wait(struct thread *me, struct bank_wait *wait, struct pauses *pauses)
+{
+	struct registry_stage met = {REGISTRY_GRACE, 0};
+	while (!have_ended(me, wait, &met.what))
+		if (pause_longer(pauses, &met))
+			tell_of_section(me, met.what);
+}
+
+/*
+ * Begins a wait in each bank from this place on that a CPU takes for its sections, gives the interlock back, and ends the waits. Mostly that is one bank, so a
+ * wait lies on the stack only where there is one.
+ */
+static void perform_from(struct thread *me, unsigned place, struct pauses *pauses)
+{
+	struct bank_wait wait;
+	while (place < bank_count && banks[place]->hosts == 0)
+		place++;
+	if (place == bank_count) {
+		exit_interlock();
+		return;
+	}
+	begin_bank_wait(me, banks[place], &wait);
+	perform_from(me, place + 1, pauses);
+	end_bank_wait(me, &wait, pauses);
+}
+
 /* Waits until each section that is open on any CPU has ended. */
 void perform_all(struct thread *me)
 {
-	struct bank_wait waits[KUPALDIZ_CPUS];
 	struct pauses pauses = begin_pauses();
-	struct registry_stage met = {REGISTRY_GRACE, 0};
-	unsigned count = begin_waits(me, waits);
-	for (unsigned place = 0; place < count; place++)
-		while (!have_ended(me, &waits[place], &met.what))
-			if (pause_longer(&pauses, &met))
-				tell_of_section(me, met.what);
+	enter_interlock();
+	__atomic_thread_fence(__ATOMIC_SEQ_CST);
+	perform_from(me, 0, &pauses);
 	for (unsigned cpu = 0; cpu < KUPALDIZ_CPUS; cpu++)
 		COMES_AFTER(&cpus[cpu].edge);
 }

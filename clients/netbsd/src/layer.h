@@ -3,7 +3,7 @@
  *
  * HOW THE PAGES ARE MAPPED
  *
- * A registry and its CPUs are a bank. A bank has eight CPUs: seven are those of cpu.h, and the eighth is the writers'. Attaches, detaches and turns of waits
+ * A registry and its CPUs are a bank. All CPUs of a bank but the last are those of cpu.h, and the last is the writers'. Attaches, detaches and turns of waits
  * are made on that one, under the one lock `interlock`, which is also the keepers'. There is one bank at first. Further ones are opened where all slots
  * are taken; one whose changes are used up gets no new target, and is opened anew once it is empty.
  *
@@ -71,7 +71,7 @@
 #define KUPALDIZ_CHANGES	REGISTRY_MOST_CHANGES
 #endif
 #ifndef KUPALDIZ_SECTIONS
-#define KUPALDIZ_SECTIONS	REGISTRY_MOST_COUNT
+#define KUPALDIZ_SECTIONS	REGISTRY_MOST_SECTIONS
 #endif
 #ifndef KUPALDIZ_REFERENCES
 #define KUPALDIZ_REFERENCES	REGISTRY_MOST_COUNT

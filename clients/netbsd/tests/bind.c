@@ -1,5 +1,5 @@
 /*
- * bind - twenty threads share seven CPUs: none waits to be bound, those of one CPU keep out of each other's sections, and each has depth, sections and
+ * bind - almost three times as many threads as CPUs share these: none waits to be bound, those of one CPU keep out of each other's sections, and each has depth, sections and
  * references of its own; threads that aren't bound read as well
  */
 #include <sys/cpu.h>
@@ -8,7 +8,7 @@
 
 #include "test.h"
 
-enum { THREADS = 20, ROUNDS = 300, LIVES = 20 };
+enum { THREADS = 3 * KUPALDIZ_CPUS - 1, ROUNDS = 300, LIVES = 20 };
 
 static atomic_bool inside[KUPALDIZ_CPUS];
 static atomic_uint bound, unbound_sections;

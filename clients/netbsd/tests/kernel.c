@@ -204,11 +204,14 @@ static void set_number(void *own, void *arg, struct cpu_info *cpu)
 	*(unsigned *)own = arg == NULL ? cpu_index(cpu) : *(unsigned *)own;
 }
 
+/* How often each CPU was visited. */
+static unsigned visited[KUPALDIZ_CPUS];
+
 static void visit(void *arg, void *other)
 {
 	EXPECT(arg == &pair && other == NULL && (curlwp->l_pflag & LP_BOUND) != 0);
 	pair[0]++;
-	pair[1] |= 1u << cpu_number();
+	visited[cpu_number()]++;
 }
 
 static void test_cpus(void)
@@ -222,12 +225,14 @@ static void test_cpus(void)
 	percpu_foreach_xcall(numbers, XC_HIGHPRI, add_one, &plain);
 	EXPECT(plain == KUPALDIZ_CPUS * (KUPALDIZ_CPUS - 1));
 	percpu_free(numbers, sizeof(unsigned));
-	pair[0] = pair[1] = 0;
+	pair[0] = 0;
 	xc_wait(xc_broadcast(0, visit, &pair, NULL));
 	xc_wait(xc_broadcast(XC_HIGHPRI, visit, &pair, NULL));
-	EXPECT(pair[0] == 2 * KUPALDIZ_CPUS && pair[1] == (1u << KUPALDIZ_CPUS) - 1);
-	xc_wait(xc_unicast(0, visit, &pair, NULL, kupaldiz_cpu(4)));
-	EXPECT(pair[0] == 2 * KUPALDIZ_CPUS + 1);
+	for (unsigned cpu = 0; cpu < KUPALDIZ_CPUS; cpu++)
+		EXPECT(visited[cpu] == 2);
+	EXPECT(pair[0] == 2 * KUPALDIZ_CPUS);
+	xc_wait(xc_unicast(0, visit, &pair, NULL, kupaldiz_cpu(KUPALDIZ_CPUS - 1)));
+	EXPECT(pair[0] == 2 * KUPALDIZ_CPUS + 1 && visited[KUPALDIZ_CPUS - 1] == 3);
 	xc_barrier(0);
 	int s = splnet(), t = splsoftnet();
 	EXPECT(s == IPL_NONE && t == IPL_VM);

@@ -1,6 +1,6 @@
 /*
  * limits - more than one registry takes: over a layer whose registries have four rows, forty changes, twenty thousand sections of a CPU and two
- * thousand references. With `full` over the true limits: more than a million changes, and hundreds of live targets.
+ * thousand references. With `full` over the true limits, as far as a test comes to them: more than a million changes, and hundreds of live targets.
  */
 #include <sys/condvar.h>
 #include <sys/localcount.h>
@@ -13,6 +13,9 @@
 #include "test.h"
 
 enum { MOST_LIVE = 300, READERS = 4, MANY = 300000, REFERENCES = 3501 };	/* no multiple of 7 */
+
+/* More changes than a registry takes; where it takes more than a test can make, five million. */
+#define MANY_CHANGES	(REGISTRY_MOST_CHANGES < 4900000 ? (unsigned)REGISTRY_MOST_CHANGES + 100000 : 5000000)
 
 static struct psref_class *things;
 static pserialize_t psz;
@@ -159,7 +162,7 @@ int main(int argc, char **argv)
 	cv_init(&drained, "drained");
 	kupaldiz_bind(1);
 	test_live(full ? MOST_LIVE : 40);
-	test_changes(full ? 1100000 : 2000);
+	test_changes(full ? MANY_CHANGES : 2000);
 	test_references(REFERENCES);
 	if (!full)
 		test_one_way(3000);

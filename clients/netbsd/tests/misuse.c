@@ -81,10 +81,13 @@ static void bind_twice(void)
 	kupaldiz_bind(1);
 }
 
+/* What is said of it. */
+static char beyond[64];
+
 static void bind_beyond(void)
 {
 	kupaldiz_unbind();
-	kupaldiz_bind(7);
+	kupaldiz_bind(KUPALDIZ_CPUS);
 }
 
 static void unbind_inside(void)
@@ -638,7 +641,7 @@ static const struct stop_case cases[] = {
     {unbind_twice, "kupaldiz_unbind: the thread is not bound to a CPU, at PLACE"},
     {bindx_unbound, "curlwp_bindx: the thread is not bound to a CPU, at PLACE"},
     {bind_twice, "kupaldiz_bind: the thread is bound to CPU 0, at PLACE"},
-    {bind_beyond, "kupaldiz_bind: there is no CPU 7, at PLACE"},
+    {bind_beyond, beyond},
     {unbind_inside, "kupaldiz_unbind: inside a read section, entered at PLACE, at PLACE"},
     {unbind_holding, "kupaldiz_unbind: the thread has passive references, at PLACE"},
     {bindx_holding, "curlwp_bindx: the thread has passive references, at PLACE"},
@@ -704,5 +707,6 @@ static const struct stop_case cases[] = {
 
 int main(void)
 {
+	snprintf(beyond, sizeof(beyond), "kupaldiz_bind: there is no CPU %d, at PLACE", KUPALDIZ_CPUS);
 	return run_cases(begin, cases, sizeof(cases) / sizeof(cases[0]));
 }

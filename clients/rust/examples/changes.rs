@@ -3,13 +3,13 @@
 //! The calls and their order are those of `registry_bench changes`; `bench/README.md` of the repository says what one is. It prints a line as that
 //! program does.
 
-use registry::{Cpu, Freed, Holder, Kind, LocalRef, Name, Patience, Refusal, Refused, Registry, Settings};
+use registry::{Cpu, Freed, Holder, Kind, LocalRef, Name, Patience, Refusal, Refused, Registry, Settings, LIMITS};
 use std::error::Error;
 use std::time::Instant;
 
 /// So many entries stay in the list; all other slots are given and freed again and again.
 const STAYING: usize = 8;
-const SLOTS: u8 = 32;
+const SLOTS: u8 = LIMITS.slots as u8;
 const MOST_ROUNDS: u32 = 20_000;
 
 /// The nanoseconds that all attaches, all detaches and all turns that freed a slot took.

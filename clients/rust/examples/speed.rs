@@ -6,7 +6,7 @@
 //! `dropped` drops it unbound and has the CPU release it then.
 //! The operations are those of `bench/` of the repository, whose README says what one is. It prints a line as the programs there do.
 
-use registry::{Cpu, Found, Kind, LocalRef, Name, PassiveRef, Refusal, Registry, Settings};
+use registry::{Cpu, Found, Kind, LocalRef, Name, PassiveRef, Refusal, Registry, Settings, LIMITS};
 use std::error::Error;
 use std::sync::Barrier;
 use std::thread;
@@ -152,7 +152,7 @@ fn nanoseconds_each(cpus: &mut [Cpu<u64>], names: &[Name], make: Operations, cou
 
 fn run(threads: u8, entries: u8, count: u64) -> Result<(), Box<dyn Error>> {
     let names: Vec<Name> = (0..entries).map(|i| Name::parse(&format!("d{i:02}"))).collect::<Result<_, _>>()?;
-    let (registry, mut cpus) = Registry::open(Settings::new(threads, 32))?;
+    let (registry, mut cpus) = Registry::open(Settings::new(threads, LIMITS.slots as u8))?;
     for (value, name) in (0..).zip(&names) {
         registry.attach(&cpus[0], name, value)?;
     }

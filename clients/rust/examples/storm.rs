@@ -6,7 +6,9 @@
 //! released, audited and destroyed on CPU 0. It prints what `registry_run storm` prints; `wrong` counts each answer that wasn't the one
 //! expected.
 
-use registry::{Cpu, Entry, Found, Holder, Kind, LocalRef, Name, PassiveRef, Patience, Refusal, Refused, Registry, Retired, Settings};
+use registry::{
+    Cpu, Entry, Found, Holder, Kind, LocalRef, Name, PassiveRef, Patience, Refusal, Refused, Registry, Retired, Settings, LIMITS,
+};
 use std::sync::Mutex;
 use std::{env, process, thread};
 
@@ -265,7 +267,7 @@ fn number(word: Option<String>, most: u32) -> Option<u32> {
 
 fn main() {
     let mut words = env::args().skip(1);
-    let (cpus, turns) = (number(words.next(), 8), number(words.next(), 100_000));
+    let (cpus, turns) = (number(words.next(), LIMITS.cpus as u32), number(words.next(), 100_000));
     let (cpus, turns) = match (cpus, turns, words.next()) {
         (Some(cpus), Some(turns), None) => (cpus as u8, turns),
         _ => {

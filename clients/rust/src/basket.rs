@@ -7,7 +7,7 @@
 use crate::ffi;
 use crate::lock::{locked, Mutex};
 use alloc::vec::Vec;
-use core::sync::atomic::{AtomicU32, AtomicUsize, Ordering};
+use core::sync::atomic::{AtomicU64, AtomicUsize, Ordering};
 
 /// How many references an acquire of a local reference releases before, of those that its CPU acquired.
 pub const BY_ACQUIRE: usize = 2;
@@ -24,11 +24,21 @@ pub const BY_TURN: usize = 256;
 /// A basket is heavy that has more in it: then each CPU's releases lighten it, and each drop by a CPU that nobody has.
 const HEAVY: usize = 64;
 
+/// How many words have a bit for each of so many things.
+const fn words(things: usize) -> usize {
+    (things + 63) / 64
+}
+
+/// The bit of a thing, in its word.
+const fn bit_of(thing: usize) -> u64 {
+    1 << (thing % 64)
+}
+
 /// What lies in the basket of a CPU, by the slots of the entries. While a reference lies there its entry keeps its slot.
 struct Dropped {
     of_slot: [Vec<ffi::Local>; ffi::MOST_SLOTS],
     /// A bit for each slot that has something there.
-    filled: u64,
+    filled: [u64; words(ffi::MOST_SLOTS)],
     count: usize,
 }
 
@@ -46,24 +56,29 @@ struct Basket {
 #[repr(align(128))]
 struct Heavy {
     /// A bit for each CPU whose basket is heavy, or was a little while ago.
-    cpus: AtomicU32,
+    cpus: [AtomicU64; words(ffi::MOST_CPUS)],
 }
 
 /// The baskets of all CPUs.
-#[derive(Default)]
 pub struct Baskets {
     of_cpu: [Basket; ffi::MOST_CPUS],
     heavy: Heavy,
 }
 
-/// There is a bit for each slot, and for each CPU.
-const _: () = assert!(ffi::MOST_SLOTS <= 64 && ffi::MOST_CPUS <= 32);
+impl Default for Baskets {
+    fn default() -> Baskets {
+        Baskets {
+            of_cpu: [(); ffi::MOST_CPUS].map(|()| Basket::default()),
+            heavy: Heavy::default(),
+        }
+    }
+}
 
 impl Default for Dropped {
     fn default() -> Dropped {
         Dropped {
             of_slot: [(); ffi::MOST_SLOTS].map(|()| Vec::new()),
-            filled: 0,
+            filled: [0; words(ffi::MOST_SLOTS)],
             count: 0,
         }
     }
@@ -77,7 +92,7 @@ impl Dropped {
             return Err(local);
         }
         place.push(local);
-        self.filled |= 1 << slot;
+        self.filled[slot / 64] |= bit_of(slot);
         self.count += 1;
         Ok(())
     }
@@ -87,7 +102,7 @@ impl Dropped {
         let place = &mut self.of_slot[slot];
         let local = place.pop()?;
         if place.is_empty() {
-            self.filled &= !(1 << slot);
+            self.filled[slot / 64] &= !bit_of(slot);
         }
         self.count -= 1;
         if place.capacity() > HEAVY && place.len() <= place.capacity() / 4 {
@@ -98,10 +113,8 @@ impl Dropped {
 
     /// Takes any out, with its slot.
     fn take(&mut self) -> Option<(usize, ffi::Local)> {
-        if self.filled == 0 {
-            return None;
-        }
-        let slot = self.filled.trailing_zeros() as usize;
+        let word = self.filled.iter().position(|word| *word != 0)?;
+        let slot = 64 * word + self.filled[word].trailing_zeros() as usize;
         self.take_of(slot).map(|local| (slot, local))
     }
 }
@@ -122,11 +135,12 @@ impl Baskets {
         let done = change(&mut dropped);
         basket.count.store(dropped.count, Ordering::Relaxed);
         // The bit has no edge of its own: a little more and a little less than heavy is told by the same bit as before.
-        let (bit, heavy) = (1 << cpu, self.heavy.cpus.load(Ordering::Relaxed));
+        let (bit, word) = (bit_of(usize::from(cpu)), &self.heavy.cpus[usize::from(cpu) / 64]);
+        let heavy = word.load(Ordering::Relaxed);
         if dropped.count > HEAVY && heavy & bit == 0 {
-            self.heavy.cpus.fetch_or(bit, Ordering::Relaxed);
+            word.fetch_or(bit, Ordering::Relaxed);
         } else if dropped.count < HEAVY / 2 && heavy & bit != 0 {
-            self.heavy.cpus.fetch_and(!bit, Ordering::Relaxed);
+            word.fetch_and(!bit, Ordering::Relaxed);
         }
         done
     }
@@ -171,13 +185,14 @@ impl Baskets {
     /// Whether a CPU has nothing to release: its own basket is empty, and no other is heavy.
     #[inline]
     pub fn is_at_rest(&self, cpu: u8) -> bool {
-        self.count(cpu) == 0 && self.heavy.cpus.load(Ordering::Relaxed) == 0
+        self.count(cpu) == 0 && self.heavy.cpus.iter().all(|word| word.load(Ordering::Relaxed) == 0)
     }
 
     /// A CPU whose basket is heavy.
     pub fn heavy(&self) -> Option<u8> {
-        let cpus = self.heavy.cpus.load(Ordering::Relaxed);
-        (cpus != 0).then(|| cpus.trailing_zeros() as u8)
+        let words = self.heavy.cpus.iter().map(|word| word.load(Ordering::Relaxed));
+        let (place, word) = words.enumerate().find(|(_, word)| *word != 0)?;
+        Some((64 * place) as u8 + word.trailing_zeros() as u8)
     }
 
     /// Whether a CPU's basket is heavy.
@@ -189,9 +204,9 @@ impl Baskets {
     /// at all of them.
     #[inline]
     pub fn filled_from(&self, first: u8) -> impl Iterator<Item = u8> + '_ {
-        const MOST: u8 = ffi::MOST_CPUS as u8;
+        const MOST: usize = ffi::MOST_CPUS;
         (0..MOST)
-            .map(move |next| (first + next) % MOST)
+            .map(move |next| ((usize::from(first) + next) % MOST) as u8)
             .filter(move |cpu| self.count(*cpu) > 0)
     }
 }
@@ -204,12 +219,13 @@ mod tests {
     #[test]
     fn a_basket_gives_its_room_back() {
         let mut dropped = Dropped::default();
-        for slot in [0, 31] {
+        const LAST: usize = ffi::MOST_SLOTS - 1;
+        for slot in [0, LAST] {
             for _ in 0..100_000 {
                 assert!(dropped.lay(slot, ffi::Local::EMPTY).is_ok());
             }
         }
-        assert!(dropped.of_slot[31].capacity() >= 100_000);
+        assert!(dropped.of_slot[LAST].capacity() >= 100_000);
         while dropped.take().is_some() {}
         assert_eq!(dropped.count, 0);
         assert!(dropped.of_slot.iter().all(|place| place.capacity() <= 2 * HEAVY));
@@ -233,14 +249,38 @@ mod tests {
     }
 
     #[test]
+    fn each_slot_comes_out_of_a_basket() {
+        let mut dropped = Dropped::default();
+        for slot in (0..ffi::MOST_SLOTS).rev() {
+            assert!(dropped.lay(slot, ffi::Local::EMPTY).is_ok());
+        }
+        for slot in 0..ffi::MOST_SLOTS {
+            assert_eq!(dropped.take().map(|(of, _)| of), Some(slot));
+        }
+        assert!(dropped.take().is_none());
+    }
+
+    #[test]
+    fn each_cpu_may_be_the_heavy_one() {
+        for cpu in 0..ffi::MOST_CPUS as u8 {
+            let baskets = Baskets::default();
+            (0..=HEAVY).for_each(|_| baskets.lay(cpu, 5, ffi::Local::EMPTY));
+            assert!(baskets.heavy() == Some(cpu) && !baskets.is_at_rest((cpu + 1) % ffi::MOST_CPUS as u8));
+            while baskets.take(cpu).is_some() {}
+            assert_eq!(baskets.heavy(), None);
+        }
+    }
+
+    #[test]
     fn each_cpu_with_something_is_gone_through_once() {
+        const LAST: u8 = ffi::MOST_CPUS as u8 - 1;
         let baskets = Baskets::default();
-        assert_eq!(baskets.filled_from(6).count(), 0);
-        for cpu in [3, 6, 0, 7] {
+        assert_eq!(baskets.filled_from(LAST - 1).count(), 0);
+        for cpu in [3, LAST - 1, 0, LAST] {
             baskets.lay(cpu, 5, ffi::Local::EMPTY);
         }
-        assert_eq!(baskets.filled_from(6).collect::<Vec<_>>(), [6, 7, 0, 3]);
+        assert_eq!(baskets.filled_from(LAST - 1).collect::<Vec<_>>(), [LAST - 1, LAST, 0, 3]);
         assert!(baskets.take(0).is_some());
-        assert_eq!(baskets.filled_from(4).collect::<Vec<_>>(), [6, 7, 3]);
+        assert_eq!(baskets.filled_from(4).collect::<Vec<_>>(), [LAST - 1, LAST, 3]);
     }
 }

@@ -1,8 +1,11 @@
 //! The calls of registry.h that this crate makes, as C declares them. What the caller must keep is written there; the modules above say how
 //! they keep it.
 
+use crate::limits::Limits;
 use core::ffi::c_void;
 use core::ptr;
+
+include!(concat!(env!("OUT_DIR"), "/limits.rs"));
 
 /// Done.
 pub const DONE: u32 = 0;
@@ -24,6 +27,7 @@ pub const STILL_HELD: u32 = 16;
 pub const WAITING: u32 = 17;
 pub const TOO_DEEP: u32 = 18;
 pub const NEEDS_DRIVER: u32 = 19;
+pub const OTHER_LIMITS: u32 = 78;
 #[cfg(test)]
 pub const NAME_EMPTY: u32 = 70;
 #[cfg(test)]
@@ -38,9 +42,6 @@ pub const GRACE: u64 = 0;
 pub const PASSIVE: u64 = 1;
 pub const LOCAL: u64 = 2;
 pub const FREED: u64 = 3;
-
-pub const MOST_CPUS: usize = 8;
-pub const MOST_SLOTS: usize = 32;
 
 /// A handle: its one word is never looked into, and the value is moved and never copied.
 macro_rules! handle {
@@ -125,13 +126,24 @@ pub struct Stage {
 }
 
 #[repr(C)]
-#[derive(Clone, Copy, Default)]
+#[derive(Clone, Copy)]
 pub struct Balance {
     pub number: u64,
     pub slot: u64,
     pub held: i64,
     pub locals: [i64; MOST_CPUS],
     pub total: i64,
+}
+
+impl Balance {
+    /// Not written yet.
+    pub const EMPTY: Balance = Balance {
+        number: 0,
+        slot: 0,
+        held: 0,
+        locals: [0; MOST_CPUS],
+        total: 0,
+    };
 }
 
 #[repr(C)]
@@ -153,10 +165,36 @@ impl Wait {
     };
 }
 
+/// A struct has so many words of 64 bits, in C as here.
+macro_rules! words {
+    ($($name:ident: $words:expr),* $(,)?) => {
+        $(const _: () = assert!(core::mem::size_of::<$name>() == 8 * ($words));)*
+    };
+}
+
+words! {
+    Keeper: 1, Cpu: 1, Local: 1, Name: 2, Settings: 6, Entry: 6, Stage: 2, Limits: 6,
+    Balance: 4 + MOST_CPUS, Wait: 2 * MOST_CPUS + MOST_SLOTS + 1,
+}
+
+/// A string of the library's, which is never freed.
+pub fn string(at: *const u8) -> &'static str {
+    let mut length = 0;
+    // SAFETY: registry.h says that such a string is never NULL and never freed; it ends with a zero byte.
+    while unsafe { *at.add(length) } != 0 {
+        length += 1;
+    }
+    // SAFETY: as above; so many bytes come before the zero.
+    let bytes = unsafe { core::slice::from_raw_parts(at, length) };
+    core::str::from_utf8(bytes).unwrap_or("")
+}
+
 extern "C" {
     #[cfg(test)]
     pub fn registry_name_parse(bytes: *const u8, length: usize, name: *mut Name, place: *mut u64) -> u32;
-    pub fn registry_text(answer: u32, text: *mut u8, room: usize) -> usize;
+    pub fn registry_strerror(answer: u32) -> *const u8;
+    pub fn registry_version() -> *const u8;
+    pub fn registry_limits(limits: *mut Limits);
 
     pub fn registry_open(settings: *const Settings, keeper: *mut Keeper, cpus: *mut Cpu, count: usize) -> u32;
     pub fn registry_close_cpu(cpu: *mut Cpu) -> u32;

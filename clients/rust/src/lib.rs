@@ -18,7 +18,7 @@
 //! - An [`Entry`] is a driver or an interface that was attached. It is live until it is detached, and then retired until it is freed. It carries a
 //!   `T`, and everything that holds the entry derefs to it. `T` is one type for all entries of a registry: an `enum` if drivers and interfaces carry
 //!   different things, `()` if they carry nothing.
-//! - A [`Cpu`] is a value that one thread at a time uses. A registry has 1 to 8. It needn't be a processor of the machine. A [`CpuPool`] lends CPUs
+//! - A [`Cpu`] is a value that one thread at a time uses. A registry has at least one and at most [`LIMITS`]`.cpus`. It needn't be a processor of the machine. A [`CpuPool`] lends CPUs
 //!   to more threads.
 //! - A [`Section`] is open on a CPU while it looks entries up. An entry that is [`Found`] in it keeps its slot while it is open.
 //! - A [`PassiveRef`] holds an entry beyond the section, on one CPU. It is cheap, and its holder may sleep. A [`PassiveRc`] co-owns the CPU instead of
@@ -110,6 +110,7 @@ mod carried;
 mod cpu;
 mod entries;
 mod ffi;
+mod limits;
 mod local;
 mod lock;
 mod mapped;
@@ -127,8 +128,10 @@ mod shared;
 mod usual;
 mod values;
 
+pub use self::registry::Registry;
 pub use cpu::Cpu;
 pub use entries::Entries;
+pub use limits::{limits, version, Limits, LIMITS};
 pub use local::{LocalGuard, LocalRef};
 pub use mapped::Mapped;
 pub use name::{Name, NameFault};
@@ -137,7 +140,6 @@ pub use patience::Patience;
 #[cfg(feature = "std")]
 pub use pool::{CpuPool, Lent};
 pub use refusal::{Refusal, Refused};
-pub use self::registry::Registry;
 pub use retired::Retired;
 pub use section::{Found, Section};
 pub use settings::Settings;

@@ -2,7 +2,6 @@
 
 use crate::ffi;
 use crate::values::Holder;
-use alloc::string::String;
 use core::fmt;
 #[cfg(feature = "std")]
 use std::error::Error;
@@ -13,7 +12,7 @@ use std::error::Error;
 /// ```
 /// use registry::{Refusal, Registry, Settings};
 ///
-/// let refusal = Registry::<()>::open(Settings::new(9, 1)).unwrap_err();
+/// let refusal = Registry::<()>::open(Settings::new(0, 1)).unwrap_err();
 /// assert_eq!((refusal, refusal.number()), (Refusal::BadSettings, 2));
 /// println!("{refusal}");
 /// ```
@@ -54,6 +53,8 @@ pub enum Refusal {
     NeedsDriver,
     /// A CPU or a reference is of another registry.
     OtherRegistry,
+    /// The crate was compiled for other [limits](crate::LIMITS) than the library has.
+    OtherLimits,
 }
 
 impl Refusal {
@@ -78,6 +79,7 @@ impl Refusal {
             Refusal::TooDeep => ffi::TOO_DEEP,
             Refusal::NeedsDriver => ffi::NEEDS_DRIVER,
             Refusal::OtherRegistry => 0,
+            Refusal::OtherLimits => ffi::OTHER_LIMITS,
         }
     }
 }
@@ -109,16 +111,15 @@ pub(crate) fn refusal_of(answer: u32) -> Refusal {
         ffi::MISSING_CPU => Refusal::MissingCpu,
         ffi::TOO_DEEP => Refusal::TooDeep,
         ffi::NEEDS_DRIVER => Refusal::NeedsDriver,
+        ffi::OTHER_LIMITS => Refusal::OtherLimits,
         other => panic!("the archive answered {other}: {}", text(other)),
     }
 }
 
 /// What an answer says, in the archive's words.
-fn text(answer: u32) -> String {
-    let mut bytes = [0u8; 160];
-    // SAFETY: the room is that of the array.
-    let length = unsafe { ffi::registry_text(answer, bytes.as_mut_ptr(), bytes.len()) };
-    String::from_utf8_lossy(&bytes[..length.min(bytes.len() - 1)]).into_owned()
+fn text(answer: u32) -> &'static str {
+    // SAFETY: any number may be asked for, on any thread.
+    ffi::string(unsafe { ffi::registry_strerror(answer) })
 }
 
 impl fmt::Display for Refusal {
@@ -128,7 +129,7 @@ impl fmt::Display for Refusal {
             Refusal::OtherRegistry => f.write_str("a CPU or a reference is of another registry"),
             Refusal::StillHeld(holder) => write!(f, "{}: {holder}", text(self.number())),
             Refusal::Waiting(cpu) => write!(f, "{}: cpu {cpu}", text(self.number())),
-            _ => f.write_str(&text(self.number())),
+            _ => f.write_str(text(self.number())),
         }
     }
 }

@@ -13,6 +13,7 @@ use crate::shared::{Shared, NO_CPUS};
 use crate::values::{Balance, Entry, Freed, Kind};
 use crate::Name;
 use alloc::sync::Arc;
+use alloc::vec;
 use alloc::vec::Vec;
 use core::fmt;
 use core::hash::{Hash, Hasher};
@@ -57,7 +58,7 @@ impl<T> Registry<T> {
     ///
     /// # Errors
     ///
-    /// `BadSettings`, `NoMemory`.
+    /// `OtherLimits`, `BadSettings`, `NoMemory`.
     pub fn open(settings: Settings) -> Result<(Registry<T>, Vec<Cpu<T>>), Refusal> {
         let registry = Registry::of(Arc::new(Shared::open(settings)?));
         let cpus = (0..settings.cpus).filter_map(|id| registry.cpu(id)).collect();
@@ -340,7 +341,8 @@ impl<T> Registry<T> {
             return Err(Refusal::MissingCpu);
         }
         cpus[0].release_dropped();
-        let mut list = [ffi::Balance::default(); ffi::MOST_SLOTS];
+        // In a large build it is too long for a stack.
+        let mut list = vec![ffi::Balance::EMPTY; usize::from(self.settings().slots)];
         let length = self.audit_into(&cpus, &mut list)?;
         let count = self.settings().cpus;
         Ok(list[..length].iter().map(|balance| Balance::of(balance, count)).collect())

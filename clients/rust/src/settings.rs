@@ -14,17 +14,17 @@ use crate::ffi;
 #[derive(Clone, Copy, Debug, PartialEq, Eq, Hash)]
 #[non_exhaustive]
 pub struct Settings {
-    /// 1 to 8.
+    /// 1 to the most CPUs of [`LIMITS`](crate::LIMITS), whose fields bound all of these.
     pub cpus: u8,
-    /// Entries at a time, live and retired: 1 to 32.
+    /// Entries at a time, live and retired.
     pub slots: u8,
-    /// Attaches and detaches in all: 1 to 1,000,000.
+    /// Attaches and detaches in all.
     pub changes: u64,
-    /// Outermost sections of each CPU: 1 to 2^40.
+    /// Outermost sections of each CPU.
     pub sections: u64,
-    /// Passive references of each CPU to an entry: 1 to 2^40.
+    /// Passive references of each CPU to an entry.
     pub passives: u64,
-    /// Each CPU's net count of local references to an entry: 1 to 2^40.
+    /// Each CPU's net count of local references to an entry.
     pub locals: u64,
 }
 
@@ -46,10 +46,10 @@ impl Settings {
         Settings {
             cpus,
             slots,
-            changes: 1_000_000,
-            sections: 1 << 40,
-            passives: 1 << 40,
-            locals: 1 << 40,
+            changes: ffi::MOST_CHANGES,
+            sections: ffi::MOST_SECTIONS,
+            passives: ffi::MOST_COUNT,
+            locals: ffi::MOST_COUNT,
         }
     }
 
@@ -83,7 +83,7 @@ impl Settings {
 }
 
 impl Default for Settings {
-    /// The largest registry: 8 CPUs, 32 slots, and all limits as far as they go.
+    /// The largest registry: all [limits](crate::LIMITS) as far as they go.
     fn default() -> Settings {
         Settings::new(ffi::MOST_CPUS as u8, ffi::MOST_SLOTS as u8)
     }

@@ -5,6 +5,7 @@
 use crate::basket::{Baskets, BY_RELEASE, BY_TURN};
 use crate::carried::Carried;
 use crate::ffi;
+use crate::limits::LIMITS;
 use crate::lock::{locked, locked_mut, try_locked, Mutex, MutexGuard};
 use crate::refusal::{checked, Refusal};
 use crate::settings::Settings;
@@ -88,8 +89,9 @@ impl<T> Kept<T> {
 }
 
 impl<T> Shared<T> {
-    /// A new registry. Nobody has any of its CPUs. Refused: `BadSettings`, `NoMemory`.
+    /// A new registry. Nobody has any of its CPUs. Refused: `OtherLimits`, `BadSettings`, `NoMemory`.
     pub fn open(settings: Settings) -> Result<Shared<T>, Refusal> {
+        checked(LIMITS.compared())?;
         let mut keeper = ffi::Keeper::EMPTY;
         let mut cpus = NO_CPUS;
         let count = usize::from(settings.cpus).min(ffi::MOST_CPUS);

@@ -4,7 +4,7 @@
 mod common;
 
 use common::{detach, name, patience, Drops, Stops, Tracked};
-use registry::{Cpu, Found, Kind, LocalRef, Refusal, Registry, Settings};
+use registry::{Cpu, Found, Kind, LocalRef, Refusal, Registry, Settings, LIMITS};
 use std::collections::BTreeSet;
 use std::env;
 use std::sync::atomic::{AtomicBool, Ordering};
@@ -47,13 +47,14 @@ fn the_live_entries_the_newest_first() {
 }
 
 #[test]
-fn thirty_two_entries() {
-    let (registry, cpus) = Registry::open(Settings::new(1, 32)).unwrap();
-    for i in 0..32 {
+fn as_many_entries_as_there_may_be() {
+    let slots = LIMITS.slots as u32;
+    let (registry, cpus) = Registry::open(Settings::new(1, slots as u8)).unwrap();
+    for i in 0..slots {
         registry.attach(&cpus[0], &name(&format!("d{i}")), i).unwrap();
     }
     let carried: Vec<u32> = met(&cpus[0]).into_iter().map(|(_, _, carried)| carried).collect();
-    assert_eq!(carried, (0..32).rev().collect::<Vec<_>>());
+    assert_eq!(carried, (0..slots).rev().collect::<Vec<_>>());
 }
 
 #[test]

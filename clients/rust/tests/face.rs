@@ -4,7 +4,7 @@
 mod common;
 
 use common::{balance, balances, detach, detach_any, local, name, passive, patience, with_driver};
-use registry::{Cpu, Found, Holder, Kind, LocalRef, Name, NameFault, PassiveRef, Patience, Refusal, Refused, Registry, Settings};
+use registry::{Cpu, Found, Holder, Kind, LocalRef, Name, NameFault, PassiveRef, Patience, Refusal, Refused, Registry, Settings, LIMITS};
 use std::collections::{BTreeSet, HashSet};
 use std::convert::TryFrom;
 use std::error::Error;
@@ -59,18 +59,19 @@ fn names_are_told_apart_and_ordered_as_their_texts() {
 
 #[test]
 fn bad_settings_are_refused() {
-    let whole = Settings::new(8, 32);
-    let over = (1 << 40) + 1;
+    let (cpus, slots) = (LIMITS.cpus as u8, LIMITS.slots as u8);
+    let whole = Settings::new(cpus, slots);
+    let over = LIMITS.count + 1;
     for settings in [
         Settings::new(0, 1),
-        Settings::new(9, 1),
+        Settings::new(cpus + 1, 1),
         Settings::new(200, 1),
         Settings::new(1, 0),
-        Settings::new(1, 33),
+        Settings::new(1, slots.wrapping_add(1)),
         whole.changes(0),
-        whole.changes(1_000_001),
+        whole.changes(LIMITS.changes + 1),
         whole.sections(0),
-        whole.sections(over),
+        whole.sections(LIMITS.sections + 1),
         whole.passives(0),
         whole.passives(over),
         whole.locals(0),
@@ -79,7 +80,10 @@ fn bad_settings_are_refused() {
         assert_eq!(Registry::<()>::open(settings).unwrap_err(), Refusal::BadSettings, "{settings:?}");
     }
     let (registry, cpus) = Registry::<()>::open(whole).unwrap();
-    assert_eq!((registry.settings(), cpus.len(), whole), (whole, 8, Settings::default()));
+    assert_eq!(
+        (registry.settings(), cpus.len() as u64, whole),
+        (whole, LIMITS.cpus, Settings::default())
+    );
 }
 
 #[test]
@@ -127,6 +131,7 @@ fn refusals_have_the_numbers_of_the_header() {
         (Refusal::TooDeep, 18),
         (Refusal::NeedsDriver, 19),
         (Refusal::OtherRegistry, 0),
+        (Refusal::OtherLimits, 78),
     ];
     for (refusal, number) in numbered {
         assert_eq!(refusal.number(), number, "{refusal}");
@@ -180,9 +185,9 @@ fn changes_inside_a_section_are_refused() {
 }
 
 #[test]
-fn sections_nest_255_deep() {
+fn sections_nest_to_the_greatest_depth() {
     let (_registry, cpus) = with_driver(7);
-    let guards: Vec<_> = (0..255).map(|_| cpus[0].enter().unwrap()).collect();
+    let guards: Vec<_> = (0..LIMITS.depth).map(|_| cpus[0].enter().unwrap()).collect();
     assert_eq!(cpus[0].enter().unwrap_err(), Refusal::TooDeep);
     drop(guards);
     assert_eq!(cpus[0].depth(), 0);
@@ -215,12 +220,12 @@ fn passive_references_are_released_in_any_order() {
     let cpu = &cpus[0];
     let near = registry.attach(cpu, &WM, 10).unwrap();
     registry.attach(cpu, &name("bge"), 20).unwrap();
-    while registry.attach(cpu, &name("ixl"), 30).unwrap().number < near.number + 32 {
+    while registry.attach(cpu, &name("ixl"), 30).unwrap().number < near.number + LIMITS.slots {
         detach(&registry, cpu, "ixl").freed();
     }
     let mut held: Vec<_> = ["wm", "ixl", "ixl", "bge", "wm", "wm", "ixl"].map(|text| passive(cpu, text)).into();
     let gone = ["wm", "bge", "ixl"].map(|text| detach(&registry, cpu, text));
-    assert_eq!(gone[2].number, 33);
+    assert_eq!(gone[2].number, near.number + LIMITS.slots);
     for (place, left) in [(1, 6), (3, 5), (0, 4), (3, 3), (0, 2), (1, 1), (0, 0)] {
         PassiveRef::release(held.remove(place));
         assert_eq!(held.len(), left);
@@ -397,21 +402,21 @@ fn an_audit_takes_all_cpus_in_any_order() {
 
 #[test]
 fn all_slots_and_names_are_told_apart() {
-    let (registry, cpus) = Registry::open(Settings::new(1, 32)).unwrap();
-    for i in 0..32u64 {
+    let (registry, cpus) = Registry::open(Settings::new(1, LIMITS.slots as u8)).unwrap();
+    for i in 0..LIMITS.slots {
         let made = registry.attach(&cpus[0], &name(&format!("d{i}")), i).unwrap();
         assert_eq!((u64::from(made.slot), made.number), (i, i + 1));
     }
     assert_eq!(registry.attach(&cpus[0], &name("more"), 1).unwrap_err().refusal, Refusal::NoSlot);
     let section = cpus[0].enter().unwrap();
-    for i in 0..32 {
+    for i in 0..LIMITS.slots {
         assert_eq!(*section.find(Kind::Driver, &name(&format!("d{i}"))).unwrap(), i);
     }
-    assert!(section.find(Kind::Driver, &name("d32")).is_none());
+    assert!(section.find(Kind::Driver, &name(&format!("d{}", LIMITS.slots))).is_none());
     assert!(section.find(Kind::Iface, &name("d1")).is_none());
     section.exit();
-    assert_eq!(registry.audit(&cpus).unwrap().len(), 32);
-    for i in (0..32).rev() {
+    assert_eq!(registry.audit(&cpus).unwrap().len() as u64, LIMITS.slots);
+    for i in (0..LIMITS.slots).rev() {
         assert_eq!(detach(&registry, &cpus[0], &format!("d{i}")).freed().value, i);
     }
 }

@@ -4,7 +4,7 @@
 mod common;
 
 use common::{balances, detach, with_driver};
-use registry::{Cpu, Found, Holder, Kind, LocalRef, Name, PassiveRef, ReadGuard, Refusal, Registry, Settings};
+use registry::{Cpu, Found, Holder, Kind, LocalRef, Name, PassiveRef, ReadGuard, Refusal, Registry, Settings, LIMITS};
 
 const WM: Name = Name::from_static("wm");
 const VGA: Name = Name::from_static("vga");
@@ -148,7 +148,7 @@ fn an_inner_section_takes_nothing_away() {
 #[test]
 fn a_cpu_leaves_all_its_sections() {
     let (registry, mut cpus) = with_two();
-    for count in [1, 2, 3, 4, 100, 255] {
+    for count in [1, 2, 3, 4, 100, LIMITS.depth as u8] {
         for _ in 0..count {
             std::mem::forget(cpus[0].enter().unwrap());
         }

@@ -4,7 +4,7 @@
 mod common;
 
 use common::{detach, name, patience, with_driver, Drops, Stops, Tracked};
-use registry::{Cpu, CpuPool, Found, Holder, Kind, LocalRef, Name, PassiveRef, ReadGuard, Refusal, Registry, Settings};
+use registry::{Cpu, CpuPool, Found, Holder, Kind, LocalRef, Name, PassiveRef, ReadGuard, Refusal, Registry, Settings, LIMITS};
 use std::mem;
 use std::panic::{catch_unwind, AssertUnwindSafe};
 use std::sync::atomic::{AtomicBool, Ordering};
@@ -195,16 +195,17 @@ fn a_call_is_nested_as_deep_as_a_section() {
     let (_registry, cpus) = with_driver(7);
     let cpu = &cpus[0];
     let wm = name("wm");
-    let mut guards: Vec<_> = (0..255).map(|_| cpu.enter().unwrap()).collect();
-    let found = guards[254].find(Kind::Driver, &wm).unwrap();
+    let deepest = LIMITS.depth as u8;
+    let mut guards: Vec<_> = (0..deepest).map(|_| cpu.enter().unwrap()).collect();
+    let found = guards[guards.len() - 1].find(Kind::Driver, &wm).unwrap();
     assert_eq!(cpu.get(Kind::Driver, &wm).unwrap_err(), Refusal::TooDeep);
     assert_eq!(cpu.look_up(Kind::Driver, &wm), Err(Refusal::TooDeep));
     assert_eq!(cpu.read(Kind::Driver, &wm).unwrap_err(), Refusal::TooDeep);
-    assert_eq!((*Found::acquire(&found).unwrap(), cpu.depth()), (7, 255));
+    assert_eq!((*Found::acquire(&found).unwrap(), cpu.depth()), (7, deepest));
     guards.pop();
-    assert_eq!((*cpu.read(Kind::Driver, &wm).unwrap(), cpu.depth()), (7, 255));
+    assert_eq!((*cpu.read(Kind::Driver, &wm).unwrap(), cpu.depth()), (7, deepest));
     assert_eq!(cpu.look_up(Kind::Driver, &wm).unwrap().number, 1);
-    assert_eq!((*cpu.get(Kind::Driver, &wm).unwrap(), cpu.depth()), (7, 254));
+    assert_eq!((*cpu.get(Kind::Driver, &wm).unwrap(), cpu.depth()), (7, deepest - 1));
 }
 
 #[test]

@@ -3,7 +3,7 @@
  *
  * THE OBJECTS
  *
- * A registry is a keeper and its CPUs, 0 to 7. Each has a handle of one word. registry_open(3) makes them all. A handle that is {0} is empty.
+ * A registry is a keeper and its CPUs, numbered from 0. Each has a handle of one word. registry_open(3) makes them all. A handle that is {0} is empty.
  * registry_close_cpu(3) and registry_close_keeper(3) empty one. A registry's memory is freed with the last of its handles.
  *
  * A CPU belongs to the thread that runs on it: one call at a time uses its handle. It enters a section, finds entries in it, and exits.
@@ -29,8 +29,8 @@
  *
  * WHAT IS PROVED
  *
- * Each call is an export of a proved library, with four exceptions: registry_strerror, registry_name_format, registry_close and
- * registry_acquire_entry. These four are written in C over the others. They are tested, not proved.
+ * Each call is an export of a proved library, with these exceptions: registry_strerror, registry_name_format, registry_close, registry_acquire_entry,
+ * registry_version, registry_limits, and the comparison of the limits in registry_open. These are written in C. They are tested, not proved.
  *
  * NULL
  *
@@ -75,6 +75,12 @@
  * Each of these loads reads what the exit or release wrote, or a later value. Between threads that hold the caller's lock one after the other,
  * that lock orders the accesses. No contract says this. Programs under three checkers test it.
  *
+ * THE LIMITS
+ *
+ * Each build of the library is proved for its limits: the numbers of registry_limits.h. The sizes of structs depend on two of them, the most CPUs and
+ * the most slots. A program that was compiled for other CPUs or slots doesn't link with the library or start with it: the linker or the loader names
+ * the missing symbol, such as registry_for_8_cpus_32_slots. With other limits of the rest, registry_open returns REGISTRY_OTHER_LIMITS.
+ *
  * THE PLATFORM
  *
  * The library is built for Linux with glibc, on x86-64 (level x86-64-v2) and aarch64 (ARMv8.0). For aarch64 it is proved as well, and tested under
@@ -89,6 +95,8 @@
 #include <stddef.h>
 #include <stdint.h>
 
+#include "registry_limits.h"
+
 #ifdef __cplusplus
 extern "C" {
 #endif
@@ -98,12 +106,7 @@ extern "C" {
 #define REGISTRY_VERSION_MINOR	1
 #define REGISTRY_VERSION_PATCH	0
 
-/* The limits. */
-#define REGISTRY_MOST_CPUS	8
-#define REGISTRY_MOST_SLOTS	32
-#define REGISTRY_MOST_CHANGES	1000000
-#define REGISTRY_MOST_COUNT	((uint64_t)1 << 40)
-#define REGISTRY_MOST_DEPTH	255
+/* The limit that each build has; the others are in registry_limits.h. */
 #define REGISTRY_NAME_BYTES	15
 #define REGISTRY_NAME_ROOM	(REGISTRY_NAME_BYTES + 1)	/* a name's text and its zero byte */
 
@@ -156,7 +159,8 @@ enum {
 	REGISTRY_NOT_COLLECTED = 74,	/* the keeper has collected no count of this entry. */
 	REGISTRY_NO_ROOM = 75,		/* the list is too short for the result. */
 	REGISTRY_NOT_BEGUN = 76,	/* the wait was never begun. */
-	REGISTRY_NULL = 77		/* a pointer to something that the call needs is NULL. */
+	REGISTRY_NULL = 77,		/* a pointer to something that the call needs is NULL. */
+	REGISTRY_OTHER_LIMITS = 78	/* the program was compiled for other limits than the library's. */
 };
 
 /* What an entry is. */
@@ -186,12 +190,12 @@ struct registry_name {
 
 /* The size of a registry, and the limits of its counts. */
 struct registry_settings {
-	uint64_t cpus;		/* 1 to 8 */
-	uint64_t slots;		/* entries at a time, live and retired: 1 to 32 */
-	uint64_t change_limit;	/* attaches and detaches: 1 to 1,000,000 */
-	uint64_t section_limit;	/* outermost sections of each CPU: 1 to 2^40 */
-	uint64_t passive_limit;	/* passive references of each CPU to an entry: 1 to 2^40 */
-	uint64_t count_limit;	/* each CPU's net count of local references to an entry: 1 to 2^40 */
+	uint64_t cpus;		/* 1 to REGISTRY_MOST_CPUS */
+	uint64_t slots;		/* entries at a time, live and retired: 1 to REGISTRY_MOST_SLOTS */
+	uint64_t change_limit;	/* attaches and detaches: 1 to REGISTRY_MOST_CHANGES */
+	uint64_t section_limit;	/* outermost sections of each CPU: 1 to REGISTRY_MOST_SECTIONS */
+	uint64_t passive_limit;	/* passive references of each CPU to an entry: 1 to REGISTRY_MOST_COUNT */
+	uint64_t count_limit;	/* each CPU's net count of local references to an entry: 1 to REGISTRY_MOST_COUNT */
 };
 
 /* An entry, as a call writes it. */
@@ -230,6 +234,39 @@ struct registry_wait {
 	uint64_t begun;
 };
 
+/* The limits of a build: what a program was compiled for, or what the library was built for. */
+struct registry_limits {
+	uint64_t cpus;		/* REGISTRY_MOST_CPUS, and so on */
+	uint64_t slots;
+	uint64_t changes;
+	uint64_t sections;
+	uint64_t count;
+	uint64_t depth;
+};
+
+/* The limits that this header has, for a struct registry_limits. */
+#define REGISTRY_LIMITS                                                                                                            \
+	{REGISTRY_MOST_CPUS, REGISTRY_MOST_SLOTS, REGISTRY_MOST_CHANGES, REGISTRY_MOST_SECTIONS, REGISTRY_MOST_COUNT, REGISTRY_MOST_DEPTH}
+
+/* The sizes of all structs, in words of 64 bits: as the library writes them. */
+#if defined(__cplusplus) && __cplusplus >= 201103L
+#define REGISTRY_WORDS(type, words)	static_assert(sizeof(type) == (words) * sizeof(uint64_t), "the library has another size of this")
+#elif defined(__STDC_VERSION__) && __STDC_VERSION__ >= 201112L
+#define REGISTRY_WORDS(type, words)	_Static_assert(sizeof(type) == (words) * sizeof(uint64_t), "the library has another size of this")
+#else
+#define REGISTRY_WORDS(type, words)	struct registry_keeper
+#endif
+REGISTRY_WORDS(struct registry_keeper, 1);
+REGISTRY_WORDS(struct registry_cpu, 1);
+REGISTRY_WORDS(struct registry_local, 1);
+REGISTRY_WORDS(struct registry_name, 2);
+REGISTRY_WORDS(struct registry_settings, 6);
+REGISTRY_WORDS(struct registry_entry, 6);
+REGISTRY_WORDS(struct registry_stage, 2);
+REGISTRY_WORDS(struct registry_balance, 4 + REGISTRY_MOST_CPUS);
+REGISTRY_WORDS(struct registry_wait, 2 * REGISTRY_MOST_CPUS + REGISTRY_MOST_SLOTS + 1);
+REGISTRY_WORDS(struct registry_limits, 6);
+
 /* ---- Names and results. Any thread may call these, anywhere. ---- */
 
 /*
@@ -245,15 +282,16 @@ registry_answer registry_name_parse(const char *bytes, size_t length, struct reg
  * registry_text - the English text of a result
  *
  * Writes the text and a zero byte to `text`, cut to `room` bytes. With no room it writes nothing. If `text` is NULL it writes nothing for any `room`.
- * Returns the length of the whole text, without the zero. It returns 0 for a number that no call returns, such as REGISTRY_WRONG_CPU.
+ * Returns the length of the whole text, without the zero. It returns 0 for a number that no proved call returns, such as REGISTRY_WRONG_CPU or
+ * REGISTRY_OTHER_LIMITS.
  */
 size_t registry_text(registry_answer answer, char *text, size_t room);
 
 /*
  * registry_strerror - the English text of a result, as a string that is never freed
  *
- * It is the text of registry_text. It is never NULL, and never written to. For a number that no call returns it is "no call
- * returns this". It is C over registry_text: tested, not proved.
+ * It is the text of registry_text. It is never NULL, and never written to. REGISTRY_OTHER_LIMITS has a text here alone. For any other number it is
+ * "no call returns this". It is C: tested, not proved.
  */
 const char *registry_strerror(registry_answer answer);
 
@@ -265,17 +303,54 @@ const char *registry_strerror(registry_answer answer);
  */
 registry_answer registry_name_format(const struct registry_name *name, char *text, size_t room) REGISTRY_CHECKED;
 
+/* ---- The library. Any thread may call these, anywhere. ---- */
+
+/*
+ * registry_version - the version of the library, such as "0.1.0"
+ *
+ * It is never freed and never written to. The version of the header is REGISTRY_VERSION_MAJOR, _MINOR and _PATCH. It is C: tested, not proved.
+ */
+const char *registry_version(void);
+
+/*
+ * registry_limits - write the limits that the library was built for
+ *
+ * `limits` may be NULL. The limits that the program was compiled for are REGISTRY_LIMITS. It is C: tested, not proved.
+ */
+void registry_limits(struct registry_limits *limits);
+
+/*
+ * Compares the limits that a program was compiled for with the library's. registry_open calls it. Its name in the library has the most CPUs and the
+ * most slots, such as registry_for_8_cpus_32_slots. So no program links or starts with a library in which sizes of structs are others. It is C: tested,
+ * not proved.
+ * Returns REGISTRY_NULL if `limits` is NULL, REGISTRY_OTHER_LIMITS if any of them is another number.
+ */
+registry_answer REGISTRY_BUILT_FOR(const struct registry_limits *limits) REGISTRY_CHECKED;
+
 /* ---- Opening and closing. ---- */
 
 /*
  * registry_open - make a registry: its keeper, and its CPUs in order
  *
  * `count` is settings->cpus. All handles are empty before the call. No entry is attached then, and all CPUs are outside any section.
- * Returns REGISTRY_NULL if `settings` is NULL, or if `cpus` is NULL and `count` isn't 0, REGISTRY_BAD_SETTINGS, REGISTRY_MISSING_CPU if `count` is
- * another number, REGISTRY_FULL_HANDLE, REGISTRY_NO_MEMORY.
+ * A macro compares the limits first. `(registry_open)(..)` is the library's call alone, which can't return REGISTRY_OTHER_LIMITS.
+ * Returns REGISTRY_OTHER_LIMITS if the program was compiled for other limits than the library's, REGISTRY_NULL if `settings` is NULL, or if `cpus` is
+ * NULL and `count` isn't 0, REGISTRY_BAD_SETTINGS, REGISTRY_MISSING_CPU if `count` is another number, REGISTRY_FULL_HANDLE, REGISTRY_NO_MEMORY.
  */
 registry_answer registry_open(const struct registry_settings *settings, struct registry_keeper *keeper,
     struct registry_cpu *cpus, size_t count) REGISTRY_NONNULL(2) REGISTRY_CHECKED;
+
+/* What the macro calls: it has the limits of this program in it. */
+static inline registry_answer registry_open_compared(const struct registry_settings *settings, struct registry_keeper *keeper,
+    struct registry_cpu *cpus, size_t count) REGISTRY_NONNULL(2) REGISTRY_CHECKED;
+static inline registry_answer registry_open_compared(const struct registry_settings *settings, struct registry_keeper *keeper,
+    struct registry_cpu *cpus, size_t count)
+{
+	const struct registry_limits limits = REGISTRY_LIMITS;
+	registry_answer answer = REGISTRY_BUILT_FOR(&limits);
+	return answer != REGISTRY_DONE ? answer : registry_open(settings, keeper, cpus, count);
+}
+#define registry_open(settings, keeper, cpus, count)	registry_open_compared(settings, keeper, cpus, count)
 
 /*
  * registry_close_cpu - close a CPU
@@ -335,7 +410,7 @@ registry_answer registry_exit(struct registry_cpu *cpu) REGISTRY_NONNULL(1);
 registry_answer registry_inside(const struct registry_cpu *cpu, bool *inside) REGISTRY_NONNULL(1);
 
 /*
- * registry_depth - the number of open enters, 0 to 255
+ * registry_depth - the number of open enters, 0 to REGISTRY_MOST_DEPTH
  *
  * `depth` may be NULL.
  * Returns REGISTRY_EMPTY_HANDLE.

@@ -1,0 +1,1 @@
+../../../crates/registry_c/include/registry_limits.h

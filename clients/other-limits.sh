@@ -1,0 +1,112 @@
+#!/usr/bin/env bash
+# Compiles a program for other limits than the archive was built for, one limit after the other: other-limits.sh HEADERS ARCHIVE. With other CPUs or slots it
+# doesn't link, and doesn't start with a shared library of the archive: what is said then names both. With another of the rest registry_open refuses it. CC is
+# the compiler, RUN what runs a program of another processor. `make check` calls it. The last line is 'N passed, M failed'.
+set -uo pipefail
+if [ $# -ne 2 ]; then
+    echo "usage: other-limits.sh HEADERS ARCHIVE" >&2
+    exit 2
+fi
+headers=$(realpath "$1") archive=$(realpath "$2")
+cd "$(dirname "$0")" || exit
+room=$(mktemp -d)
+trap 'rm -rf "$room"' EXIT
+passed=0 failed=0 refused='78: the program was compiled for other limits than the library has'
+
+# check NAME COMMAND..: the command ends with status 0; else what it said is shown.
+check() {
+    local name=$1
+    shift
+    if "$@" >"$room/said" 2>&1; then
+        passed=$((passed + 1))
+        echo "ok      $name"
+    else
+        failed=$((failed + 1))
+        echo "FAILED  $name"
+        cat "$room/said"
+    fi
+}
+
+# What the header says of a limit.
+limit() {
+    sed -nE "s/^#define REGISTRY_MOST_$1[[:blank:]]+//p" "$headers/registry_limits.h"
+}
+
+# change FOLDER WORD TEXT: the text is what the header there says of the word.
+change() {
+    sed -i -E "s/^(#define REGISTRY_$2[[:blank:]]+).*/\\1$3/" "$1/registry_limits.h"
+}
+
+# Headers of another build, as tools/limits-header.py would make them: the limit, one more.
+other_headers() {
+    local folder=$room/$1 more
+    mkdir -p "$folder" && cp "$headers"/registry{,_limits}.h "$folder" || return
+    case $1 in
+    same) return ;;
+    CPUS | SLOTS) more=$(($(limit "$1") + 1)) ;;
+    *) more="($(limit "$1") + 1)" ;;
+    esac
+    change "$folder" "MOST_$1" "$more"
+    [ "$1" != CPUS ] || change "$folder" BUILT_FOR "registry_for_${more}_cpus_$(limit SLOTS)_slots"
+    [ "$1" != SLOTS ] || change "$folder" BUILT_FOR "registry_for_$(limit CPUS)_cpus_${more}_slots"
+}
+
+# The name that a program compiled with these headers asks for.
+asked_for() {
+    sed -nE 's/^#define REGISTRY_BUILT_FOR[[:blank:]]+//p' "$room/$1/registry_limits.h"
+}
+
+# built NAME WORDS..: the program, compiled with the headers of that name and linked with these words.
+built() {
+    local name=$1
+    shift
+    $CC -std=c11 -D_POSIX_C_SOURCE=200809L -Wall -Wextra -Werror ${RUN:+-static} -I"$room/$name" -o "$room/$name/program" c/other_limits.c "$@" -pthread
+}
+
+# says NAME LINE: it links with the archive and says the line.
+says() {
+    other_headers "$1" && built "$1" "$archive" && [ "$($RUN "$room/$1/program")" = "$2" ]
+}
+
+# It doesn't link with the archive, and the linker names the limits that the program was compiled for.
+no_link() {
+    other_headers "$1" && [ "$(asked_for "$1")" != "$(asked_for same)" ] && ! built "$1" "$archive" >"$room/linked" 2>&1 &&
+        grep "undefined reference to .$(asked_for "$1")'" "$room/linked"
+}
+
+# A program whose headers have other CPUs and yet the name of this build: it links, and is refused.
+forged() {
+    other_headers CPUS && change "$room/CPUS" BUILT_FOR "$(asked_for same)" && built CPUS "$archive" && [ "$($RUN "$room/CPUS/program")" = "$refused" ]
+}
+
+# library FOLDER WORDS..: a shared library of the archive, with these words too.
+library() {
+    local folder=$1
+    shift
+    mkdir -p "$folder" && $CC -shared -fPIC -o "$folder/libregistry.so" -Wl,-soname,libregistry.so "$@" \
+        -Wl,--whole-archive "$archive" -Wl,--no-whole-archive -pthread
+}
+
+# A program that was linked with a library of another build doesn't start with this one in its place: the loader names the limits.
+no_start() {
+    local stub='#include "registry.h"\nregistry_answer REGISTRY_BUILT_FOR(const struct registry_limits *limits) { return limits == NULL; }\n'
+    # shellcheck disable=SC2059
+    other_headers "$1" && printf "$stub" >"$room/stub.c" && library "$room/$1/lib" -I"$room/$1" "$room/stub.c" && library "$room/lib" &&
+        built "$1" -Wl,-z,now -L"$room/$1/lib" -lregistry && LD_LIBRARY_PATH=$room/$1/lib "$room/$1/program" >/dev/null &&
+        ! LD_LIBRARY_PATH=$room/lib "$room/$1/program" >"$room/started" 2>&1 && grep "undefined symbol: $(asked_for "$1")" "$room/started"
+}
+
+: "${CC:=gcc}" "${RUN:=}"
+check "the same limits: a registry is opened" says same '0: done'
+check "the symbol of this build is named by its limits" [ "$(asked_for same)" = "registry_for_$(limit CPUS)_cpus_$(limit SLOTS)_slots" ]
+for limit in CHANGES SECTIONS COUNT DEPTH; do
+    check "other $limit: registry_open refuses it" says "$limit" "$refused"
+done
+for limit in CPUS SLOTS; do
+    check "other $limit: it doesn't link, and the linker names both limits" no_link "$limit"
+    # No shared library of another processor is there to start with.
+    [ -n "$RUN" ] || check "other $limit: it doesn't start, and the loader names both limits" no_start "$limit"
+done
+check "other CPUS under the name of this build: registry_open refuses it" forged
+echo "$passed passed, $failed failed"
+[ "$failed" -eq 0 ]

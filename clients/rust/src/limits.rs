@@ -1,0 +1,110 @@
+//! The limits of a build, and the library's version.
+
+use crate::ffi;
+
+/// The limits of a build of the library: the largest [`Settings`](crate::Settings), and how deep a section may be nested.
+#[repr(C)]
+#[derive(Clone, Copy, Debug, PartialEq, Eq, Hash)]
+#[non_exhaustive]
+pub struct Limits {
+    /// CPUs of a registry.
+    pub cpus: u64,
+    /// Entries of a registry at a time, live and retired.
+    pub slots: u64,
+    /// Attaches and detaches of a registry together.
+    pub changes: u64,
+    /// Outermost sections of a CPU.
+    pub sections: u64,
+    /// Passive references of a CPU to an entry, and its net count of local ones.
+    pub count: u64,
+    /// Open sections of a CPU, one nested in another.
+    pub depth: u64,
+}
+
+/// The limits that this crate was compiled for, by the archive's header `registry_limits.h`. With a library that has others nothing is opened:
+/// [`Registry::open`](crate::Registry::open) returns `OtherLimits`. If the most CPUs or the most slots are others, the program doesn't even link.
+///
+/// ```
+/// use registry::{limits, Registry, Settings, LIMITS};
+///
+/// assert_eq!(limits(), LIMITS);
+/// let (_registry, cpus) = Registry::<()>::open(Settings::default()).unwrap();
+/// assert_eq!(cpus.len() as u64, LIMITS.cpus);
+/// ```
+pub const LIMITS: Limits = Limits {
+    cpus: ffi::MOST_CPUS as u64,
+    slots: ffi::MOST_SLOTS as u64,
+    changes: ffi::MOST_CHANGES,
+    sections: ffi::MOST_SECTIONS,
+    count: ffi::MOST_COUNT,
+    depth: ffi::MOST_DEPTH,
+};
+
+impl Limits {
+    /// What the library returns of these as those that a program was compiled for.
+    pub(crate) fn compared(&self) -> u32 {
+        // SAFETY: the call reads the struct alone, which lies as in C.
+        unsafe { ffi::registry_built_for(self) }
+    }
+}
+
+/// The limits that the library was built for.
+#[must_use]
+pub fn limits() -> Limits {
+    let mut limits = LIMITS;
+    // SAFETY: the call writes the struct alone, which lies as in C.
+    unsafe { ffi::registry_limits(&mut limits) };
+    limits
+}
+
+/// The version of the library, such as `"0.1.0"`.
+///
+/// ```
+/// assert_eq!(registry::version(), env!("CARGO_PKG_VERSION"));
+/// ```
+#[must_use]
+pub fn version() -> &'static str {
+    // SAFETY: the call needs nothing.
+    ffi::string(unsafe { ffi::registry_version() })
+}
+
+#[cfg(test)]
+mod tests {
+    use super::{Limits, LIMITS};
+    use crate::ffi;
+    use crate::refusal::{checked, Refusal};
+
+    #[test]
+    fn other_limits_than_the_librarys_are_refused() {
+        assert_eq!(LIMITS.compared(), ffi::DONE);
+        let others = [
+            Limits {
+                cpus: LIMITS.cpus + 1,
+                ..LIMITS
+            },
+            Limits {
+                slots: LIMITS.slots - 1,
+                ..LIMITS
+            },
+            Limits {
+                changes: LIMITS.changes + 1,
+                ..LIMITS
+            },
+            Limits {
+                sections: LIMITS.sections - 1,
+                ..LIMITS
+            },
+            Limits {
+                count: LIMITS.count + 1,
+                ..LIMITS
+            },
+            Limits {
+                depth: LIMITS.depth - 1,
+                ..LIMITS
+            },
+        ];
+        for other in others {
+            assert_eq!(checked(other.compared()), Err(Refusal::OtherLimits), "{other:?}");
+        }
+    }
+}

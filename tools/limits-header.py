@@ -1,0 +1,84 @@
+#!/usr/bin/env python3
+"""Prints registry_limits.h, the header for C with the limits of a build.
+
+    tools/limits-header.py [LIMITS.rt] >registry_limits.h      without a file: those of crates/registry_values/src/limits.rt
+
+Where the file lacks a limit, one line says which, the status is 2, and nothing is printed.
+"""
+import sys
+
+sys.dont_write_bytecode = True
+
+from limits import DEFAULTS, limits
+
+HEAD = """\
+/*
+ * registry_limits.h - the limits that the library was built for
+ *
+ * tools/limits-header.py makes this file from the limits in the proved code. A build with other limits has another one. registry.h includes it.
+ */
+#ifndef REGISTRY_LIMITS_H
+#define REGISTRY_LIMITS_H
+
+#include <stdint.h>
+"""
+
+# What each limit bounds.
+SAID = {
+    "MOST_CPUS": "CPUs of a registry, at most.",
+    "MOST_SLOTS": "Entries of a registry at a time, live and retired, at most: its slots.",
+    "MOST_CHANGES": "Attaches and detaches of a registry together, at most.",
+    "MOST_SECTIONS": "Outermost sections of a CPU, at most.",
+    "MOST_COUNT": "Passive references of a CPU to an entry, at most, and how far from 0 its net count of local references may be.",
+    "MOST_DEPTH": "Open enters of a CPU, at most.",
+}
+
+# Those that don't fit 32 bits in each build.
+WIDE = ("MOST_CHANGES", "MOST_SECTIONS", "MOST_COUNT")
+
+TAIL = """
+/* The name of a call of the library: with it a program doesn't link or start where these two limits, which sizes of structs follow, are others. */
+#define REGISTRY_BUILT_FOR	registry_for_{MOST_CPUS}_cpus_{MOST_SLOTS}_slots
+
+/* What the shared libraries of this build have in their names. The default build has nothing. */
+#define REGISTRY_BUILD	"{build}"
+
+#endif
+"""
+
+
+def in_c(name, value):
+    """The number as C has it: a power of 2 as a shift."""
+    if name not in WIDE:
+        return str(value)
+    power = value.bit_length() - 1
+    return f"(UINT64_C(1) << {power})" if value == 1 << power and power >= 10 else f"UINT64_C({value})"
+
+
+def header(of):
+    """The whole header for these limits."""
+    lines = [f"\n/* {SAID[name]} */\n#define REGISTRY_{name}\t{in_c(name, of[name])}\n" for name in DEFAULTS]
+    default = all(of[name] == DEFAULTS[name] for name in ("MOST_CPUS", "MOST_SLOTS"))
+    build = "" if default else f"-{of['MOST_CPUS']}x{of['MOST_SLOTS']}"
+    return HEAD + "".join(lines) + TAIL.format(build=build, **of)
+
+
+def main(words):
+    if len(words) > 1:
+        print("usage: limits-header.py [LIMITS.rt]", file=sys.stderr)
+        return 2
+    try:
+        of = limits(*words)
+    except (OSError, UnicodeDecodeError) as fault:
+        print(f"limits-header: {fault}", file=sys.stderr)
+        return 2
+    lacking = [name for name in DEFAULTS if of[name] is None]
+    if lacking:
+        print(f"limits-header: the file says no {lacking[0]}", file=sys.stderr)
+        return 2
+    print(header(of), end="")
+    return 0
+
+
+if __name__ == "__main__":
+    sys.exit(main(sys.argv[1:]))

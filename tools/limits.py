@@ -1,0 +1,27 @@
+"""The limits of a build, as the proved code says them: for the tools that write them again or compare them."""
+import pathlib
+import re
+
+ROOT = pathlib.Path(__file__).resolve().parent.parent
+LIMITS = "crates/registry_values/src/limits.rt"
+
+# The default build has these, and keeps them.
+DEFAULTS = {"MOST_CPUS": 8, "MOST_SLOTS": 32, "MOST_CHANGES": 1_000_000, "MOST_SECTIONS": 1 << 40, "MOST_COUNT": 1 << 40, "MOST_DEPTH": 255}
+
+
+def number(word):
+    """The number that the word says: digits, or a power of 2."""
+    digits, _, power = word.replace("_", "").partition(" << ")
+    return int(digits) << int(power or 0)
+
+
+def limit(text, name):
+    """The limit of that name in the text of a file of limits, or None."""
+    found = re.search(rf"^pub const {name}: \w+ = (\d[\d_]*(?: << \d+)?);", text, re.M)
+    return number(found[1]) if found else None
+
+
+def limits(path=ROOT / LIMITS):
+    """Each limit by its name. One that the file doesn't say is None."""
+    text = pathlib.Path(path).read_text()
+    return {name: limit(text, name) for name in DEFAULTS}
