@@ -2,10 +2,11 @@
 # Tries a release where nothing of ours is: in fresh Debian roots, without the kit, without the repository and without a network. It isn't part of the gate.
 #
 #     tools/test-release.sh             all parts, over release/ as tools/make-release.sh made it
-#     tools/test-release.sh PART..      some of them: twice c cmake cargo apt
+#     tools/test-release.sh PART..      some of them: twice packet c cmake cargo apt
 #
 #     twice    the release made twice, in two clones, is the same to the byte
-#     c        gcc and make alone: the examples, by pkg-config too; the source is built, checked, installed and uninstalled
+#     packet   gcc and make alone: how long after unpacking the first packet is looked up, which is one minute at most
+#     c        gcc, make and pkg-config: the examples; the source is built, checked, installed and uninstalled
 #     cmake    find_package(kupaldiz)
 #     cargo    the crate as a path dependency, its tests and examples, with Debian's cargo and with the newest one that is here
 #     apt      the Debian packages are installed, programs in C and Rust are built, and all is removed to nothing
@@ -24,7 +25,7 @@ refuse() {
     exit 2
 }
 
-parts=(twice c cmake cargo apt)
+parts=(twice packet c cmake cargo apt)
 for part; do
     [[ " ${parts[*]} " == *" $part "* ]] || refuse "there is no part $part: ${parts[*]}"
 done
@@ -62,7 +63,7 @@ inside() {
     # shellcheck disable=SC2016
     timeout 1500 unshare --net --mount --pid --fork sh -c '
         if [ -n "$3" ]; then mount --bind -o ro "$3" "$1/opt/rust" || exit; fi
-        mount -t proc proc "$1/proc" && exec chroot "$1" env -i HOME=/root PATH=/usr/sbin:/usr/bin:/sbin:/bin LC_ALL=C.UTF-8 VERSION="$2" bash -eux -o pipefail /try' \
+        mount -t proc proc "$1/proc" && exec chroot "$1" env -i PATH=/usr/sbin:/usr/bin:/sbin:/bin LC_ALL=C.UTF-8 VERSION="$2" bash -eux -o pipefail /try' \
         sh "$at" "$version" "${rust-}"
     local status=$?
     rm -rf --one-file-system "$at"
@@ -99,9 +100,14 @@ test_twice() {
     check "made twice, in two folders: the same to the byte" same_twice
 }
 
+test_packet() {
+    check "a root with gcc and make" root packet gcc libc6-dev make xz-utils
+    tries "gcc and make alone" packet
+}
+
 test_c() {
     check "a root with gcc, make and pkg-config" root c gcc libc6-dev make pkg-config xz-utils diffutils
-    tries "gcc and make alone" c
+    tries "gcc, make and pkg-config" c
 }
 
 test_cmake() {
