@@ -252,6 +252,16 @@ clients/dist.sh --lay "$PWD/laid" && [ -f laid/archive/x86_64/libregistry.proved
     return Case("clients' scripts", [], tree, ["./try"], faults, counts=False, prepare=prepare_clients)
 
 
+def installing():
+    """What tools/test-install.sh needs; nothing is installed here."""
+    tools = {"clients/out/libregistry.a": "", **{f"bin/{name}": f'#!/bin/sh\nexec {shutil.which(name)} "$@"\n' for name in BASICS}}
+    faults = (
+        Fault("no archive", "there is no clients/out/libregistry.a: tools/build-archive.sh", (("clients/out/libregistry.a", "", None),), command=refused("tools/test-install.sh")),
+        Fault("no pkg-config", "there is no pkg-config: apt-get install pkg-config", command=with_bin("tools/test-install.sh")),
+    )
+    return Case("test-install", ["test-install.sh", "checks.sh"], tools, ["true"], faults, counts=False)
+
+
 def proving():
     """tools/prove-program.sh without a kit."""
     fault = Fault("no kit", "the kit comes from whoever gives you Rattle", command=refused("env", "PATH=/usr/bin:/bin", "tools/prove-program.sh"))
@@ -259,4 +269,4 @@ def proving():
 
 
 def cases():
-    return [making(), building(), trying(), laid(), proving()]
+    return [making(), building(), trying(), laid(), installing(), proving()]
