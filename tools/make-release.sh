@@ -138,13 +138,15 @@ crate() {
     cp "$room/target/package/kupaldiz-$version.crate" "$made"
 }
 
-# The Debian packages, in which lintian finds no error.
+# packages ARCHITECTURE WORDS..: the Debian packages that dpkg-buildpackage makes with these words, in which lintian finds no error.
 packages() {
-    cp -r "$room/$source_name" "$room/debianised"
-    (cd "$room/debianised" && quietly dpkg-buildpackage -b -us -uc)
-    quietly lintian --allow-root --fail-on error "$room"/*.changes
-    grep -hE '^[EW]: ' "$room/log" | sed 's/^/lintian: /' || true
-    cp "$room"/*.deb "$made"
+    local at=$room/$1
+    mkdir "$at"
+    cp -r "$room/$source_name" "$at/source"
+    (cd "$at/source" && quietly dpkg-buildpackage -us -uc "${@:2}")
+    quietly lintian --allow-root --fail-on error "$at"/*.changes
+    grep -hE '^[EW]: ' "$room/log" | sed "s/^/lintian, $1: /" || true
+    cp "$at"/*.deb "$made"
 }
 
 # What each archive is proved to be: the records, one after another.
@@ -177,11 +179,13 @@ mkdir "$made"
 quietly clients/dist.sh --lay "$room/$source_name"
 clients/pack.sh "$room" "$source_name" "$SOURCE_DATE_EPOCH" >"$made/$source_name.tar.xz"
 binaries x86_64
+packages amd64 -b
 if has_aarch64; then
     binaries aarch64
+    # By the cross compiler, whose packages aren't those that dpkg-buildpackage looks for.
+    packages arm64 -B -aarm64 -d
 fi
 crate
-packages
 proved >"$made/PROVED"
 (cd "$made" && sha256sum -- * >"$room/sums" && mv "$room/sums" SHA256SUMS)
 # In one step: whoever looks finds a whole release.

@@ -9,7 +9,7 @@ files() {
         grep -v '^/etc/ld.so.cache$' | sort
 }
 files >"$room/before"
-apt-get install -y --no-install-recommends /release/*.deb
+apt-get install -y --no-install-recommends /release/*_{amd64,all}.deb
 dpkg -l | grep kupaldiz
 echo "done: apt installs $(dpkg -l | grep -c '^ii.*kupaldiz') packages"
 cp -r /usr/share/doc/libkupaldiz-dev/examples "$room/examples"
