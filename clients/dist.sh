@@ -34,12 +34,20 @@ archive_of() {
     fi
 }
 
+# remedy PROCESSOR: what makes its archive.
+remedy() {
+    case $1 in
+    x86_64) echo tools/build-archive.sh ;;
+    *) echo "tools/build-archive.sh --for $1" ;;
+    esac
+}
+
 # lay_archive PROCESSOR TO: its archive with the record, and the program.
 lay_archive() {
     local archive to=$2/archive/$1 program
     archive=$(archive_of "$1")
     [ -n "$archive" ] || return 0
-    [ -f "${archive%.a}.proved" ] || refuse "there is no ${archive%.a}.proved, the record of the archive's proof: tools/build-archive.sh writes it"
+    [ -f "${archive%.a}.proved" ] || refuse "there is no ${archive%.a}.proved, the record of the archive's proof: $(remedy "$1") writes it"
     mkdir -p "$to"
     cp "$archive" "${archive%.a}.proved" "$(first "${archive%/*}/registry_limits.h" include/registry_limits.h ../crates/registry_c/include/registry_limits.h)" "$to"
     program=$(first archive/x86_64/registry_run ../crates/registry_run/out/registry_run)
@@ -83,24 +91,35 @@ lay() {
     find "$to" -name __pycache__ -prune -exec rm -rf {} +
 }
 
-: "${SOURCE_DATE_EPOCH:=$(stat -c %Y CHANGELOG.md)}"
-[ -n "$(archive_of x86_64)" ] || refuse "there is no out/libregistry.a: tools/build-archive.sh proves and builds it, with the Rattle kit"
+need_archive() {
+    [ -n "$(archive_of x86_64)" ] || refuse "there is no out/libregistry.a: $(remedy x86_64) proves and builds it, with the Rattle kit"
+}
+
+# In one step: whoever looks finds the whole source, or the whole package.
+lay_out() {
+    [ ! -e "$1" ] || refuse "there is a $1 already"
+    lay "$room/$name"
+    mkdir -p "$(dirname "$1")"
+    mv "$room/$name" "$1"
+}
+
+pack() {
+    command -v xz >/dev/null || refuse "there is no xz: apt-get install xz-utils"
+    lay "$room/$name"
+    ./pack.sh "$room" "$name" "$SOURCE_DATE_EPOCH" >"$room/packed"
+    mkdir -p "$1"
+    mv "$room/packed" "$1/$name.tar.xz"
+    echo "$1/$name.tar.xz"
+}
+
 case "$#,${1-}" in
-2,--lay)
-    [ ! -e "$2" ] || refuse "there is a $2 already"
-    mkdir -p "$2"
-    lay "$(realpath "$2")"
-    exit ;;
-1,--*|0,*|[2-9],*)
-    refuse "it takes OUT, or --lay FOLDER" ;;
+2,--lay) action=lay_out to=$2 ;;
+1,--*|0,*|[2-9],*) refuse "it takes OUT, or --lay FOLDER" ;;
+*) action=pack to=$1 ;;
 esac
-command -v xz >/dev/null || refuse "there is no xz: apt-get install xz-utils"
-out=$(realpath -m "$1")
+need_archive
+: "${SOURCE_DATE_EPOCH:=$(stat -c %Y CHANGELOG.md)}"
 name=kupaldiz-$(make -s version)
 room=$(mktemp -d)
 trap 'rm -rf "$room"' EXIT
-lay "$room/$name"
-./pack.sh "$room" "$name" "$SOURCE_DATE_EPOCH" >"$room/packed"
-mkdir -p "$out"
-mv "$room/packed" "$out/$name.tar.xz"
-echo "$1/$name.tar.xz"
+"$action" "$to"

@@ -6,4 +6,12 @@ if [ $# -ne 3 ]; then
     echo "usage: pack.sh WHERE NAME TIME" >&2
     exit 2
 fi
+if [ ! -d "$1/$2" ]; then
+    echo "pack: there is no folder $1/$2" >&2
+    exit 2
+fi
+if ! command -v xz >/dev/null; then
+    echo "pack: there is no xz: apt-get install xz-utils" >&2
+    exit 2
+fi
 tar -C "$1" --sort=name --format=gnu --owner=root:0 --group=root:0 --mtime="@$3" --mode='u+rw,go+r,go-w,a+X' -cf - "$2" | xz -6 -T1 -c

@@ -15,7 +15,10 @@ WARNINGS = -Wall -Wextra $(WERROR) -Wpedantic -Wshadow -Wconversion -Wstrict-pro
 STRICT = -std=c11 -D_POSIX_C_SOURCE=200809L $(WARNINGS)
 
 # The processor that the compiler is for, and what its other programs are called.
-PROCESSOR := $(firstword $(subst -, ,$(shell $(CC) -dumpmachine)))
+PROCESSOR := $(firstword $(subst -, ,$(shell $(CC) -dumpmachine 2>/dev/null)))
+ifeq ($(PROCESSOR),)
+$(error there is no compiler $(CC): apt-get install gcc, or CC=.. names another one)
+endif
 CROSS := $(patsubst %-gcc,%-,$(filter %-gcc,$(firstword $(CC))))
 AR = $(CROSS)ar
 OBJCOPY = $(CROSS)objcopy

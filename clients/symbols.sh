@@ -8,6 +8,12 @@ if [ $# -ne 4 ]; then
     exit 2
 fi
 headers=$1 out=$2 suffix=$3.so.$4
+for needed in "$headers/registry.h" "$out"/libkupaldiz{,_netbsd}{.a,"$suffix"}; do
+    if [ ! -f "$needed" ]; then
+        echo "symbols: there is no $needed: make library builds the libraries, make symbols calls this" >&2
+        exit 2
+    fi
+done
 wrong=0
 
 # As the linker knows the calls of the pages' names.

@@ -24,6 +24,11 @@ need() {
     command -v "$1" >/dev/null || refuse "there is no $1: apt-get install $2"
 }
 
+# need_library COMPILER PACKAGE: the compiler has a C library.
+need_library() {
+    "$1" -E - <<<'#include <stdlib.h>' >/dev/null 2>&1 || refuse "$1 has no C library: apt-get install $2"
+}
+
 if [ "${1-}" = --prove ]; then
     prove=yes
     shift
@@ -40,12 +45,31 @@ need_tools() {
     for pair in git:git gcc:gcc make:make xz:xz-utils ar:binutils cargo:cargo pkg-config:pkg-config dpkg-buildpackage:dpkg-dev dh:debhelper lintian:lintian; do
         need "${pair%%:*}" "${pair##*:}"
     done
+    need_library gcc libc6-dev
 }
 
 # The release is of a commit.
 need_commit() {
-    git rev-parse -q --verify HEAD >/dev/null || refuse "there is no commit here: a release is made in a clone of the repository"
+    git rev-parse -q --verify HEAD >/dev/null 2>&1 || refuse "there is no commit here: a release is made in a clone of the repository"
     [ -z "$(git status --porcelain)" ] || refuse "the tree has changes that are in no commit: git status names them, git commit takes them in"
+}
+
+is_release() {
+    [ -f "$1/SHA256SUMS" ] && [ -f "$1/PROVED" ]
+}
+
+# What the folder has is taken away in the end: so it isn't there yet, or is empty, or has an older release.
+need_place() {
+    local above=$to
+    if [ -n "$(ls -A "$to" 2>/dev/null)" ] && ! is_release "$to"; then
+        refuse "there is a $to already, and it is no release: --to names another folder"
+    fi
+    while [ ! -e "$above" ]; do
+        above=$(dirname "$above")
+    done
+    if ! [ -d "$above" ] || ! [ -w "$above" ]; then
+        refuse "nothing can be written to $above: --to names another folder"
+    fi
 }
 
 prove_all() {
@@ -67,6 +91,7 @@ need_proved() {
     if has_aarch64; then
         tools/proof-record.py check clients/out/aarch64/libregistry.a || exit 2
         need aarch64-linux-gnu-gcc gcc-aarch64-linux-gnu
+        need_library aarch64-linux-gnu-gcc libc6-dev-arm64-cross
     else
         echo "kupaldiz-$version-linux-aarch64.tar.xz is left out: tools/build-archive.sh --for aarch64 proves and builds its archive"
     fi
@@ -113,13 +138,15 @@ crate() {
     cp "$room/target/package/kupaldiz-$version.crate" "$made"
 }
 
-# The Debian packages, in which lintian finds no error.
+# packages ARCHITECTURE WORDS..: the Debian packages that dpkg-buildpackage makes with these words, in which lintian finds no error.
 packages() {
-    cp -r "$room/$source_name" "$room/debianised"
-    (cd "$room/debianised" && quietly dpkg-buildpackage -b -us -uc)
-    quietly lintian --allow-root --fail-on error "$room"/*.changes
-    grep -hE '^[EW]: ' "$room/log" | sed 's/^/lintian: /' || true
-    cp "$room"/*.deb "$made"
+    local at=$room/$1
+    mkdir "$at"
+    cp -r "$room/$source_name" "$at/source"
+    (cd "$at/source" && quietly dpkg-buildpackage -us -uc "${@:2}")
+    quietly lintian --allow-root --fail-on error "$at"/*.changes
+    grep -hE '^[EW]: ' "$room/log" | sed "s/^/lintian, $1: /" || true
+    cp "$at"/*.deb "$made"
 }
 
 # What each archive is proved to be: the records, one after another.
@@ -137,6 +164,7 @@ proved() {
 
 need_tools
 need_commit
+need_place
 [ -z "$prove" ] || prove_all
 version=$(make -s -C clients version)
 need_proved
@@ -151,21 +179,25 @@ mkdir "$made"
 quietly clients/dist.sh --lay "$room/$source_name"
 clients/pack.sh "$room" "$source_name" "$SOURCE_DATE_EPOCH" >"$made/$source_name.tar.xz"
 binaries x86_64
+packages amd64 -b
 if has_aarch64; then
     binaries aarch64
+    # By the cross compiler, whose packages aren't those that dpkg-buildpackage looks for.
+    packages arm64 -B -aarm64 -d
 fi
 crate
-packages
 proved >"$made/PROVED"
 (cd "$made" && sha256sum -- * >"$room/sums" && mv "$room/sums" SHA256SUMS)
 # In one step: whoever looks finds a whole release.
 mkdir -p "$(dirname "$to")"
-rm -rf "$to.new"
-cp -r "$made" "$to.new"
+new=$(mktemp -d "$to.XXXXXX")
+trap 'rm -rf "$room" "$new"' EXIT
+chmod 755 "$new"
+cp "$made"/* "$new"
 if [ -e "$to" ]; then
     mv "$to" "$room/older"
 fi
-mv "$to.new" "$to"
+mv "$new" "$to"
 (cd "$to" && sed 's/^/made    /' SHA256SUMS)
 if [ -z "$(make -s -C clients licence)" ]; then
     echo "no licence is chosen: LICENCE in clients/install.mk is empty, and nobody but the owner may copy or pass on what is in ${to##*/}/"

@@ -6,6 +6,12 @@ set -uo pipefail
 cd "$(dirname "$0")/.." || exit
 # shellcheck source=tools/checks.sh
 . tools/checks.sh
+for needed in clients/out/libregistry.a:"tools/build-archive.sh proves and builds it" "$(command -v pkg-config || echo pkg-config):apt-get install pkg-config"; do
+    if [ ! -e "${needed%%:*}" ]; then
+        echo "test-install: there is no ${needed%%:*}: ${needed#*:}" >&2
+        exit 2
+    fi
+done
 room=$(mktemp -d)
 trap 'rm -rf "$room"; forget_log' EXIT
 header=crates/registry_c/include/registry.h
@@ -322,6 +328,12 @@ change_layer() {
     mark "$(find "$clients/netbsd" -name '*.c' -not -path '*/tests/*' -not -path '*/examples/*' | sort | head -n 1)" "$1"
 }
 
+# The licence goes into each .pc file, and none is named as long as none is chosen.
+licence_is_told() {
+    ! grep -H License "$stage$libdir"/pkgconfig/*.pc || return
+    made install LICENCE=MIT && [ "$(grep -lx 'License: MIT' "$stage$libdir"/pkgconfig/*.pc | wc -l)" -eq 3 ]
+}
+
 # A call that the header declares, and that neither a map nor a library has.
 unnamed_call_is_told() {
     sed -i 's/^size_t registry_text(/uint32_t registry_unnamed(void);\n&/' "$header" && ! made symbols >"$room/said" 2>&1 && grep -x '< registry_unnamed' "$room/said"
@@ -397,6 +409,7 @@ check "an upgrade: the older version" copy_clients
 check "the words of a distribution are taken" flags_are_taken
 check "an upgrade: it is installed" made install
 check "an upgrade: each of its files" holds_files "$older"
+check "the licence is told once it is chosen" licence_is_told
 check "no stale object is linked: a changed archive" relinks registry_mark_of_archive libkupaldiz change_archive
 check "no stale object is linked: changed waits" relinks registry_mark_of_waiting libkupaldiz change_waiting
 check "no stale object is linked: changed names of the pages" relinks kupaldiz_mark libkupaldiz_netbsd change_layer

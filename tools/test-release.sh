@@ -2,13 +2,15 @@
 # Tries a release where nothing of ours is: in fresh Debian roots, without the kit, without the repository and without a network. It isn't part of the gate.
 #
 #     tools/test-release.sh             all parts, over release/ as tools/make-release.sh made it
-#     tools/test-release.sh PART..      some of them: twice c cmake cargo apt
+#     tools/test-release.sh PART..      some of them: twice packet c cmake cargo apt arm64
 #
 #     twice    the release made twice, in two clones, is the same to the byte
-#     c        gcc and make alone: the examples, by pkg-config too; the source is built, checked, installed and uninstalled
+#     packet   gcc and make alone: how long after unpacking the first packet is looked up, which is one minute at most
+#     c        gcc, make and pkg-config: the examples; the source is built, checked, installed and uninstalled
 #     cmake    find_package(kupaldiz)
 #     cargo    the crate as a path dependency, its tests and examples, with Debian's cargo and with the newest one that is here
 #     apt      the Debian packages are installed, programs in C and Rust are built, and all is removed to nothing
+#     arm64    those for arm64 are installed beside those for amd64, and programs are built over them and run under qemu
 #
 # It runs as root, and needs mmdebstrap, and a mirror while a root is made. RELEASE names another folder than release/, ROOTS where the roots are kept from run
 # to run. The last line is 'N passed, M failed'.
@@ -18,13 +20,14 @@ cd "$(dirname "$0")/.." || exit
 . tools/checks.sh
 release=$(realpath -m "${RELEASE:-release}")
 suite=bookworm
+architectures=amd64
 
 refuse() {
     echo "test-release: $1" >&2
     exit 2
 }
 
-parts=(twice c cmake cargo apt)
+parts=(twice packet c cmake cargo apt arm64)
 for part; do
     [[ " ${parts[*]} " == *" $part "* ]] || refuse "there is no part $part: ${parts[*]}"
 done
@@ -41,14 +44,14 @@ roots=${ROOTS:-$room/roots}
 trap 'rm -rf "$room"; forget_log' EXIT
 mkdir -p "$roots"
 
-# root NAME PACKAGE..: a fresh Debian root with these packages, as roots/NAME.tar.
+# root NAME PACKAGE..: a fresh Debian root with these packages, as roots/NAME.tar. One that isn't made leaves nothing.
 root() {
     local name=$1 packages
     shift
     packages=$(IFS=,; echo "$*")
-    if [ ! -f "$roots/$name.tar" ]; then
-        mmdebstrap --mode=root --format=tar --variant=minbase --include="$packages" "$suite" "$roots/$name.tar.new" && mv "$roots/$name.tar.new" "$roots/$name.tar"
-    fi
+    [ ! -f "$roots/$name.tar" ] || return 0
+    mmdebstrap --mode=root --format=tar --variant=minbase --architectures="$architectures" --include="$packages" "$suite" "$roots/$name.tar.new" &&
+        mv "$roots/$name.tar.new" "$roots/$name.tar" || { rm -f "$roots/$name.tar.new"; return 1; }
 }
 
 # inside NAME SCRIPT: a copy of that root, with the release in /release, in which the script is run: without a network, without anything else of this machine.
@@ -62,7 +65,7 @@ inside() {
     # shellcheck disable=SC2016
     timeout 1500 unshare --net --mount --pid --fork sh -c '
         if [ -n "$3" ]; then mount --bind -o ro "$3" "$1/opt/rust" || exit; fi
-        mount -t proc proc "$1/proc" && exec chroot "$1" env -i HOME=/root PATH=/usr/sbin:/usr/bin:/sbin:/bin LC_ALL=C.UTF-8 VERSION="$2" bash -eux -o pipefail /try' \
+        mount -t proc proc "$1/proc" && exec chroot "$1" env -i PATH=/usr/sbin:/usr/bin:/sbin:/bin LC_ALL=C.UTF-8 VERSION="$2" bash -eux -o pipefail /try' \
         sh "$at" "$version" "${rust-}"
     local status=$?
     rm -rf --one-file-system "$at"
@@ -99,9 +102,14 @@ test_twice() {
     check "made twice, in two folders: the same to the byte" same_twice
 }
 
+test_packet() {
+    check "a root with gcc and make" root packet gcc libc6-dev make xz-utils
+    tries "gcc and make alone" packet
+}
+
 test_c() {
     check "a root with gcc, make and pkg-config" root c gcc libc6-dev make pkg-config xz-utils diffutils
-    tries "gcc and make alone" c
+    tries "gcc, make and pkg-config" c
 }
 
 test_cmake() {
@@ -124,6 +132,13 @@ test_cargo() {
 test_apt() {
     check "a root with gcc, make, pkg-config and cargo" root apt gcc libc6-dev make pkg-config cargo
     tries "the Debian packages" apt
+}
+
+test_arm64() {
+    local architectures=amd64,arm64
+    check "a root with a cross compiler, and packages of arm64 beside its own" \
+        root arm64 gcc-aarch64-linux-gnu libc6-dev:arm64 make pkg-config qemu-user-static
+    tries "the Debian packages for arm64" arm64
 }
 
 check "SHA256SUMS holds" sums_hold

@@ -4,7 +4,7 @@ import os
 import shutil
 import subprocess
 
-from .trees import ROOT, Case, Fault
+from .trees import ROOT, Case, Fault, real
 
 # What the scripts call besides what is in bin/ of the tree.
 BASICS = ("sh bash echo env python3 git make ar awk basename cat chmod cp cut date diff dirname find grep head id install ln ls mkdir mktemp mv nproc readlink realpath "
@@ -54,6 +54,10 @@ if [ $status -ne 0 ] && [ -n "$(ls -d release* tmp/tmp* 2>/dev/null)" ]; then
     echo "something is left: $(ls -d release* tmp/tmp*)"
     exit 0
 fi
+if [ $status -ne 0 ] && ! { [ $status -eq 2 ] && [ "$(wc -l <tmp/said)" -eq 1 ]; } && ! { [ $status -eq 1 ] && grep -q '^make-release: this failed' tmp/said; }; then
+    echo "status $status, not 2 with one line"
+    exit 0
+fi
 if [ $status -eq 0 ] && ! (cd release && sha256sum -c SHA256SUMS && [ "$(wc -l <SHA256SUMS)" -eq 5 ] && grep -q '^verdict: logic=proved' PROVED) >/dev/null; then
     echo "the release isn't whole"
     exit 1
@@ -97,6 +101,11 @@ def shell(*lines):
     return ["sh", "-c", "\n".join([*lines, 'exec ./try "$@"']), "sh"]
 
 
+def refused(*words):
+    """A command that fails as it is to: with status 2, and one line."""
+    return ["sh", "-c", '"$@" >said 2>&1; status=$?; cat said; [ $status -eq 2 ] && [ "$(wc -l <said)" -eq 1 ] && exit 2; exit 0', "sh", *words]
+
+
 def making():
     faults = [Fault(f"no {name}", f"there is no {name}: apt-get install {package}", command=shell(f"git rm -q --cached bin/{name}; rm bin/{name}"))
               for name, package in COMMANDS.items()]
@@ -115,6 +124,13 @@ def making():
               command=shell("mkdir clients/out/aarch64; cp clients/out/libregistry.a clients/out/aarch64")),
         Fault("an archive for aarch64 without a compiler", "apt-get install gcc-aarch64-linux-gnu",
               command=shell("mkdir clients/out/aarch64; cp clients/out/libregistry.* clients/out/aarch64")),
+        Fault("an archive for aarch64 without a C library", "apt-get install libc6-dev-arm64-cross",
+              command=shell("mkdir clients/out/aarch64; cp clients/out/libregistry.* clients/out/aarch64", "printf '#!/bin/sh\\nexit 1\\n' >bin/aarch64-linux-gnu-gcc",
+                            "chmod +x bin/aarch64-linux-gnu-gcc; git add bin; git -c user.name=a -c user.email=a@b commit -qam more")),
+        Fault("a compiler without a C library", "gcc has no C library: apt-get install libc6-dev",
+              command=shell("echo 'exit 1' >>bin/gcc; git -c user.name=a -c user.email=a@b commit -qam more")),
+        Fault("a folder that is no release", "it is no release: --to names another folder", command=["./try", "--to", "clients"]),
+        Fault("a place that nothing is written to", "nothing can be written to", command=["./try", "--to", "crates.txt/release"]),
         Fault("another version in the crate", "has another version than registry.h",
               command=shell("sed -i s/0.1.0/0.2.0/ clients/rust/Cargo.toml; git -c user.name=a -c user.email=a@b commit -qam more")),
         Fault("no kit to prove with", "there is no rt", command=["./try", "--prove"]),
@@ -163,16 +179,95 @@ def building():
     return Case("build-archive", ["build-archive.sh", "proof-record.py", "kit.py"], BUILDS, ["./try"], faults, counts=False)
 
 
+def with_bin(*words):
+    """The same, where the commands of bin/ are all that there are."""
+    return refused("env", "PATH=bin", *words)
+
+
 def trying():
     """What tools/test-release.sh needs; nothing of it is run here but its first lines."""
     faults = (
-        Fault("a part that isn't there", "there is no part none", command=["tools/test-release.sh", "none"]),
-        Fault("no release", "tools/make-release.sh makes it", command=["tools/test-release.sh", "c"]),
-        Fault("a release without a crate", "names no crate", (("release/SHA256SUMS", None, "0  file\n"),), command=["sh", "-c", "PATH=$PWD/bin:$PATH tools/test-release.sh c"]),
+        Fault("a part that isn't there", "there is no part none", command=refused("tools/test-release.sh", "none")),
+        Fault("no release", "tools/make-release.sh makes it", (("release/SHA256SUMS", "", None),), command=with_bin("tools/test-release.sh", "c")),
+        Fault("nobody who makes roots", "it runs as root", (("bin/id", "0", "1000"),), command=with_bin("tools/test-release.sh", "c")),
+        Fault("no mmdebstrap", "there is no mmdebstrap: apt-get install mmdebstrap", (("bin/mmdebstrap", "", None),), command=with_bin("tools/test-release.sh", "c")),
+        Fault("a release without a crate", "names no crate", (("release/SHA256SUMS", None, "0  file\n"),), command=with_bin("tools/test-release.sh", "c")),
     )
-    tree = {"bin/mmdebstrap": DOES_NOTHING, "bin/id": "#!/bin/sh\necho 0\n"}
+    tree = {**{f"bin/{name}": f'#!/bin/sh\nexec {shutil.which(name)} "$@"\n' for name in (*BASICS, "chroot", "unshare")},
+            "bin/mmdebstrap": DOES_NOTHING, "bin/id": "#!/bin/sh\necho 0\n", "release/SHA256SUMS": "0  kupaldiz-0.1.0.crate\n"}
     return Case("test-release", ["test-release.sh", "checks.sh"], tree, ["true"], faults, counts=False)
 
 
+def prepare_clients(tree):
+    """An archive with a record, as far as the source of a release asks for them, and the commands of the system."""
+    write_all(tree / "clients/out", ("libregistry.a", "libregistry.proved"))
+    (tree / "few").mkdir()
+    for name in (*BASICS, "gcc"):
+        (tree / "few" / name).symlink_to(shutil.which(name))
+
+
+def write_all(folder, names):
+    folder.mkdir(parents=True)
+    for name in names:
+        (folder / name).write_text("made\n")
+
+
+def without(name, *words):
+    """A command that is refused where the system lacks another one."""
+    return ["sh", "-c", f'rm few/{name}; export PATH=$PWD/few; shift; exec "$@"', "sh", "sh", *refused(*words)]
+
+
+def laid():
+    """What the scripts of clients/ say of bad input; the source of a release is laid out whole, or not at all."""
+    tree = real("clients/*.sh", "clients/*.mk", "clients/Makefile", "clients/*.in", "clients/*.map", "clients/*.md", "clients/*/*.mk", "clients/debian/*.in",
+                "clients/c/client.h", "clients/netbsd/netbsd.map", "clients/bench/bench.h", "clients/examples/Makefile", "clients/man/registry.3",
+                "clients/rust/*.*", "clients/rust/*/packet.rs", "clients/rust/*/lib.rs", "clients/rust/tests/face.rs", "crates/registry_c/include/registry.h",
+                "examples/retire-under-section.*")
+    tree["try"] = """#!/bin/sh
+sed -i 's/^LICENCE =.*/LICENCE = MIT/' clients/install.mk
+clients/dist.sh --lay "$PWD/laid" && [ -f laid/archive/x86_64/libregistry.proved ] && grep -qx 'License: MIT' laid/debian/copyright &&
+    grep -qx 'license = "MIT"' laid/rust/Cargo.toml && head -n 1 laid/debian/changelog | grep -q '^kupaldiz ([0-9.]*-1)'
+"""
+    script = "clients/dist.sh"
+    faults = [Fault(f"{name}.sh without words", f"usage: {name}.sh", command=refused(f"clients/{name}.sh")) for name in ("pack", "symbols", "examples", "calls-of")]
+    faults += [
+        Fault("a licence that is lost", "NONE", (("clients/dist.sh", "@LICENCE@", "@NONE@"),), command=["sh", "-c", "./try || { echo NONE; exit 1; }"]),
+        Fault("no archive", "there is no out/libregistry.a: tools/build-archive.sh", command=["sh", "-c", 'rm clients/out/*.a; exec "$@"', "sh", *refused(script, "out")]),
+        Fault("no record", "there is no out/libregistry.proved", command=["sh", "-c", 'rm clients/out/*.proved; exec "$@"', "sh", *refused(script, "out")]),
+        Fault("no record of another processor", "tools/build-archive.sh --for aarch64 writes it",
+              command=["sh", "-c", 'mkdir clients/out/aarch64; cp clients/out/*.a clients/out/aarch64; exec "$@"', "sh",
+                       *refused("sh", "-c", 'clients/dist.sh --lay "$PWD/laid"; status=$?; [ ! -e laid ] && exit $status')]),
+        Fault("a folder that is there", "there is a debian already", command=refused(script, "--lay", "debian")),
+        Fault("no word", "it takes OUT, or --lay FOLDER", command=refused(script)),
+        Fault("no folder to lay it out in", "it takes OUT, or --lay FOLDER", command=refused(script, "--lay")),
+        Fault("no xz", "dist: there is no xz: apt-get install xz-utils", command=without("xz", script, "out")),
+        Fault("nothing to pack", "there is no folder ./none", command=refused("clients/pack.sh", ".", "none", "0")),
+        Fault("no xz to pack with", "pack: there is no xz: apt-get install xz-utils", command=without("xz", "clients/pack.sh", ".", "clients", "0")),
+        Fault("no library to compare", "make library builds the libraries", command=refused("clients/symbols.sh", "../crates/registry_c/include", "out", "0.1.0")),
+        Fault("nothing that is installed", "make install with the same words puts it there", command=refused("env", "CC=sh", "clients/installcheck.sh", "/none", "0.1.0")),
+        Fault("no compiler for what is installed", "there is no none: apt-get install", command=refused("env", "CC=none", "clients/installcheck.sh", "/none", "0.1.0")),
+        Fault("no compiler", "there is no compiler none: apt-get install gcc", command=refused("make", "-s", "-C", "clients", "CC=none", "library")),
+        Fault("no archive to build from", "there is no out/libregistry.a: tools/build-archive.sh",
+              command=["sh", "-c", "rm clients/out/*.a; make -s -C clients out/libregistry.a"]),
+    ]
+    return Case("clients' scripts", [], tree, ["./try"], faults, counts=False, prepare=prepare_clients)
+
+
+def installing():
+    """What tools/test-install.sh needs; nothing is installed here."""
+    tools = {"clients/out/libregistry.a": "", **{f"bin/{name}": f'#!/bin/sh\nexec {shutil.which(name)} "$@"\n' for name in BASICS}}
+    faults = (
+        Fault("no archive", "there is no clients/out/libregistry.a: tools/build-archive.sh", (("clients/out/libregistry.a", "", None),), command=refused("tools/test-install.sh")),
+        Fault("no pkg-config", "there is no pkg-config: apt-get install pkg-config", command=with_bin("tools/test-install.sh")),
+    )
+    return Case("test-install", ["test-install.sh", "checks.sh"], tools, ["true"], faults, counts=False)
+
+
+def proving():
+    """tools/prove-program.sh without a kit."""
+    fault = Fault("no kit", "the kit comes from whoever gives you Rattle", command=refused("env", "PATH=/usr/bin:/bin", "tools/prove-program.sh"))
+    return Case("prove-program", ["prove-program.sh"], {"program": ""}, ["true"], [fault], counts=False)
+
+
 def cases():
-    return [making(), building(), trying()]
+    return [making(), building(), trying(), laid(), installing(), proving()]

@@ -4,7 +4,9 @@ if [ -x /opt/rust/bin/cargo ]; then
     export PATH=/opt/rust/bin:$PATH
 fi
 cargo --version
-cd /root
+room=$(mktemp -d)
+export CARGO_HOME=$room/cargo
+cd "$room"
 tar -xf "/release/kupaldiz-$VERSION.crate"
 mkdir -p mine/src
 cat >mine/Cargo.toml <<PROJECT
@@ -20,9 +22,9 @@ cp "kupaldiz-$VERSION/examples/packet.rs" mine/src/main.rs
 (cd mine && cargo run --offline)
 echo "done: $(cargo --version): a path dependency"
 cd "kupaldiz-$VERSION"
-cargo test --offline --no-fail-fast 2>&1 | tee /tmp/said
-grep -E '^test result' /tmp/said | grep -v ' 0 failed' && exit 1
-echo "done: its tests: $(awk '/^test result/ { n += $4 } END { print n }' /tmp/said) passed"
+cargo test --offline --no-fail-fast 2>&1 | tee "$room/said"
+grep -E '^test result' "$room/said" | grep -v ' 0 failed' && exit 1
+echo "done: its tests: $(awk '/^test result/ { n += $4 } END { print n }' "$room/said") passed"
 cargo build --offline --release --examples
 target/release/examples/packet
 target/release/examples/storm 4 1000 | grep -x 'wrong 0'
