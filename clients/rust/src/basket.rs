@@ -145,7 +145,7 @@ impl Baskets {
         if self.count(cpu) == 0 {
             return None;
         }
-        self.with(cpu, |dropped| dropped.take())
+        self.with(cpu, Dropped::take)
     }
 
     /// Takes a reference to the entry in this slot out of a CPU's basket.

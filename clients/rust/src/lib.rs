@@ -99,6 +99,7 @@
 #![warn(missing_docs)]
 #![cfg_attr(not(feature = "std"), no_std)]
 #![deny(unsafe_op_in_unsafe_fn)]
+#![deny(clippy::undocumented_unsafe_blocks, clippy::multiple_unsafe_ops_per_block)]
 
 #[cfg(not(all(target_os = "linux", any(target_arch = "x86_64", target_arch = "aarch64"), target_env = "gnu")))]
 compile_error!("the archive libregistry.a is built for Linux on x86-64 and aarch64 with glibc alone");
@@ -127,6 +128,7 @@ mod shared;
 mod usual;
 mod values;
 
+pub use self::registry::Registry;
 pub use cpu::Cpu;
 pub use entries::Entries;
 pub use local::{LocalGuard, LocalRef};
@@ -137,7 +139,6 @@ pub use patience::Patience;
 #[cfg(feature = "std")]
 pub use pool::{CpuPool, Lent};
 pub use refusal::{Refusal, Refused};
-pub use self::registry::Registry;
 pub use retired::Retired;
 pub use section::{Found, Section};
 pub use settings::Settings;

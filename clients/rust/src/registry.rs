@@ -180,9 +180,9 @@ impl<T> Registry<T> {
         let mut kept = self.shared.kept();
         match Record::<T>::written(|made| call(&mut kept.keeper, carried.word(), made)) {
             Ok(record) => {
-                let entry = record.entry();
-                kept.note(entry, carried);
-                Ok(entry)
+                // SAFETY: the call has attached the entry with the value's address.
+                unsafe { kept.note(record.plain(), carried) };
+                Ok(record.entry())
             }
             Err(answer) => {
                 drop(kept);
@@ -216,9 +216,9 @@ impl<T> Registry<T> {
         let keeper = &mut kept.keeper;
         // SAFETY: as for `attach`.
         let gone = Record::<T>::written(|gone| unsafe { ffi::registry_detach(keeper, cpu.handle(), kind.number(), &name.words, gone) });
-        let entry = gone.map_err(refusal_of)?.entry();
+        let carried = gone.map_err(refusal_of)?.carried();
         drop(kept);
-        Ok(Retired::new(Arc::clone(&self.shared), entry))
+        Ok(Retired::new(Arc::clone(&self.shared), carried))
     }
 
     /// Detaches the live entry with this kind and name, and [defers](Retired::defer) it: later changes, and [`Registry::collect`], free it.

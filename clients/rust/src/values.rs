@@ -2,7 +2,7 @@
 
 use crate::ffi;
 use crate::name::Name;
-use crate::refusal::{refusal_of, Refusal};
+use crate::refusal::Refusal;
 use alloc::vec::Vec;
 use core::fmt;
 
@@ -123,8 +123,8 @@ impl Met {
     pub(crate) fn refusal(self) -> Refusal {
         match self.answer {
             ffi::DONE | ffi::STILL_HELD => Refusal::StillHeld(Holder::of(self.stage)),
-            ffi::NOT_RETIRED => unreachable!("an entry whose token is there is retired"),
-            other => refusal_of(other),
+            ffi::INSIDE => Refusal::Inside,
+            other => panic!("the archive answered {other} to a turn on an entry that is retired"),
         }
     }
 }
