@@ -294,6 +294,7 @@ test_rust() {
     check "Rust: handles" changes_say 200 "$examples/handles"
     check "Rust: speed, briefly" "$examples/speed" 2 8 1000
     check "Rust: changes, briefly" "$examples/changes" 20
+    check "Rust: drops, briefly" "$examples/drops" 2000
     check "Rust: the stress where a yield does nothing" ends_without_yields
 }
 
