@@ -275,6 +275,9 @@ test_rust() {
         check "Rust: clippy says nothing" cargo clippy --offline --all-targets -- -D warnings
         check "Rust: clippy says nothing without the standard library" cargo clippy --offline --no-default-features --lib -- -D warnings
     fi
+    if /usr/bin/rustc --version 2>/dev/null | grep -q ' 1\.63\.'; then
+        check "Rust: the oldest compiler that the crate is for" env RUSTC=/usr/bin/rustc /usr/bin/cargo check --offline --all-targets --target-dir "$CARGO_TARGET_DIR/oldest"
+    fi
     check "Rust: the documents, no warning" env RUSTDOCFLAGS="-D warnings" cargo doc --offline --no-deps
     check "Rust: a package of it is verified" cargo package --allow-dirty --offline
     counted "Rust: tests" cargo test --offline --no-fail-fast --lib --tests

@@ -149,7 +149,7 @@ impl<T> Shared<T> {
     ///
     /// As of `Kept::turn`.
     #[inline]
-    pub unsafe fn turn(&self, cpu: Option<*mut ffi::Cpu>, entry: Plain) -> Result<Freed<T>, Met> {
+    pub(crate) unsafe fn turn(&self, cpu: Option<*mut ffi::Cpu>, entry: Plain) -> Result<Freed<T>, Met> {
         let mut kept = self.kept();
         // SAFETY: the caller upholds the contract for the CPU.
         let mut met = unsafe { kept.turn(cpu, entry.number) };
