@@ -7,7 +7,7 @@ use crate::patience::{Patience, Pauses};
 use crate::refusal::{Refusal, Refused};
 use crate::registry::Registry;
 use crate::shared::Shared;
-use crate::values::{Entry, Freed, Met};
+use crate::values::{Entry, Freed};
 use alloc::sync::Arc;
 use core::fmt;
 use core::mem::ManuallyDrop;
@@ -72,9 +72,16 @@ impl<T> Retired<T> {
     /// `StillHeld` with the first thing that holds it. The `Retired` is returned.
     #[inline]
     pub fn advance(self) -> Result<Freed<T>, Refused<Retired<T>>> {
+        let (entry, mut kept) = (self.plain(), self.shared.kept());
         // SAFETY: no CPU is given.
-        let turned = unsafe { self.shared.turn(None, self.plain()) };
-        self.after(turned.map_err(Met::refusal))
+        let met = unsafe { kept.turn(None, entry.number) };
+        if self.shared.goes_on(met) {
+            // SAFETY: the turn was just made.
+            let done = unsafe { self.shared.go_on(kept, None, entry.number, entry.slot(), met.locals()) };
+            return self.after(done);
+        }
+        drop(kept);
+        self.after(Err(met.refusal()))
     }
 
     /// Makes turns until it is freed: `psref_target_destroy`, `localcount_drain`. Then nothing holds it, now or later, and what it carried is returned.
@@ -115,7 +122,7 @@ impl<T> Retired<T> {
         loop {
             // SAFETY: the CPU is this thread's and of this registry, and its handle isn't empty.
             let turned = unsafe { self.shared.turn(Some(cpu.handle()), entry) };
-            let refusal = match turned.map_err(Met::refusal) {
+            let refusal = match turned {
                 Err(Refusal::StillHeld(holder)) => Refusal::StillHeld(cpu.holder_of(entry).unwrap_or(holder)),
                 done => return done,
             };

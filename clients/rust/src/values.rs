@@ -112,10 +112,11 @@ impl Met {
         self.answer == ffi::DONE && self.stage.stage == ffi::FREED
     }
 
-    /// Local references hold the entry.
+    /// How many local references hold the entry, where they are what was met.
     #[inline]
-    pub(crate) fn is_local(self) -> bool {
-        matches!(self.answer, ffi::DONE | ffi::STILL_HELD) && self.stage.stage == ffi::LOCAL
+    pub(crate) fn locals(self) -> Option<u64> {
+        let is_met = matches!(self.answer, ffi::DONE | ffi::STILL_HELD) && self.stage.stage == ffi::LOCAL;
+        is_met.then_some(self.stage.what)
     }
 
     /// Why the entry isn't freed, where it is retired.
