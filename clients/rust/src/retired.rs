@@ -7,7 +7,7 @@ use crate::patience::{Patience, Pauses};
 use crate::refusal::{Refusal, Refused};
 use crate::registry::Registry;
 use crate::shared::Shared;
-use crate::values::{Entry, Freed};
+use crate::values::{Entry, Freed, Met};
 use alloc::sync::Arc;
 use core::fmt;
 use core::mem::ManuallyDrop;
@@ -70,7 +70,8 @@ impl<T> Retired<T> {
     /// # Errors
     ///
     /// `StillHeld` with the first thing that holds it. The `Retired` is returned.
-    #[inline]
+    // Inlined, the token isn't moved: a turn that meets something takes a tenth less.
+    #[inline(always)]
     pub fn advance(self) -> Result<Freed<T>, Refused<Retired<T>>> {
         let (entry, mut kept) = (self.plain(), self.shared.kept());
         // SAFETY: no CPU is given.
@@ -78,7 +79,7 @@ impl<T> Retired<T> {
         if self.shared.goes_on(met) {
             // SAFETY: the turn was just made.
             let done = unsafe { self.shared.go_on(kept, None, entry.number, entry.slot(), met.locals()) };
-            return self.after(done);
+            return self.after(done.map_err(Met::refusal));
         }
         drop(kept);
         self.after(Err(met.refusal()))
@@ -122,7 +123,7 @@ impl<T> Retired<T> {
         loop {
             // SAFETY: the CPU is this thread's and of this registry, and its handle isn't empty.
             let turned = unsafe { self.shared.turn(Some(cpu.handle()), entry) };
-            let refusal = match turned {
+            let refusal = match turned.map_err(Met::refusal) {
                 Err(Refusal::StillHeld(holder)) => Refusal::StillHeld(cpu.holder_of(entry).unwrap_or(holder)),
                 done => return done,
             };

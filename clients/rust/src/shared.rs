@@ -8,7 +8,7 @@ use crate::ffi;
 use crate::lock::{locked, locked_mut, try_locked, Mutex, MutexGuard};
 use crate::refusal::{checked, Refusal};
 use crate::settings::Settings;
-use crate::values::{Freed, Holder, Met};
+use crate::values::{Freed, Met};
 use alloc::sync::Arc;
 use alloc::vec::Vec;
 use core::mem;
@@ -143,13 +143,13 @@ impl<T> Shared<T> {
 
 /// The work on retired entries.
 impl<T> Shared<T> {
-    /// One turn of the work on the retired entry, on a CPU or on none: what was freed, or why nothing was. Where local references hold it, some of
+    /// One turn of the work on the retired entry, on a CPU or on none: what was freed, or what was met. Where local references hold it, some of
     /// those to it that were dropped are given up, and the turn is made once more.
     ///
     /// # Safety
     ///
     /// As of `Kept::turn`.
-    pub unsafe fn turn(&self, cpu: Option<*mut ffi::Cpu>, entry: Plain) -> Result<Freed<T>, Refusal> {
+    pub(crate) unsafe fn turn(&self, cpu: Option<*mut ffi::Cpu>, entry: Plain) -> Result<Freed<T>, Met> {
         let mut kept = self.kept();
         // SAFETY: the caller upholds the contract for the CPU.
         let met = unsafe { kept.turn(cpu, entry.number) };
@@ -157,7 +157,7 @@ impl<T> Shared<T> {
             // SAFETY: as above, and the turn was just made.
             return unsafe { self.go_on(kept, cpu, entry.number, entry.slot(), met.locals()) };
         }
-        Err(met.refusal())
+        Err(met)
     }
 
     /// Whether more is to be done in the same turn: it freed the entry, or met local references where some were dropped.
@@ -173,22 +173,22 @@ impl<T> Shared<T> {
     /// As of `Kept::turn`, which was just made under this lock, on the same CPU or on none, for this entry: it met so many local references, or freed
     /// the entry.
     #[inline(never)]
-    pub unsafe fn go_on(
+    pub(crate) unsafe fn go_on(
         &self,
         mut kept: MutexGuard<'_, Kept<T>>,
         cpu: Option<*mut ffi::Cpu>,
         number: u64,
         slot: usize,
         locals: Option<u64>,
-    ) -> Result<Freed<T>, Refusal> {
+    ) -> Result<Freed<T>, Met> {
         if let Some(held) = locals {
             if !self.give_up_dropped(&mut kept.keeper, slot) {
-                return Err(Refusal::StillHeld(Holder::Local(held)));
+                return Err(Met::local(held));
             }
             // SAFETY: the caller upholds the contract for the CPU.
             let met = unsafe { kept.turn(cpu, number) };
             if !met.is_freed() {
-                return Err(met.refusal());
+                return Err(met);
             }
         }
         // SAFETY: the last turn freed it.
@@ -201,6 +201,11 @@ impl<T> Shared<T> {
     pub fn defer(&self, kept: &mut Kept<T>, entry: Plain) {
         kept.deferred.push(entry);
         self.deferred.store(kept.deferred.len(), Ordering::Relaxed);
+    }
+
+    /// Whether no dropped reference is to be released, and no entry deferred.
+    pub fn is_tidy(&self) -> bool {
+        self.baskets.total() == 0 && self.deferred() == 0
     }
 
     /// How many entries are deferred.

@@ -106,6 +106,15 @@ pub(crate) struct Met {
 }
 
 impl Met {
+    /// So many local references hold the entry.
+    pub(crate) fn local(held: u64) -> Met {
+        let stage = ffi::Stage {
+            stage: ffi::LOCAL,
+            what: held,
+        };
+        Met { answer: ffi::DONE, stage }
+    }
+
     /// The slot is vacant.
     #[inline]
     pub(crate) fn is_freed(self) -> bool {
