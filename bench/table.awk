@@ -85,6 +85,8 @@ function list_aims(entries,    o) {
     by_hand("local", "hand-padded", entries, 1.25)
     from_outside("lookup", "from-C", entries, 1.3)
     from_outside("lookup", "from-Rust", entries, 1.3)
+    from_outside("batch", "from-C", entries, 1.3)
+    from_outside("batch", "from-Rust", entries, 1.3)
     from_outside("read", "from-C", entries, 1.3)
     from_outside("read", "from-Rust", entries, 1.3)
     from_outside("look_up", "from-C", entries, 1.15)

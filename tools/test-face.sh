@@ -273,6 +273,9 @@ test_rust() {
         check "Rust: clippy says nothing" cargo clippy --offline --all-targets -- -D warnings
         check "Rust: clippy says nothing without the standard library" cargo clippy --offline --no-default-features --lib -- -D warnings
     fi
+    if /usr/bin/rustc --version 2>/dev/null | grep -q ' 1\.63\.'; then
+        check "Rust: the oldest compiler that the crate is for" env RUSTC=/usr/bin/rustc /usr/bin/cargo check --offline --all-targets --target-dir "$CARGO_TARGET_DIR/oldest"
+    fi
     check "Rust: the documents, no warning" env RUSTDOCFLAGS="-D warnings" cargo doc --offline --no-deps
     check "Rust: a package of it is verified" cargo package --allow-dirty --offline
     counted "Rust: tests" cargo test --offline --no-fail-fast --lib --tests
@@ -293,6 +296,7 @@ test_rust() {
     check "Rust: handles" changes_say 200 "$examples/handles"
     check "Rust: speed, briefly" "$examples/speed" 2 8 1000
     check "Rust: changes, briefly" "$examples/changes" 20
+    check "Rust: drops, briefly" "$examples/drops" 2000
     check "Rust: the stress where a yield does nothing" ends_without_yields
 }
 

@@ -3,8 +3,8 @@
  * speed wait CPUS READERS ENTRIES COUNT       - what a replacement and a perform take beside readers, each call made by turns that wait
  * speed spread CPUS READERS ENTRIES COUNT     - the percentiles of single lookups and replacements
  *
- * `lookup` makes three calls, `read` is the same in two (enter with find, and exit), `look_up` in one; `get` gets a reference in one call, and
- * releases it.
+ * `lookup` makes three calls, `read` is the same in two (enter with find, and exit), `look_up` in one; `batch` is a find in an open section, 32
+ * of them between an enter and an exit; `get` gets a reference in one call, and releases it.
  * The operations, the threads and the time are those of bench/: see bench/README.md. It prints a line as the programs there do.
  */
 #include <inttypes.h>
@@ -67,6 +67,28 @@ static uint64_t look_up(unsigned thread, const struct key *key)
 static uint64_t lookups(unsigned thread, uint64_t count)
 {
 	return in_turn(thread, count, look_up);
+}
+
+static void enter(unsigned thread)
+{
+	DONE(registry_enter(&seats[thread].cpu));
+}
+
+static uint64_t find(unsigned thread, const struct key *key)
+{
+	struct registry_entry found;
+	uint32_t answer = registry_find(&seats[thread].cpu, REGISTRY_DRIVER, &names[key - keys], &found);
+	return answer == REGISTRY_DONE ? found.value : UINT64_MAX;
+}
+
+static void leave(unsigned thread)
+{
+	DONE(registry_exit(&seats[thread].cpu));
+}
+
+static uint64_t batches(unsigned thread, uint64_t count)
+{
+	return in_batches(thread, count, enter, find, leave);
 }
 
 static uint64_t read_in_section(unsigned thread, const struct key *key)
@@ -182,6 +204,7 @@ static const struct contender FACE = {
 	.end = do_nothing,
 	.rest = do_nothing,
 	.lookups = lookups,
+	.batches = batches,
 	.walks = walks,
 	.passives = passives,
 	.locals = locals,
@@ -192,6 +215,7 @@ static const struct contender FACE = {
 static void print_operations(const struct plan *plan)
 {
 	printf("threads %u entries %u lookup %.2f", plan->threads, plan->entries, nanoseconds_each(&FACE, FACE.lookups, plan));
+	printf(" batch %.2f", nanoseconds_each(&FACE, FACE.batches, plan));
 	printf(" passive %.2f local %.2f", nanoseconds_each(&FACE, FACE.passives, plan), nanoseconds_each(&FACE, FACE.locals, plan));
 	printf(" read %.2f look_up %.2f", nanoseconds_each(&FACE, reads, plan), nanoseconds_each(&FACE, lookups_at_once, plan));
 	printf(" get %.2f walk %.2f\n", nanoseconds_each(&FACE, gets, plan), nanoseconds_each(&FACE, FACE.walks, plan));

@@ -1,8 +1,8 @@
 //! Tells where the archive lies, the first of these that is there:
 //!
-//! 1. libregistry.a in the folder that REGISTRY_LIB_DIR names;
+//! 1. libregistry.a in the folder that `REGISTRY_LIB_DIR` names;
 //! 2. archive/PROCESSOR/libregistry.a, which a released crate has within;
-//! 3. ../out/libregistry.a, where tools/build-archive.sh of the repository puts it; of another processor than x86_64 ../out/PROCESSOR/libregistry.a;
+//! 3. ../out/libregistry.a, where tools/build-archive.sh of the repository puts it; of another processor than `x86_64` ../out/PROCESSOR/libregistry.a;
 //! 4. libkupaldiz.a as it is installed: in the folder that pkg-config names.
 //!
 //! Where none is there, the crate is only checked: what links says how to get one.

@@ -1,12 +1,12 @@
 //! `speed THREADS ENTRIES OPERATIONS`: what a lookup and a pair of acquire and release take, through this crate.
 //!
-//! `lookup` reads what the entry found carries, a number in a block of its own; `plain` is the same lookup that leaves it alone, and reads the
-//! entry's number. `read` is `lookup` by a guard, which is two calls; `look_up` is `plain` by one call; `get` gets a reference by one call,
+//! `lookup` reads what the entry found carries, a number in a block of its own; `batch` does so in an open section, 32 times a section. `plain` is
+//! `lookup` without that number: it reads the entry's. `read` is `lookup` by a guard, which is two calls; `look_up` is `plain` by one call; `get` gets a reference by one call,
 //! reads what the entry carries, and releases it. `local` releases each local reference on the CPU, `guarded` drops it bound to the CPU, and
 //! `dropped` drops it unbound and has the CPU release it then.
 //! The operations are those of `bench/` of the repository, whose README says what one is. It prints a line as the programs there do.
 
-use registry::{Cpu, Found, Kind, LocalRef, Name, PassiveRef, Refusal, Registry, Settings, LIMITS};
+use registry::{Cpu, Found, Kind, LocalRef, Name, PassiveRef, Refusal, Registry, Section, Settings, LIMITS};
 use std::error::Error;
 use std::sync::Barrier;
 use std::thread;
@@ -26,6 +26,32 @@ fn lookups(cpu: &Cpu<u64>, names: &[Name], count: u64) -> Result<u64, Refusal> {
         place = if place + 1 < names.len() { place + 1 } else { 0 };
     }
     Ok(right)
+}
+
+/// How many lookups a section of a batch has.
+const BATCH: u64 = 32;
+
+fn batches(cpu: &Cpu<u64>, names: &[Name], count: u64) -> Result<u64, Refusal> {
+    let mut right = 0;
+    let mut place = 0;
+    let mut left = count;
+    while left > 0 {
+        let many = left.min(BATCH);
+        let section = cpu.enter()?;
+        for _ in 0..many {
+            right += u64::from(finds(&section, names, place));
+            place = if place + 1 < names.len() { place + 1 } else { 0 };
+        }
+        left -= many;
+    }
+    Ok(right)
+}
+
+/// A lookup in an open section.
+#[inline(always)]
+fn finds(section: &Section<'_, u64>, names: &[Name], place: usize) -> bool {
+    let found = section.find(Kind::Driver, &names[place]);
+    found.map_or(false, |found| *found == place as u64)
 }
 
 fn plain_lookups(cpu: &Cpu<u64>, names: &[Name], count: u64) -> Result<u64, Refusal> {
@@ -158,6 +184,7 @@ fn run(threads: u8, entries: u8, count: u64) -> Result<(), Box<dyn Error>> {
     }
     let mut time = |make| nanoseconds_each(&mut cpus, &names, make, count);
     print!("threads {threads} entries {entries} lookup {:.2}", time(lookups)?);
+    print!(" batch {:.2}", time(batches)?);
     print!(" passive {:.2} local {:.2}", time(passives)?, time(locals)?);
     print!(" plain {:.2} walk {:.2}", time(plain_lookups)?, time(walks)?);
     print!(" read {:.2}", time(reads)?);

@@ -159,7 +159,7 @@ impl Baskets {
         if self.count(cpu) == 0 {
             return None;
         }
-        self.with(cpu, |dropped| dropped.take())
+        self.with(cpu, Dropped::take)
     }
 
     /// Takes a reference to the entry in this slot out of a CPU's basket.
@@ -178,6 +178,7 @@ impl Baskets {
     }
 
     /// How many lie in all baskets.
+    #[inline]
     pub fn total(&self) -> usize {
         self.of_cpu.iter().map(Basket::count).sum()
     }

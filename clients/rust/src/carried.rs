@@ -1,4 +1,4 @@
-//! What an entry carries: a value of the caller's in a box, whose address is the entry's `value` in C.
+//! What an entry carries: a value of the caller's in a block on the heap, whose address is the entry's `value` in C.
 
 use crate::ffi;
 use crate::name::Name;
@@ -6,13 +6,23 @@ use crate::values::{Entry, Kind};
 use alloc::boxed::Box;
 use core::fmt;
 use core::mem::MaybeUninit;
+use core::ptr;
+
+/// What lies in the block.
+#[repr(C)]
+struct Block<T> {
+    /// First, so that it has the block's address.
+    value: T,
+    /// The entry, once it is attached. Only whoever holds the interlock, or has the token of the retired entry, looks at it.
+    plain: MaybeUninit<Plain>,
+}
 
 /// The address of a value that was attached. C keeps it in the entry; what is found and each reference has a copy.
 ///
-/// An attach makes the box, before any lookup can find the entry. The turn that frees the entry's slot, or the closing of the registry, returns it to
+/// An attach makes the block, before any lookup can find the entry. The turn that frees the entry's slot, or the closing of the registry, returns it to
 /// Rust, once. Nothing writes the value in between: every reference to it is a shared one.
 pub struct Carried<T> {
-    at: *mut T,
+    at: *mut Block<T>,
 }
 
 // SAFETY: whoever has the address may share the value with other threads, and take it back on a thread that didn't attach it, as with `Arc`.
@@ -30,11 +40,39 @@ impl<T> Clone for Carried<T> {
 impl<T> Copy for Carried<T> {}
 
 impl<T> Carried<T> {
-    /// Puts a value into a box of its own.
+    /// Puts a value into a block of its own.
     pub fn new(value: T) -> Carried<T> {
+        let plain = MaybeUninit::uninit();
         Carried {
-            at: Box::into_raw(Box::new(value)),
+            at: Box::into_raw(Box::new(Block { value, plain })),
         }
+    }
+
+    /// Notes the entry that was attached.
+    ///
+    /// # Safety
+    ///
+    /// It was attached with the value, and the interlock has been held since.
+    pub unsafe fn note(self, plain: Plain) {
+        // SAFETY: the address is that of a block.
+        let place = unsafe { ptr::addr_of_mut!((*self.at).plain) };
+        // SAFETY: nobody looks at it before the interlock is let go: whoever found the entry meanwhile reads the value beside it alone.
+        unsafe { place.write(MaybeUninit::new(plain)) };
+    }
+
+    /// The entry that carries it.
+    ///
+    /// # Safety
+    ///
+    /// It was noted before, as this thread knows it, and the value isn't taken.
+    #[inline]
+    pub unsafe fn plain(self) -> Plain {
+        // SAFETY: the address is that of a block.
+        let place = unsafe { ptr::addr_of!((*self.at).plain) };
+        // SAFETY: nobody writes it any more, since the entry was noted.
+        let plain = unsafe { place.read() };
+        // SAFETY: it was noted.
+        unsafe { plain.assume_init() }
     }
 
     /// The address, as the `value` of an entry. The cast exposes it, so that `of_word` may have it back.
@@ -47,7 +85,7 @@ impl<T> Carried<T> {
     #[inline]
     fn of_word(word: u64) -> Carried<T> {
         Carried {
-            at: word as usize as *mut T,
+            at: word as usize as *mut Block<T>,
         }
     }
 
@@ -59,18 +97,20 @@ impl<T> Carried<T> {
     /// reference that was acquired to it.
     #[inline]
     unsafe fn get<'a>(self) -> &'a T {
-        // SAFETY: the address is that of a box, which nobody takes nor writes as long as something holds the entry.
-        unsafe { &*self.at }
+        // SAFETY: the address is that of a block.
+        let value = unsafe { ptr::addr_of!((*self.at).value) };
+        // SAFETY: nobody takes nor writes the value as long as something holds the entry.
+        unsafe { &*value }
     }
 
-    /// The value, out of its box, which is freed.
+    /// The value, out of its block, which is freed.
     ///
     /// # Safety
     ///
     /// Nobody has a reference to it nor will get one, and it is taken once.
     pub unsafe fn take(self) -> T {
-        // SAFETY: the address is that of a box, and the caller is the last who uses it.
-        unsafe { *Box::from_raw(self.at) }
+        // SAFETY: the address is that of a block, and the caller is the last who uses it.
+        unsafe { Box::from_raw(self.at) }.value
     }
 }
 
@@ -80,13 +120,36 @@ impl<T> fmt::Debug for Carried<T> {
     }
 }
 
-/// An entry as C wrote it, with the address of what it carries.
-pub struct Record<T> {
-    number: u64,
+/// An entry as C has it, without what it carries. It is shorter than an [`Entry`], whose name has its text as well.
+#[derive(Clone, Copy)]
+pub struct Plain {
+    pub number: u64,
     name: ffi::Name,
-    carried: Carried<T>,
     slot: u8,
     kind: Kind,
+}
+
+impl Plain {
+    #[inline]
+    pub fn slot(&self) -> usize {
+        usize::from(self.slot)
+    }
+
+    #[inline]
+    pub fn entry(&self) -> Entry {
+        Entry {
+            number: self.number,
+            slot: self.slot,
+            kind: self.kind,
+            name: Name::of_words(self.name),
+        }
+    }
+}
+
+/// An entry as C wrote it, with the address of what it carries.
+pub struct Record<T> {
+    plain: Plain,
+    carried: Carried<T>,
 }
 
 impl<T> Clone for Record<T> {
@@ -102,11 +165,13 @@ impl<T> Record<T> {
     #[inline]
     pub fn of(entry: &ffi::Entry) -> Record<T> {
         Record {
-            number: entry.number,
-            name: entry.name,
+            plain: Plain {
+                number: entry.number,
+                name: entry.name,
+                slot: entry.slot as u8,
+                kind: Kind::of(entry.kind),
+            },
             carried: Carried::of_word(entry.value),
-            slot: entry.slot as u8,
-            kind: Kind::of(entry.kind),
         }
     }
 
@@ -123,28 +188,33 @@ impl<T> Record<T> {
 
     #[inline]
     pub fn number(&self) -> u64 {
-        self.number
+        self.plain.number
     }
 
     #[inline]
     pub fn slot(&self) -> usize {
-        usize::from(self.slot)
+        self.plain.slot()
+    }
+
+    #[inline]
+    pub fn plain(&self) -> Plain {
+        self.plain
+    }
+
+    #[inline]
+    pub fn carried(&self) -> Carried<T> {
+        self.carried
     }
 
     #[inline]
     pub fn entry(&self) -> Entry {
-        Entry {
-            number: self.number,
-            slot: self.slot,
-            kind: self.kind,
-            name: Name::of_words(self.name),
-        }
+        self.plain.entry()
     }
 
     /// The kind and the name, as C has them.
     #[inline]
     pub fn key(&self) -> (u64, &ffi::Name) {
-        (self.kind.number(), &self.name)
+        (self.plain.kind.number(), &self.plain.name)
     }
 
     /// What the entry carries.

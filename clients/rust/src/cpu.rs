@@ -1,12 +1,13 @@
 //! A CPU of a registry.
 
 use crate::basket::{BY_ACQUIRE, BY_CHANGE, BY_RELEASE};
+use crate::carried::Plain;
 use crate::ffi;
 use crate::refusal::{checked, Refusal};
 use crate::registry::Registry;
 use crate::section::Section;
 use crate::shared::{Lease, Shared};
-use crate::values::{Entry, Holder};
+use crate::values::Holder;
 use alloc::sync::Arc;
 use core::cell::{Cell, UnsafeCell};
 use core::fmt;
@@ -118,8 +119,8 @@ impl<T> Cpu<T> {
     }
 
     /// What this CPU itself holds the entry by, which is retired: nobody can let that go while this thread waits.
-    pub(crate) fn holder_of(&self, entry: &Entry) -> Option<Holder> {
-        let slot = usize::from(entry.slot);
+    pub(crate) fn holder_of(&self, entry: Plain) -> Option<Holder> {
+        let slot = entry.slot();
         let guards = self.bound[slot].get().wrapping_sub(self.unbound[slot].get());
         if self.holds(entry.number) {
             Some(Holder::Passive(self.id))

@@ -21,7 +21,6 @@ pub const PASSIVE_FULL: u32 = 10;
 pub const WRONG_CPU: u32 = 11;
 pub const NOT_HELD: u32 = 12;
 pub const LOCAL_FULL: u32 = 13;
-pub const NOT_RETIRED: u32 = 14;
 pub const MISSING_CPU: u32 = 15;
 pub const STILL_HELD: u32 = 16;
 pub const WAITING: u32 = 17;

@@ -33,6 +33,7 @@ use std::time::{Duration, Instant};
 /// assert_eq!(refused.given.destroy(&cpus[0], Patience::Forever).unwrap().value, 7);
 /// ```
 #[derive(Clone, Copy, Debug, PartialEq, Eq, Hash)]
+#[non_exhaustive]
 pub enum Patience {
     /// For this many turns. 0 means 1.
     Turns(u32),

@@ -137,7 +137,7 @@ impl fmt::Display for Refusal {
 #[cfg(feature = "std")]
 impl Error for Refusal {}
 
-/// The error of a call that takes a value, together with that value, unchanged.
+/// The error of a call that takes a value, together with that value, unchanged. It will have no other field, so a caller may take it apart.
 ///
 /// In a function that returns a [`Refusal`], `?` converts it, and drops what was given. If the error must be `Send` and `'static`, such as a boxed error,
 /// [`Refused::into_refusal`] converts it first.

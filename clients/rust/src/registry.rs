@@ -107,7 +107,7 @@ impl<T> Registry<T> {
     /// neither, since the change will be refused.
     fn tidy(&self, cpu: &Cpu<T>) -> Result<(), Refusal> {
         self.check(cpu)?;
-        if !cpu.is_inside() {
+        if !self.shared.is_tidy() && !cpu.is_inside() {
             cpu.release_some(BY_CHANGE);
             drop(self.collect());
         }
@@ -181,9 +181,9 @@ impl<T> Registry<T> {
         let mut kept = self.shared.kept();
         match Record::<T>::written(|made| call(&mut kept.keeper, carried.word(), made)) {
             Ok(record) => {
-                let entry = record.entry();
-                kept.note(entry, carried);
-                Ok(entry)
+                // SAFETY: the call has attached the entry with the value's address.
+                unsafe { kept.note(record.plain(), carried) };
+                Ok(record.entry())
             }
             Err(answer) => {
                 drop(kept);
@@ -217,9 +217,9 @@ impl<T> Registry<T> {
         let keeper = &mut kept.keeper;
         // SAFETY: as for `attach`.
         let gone = Record::<T>::written(|gone| unsafe { ffi::registry_detach(keeper, cpu.handle(), kind.number(), &name.words, gone) });
-        let entry = gone.map_err(refusal_of)?.entry();
+        let carried = gone.map_err(refusal_of)?.carried();
         drop(kept);
-        Ok(Retired::new(Arc::clone(&self.shared), entry))
+        Ok(Retired::new(Arc::clone(&self.shared), carried))
     }
 
     /// Detaches the live entry with this kind and name, and [defers](Retired::defer) it: later changes, and [`Registry::collect`], free it.

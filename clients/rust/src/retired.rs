@@ -1,6 +1,7 @@
 //! Entries that were detached and aren't freed yet.
 
 use crate::basket::BY_CHANGE;
+use crate::carried::{Carried, Plain};
 use crate::cpu::Cpu;
 use crate::patience::{Patience, Pauses};
 use crate::refusal::{Refusal, Refused};
@@ -9,6 +10,8 @@ use crate::shared::Shared;
 use crate::values::{Entry, Freed, Met};
 use alloc::sync::Arc;
 use core::fmt;
+use core::mem::ManuallyDrop;
+use core::ptr;
 
 /// An entry that was detached: [`Registry::detach`] returns it. Lookups that begin afterwards don't find it. It keeps its slot and its value until
 /// nothing holds it and it is freed. [`destroy`](Retired::destroy) waits for that, and [`advance`](Retired::advance) doesn't. Dropping it is the same as
@@ -32,21 +35,27 @@ use core::fmt;
 #[must_use = "an entry that nobody destroys or defers by name is deferred as this is dropped"]
 pub struct Retired<T> {
     shared: Arc<Shared<T>>,
-    entry: Entry,
-    /// Whether its slot is vacant.
-    freed: bool,
+    /// What the entry carries, with the entry beside it. A token is no longer than this: it is moved at each turn.
+    carried: Carried<T>,
 }
 
 impl<T> Retired<T> {
-    pub(crate) fn new(shared: Arc<Shared<T>>, entry: Entry) -> Retired<T> {
-        let freed = false;
-        Retired { shared, entry, freed }
+    /// The entry was just detached.
+    pub(crate) fn new(shared: Arc<Shared<T>>, carried: Carried<T>) -> Retired<T> {
+        Retired { shared, carried }
+    }
+
+    #[inline]
+    fn plain(&self) -> Plain {
+        // SAFETY: an attach noted the entry, under the interlock, before the detach. Only a turn by this token frees it, or one after this token has
+        // deferred it, and each of them is the token's end.
+        unsafe { self.carried.plain() }
     }
 
     /// The entry, as it was attached.
     #[must_use]
     pub fn entry(&self) -> Entry {
-        self.entry
+        self.plain().entry()
     }
 
     /// The registry that it is of.
@@ -61,10 +70,19 @@ impl<T> Retired<T> {
     /// # Errors
     ///
     /// `StillHeld` with the first thing that holds it. The `Retired` is returned.
+    // Inlined, the token isn't moved: a turn that meets something takes a tenth less.
+    #[inline(always)]
     pub fn advance(self) -> Result<Freed<T>, Refused<Retired<T>>> {
+        let (entry, mut kept) = (self.plain(), self.shared.kept());
         // SAFETY: no CPU is given.
-        let turned = unsafe { self.shared.turn(None, &self.entry) };
-        self.after(turned.map_err(Met::refusal))
+        let met = unsafe { kept.turn(None, entry.number) };
+        if self.shared.goes_on(met) {
+            // SAFETY: the turn was just made.
+            let done = unsafe { self.shared.go_on(kept, None, entry.number, entry.slot(), met.locals()) };
+            return self.after(done.map_err(Met::refusal));
+        }
+        drop(kept);
+        self.after(Err(met.refusal()))
     }
 
     /// Makes turns until it is freed: `psref_target_destroy`, `localcount_drain`. Then nothing holds it, now or later, and what it carried is returned.
@@ -101,15 +119,15 @@ impl<T> Retired<T> {
         if !cpu.is_of(&self.shared) {
             return Err(Refusal::OtherRegistry);
         }
-        let mut pauses = Pauses::new(patience);
+        let (mut pauses, entry) = (Pauses::new(patience), self.plain());
         loop {
             // SAFETY: the CPU is this thread's and of this registry, and its handle isn't empty.
-            let turned = unsafe { self.shared.turn(Some(cpu.handle()), &self.entry) };
+            let turned = unsafe { self.shared.turn(Some(cpu.handle()), entry) };
             let refusal = match turned.map_err(Met::refusal) {
-                Err(Refusal::StillHeld(holder)) => Refusal::StillHeld(cpu.holder_of(&self.entry).unwrap_or(holder)),
+                Err(Refusal::StillHeld(holder)) => Refusal::StillHeld(cpu.holder_of(entry).unwrap_or(holder)),
                 done => return done,
             };
-            if cpu.holder_of(&self.entry).is_some() || !pauses.another() {
+            if cpu.holder_of(entry).is_some() || !pauses.another() {
                 return Err(refusal);
             }
             cpu.release_some(BY_CHANGE);
@@ -118,14 +136,21 @@ impl<T> Retired<T> {
 
     /// What a call returns that ended so.
     #[inline]
-    fn after(mut self, done: Result<Freed<T>, Refusal>) -> Result<Freed<T>, Refused<Retired<T>>> {
+    fn after(self, done: Result<Freed<T>, Refusal>) -> Result<Freed<T>, Refused<Retired<T>>> {
         match done {
             Ok(freed) => {
-                self.freed = true;
+                self.spend();
                 Ok(freed)
             }
             Err(refusal) => Err(Refused { refusal, given: self }),
         }
+    }
+
+    /// The token's end, where the entry is freed.
+    fn spend(self) {
+        let token = ManuallyDrop::new(self);
+        // SAFETY: nobody drops the token, so this is the only share that is taken out of it.
+        drop(unsafe { ptr::read(&token.shared) });
     }
 
     /// Leaves it to later changes, as dropping it does. Each of them, and [`Registry::collect`], frees the entries that nothing holds any more, the
@@ -134,16 +159,14 @@ impl<T> Retired<T> {
 }
 
 impl<T> Drop for Retired<T> {
-    /// Defers it, unless it was freed.
+    /// Defers it: a token whose entry is freed isn't dropped.
     fn drop(&mut self) {
-        if !self.freed {
-            self.shared.defer(&mut self.shared.kept(), self.entry);
-        }
+        self.shared.defer(&mut self.shared.kept(), self.plain());
     }
 }
 
 impl<T> fmt::Debug for Retired<T> {
     fn fmt(&self, f: &mut fmt::Formatter<'_>) -> fmt::Result {
-        f.debug_struct("Retired").field("entry", &self.entry).finish_non_exhaustive()
+        f.debug_struct("Retired").field("entry", &self.entry()).finish_non_exhaustive()
     }
 }

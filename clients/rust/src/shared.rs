@@ -3,13 +3,13 @@
 //! Locks are taken in the order spare, interlock, basket; no code of a caller runs under one, so no `Drop` of a `T` does.
 
 use crate::basket::{Baskets, BY_RELEASE, BY_TURN};
-use crate::carried::Carried;
+use crate::carried::{Carried, Plain};
 use crate::ffi;
 use crate::limits::LIMITS;
 use crate::lock::{locked, locked_mut, try_locked, Mutex, MutexGuard};
 use crate::refusal::{checked, Refusal};
 use crate::settings::Settings;
-use crate::values::{Entry, Freed, Met};
+use crate::values::{Freed, Met};
 use alloc::sync::Arc;
 use alloc::vec::Vec;
 use core::mem;
@@ -21,10 +21,10 @@ pub const NO_CPUS: [ffi::Cpu; ffi::MOST_CPUS] = [ffi::Cpu::EMPTY; ffi::MOST_CPUS
 /// What the interlock guards.
 pub struct Kept<T> {
     pub keeper: ffi::Keeper,
-    /// Each live or retired entry, and what it carries. Its row goes as its slot is freed.
-    rows: Vec<(Entry, Carried<T>)>,
+    /// The number of each live or retired entry, and what it carries. Its row goes as its slot is freed.
+    rows: Vec<(u64, Carried<T>)>,
     /// The entries that are to be freed as soon as nobody holds them, the oldest first.
-    deferred: Vec<Entry>,
+    deferred: Vec<Plain>,
 }
 
 /// One registry. Its handles own it together: it is closed as the last of them goes.
@@ -50,8 +50,14 @@ pub struct Lease<T> {
 
 impl<T> Kept<T> {
     /// Notes what a new entry carries.
-    pub fn note(&mut self, entry: Entry, carried: Carried<T>) {
-        self.rows.push((entry, carried));
+    ///
+    /// # Safety
+    ///
+    /// The entry was attached with it, and the interlock has been held since.
+    pub unsafe fn note(&mut self, entry: Plain, carried: Carried<T>) {
+        // SAFETY: as the caller says.
+        unsafe { carried.note(entry) };
+        self.rows.push((entry.number, carried));
     }
 
     /// One turn of C on the retired entry with this number. With a CPU it is a turn of a destroy, which the CPU hears.
@@ -60,7 +66,7 @@ impl<T> Kept<T> {
     ///
     /// The handle, where there is one, is of a CPU of this registry, which this thread runs on, and not in use.
     #[inline]
-    unsafe fn turn(&mut self, cpu: Option<*mut ffi::Cpu>, number: u64) -> Met {
+    pub(crate) unsafe fn turn(&mut self, cpu: Option<*mut ffi::Cpu>, number: u64) -> Met {
         let mut stage = ffi::Stage::default();
         let answer = match cpu {
             // SAFETY: the keeper is locked, the caller upholds the contract for the CPU, both are of one registry, and their handles aren't empty.
@@ -77,9 +83,12 @@ impl<T> Kept<T> {
     ///
     /// The turn just made has freed the entry with this number.
     unsafe fn take(&mut self, number: u64) -> Freed<T> {
-        let place = self.rows.iter().position(|row| row.0.number == number);
-        let (entry, carried) = self.rows.swap_remove(place.expect("a row of each entry that isn't freed"));
+        let place = self.rows.iter().position(|row| row.0 == number);
+        let (_, carried) = self.rows.swap_remove(place.expect("a row of each entry that isn't freed"));
         self.deferred.retain(|other| other.number != number);
+        // SAFETY: the interlock is held, and an attach noted the entry under it. The value is taken below.
+        let entry = unsafe { carried.plain() }.entry();
+        debug_assert_eq!(entry.number, number, "the row's entry");
         // SAFETY: registry.h says of FREED and of a destroy that is done: "on every CPU, now and later: no section may hold it, no passive and no local
         // reference to it is held, and no slot keeps it". Each reference of Rust to the value lives as long as one of these. The number is never
         // reused, and its row is gone, so this is the only time.
@@ -142,38 +151,63 @@ impl<T> Shared<T> {
     /// # Safety
     ///
     /// As of `Kept::turn`.
-    #[inline]
-    pub unsafe fn turn(&self, cpu: Option<*mut ffi::Cpu>, entry: &Entry) -> Result<Freed<T>, Met> {
+    pub(crate) unsafe fn turn(&self, cpu: Option<*mut ffi::Cpu>, entry: Plain) -> Result<Freed<T>, Met> {
         let mut kept = self.kept();
         // SAFETY: the caller upholds the contract for the CPU.
-        let mut met = unsafe { kept.turn(cpu, entry.number) };
-        if met.is_local() && self.give_up_dropped(&mut kept.keeper, usize::from(entry.slot)) {
-            // SAFETY: as above.
-            met = unsafe { kept.turn(cpu, entry.number) };
+        let met = unsafe { kept.turn(cpu, entry.number) };
+        if self.goes_on(met) {
+            // SAFETY: as above, and the turn was just made.
+            return unsafe { self.go_on(kept, cpu, entry.number, entry.slot(), met.locals()) };
         }
-        if !met.is_freed() {
-            return Err(met);
-        }
-        // SAFETY: the turn just made met that it is freed.
-        Ok(unsafe { self.take_freed(&mut kept, entry.number) })
+        Err(met)
     }
 
-    /// Takes out what a freed entry carried.
+    /// Whether more is to be done in the same turn: it freed the entry, or met local references where some were dropped.
+    #[inline]
+    pub(crate) fn goes_on(&self, met: Met) -> bool {
+        met.is_freed() || met.locals().is_some() && self.baskets.total() > 0
+    }
+
+    /// Goes on with a turn. Apart, and all of it in registers: most turns of whoever waits end before, and the lock waits for what they store.
     ///
     /// # Safety
     ///
-    /// As of `Kept::take`.
-    unsafe fn take_freed(&self, kept: &mut Kept<T>, number: u64) -> Freed<T> {
-        // SAFETY: the caller has made the turn.
-        let freed = unsafe { kept.take(number) };
+    /// As of `Kept::turn`, which was just made under this lock, on the same CPU or on none, for this entry: it met so many local references, or freed
+    /// the entry.
+    #[inline(never)]
+    pub(crate) unsafe fn go_on(
+        &self,
+        mut kept: MutexGuard<'_, Kept<T>>,
+        cpu: Option<*mut ffi::Cpu>,
+        number: u64,
+        slot: usize,
+        locals: Option<u64>,
+    ) -> Result<Freed<T>, Met> {
+        if let Some(held) = locals {
+            if !self.give_up_dropped(&mut kept.keeper, slot) {
+                return Err(Met::local(held));
+            }
+            // SAFETY: the caller upholds the contract for the CPU.
+            let met = unsafe { kept.turn(cpu, number) };
+            if !met.is_freed() {
+                return Err(met);
+            }
+        }
+        // SAFETY: the last turn freed it.
+        let taken = unsafe { kept.take(number) };
         self.deferred.store(kept.deferred.len(), Ordering::Relaxed);
-        freed
+        Ok(taken)
     }
 
     /// Leaves a retired entry to later changes, as the youngest.
-    pub fn defer(&self, kept: &mut Kept<T>, entry: Entry) {
+    pub fn defer(&self, kept: &mut Kept<T>, entry: Plain) {
         kept.deferred.push(entry);
         self.deferred.store(kept.deferred.len(), Ordering::Relaxed);
+    }
+
+    /// Whether no dropped reference is to be released, and no entry deferred.
+    pub fn is_tidy(&self) -> bool {
+        self.baskets.total() == 0 && self.deferred() == 0
     }
 
     /// How many entries are deferred.
@@ -188,7 +222,7 @@ impl<T> Shared<T> {
             return freed;
         }
         let entries = self.kept().deferred.clone();
-        for entry in &entries {
+        for entry in entries {
             // SAFETY: no CPU is given. Where another thread has freed the entry meanwhile, there is no turn.
             if let Ok(one) = unsafe { self.turn(None, entry) } {
                 freed.push(one);
@@ -290,7 +324,6 @@ impl<T> Shared<T> {
 
     /// Gives up, under the interlock, some of what lies in the baskets and is to the entry in this slot, whose counts were collected. Whether
     /// any was.
-    #[inline]
     fn give_up_dropped(&self, keeper: &mut ffi::Keeper, slot: usize) -> bool {
         let mut given = 0;
         for of in self.baskets.filled_from(0) {
@@ -336,7 +369,7 @@ impl<T> Drop for Shared<T> {
         let rows = mem::take(&mut kept.rows);
         let left: Vec<Carried<T>> = rows
             .into_iter()
-            .filter(|(entry, _)| !spare.iter_mut().any(|cpu| holds(cpu, entry.number)))
+            .filter(|(number, _)| !spare.iter_mut().any(|cpu| holds(cpu, *number)))
             .map(|(_, carried)| carried)
             .collect();
         for cpu in spare.iter_mut().filter(|cpu| !cpu.is_empty()) {

@@ -2,7 +2,7 @@
 
 use crate::ffi;
 use crate::name::Name;
-use crate::refusal::{refusal_of, Refusal};
+use crate::refusal::Refusal;
 use alloc::vec::Vec;
 use core::fmt;
 
@@ -106,16 +106,26 @@ pub(crate) struct Met {
 }
 
 impl Met {
+    /// So many local references hold the entry.
+    pub(crate) fn local(held: u64) -> Met {
+        let stage = ffi::Stage {
+            stage: ffi::LOCAL,
+            what: held,
+        };
+        Met { answer: ffi::DONE, stage }
+    }
+
     /// The slot is vacant.
     #[inline]
     pub(crate) fn is_freed(self) -> bool {
         self.answer == ffi::DONE && self.stage.stage == ffi::FREED
     }
 
-    /// Local references hold the entry.
+    /// How many local references hold the entry, where they are what was met.
     #[inline]
-    pub(crate) fn is_local(self) -> bool {
-        matches!(self.answer, ffi::DONE | ffi::STILL_HELD) && self.stage.stage == ffi::LOCAL
+    pub(crate) fn locals(self) -> Option<u64> {
+        let is_met = matches!(self.answer, ffi::DONE | ffi::STILL_HELD) && self.stage.stage == ffi::LOCAL;
+        is_met.then_some(self.stage.what)
     }
 
     /// Why the entry isn't freed, where it is retired.
@@ -123,8 +133,8 @@ impl Met {
     pub(crate) fn refusal(self) -> Refusal {
         match self.answer {
             ffi::DONE | ffi::STILL_HELD => Refusal::StillHeld(Holder::of(self.stage)),
-            ffi::NOT_RETIRED => unreachable!("an entry whose token is there is retired"),
-            other => refusal_of(other),
+            ffi::INSIDE => Refusal::Inside,
+            other => panic!("the archive answered {other} to a turn on an entry that is retired"),
         }
     }
 }

@@ -128,7 +128,7 @@ fn what_is_wrong_is_refused_for_just_that_reason() {
 }
 
 /// How many files there are.
-const FILES: usize = 59;
+const FILES: usize = 61;
 
 #[test]
 fn the_errors_of_a_message_are_told_apart() {

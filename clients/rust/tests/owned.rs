@@ -175,6 +175,38 @@ fn no_function_hides_a_method_of_what_is_carried() {
     assert_eq!(all!(part), NAMES);
 }
 
+/// The type that an `impl` in this line is of, without a trait.
+fn inherent(line: &str) -> Option<&str> {
+    let head = line.strip_prefix("impl").filter(|head| !head.contains(" for "))?;
+    let name = head.rsplit("> ").find(|part| part.contains('<')).unwrap_or(head);
+    name.trim_start().split('<').next()
+}
+
+/// What no list of names can say: none of these takes `self`, so no function that comes later hides a method of `T` either.
+#[test]
+fn no_public_function_of_a_reference_is_a_method() {
+    let folder = concat!(env!("CARGO_MANIFEST_DIR"), "/src");
+    let texts: Vec<String> = std::fs::read_dir(folder)
+        .unwrap()
+        .map(|file| std::fs::read_to_string(file.unwrap().path()).unwrap())
+        .collect();
+    let lines = || texts.iter().flat_map(|text| text.lines());
+    let derefs: Vec<&str> = lines()
+        .filter_map(|line| line.strip_prefix("impl")?.split(" Deref for ").nth(1)?.split('<').next())
+        .collect();
+    assert_eq!(derefs.len(), 8, "{derefs:?}");
+    let (mut of, mut functions) = ("", 0);
+    for line in lines() {
+        of = inherent(line).unwrap_or(of);
+        if line.starts_with("    pub fn ") && of != "Lent" && derefs.contains(&of) {
+            functions += 1;
+            let receivers = ["(self", "(mut self", "(&self", "(&mut self"];
+            assert!(!receivers.iter().any(|receiver| line.contains(receiver)), "{of}: {line}");
+        }
+    }
+    assert!(functions > 20, "{functions} were looked at");
+}
+
 /// Each shows the entry and what it carries.
 #[test]
 fn guards_show_what_they_hold() {

@@ -4,7 +4,7 @@
 mod common;
 
 use common::{balances, detach, with_driver};
-use registry::{Cpu, Found, Holder, Kind, LocalRef, Name, PassiveRef, ReadGuard, Refusal, Registry, Settings, LIMITS};
+use registry::{Cpu, Found, Holder, Kind, LocalRef, Name, PassiveRef, ReadGuard, Refusal, Registry, Section, Settings, LIMITS};
 
 const WM: Name = Name::from_static("wm");
 const VGA: Name = Name::from_static("vga");
@@ -17,6 +17,16 @@ fn with_two() -> (Registry<u64>, Vec<Cpu<u64>>) {
     (registry, cpus)
 }
 
+/// The first of these names that is there, as a caller returns it.
+fn first_of<'section, 'cpu>(section: &'section Section<'cpu, u64>, names: &[Name]) -> Option<Found<'section, 'cpu, u64>> {
+    for name in names {
+        if let Some(found) = section.find(Kind::Driver, name) {
+            return Some(found);
+        }
+    }
+    section.entries().last()
+}
+
 #[test]
 fn two_entries_are_in_use_at_once() {
     let (_registry, cpus) = with_two();
@@ -25,6 +35,8 @@ fn two_entries_are_in_use_at_once() {
     assert_eq!((*wm, *vga), (7, 8));
     let either = section.find(Kind::Driver, &PCI).or_else(|| section.find(Kind::Driver, &VGA));
     assert_eq!(either.map(|found| *found), Some(8));
+    let wanted = [(&[PCI, VGA, WM][..], 8), (&[WM], 7), (&[], 7)];
+    assert!(wanted.iter().all(|(names, value)| *first_of(&section, names).unwrap() == *value));
     let values: Vec<&u64> = [WM, VGA]
         .iter()
         .filter_map(|name| section.find(Kind::Driver, name))
