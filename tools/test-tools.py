@@ -16,10 +16,10 @@ from concurrent.futures import ThreadPoolExecutor
 sys.dont_write_bytecode = True
 
 from counts import ended
-from tests import compares, documents, gates, mutation, pictures, programs, releases, sources, stack
+from tests import compares, documents, gates, mutation, pictures, programs, refusals, releases, sources, stack
 from tests.trees import lay, said_by, spoil
 
-MODULES = (programs, documents, sources, gates, compares, pictures, stack, releases, mutation)
+MODULES = (programs, documents, sources, gates, refusals, compares, pictures, stack, releases, mutation)
 COUNT = re.compile(r"^(\d+) passed, (\d+) failed\s*\Z", re.MULTILINE)
 
 
