@@ -137,5 +137,33 @@ def unwind_tables():
     return Case("unwind-tables", ["unwind-tables.py", "unwinding"], {"code.s": CODE, "rows": ROWS, "look": UNWOUND}, ["./look"], faults, counts=False)
 
 
+# An archive of one object, in which one function is seen from outside and calls another one.
+JOINED = """#!/bin/sh
+mkdir -p crates/registry_c/include
+for part in part rest; do gcc -O1 -fPIC -c clients/c/$part.c -o $part.o || exit 9; done
+ld -r -o whole.o part.o rest.o && objcopy --keep-global-symbol=registry_rest whole.o registry.o && ar rcsD old.a registry.o || exit 9
+sed -i 's/return 1;/return 2;/' clients/c/part.c
+tools/replace-part.sh "${1-part}" old.a new/new.a || exit
+for archive in old new/new; do gcc use.c $archive.a -o used && ./used; done >said
+diff said wanted
+"""
+
+
+def replace_part():
+    tool = "tools/replace-part.sh"
+    tree = {"clients/c/part.c": "int part(void) { return 1; }\n", "clients/c/rest.c": "int part(void);\nint registry_rest(void) { return part() + 10; }\n",
+            "use.c": '#include <stdio.h>\nint registry_rest(void);\nint main(void) { printf("%d\\n", registry_rest()); }\n', "wanted": "11\n12\n", "join": JOINED}
+    faults = (
+        Fault("an archive as it was", "< 11\n", ((tool, "$room/part.o\" \"$room/rest.o", "$room/rest.o"),)),
+        Fault("two functions of a name", "multiple definition", ((tool, '--weaken-symbols="$room/names"', ""),)),
+        Fault("functions that aren't seen", "< 11\n", ((tool, '--globalize-symbols="$room/names"', ""),)),
+        Fault("a part that isn't there", "gone.c", command=["./join", "gone"]),
+        Fault("a part that isn't compiled", "error", (("clients/c/rest.c", "int registry_rest", "int part(void) { return 1; }\nint registry_rest"), ("clients/c/part.c", "int part(void) { return 1; }", "int more"))),
+        Fault("a part without functions", "part.c defines nothing", (("clients/c/rest.c", "int part(void);", "int part(void) { return 1; }"), ("clients/c/part.c", "int part", "static inline int part"))),
+        Fault("no words", "it takes PART ARCHIVE TO", command=[tool]),
+    )
+    return Case("replace-part", ["replace-part.sh"], tree, ["./join"], faults, counts=False)
+
+
 def cases():
-    return [symbols(), pages(), unwind_tables()]
+    return [symbols(), pages(), unwind_tables(), replace_part()]
