@@ -3,7 +3,7 @@
 
     tools/mutants.py [--only FILE[:LINE]].. [--sample N] [--seed N] [--jobs N] [--least N] [--to FILE] [--list]
 
-The code is clients/c/waiting.c, clients/netbsd/src/*.c and clients/rust/src/*.rs. tools/mutations.py has the rules. Each wrong body is built in a copy of the
+The code is clients/c/waiting.c, what is C of the archive, clients/netbsd/src/*.c and clients/rust/src/*.rs. tools/mutations.py has the rules. Each wrong body is built in a copy of the
 tree, and the tests that could see it run until one fails: those of the file's own library, the quickest first, and for the crate those that are called as
 the file before all others. What runs eight times as long as on the tree as it stands, and --least seconds (10), hangs: it is killed, and counts as seen. A
 body that the compiler makes the same code of isn't run.
@@ -52,6 +52,12 @@ Mutant = collections.namedtuple("Mutant", "file line rule old new text")
 Test = collections.namedtuple("Test", "name build run memory", defaults=(MOST_BYTES,))
 # The ways in which the layer's Makefile builds its programs, and whether without sanitizers.
 WAYS = {"plain": True, "small": False, "busy": True, "late": False, "sanitized": False, "raced": False}
+# What is C of the archive, and the programs that see each part, with their words.
+PARTS = {
+    "heap": {"refuse": [], "blocks": [], "misuse": []},
+    "composed": {"entries": ["1000"]},
+    "strings": {"names": []},
+}
 # A library: the files that are changed, its tests for one of them, and for C the command that compiles one file to an object.
 Library = collections.namedtuple("Library", "files tests compiled")
 
@@ -80,6 +86,15 @@ def of_waiting(_):
     """The programs that waiting.c is compiled into."""
     programs = ("turns", "deferred", "waits", "forwarder", "device_switch")
     return [Test(it, ["make", "-s", "-C", "clients", C_FLAGS, f"out/{it}"], [f"clients/out/{it}"]) for it in programs]
+
+
+def of_part(file):
+    """The programs that see a part of the archive that is C. Each is linked with an archive in which that part is as it is here."""
+    part, folder = pathlib.Path(file).stem, "out/part"
+    archive = f"{folder}/libregistry.a"
+    joined = f"{ROOT}/tools/replace-part.sh {part} clients/out/libregistry.a clients/{archive}"
+    made = f"make -s -C clients OUT={folder} ARCHIVE={archive} '{C_FLAGS}'"
+    return [Test(f"{part}/{it}", ["sh", "-c", f"{joined} && {made} {folder}/{it}"], [f"clients/{folder}/{it}", *words]) for it, words in PARTS[part].items()]
 
 
 @functools.cache
@@ -113,6 +128,7 @@ def compile_c(include):
 
 LIBRARIES = (
     Library("clients/c/waiting.c", of_waiting, compile_c("clients/c")),
+    *(Library(f"clients/c/{part}.c", of_part, compile_c("clients/c")) for part in PARTS),
     Library("clients/netbsd/src/*.c", of_layer, compile_c("clients/netbsd")),
     Library("clients/rust/src/*.rs", of_crate, None),
 )

@@ -171,6 +171,7 @@ test_c() {
     check "C: turns, each step of a wait" "$out/turns"
     check "C: deferred, beside a model" "$out/deferred"
     check "C: history to its end, beside a model" "$out/history"
+    check "C: history notices each fault that is planted" "$out/planted"
     check "C: walk" "$out/walk" 5000
     check "C: entries" "$out/entries" 1000
     check "C: names and answers as text" "$out/names"

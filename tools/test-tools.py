@@ -16,10 +16,10 @@ from concurrent.futures import ThreadPoolExecutor
 sys.dont_write_bytecode = True
 
 from counts import ended
-from tests import compares, documents, gates, mutation, pages, pictures, programs, releases, sources, stack
-from tests.trees import lay, said_by, spoil
+from tests import compares, documents, gates, libraries, mutation, pages, pictures, programs, refusals, releases, sources, stack
+from tests.trees import WRITING, lay, said_by, spoil
 
-MODULES = (programs, documents, sources, gates, compares, pages, pictures, stack, releases, mutation)
+MODULES = (programs, documents, sources, gates, refusals, compares, pages, pictures, stack, libraries, releases, mutation)
 COUNT = re.compile(r"^(\d+) passed, (\d+) failed\s*\Z", re.MULTILINE)
 
 
@@ -36,7 +36,8 @@ def try_good(case, tree):
 
 def try_fault(case, fault, tree):
     """What is wrong with what the tool says of the fault, if anything is."""
-    misfit = spoil(fault, tree)
+    with WRITING:
+        misfit = spoil(fault, tree)
     if misfit:
         return misfit
     status, said = said_by(fault.command or case.command, tree)
@@ -55,8 +56,9 @@ def run(job):
     case, fault = job
     with tempfile.TemporaryDirectory() as folder:
         tree = pathlib.Path(folder)
-        lay(case, tree)
-        case.prepare(tree)
+        with WRITING:
+            lay(case, tree)
+            case.prepare(tree)
         if fault is None:
             return f"{case.name}: the good tree", try_good(case, tree)
         return f"{case.name}: {fault.name}", try_fault(case, fault, tree)

@@ -21,18 +21,12 @@
 #include <unistd.h>
 
 #include "client.h"
+#include "wrapped_heap.h"
 
 enum { MOST_BLOCKS = 64, MOST_STEPS = 256, NOT_SEEN = 0, FAILED = 1, SEEN = 3 };
 
 /* What is planted in a call. */
 enum plant { NOTHING, TAKE_MORE, TAKE_LESS, FREE_MORE, FREE_LESS, PLANTS };
-
-void *__real_malloc(size_t size);
-void *__real_realloc(void *block, size_t size);
-void __real_free(void *block);
-void *__wrap_malloc(size_t size);
-void *__wrap_realloc(void *block, size_t size);
-void __wrap_free(void *block);
 
 /* The blocks in use, and how many the call has taken and freed. */
 static void *blocks[MOST_BLOCKS];

@@ -22,6 +22,7 @@
 #include <unistd.h>
 
 #include "client.h"
+#include "wrapped_heap.h"
 
 #ifndef __aarch64__
 #error "it reads the instructions of aarch64"
@@ -64,11 +65,7 @@ static uint32_t overwritten[MOST_CODE];
 
 extern const char __executable_start[];
 
-void *__real_malloc(size_t size);
-void __real_free(void *block);
 registry_answer __real_registry_open(const struct registry_settings *settings, struct registry_keeper *keeper, struct registry_cpu *cpus, size_t count);
-void *__wrap_malloc(size_t size);
-void __wrap_free(void *block);
 registry_answer __wrap_registry_open(const struct registry_settings *settings, struct registry_keeper *keeper, struct registry_cpu *cpus, size_t count);
 
 static size_t table_pages(void)

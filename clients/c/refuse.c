@@ -13,13 +13,7 @@
 #include <inttypes.h>
 
 #include "client.h"
-
-void *__real_malloc(size_t size);
-void *__real_realloc(void *block, size_t size);
-void __real_free(void *block);
-void *__wrap_malloc(size_t size);
-void *__wrap_realloc(void *block, size_t size);
-void __wrap_free(void *block);
+#include "wrapped_heap.h"
 
 /* Allocations asked for, the first and the last that are refused (0: none), and the blocks that are in use. */
 static uint64_t asked, refuse_from, refuse_to, blocks;

@@ -15,7 +15,7 @@
 #include "pauses.h"
 #include "waiting.h"
 
-enum { SPINS = 16, MOST_PAUSES = 256, YIELDS = 8, FIRST_SLEEP = 16000, LONGEST_SLEEP = 8000000, MOST = 400, TURN = 100 };
+enum { SPINS = 16, MOST_PAUSES = 256, YIELDS = 8, FIRST_SLEEP = 16000, LONGEST_SLEEP = 8000000, MOST = 400, TURN = 100, MANY = 1000001 };
 
 static struct {
 	uint32_t begun;			/* what a begin answers */
@@ -43,8 +43,13 @@ uint32_t __wrap_registry_destroy(struct registry_keeper *of, struct registry_cpu
 uint32_t __wrap_registry_perform_begin(struct registry_keeper *of, struct registry_cpu *on, struct registry_wait *wait);
 uint32_t __wrap_registry_perform_turn(struct registry_keeper *of, struct registry_cpu *on, struct registry_wait *wait, uint64_t *waited);
 
+/* Whether no step is kept: of a wait of very many turns only their number is. */
+static bool unkept;
+
 static void step(char letter)
 {
+	if (unkept)
+		return;
 	EXPECT(seen.count < MOST - 1);
 	seen.steps[seen.count++] = letter;
 }
@@ -60,7 +65,7 @@ int __wrap_nanosleep(const struct timespec *length, struct timespec *left)
 {
 	EXPECT(length->tv_sec == 0 && left == NULL);
 	step('s');
-	seen.slept[seen.sleeps++] = length->tv_nsec;
+	seen.slept[seen.sleeps++ % MOST] = length->tv_nsec;
 	now += length->tv_nsec;
 	return 0;
 }
@@ -73,7 +78,7 @@ int __wrap_sched_yield(void)
 
 void pause_seen(void)
 {
-	seen.pauses[seen.turns]++;
+	seen.pauses[seen.turns < MOST ? seen.turns : MOST]++;
 }
 
 static uint32_t turn(char letter)
@@ -195,6 +200,30 @@ static void test_perform_ends(void)
 	expect_turns("tbg", 'p', 0);
 }
 
+/* A wait has no number of turns after which it ends: it ends with the answer. Each of its sleeps is the longest, from some on. */
+static void expect_many(const char *call, registry_answer answer)
+{
+	EXPECT(answer == REGISTRY_DONE);
+	if (seen.turns != MANY || seen.sleeps != MANY - 1 - SPINS - YIELDS || seen.slept[(seen.sleeps - 1) % MOST] != LONGEST_SLEEP) {
+		fprintf(stderr, "turns.c: %s: %u turns, %u sleeps\n", call, seen.turns, seen.sleeps);
+		exit(1);
+	}
+}
+
+static void test_many_turns(void)
+{
+	uint64_t waited;
+	struct timespec deadline = {INT32_MAX, 0};
+	unkept = true;
+	say(REGISTRY_DONE, REGISTRY_STILL_HELD, MANY - 1, REGISTRY_DONE);
+	expect_many("destroy", registry_destroy_wait(&lock, &keeper, &cpu, 5, NULL, &met));
+	say(REGISTRY_DONE, REGISTRY_STILL_HELD, MANY - 1, REGISTRY_DONE);
+	expect_many("destroy with a deadline", registry_destroy_wait(&lock, &keeper, &cpu, 5, &deadline, &met));
+	say(REGISTRY_DONE, REGISTRY_WAITING, MANY - 1, REGISTRY_DONE);
+	expect_many("perform", registry_perform_wait(&lock, &keeper, &cpu, NULL, &waited));
+	unkept = false;
+}
+
 /* A deadline so many nanoseconds from now. */
 static struct timespec in(int64_t nanoseconds)
 {
@@ -269,6 +298,7 @@ int main(void)
 	test_destroy_ends();
 	test_perform_ends();
 	test_deadlines();
+	test_many_turns();
 	test_mutex();
 	puts("turns end");
 	return 0;

@@ -3,9 +3,14 @@ import collections
 import pathlib
 import shutil
 import subprocess
+import threading
 
 TOOLS = pathlib.Path(__file__).resolve().parent.parent
 ROOT = TOOLS.parent
+
+# Held while files are written, and while a command is started: a process that is just forked has what is being written open, and a script that anybody
+# has open for writing can't be run.
+WRITING = threading.Lock()
 
 # A fault: its name, what the tool must say of it, and its changes. A change is a path with an old text, which the file has once, and a new one. Without an
 # old text the file is written, without a new one it is removed. `command` replaces the command of the good tree.
@@ -59,5 +64,12 @@ def spoil(fault, tree):
 
 def said_by(command, tree):
     """The status of the command, and all that it says."""
-    ran = subprocess.run(command, cwd=tree, stdin=subprocess.DEVNULL, stdout=subprocess.PIPE, stderr=subprocess.STDOUT, text=True, errors="replace", timeout=300)
-    return ran.returncode, ran.stdout
+    with WRITING:
+        process = subprocess.Popen(command, cwd=tree, stdin=subprocess.DEVNULL, stdout=subprocess.PIPE, stderr=subprocess.STDOUT, text=True, errors="replace")
+    with process:
+        try:
+            said, _ = process.communicate(timeout=300)
+        except subprocess.TimeoutExpired:
+            process.kill()
+            raise
+    return process.returncode, said

@@ -6,7 +6,6 @@
 #define NETBSD_STOPS_H
 #define NETBSD_TEST_H
 
-#include <ctype.h>
 #include <pthread.h>
 #include <stdatomic.h>
 #include <stdio.h>
@@ -19,6 +18,7 @@
 
 #include "../bench.h"
 #include "../../c/expect.h"
+#include "../../netbsd/tests/places.h"
 
 struct stop_case {
 	void (*body)(void);
@@ -61,21 +61,7 @@ static inline void end_thread(pthread_t thread)
 		sleep_for(10);
 }
 
-static inline void on_thread(void *(*body)(void *))
-{
-	pthread_t thread;
-	start_thread(&thread, body, NULL);
-	end_thread(thread);
-}
-
-static inline void on_two_threads(void *(*body)(void *))
-{
-	pthread_t first, second;
-	start_thread(&first, body, NULL);
-	start_thread(&second, body, NULL);
-	end_thread(first);
-	end_thread(second);
-}
+#include "../../netbsd/tests/on_threads.h"
 
 /* ---- Cases. ---- */
 
@@ -92,21 +78,6 @@ static inline void run_body(void *arg)
 static inline void make_case(void)
 {
 	bench_thread(PROGRAM, run_body, NULL);
-}
-
-/* Writes PLACE for each word in which ".c:" and digits stand. */
-static inline void hide_places(char *text)
-{
-	char *colon;
-	while ((colon = strstr(text, ".c:")) != NULL && isdigit((unsigned char)colon[3])) {
-		char *from = colon, *to = colon + 3;
-		while (from > text && from[-1] != ' ')
-			from--;
-		while (isdigit((unsigned char)*to))
-			to++;
-		memcpy(from, "PLACE", 5);
-		memmove(from + 5, to, strlen(to) + 1);
-	}
 }
 
 /* Whether the bench says the case's line. */

@@ -5,51 +5,19 @@
 #ifndef NETBSD_STOPS_H
 #define NETBSD_STOPS_H
 
-#include <ctype.h>
 #include <signal.h>
 #include <sys/wait.h>
 #include <unistd.h>
 
 #include "test.h"
 
+#include "on_threads.h"
+#include "places.h"
+
 struct stop_case {
 	void (*body)(void);
 	const char *line;
 };
-
-/* Runs a body on a thread of its own, which ends. */
-static inline void on_thread(void *(*body)(void *))
-{
-	pthread_t thread;
-	start_thread(&thread, body, NULL);
-	end_thread(thread);
-}
-
-/* Runs it on two threads at once, neither of which ends. */
-static inline void on_two_threads(void *(*body)(void *))
-{
-	pthread_t first, second;
-	start_thread(&first, body, NULL);
-	start_thread(&second, body, NULL);
-	end_thread(first);
-	end_thread(second);
-}
-
-/* Writes PLACE for each word in which ".c:" and digits stand. */
-static inline void hide_places(char *text)
-{
-	char *colon;
-	while ((colon = strstr(text, ".c:")) != NULL && isdigit((unsigned char)colon[3])) {
-		char *from = colon, *to = colon + 3;
-		while (from > text && from[-1] != ' ' && from[-1] != '\n')
-			from--;
-		while (isdigit((unsigned char)*to))
-			to++;
-		EXPECT(to - from >= 5);
-		memcpy(from, "PLACE", 5);
-		memmove(from + 5, to, strlen(to) + 1);
-	}
-}
 
 /* Runs a case in a child, and reads all that it says on standard error. Its status. */
 static inline int run_case(void (*begin)(void), void (*body)(void), char *said, size_t room)

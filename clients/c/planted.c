@@ -1,0 +1,203 @@
+/*
+ * planted - history with a fault planted in the calls, which it must notice
+ *
+ * Each fault is one that no contract refuses: a call that is right up to a size, and wrong from there. The linker leads these calls here (--wrap), and
+ * history's main too. That is run once with each fault, in a process of its own, and must fail. Once it is run briefly with none, and must pass.
+ */
+#include <sys/wait.h>
+#include <unistd.h>
+
+#include "client.h"
+
+enum fault { NONE, FULL_EARLY, NOT_FOUND, SHORT_NUMBERS, SHORT_LOCALS, SLOT_KEPT_BACK, LARGE_AUDITS, FEW_PASSIVE, FEW_LOCAL, FAULTS };
+
+static const char *const TEXTS[FAULTS] = {
+	[FULL_EARLY] = "an attach says that the history is full after 200,000 changes",
+	[NOT_FOUND] = "a detach finds nothing from the 150,000th change on",
+	[SHORT_NUMBERS] = "a number is cut to 17 bits",
+	[SHORT_LOCALS] = "more than 255 local references are told as 255",
+	[SLOT_KEPT_BACK] = "the last of 32 slots is kept back while anything is retired",
+	[LARGE_AUDITS] = "an audit of 32 entries on 8 CPUs runs out of memory",
+	[FEW_PASSIVE] = "a CPU may have 65,535 passive references at once",
+	[FEW_LOCAL] = "a CPU may have acquired 65,535 local references more than it has released",
+};
+
+enum { MOST_TOLD = 255, MOST_OF_16_BITS = 65535, MOST_OF_17_BITS = 131071 };
+
+static enum fault planted;
+
+/* What the registry that was opened last has come to: `passive` and `local` count the references of its first CPU. */
+static const struct registry_cpu *first;
+static uint64_t changes, retired, occupied;
+static int64_t passive, local;
+
+#define WRAPPED(call) extern __typeof__(call) __real_##call, __wrap_##call
+
+WRAPPED(registry_open);
+WRAPPED(registry_attach);
+WRAPPED(registry_attach_iface);
+WRAPPED(registry_detach);
+WRAPPED(registry_advance);
+WRAPPED(registry_destroy);
+WRAPPED(registry_audit);
+WRAPPED(registry_acquire);
+WRAPPED(registry_get);
+WRAPPED(registry_copy);
+WRAPPED(registry_release);
+WRAPPED(registry_local_acquire);
+WRAPPED(registry_local_release);
+int __real_main(int argc, char **argv);
+int __wrap_main(void);
+
+registry_answer __wrap_registry_open(const struct registry_settings *settings, struct registry_keeper *keeper, struct registry_cpu *cpus, size_t count)
+{
+	changes = retired = occupied = 0;
+	passive = local = 0;
+	first = cpus;
+	return __real_registry_open(settings, keeper, cpus, count);
+}
+
+/* What an attach says before it is made, or REGISTRY_DONE. */
+static registry_answer refused(void)
+{
+	if (planted == FULL_EARLY && changes >= 200000)
+		return REGISTRY_HISTORY_FULL;
+	if (planted == SLOT_KEPT_BACK && occupied == REGISTRY_MOST_SLOTS - 1 && retired > 0)
+		return REGISTRY_NO_SLOT;
+	return REGISTRY_DONE;
+}
+
+static registry_answer attached(registry_answer answer)
+{
+	changes += answer == REGISTRY_DONE;
+	occupied += answer == REGISTRY_DONE;
+	return answer;
+}
+
+registry_answer __wrap_registry_attach(struct registry_keeper *keeper, struct registry_cpu *cpu, const struct registry_name *name, uint64_t value,
+    struct registry_entry *made)
+{
+	registry_answer answer = refused();
+	return answer != REGISTRY_DONE ? answer : attached(__real_registry_attach(keeper, cpu, name, value, made));
+}
+
+registry_answer __wrap_registry_attach_iface(struct registry_keeper *keeper, struct registry_cpu *cpu, struct registry_local *driver,
+    const struct registry_name *name, uint64_t value, struct registry_entry *made)
+{
+	registry_answer answer = refused();
+	return answer != REGISTRY_DONE ? answer : attached(__real_registry_attach_iface(keeper, cpu, driver, name, value, made));
+}
+
+registry_answer __wrap_registry_detach(struct registry_keeper *keeper, struct registry_cpu *cpu, uint64_t kind, const struct registry_name *name,
+    struct registry_entry *gone)
+{
+	if (planted == NOT_FOUND && changes >= 149999)
+		return REGISTRY_NOT_FOUND;
+	registry_answer answer = __real_registry_detach(keeper, cpu, kind, name, gone);
+	changes += answer == REGISTRY_DONE;
+	retired += answer == REGISTRY_DONE;
+	return answer;
+}
+
+static uint64_t cut(uint64_t number)
+{
+	return planted == SHORT_NUMBERS ? number & MOST_OF_17_BITS : number;
+}
+
+static registry_answer advanced(registry_answer answer, struct registry_stage *met)
+{
+	bool is_met = answer == REGISTRY_DONE || answer == REGISTRY_STILL_HELD, is_freed = is_met && met->stage == REGISTRY_FREED;
+	retired -= is_freed;
+	occupied -= is_freed;
+	if (is_met && planted == SHORT_LOCALS && met->stage == REGISTRY_LOCAL && met->what > MOST_TOLD)
+		met->what = MOST_TOLD;
+	return answer;
+}
+
+registry_answer __wrap_registry_advance(struct registry_keeper *keeper, uint64_t number, struct registry_stage *met)
+{
+	return advanced(__real_registry_advance(keeper, cut(number), met), met);
+}
+
+registry_answer __wrap_registry_destroy(struct registry_keeper *keeper, struct registry_cpu *cpu, uint64_t number, struct registry_stage *met)
+{
+	return advanced(__real_registry_destroy(keeper, cpu, cut(number), met), met);
+}
+
+registry_answer __wrap_registry_audit(struct registry_keeper *keeper, struct registry_cpu *cpus, size_t count, struct registry_balance *list, size_t room,
+    size_t *length)
+{
+	registry_answer answer = __real_registry_audit(keeper, cpus, count, list, room, length);
+	bool is_large = answer == REGISTRY_DONE && count == REGISTRY_MOST_CPUS && *length == REGISTRY_MOST_SLOTS;
+	return planted == LARGE_AUDITS && is_large ? REGISTRY_NO_MEMORY : answer;
+}
+
+/* Counts a call that is done on the first CPU. */
+static registry_answer counted(registry_answer answer, const struct registry_cpu *cpu, int64_t *count, int change)
+{
+	if (answer == REGISTRY_DONE && cpu == first)
+		*count += change;
+	return answer;
+}
+
+registry_answer __wrap_registry_acquire(struct registry_cpu *cpu, uint64_t *number)
+{
+	if (planted == FEW_PASSIVE && cpu == first && passive >= MOST_OF_16_BITS)
+		return REGISTRY_PASSIVE_FULL;
+	return counted(__real_registry_acquire(cpu, number), cpu, &passive, 1);
+}
+
+registry_answer __wrap_registry_get(struct registry_cpu *cpu, uint64_t kind, const struct registry_name *name, struct registry_entry *found)
+{
+	return counted(__real_registry_get(cpu, kind, name, found), cpu, &passive, 1);
+}
+
+registry_answer __wrap_registry_copy(struct registry_cpu *cpu, uint64_t number)
+{
+	return counted(__real_registry_copy(cpu, number), cpu, &passive, 1);
+}
+
+registry_answer __wrap_registry_release(struct registry_cpu *cpu, uint64_t number)
+{
+	return counted(__real_registry_release(cpu, number), cpu, &passive, -1);
+}
+
+registry_answer __wrap_registry_local_acquire(struct registry_cpu *cpu, struct registry_local *handle)
+{
+	if (planted == FEW_LOCAL && cpu == first && local >= MOST_OF_16_BITS)
+		return REGISTRY_LOCAL_FULL;
+	return counted(__real_registry_local_acquire(cpu, handle), cpu, &local, 1);
+}
+
+registry_answer __wrap_registry_local_release(struct registry_cpu *cpu, struct registry_local *handle)
+{
+	return counted(__real_registry_local_release(cpu, handle), cpu, &local, -1);
+}
+
+/* The status of history with a fault, through so many changes. */
+static int status_with(enum fault fault, char *wanted_changes)
+{
+	char *words[] = {"history", wanted_changes, NULL};
+	int status;
+	pid_t child = fork();
+	EXPECT(child >= 0);
+	if (child == 0) {
+		EXPECT(freopen("/dev/null", "w", stdout) != NULL && freopen("/dev/null", "w", stderr) != NULL);
+		planted = fault;
+		exit(__real_main(2, words));
+	}
+	EXPECT(waitpid(child, &status, 0) == child && WIFEXITED(status));
+	return WEXITSTATUS(status);
+}
+
+int __wrap_main(void)
+{
+	EXPECT(status_with(NONE, "3000") == 0);
+	for (enum fault fault = NONE + 1; fault < FAULTS; fault++)
+		if (status_with(fault, "300000") != 1) {
+			fprintf(stderr, "planted: not noticed: %s\n", TEXTS[fault]);
+			return 1;
+		}
+	printf("planted: %d faults, each is noticed\n", FAULTS - 1);
+	return 0;
+}

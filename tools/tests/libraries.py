@@ -1,0 +1,169 @@
+"""Faults of libraries and of the layer's pages: clients/symbols.sh, clients/netbsd/pages.py and tools/unwind-tables.py."""
+from .trees import Case, Fault, real
+
+# A library is a text here: what nm says of it.
+NM = '#!/bin/sh\nfor library; do :; done\ncat "$library"\n'
+HEADERS = "clients/include/registry.h", "clients/c/waiting.h"
+SYMBOLS = {
+    **real("clients/symbols.sh", "clients/calls-of.sh"),
+    "clients/include/registry.h": "uint32_t registry_enter(struct registry_cpu *cpu);\n",
+    "clients/c/waiting.h": "size_t registry_waits(void);\n",
+    "clients/kupaldiz.map": "KUPALDIZ_0 {\n\tglobal:\n\t\tregistry_enter;\n\t\tregistry_waits;\n\tlocal:\n\t\t*;\n};\n",
+    "clients/netbsd/kupaldiz/cpu.h": "int cpu_number(void);\nvoid kupaldiz_point(void);\nint kupaldiz_from(void);\n",
+    "clients/netbsd/netbsd.map": "NETBSD_0 {\n\tglobal:\n\t\tkupaldiz_cpu_number;\n};\n",
+    "clients/bench/bench.h": "void bench_thread(const char *name);\n",
+    "clients/bench/bench.map": "BENCH_0 {\n\tglobal:\n\t\tbench_thread;\n\t\tkupaldiz_cpu_number;\n\t\tkupaldiz_from;\n\t\tkupaldiz_point;\n};\n",
+    "look": "#!/bin/sh\nNM=$PWD/nm exec clients/symbols.sh include out 1\n",
+    "nm": NM,
+}
+LIBRARIES = {
+    "kupaldiz": ("registry_enter", "registry_waits"),
+    "kupaldiz_netbsd": ("kupaldiz_cpu_number",),
+    "kupaldiz_bench": ("bench_thread", "kupaldiz_cpu_number", "kupaldiz_from", "kupaldiz_point"),
+}
+# The layer's parts share these two.
+HIDDEN = {"kupaldiz_netbsd": ("kupaldiz_self", "kupaldiz_places")}
+
+
+def listing(names, version=""):
+    """What nm says of these names."""
+    return "".join(f"0000 T {name}{version}\n" for name in names)
+
+
+def symbols():
+    tree, faults = dict(SYMBOLS), []
+    for library, names in LIBRARIES.items():
+        shared, static = f"clients/out/lib{library}.so.1", f"clients/out/lib{library}.a"
+        tree |= {shared: f"0000 A VERSION\n{listing(names, '@@VERSION')}", static: f"\npart.o:\n{listing((*names, *HIDDEN.get(library, ())))}"}
+        for path in (shared, static):
+            text = tree[path]
+            told = f"lib{library}.{'so' if path == shared else 'a'}: other names than those of the headers\n"
+            faults += [
+                Fault(f"a name more: {path}", f"{told}> another", ((path, None, f"{text}0000 T another\n"),)),
+                Fault(f"a name less: {path}", f"{told}< {names[0]}", ((path, names[0], "VERSION"),)),
+                Fault(f"no library: {path}", told, ((path, text, None),)),
+            ]
+    # Where there is no library of the bench nothing of it is looked at.
+    faults = [it for it in faults if it.name != "no library: clients/out/libkupaldiz_bench.a"]
+    for path in ("clients/kupaldiz.map", "clients/netbsd/netbsd.map", "clients/bench/bench.map"):
+        told = f"{path.rpartition('/')[2]}: other names than those of the headers\n"
+        faults += [Fault(f"another name in {path}", f"{told}> another", ((path, "global:\n", "global:\n\t\tanother;\n"),)),
+                   Fault(f"no {path}", told, ((path, tree[path], None),))]
+    faults += [Fault(f"a call more in {path}", "< another", ((path, None, f"{tree[path]}int another(void);\n"),))
+               for path in (*HEADERS, "clients/bench/bench.h")]
+    faults += [Fault("a call more of the pages", "< kupaldiz_another", (("clients/netbsd/kupaldiz/lwp.h", None, "int another(void);\n"),)),
+               Fault("no words", "usage: symbols.sh", command=["clients/symbols.sh"])]
+    return Case("symbols", [], tree, ["./look"], faults, counts=False)
+
+
+PAGED = "clients/netbsd/kupaldiz/psref.h"
+PAGE = "clients/man/kupaldiz_psref.3"
+
+
+def pages():
+    told = "kupaldiz_psref.3: not what psref.h says"
+    tree = real("clients/netbsd/pages.py", "clients/netbsd/kupaldiz/*.h", "clients/man/kupaldiz_*.3")
+    faults = (
+        Fault("another word in a page", told, ((PAGE, ".Nd psref(9)", ".Nd psref(8)"),)),
+        Fault("a line less in a page", told, ((PAGE, ".Sh LIBRARY\n", ""),)),
+        Fault("a page that is gone", told, ((PAGE, ".Sh", None),)),
+        Fault("another parameter in a header", told, ((PAGED, "void psref_release(struct psref *psref,", "void psref_release(struct psref *other,"),)),
+        Fault("a call without a comment", "psref.h: psref_more has no comment that describes it",
+              ((PAGED, "#ifdef __cplusplus\n}", "/* Nothing that describes it. */\nvoid psref_more(void);\n#ifdef __cplusplus\n}"),)),
+        Fault("a call more in a header", told, ((PAGED, "void psref_release(", "void psref_more(void);\nvoid psref_release("),)),
+        Fault("a header that is gone", "No such file", ((PAGED, "psref", None),)),
+        Fault("no words", "usage: pages.py", command=["clients/netbsd/pages.py"]),
+    )
+    return Case("pages", [], tree, ["clients/netbsd/pages.py", "check"], faults, counts=False)
+
+
+# Two functions of x86-64, and what their tables have to say: where the frame's address is from each place on.
+CODE = """	.section .text.keeps,"ax",@progbits
+	.globl keeps
+	.type keeps,@function
+keeps:
+	push %rbx
+	sub $0x10,%rsp
+	call other@PLT
+	add $0x10,%rsp
+	pop %rbx
+	ret
+	.size keeps, .-keeps
+	.section .text.turns,"ax",@progbits
+	.type turns,@function
+turns:
+	test %rdi,%rdi
+	je 1f
+	push %rbp
+	pop %rbp
+1:	ret
+	.size turns, .-turns
+"""
+ROWS = """rsp+8 c-8
+rsp+8 u c-8
+rsp+16 c-16 c-8
+rsp+8 u c-8
+rsp+8 u c-8
+rsp+16 c-16 c-8
+rsp+32 c-16 c-8
+rsp+16 c-16 c-8
+rsp+8 u c-8
+"""
+UNWOUND = """#!/bin/sh
+as -o code.o code.s || exit 0
+tools/unwind-tables.py code.o || exit
+readelf --debug-dump=frames-interp code.o | sed -nE 's/^[0-9a-f]{16} (rsp.*[^ ]) *$/\\1/p' | tr -s ' ' >said
+diff said rows
+"""
+
+
+def unwind_tables():
+    code, depth = "code.s", "tools/unwinding/x86_64.py"
+    faults = (
+        Fault("a stack pointer that moves otherwise", "isn't understood", ((code, "add $0x10,%rsp", "lea 0x10(%rsp),%rsp"),)),
+        Fault("two depths", "two depths at", ((code, "pop %rbp\n1:\tret", "1:\ttest %rdi,%rdi\n\tpop %rbp\n\tret"),)),
+        Fault("a return with something on the stack", "a return at", ((code, "pop %rbx\n", ""),)),
+        Fault("a jump out with something on the stack", "a jump out at", ((code, "call other@PLT", "jmp other@PLT"),)),
+        Fault("a path behind the last instruction", "a path goes on behind the last instruction", ((code, "pop %rbx\n\tret", "pop %rbx"),)),
+        Fault("a frame that is left at once", "isn't understood", ((code, "pop %rbx", "leave"),)),
+        Fault("two functions in a section", "isn't at the head of its section", ((code, '.section .text.turns,"ax",@progbits\n', ""),)),
+        Fault("another processor's code", "nothing is known of the code of", ((depth.replace("x86_64", "aarch64"), "TOOLS =", "TOOLS = OTHER ="),
+              ("tools/unwind-tables.py", '"Advanced Micro Devices X86-64"', '"Another"'))),
+        Fault("a push that isn't counted", "a return at", ((depth, "return depth + 8, saved", "return depth, saved"), (depth, "return depth - 8, saved", "return depth, saved"))),
+        Fault("a register that isn't told", "> rsp+16 c-16 c-8", ((depth, "saved = {**saved, operands: depth + 8}", "pass"),)),
+        Fault("a register that isn't restored", "a return at", ((depth, "if saved.get(operands) == depth:", "if False:"),)),
+        Fault("no object", "gone.o", command=["tools/unwind-tables.py", "gone.o"]),
+    )
+    return Case("unwind-tables", ["unwind-tables.py", "unwinding"], {"code.s": CODE, "rows": ROWS, "look": UNWOUND}, ["./look"], faults, counts=False)
+
+
+# An archive of one object, in which one function is seen from outside and calls another one.
+JOINED = """#!/bin/sh
+mkdir -p crates/registry_c/include
+for part in part rest; do gcc -O1 -fPIC -c clients/c/$part.c -o $part.o || exit 9; done
+ld -r -o whole.o part.o rest.o && objcopy --keep-global-symbol=registry_rest whole.o registry.o && ar rcsD old.a registry.o || exit 9
+sed -i 's/return 1;/return 2;/' clients/c/part.c
+tools/replace-part.sh "${1-part}" old.a new/new.a || exit
+for archive in old new/new; do gcc use.c $archive.a -o used && ./used; done >said
+diff said wanted
+"""
+
+
+def replace_part():
+    tool = "tools/replace-part.sh"
+    tree = {"clients/c/part.c": "int part(void) { return 1; }\n", "clients/c/rest.c": "int part(void);\nint registry_rest(void) { return part() + 10; }\n",
+            "use.c": '#include <stdio.h>\nint registry_rest(void);\nint main(void) { printf("%d\\n", registry_rest()); }\n', "wanted": "11\n12\n", "join": JOINED}
+    faults = (
+        Fault("an archive as it was", "< 11\n", ((tool, "$room/part.o\" \"$room/rest.o", "$room/rest.o"),)),
+        Fault("two functions of a name", "multiple definition", ((tool, '--weaken-symbols="$room/names"', ""),)),
+        Fault("functions that aren't seen", "< 11\n", ((tool, '--globalize-symbols="$room/names"', ""),)),
+        Fault("a part that isn't there", "gone.c", command=["./join", "gone"]),
+        Fault("a part that isn't compiled", "error", (("clients/c/rest.c", "int registry_rest", "int part(void) { return 1; }\nint registry_rest"), ("clients/c/part.c", "int part(void) { return 1; }", "int more"))),
+        Fault("a part without functions", "part.c defines nothing", (("clients/c/rest.c", "int part(void);", "int part(void) { return 1; }"), ("clients/c/part.c", "int part", "static inline int part"))),
+        Fault("no words", "it takes PART ARCHIVE TO", command=[tool]),
+    )
+    return Case("replace-part", ["replace-part.sh"], tree, ["./join"], faults, counts=False)
+
+
+def cases():
+    return [symbols(), pages(), unwind_tables(), replace_part()]
