@@ -331,10 +331,10 @@ registry_answer REGISTRY_BUILT_FOR(const struct registry_limits *limits) REGISTR
  * registry_open - make a registry: its keeper, and its CPUs in order
  *
  * `count` is settings->cpus. All handles are empty before the call. No entry is attached then, and all CPUs are outside any section.
- * In a program the name is a macro for a function of this header, which compares the limits first. The library's symbol is the call alone: whoever calls
- * it without this header calls the comparison before it.
- * Returns REGISTRY_OTHER_LIMITS if the program was compiled for other limits than the library's, REGISTRY_NULL if `settings` is NULL, or if `cpus` is
- * NULL and `count` isn't 0, REGISTRY_BAD_SETTINGS, REGISTRY_MISSING_CPU if `count` is another number, REGISTRY_FULL_HANDLE, REGISTRY_NO_MEMORY.
+ * In a program the name is a macro for a function of this header, which first compares the limits of the program with the library's. The library's symbol
+ * is the call alone: whoever calls it without this header calls the comparison before it.
+ * Returns REGISTRY_OTHER_LIMITS, REGISTRY_NULL if `settings` is NULL, or if `cpus` is NULL and `count` isn't 0, REGISTRY_BAD_SETTINGS,
+ * REGISTRY_MISSING_CPU if `count` is another number, REGISTRY_FULL_HANDLE, REGISTRY_NO_MEMORY.
  */
 registry_answer registry_open(const struct registry_settings *settings, struct registry_keeper *keeper,
     struct registry_cpu *cpus, size_t count) REGISTRY_NONNULL(2) REGISTRY_CHECKED;
