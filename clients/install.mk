@@ -167,9 +167,12 @@ dist:
 version:
 	@echo $(VERSION)
 
+soname:
+	@echo $(SONAME)
+
 licence:
 	@echo $(LICENCE)
 
-.PHONY: library symbols install install-examples without_older installcheck uninstall dist version licence
+.PHONY: library symbols install install-examples without_older installcheck uninstall dist version soname licence
 
 include bench/install.mk

@@ -47,7 +47,7 @@ other_headers() {
     *) more="($(limit "$1") + 1)" ;;
     esac
     change "$folder" "MOST_$1" "$more"
-    [ "$1" != CPUS ] || change "$folder" BUILT_FOR "registry_for_${more}_cpus_$(limit SLOTS)_slots"
+    [ "$1" != CPUS ] || { change "$folder" BUILT_FOR "registry_for_${more}_cpus_$(limit SLOTS)_slots" && change "$folder" BUILD "\"-${more}x$(limit SLOTS)\""; }
     [ "$1" != SLOTS ] || change "$folder" BUILT_FOR "registry_for_$(limit CPUS)_cpus_${more}_slots"
 }
 
@@ -60,7 +60,7 @@ asked_for() {
 built() {
     local name=$1
     shift
-    $CC -std=c11 -D_POSIX_C_SOURCE=200809L -Wall -Wextra -Werror ${RUN:+-static} -I"$room/$name" -o "$room/$name/program" c/other_limits.c "$@" -pthread
+    $CC -std=c11 -D_POSIX_C_SOURCE=200809L ${RUN:+-static} -I"$room/$name" -o "$room/$name/program" c/other_limits.c "$@" -pthread
 }
 
 # says NAME LINE: it links with the archive and says the line.
@@ -77,6 +77,11 @@ no_link() {
 # A program whose headers have other CPUs and yet the name of this build: it links, and is refused.
 forged() {
     other_headers CPUS && change "$room/CPUS" BUILT_FOR "$(asked_for same)" && built CPUS "$archive" && [ "$($RUN "$room/CPUS/program")" = "$refused" ]
+}
+
+# The shared libraries of another build have its limits in their names.
+has_soname() {
+    other_headers CPUS && make -s version soname HEADER="$room/CPUS" | grep -x "libkupaldiz-$(($(limit CPUS) + 1))x$(limit SLOTS).so.[0-9]*"
 }
 
 # library FOLDER WORDS..: a shared library of the archive, with these words too.
@@ -107,6 +112,7 @@ for limit in CPUS SLOTS; do
     # No shared library of another processor is there to start with.
     [ -n "$RUN" ] || check "other $limit: it doesn't start, and the loader names both limits" no_start "$limit"
 done
+check "other CPUS: the shared library has another name" has_soname
 check "other CPUS under the name of this build: registry_open refuses it" forged
 echo "$passed passed, $failed failed"
 [ "$failed" -eq 0 ]

@@ -1,6 +1,6 @@
 #!/usr/bin/env bash
 # Compares the public names of the libraries: symbols.sh HEADERS OUT BUILD VERSION. The calls that the headers declare are those that the maps name, those that the
-# shared libraries show and those that the static ones do. Else it prints the difference, and its status is 1. `make symbols` calls it.
+# shared libraries show, in the same nodes, and those that the static ones do. Else it prints the difference, and its status is 1. `make symbols` calls it.
 set -uo pipefail
 cd "$(dirname "$0")" || exit
 if [ $# -ne 4 ]; then
@@ -26,6 +26,16 @@ mapped() {
     sed -nE 's/^\t\t([a-z][a-z0-9_]*\*?);$/\1/p' "$1" | sort
 }
 
+# The same, each with its node, as a library names both.
+in_nodes() {
+    awk '/^[A-Z][A-Z_0-9.]* \{/ { node = $1 } /^\t\t[a-z]/ { sub(/;.*/, ""); print $1 "@@" node }' "$1" | sort
+}
+
+# What a shared library shows with its node, by the names of a map.
+shown_in_nodes() {
+    ${NM:-nm} -D --defined-only "$1" | awk '$2 != "A" { sub(/^registry_for_[0-9][^@]*/, "registry_for_*", $3); print $3 }' | sort
+}
+
 # What a shared library shows, without its versions' own names.
 shared() {
     ${NM:-nm} -D --defined-only "$1" | awk '$2 != "A" { sub(/@.*/, "", $3); print $3 }' | sort
@@ -49,12 +59,14 @@ calls=$(./calls-of.sh "$headers"/registry{,_limits}.h c/waiting.h)
 # The map has one name for what the call is called in each build.
 same kupaldiz.map "$(sed -E 's/^registry_for_[0-9].*/registry_for_*/' < <(echo "$calls"))" "$(mapped kupaldiz.map)"
 same libkupaldiz.so "$calls" "$(shared "$out/libkupaldiz$suffix")"
+same "the nodes of libkupaldiz.so" "$(in_nodes kupaldiz.map)" "$(shown_in_nodes "$out/libkupaldiz$suffix")"
 same libkupaldiz.a "$calls" "$(static "$out/libkupaldiz.a")"
 # With the pages' names the bench has two calls more, and its own.
 pages=$(./calls-of.sh netbsd/kupaldiz/*.h | with_prefix)
 calls=$(grep -vxE 'kupaldiz_(point|from)' <<<"$pages")
 same netbsd.map "$calls" "$(mapped netbsd/netbsd.map)"
 same libkupaldiz_netbsd.so "$calls" "$(shared "$out/libkupaldiz_netbsd$suffix")"
+same "the nodes of libkupaldiz_netbsd.so" "$(in_nodes netbsd/netbsd.map)" "$(shown_in_nodes "$out/libkupaldiz_netbsd$suffix")"
 # Two words of each thread, hidden, which the layer's parts share.
 same libkupaldiz_netbsd.a "$calls" "$(static "$out/libkupaldiz_netbsd.a" | grep -vxE 'kupaldiz_(self|places)')"
 if [ -f "$out/libkupaldiz_bench.a" ]; then

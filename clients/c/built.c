@@ -84,6 +84,14 @@ static void test_settings(void)
 	test_most(offsetof(struct registry_settings, count_limit), REGISTRY_MOST_COUNT, false);
 }
 
+/* The name is a macro: an argument may have commas in braces, and the address is a function's. */
+static void test_forms(void)
+{
+	registry_answer (*const open)(const struct registry_settings *, struct registry_keeper *, struct registry_cpu *, size_t) = registry_open;
+	EXPECT(registry_open(&(const struct registry_settings){.cpus = 0, .slots = 1}, &keeper, cpus, 0) == REGISTRY_BAD_SETTINGS);
+	EXPECT(open(&(const struct registry_settings){.cpus = 0, .slots = 1}, &keeper, cpus, 0) == REGISTRY_BAD_SETTINGS);
+}
+
 /* All CPUs are there, the last one too: each nests as deep as it may. */
 static void test_depth(struct registry_cpu *cpu)
 {
@@ -129,6 +137,7 @@ int main(void)
 	test_limits();
 	test_comparison();
 	test_settings();
+	test_forms();
 	DONE(registry_open(&LARGEST, &keeper, cpus, REGISTRY_MOST_CPUS));
 	for (unsigned cpu = 0; cpu < REGISTRY_MOST_CPUS; cpu++)
 		test_depth(&cpus[cpu]);

@@ -65,6 +65,10 @@ int main(void)
 	DONE(registry_close(&cpu, 1, &keeper));
 	if (strcmp(registry_strerror(REGISTRY_DONE), "done") != 0)
 		return 1;
-	printf("%s, version %d.%d.%d\n", LANGUAGE, REGISTRY_VERSION_MAJOR, REGISTRY_VERSION_MINOR, REGISTRY_VERSION_PATCH);
+	struct registry_limits limits;
+	registry_limits(&limits);
+	if (limits.cpus != REGISTRY_MOST_CPUS || limits.slots != REGISTRY_MOST_SLOTS)
+		return 1;
+	printf("%s, version %s\n", LANGUAGE, registry_version());
 	return 0;
 }

@@ -37,7 +37,7 @@ TREE = {
     # The source that it lays has a Makefile that installs one file.
     "clients/dist.sh": """#!/bin/sh
 mkdir -p "$2/archive/x86_64" "$2/rust" "$2/man"
-cp clients/out/libregistry.* "$2/archive/x86_64" && cp program "$2/archive/x86_64/registry_run"
+cp clients/out/libregistry.* crates/registry_c/include/registry_limits.h "$2/archive/x86_64" && cp program "$2/archive/x86_64/registry_run"
 echo page >"$2/man/registry_run.1"
 printf 'symbols install-examples:\\ninstall:\\n\\tmkdir -p $(DESTDIR)$(PREFIX)\\n\\techo made >$(DESTDIR)$(PREFIX)/file\\n' >"$2/Makefile"
 """,

@@ -29,6 +29,33 @@ def check_limits():
     return Case("check-limits", ["check-limits.py", "counts.py", "limits-header.py", "limits.py"], tree, ["tools/check-limits.py"], faults)
 
 
+# The header of the default limits and that of others, which two names tell apart; each is C and C++.
+MAKES = f"""#!/bin/sh
+set -e
+sed -e 's/MOST_CPUS: usize = 8/MOST_CPUS: usize = 64/' -e 's/MOST_SLOTS: usize = 32/MOST_SLOTS: usize = 128/' -e 's/= 1_000_000/= 1 << 62/' {LIMITS} >wide.rt
+tools/limits-header.py >default.h
+tools/limits-header.py wide.rt >wide.h
+grep -q 'registry_for_8_cpus_32_slots$' default.h && grep -q 'REGISTRY_BUILD	""$' default.h
+grep -q 'registry_for_64_cpus_128_slots$' wide.h && grep -q 'REGISTRY_BUILD	"-64x128"$' wide.h
+for header in default.h wide.h; do
+    echo 'extern char all[REGISTRY_MOST_SECTIONS == UINT64_C(1) << 40 && REGISTRY_MOST_CHANGES > 999999 && REGISTRY_MOST_DEPTH == 255 ? 1 : -1];' >text
+    for language in c c++; do
+        cc -Wall -Wextra -Wpedantic -Werror -include ./$header -fsyntax-only -x$language text
+    done
+done
+"""
+
+
+def limits_header():
+    faults = [Fault(f"no {name}", f"limits-header: the file says no {name}", ((LIMITS, f"const {name}:", f"const SOME_{name}:"),))
+              for name in ("MOST_CPUS", "MOST_SLOTS", "MOST_CHANGES", "MOST_SECTIONS", "MOST_COUNT", "MOST_DEPTH")]
+    faults += [
+        Fault("no file", "limits-header: ", command=["tools/limits-header.py", "none.rt"]),
+        Fault("a file too many", "usage: limits-header.py", command=["tools/limits-header.py", LIMITS, LIMITS]),
+    ]
+    return Case("limits-header", ["limits-header.py", "limits.py"], {**real(LIMITS), "try": MAKES}, ["./try"], faults, counts=False)
+
+
 IMPORTS = {
     # one passes on what it defines and what low defines; two takes both from there.
     "crates/low/specs/Words.antt": "pub data Word\n",
@@ -85,4 +112,4 @@ def event_table():
 
 
 def cases():
-    return [check_limits(), check_imports(), event_table()]
+    return [check_limits(), limits_header(), check_imports(), event_table()]

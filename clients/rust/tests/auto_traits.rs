@@ -5,8 +5,8 @@
 #![cfg(feature = "std")]
 
 use registry::{
-    Balance, Cpu, CpuPool, Entries, Entry, Found, Freed, Holder, Kind, Lent, LocalGuard, LocalRef, Mapped, Name, NameFault, PassiveRc,
-    PassiveRef, Patience, ReadGuard, Refusal, Refused, Registry, Retired, Section, Settings,
+    Balance, Cpu, CpuPool, Entries, Entry, Found, Freed, Holder, Kind, Lent, Limits, LocalGuard, LocalRef, Mapped, Name, NameFault,
+    PassiveRc, PassiveRef, Patience, ReadGuard, Refusal, Refused, Registry, Retired, Section, Settings,
 };
 use std::collections::BTreeSet;
 use std::marker::PhantomData;
@@ -126,6 +126,7 @@ table! {
     Entry: Entry,                                        "bysn", "bysn", "pur";
     Holder: Holder,                                      "bysn", "bysn", "pur";
     Kind: Kind,                                          "bysn", "bysn", "pur";
+    Limits: Limits,                                      "bysn", "bysn", "pur";
     Name: Name,                                          "bysn", "bysn", "pur";
     NameFault: NameFault,                                "bysn", "bysn", "pur";
     Patience: Patience,                                  "bysn", "bysn", "pur";
@@ -143,13 +144,18 @@ fn each_type_has_the_auto_traits_that_the_table_says() {
     assert!(wrong.is_empty(), "{}", wrong.join("\n"));
 }
 
-/// The names that `pub use` of the crate's root has.
+/// Whether a name is a type's: those of functions have no capitals, and those of constants nothing else.
+fn is_type(name: &str) -> bool {
+    name.starts_with(char::is_uppercase) && name.contains(char::is_lowercase)
+}
+
+/// The types that `pub use` of the crate's root has.
 fn exported() -> BTreeSet<String> {
     let root = include_str!("../src/lib.rs");
     let lines = root.lines().filter_map(|line| line.strip_prefix("pub use "));
     lines
         .flat_map(|line| line.rsplit("::").next().unwrap().split(|c: char| !c.is_alphanumeric()))
-        .filter(|name| !name.is_empty())
+        .filter(|name| is_type(name))
         .map(str::to_string)
         .collect()
 }

@@ -333,14 +333,15 @@ registry_answer REGISTRY_BUILT_FOR(const struct registry_limits *limits) REGISTR
  * registry_open - make a registry: its keeper, and its CPUs in order
  *
  * `count` is settings->cpus. All handles are empty before the call. No entry is attached then, and all CPUs are outside any section.
- * A macro compares the limits first. `(registry_open)(..)` is the library's call alone, which can't return REGISTRY_OTHER_LIMITS.
- * Returns REGISTRY_OTHER_LIMITS if the program was compiled for other limits than the library's, REGISTRY_NULL if `settings` is NULL, or if `cpus` is
- * NULL and `count` isn't 0, REGISTRY_BAD_SETTINGS, REGISTRY_MISSING_CPU if `count` is another number, REGISTRY_FULL_HANDLE, REGISTRY_NO_MEMORY.
+ * In a program the name is a macro for a function of this header, which first compares the limits of the program with the library's. The library's symbol
+ * is the call alone: whoever calls it without this header calls the comparison before it.
+ * Returns REGISTRY_OTHER_LIMITS, REGISTRY_NULL if `settings` is NULL, or if `cpus` is NULL and `count` isn't 0, REGISTRY_BAD_SETTINGS,
+ * REGISTRY_MISSING_CPU if `count` is another number, REGISTRY_FULL_HANDLE, REGISTRY_NO_MEMORY.
  */
 registry_answer registry_open(const struct registry_settings *settings, struct registry_keeper *keeper,
     struct registry_cpu *cpus, size_t count) REGISTRY_NONNULL(2) REGISTRY_CHECKED;
 
-/* What the macro calls: it has the limits of this program in it. */
+/* What a program calls as registry_open: it has the limits of this program in it. */
 static inline registry_answer registry_open_compared(const struct registry_settings *settings, struct registry_keeper *keeper,
     struct registry_cpu *cpus, size_t count) REGISTRY_NONNULL(2) REGISTRY_CHECKED;
 static inline registry_answer registry_open_compared(const struct registry_settings *settings, struct registry_keeper *keeper,
@@ -350,7 +351,7 @@ static inline registry_answer registry_open_compared(const struct registry_setti
 	registry_answer answer = REGISTRY_BUILT_FOR(&limits);
 	return answer != REGISTRY_DONE ? answer : registry_open(settings, keeper, cpus, count);
 }
-#define registry_open(settings, keeper, cpus, count)	registry_open_compared(settings, keeper, cpus, count)
+#define registry_open	registry_open_compared
 
 /*
  * registry_close_cpu - close a CPU
