@@ -12,7 +12,8 @@ out=clients/out/bench
 room=$(mktemp -d)
 trap 'rm -rf "$room"; forget_log' EXIT
 
-# The picture of the README, made again: an XML parser takes it, and it has a bar for each kind, and a mark for the fault.
+# The picture of the README, made again: an XML parser takes it, and it has a row for each thread with its CPU, a bar for each kind, a mark for the
+# fault, and the place of each step.
 is_picture() {
     "$out/plain/picture" "$room/picture.svg" >/dev/null
     diff "$folder/deadlock.svg" "$room/picture.svg" || return
@@ -23,7 +24,29 @@ import xml.etree.ElementTree
 picture = xml.etree.ElementTree.parse(sys.argv[1]).getroot()
 kinds = {part.get("class") for part in picture.iter()}
 assert {"section", "lock", "reference", "wait", "fault", "step"} <= kinds, kinds
+texts = [part.text or "" for part in picture.iter() if part.tag.endswith("text")]
+rows = [part.text for part in picture.iter() if part.get("class") == "row"]
+assert rows == ["hold", "destroy"] and {"CPU 0", "CPU 1"} <= set(texts), (rows, texts)
+assert sum(text.startswith("picture.c:") for text in texts) == 8, texts
 PYTHON
+}
+
+# It prints how much was tried, and what was left out.
+prints_what_was_tried() {
+    "$out/plain/counts" >"$log.said"
+    grep -qx 'bounds: 14 schedules, 0 cut short, [0-9]* states, [0-9]* points, [0-9]* switches' "$log.said" &&
+        grep -qx 'bounds: left out: schedules with more than 1 preemptions, except 5 by random priorities, seed 1' "$log.said" &&
+        grep -qx 'bridge: every schedule was tried, or one that is the same as it' <("$out/plain/drivers" bridge)
+}
+
+# The tables of the README say what was printed.
+drivers_as_told() {
+    "$out/plain/drivers" | "$folder/tests/table.py" drivers
+}
+
+faults_as_told() {
+    make -s -C "$folder" faults | tee "$room/faults" | "$folder/tests/table.py" faults
+    tail -n 60 "$room/faults"
 }
 
 # At least so many switches a second, by the bench's own count.
@@ -51,17 +74,23 @@ watched() {
 }
 
 check "bench.h alone, in four C standards" header_alone
+counted "each call has a point, or a reason for none" $folder/tests/points.py
 for way in plain sanitized; do
     check "the bench and its tests are built, no warning: $way" make -s -C $folder $way
     check "counts, $way" "$out/$way/counts"
-    check "the seven drivers in every order, $way" "$out/$way/drivers"
-    counted "what it finds and refuses, $way" "$out/$way/finds"
+    [ "$way" = plain ] || check "the seven drivers in every order, $way" "$out/$way/drivers"
+    counted "what it finds, $way" "$out/$way/finds"
+    counted "what it refuses, $way" "$out/$way/refusals"
+    check "a fault by the fewest switches, $way" "$out/$way/shortest"
+    check "each name that a driver may use does what its page says, $way" "$out/$way/named"
 done
+counted "the seven drivers in every order, as the README says" drivers_as_told
+check "what it prints" prints_what_was_tried
 check "outcomes with the reduction and without" "$out/plain/outcomes" 1 40
 check "the same with sanitizers" "$out/sanitized/outcomes" 61 4
 check "the outcomes of real threads are among the bench's" make -s -C $folder beside
 counted "each misuse of the layer's tests by the same line" make -s -C $folder misuses
-counted "faults in the seven drivers" make -s -C $folder faults
+counted "faults in the seven drivers, as the README says" faults_as_told
 check "a picture" is_picture
 check "100,000 switches a second" is_fast
 if command -v valgrind >/dev/null; then

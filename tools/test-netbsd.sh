@@ -42,7 +42,7 @@ count_cases() {
 
 # programs WAY: what the Makefile builds for a way, except what counts its cases.
 programs() {
-    make -s -C $folder list-"$1" | tr ' ' '\n' | grep -vE '^(misuse|misuse_kernel|tells)$'
+    make -s -C $folder list-"$1" | tr ' ' '\n' | grep -vE '^(misuse|misuse_kernel|sleepers|tells)$'
 }
 
 lints() {
@@ -57,6 +57,8 @@ watched() {
 for header in $(cd $folder && ls kupaldiz/*.h sys/*.h net/*.h); do
     check "$header alone, in four C standards" header_alone "$header"
 done
+counted "each line of the layer is in a test" clients/netbsd/tests/lines.py
+counted "each name that a driver may use, for the layer and for the bench" clients/netbsd/tests/names.py gcc
 for way in plain sanitized raced small late busy; do
     check "the layer and its tests are built, no warning: $way" make -s -C $folder $way
     for test in $(programs $way); do
@@ -78,6 +80,7 @@ fi
 for way in plain sanitized; do
     count_cases "each misuse of the three pages by its line, $way" "$out/$way/misuse"
     count_cases "each misuse of locks, memory and threads by its line, $way" "$out/$way/misuse_kernel"
+    count_cases "each call that sleeps where it mustn't, by its line, $way" "$out/$way/sleepers"
 done
 count_cases "each wait that lasts by its line" "$out/small/tells"
 finish

@@ -49,7 +49,8 @@ struct bench_found {
 	uint64_t random;	/* runs by random priorities */
 	uint64_t first;		/* how many runs it took until the fault; 0 where none was found */
 	unsigned preemptions;	/* of the schedule below */
-	char schedule[BENCH_SCHEDULE];	/* with the fault, as few preemptions as were found */
+	unsigned changes;	/* its switches from one thread to another */
+	char schedule[BENCH_SCHEDULE];	/* with the fault, by as few switches as were found */
 	char line[BENCH_LINE];	/* what is wrong; empty where nothing is */
 	uint64_t others;	/* runs with an outcome beyond the room */
 	unsigned outcomes;
@@ -59,7 +60,7 @@ struct bench_found {
 /* How bench_explore goes about it. What is 0 has the value that is told here. */
 struct bench_options {
 	const char *name;	/* for its lines; "bench" */
-	void (*finish)(void);	/* runs when all threads have ended */
+	void (*finish)(void);	/* runs when all threads have ended; what was initialised must be destroyed after it, locks too */
 	uint64_t schedules;	/* of the search through all: at most so many; 100,000 */
 	uint64_t bounded;	/* then, for each number of preemptions from 0 on: at most so many; 20,000 */
 	unsigned preemptions;	/* up to this number; 2 */

@@ -52,6 +52,7 @@ LAYER(void, mutex_spin_enter, (kmutex_t *mutex));
 LAYER(void, mutex_spin_exit, (kmutex_t *mutex));
 LAYER(int, mutex_tryenter, (kmutex_t *mutex));
 LAYER(void, mutex_destroy, (kmutex_t *mutex));
+LAYER(void, mutex_obj_hold, (kmutex_t *mutex));
 LAYER(bool, mutex_obj_free, (kmutex_t *mutex));
 
 static bool is_mutex(const kmutex_t *mutex)
@@ -125,6 +126,12 @@ void mutex_destroy(kmutex_t *mutex)
 	layer_mutex_destroy(mutex);
 }
 
+void mutex_obj_hold(kmutex_t *mutex)
+{
+	at_thing(__func__, ON_LOCK, mutex, sizeof(*mutex), WRITES);
+	layer_mutex_obj_hold(mutex);
+}
+
 bool mutex_obj_free(kmutex_t *mutex)
 {
 	at_thing(__func__, ON_LOCK, mutex, sizeof(*mutex), WRITES);
@@ -140,6 +147,7 @@ LAYER(int, cv_timedwait_sig, (kcondvar_t *cv, kmutex_t *mutex, int ticks));
 LAYER(void, cv_signal, (kcondvar_t *cv));
 LAYER(void, cv_broadcast, (kcondvar_t *cv));
 LAYER(bool, cv_has_waiters, (kcondvar_t *cv));
+LAYER(bool, cv_is_valid, (kcondvar_t *cv));
 LAYER(void, cv_destroy, (kcondvar_t *cv));
 
 /* A wait gives the lock back, and takes it again in the step in which the thread goes on. */
@@ -216,6 +224,12 @@ bool cv_has_waiters(kcondvar_t *cv)
 	return layer_cv_has_waiters(cv);
 }
 
+bool cv_is_valid(kcondvar_t *cv)
+{
+	at_thing(__func__, ON_CV, cv, sizeof(*cv), 0);
+	return layer_cv_is_valid(cv);
+}
+
 void cv_destroy(kcondvar_t *cv)
 {
 	at_thing(__func__, ON_CV, cv, sizeof(*cv), WRITES);
@@ -231,6 +245,8 @@ LAYER(void, rw_exit, (krwlock_t *rw));
 LAYER(int, rw_tryupgrade, (krwlock_t *rw));
 LAYER(void, rw_downgrade, (krwlock_t *rw));
 LAYER(void, rw_destroy, (krwlock_t *rw));
+LAYER(int, rw_read_held, (krwlock_t *rw));
+LAYER(int, rw_lock_held, (krwlock_t *rw));
 
 void rw_enter(krwlock_t *rw, const krw_t how)
 {
@@ -274,6 +290,19 @@ void rw_destroy(krwlock_t *rw)
 	at_thing(__func__, ON_LOCK, rw, sizeof(*rw), WRITES);
 	note_ended(rw);
 	layer_rw_destroy(rw);
+}
+
+/* Whether others read, which rw_write_held doesn't ask. */
+int rw_read_held(krwlock_t *rw)
+{
+	at_thing(__func__, ON_LOCK, rw, sizeof(*rw), 0);
+	return layer_rw_read_held(rw);
+}
+
+int rw_lock_held(krwlock_t *rw)
+{
+	at_thing(__func__, ON_LOCK, rw, sizeof(*rw), 0);
+	return layer_rw_lock_held(rw);
 }
 
 /* ---- pserialize(9). ---- */
@@ -390,6 +419,7 @@ LAYER(void, localcount_fini, (struct localcount *lc));
 LAYER(void, localcount_drain, (struct localcount *lc, kcondvar_t *cv, kmutex_t *interlock));
 LAYER(void, localcount_acquire, (struct localcount *lc));
 LAYER(void, localcount_release, (struct localcount *lc, kcondvar_t *cv, kmutex_t *interlock));
+LAYER(uint32_t, localcount_debug_refcnt, (const struct localcount *lc));
 
 void localcount_init(struct localcount *lc)
 {
@@ -437,4 +467,11 @@ void localcount_release(struct localcount *lc, kcondvar_t *cv, kmutex_t *interlo
 	give_clock(ON_REFERENCES, lc, 0);
 	layer_localcount_release(lc, cv, interlock);
 	++*releases_of(lc);
+}
+
+uint32_t localcount_debug_refcnt(const struct localcount *lc)
+{
+	at_thing(__func__, ON_TARGET, lc, sizeof(*lc), 0);
+	touch(ON_REFERENCES, lc, ANY, 0);
+	return layer_localcount_debug_refcnt(lc);
 }

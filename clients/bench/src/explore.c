@@ -2,8 +2,9 @@
  * explore.c - the search: one run after another, in a child of the process
  *
  * First all schedules, with the reduction; where these don't end, all with at most 0, 1, 2, .. preemptions; and then some by random priorities. Once a run
- * goes wrong, schedules with fewer preemptions are tried until one of them does.
+ * goes wrong, schedules with fewer switches are tried until one of them does.
  */
+#include <limits.h>
 #include <signal.h>
 #include <stdarg.h>
 #include <stdio.h>
@@ -49,6 +50,8 @@ static void judge_end(void)
 	if (live_owner(&held) != NULL)
 		fail(held > 0 ? "a local count with %zu references is left at the end" : "a target or a local count is left at the end", held);
 	judge_heap();
+	if (options.finish != NULL)
+		want_none_left();
 }
 
 /* The body of the first thread. */
@@ -67,6 +70,7 @@ static void run_setup(void *arg)
 	run.phase = FINISHING;
 	if (options.finish != NULL)
 		options.finish();
+	end_of_thread(kupaldiz_self);
 	judge_end();
 	leave_run(ENDED_WELL);
 }
@@ -118,8 +122,7 @@ static enum end run_here(void)
 		keep_outcome();
 	}
 	board->found.cut += board->end == CUT;
-	if (board->end == ENDED_WELL || board->end == CUT)
-		close_banks(&nobody);
+	close_banks(&nobody);
 	return board->end;
 }
 
@@ -177,13 +180,14 @@ static void begin_search(enum way way, uint64_t limit, unsigned bound)
 	board->way = way;
 	board->limit = limit;
 	board->bound = bound;
+	board->most = UINT_MAX;
 	board->prefix = board->fresh = 0;
 }
 
 /* Runs one schedule after another. Whether all were run and none was wrong. */
 static bool run_all(void)
 {
-	for (uint64_t count = 0; count < board->limit; count++) {
+	for (; board->limit > 0; board->limit--) {
 		enum end end = run_once();
 		if (end == FAILED || end == UNFIT)
 			return false;
@@ -256,9 +260,11 @@ static void search(void)
 		run_random();
 }
 
+/* Goes on until a run goes wrong by the line that is wanted. */
 static void search_below(void)
 {
-	run_all();
+	while (!run_all() && board->limit-- > 1 && board->end == FAILED && strcmp(board->found.line, board->wanted) != 0 && next_schedule())
+		;
 }
 
 /* Does something in a child. How its last run ended. */
@@ -296,9 +302,13 @@ static enum end in_child(void (*body)(void), bool silent)
 
 /* ---- In the parent. ---- */
 
-static unsigned preemptions_of_run(void)
+/* Writes down the schedule of the last run. */
+static void keep_schedule(struct bench_found *found)
 {
-	return board->length == 0 ? 0 : board->steps[board->length - 1].preemptions;
+	const struct step *last = &board->steps[board->length == 0 ? 0 : board->length - 1];
+	found->preemptions = board->length == 0 ? 0 : last->preemptions;
+	found->changes = board->length == 0 ? 0 : last->switches;
+	write_schedule(found->schedule, sizeof(found->schedule));
 }
 
 /* Runs the schedule of the fault once more, so that the steps are its own. */
@@ -307,18 +317,27 @@ static void replay_once(void)
 	run_once();
 }
 
-/* Looks for a schedule of a fault with fewer preemptions. */
+/* Looks for a schedule with at most so many preemptions and switches that goes wrong by the same line. Whether there is one, which is kept then. */
+static bool find_shorter(struct bench_found *found, unsigned preemptions, unsigned switches)
+{
+	begin_search(BOUNDED, options.bounded, preemptions);
+	board->most = switches;
+	memcpy(board->wanted, found->line, sizeof(board->wanted));
+	if (in_child(search_below, true) != FAILED || strcmp(board->found.line, found->line) != 0)
+		return false;
+	keep_schedule(found);
+	return true;
+}
+
+/* Cuts the schedule of a fault down: first to few preemptions, where few runs tell, and then to the fewest switches. */
 static void cut_down(struct bench_found *found)
 {
-	for (unsigned bound = 0; bound < found->preemptions; bound++) {
-		begin_search(BOUNDED, options.bounded, bound);
-		if (in_child(search_below, true) != FAILED)
-			continue;
-		found->preemptions = preemptions_of_run();
-		write_schedule(found->schedule, sizeof(found->schedule));
-		memcpy(found->line, board->found.line, sizeof(found->line));
-		return;
-	}
+	for (unsigned bound = 0; bound < found->preemptions; bound++)
+		if (find_shorter(found, bound, UINT_MAX))
+			break;
+	for (unsigned most = 0; most < found->changes; most++)
+		if (find_shorter(found, UINT_MAX, most))
+			break;
 }
 
 /* A thread goes on for so many points. How many there are then. */
@@ -357,8 +376,7 @@ static void replay(struct bench_found *found)
 	if (end == UNFIT)
 		refuse("%s", found->line);
 	found->first = end == FAILED;
-	found->preemptions = preemptions_of_run();
-	write_schedule(found->schedule, sizeof(found->schedule));
+	keep_schedule(found);
 }
 
 static void explore(struct bench_found *found)
@@ -371,8 +389,7 @@ static void explore(struct bench_found *found)
 		return;
 	found->first = board->runs;
 	found->exhausted = false;
-	found->preemptions = preemptions_of_run();
-	write_schedule(found->schedule, sizeof(found->schedule));
+	keep_schedule(found);
 	cut_down(found);
 	/* The steps that are shown are those of the schedule that is told. */
 	read_schedule(found->schedule);
@@ -408,6 +425,8 @@ int bench_explore(void (*setup)(void), const struct bench_options *given)
 	if (run.now_runs != NULL)
 		refuse("bench_explore inside of a run");
 	fill_options(given);
+	if (setup == NULL)
+		refuse("there is no setup");
 	prepare = setup;
 	make_board();
 	if (options.replay != NULL)
@@ -448,6 +467,8 @@ void bench_thread(const char *name, void (*body)(void *), void *arg)
 	struct routine *me = here(__func__);
 	struct body *made = allocate(sizeof(*made), 16, false);
 	(void)me;
+	if (body == NULL)
+		refuse("bench_thread without a body");
 	*made = (struct body){body, arg, name};
 	make_routine(name, run_body, made, false);
 	if (run.phase != SETTING_UP)
@@ -456,6 +477,7 @@ void bench_thread(const char *name, void (*body)(void *), void *arg)
 
 void bench_outcome(const char *format, ...)
 {
+	(void)here(__func__);
 	size_t length = strlen(run.outcome);
 	va_list words;
 	va_start(words, format);

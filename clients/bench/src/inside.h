@@ -125,6 +125,7 @@ struct step {
 	uint32_t enabled, planned, done, asleep, barred;	/* a bit for each thread */
 	uint8_t chosen, cpu;
 	uint16_t preemptions;	/* up to it */
+	uint16_t switches;	/* the same */
 	uint16_t turns;		/* of the thread without another one between */
 	const char *call, *place;
 	uint32_t clock[THREADS];
@@ -141,7 +142,9 @@ struct board {
 	enum end end;
 	bool over;		/* the child has said all */
 	bool apart;		/* each run has a process of its own */
-	unsigned bound;
+	unsigned bound;		/* of preemptions */
+	unsigned most;		/* switches */
+	char wanted[BENCH_LINE];	/* what a shorter schedule must go wrong by */
 	uint64_t limit;
 	unsigned prefix;	/* so many steps are given */
 	unsigned fresh;		/* those from here on are new */
@@ -236,6 +239,7 @@ void leaving_cpu(const char *call);
 void note_made(const char *call, const void *lock);
 void note_ended(const void *lock);
 void want_none_made(const char *call, const void *from, size_t size);
+void want_none_left(void);
 void note_wake(const char *call, const char *place, const void *cv, bool waited);
 const struct missed *missed_by(const void *cv);
 

@@ -47,6 +47,21 @@ void want_none_made(const char *call, const void *from, size_t size)
 	}
 }
 
+/* Stops where a lock was initialised and never destroyed. */
+void want_none_left(void)
+{
+	unsigned left = 0;
+	const char *call = NULL;
+	for (unsigned at = 0; at < LOCKS; at++) {
+		if (run.made[at].lock == NULL)
+			continue;
+		left++;
+		call = run.made[at].call;
+	}
+	if (left > 0)
+		fail("%u locks or condition variables are left at the end, one of them made by %s", left, call);
+}
+
 void mutex_init(kmutex_t *mutex, kmutex_type_t type, int level)
 {
 	note_made(__func__, mutex);

@@ -18,6 +18,7 @@ LAYER(void, kmem_intr_free, (void *block, size_t size));
 LAYER(void, pool_put, (struct pool *pool, void *object));
 LAYER(void, pool_cache_put, (pool_cache_t cache, void *object));
 LAYER(void, percpu_free, (percpu_t *percpu, size_t size));
+LAYER(void, percpu_foreach, (percpu_t *percpu, percpu_callback_t look, void *arg));
 LAYER(void, percpu_foreach_xcall, (percpu_t *percpu, unsigned flags, percpu_callback_t look, void *arg));
 LAYER(void *, percpu_getref, (percpu_t *percpu));
 LAYER(void, percpu_putref, (percpu_t *percpu));
@@ -134,16 +135,46 @@ void pool_cache_put(pool_cache_t cache, void *object)
 	layer_pool_cache_put(cache, object);
 }
 
+/* This CPU's part, which is written from here on, or was. */
+static void at_part(const percpu_t *percpu)
+{
+	touch(ON_TARGET, percpu, cpu_here(run.now_runs)->info.ci_index, WRITES);
+}
+
 void *percpu_getref(percpu_t *percpu)
 {
 	at_cpu(__func__, 0);
+	at_part(percpu);
 	return layer_percpu_getref(percpu);
 }
 
 void percpu_putref(percpu_t *percpu)
 {
 	leaving_cpu(__func__);
+	at_part(percpu);
 	layer_percpu_putref(percpu);
+}
+
+/* What percpu_foreach has each part looked at by. */
+struct look {
+	const percpu_t *percpu;
+	percpu_callback_t look;
+	void *arg;
+};
+
+/* The look at each part is a point of its own: the CPUs go on meanwhile. */
+static void look_at(void *own, void *of, struct cpu_info *cpu)
+{
+	const struct look *each = of;
+	point("percpu_foreach", NULL, NULL, NULL);
+	touch(ON_TARGET, each->percpu, cpu->ci_index, 0);
+	each->look(own, each->arg, cpu);
+}
+
+void percpu_foreach(percpu_t *percpu, percpu_callback_t look, void *arg)
+{
+	struct look each = {percpu, look, arg};
+	layer_percpu_foreach(percpu, look_at, &each);
 }
 
 void percpu_free(percpu_t *percpu, size_t size)
@@ -254,6 +285,7 @@ void percpu_foreach_xcall(percpu_t *percpu, unsigned flags, percpu_callback_t lo
 
 LAYER(void, callout_init, (callout_t *callout, unsigned flags));
 LAYER(void, callout_destroy, (callout_t *callout));
+LAYER(void, callout_setfunc, (callout_t *callout, void (*body)(void *), void *arg));
 LAYER(void, callout_reset, (callout_t *callout, int ticks, void (*body)(void *), void *arg));
 LAYER(void, callout_schedule, (callout_t *callout, int ticks));
 LAYER(bool, callout_stop, (callout_t *callout));
@@ -290,6 +322,12 @@ void callout_destroy(callout_t *callout)
 {
 	at_callout(__func__, callout);
 	layer_callout_destroy(callout);
+}
+
+void callout_setfunc(callout_t *callout, void (*body)(void *), void *arg)
+{
+	at_callout(__func__, callout);
+	layer_callout_setfunc(callout, body, arg);
 }
 
 void callout_reset(callout_t *callout, int ticks, void (*body)(void *), void *arg)

@@ -169,6 +169,8 @@ static unsigned choose_new(struct step *step, const struct step *before)
 	if (board->way == REDUCED && before != NULL)
 		hand_on_sleep(before, step);
 	can &= ~step->asleep & ~step->barred;
+	if (board->way == BOUNDED && before != NULL && before->switches >= board->most)
+		can &= bit(before->chosen);
 	if (can == 0)
 		leave_run(CUT);
 	bool stays = before != NULL && (can & bit(before->chosen)) != 0;
@@ -210,6 +212,7 @@ static unsigned begin_step(uint32_t enabled)
 	step->chosen = (uint8_t)chosen;
 	bool preempts = changes && (enabled & bit(before->chosen)) != 0 && before->turns < PATIENCE;
 	step->preemptions = (uint16_t)(before == NULL ? 0 : before->preemptions + preempts);
+	step->switches = (uint16_t)(before == NULL ? 0 : before->switches + changes);
 	step->turns = (uint16_t)(before == NULL || changes ? 0 : before->turns + 1);
 	board->found.switches += changes;
 	board->found.points++;

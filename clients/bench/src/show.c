@@ -73,7 +73,7 @@ void show(FILE *to, const struct bench_found *found)
 	if (found->first == 0)
 		return;
 	fprintf(to, "%s: FAULT: %s\n", options.name, found->line);
-	fprintf(to, "%s: found by run %llu; schedule %s, preemptions %u\n", options.name, (unsigned long long)found->first, found->schedule,
-	    found->preemptions);
+	fprintf(to, "%s: found by run %llu; schedule %s, switches %u, preemptions %u\n", options.name, (unsigned long long)found->first,
+	    found->schedule, found->changes, found->preemptions);
 	show_steps(to);
 }

@@ -1,8 +1,13 @@
 /*
- * counts - of small programs the number of schedules is the one that combinatorics says, and the outcomes are the same with the reduction and without
+ * counts - of small programs the number of schedules is the one that combinatorics says, and each question comes to each answer that it may have
  */
 #include <string.h>
 #include <sys/atomic.h>
+#include <sys/condvar.h>
+#include <sys/localcount.h>
+#include <sys/mutex.h>
+#include <sys/percpu.h>
+#include <sys/rwlock.h>
 #include <sys/systm.h>
 
 #include "../bench.h"
@@ -82,7 +87,7 @@ static void make_changers(void)
 static void test_bounds(void)
 {
 	struct bench_found found;
-	const struct bench_options options = {.quiet = true, .schedules = 1, .preemptions = 1, .random = 5, .found = &found};
+	const struct bench_options options = {.name = "bounds", .schedules = 1, .preemptions = 1, .random = 5, .found = &found};
 	EXPECT(bench_explore(make_changers, &options) == 0);
 	printf("1 schedule of all, then bounds up to %d, then %llu random ones: %llu\n", found.bound, (unsigned long long)found.random,
 	    (unsigned long long)found.schedules);
@@ -115,8 +120,142 @@ static void test_random(void)
 	EXPECT(bench_explore(make_racers, &options) == 1 && found.random == again.random && strcmp(found.schedule, again.schedule) == 0);
 }
 
+/* ---- Questions: what one thread asks another one may change at the same time, so both answers are come to. ---- */
+
+static krwlock_t rw;
+static kcondvar_t cv;
+static kmutex_t lock;
+static struct localcount local;
+static percpu_t *parts;
+
+static void read_once(void *arg)
+{
+	(void)arg;
+	rw_enter(&rw, RW_READER);
+	rw_exit(&rw);
+}
+
+static void ask_readers(void *arg)
+{
+	(void)arg;
+	bench_outcome("%d", rw_read_held(&rw) + rw_lock_held(&rw));
+}
+
+static void count_once(void *arg)
+{
+	(void)arg;
+	localcount_acquire(&local);
+	localcount_release(&local, &cv, &lock);
+}
+
+static void ask_count(void *arg)
+{
+	(void)arg;
+	bench_outcome("%u", localcount_debug_refcnt(&local));
+}
+
+static void end_cv(void *arg)
+{
+	(void)arg;
+	cv_destroy(&cv);
+}
+
+static void ask_cv(void *arg)
+{
+	(void)arg;
+	bench_outcome("%d", cv_is_valid(&cv));
+}
+
+/* Adds to the part of CPU 0, and then to that of CPU 1. */
+static void add_to_parts(void *arg)
+{
+	(void)arg;
+	for (unsigned cpu = 0; cpu < 2; cpu++) {
+		kupaldiz_bind(cpu);
+		*(unsigned *)percpu_getref(parts) += 1;
+		percpu_putref(parts);
+		kupaldiz_unbind();
+	}
+}
+
+static void look_at(void *own, void *arg, struct cpu_info *cpu)
+{
+	(void)arg;
+	if (cpu_index(cpu) < 2)
+		bench_outcome("%u", *(unsigned *)own);
+}
+
+static void ask_parts(void *arg)
+{
+	percpu_foreach(parts, look_at, arg);
+}
+
+static const struct question {
+	void (*change)(void *), (*ask)(void *);
+	const char *answers[4];
+} questions[] = {
+	{read_once, ask_readers, {"0", "1", "2"}},
+	{count_once, ask_count, {"0", "1"}},
+	{end_cv, ask_cv, {"0", "1"}},
+	{add_to_parts, ask_parts, {"00", "01", "10", "11"}},
+};
+static const struct question *asked;
+
+static void make_question(void)
+{
+	rw_init(&rw);
+	cv_init(&cv, "question");
+	mutex_init(&lock, MUTEX_DEFAULT, IPL_NONE);
+	localcount_init(&local);
+	parts = percpu_alloc(sizeof(unsigned));
+	bench_thread("change", asked->change, NULL);
+	bench_thread("ask", asked->ask, NULL);
+}
+
+static void end_question(void)
+{
+	rw_destroy(&rw);
+	if (cv_is_valid(&cv))
+		cv_destroy(&cv);
+	cv_init(&cv, "end");
+	mutex_enter(&lock);
+	localcount_drain(&local, &cv, &lock);
+	mutex_exit(&lock);
+	localcount_fini(&local);
+	cv_destroy(&cv);
+	mutex_destroy(&lock);
+	percpu_free(parts, sizeof(unsigned));
+}
+
+static bool has_outcome(const struct bench_found *found, const char *text)
+{
+	for (unsigned at = 0; at < found->outcomes; at++)
+		if (strcmp(found->outcome[at].text, text) == 0)
+			return true;
+	return false;
+}
+
+static void test_question(const struct question *question, bool whole)
+{
+	struct bench_found found;
+	const struct bench_options options = {.quiet = true, .whole = whole, .finish = end_question, .found = &found};
+	unsigned answers = 0;
+	asked = question;
+	EXPECT(bench_explore(make_question, &options) == 0 && found.exhausted);
+	while (answers < 4 && question->answers[answers] != NULL)
+		EXPECT(has_outcome(&found, question->answers[answers++]));
+	EXPECT(found.outcomes == answers);
+}
+
+static void test_questions(void)
+{
+	for (unsigned at = 0; at < 2 * sizeof(questions) / sizeof(questions[0]); at++)
+		test_question(&questions[at / 2], at % 2 == 1);
+}
+
 int main(void)
 {
+	test_questions();
 	test_bounds();
 	test_random();
 	test_count(1, 1, 0, 0);

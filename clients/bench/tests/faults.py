@@ -107,6 +107,16 @@ UNHOOK = """	atomic_store_relaxed(&hook.sc, NULL);
 	pserialize_perform(hook.psz);
 	localcount_drain(&hook.lc, &hook.cv, &hook.lock);
 """
+CALL_HOOK = """	*answer = value + 1;
+	(void)sc->sc_seen;
+	rw_exit(&sc->sc_rwlock);
+"""
+WORK = """		mutex_exit(&sc->sc_lock);
+		rw_enter(&sc->sc_rwlock, RW_WRITER);
+		sc->sc_seen = ticks;
+		rw_exit(&sc->sc_rwlock);
+		mutex_enter(&sc->sc_lock);
+"""
 DYING = """	mutex_enter(&sc->sc_lock);
 	sc->sc_dying = true;
 	cv_broadcast(&sc->sc_cv);
@@ -188,6 +198,9 @@ FAULTS = [
     Fault("unload", "unload", "a broadcast forgotten", r"nobody can go on: .*kthread_join|nobody can go on: .*cv_wait", [(DYING, without(DYING, 2))]),
     Fault("unload", "unload", "a wake-up that is lost: the flag set without the lock", r"nobody can go on: .*cv_wait", [
         (DYING, "	sc->sc_dying = true;\n	cv_broadcast(&sc->sc_cv);\n	mutex_enter(&sc->sc_lock);\n")]),
+    Fault("unload", "unload", "two locks in two orders", r"deadlock: .*(rw_enter|mutex_enter)", [
+        (CALL_HOOK, CALL_HOOK.replace("	*answer", "	mutex_enter(&sc->sc_lock);\n	*answer").replace("	rw_exit", "	mutex_exit(&sc->sc_lock);\n	rw_exit")),
+        (WORK, without(WORK, 0, 4))]),
     Fault("unload", "unload", "a callout that is halted with its lock held", r"deadlock: .*callout_halt|deadlock: .*mutex_enter", [
         ("	callout_halt(&sc->sc_callout, &sc->sc_lock);\n", "	callout_halt(&sc->sc_callout, NULL);\n")]),
     Fault("unload", "unload", "a callout that isn't halted", r"callout_destroy: the callout is pending|callout_destroy: the callout runs|freed", [
@@ -221,12 +234,12 @@ def build(words, file, driver):
 
 
 def judge(fault, said):
-    """What the run tells: (found, by which run, preemptions, line)."""
+    """What the run tells: (found, by which run, switches and preemptions, line)."""
     line = re.search(r": FAULT: (.*)", said)
-    counts = re.search(r": found by run (\d+); schedule (\S*), preemptions (\d+)", said)
+    counts = re.search(r": found by run (\d+); schedule (\S*), switches (\d+), preemptions (\d+)", said)
     if line is None or counts is None:
         return False, "", "", said.strip().split("\n")[-1]
-    return re.search(fault.line, line.group(1)) is not None, counts.group(1), counts.group(3), line.group(1)
+    return re.search(fault.line, line.group(1)) is not None, counts.group(1), f"switches {counts.group(3)}, preemptions {counts.group(4)}", line.group(1)
 
 
 def run_threads(words, folder):
@@ -249,9 +262,9 @@ def main():
     for fault in FAULTS:
         program = build(words, plant(fault, folder), fault.driver)
         ran = subprocess.run([program, fault.case], stdout=subprocess.PIPE, stderr=subprocess.DEVNULL, text=True, timeout=120, check=False)
-        found, run, preemptions, line = judge(fault, ran.stdout)
+        found, run, switches, line = judge(fault, ran.stdout)
         passed, failed = passed + found, failed + (not found)
-        print(f"{'found ' if found else 'MISSED'} {fault.driver:9} {fault.name:55} run {run:>5}, preemptions {preemptions:>2}: {line}", flush=True)
+        print(f"{'found ' if found else 'MISSED'} {fault.driver:9} {fault.name:55} run {run:>5}, {switches}: {line}", flush=True)
     print(f"{passed} passed, {failed} failed")
     sys.exit(failed != 0)
 

@@ -1,5 +1,5 @@
 /*
- * finds - one small piece of code for each thing that the bench finds, and what it says; and what it refuses, with status 2
+ * finds - one small piece of code for each thing that the bench finds, and what it says
  *
  * The last line counts the cases.
  */
@@ -15,8 +15,6 @@
 #include <sys/psref.h>
 #include <sys/rwlock.h>
 #include <sys/systm.h>
-#include <sys/wait.h>
-#include <unistd.h>
 
 #include "../bench.h"
 #include "../../c/expect.h"
@@ -27,7 +25,7 @@ static kcondvar_t cv;
 static pserialize_t psz;
 static struct psref_class *things;
 static struct psref_target target;
-static unsigned word, other;
+static unsigned word;
 static bool flag;
 static unsigned *block;
 
@@ -433,40 +431,134 @@ static void unjoined(void)
 	make_two(join_never, write_once);
 }
 
+/* ---- What is left at the end. ---- */
+
+static void left_class(void)
+{
+	(void)psref_class_create("left", IPL_SOFTNET);
+	make_two(write_once, write_once);
+}
+
+static void left_pserialize(void)
+{
+	psz = pserialize_create();
+	make_two(write_once, write_once);
+}
+
+static struct localcount local;
+
+static void count_in(void *arg)
+{
+	(void)arg;
+	localcount_acquire(&local);
+}
+
+static void left_count(void)
+{
+	localcount_init(&local);
+	make_two(count_in, write_once);
+}
+
+static void keep_reference(void *arg)
+{
+	static struct psref psref;
+	(void)arg;
+	(void)curlwp_bind();
+	psref_acquire(&psref, &target, things);
+}
+
+static void left_reference(void)
+{
+	make_target();
+	make_two(keep_reference, write_once);
+}
+
+static void keep_section(void *arg)
+{
+	(void)arg;
+	(void)pserialize_read_enter();
+}
+
+static void left_section(void)
+{
+	make_two(keep_section, write_once);
+}
+
+static void left_object(void)
+{
+	(void)mutex_obj_alloc(MUTEX_DEFAULT, IPL_NONE);
+	make_two(write_once, write_once);
+}
+
+/* What ends a test, which takes down what make_things has made: all of it, all but one lock, or with a lock held. */
+static void destroy_things(void)
+{
+	mutex_destroy(&one);
+	mutex_destroy(&two);
+	rw_destroy(&rw);
+	cv_destroy(&cv);
+}
+
+static void destroy_some(void)
+{
+	mutex_destroy(&one);
+	rw_destroy(&rw);
+	cv_destroy(&cv);
+}
+
+static void end_locked(void)
+{
+	mutex_enter(&one);
+}
+
+static void two_writers(void)
+{
+	make_two(write_once, write_once);
+}
+
 /* ---- What is found. ---- */
 
 static const struct find {
 	const char *name, *line;	/* NULL where nothing is wrong */
-	void (*setup)(void);
+	void (*setup)(void), (*finish)(void);
 } finds[] = {
-	{"two orders", "deadlock: thread \"first\" waits in mutex_enter at", two_orders},
-	{"a reader that enters again behind a writer", "nobody can go on: thread \"first\" waits in rw_enter", reader_again},
-	{"a lock at the end of a thread", "pthread_exit: with a lock", lock_at_end},
-	{"a lost wake-up", "came while nobody waited", lost_wake},
-	{"plain accesses without an order", "two accesses to one memory without an order", unordered},
-	{"a relaxed store where a release is needed", "two accesses to one memory without an order", relaxed},
-	{"a release", NULL, released},
-	{"a barrier", NULL, fenced},
-	{"freed memory", "atomic change at ", freed},
+	{"two orders", "deadlock: thread \"first\" waits in mutex_enter at", two_orders, NULL},
+	{"a reader that enters again behind a writer", "nobody can go on: thread \"first\" waits in rw_enter", reader_again, NULL},
+	{"a lock at the end of a thread", "pthread_exit: with a lock", lock_at_end, NULL},
+	{"a lost wake-up", "came while nobody waited", lost_wake, NULL},
+	{"plain accesses without an order", "two accesses to one memory without an order", unordered, NULL},
+	{"a relaxed store where a release is needed", "two accesses to one memory without an order", relaxed, NULL},
+	{"a release", NULL, released, NULL},
+	{"a barrier", NULL, fenced, NULL},
+	{"freed memory", "atomic change at ", freed, NULL},
 #ifdef __SANITIZE_ADDRESS__
-	{"freed memory by a plain access", "status 1", freed_plainly},
+	{"freed memory by a plain access", "status 1", freed_plainly, NULL},
 #else
-	{"freed memory by a plain access", NULL, freed_plainly},
+	{"freed memory by a plain access", NULL, freed_plainly, NULL},
 #endif
-	{"a lock that is freed in use", "mutex_", freed_lock},
-	{"freed twice", "use of freed memory", free_twice},
-	{"a leak", "1 blocks of memory are left at the end, one of them taken by kmem_zalloc at", leak},
-	{"a lock that is never destroyed", "what mutex_init has made lies in it and was never destroyed", forgotten_lock},
-	{"a write behind a block", "written behind a block of", behind},
-	{"a write to freed memory", "something was written to freed memory", written_after},
-	{"a destroy with the holder's lock", "waits in psref_target_destroy at", destroyed_locked},
-	{"a target that is left", "a target or a local count is left at the end", left_target},
-	{"a thread that never ends", "the run doesn't end", spins},
-	{"a thread that spins for another", NULL, spins_for_another},
-	{"a crash", "the code ends by signal 11", crashes},
-	{"an assertion", "KASSERTMSG: not so: ", asserts},
-	{"a panic", "panic: out of luck, at", panics},
-	{"a thread that isn't joined", "taken by kthread_create", unjoined},
+	{"a lock that is freed in use", "mutex_", freed_lock, NULL},
+	{"freed twice", "use of freed memory", free_twice, NULL},
+	{"a leak", "1 blocks of memory are left at the end, one of them taken by kmem_zalloc at", leak, NULL},
+	{"a lock that is never destroyed", "what mutex_init has made lies in it and was never destroyed", forgotten_lock, NULL},
+	{"a write behind a block", "written behind a block of", behind, NULL},
+	{"a write to freed memory", "something was written to freed memory", written_after, NULL},
+	{"a destroy with the holder's lock", "waits in psref_target_destroy at", destroyed_locked, NULL},
+	{"a target that is left", "a target or a local count is left at the end", left_target, NULL},
+	{"a thread that never ends", "the run doesn't end", spins, NULL},
+	{"a thread that spins for another", NULL, spins_for_another, NULL},
+	{"a crash", "the code ends by signal 11", crashes, NULL},
+	{"an assertion", "KASSERTMSG: not so: ", asserts, NULL},
+	{"a panic", "panic: out of luck, at", panics, NULL},
+	{"a thread that isn't joined", "taken by kthread_create", unjoined, NULL},
+	{"a class that is left", "taken by psref_class_create", left_class, NULL},
+	{"a pserialize that is left", "taken by pserialize_create", left_pserialize, NULL},
+	{"a lock object that is left", "taken by mutex_obj_alloc", left_object, NULL},
+	{"a count with a reference that is left", "a local count with 1 references is left at the end", left_count, NULL},
+	{"a passive reference that is left", "pthread_exit: the thread has passive references", left_reference, NULL},
+	{"a section that is left", "pthread_exit: inside a read section", left_section, NULL},
+	{"locks that are destroyed", NULL, two_writers, destroy_things},
+	{"a lock that is left", "1 locks or condition variables are left at the end, one of them made by mutex_init", two_writers, destroy_some},
+	{"a lock that is held at the end", "pthread_exit: with a lock", two_writers, end_locked},
 };
 
 /* Whether a line is the one that is looked for. The address sanitizer ends the process where it sees the fault first. */
@@ -483,127 +575,13 @@ static bool is_line(const char *said, const char *looked_for)
 static bool is_found(const struct find *find)
 {
 	struct bench_found found, again;
-	struct bench_options options = {.quiet = true, .found = &found, .frees = true};
+	struct bench_options options = {.quiet = true, .found = &found, .frees = true, .finish = find->finish};
 	bool wrong = bench_explore(find->setup, &options) != 0;
 	if (find->line == NULL)
 		return !wrong && found.exhausted;
 	options.found = &again;
 	options.replay = found.schedule;
 	return wrong && is_line(found.line, find->line) && bench_explore(find->setup, &options) == 1 && strcmp(found.line, again.line) == 0;
-}
-
-/* ---- What is refused. ---- */
-
-static void nobody(void)
-{
-}
-
-static void outside(void)
-{
-	make_things();
-	mutex_enter(&one);
-}
-
-static void no_thread(void)
-{
-	bench_explore(nobody, NULL);
-}
-
-static void bad_letter(void)
-{
-	const struct bench_options options = {.replay = "b3?"};
-	bench_explore(two_orders, &options);
-}
-
-static void bad_turn(void)
-{
-	const struct bench_options options = {.replay = "b2c99"};
-	bench_explore(two_orders, &options);
-}
-
-static void bad_count(void)
-{
-	const struct bench_options options = {.replay = "b0"};
-	bench_explore(two_orders, &options);
-}
-
-static void thread_outside(void)
-{
-	bench_thread("lost", one_two, NULL);
-}
-
-static unsigned *volatile shared;
-
-static void differ(void *arg)
-{
-	(void)arg;
-	if ((*shared)++ % 2 == 0)
-		atomic_inc_uint(&other);
-	atomic_inc_uint(&word);
-}
-
-static void differs(void)
-{
-	make_two(differ, set_word);
-}
-
-static void outside_of_schedule(void)
-{
-	shared = malloc(sizeof(*shared));
-	*shared = 0;
-	bench_explore(differs, NULL);
-}
-
-static const struct refusal {
-	const char *name, *line;
-	void (*body)(void);
-} refusals[] = {
-	{"a call outside", "bench: mutex_enter outside of bench_explore\n", outside},
-	{"a thread outside", "bench: bench_thread outside of bench_explore\n", thread_outside},
-	{"no thread", "bench: setup has made no thread\n", no_thread},
-	{"no schedule", "bench: \"b3?\" is no schedule: ", bad_letter},
-	{"no points", "bench: \"b0\" is no schedule: ", bad_count},
-	{"a schedule that doesn't fit", "bench: the schedule doesn't fit: at point ", bad_turn},
-	{"code that depends on something else", "bench: two runs by one schedule differ at point ", outside_of_schedule},
-};
-
-/* Whether a process ends with status 2 after the line. */
-static bool is_refused(const struct refusal *refusal)
-{
-	int ends[2], status;
-	char said[512];
-	EXPECT(pipe(ends) == 0);
-	fflush(NULL);
-	pid_t child = fork();
-	EXPECT(child >= 0);
-	if (child == 0) {
-		dup2(ends[1], STDERR_FILENO);
-		refusal->body();
-		_exit(0);
-	}
-	close(ends[1]);
-	size_t length = 0;
-	for (ssize_t part; length < sizeof(said) - 1 && (part = read(ends[0], said + length, sizeof(said) - 1 - length)) > 0;)
-		length += (size_t)part;
-	said[length] = '\0';
-	close(ends[0]);
-	EXPECT(waitpid(child, &status, 0) == child);
-	bool right = WIFEXITED(status) && WEXITSTATUS(status) == 2 && strncmp(said, refusal->line, strlen(refusal->line)) == 0 &&
-	    strchr(said, '\n') == said + length - 1;
-	if (!right)
-		printf("status %d, and said: %s\n", status, said);
-	return right;
-}
-
-static void judge_refusals(unsigned *passed, unsigned *failed)
-{
-	for (unsigned at = 0; at < sizeof(refusals) / sizeof(refusals[0]); at++) {
-		bool right = is_refused(&refusals[at]);
-		*passed += right;
-		*failed += !right;
-		if (!right)
-			printf("FAILED %s\n", refusals[at].name);
-	}
 }
 
 int main(int count, char **words)
@@ -614,12 +592,11 @@ int main(int count, char **words)
 		passed += right;
 		failed += !right;
 		if (!right || count > 1) {
-			const struct bench_options options = {.name = finds[at].name};
+			const struct bench_options options = {.name = finds[at].name, .finish = finds[at].finish};
 			printf("%s %s\n", right ? "ok" : "FAILED", finds[at].name);
 			bench_explore(finds[at].setup, &options);
 		}
 	}
-	judge_refusals(&passed, &failed);
 	(void)words;
 	printf("%u passed, %u failed\n", passed, failed);
 	return failed != 0;

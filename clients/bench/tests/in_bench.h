@@ -1,6 +1,6 @@
 /*
- * in_bench.h - read by the compiler before clients/netbsd/tests/misuse.c and misuse_kernel.c, in place of their stops.h: each case runs in the bench, which
- * must find its line. All threads are called as the program is, as there. The case of a fork is left out: each run of the bench is in a child.
+ * in_bench.h - read by the compiler before clients/netbsd/tests/misuse.c, misuse_kernel.c and sleepers.c, in place of their stops.h: each case runs in the
+ * bench, which must find its line. All threads are called as the program is, as there. The case of a fork is left out: each run of the bench is in a child.
  */
 #ifndef NETBSD_STOPS_H
 #define NETBSD_STOPS_H
@@ -81,10 +81,11 @@ static inline void make_case(void)
 }
 
 /* Whether the bench says the case's line. */
-static inline bool is_stopped(const struct stop_case *the_case)
+static inline bool is_stopped(void (*begin)(void), const struct stop_case *the_case)
 {
 	struct bench_found found;
 	const struct bench_options options = {.quiet = true, .found = &found, .schedules = 20, .bounded = 20, .preemptions = 1, .random = 20};
+	begin_case = begin;
 	body_of_case = the_case->body;
 	bench_explore(make_case, &options);
 	hide_places(found.line);
@@ -97,9 +98,8 @@ static inline bool is_stopped(const struct stop_case *the_case)
 static inline int run_cases(void (*begin)(void), const struct stop_case *cases, size_t count)
 {
 	size_t passed = 0, failed = 0;
-	begin_case = begin;
 	for (size_t place = 0; place < count; place++) {
-		bool left_out = strstr(cases[place].line, "in the child of a fork") != NULL, right = left_out || is_stopped(&cases[place]);
+		bool left_out = strstr(cases[place].line, "in the child of a fork") != NULL, right = left_out || is_stopped(begin, &cases[place]);
 		passed += right && !left_out;
 		failed += !right;
 	}

@@ -59,13 +59,14 @@ int kpause(const char *name, bool interruptible, int ticks, kmutex_t *mutex);
 #define KTHREAD_TS	0x08
 #define KTHREAD_MUSTJOIN	0x10
 
-/* kthread_create - a thread that runs `body(arg)`, bound to `cpu` where that isn't NULL. Returns 0 or an errno; the thread is written to `made`. */
+/* kthread_create - a thread that runs `body(arg)`, bound to `cpu` where that isn't NULL. Returns 0 or an errno; the thread is written to `made`. Stops
+ * where the thread mustn't sleep. */
 int kthread_create(int priority, int flags, struct cpu_info *cpu, void (*body)(void *), void *arg, lwp_t **made, const char *format, ...) __attribute__((format(printf, 7, 8)));
 
 /* kthread_exit - end this thread. Stops where kthread_create didn't make it. */
 void kthread_exit(int code) __attribute__((noreturn));
 
-/* kthread_join - wait until a thread that was made with KTHREAD_MUSTJOIN has ended. */
+/* kthread_join - wait until a thread that was made with KTHREAD_MUSTJOIN has ended. Stops where it was made otherwise, and where the thread mustn't sleep. */
 int kthread_join(lwp_t *thread);
 
 /* ---- copy(9) ---- */
@@ -102,6 +103,7 @@ struct evcnt {
 
 #define EVCNT_INITIALIZER(type, parent, group, name)	{ 0, type, parent, group, name }
 #define EVCNT_ATTACH_STATIC(counter)
+#define EVCNT_ATTACH_STATIC2(counters, place)
 
 /* evcnt_attach_dynamic - a counter of 0 with its names, which aren't copied. */
 static inline void evcnt_attach_dynamic(struct evcnt *counter, int type, const struct evcnt *parent, const char *group, const char *name)
@@ -111,6 +113,12 @@ static inline void evcnt_attach_dynamic(struct evcnt *counter, int type, const s
 	counter->ev_parent = parent;
 	counter->ev_group = group;
 	counter->ev_name = name;
+}
+
+/* evcnt_attach_static - nothing, as EVCNT_ATTACH_STATIC and EVCNT_ATTACH_STATIC2: a counter that was initialised has its names. */
+static inline void evcnt_attach_static(struct evcnt *counter)
+{
+	(void)counter;
 }
 
 /* evcnt_detach - it has no name any more. */

@@ -30,7 +30,7 @@ struct localcount {
 	uint64_t lc_row;
 };
 
-/* localcount_init - make a count live, with no reference. Stops where it is live already. */
+/* localcount_init - make a count live, with no reference. Stops where the thread mustn't sleep, and where the count is live already. */
 void localcount_init(struct localcount *lc);
 
 /* localcount_fini - end a count. Stops where it isn't drained. */

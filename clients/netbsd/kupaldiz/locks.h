@@ -41,8 +41,8 @@ void mutex_destroy(kmutex_t *mutex);
 /*
  * mutex_enter - take a lock, and wait for it
  *
- * Stops where this thread has it; and, of a lock that doesn't spin, inside a read section, with a spin lock or at a raised level, and in a soft
- * interrupt where the lock's level is IPL_NONE.
+ * Stops where this thread has it; and, of a lock that doesn't spin, inside a read section, with a spin lock or with preemption disabled, and in
+ * a soft interrupt where the lock's level is IPL_NONE.
  */
 void mutex_enter(kmutex_t *mutex);
 
@@ -62,7 +62,7 @@ int mutex_owned(const kmutex_t *mutex);
 /* mutex_ownable - true, for assertions: whether this thread may wait for the lock. Stops where it has it. */
 int mutex_ownable(const kmutex_t *mutex);
 
-/* mutex_obj_alloc - a new lock, with one reference. */
+/* mutex_obj_alloc - a new lock, with one reference. Stops where the thread mustn't sleep. */
 kmutex_t *mutex_obj_alloc(kmutex_type_t type, int level);
 
 /* mutex_obj_hold - one reference more. */
@@ -132,7 +132,8 @@ void rw_init(krwlock_t *rw);
 /* rw_destroy - end it. Stops where it is held. */
 void rw_destroy(krwlock_t *rw);
 
-/* rw_enter - take it as a reader, beside others, or as a writer, alone. Stops as mutex_enter does. */
+/* rw_enter - take it as a reader, beside others, or as a writer, alone. Stops where mutex_enter does, but not in a soft
+ * interrupt. */
 void rw_enter(krwlock_t *rw, const krw_t how);
 
 /* rw_tryenter - the same without a wait. Whether it was taken. */

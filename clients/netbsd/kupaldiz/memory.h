@@ -34,6 +34,9 @@ void kmem_intr_free(void *block, size_t size);
 /* kmem_strdupsize - a copy of a text; its size, with the zero, is written to `size` where that isn't NULL. */
 char *kmem_strdupsize(const char *text, size_t *size, km_flag_t flags);
 
+/* kmem_strdup - a copy of a text. */
+#define kmem_strdup(text, flags)	kmem_strdupsize(text, NULL, flags)
+
 /* kmem_strfree - give such a copy back. */
 void kmem_strfree(char *text);
 
@@ -67,7 +70,7 @@ void *pool_get(struct pool *pool, int flags);
 /* pool_put - give an object back. Stops where it is none of the pool's. */
 void pool_put(struct pool *pool, void *object);
 
-/* pool_cache_init - a cache of objects that `make` has made, and that `end` ends; both may be NULL. */
+/* pool_cache_init - a cache of objects that `make` has made, and that `end` ends; both may be NULL. Stops where the thread mustn't sleep. */
 pool_cache_t pool_cache_init(size_t size, unsigned align, unsigned offset, unsigned flags, const char *name, struct pool_allocator *from, int level, int (*make)(void *, void *, int), void (*end)(void *, void *), void *arg);
 
 /* pool_cache_destroy - end it. Stops where an object is in use. */
@@ -84,13 +87,13 @@ void pool_cache_put(pool_cache_t cache, void *object);
 typedef struct percpu percpu_t;
 typedef void (*percpu_callback_t)(void *, void *, struct cpu_info *);
 
-/* percpu_alloc - zeros of that size for each CPU. */
+/* percpu_alloc - zeros of that size for each CPU. Stops where the thread mustn't sleep. */
 percpu_t *percpu_alloc(size_t size);
 
 /* percpu_create - the same, and `make(its own, arg, cpu)` for each CPU; `end` likewise at percpu_free. */
 percpu_t *percpu_create(size_t size, percpu_callback_t make, percpu_callback_t end, void *arg);
 
-/* percpu_free - end it, with its size. */
+/* percpu_free - end it, with its size. Stops where the thread mustn't sleep. */
 void percpu_free(percpu_t *percpu, size_t size);
 
 /* percpu_getref - this CPU's own. The thread has the CPU until percpu_putref, and mustn't sleep. */

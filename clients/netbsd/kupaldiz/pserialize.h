@@ -26,7 +26,7 @@ extern "C" {
 
 typedef struct pserialize *pserialize_t;
 
-/* pserialize_create - what the writers of one list perform with. Stops where memory runs out. */
+/* pserialize_create - what the writers of one list perform with. Stops where the thread mustn't sleep, and where memory runs out. */
 pserialize_t pserialize_create(void);
 
 /* pserialize_destroy - end it. Stops while a thread performs with it. */

@@ -40,7 +40,7 @@ struct psref {
 	uint32_t psref_cpu;
 };
 
-/* psref_class_create - a class of targets. Its name appears in lines and isn't copied. Stops where memory runs out. */
+/* psref_class_create - a class of targets. Its name appears in lines and isn't copied. Stops where the thread mustn't sleep, and where memory runs out. */
 struct psref_class *psref_class_create(const char *name, ipl_cookie_t level);
 
 /* psref_class_destroy - end a class. Stops while a target of it is live or is being destroyed. */

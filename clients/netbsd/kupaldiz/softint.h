@@ -26,7 +26,7 @@ extern "C" {
 #define SOFTINT_MPSAFE	0x0100u
 #define SOFTINT_LVLMASK	0x00ffu
 
-/* softint_establish - a soft interrupt of this level that runs `handler(arg)`. NULL where memory runs out. */
+/* softint_establish - a soft interrupt of this level that runs `handler(arg)`. NULL where memory runs out. Stops where the thread mustn't sleep. */
 void *softint_establish(unsigned flags, void (*handler)(void *), void *arg);
 
 /*
@@ -45,6 +45,8 @@ int kupaldiz_splraise(int level);
 /* splx - the level before. Stops where a spin lock is held that keeps it higher. */
 void splx(int level);
 
+/* spl0 - the lowest level. The others raise it, each to the level of its name; splraiseipl to one that is given. */
+#define spl0()		splx(IPL_NONE)
 #define splsoftclock()	kupaldiz_splraise(IPL_SOFTCLOCK)
 #define splsoftbio()	kupaldiz_splraise(IPL_SOFTBIO)
 #define splsoftnet()	kupaldiz_splraise(IPL_SOFTNET)

@@ -1,4 +1,7 @@
 /* kernel.c - assertions, panic(9), kpause(9), kthread(9) and copy(9) */
+#ifndef _GNU_SOURCE
+#define _GNU_SOURCE
+#endif
 #include <errno.h>
 #include <sched.h>
 #include <stdarg.h>
@@ -135,6 +138,7 @@ static int start(struct kthread *kthread)
 int kthread_create(int priority, int flags, struct cpu_info *cpu, void (*body)(void *), void *arg, lwp_t **made, const char *format, ...)
 {
 	struct thread *me = begin_plain(__func__);
+	want_sleepable(me);
 	struct kthread *kthread = memory(me, sizeof(*kthread));
 	va_list words;
 	(void)priority;
@@ -164,6 +168,17 @@ void kthread_exit(int code)
 	pthread_exit(NULL);
 }
 
+/* Waits for its end, and says after a while that it waits. */
+static void await_end(struct thread *me, const struct kthread *kthread)
+{
+	char name[64];
+	const struct pauses pauses = begin_pauses();
+	if (pthread_clockjoin_np(kthread->id, NULL, CLOCK_MONOTONIC, &pauses.tells) == 0)
+		return;
+	say(me, "waits for thread \"%s\" to end", name_of(kthread->thread, name, sizeof(name)));
+	pthread_join(kthread->id, NULL);
+}
+
 int kthread_join(lwp_t *thread)
 {
 	struct thread *me = begin_call(__func__);
@@ -181,7 +196,7 @@ int kthread_join(lwp_t *thread)
 	if (found == NULL)
 		stop(me, "no thread that was made with KTHREAD_MUSTJOIN");
 	int waits = begin_wait();
-	pthread_join(found->id, NULL);
+	await_end(me, found);
 	end_wait(waits);
 	reuse_thread(found->thread);
 	free(found);

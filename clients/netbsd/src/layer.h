@@ -376,6 +376,7 @@ void take_mutex(struct thread *me, kmutex_t *mutex);
 void give_mutex(struct thread *me, kmutex_t *mutex);
 bool has_mutex(const struct thread *me, const kmutex_t *mutex);
 void want_mutex(const struct thread *me, const kmutex_t *mutex);
+void want_blockable(const struct thread *me);
 bool wait_for(struct thread *me, kcondvar_t *cv, kmutex_t *mutex, int64_t nanoseconds);
 void wake_cv(struct thread *me, kcondvar_t *cv, bool all);
 

@@ -9,6 +9,7 @@ enum { DRAINED = 1, FINISHED, FIRST_ROOM = 8 };
 void localcount_init(struct localcount *lc)
 {
 	struct thread *me = begin_call(__func__);
+	want_sleepable(me);
 	attach_row(me, lc, &lc->lc_serial, &lc->lc_row);
 }
 

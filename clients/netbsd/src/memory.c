@@ -186,7 +186,9 @@ void pool_put(struct pool *pool, void *object)
 pool_cache_t pool_cache_init(size_t size, unsigned align, unsigned offset, unsigned flags, const char *name, struct pool_allocator *from,
     int level, int (*make)(void *, void *, int), void (*end)(void *, void *), void *arg)
 {
-	struct pool_cache *cache = memory(begin_plain(__func__), sizeof(*cache));
+	struct thread *me = begin_plain(__func__);
+	want_sleepable(me);
+	struct pool_cache *cache = memory(me, sizeof(*cache));
 	pool_init(&cache->pool, size, align, offset, (int)flags, name, from, level);
 	cache->make = make;
 	cache->end = end;

@@ -40,7 +40,7 @@ void mutex_destroy(kmutex_t *mutex)
 }
 
 /* Stops where the thread mustn't wait for a lock that doesn't spin. */
-static void want_blockable(const struct thread *me, const kmutex_t *mutex)
+void want_blockable(const struct thread *me)
 {
 	char where[256];
 	if (me->depth > 0)
@@ -49,8 +49,6 @@ static void want_blockable(const struct thread *me, const kmutex_t *mutex)
 		stop(me, "with a spin lock, and this lock does not spin");
 	if (me->preemptions > 0)
 		stop(me, "with preemption disabled");
-	if (me->softint && mutex->mtx_level == IPL_NONE)
-		stop(me, "in a soft interrupt, and the lock is of IPL_NONE");
 }
 
 /* Says who has the lock that this thread waits for. */
@@ -92,7 +90,9 @@ static void lower_again(struct thread *me)
 static void take_slowly(struct thread *me, kmutex_t *mutex)
 {
 	bool steps = me->holds > 0;
-	want_blockable(me, mutex);
+	want_blockable(me);
+	if (me->softint && mutex->mtx_level == IPL_NONE)
+		stop(me, "in a soft interrupt, and the lock is of IPL_NONE");
 	if (lock_try(&mutex->mtx_word, me))
 		return;
 	if (steps)
@@ -200,7 +200,9 @@ int mutex_ownable(const kmutex_t *mutex)
 
 kmutex_t *mutex_obj_alloc(kmutex_type_t type, int level)
 {
-	struct counted_mutex *counted = memory(begin_plain(__func__), sizeof(*counted));
+	struct thread *me = begin_plain(__func__);
+	want_sleepable(me);
+	struct counted_mutex *counted = memory(me, sizeof(*counted));
 	mutex_init(&counted->mutex, type, level);
 	counted->references = 1;
 	return &counted->mutex;

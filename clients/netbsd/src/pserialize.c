@@ -9,7 +9,9 @@ struct pserialize {
 
 pserialize_t pserialize_create(void)
 {
-	return memory(begin_plain(__func__), sizeof(struct pserialize));
+	struct thread *me = begin_plain(__func__);
+	want_sleepable(me);
+	return memory(me, sizeof(struct pserialize));
 }
 
 void pserialize_destroy(pserialize_t psz)

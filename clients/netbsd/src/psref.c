@@ -14,7 +14,9 @@ enum { FIRST_ROOM = 16 };
 
 struct psref_class *psref_class_create(const char *name, ipl_cookie_t level)
 {
-	struct psref_class *psref_class = memory(begin_plain(__func__), sizeof(*psref_class));
+	struct thread *me = begin_plain(__func__);
+	want_sleepable(me);
+	struct psref_class *psref_class = memory(me, sizeof(*psref_class));
 	psref_class->name = name;
 	psref_class->level = level;
 	return psref_class;

@@ -70,11 +70,9 @@ static void take(struct thread *me, krwlock_t *rw, krw_t how)
 }
 
 /* Stops where the thread mustn't wait for it. */
-static void want_blockable(const struct thread *me, const krwlock_t *rw)
+static void want_free_of(struct thread *me, const krwlock_t *rw)
 {
-	if (me->softint)
-		return;
-	want_sleepable(me);
+	want_blockable(me);
 	if (rw->rw_writer == (uintptr_t)me)
 		stop(me, "the thread has the lock already");
 }
@@ -84,19 +82,20 @@ void rw_enter(krwlock_t *rw, const krw_t how)
 	struct thread *me = begin_call(__func__);
 	want_rw(me, rw);
 	bucket_lock(bucket_of(rw));
-	want_blockable(me, rw);
-	if (!try(me, rw, how)) {
-		if (me->softint)
-			step_off(me);
-		int waits = begin_wait();
-		take(me, rw, how);
-		end_wait(waits);
+	want_free_of(me, rw);
+	if (try(me, rw, how)) {
 		bucket_unlock(bucket_of(rw));
-		if (me->softint)
-			step_on(me);
 		return;
 	}
+	bool steps = me->holds > 0;
+	if (steps)
+		step_off(me);
+	int waits = begin_wait();
+	take(me, rw, how);
+	end_wait(waits);
 	bucket_unlock(bucket_of(rw));
+	if (steps)
+		step_on(me);
 }
 
 int rw_tryenter(krwlock_t *rw, const krw_t how)

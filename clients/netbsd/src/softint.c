@@ -117,7 +117,7 @@ bool run_softint(struct thread *me)
 
 void *softint_establish(unsigned flags, void (*handler)(void *), void *arg)
 {
-	(void)begin_plain(__func__);
+	want_sleepable(begin_plain(__func__));
 	struct softint *made = calloc(1, sizeof(*made));
 	if (made == NULL)
 		return NULL;

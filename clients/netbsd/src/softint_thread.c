@@ -78,8 +78,10 @@ void want_softint_thread(struct thread *me, struct cpu *cpu)
 			stop(me, "no thread is left");
 		pthread_detach(thread);
 	}
+	int waits = begin_wait();
 	while (softint_thread->thread == NULL)
 		pthread_cond_wait(&pending_changed, &pending_list);
+	end_wait(waits);
 }
 
 /* Lets the soft interrupts that wait have the CPU, and waits for it. */

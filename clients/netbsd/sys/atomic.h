@@ -139,6 +139,38 @@ KUPALDIZ_SWAPS(ulong, unsigned long)
 KUPALDIZ_SWAPS(32, uint32_t)
 KUPALDIZ_SWAPS(64, uint64_t)
 
+/* atomic_add_ptr, .. - of a word that holds an address, by bytes. */
+static inline void *atomic_add_ptr_nv(volatile void *at, ptrdiff_t bytes)
+{
+	KUPALDIZ_POINT((void *volatile *)at, KUPALDIZ_EXCHANGES);
+	return (void *)__atomic_add_fetch((volatile uintptr_t *)at, (uintptr_t)bytes, __ATOMIC_SEQ_CST);
+}
+
+static inline void atomic_add_ptr(volatile void *at, ptrdiff_t bytes)
+{
+	(void)atomic_add_ptr_nv(at, bytes);
+}
+
+static inline void *atomic_inc_ptr_nv(volatile void *at)
+{
+	return atomic_add_ptr_nv(at, 1);
+}
+
+static inline void atomic_inc_ptr(volatile void *at)
+{
+	(void)atomic_add_ptr_nv(at, 1);
+}
+
+static inline void *atomic_dec_ptr_nv(volatile void *at)
+{
+	return atomic_add_ptr_nv(at, -1);
+}
+
+static inline void atomic_dec_ptr(volatile void *at)
+{
+	(void)atomic_add_ptr_nv(at, -1);
+}
+
 static inline void *atomic_swap_ptr(volatile void *at, void *value)
 {
 	KUPALDIZ_POINT((void *volatile *)at, KUPALDIZ_EXCHANGES);
@@ -150,6 +182,11 @@ static inline void *atomic_cas_ptr(volatile void *at, void *expected, void *valu
 	KUPALDIZ_POINT((void *volatile *)at, KUPALDIZ_EXCHANGES);
 	__atomic_compare_exchange_n((void *volatile *)at, &expected, value, false, __ATOMIC_SEQ_CST, __ATOMIC_SEQ_CST);
 	return expected;
+}
+
+static inline void *atomic_cas_ptr_ni(volatile void *at, void *expected, void *value)
+{
+	return atomic_cas_ptr(at, expected, value);
 }
 
 #ifdef __cplusplus

@@ -16,6 +16,14 @@
 #define COHERENCY_UNIT	64
 #define MAXCPUS		KUPALDIZ_CPUS
 
+/* roundup2, rounddown2 - the next multiple of a power of two, upwards or downwards; rounddown - of any number. */
+#ifndef rounddown
+#define rounddown(number, of)	((number) / (of) * (of))
+#endif
+#define roundup2(number, power)	(((number) + (power) - 1) & ~((power) - 1))
+#define rounddown2(number, power)	((number) & ~((power) - 1))
+
+/* mstohz, hztoms - ticks in milliseconds, at least so many, and milliseconds in ticks. */
 #define mstohz(milliseconds)	((int)(((milliseconds) + 9) / 10))
 #define hztoms(ticks)		((unsigned)(ticks) * 10)
 

@@ -10,11 +10,20 @@
 
 #include "../kupaldiz/kernel.h"
 
+/* nullop - nothing, and 0: for xc_broadcast and tables of functions. */
+static inline int nullop(void *arg)
+{
+	(void)arg;
+	return 0;
+}
+
 #ifndef __cplusplus
 static inline int imin(int a, int b) { return a < b ? a : b; }
 static inline int imax(int a, int b) { return a > b ? a : b; }
 static inline unsigned min(unsigned a, unsigned b) { return a < b ? a : b; }
 static inline unsigned max(unsigned a, unsigned b) { return a > b ? a : b; }
+static inline unsigned uimin(unsigned a, unsigned b) { return a < b ? a : b; }
+static inline unsigned uimax(unsigned a, unsigned b) { return a > b ? a : b; }
 static inline long lmin(long a, long b) { return a < b ? a : b; }
 static inline long lmax(long a, long b) { return a > b ? a : b; }
 static inline unsigned long ulmin(unsigned long a, unsigned long b) { return a < b ? a : b; }

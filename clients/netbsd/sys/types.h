@@ -13,4 +13,9 @@ typedef int32_t kupaldiz_devmajor_t;
 typedef int32_t kupaldiz_devminor_t;
 #define devminor_t	kupaldiz_devminor_t
 
+/* SET, CLR, ISSET - put bits into a word, take them out, and which of them are in it. */
+#define SET(word, bits)		((word) |= (bits))
+#define CLR(word, bits)		((word) &= ~(bits))
+#define ISSET(word, bits)	((word) & (bits))
+
 #endif

@@ -2,7 +2,10 @@
  * bind - almost three times as many threads as CPUs share these: none waits to be bound, those of one CPU keep out of each other's sections, and each has depth, sections and
  * references of its own; threads that aren't bound read as well
  */
+#include <sys/condvar.h>
 #include <sys/cpu.h>
+#include <sys/localcount.h>
+#include <sys/mutex.h>
 #include <sys/pserialize.h>
 #include <sys/psref.h>
 
@@ -76,6 +79,33 @@ static void *work_unbound(void *arg)
 	return arg;
 }
 
+/* Under a lock of its own a thread acquires without a section. */
+static void test_locked(void)
+{
+	struct psref psref;
+	struct localcount count;
+	kmutex_t lock;
+	kcondvar_t cv;
+	int before = curlwp_bind();
+	mutex_init(&lock, MUTEX_DEFAULT, IPL_NONE);
+	cv_init(&cv, "count");
+	localcount_init(&count);
+	mutex_enter(&lock);
+	psref_acquire(&psref, &target, things);
+	localcount_acquire(&count);
+	EXPECT(pserialize_not_in_read_section() && psref_held(&target, things) && localcount_debug_refcnt(&count) == 1);
+	mutex_exit(&lock);
+	psref_release(&psref, &target, things);
+	localcount_release(&count, &cv, &lock);
+	mutex_enter(&lock);
+	localcount_drain(&count, &cv, &lock);
+	mutex_exit(&lock);
+	localcount_fini(&count);
+	cv_destroy(&cv);
+	mutex_destroy(&lock);
+	curlwp_bindx(before);
+}
+
 /* Ends bound. */
 static void *end_bound(void *arg)
 {
@@ -103,6 +133,7 @@ int main(void)
 		start_thread(&threads[0], end_bound, NULL);
 		end_thread(threads[0]);
 	}
+	test_locked();
 	psref_target_destroy(&target, things);
 	psref_class_destroy(things);
 	EXPECT(atomic_load(&unbound_sections) == 4 * ROUNDS);

@@ -5,12 +5,18 @@
  * The linker leads clock_gettime, pthread_cond_init and pthread_cond_timedwait here (--wrap), so that each clock is seen.
  */
 #include <errno.h>
+#include <sys/callout.h>
 #include <sys/condvar.h>
+#include <sys/intr.h>
+#include <sys/kthread.h>
 #include <sys/localcount.h>
 #include <sys/mutex.h>
+#include <sys/percpu.h>
 #include <sys/pserialize.h>
 #include <sys/psref.h>
+#include <sys/rwlock.h>
 #include <sys/systm.h>
+#include <sys/xcall.h>
 
 #include "test.h"
 
@@ -55,8 +61,9 @@ static struct psref_class *things;
 static struct psref_target target;
 static struct localcount count;
 static pserialize_t psz;
-static kmutex_t lock;
-static kcondvar_t cv;
+static kmutex_t lock, own_lock;
+static krwlock_t rw;
+static kcondvar_t cv, drained;
 static pthread_key_t early, late;
 static atomic_uint given_back;
 static atomic_bool ready, over;
@@ -109,44 +116,162 @@ static void *hold_all(void *arg)
 	kupaldiz_bind(5);
 	psref_acquire(&psref, &target, things);
 	localcount_acquire(&count);
+	rw_enter(&rw, RW_WRITER);
 	mutex_enter(&lock);
 	int s = pserialize_read_enter();
 	atomic_store(&ready, true);
 	while (!atomic_load(&over))
 		sleep_for(100);
 	pserialize_read_exit(s);
+	cv_broadcast(&cv);
 	mutex_exit(&lock);
-	localcount_release(&count, &cv, &lock);
+	rw_exit(&rw);
+	localcount_release(&count, &drained, &lock);
 	psref_release(&psref, &target, things);
 	return arg;
 }
 
+static void in_perform(void)
+{
+	pserialize_perform(psz);
+}
+
+static void in_destroy(void)
+{
+	psref_target_destroy(&target, things);
+	psref_target_init(&target, things);
+}
+
+static void in_drain(void)
+{
+	mutex_enter(&lock);
+	localcount_drain(&count, &drained, &lock);
+	mutex_exit(&lock);
+	localcount_fini(&count);
+	localcount_init(&count);
+}
+
+static void in_mutex_enter(void)
+{
+	mutex_enter(&lock);
+	mutex_exit(&lock);
+}
+
+static void in_rw_enter(void)
+{
+	rw_enter(&rw, RW_READER);
+	rw_exit(&rw);
+}
+
+/* The lock of its own, which nobody else has; the holder's broadcast wakes it. */
+static void in_cv_wait(void)
+{
+	mutex_enter(&own_lock);
+	cv_wait(&cv, &own_lock);
+	mutex_exit(&own_lock);
+}
+
+static void in_cv_timedwait(void)
+{
+	mutex_enter(&own_lock);
+	EXPECT(cv_timedwait(&cv, &own_lock, 1000) == 0);
+	mutex_exit(&own_lock);
+}
+
+static void in_read_enter(void)
+{
+	kupaldiz_bind(5);
+	pserialize_read_exit(pserialize_read_enter());
+}
+
+static void in_getref(void)
+{
+	percpu_t *percpu = percpu_alloc(8);
+	kupaldiz_bind(5);
+	(void)percpu_getref(percpu);
+	percpu_putref(percpu);
+	percpu_free(percpu, 8);
+}
+
+static void in_barrier(void)
+{
+	xc_barrier(0);
+}
+
+static void add_one(void *count_of, void *other)
+{
+	(void)other;
+	++*(unsigned *)count_of;
+}
+
+static void in_broadcast(void)
+{
+	unsigned runs = 0;
+	xc_wait(xc_broadcast(0, add_one, &runs, NULL));
+	xc_wait(xc_broadcast(XC_HIGHPRI, add_one, &runs, NULL));
+	EXPECT(runs == 2 * KUPALDIZ_CPUS);
+}
+
+/* It lasts: a tick is ten milliseconds. */
+static void in_pause(void)
+{
+	while (!atomic_load(&over))
+		EXPECT(kpause("wait", false, 1, NULL) == EWOULDBLOCK);
+}
+
+static void run_until_over(void *arg)
+{
+	atomic_store((atomic_bool *)arg, true);
+	while (!atomic_load(&over))
+		sleep_for(100);
+}
+
+static void in_join(void)
+{
+	static atomic_bool runs;
+	lwp_t *worker;
+	EXPECT(kthread_create(PRI_NONE, KTHREAD_MUSTJOIN, NULL, run_until_over, &runs, &worker, "worker") == 0);
+	EXPECT(kthread_join(worker) == 0);
+}
+
+static void in_disestablish(void)
+{
+	static atomic_bool runs;
+	void *cookie = softint_establish(SOFTINT_NET, run_until_over, &runs);
+	kupaldiz_bind(4);
+	softint_schedule(cookie);
+	while (!atomic_load(&runs))
+		;
+	softint_disestablish(cookie);
+}
+
+static void in_halt(void)
+{
+	static atomic_bool runs;
+	static callout_t callout;
+	kupaldiz_bind(4);
+	callout_init(&callout, CALLOUT_MPSAFE);
+	callout_reset(&callout, 1, run_until_over, &runs);
+	while (!atomic_load(&runs))
+		;
+	callout_halt(&callout, NULL);
+	callout_destroy(&callout);
+}
+
+/* The calls that wait. */
+static void (*const waits[])(void) = {in_perform, in_destroy, in_drain, in_mutex_enter, in_rw_enter, in_cv_wait, in_cv_timedwait, in_read_enter, in_getref,
+    in_barrier, in_broadcast, in_pause, in_join, in_disestablish, in_halt};
+
 /* Waits in one of the calls while it is cancelled: the call ends as without, and then the thread does. */
 static void *wait_in(void *of)
 {
-	unsigned way = *(unsigned *)of;
-	if (way == 0) {
-		pserialize_perform(psz);
-	} else if (way == 1) {
-		psref_target_destroy(&target, things);
-	} else if (way == 2) {
-		mutex_enter(&lock);
-		localcount_drain(&count, &cv, &lock);
-		mutex_exit(&lock);
-		localcount_fini(&count);
-	} else if (way == 3) {
-		mutex_enter(&lock);
-		mutex_exit(&lock);
-	} else {
-		kupaldiz_bind(5);
-		pserialize_read_exit(pserialize_read_enter());
-	}
+	(*(void (*const *)(void))of)();
 	atomic_fetch_add(&given_back, 1);
 	pthread_testcancel();
 	return NULL;
 }
 
-static void test_cancelled(unsigned way)
+static void test_cancelled(void (*const *wait)(void))
 {
 	pthread_t holder, waiter;
 	void *answer;
@@ -156,8 +281,8 @@ static void test_cancelled(unsigned way)
 	start_thread(&holder, hold_all, NULL);
 	while (!atomic_load(&ready))
 		sleep_for(100);
-	start_thread(&waiter, wait_in, &way);
-	sleep_for(3000);
+	EXPECT(pthread_create(&waiter, NULL, wait_in, (void *)(uintptr_t)wait) == 0);
+	sleep_for(20000);
 	EXPECT(pthread_cancel(waiter) == 0);
 	sleep_for(3000);
 	EXPECT(atomic_load(&given_back) == before);
@@ -165,15 +290,46 @@ static void test_cancelled(unsigned way)
 	EXPECT(pthread_join(waiter, &answer) == 0 && answer == PTHREAD_CANCELED);
 	EXPECT(atomic_load(&given_back) == before + 1);
 	end_thread(holder);
-	if (way == 1)
-		psref_target_init(&target, things);
-	if (way == 2)
-		localcount_init(&count);
 	/* Nothing stayed taken. */
 	mutex_enter(&lock);
 	pserialize_perform(psz);
 	mutex_exit(&lock);
+	rw_enter(&rw, RW_WRITER);
+	rw_exit(&rw);
 	pserialize_read_exit(pserialize_read_enter());
+}
+
+static void note_run(void *arg)
+{
+	atomic_fetch_add((atomic_uint *)arg, 1);
+}
+
+/* A thread that was cancelled before binds itself, and schedules the first soft interrupt of a CPU, whose thread begins then. */
+static void *schedule_cancelled(void *of)
+{
+	EXPECT(pthread_cancel(pthread_self()) == 0);
+	int bound = curlwp_bind();
+	curlwp_bindx(bound);
+	kupaldiz_bind(6);
+	softint_schedule(of);
+	atomic_fetch_add(&given_back, 1);
+	pthread_testcancel();
+	return NULL;
+}
+
+static void test_cancelled_early(void)
+{
+	pthread_t thread;
+	void *answer;
+	atomic_uint runs = 0;
+	unsigned before = atomic_load(&given_back);
+	void *cookie = softint_establish(SOFTINT_NET, note_run, &runs);
+	start_thread(&thread, schedule_cancelled, cookie);
+	EXPECT(pthread_join(thread, &answer) == 0 && answer == PTHREAD_CANCELED && atomic_load(&given_back) == before + 1);
+	softint_schedule(cookie);
+	while (atomic_load(&runs) < 2)
+		sleep_for(100);
+	softint_disestablish(cookie);
 }
 
 /* ---- Time. ---- */
@@ -206,12 +362,16 @@ int main(void)
 	EXPECT(pthread_key_create(&late, give_back) == 0);
 	psz = pserialize_create();
 	mutex_init(&lock, MUTEX_DEFAULT, IPL_NONE);
-	cv_init(&cv, "count");
+	mutex_init(&own_lock, MUTEX_DEFAULT, IPL_NONE);
+	rw_init(&rw);
+	cv_init(&cv, "cv");
+	cv_init(&drained, "count");
 	psref_target_init(&target, things);
 	localcount_init(&count);
 	test_destructors();
-	for (unsigned way = 0; way < 5; way++)
-		test_cancelled(way);
+	test_cancelled_early();
+	for (unsigned at = 0; at < sizeof(waits) / sizeof(waits[0]); at++)
+		test_cancelled(&waits[at]);
 	test_time();
 	psref_target_destroy(&target, things);
 	puts("threads ended, cancelled or not, and gave everything back");

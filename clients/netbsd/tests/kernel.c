@@ -116,8 +116,10 @@ static void test_rwlocks(void)
 static void *wait_and_count(void *arg)
 {
 	mutex_enter(&lock);
-	waiting++;
-	cv_wait(&cv, &lock);
+	if (waiting++ % 2 == 0)
+		cv_wait(&cv, &lock);
+	else
+		EXPECT(cv_wait_sig(&cv, &lock) == 0);
 	plain++;
 	mutex_exit(&lock);
 	return arg;

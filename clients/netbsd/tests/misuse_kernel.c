@@ -208,7 +208,36 @@ static void cv_never_made(void)
 	cv_broadcast(&never);
 }
 
+static void wait_destroyed(void)
+{
+	cv_destroy(&cv);
+	mutex_enter(&lock);
+	cv_wait(&cv, &lock);
+}
+
+/* A lock that spins is given back by a wait, but no second one. */
+static void wait_with_two_spins(void)
+{
+	kmutex_t second;
+	mutex_init(&second, MUTEX_DEFAULT, IPL_VM);
+	mutex_enter(&second);
+	mutex_enter(&spin);
+	cv_wait(&cv, &spin);
+}
+
 /* ---- rwlock(9) ---- */
+
+static void rw_enter_never_made(void)
+{
+	static krwlock_t never;
+	rw_enter(&never, RW_READER);
+}
+
+static void rw_enter_destroyed(void)
+{
+	rw_destroy(&rw);
+	rw_enter(&rw, RW_WRITER);
+}
 
 static void rw_exit_free(void)
 {
@@ -318,6 +347,11 @@ static void free_other_size(void)
 	kmem_free(kmem_alloc(32, KM_SLEEP), 64);
 }
 
+static void intr_free_other_size(void)
+{
+	kmem_intr_free(kmem_intr_zalloc(32, KM_NOSLEEP), 31);
+}
+
 static void free_null(void)
 {
 	kmem_free(NULL, 8);
@@ -396,6 +430,64 @@ static void handler_stays_locked(void)
 	as_softint(stay_locked);
 }
 
+static void stay_bound(void *arg)
+{
+	(void)arg;
+	kpreempt_disable();
+}
+
+static void handler_stays_bound(void)
+{
+	as_softint(stay_bound);
+}
+
+static void tick_long(void *arg)
+{
+	(void)arg;
+	atomic_store(&ready, true);
+	sleep_for(20000000);
+}
+
+/* A callout that runs on CPU 0 while this thread goes on elsewhere. */
+static void run_callout(callout_t *callout)
+{
+	callout_init(callout, CALLOUT_MPSAFE);
+	callout_reset(callout, 1, tick_long, NULL);
+	kupaldiz_unbind();
+	kupaldiz_bind(1);
+	while (!atomic_load(&ready))
+		sleep_for(100);
+}
+
+static void callout_destroy_running(void)
+{
+	static callout_t callout;
+	run_callout(&callout);
+	callout_destroy(&callout);
+}
+
+static void callout_halt_inside(void)
+{
+	static callout_t callout;
+	run_callout(&callout);
+	pserialize_read_enter();
+	callout_halt(&callout, NULL);
+}
+
+static void callout_never_made(void)
+{
+	static callout_t never;
+	callout_halt(&never, NULL);
+}
+
+static void callout_destroyed(void)
+{
+	static callout_t callout;
+	callout_init(&callout, CALLOUT_MPSAFE);
+	callout_destroy(&callout);
+	callout_destroy(&callout);
+}
+
 static void callout_destroy_pending(void)
 {
 	static callout_t callout;
@@ -421,6 +513,11 @@ static void broadcast_with_spin(void)
 {
 	mutex_enter(&spin);
 	xc_broadcast(0, NULL, NULL, NULL);
+}
+
+static void wait_for_no_call(void)
+{
+	xc_wait(77);
 }
 
 /* ---- threads, assertions, copies ---- */
@@ -505,6 +602,11 @@ static void pause_inside(void)
 	kpause("wait", false, 1, NULL);
 }
 
+static void pause_for_nothing(void)
+{
+	kpause("wait", false, 0, NULL);
+}
+
 static const struct stop_case cases[] = {
     {enter_twice, "mutex_enter: the thread has the lock already, taken at PLACE, at PLACE"},
     {spin_enter_twice, "mutex_enter: the thread has the lock already, taken at PLACE, at PLACE"},
@@ -526,6 +628,8 @@ static const struct stop_case cases[] = {
     {wait_with_spin, "cv_wait: with a spin lock, at PLACE"},
     {wait_in_softint, "cv_wait: in a soft interrupt, at PLACE"},
     {cv_destroy_waited, "cv_destroy: a thread waits for count, at PLACE"},
+    {wait_destroyed, "cv_wait: the condition variable was destroyed, at PLACE"},
+    {wait_with_two_spins, "cv_wait: the thread has more than this spin lock, at PLACE"},
     {cv_never_made, "cv_broadcast: the condition variable was never initialised, at PLACE"},
     {rw_exit_free, "rw_exit: nobody has the lock, at PLACE"},
     {rw_exit_anothers, "rw_exit: another thread has the lock as its writer, at PLACE"},
@@ -533,6 +637,8 @@ static const struct stop_case cases[] = {
     {rw_enter_twice, "rw_enter: the thread has the lock already, at PLACE"},
     {rw_enter_inside, "rw_enter: inside a read section, entered at PLACE, at PLACE"},
     {rw_destroy_held, "rw_destroy: the lock is held, at PLACE"},
+    {rw_enter_never_made, "rw_enter: the lock was never initialised, at PLACE"},
+    {rw_enter_destroyed, "rw_enter: the lock was destroyed, at PLACE"},
     {rw_downgrade_reader, "rw_downgrade: the thread is not the lock's writer"},
     {alloc_inside, "kmem_alloc: inside a read section, entered at PLACE, at PLACE"},
     {alloc_in_softint, "kmem_alloc: in a soft interrupt, at PLACE"},
@@ -540,6 +646,7 @@ static const struct stop_case cases[] = {
     {alloc_nothing, "kmem_zalloc: a block of no bytes, at PLACE"},
     {alloc_without_flag, "kmem_alloc: neither KM_SLEEP nor KM_NOSLEEP alone, at PLACE"},
     {free_other_size, "kmem_free: 64 bytes are given back of a block of 32, at PLACE"},
+    {intr_free_other_size, "kmem_intr_free: 31 bytes are given back of a block of 32, at PLACE"},
     {free_null, "kmem_free: no block, at PLACE"},
     {free_foreign, "kmem_free: no block of kmem's, or one that was given back, at PLACE"},
     {pool_in_use, "pool_destroy: 1 objects of thingpl are in use, at PLACE"},
@@ -550,10 +657,16 @@ static const struct stop_case cases[] = {
     {schedule_ended, "softint_schedule: the soft interrupt is not established, at PLACE"},
     {handler_stays_inside, "softint: the handler returned inside a read section"},
     {handler_stays_locked, "softint: the handler returned with a lock"},
+    {handler_stays_bound, "softint: the handler returned with preemption disabled"},
+    {callout_destroy_running, "callout_destroy: the callout runs, at PLACE"},
+    {callout_halt_inside, "callout_halt: inside a read section, entered at PLACE, at PLACE"},
+    {callout_never_made, "callout_halt: the callout was never initialised, at PLACE"},
+    {callout_destroyed, "callout_destroy: the callout was destroyed, at PLACE"},
     {callout_destroy_pending, "callout_destroy: the callout is pending, at PLACE"},
     {callout_without_function, "callout_schedule: the callout has no function"},
     {barrier_inside, "xc_barrier: inside a read section, entered at PLACE, at PLACE"},
     {broadcast_with_spin, "xc_broadcast: with a spin lock, at PLACE"},
+    {wait_for_no_call, "xc_wait: no such call"},
     {thread_ends_locked, "pthread_exit: with a lock"},
     {thread_ends_raised, "pthread_exit: with its CPU"},
     {child_of_fork, "pserialize_read_enter: in the child of a fork, at PLACE"},
@@ -564,6 +677,7 @@ static const struct stop_case cases[] = {
     {end_by_panic, "panic: no way, at PLACE"},
     {not_sleepable, "ASSERT_SLEEPABLE: inside a read section, entered at PLACE, at PLACE"},
     {copy_inside, "copyin: inside a read section, entered at PLACE, at PLACE"},
+    {pause_for_nothing, "kpause: no time to sleep for, at PLACE"},
     {pause_inside, "kpause: inside a read section, entered at PLACE, at PLACE"},
 };
 

@@ -6,6 +6,7 @@
 #include <sys/mutex.h>
 #include <sys/pserialize.h>
 #include <sys/psref.h>
+#include <sys/rwlock.h>
 
 #include "test.h"
 
@@ -135,6 +136,45 @@ static void test_blocked(void)
 	softint_disestablish(cookie);
 }
 
+static krwlock_t rw;
+static atomic_bool holds;
+
+/* Has both locks until it was in a section of the CPU whose level another thread has raised. */
+static void *hold_both(void *arg)
+{
+	kupaldiz_bind(2);
+	mutex_enter(&lock);
+	rw_enter(&rw, RW_WRITER);
+	atomic_store(&holds, true);
+	sleep_for(3000);
+	pserialize_read_exit(pserialize_read_enter());
+	mutex_exit(&lock);
+	sleep_for(3000);
+	pserialize_read_exit(pserialize_read_enter());
+	rw_exit(&rw);
+	return arg;
+}
+
+/* A thread at a raised level waits for a lock: its CPU is another thread's meanwhile, and its own when it goes on, at that level. */
+static void test_raised(void)
+{
+	pthread_t holder;
+	rw_init(&rw);
+	start_thread(&holder, hold_both, NULL);
+	while (!atomic_load(&holds))
+		sleep_for(10);
+	int s = splnet();
+	mutex_enter(&lock);
+	EXPECT(mutex_owned(&lock) && kpreempt_disabled());
+	rw_enter(&rw, RW_READER);
+	EXPECT(rw_read_held(&rw) && kpreempt_disabled() && splnet() == IPL_VM);
+	rw_exit(&rw);
+	mutex_exit(&lock);
+	splx(s);
+	end_thread(holder);
+	rw_destroy(&rw);
+}
+
 /* A spin lock keeps off those up to its level. */
 static void test_spin(void)
 {
@@ -208,6 +248,7 @@ int main(void)
 	test_levels();
 	test_once();
 	test_blocked();
+	test_raised();
 	test_spin();
 	test_storm();
 	psref_target_destroy(&target, things);

@@ -4,14 +4,18 @@
  * Each case runs in a child, which ends well. What is waited for ends once the line was written: the linker leads write here (--wrap). The last line counts
  * the cases.
  */
+#include <sys/callout.h>
 #include <sys/condvar.h>
 #include <sys/intr.h>
+#include <sys/kthread.h>
 #include <sys/localcount.h>
 #include <sys/mutex.h>
+#include <sys/percpu.h>
 #include <sys/prctl.h>
 #include <sys/pserialize.h>
 #include <sys/psref.h>
 #include <sys/rwlock.h>
+#include <sys/xcall.h>
 
 #include "stops.h"
 
@@ -19,7 +23,7 @@ static struct psref_class *things;
 static struct psref_target target;
 static struct localcount count;
 static pserialize_t psz;
-static kmutex_t lock, countlock;
+static kmutex_t lock, countlock, spin;
 static kcondvar_t cv;
 static krwlock_t rw;
 static atomic_bool ready, told;
@@ -40,6 +44,7 @@ static void begin(void)
 	psz = pserialize_create();
 	mutex_init(&lock, MUTEX_DEFAULT, IPL_SOFTNET);
 	mutex_init(&countlock, MUTEX_DEFAULT, IPL_NONE);
+	mutex_init(&spin, MUTEX_DEFAULT, IPL_VM);
 	cv_init(&cv, "count");
 	rw_init(&rw);
 	psref_target_init(&target, things);
@@ -233,6 +238,85 @@ static void disestablish_running(void)
 	softint_disestablish(cookie);
 }
 
+static void halt_running(void)
+{
+	static callout_t callout;
+	kupaldiz_bind(4);
+	callout_init(&callout, CALLOUT_MPSAFE);
+	callout_reset(&callout, 1, handle_long, NULL);
+	kupaldiz_unbind();
+	while (!atomic_load(&ready))
+		sleep_for(100);
+	callout_halt(&callout, NULL);
+}
+
+static void join_running(void)
+{
+	lwp_t *worker;
+	EXPECT(kthread_create(PRI_NONE, KTHREAD_MUSTJOIN, NULL, handle_long, NULL, &worker, "worker") == 0);
+	EXPECT(kthread_join(worker) == 0);
+}
+
+static void add_nothing(void *arg, void *other)
+{
+	(void)arg;
+	(void)other;
+}
+
+static void barrier_for_reader(void)
+{
+	pthread_t reader = hold("reader", read_long);
+	xc_barrier(0);
+	end_thread(reader);
+}
+
+static void broadcast_for_reader(void)
+{
+	pthread_t reader = hold("reader", read_long);
+	xc_wait(xc_broadcast(XC_HIGHPRI, add_nothing, NULL, NULL));
+	end_thread(reader);
+}
+
+static void *raise_long(void *of)
+{
+	name_it(of);
+	int s = splnet();
+	keep();
+	splx(s);
+	return of;
+}
+
+/* The CPU is another thread's, which has raised its level. */
+static void getref_for_level(void)
+{
+	pthread_t owner = hold("raised", raise_long);
+	percpu_t *percpu = percpu_alloc(8);
+	kupaldiz_bind(3);
+	(void)percpu_getref(percpu);
+	percpu_putref(percpu);
+	percpu_free(percpu, 8);
+	end_thread(owner);
+}
+
+static void *spin_long(void *of)
+{
+	name_it(of);
+	mutex_enter(&spin);
+	keep();
+	mutex_exit(&spin);
+	return of;
+}
+
+/* The lock spins, and this thread has a CPU of its own meanwhile. */
+static void spin_for_owner(void)
+{
+	pthread_t owner = hold("spinner", spin_long);
+	kupaldiz_bind(4);
+	mutex_spin_enter(&spin);
+	mutex_spin_exit(&spin);
+	end_thread(owner);
+}
+
 static const struct stop_case cases[] = {
     {perform_for_reader, "pserialize_perform: waits for CPU 3, whose thread \"reader\" is inside a read section, entered at PLACE"},
     {destroy_for_reader, "psref_target_destroy: waits for CPU 3, whose thread \"reader\" is inside a read section, entered at PLACE"},
@@ -245,6 +329,12 @@ static const struct stop_case cases[] = {
     {read_for_writer, "rw_enter: waits for the lock that thread \"writer\" took as a writer at PLACE"},
     {write_for_reader, "rw_enter: waits for 1 readers, the last of which took the lock at PLACE"},
     {disestablish_running, "softint_disestablish: waits for its handler"},
+    {halt_running, "callout_halt: waits for CPU 4, which runs it"},
+    {join_running, "kthread_join: waits for thread \"worker\" to end"},
+    {barrier_for_reader, "xc_barrier: waits for CPU 3, whose thread \"reader\" is inside a read section, entered at PLACE"},
+    {broadcast_for_reader, "xc_broadcast: waits for CPU 3, whose thread \"reader\" is inside a read section, entered at PLACE"},
+    {getref_for_level, "percpu_getref: waits for CPU 3, whose thread \"raised\" keeps it"},
+    {spin_for_owner, "mutex_spin_enter: waits for the lock that thread \"spinner\" took at PLACE"},
 };
 
 /* Whether a case ended well with just its line. */

@@ -1,0 +1,21 @@
+/* named - clients/netbsd/tests/names.c in a thread of the bench: each name does what its page says there, too */
+#include "../../netbsd/tests/names.c"
+
+#include "../bench.h"
+
+static void run_names(void *arg)
+{
+	(void)arg;
+	test_all();
+}
+
+static void begin(void)
+{
+	bench_thread("names", run_names, NULL);
+}
+
+int main(void)
+{
+	const struct bench_options options = {.name = "names"};
+	return bench_explore(begin, &options);
+}

@@ -1,0 +1,46 @@
+#!/usr/bin/env python3
+"""Looks for each line by which the layer stops, or says what it waits for, in a test that wants it.
+
+    lines.py    the last line is 'N passed, M failed'
+
+What only a process without memory, threads or keys would see has no test, and neither has an answer of the registry's that no call of the layer gets.
+"""
+import re
+import sys
+from pathlib import Path
+
+HERE = Path(__file__).resolve().parent
+UNTESTED = {"out of memory", "no key of a thread is left", "no thread is left", "%d targets and counts are live", "%s"}
+# Of two files that say the same, each has a test of its own.
+BEGINS = {"rwlock.c": r'"rw_[a-z]+: ', "mutex.c": r'"(?:mutex|cv)_[a-z_]+: ', "callout.c": r'"callout_[a-z]+: '}
+TEXT = re.compile(r'"((?:[^"\\]|\\.)*)"')
+
+
+def lines():
+    """(file, what it says) of each."""
+    for file in sorted((HERE.parent / "src").glob("*.c")):
+        for call in re.finditer(r"\b(?:stop|say|stop_at)\(([^;]*);", file.read_text()):
+            yield from ((file.name, text) for text in TEXT.findall(call.group(1)) if " " in text or "%" in text)
+
+
+def pattern_of(text):
+    """What finds it in a test: a conversion is any word or words there."""
+    parts = re.split(r"%[a-z]+", text.replace('\\"', '"'))
+    return ".{0,60}".join(re.escape(part.replace('"', '\\"')) for part in parts)
+
+
+def main():
+    tests = "\n".join((HERE / f"{name}.c").read_text() for name in ("misuse", "misuse_kernel", "sleepers", "tells"))
+    passed = failed = 0
+    for file, text in sorted(set(lines())):
+        if text in UNTESTED:
+            continue
+        found = re.search(BEGINS.get(file, "") + pattern_of(text), tests) is not None
+        passed, failed = passed + found, failed + (not found)
+        if not found:
+            print(f'{file}: no test wants "{text}"')
+    print(f"{passed} passed, {failed} failed")
+    sys.exit(failed != 0)
+
+
+main()

@@ -1,0 +1,516 @@
+/*
+ * names - the names of names.txt that no driver and no other test uses: each does what its page says
+ *
+ * It is compiled as a driver's file is. The bench runs it too: clients/bench/tests/named.c.
+ */
+#include <sys/cdefs.h>
+__KERNEL_RCSID(0, "$NetBSD$");
+
+#include <sys/param.h>
+#include <sys/systm.h>
+#include <sys/atomic.h>
+#include <sys/cpu.h>
+#include <sys/evcnt.h>
+#include <sys/intr.h>
+#include <sys/kmem.h>
+#include <sys/kthread.h>
+#include <sys/module.h>
+#include <sys/mutex.h>
+#include <sys/percpu.h>
+#include <sys/pool.h>
+#include <sys/pslist.h>
+#include <sys/queue.h>
+#include <sys/xcall.h>
+
+#include <net/net_stats.h>
+
+#include "test.h"
+
+/* ---- atomic_ops(3). ---- */
+
+/* All operations on a word of one type. It holds 5 at first. */
+#define TEST_ATOMICS(type, add, add_nv, inc, inc_nv, dec, dec_nv, and, and_nv, or, or_nv, swap, cas, cas_ni) \
+	do { \
+		type word = 5; \
+		add(&word, 4); \
+		EXPECT(word == 9 && add_nv(&word, -2) == 7 && word == 7); \
+		inc(&word); \
+		EXPECT(word == 8 && inc_nv(&word) == 9 && word == 9); \
+		dec(&word); \
+		EXPECT(word == 8 && dec_nv(&word) == 7 && word == 7); \
+		and(&word, 14); \
+		EXPECT(word == 6 && and_nv(&word, 3) == 2 && word == 2); \
+		or(&word, 5); \
+		EXPECT(word == 7 && or_nv(&word, 8) == 15 && word == 15); \
+		EXPECT(swap(&word, 3) == 15 && word == 3); \
+		EXPECT(cas(&word, 4, 9) == 3 && word == 3 && cas(&word, 3, 9) == 3 && word == 9); \
+		EXPECT(cas_ni(&word, 3, 5) == 9 && word == 9 && cas_ni(&word, 9, (type)-1) == 9 && word == (type)-1); \
+		EXPECT(inc_nv(&word) == 0 && dec_nv(&word) == (type)-1); \
+	} while (0)
+
+static void
+test_atomics(void)
+{
+	TEST_ATOMICS(uint32_t, atomic_add_32, atomic_add_32_nv, atomic_inc_32, atomic_inc_32_nv, atomic_dec_32, atomic_dec_32_nv, atomic_and_32,
+	    atomic_and_32_nv, atomic_or_32, atomic_or_32_nv, atomic_swap_32, atomic_cas_32, atomic_cas_32_ni);
+	TEST_ATOMICS(unsigned int, atomic_add_int, atomic_add_int_nv, atomic_inc_uint, atomic_inc_uint_nv, atomic_dec_uint, atomic_dec_uint_nv,
+	    atomic_and_uint, atomic_and_uint_nv, atomic_or_uint, atomic_or_uint_nv, atomic_swap_uint, atomic_cas_uint, atomic_cas_uint_ni);
+	TEST_ATOMICS(unsigned long, atomic_add_long, atomic_add_long_nv, atomic_inc_ulong, atomic_inc_ulong_nv, atomic_dec_ulong,
+	    atomic_dec_ulong_nv, atomic_and_ulong, atomic_and_ulong_nv, atomic_or_ulong, atomic_or_ulong_nv, atomic_swap_ulong, atomic_cas_ulong,
+	    atomic_cas_ulong_ni);
+	TEST_ATOMICS(uint64_t, atomic_add_64, atomic_add_64_nv, atomic_inc_64, atomic_inc_64_nv, atomic_dec_64, atomic_dec_64_nv, atomic_and_64,
+	    atomic_and_64_nv, atomic_or_64, atomic_or_64_nv, atomic_swap_64, atomic_cas_64, atomic_cas_64_ni);
+}
+
+static void
+test_pointers(void)
+{
+	char bytes[8], *at = bytes;
+
+	atomic_add_ptr(&at, 6);
+	EXPECT(at == bytes + 6 && atomic_add_ptr_nv(&at, -4) == bytes + 2);
+	atomic_inc_ptr(&at);
+	EXPECT(at == bytes + 3 && atomic_inc_ptr_nv(&at) == bytes + 4);
+	atomic_dec_ptr(&at);
+	EXPECT(at == bytes + 3 && atomic_dec_ptr_nv(&at) == bytes + 2);
+	EXPECT(atomic_cas_ptr_ni(&at, bytes, NULL) == bytes + 2 && atomic_cas_ptr_ni(&at, bytes + 2, NULL) == bytes + 2 && at == NULL);
+	membar_acquire();
+	membar_enter();
+	membar_exit();
+	membar_datadep_consumer();
+	__insn_barrier();
+}
+
+/* ---- queue(3): four elements in each kind of list, of which some go. ---- */
+
+struct element {
+	SLIST_ENTRY(element)	single;
+	LIST_ENTRY(element)	both;
+	SIMPLEQ_ENTRY(element)	simple;
+	STAILQ_ENTRY(element)	tailed;
+	TAILQ_ENTRY(element)	tail;
+	unsigned		value;
+};
+
+static struct element elements[5] = {{.value = 1}, {.value = 2}, {.value = 3}, {.value = 4}, {.value = 5}};
+
+/* The values of a list as the digits of a number. */
+#define ORDER(number, at, foreach) \
+	do { \
+		(number) = 0; \
+		foreach \
+			(number) = (number) * 10 + (at)->value; \
+	} while (0)
+
+static void
+test_slist(void)
+{
+	SLIST_HEAD(, element) head = SLIST_HEAD_INITIALIZER(head);
+	struct element *at, *after;
+	unsigned order;
+
+	SLIST_INIT(&head);
+	SLIST_INSERT_HEAD(&head, &elements[1], single);
+	SLIST_INSERT_HEAD(&head, &elements[0], single);
+	SLIST_INSERT_AFTER(&elements[1], &elements[3], single);
+	SLIST_INSERT_AFTER(&elements[1], &elements[2], single);
+	ORDER(order, at, SLIST_FOREACH(at, &head, single));
+	EXPECT(order == 1234 && SLIST_FIRST(&head) == &elements[0] && SLIST_NEXT(&elements[0], single) == &elements[1]);
+	SLIST_REMOVE_AFTER(&elements[1], single);
+	SLIST_REMOVE(&head, &elements[3], element, single);
+	ORDER(order, at, SLIST_FOREACH(at, &head, single));
+	EXPECT(order == 12);
+	SLIST_FOREACH_SAFE(at, &head, single, after)
+		SLIST_REMOVE_HEAD(&head, single);
+	EXPECT(SLIST_EMPTY(&head));
+}
+
+static void
+test_list(void)
+{
+	LIST_HEAD(elements, element) head = LIST_HEAD_INITIALIZER(head), other;
+	struct element *at, *after;
+	unsigned order;
+
+	LIST_INIT(&head);
+	LIST_INSERT_HEAD(&head, &elements[1], both);
+	LIST_INSERT_BEFORE(&elements[1], &elements[0], both);
+	LIST_INSERT_AFTER(&elements[1], &elements[2], both);
+	LIST_REPLACE(&elements[1], &elements[3], both);
+	ORDER(order, at, LIST_FOREACH(at, &head, both));
+	EXPECT(order == 143 && LIST_FIRST(&head) == &elements[0] && LIST_NEXT(&elements[3], both) == &elements[2]);
+	LIST_REPLACE(&elements[0], &elements[1], both);
+	LIST_REPLACE(&elements[2], &elements[4], both);
+	LIST_MOVE(&head, &other, both);
+	ORDER(order, at, LIST_FOREACH(at, &other, both));
+	EXPECT(order == 245 && LIST_EMPTY(&head));
+	LIST_MOVE(&head, &other, both);
+	EXPECT(LIST_EMPTY(&other));
+	LIST_INSERT_HEAD(&other, &elements[0], both);
+	LIST_FOREACH_SAFE(at, &other, both, after)
+		LIST_REMOVE(at, both);
+	EXPECT(LIST_EMPTY(&other));
+}
+
+static void
+test_simpleq(void)
+{
+	SIMPLEQ_HEAD(simples, element) head = SIMPLEQ_HEAD_INITIALIZER(head), more;
+	struct element *at, *after;
+	unsigned order;
+
+	SIMPLEQ_INIT(&head);
+	SIMPLEQ_INIT(&more);
+	EXPECT(SIMPLEQ_LAST(&head, element, simple) == NULL);
+	SIMPLEQ_INSERT_TAIL(&head, &elements[1], simple);
+	SIMPLEQ_INSERT_HEAD(&head, &elements[0], simple);
+	SIMPLEQ_INSERT_AFTER(&head, &elements[1], &elements[2], simple);
+	SIMPLEQ_INSERT_TAIL(&more, &elements[3], simple);
+	SIMPLEQ_CONCAT(&head, &more);
+	SIMPLEQ_CONCAT(&head, &more);
+	ORDER(order, at, SIMPLEQ_FOREACH(at, &head, simple));
+	EXPECT(order == 1234 && SIMPLEQ_EMPTY(&more) && SIMPLEQ_LAST(&head, element, simple) == &elements[3]);
+	SIMPLEQ_REMOVE_AFTER(&head, &elements[2], simple);
+	EXPECT(SIMPLEQ_LAST(&head, element, simple) == &elements[2] && SIMPLEQ_NEXT(&elements[2], simple) == NULL);
+	SIMPLEQ_REMOVE(&head, &elements[1], element, simple);
+	SIMPLEQ_INSERT_TAIL(&head, &elements[4], simple);
+	ORDER(order, at, SIMPLEQ_FOREACH(at, &head, simple));
+	EXPECT(order == 135 && SIMPLEQ_FIRST(&head) == &elements[0]);
+	SIMPLEQ_FOREACH_SAFE(at, &head, simple, after)
+		SIMPLEQ_REMOVE_HEAD(&head, simple);
+	EXPECT(SIMPLEQ_EMPTY(&head));
+}
+
+static void
+test_stailq(void)
+{
+	STAILQ_HEAD(taileds, element) head = STAILQ_HEAD_INITIALIZER(head), more = STAILQ_HEAD_INITIALIZER(more);
+	struct element *at, *after;
+	unsigned order;
+
+	STAILQ_INIT(&head);
+	EXPECT(STAILQ_LAST(&head, element, tailed) == NULL);
+	STAILQ_INSERT_HEAD(&head, &elements[4], tailed);
+	STAILQ_INSERT_AFTER(&head, &elements[4], &elements[2], tailed);
+	STAILQ_INSERT_TAIL(&more, &elements[1], tailed);
+	STAILQ_CONCAT(&head, &more);
+	ORDER(order, at, STAILQ_FOREACH(at, &head, tailed));
+	EXPECT(order == 532 && STAILQ_LAST(&head, element, tailed) == &elements[1] && STAILQ_NEXT(&elements[4], tailed) == &elements[2]);
+	STAILQ_REMOVE(&head, &elements[2], element, tailed);
+	EXPECT(STAILQ_FIRST(&head) == &elements[4] && STAILQ_NEXT(&elements[4], tailed) == &elements[1]);
+	STAILQ_FOREACH_SAFE(at, &head, tailed, after)
+		STAILQ_REMOVE_HEAD(&head, tailed);
+	EXPECT(STAILQ_EMPTY(&head) && STAILQ_EMPTY(&more));
+}
+
+static void
+test_tailq(void)
+{
+	TAILQ_HEAD(tails, element) head = TAILQ_HEAD_INITIALIZER(head), more = TAILQ_HEAD_INITIALIZER(more);
+	struct element *at, *before;
+	unsigned order;
+
+	TAILQ_INIT(&head);
+	TAILQ_INSERT_HEAD(&head, &elements[1], tail);
+	TAILQ_INSERT_BEFORE(&elements[1], &elements[0], tail);
+	TAILQ_INSERT_AFTER(&head, &elements[1], &elements[2], tail);
+	TAILQ_INSERT_TAIL(&more, &elements[3], tail);
+	TAILQ_CONCAT(&head, &more, tail);
+	ORDER(order, at, TAILQ_FOREACH(at, &head, tail));
+	EXPECT(order == 1234 && TAILQ_FIRST(&head) == &elements[0] && TAILQ_LAST(&head, tails) == &elements[3]);
+	TAILQ_REPLACE(&head, &elements[3], &elements[4], tail);
+	EXPECT(TAILQ_LAST(&head, tails) == &elements[4]);
+	TAILQ_REPLACE(&head, &elements[1], &elements[3], tail);
+	ORDER(order, at, TAILQ_FOREACH_REVERSE(at, &head, tails, tail));
+	EXPECT(order == 5341 && TAILQ_NEXT(&elements[0], tail) == &elements[3] && TAILQ_PREV(&elements[3], tails, tail) == &elements[0]);
+	TAILQ_FOREACH_REVERSE_SAFE(at, &head, tails, tail, before)
+		TAILQ_REMOVE(&head, at, tail);
+	EXPECT(TAILQ_EMPTY(&head));
+}
+
+static void
+test_pslist(void)
+{
+	struct {
+		struct pslist_entry link;
+		unsigned value;
+	} only = {PSLIST_ENTRY_INITIALIZER, 7};
+	struct pslist_head head;
+
+	PSLIST_INIT(&head);
+	PSLIST_WRITER_INSERT_HEAD(&head, &only, link);
+	EXPECT(!PSLIST_READER_EMPTY(&head));
+	PSLIST_WRITER_REMOVE(&only, link);
+	PSLIST_ENTRY_DESTROY(&only, link);
+	PSLIST_DESTROY(&head);
+}
+
+/* ---- spl(9), and the levels' names. ---- */
+
+static int
+level_now(void)
+{
+	return splraiseipl(makeiplcookie(IPL_NONE));
+}
+
+/* Each name raises the level to its own, and splx lowers it again. */
+#define TEST_LEVEL(raise, level) \
+	do { \
+		int before = raise(); \
+		EXPECT(before == IPL_NONE && level_now() == (level) && kpreempt_disabled()); \
+		splx(before); \
+		EXPECT(level_now() == IPL_NONE && !kpreempt_disabled()); \
+	} while (0)
+
+static void
+test_levels(void)
+{
+	const ipl_cookie_t cookie = makeiplcookie(IPL_SOFTSERIAL);
+	int s;
+
+	TEST_LEVEL(splsoftclock, IPL_SOFTCLOCK);
+	TEST_LEVEL(splsoftbio, IPL_SOFTBIO);
+	TEST_LEVEL(splsoftnet, IPL_SOFTNET);
+	TEST_LEVEL(splsoftserial, IPL_SOFTSERIAL);
+	TEST_LEVEL(splvm, IPL_VM);
+	TEST_LEVEL(splnet, IPL_NET);
+	TEST_LEVEL(splbio, IPL_BIO);
+	TEST_LEVEL(spltty, IPL_TTY);
+	TEST_LEVEL(splclock, IPL_CLOCK);
+	TEST_LEVEL(splsched, IPL_SCHED);
+	TEST_LEVEL(splserial, IPL_SERIAL);
+	TEST_LEVEL(splhigh, IPL_HIGH);
+	s = splraiseipl(cookie);
+	EXPECT(s == IPL_NONE && level_now() == IPL_SOFTSERIAL && splvm() == IPL_SOFTSERIAL);
+	spl0();
+	EXPECT(level_now() == IPL_NONE && !kpreempt_disabled() && !cpu_intr_p());
+	EXPECT((SOFTINT_BIO | SOFTINT_MPSAFE) != SOFTINT_BIO && (SOFTINT_SERIAL & SOFTINT_LVLMASK) == SOFTINT_SERIAL);
+}
+
+/* ---- mutex(9): which lock spins. ---- */
+
+static void
+test_mutex(kmutex_type_t type, int level, bool spins)
+{
+	kmutex_t lock;
+
+	mutex_init(&lock, type, level);
+	mutex_enter(&lock);
+	EXPECT(mutex_owned(&lock) && kpreempt_disabled() == spins);
+	mutex_exit(&lock);
+	mutex_destroy(&lock);
+}
+
+static void
+test_mutexes(void)
+{
+	test_mutex(MUTEX_DEFAULT, IPL_NONE, false);
+	test_mutex(MUTEX_DEFAULT, IPL_SOFTNET, false);
+	test_mutex(MUTEX_DEFAULT, IPL_VM, true);
+	test_mutex(MUTEX_DRIVER, IPL_SOFTBIO, false);
+	test_mutex(MUTEX_DRIVER, IPL_BIO, true);
+	test_mutex(MUTEX_ADAPTIVE, IPL_NONE, false);
+	test_mutex(MUTEX_NODEBUG, IPL_SCHED, true);
+	test_mutex(MUTEX_SPIN, IPL_NONE, true);
+}
+
+/* ---- kmem(9), pool(9), percpu(9), xcall(9), and counters. ---- */
+
+static void
+test_memory(void)
+{
+	const km_flag_t flags = KM_NOSLEEP;
+	unsigned char *zeros = kmem_intr_zalloc(40, flags);
+	struct pool pool;
+	char *text;
+	void *object;
+
+	EXPECT(zeros != NULL && zeros[0] == 0 && zeros[39] == 0);
+	kmem_intr_free(zeros, 40);
+	text = kmem_strdup("bridge0", KM_SLEEP);
+	EXPECT(strcmp(text, "bridge0") == 0);
+	kmem_strfree(text);
+	pool_init(&pool, 24, 0, 0, 0, "thingpl", NULL, IPL_NONE);
+	object = pool_get(&pool, PR_NOWAIT | PR_ZERO);
+	EXPECT(object != NULL && *(uint64_t *)object == 0);
+	pool_put(&pool, object);
+	pool_destroy(&pool);
+}
+
+enum { STAT_IN, STAT_OUT, STATS };
+
+static void
+sum_up(void *own, void *arg, struct cpu_info *cpu)
+{
+	uint64_t *sums = arg, *counters = own;
+
+	EXPECT(cpu != NULL);
+	sums[STAT_IN] += counters[STAT_IN];
+	sums[STAT_OUT] += counters[STAT_OUT];
+}
+
+static void
+count_visit(void *count, void *bound)
+{
+	*(unsigned *)count += bound == NULL && (curlwp->l_pflag & LP_BOUND) != 0;
+}
+
+static void
+test_counters(void)
+{
+	const percpu_callback_t look = sum_up;
+	const xcfunc_t visit = count_visit;
+	percpu_t *stats = percpu_alloc(STATS * sizeof(uint64_t));
+	uint64_t sums[STATS] = {0}, *own;
+	unsigned visits = 0;
+
+	_NET_STATINC(stats, STAT_IN);
+	_NET_STATADD(stats, STAT_OUT, 7);
+	_NET_STATDEC(stats, STAT_OUT);
+	own = _NET_STAT_GETREF(stats);
+	_NET_STATINC_REF(own, STAT_IN);
+	_NET_STATADD_REF(own, STAT_OUT, 4);
+	_NET_STAT_PUTREF(stats);
+	percpu_foreach(stats, look, sums);
+	EXPECT(sums[STAT_IN] == 2 && sums[STAT_OUT] == 10 && !kpreempt_disabled());
+	percpu_free(stats, STATS * sizeof(uint64_t));
+	xc_wait(xc_broadcast(XC_HIGHPRI_IPL(IPL_SOFTNET), visit, &visits, NULL));
+	EXPECT(visits == KUPALDIZ_CPUS);
+}
+
+static struct evcnt events[2] = {EVCNT_INITIALIZER(EVCNT_TYPE_TRAP, NULL, "named", "first"), EVCNT_INITIALIZER(EVCNT_TYPE_MISC, &events[0], "named", "second")};
+EVCNT_ATTACH_STATIC2(events, 1);
+
+static void
+test_events(void)
+{
+	evcnt_attach_static(&events[1]);
+	events[1].ev_count += 2;
+	EXPECT(events[1].ev_count == 2 && strcmp(events[1].ev_name, "second") == 0 && events[1].ev_parent == &events[0]);
+	evcnt_detach(&events[1]);
+}
+
+/* ---- kthread(9) and module(9). ---- */
+
+static void
+run_once(void *arg)
+{
+	atomic_inc_uint(arg);
+}
+
+static void
+test_threads(void)
+{
+	static const int kinds[] = {KTHREAD_INTR, KTHREAD_TS, KTHREAD_IDLE};
+	unsigned runs = 0;
+	lwp_t *made;
+
+	for (unsigned at = 0; at < __arraycount(kinds); at++) {
+		EXPECT(kthread_create(PRI_NONE, kinds[at] | KTHREAD_MUSTJOIN, NULL, run_once, &runs, &made, "kind%u", at) == 0);
+		EXPECT(kthread_join(made) == 0);
+	}
+	EXPECT(runs == __arraycount(kinds));
+}
+
+MODULE(MODULE_CLASS_DRIVER, named, NULL);
+
+static int
+named_modcmd(modcmd_t command, void *opaque)
+{
+	const modclass_t class_of = MODULE_CLASS_DRIVER;
+
+	return class_of == MODULE_CLASS_DRIVER && command == MODULE_CMD_AUTOUNLOAD && opaque == NULL ? 0 : ENOTTY;
+}
+
+static void
+test_module(void)
+{
+	EXPECT(kupaldiz_named_modcmd(MODULE_CMD_AUTOUNLOAD, NULL) == 0 && kupaldiz_named_modcmd(MODULE_CMD_STAT, NULL) == ENOTTY);
+}
+
+/* ---- cdefs, types, param, systm. ---- */
+
+struct __packed tight {
+	uint8_t	byte;
+	u_int	word;
+};
+CTASSERT(sizeof(struct tight) == 1 + sizeof(u_int));
+__CTASSERT(MAXCPUS == KUPALDIZ_CPUS);
+
+static unsigned lonely __cacheline_aligned = 1;
+static u_int never_read __unused;
+static const char kept[] __used = "kept";
+
+static __noinline int
+noinline_sum(int32_t one, int two __diagused)
+{
+	KDASSERT(two > 0);
+	KDASSERTMSG(one > 0, "%d", one);
+	return one + two;
+}
+
+static __dead void
+dies(void)
+{
+	panic("not called");
+}
+
+static void
+test_words(void)
+{
+	const devmajor_t major = 3;
+	const devminor_t minor = 4;
+	const dev_t device = (dev_t)(major << 8 | minor);
+	u_long flags = 5;
+	void *plain = __UNCONST(kept);
+
+	SET(flags, 10);
+	EXPECT(flags == 15 && ISSET(flags, 8) && !ISSET(flags, 16));
+	CLR(flags, 3ul);
+	EXPECT(flags == 12 && device == 0x304 && plain == kept);
+	EXPECT(__BIT(4) == 16 && __SHIFTIN(5, __BITS(6, 4)) == 0x50 && noinline_sum(1, 2) == 3);
+	EXPECT((uintptr_t)&lonely % COHERENCY_UNIT == 0 && CACHE_LINE_SIZE == COHERENCY_UNIT && lonely == 1);
+	if (__predict_false(flags == 0))
+		dies();
+	__USE(kept);
+}
+
+static void
+test_numbers(void)
+{
+	EXPECT(MIN(2, 3) == 2 && MAX(2, 3) == 3 && uimin(2, 3) == 2 && uimax(2, 3) == 3 && ulmin(2, 3) == 2 && lmax(-2, 3) == 3);
+	EXPECT(roundup(9, 4) == 12 && rounddown(9, 4) == 8 && roundup2(9, 8) == 16 && rounddown2(15, 8) == 8 && powerof2(64) && !powerof2(65));
+	EXPECT(mstohz(21) == 3 && hztoms(3) == 30 && nullop(NULL) == 0);
+}
+
+static void
+test_all(void)
+{
+	test_atomics();
+	test_pointers();
+	test_slist();
+	test_list();
+	test_simpleq();
+	test_stailq();
+	test_tailq();
+	test_pslist();
+	test_levels();
+	test_mutexes();
+	test_memory();
+	test_counters();
+	test_events();
+	test_threads();
+	test_module();
+	test_words();
+	test_numbers();
+}
+
+#ifndef KUPALDIZ_BENCH
+int
+main(void)
+{
+	test_all();
+	puts("each name did what its page says");
+	return 0;
+}
+#endif
