@@ -4,20 +4,22 @@ from .trees import Case, Fault, real
 # A library is a text here: what nm says of it.
 NM = '#!/bin/sh\nfor library; do :; done\ncat "$library"\n'
 HEADERS = "clients/include/registry.h", "clients/c/waiting.h"
+BUILT_FOR = "registry_for_8_cpus_32_slots"
 SYMBOLS = {
     **real("clients/symbols.sh", "clients/calls-of.sh"),
-    "clients/include/registry.h": "uint32_t registry_enter(struct registry_cpu *cpu);\n",
+    "clients/include/registry.h": "uint32_t registry_enter(struct registry_cpu *cpu);\nregistry_answer REGISTRY_BUILT_FOR(const struct registry_limits *limits);\n",
+    "clients/include/registry_limits.h": f"#define REGISTRY_BUILT_FOR\t{BUILT_FOR}\n",
     "clients/c/waiting.h": "size_t registry_waits(void);\n",
-    "clients/kupaldiz.map": "KUPALDIZ_0 {\n\tglobal:\n\t\tregistry_enter;\n\t\tregistry_waits;\n\tlocal:\n\t\t*;\n};\n",
+    "clients/kupaldiz.map": "KUPALDIZ_0 {\n\tglobal:\n\t\tregistry_enter;\n\t\tregistry_for_*;\n\t\tregistry_waits;\n\tlocal:\n\t\t*;\n};\n",
     "clients/netbsd/kupaldiz/cpu.h": "int cpu_number(void);\nvoid kupaldiz_point(void);\nint kupaldiz_from(void);\n",
     "clients/netbsd/netbsd.map": "NETBSD_0 {\n\tglobal:\n\t\tkupaldiz_cpu_number;\n};\n",
     "clients/bench/bench.h": "void bench_thread(const char *name);\n",
     "clients/bench/bench.map": "BENCH_0 {\n\tglobal:\n\t\tbench_thread;\n\t\tkupaldiz_cpu_number;\n\t\tkupaldiz_from;\n\t\tkupaldiz_point;\n};\n",
-    "look": "#!/bin/sh\nNM=$PWD/nm exec clients/symbols.sh include out 1\n",
+    "look": "#!/bin/sh\nNM=$PWD/nm exec clients/symbols.sh include out -8 1\n",
     "nm": NM,
 }
 LIBRARIES = {
-    "kupaldiz": ("registry_enter", "registry_waits"),
+    "kupaldiz": ("registry_enter", BUILT_FOR, "registry_waits"),
     "kupaldiz_netbsd": ("kupaldiz_cpu_number",),
     "kupaldiz_bench": ("bench_thread", "kupaldiz_cpu_number", "kupaldiz_from", "kupaldiz_point"),
 }
@@ -33,7 +35,7 @@ def listing(names, version=""):
 def symbols():
     tree, faults = dict(SYMBOLS), []
     for library, names in LIBRARIES.items():
-        shared, static = f"clients/out/lib{library}.so.1", f"clients/out/lib{library}.a"
+        shared, static = f"clients/out/lib{library}-8.so.1", f"clients/out/lib{library}.a"
         tree |= {shared: f"0000 A VERSION\n{listing(names, '@@VERSION')}", static: f"\npart.o:\n{listing((*names, *HIDDEN.get(library, ())))}"}
         for path in (shared, static):
             text = tree[path]
@@ -41,7 +43,7 @@ def symbols():
             faults += [
                 Fault(f"a name more: {path}", f"{told}> another", ((path, None, f"{text}0000 T another\n"),)),
                 Fault(f"a name less: {path}", f"{told}< {names[0]}", ((path, names[0], "VERSION"),)),
-                Fault(f"no library: {path}", told, ((path, text, None),)),
+                Fault(f"no library: {path}", told if library == "kupaldiz_bench" else f"there is no {path.removeprefix('clients/')}", ((path, text, None),)),
             ]
     # Where there is no library of the bench nothing of it is looked at.
     faults = [it for it in faults if it.name != "no library: clients/out/libkupaldiz_bench.a"]
