@@ -23,6 +23,8 @@ LIBRARIES = {
     "kupaldiz_netbsd": ("kupaldiz_cpu_number",),
     "kupaldiz_bench": ("bench_thread", "kupaldiz_cpu_number", "kupaldiz_from", "kupaldiz_point"),
 }
+# The node of each map.
+NODES = {"kupaldiz": "KUPALDIZ_0", "kupaldiz_netbsd": "NETBSD_0", "kupaldiz_bench": "BENCH_0"}
 # The layer's parts share these two.
 HIDDEN = {"kupaldiz_netbsd": ("kupaldiz_self", "kupaldiz_places")}
 
@@ -36,15 +38,16 @@ def symbols():
     tree, faults = dict(SYMBOLS), []
     for library, names in LIBRARIES.items():
         shared, static = f"clients/out/lib{library}-8.so.1", f"clients/out/lib{library}.a"
-        tree |= {shared: f"0000 A VERSION\n{listing(names, '@@VERSION')}", static: f"\npart.o:\n{listing((*names, *HIDDEN.get(library, ())))}"}
+        tree |= {shared: f"0000 A {NODES[library]}\n{listing(names, '@@' + NODES[library])}", static: f"\npart.o:\n{listing((*names, *HIDDEN.get(library, ())))}"}
         for path in (shared, static):
             text = tree[path]
             told = f"lib{library}.{'so' if path == shared else 'a'}: other names than those of the headers\n"
             faults += [
                 Fault(f"a name more: {path}", f"{told}> another", ((path, None, f"{text}0000 T another\n"),)),
-                Fault(f"a name less: {path}", f"{told}< {names[0]}", ((path, names[0], "VERSION"),)),
+                Fault(f"a name less: {path}", f"{told}< {names[0]}", ((path, names[0], "less"),)),
                 Fault(f"no library: {path}", told if library == "kupaldiz_bench" else f"there is no {path.removeprefix('clients/')}", ((path, text, None),)),
             ]
+    faults.append(Fault("another node", "the nodes of libkupaldiz.so: other names", (("clients/out/libkupaldiz-8.so.1", "registry_waits@@KUPALDIZ_0", "registry_waits@@KUPALDIZ_1"),)))
     # Where there is no library of the bench nothing of it is looked at.
     faults = [it for it in faults if it.name != "no library: clients/out/libkupaldiz_bench.a"]
     for path in ("clients/kupaldiz.map", "clients/netbsd/netbsd.map", "clients/bench/bench.map"):
