@@ -18,7 +18,8 @@ HEADER = "crates/registry_c/include/registry_limits.h"
 MAKER = "tools/limits-header.py"
 
 # Where the Rust crate has that header.
-IN_CRATE = "clients/rust/registry_limits.h"
+# The same header again: in a crate that is used alone, and beside the layer's headers. `rt ci` takes no links.
+COPIES = ("clients/rust/registry_limits.h", "clients/netbsd/kupaldiz/registry_limits.h")
 
 # Which constant a place has, and how it says it.
 PLACES = (
@@ -43,7 +44,7 @@ def same_header(path):
 def main():
     failed = 0
     of = limits()
-    for path in (HEADER, IN_CRATE):
+    for path in (HEADER, *COPIES):
         if not same_header(path):
             failed += 1
             print(f"{path} isn't what {MAKER} makes of {LIMITS}: {MAKER} >{HEADER}")

@@ -10,7 +10,7 @@ PLACES = (
 LIMITS = "crates/registry_values/src/limits.rt"
 # The header of all limits, and what it says of each.
 HEADER = "crates/registry_c/include/registry_limits.h"
-IN_CRATE = "clients/rust/registry_limits.h"
+COPIES = ("clients/rust/registry_limits.h", "clients/netbsd/kupaldiz/registry_limits.h")
 SAID = ("MOST_CPUS\t8", "MOST_SLOTS\t32", "MOST_CHANGES\tUINT64_C(1000000)", "MOST_SECTIONS\t(UINT64_C(1) << 40)", "MOST_COUNT\t(UINT64_C(1) << 40)",
         "MOST_DEPTH\t255", "BUILT_FOR\tregistry_for_8_cpus_32_slots", 'BUILD\t""')
 
@@ -20,12 +20,12 @@ def check_limits():
               for path, old, name in PLACES]
     faults += [Fault(f"no number: {path}, {name}", f"{path}: {name} is None", ((path, old, "gone"),)) for path, old, name in PLACES]
     faults += [Fault(f"another header: {old}", f"{HEADER} isn't what", ((HEADER, f"REGISTRY_{old}", "REGISTRY_OTHER 7"),)) for old in SAID]
-    faults.append(Fault("another header of the crate", f"{IN_CRATE} isn't what", ((IN_CRATE, "MOST_CPUS\t8", "MOST_CPUS\t9"),)))
+    faults += [Fault(f"another copy: {path}", f"{path} isn't what", ((path, "MOST_CPUS\t8", "MOST_CPUS\t9"),)) for path in COPIES]
     faults.append(Fault("a limit that Rattle doesn't say", "MOST_DEPTH is None", ((LIMITS, "const MOST_DEPTH", "const DEPTH"),)))
     faults += [Fault(f"another {name} in Rattle", f"{name} is", ((LIMITS, f"const {name}: {kind} = {number};", f"const {name}: {kind} = 7;"),))
                for name, kind, number in (("MOST_CPUS", "usize", "8"), ("MOST_SLOTS", "usize", "32"), ("MOST_CHANGES", "u64", "1_000_000"),
                                           ("MOST_SECTIONS", "u64", "1 << 40"), ("MOST_COUNT", "u64", "1 << 40"), ("MOST_DEPTH", "u8", "255"))]
-    tree = real(LIMITS, HEADER, IN_CRATE, *{path for path, _, _ in PLACES})
+    tree = real(LIMITS, HEADER, *COPIES, *{path for path, _, _ in PLACES})
     return Case("check-limits", ["check-limits.py", "counts.py", "limits-header.py", "limits.py"], tree, ["tools/check-limits.py"], faults)
 
 

@@ -1,1 +1,35 @@
-../../../crates/registry_c/include/registry_limits.h
+/*
+ * registry_limits.h - the limits that the library was built for
+ *
+ * tools/limits-header.py makes this file from the limits in the proved code. A build with other limits has another one. registry.h includes it.
+ */
+#ifndef REGISTRY_LIMITS_H
+#define REGISTRY_LIMITS_H
+
+#include <stdint.h>
+
+/* CPUs of a registry, at most. */
+#define REGISTRY_MOST_CPUS	8
+
+/* Entries of a registry at a time, live and retired, at most: its slots. */
+#define REGISTRY_MOST_SLOTS	32
+
+/* Attaches and detaches of a registry together, at most. */
+#define REGISTRY_MOST_CHANGES	UINT64_C(1000000)
+
+/* Outermost sections of a CPU, at most. */
+#define REGISTRY_MOST_SECTIONS	(UINT64_C(1) << 40)
+
+/* Passive references of a CPU to an entry, at most, and how far from 0 its net count of local references may be. */
+#define REGISTRY_MOST_COUNT	(UINT64_C(1) << 40)
+
+/* Open enters of a CPU, at most. */
+#define REGISTRY_MOST_DEPTH	255
+
+/* The name of a call of the library: with it a program doesn't link or start where these two limits, which sizes of structs follow, are others. */
+#define REGISTRY_BUILT_FOR	registry_for_8_cpus_32_slots
+
+/* What the shared libraries of this build have in their names. The default build has nothing. */
+#define REGISTRY_BUILD	""
+
+#endif
