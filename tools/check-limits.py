@@ -17,7 +17,6 @@ from limits import DEFAULTS, LIMITS, ROOT, limits, number
 HEADER = "crates/registry_c/include/registry_limits.h"
 MAKER = "tools/limits-header.py"
 
-# Where the Rust crate has that header.
 # The same header again: in a crate that is used alone, and beside the layer's headers. `rt ci` takes no links.
 COPIES = ("clients/rust/registry_limits.h", "clients/netbsd/kupaldiz/registry_limits.h")
 
