@@ -1,4 +1,5 @@
 pub mod Balance
+pub mod Called
 pub mod Freed
 pub mod Fresh
 pub mod Kept

@@ -1,7 +1,9 @@
 pub mod Allowing
+pub mod Inside
 pub mod Changes
 pub mod Counted
 pub mod Parts
+pub mod Quiet
 pub mod Told
 pub mod Logs
 pub mod Runs

@@ -10,8 +10,9 @@ pub use Rattle.cpu_words.specs.declared.view.ReferenceView.{ReferenceView}
 pub use Rattle.cpu_words.specs.declared.view.Teller.{Teller}
 pub use Rattle.cpu_words.specs.declared.view.View.{View}
 pub use Rattle.cpu_words.specs.declared.view.View.TheVariants.{Cpu, Keeper, Note, Reference, Spent}
-pub use Rattle.cpu_words.specs.Acts.{ListGoesOn, part}
+pub use Rattle.cpu_words.specs.Acts.{HasNone, ListGoesOn, is_border, is_hear, part}
 pub use Rattle.cpu_words.specs.Balance.{HasOneSeat, IsBalanced, SeatsBalance, count_word, hand_to, held_by_seats, in_hand_to, total_word}
+pub use Rattle.cpu_words.specs.Called.{CpuHearsLater, EndsOpenSections, HasLeft, HasLeftSince, HasToldSince, HaveEndedAll, IsHeardPast, KeeperHearsLater}
 pub use Rattle.cpu_words.specs.Domains.{AreWordsOf}
 pub use Rattle.cpu_words.specs.Draining.{CollectTold, HasAdded, HasCollected, HasKeptSub, HasLookedPassive, IsFoundCollected, KeptSubTold, LookedPassiveTold, MayCollect, MayJoinKeeper, MayKeptSub}
 pub use Rattle.cpu_words.specs.Draining.{MayPassiveLook, MayTotalAdd, MayTotalSub, TotalAddTold, TotalSubTold, keeper_after_join, row_of, with_given_up}
@@ -28,7 +29,7 @@ pub use Rattle.cpu_words.specs.Keeping.{MayKeep, keeper_after_keep, with_kept}
 pub use Rattle.cpu_words.specs.Kept.{AttachedKeeps, KeepsAsLong, KeepsDriver}
 pub use Rattle.cpu_words.specs.Locals.{CountTold, DownTold, HasCounted, HasCountedDown, HasFoundCollected, HasSplit, HasSplitBack, IsBack, IsMetAlone, IsNetCount, IsPlaceCount, IsTaking, MayCount}
 pub use Rattle.cpu_words.specs.Locals.{MayCountDown, down_reply, reference_in, reference_of_hand, with_empty_hand, with_hand, with_reference_in_hand}
-pub use Rattle.cpu_words.specs.Logs.{AreBy, AreByOwn, AreToldBefore, HasComeIf, IsSeatOf, IsStanding, IsToldBefore, IsToldByCpu, IsToldByKeeper, IsToldByReference, Knows, LoggedRuled, Maker, another}
+pub use Rattle.cpu_words.specs.Logs.{AreBy, AreByOwn, AreToldBefore, HasComeIf, HasHeardAll, HasItsSections, IsSeatOf, IsStanding, IsToldBefore, IsToldByCpu, IsToldByKeeper, IsToldByReference, Knows, LoggedRuled, Maker, another}
 pub use Rattle.cpu_words.specs.Logs.{cuts_off, events_of, first_logged, fresh, gives_up, heard_by_cpu, heard_by_keeper, hears_note, joined_seat, keeps_for, known_log_of, leaves_hand}
 pub use Rattle.cpu_words.specs.Logs.{logged_after_split, logged_with_note, maker, maker_of_note, no_log, no_teller, seats_next, spent_seat, takes_in, teller_if, teller_of, tells_history}
 pub use Rattle.cpu_words.specs.Logs.{tells_pass, the_cpu, the_keeper, told_by_cpu, untold, who, whole_log, without_logs}

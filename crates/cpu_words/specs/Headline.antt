@@ -20,7 +20,7 @@ use Rattle.cpu_words.specs.Spots.{passive_of, count_of, index}
 use Rattle.cpu_words.specs.Views.{references_to}
 use Rattle.cpu_words.specs.Rule.{Agrees, ShowsViews, Good, Ruled, log_of_events}
 use Rattle.cpu_words.specs.Acts.{part}
-use Rattle.cpu_words.specs.Logs.{without_logs, events_of, IsStanding, AreByOwn, AreToldBefore, Knows, LoggedRuled}
+use Rattle.cpu_words.specs.Logs.{without_logs, events_of, IsStanding, AreByOwn, AreToldBefore, HasHeardAll, Knows, LoggedRuled}
 use Rattle.cpu_words.specs.Vacating.{IsDrained}
 
 -- The headline of the running words
@@ -54,6 +54,8 @@ pub record RunsAsLogged (z : Settings) (s : Table ℕ Logged) : Type 0 where
   pub told : AreToldBefore run.seat (after (opening z) run.events).seated acts
   -- the list that a seat's last step on a word left begins it
   pub lists : (i : ℕ) (l : Logged) → get_elem? s.views i ≡ some l → IsPrefix l.list acts
+  -- what a CPU knows of the keeper's log is all that the keeper had done as that CPU heard last, or more
+  pub heard : (i : ℕ) (l : Logged) → get_elem? s.views i ≡ some l → IsStanding l.view → HasHeardAll i l acts
 
 -- so it is between any two steps
 abbrev pub RunningHeadline : Type 0

@@ -24,6 +24,7 @@ pub mod Headline
 pub mod Balance
 pub mod Waiting
 pub mod Ordered
+pub mod Called
 pub mod Freed
 pub mod Fresh
 pub mod Kept

@@ -1,5 +1,5 @@
 -- What each seat did, and what it has heard of the keeper's log: beside its view stands its log, and the rule says that this is the list's part by that seat.
-use Rattle.std.specs.Prelude.{◌≡◌, ℕ, suc, ◌<◌, ◌≤◌, ◌==◌, if◌then◌else◌, List, [], ◌∷◌, ◌++◌, map, length, Option, Some, None}
+use Rattle.std.specs.Prelude.{true, ◌≡◌, ℕ, suc, ◌<◌, ◌≤◌, List, [], ◌∷◌, ◌++◌, map, length, Option, Some, None}
 use mathlib.Core.Option.{some}
 use mathlib.Core.List.{IsPrefix}
 use lib.ListN.{get_elem?}
@@ -17,7 +17,7 @@ use Rattle.cpu_words.specs.declared.view.Teller.{Teller}
 use Rattle.cpu_words.specs.declared.view.Logged.{Logged}
 use Rattle.cpu_words.specs.declared.view.View.{View}
 use Rattle.cpu_words.specs.declared.view.View.TheVariants.{Keeper, Cpu, Reference, Note, Spent}
-use Rattle.cpu_words.specs.Acts.{part, ListGoesOn}
+use Rattle.cpu_words.specs.Acts.{part, is_border, is_hear, HasNone, ListGoesOn}
 use Rattle.cpu_words.specs.Views.{first_view, cpu_of, keeper_of, reference_of}
 use Rattle.cpu_words.specs.Rule.{did, log_item, log_of_events, Ruled}
 use Rattle.cpu_words.specs.KeeperLog.{KnownLogGrows, heard_from, IsOwnLog, IsShownAfter}
@@ -136,6 +136,16 @@ AreByOwn seat n (a ∷ rest) = IsSeatOf seat n a.0 (maker a.1.event) × AreByOwn
 abbrev pub Knows : Logged → List LogItem → Type 0
 Knows l all = IsPrefix l.known_log all × IsPrefix l.noted_log all
 
+-- the list that the seat knows has each enter and exit of its own: what it lacks of the log are no such events
+pub record HasItsSections (i : ℕ) (l : Logged) : Type 0 where
+  pub lacks : List LogItem
+  pub are : l.log ≡ part i l.list ++ lacks
+  pub none : HasNone is_border lacks
+
+-- where the seat, a CPU's, heard a note, it knows since all that the keeper had done by then
+abbrev pub HasHeardAll : ℕ → Logged → List (ℕ × LogItem) → Type 0
+HasHeardAll i l acts = (d : LogItem) (first rest : List (ℕ × LogItem)) → acts ≡ first ++ (i, d) ∷ rest → is_hear d.event ≡ true → IsPrefix (part 0 first) l.known_log
+
 -- the rule: the list's events are those of the seats' logs, each by its own seat; each log is its seat's part, and each known log is a prefix of the keeper's
 pub record LoggedRuled (z : Settings) (s : Table ℕ Logged) : Type 0 where
   pub run : Ruled z (without_logs s)
@@ -152,6 +162,10 @@ pub record LoggedRuled (z : Settings) (s : Table ℕ Logged) : Type 0 where
   pub tellers : (i : ℕ) (l : Logged) → get_elem? s.views i ≡ some l → HasComeIf run.seat run.g.seated acts l.teller
   -- the list that a seat's last step left begins the list
   pub lists : (i : ℕ) (l : Logged) → get_elem? s.views i ≡ some l → IsPrefix l.list acts
+  -- and has each section of the seat's own
+  pub sections : (i : ℕ) (l : Logged) → get_elem? s.views i ≡ some l → IsStanding l.view → HasItsSections i l
+  -- what a CPU knows of the keeper's log is all that the keeper had done as that CPU heard last, or more
+  pub heard : (i : ℕ) (l : Logged) → get_elem? s.views i ≡ some l → IsStanding l.view → HasHeardAll i l acts
 
 -- the keeper's seat, alone
 abbrev pub first_logged : Settings → Logged

@@ -1,6 +1,7 @@
 //! The laws of the protocol, said of the running words: functions that do nothing, whose contracts are the laws.
 
 ghost use Rattle.cpu_words.specs.Headline.{DrainedIsFree, FoundIsHeld, HeldHaveSlots, MarksAreHonest, RunningHeadline};
+ghost use Rattle.cpu_words.specs.Called.{CpuHearsLater, EndsOpenSections, KeeperHearsLater};
 ghost use Rattle.cpu_words.specs.Waiting.{WaitingEnds};
 ghost use Rattle.cpu_words.specs.Freed.{FreedByKeeper, FreedIsGone};
 ghost use Rattle.cpu_words.specs.Fresh.{LookupsAreFresh, WholeInTheList};
@@ -16,6 +17,14 @@ ghost use Rattle.cpu_words.specs.Balance.{SeatsBalance};
 /// - `whole`: as a CPU enters, and as it hears a note, its pass becomes the whole history.
 /// - `balance`: the words of a slot, less their biases, are the local references that the seats hold.
 ///
+/// At two moments, the call of a `perform`, a `destroy` or an `audit` and any later one:
+///
+/// - `grows`: what a seat knew of the list of events at the first moment begins that list, and what any seat did since stands past it.
+/// - `told`: the keeper heard what a CPU told since, so what the keeper did after that stands past it, too.
+/// - `heard`: a CPU that heard since knows all that the keeper had done by the first moment.
+/// - `ended`: the keeper was told since, and then found each CPU's section word even or changed, so each section that was open at the first
+///   moment has had its exit.
+///
 /// By what a seat has heard of the keeper's log:
 ///
 /// - `waiting`: the keeper found each CPU's section word even or changed, so earlier sections have ended.
@@ -26,6 +35,9 @@ pub fn running_headline()
     ensures run { RunningHeadline }
     ensures held { HeldHaveSlots }
     ensures grows { OrderedInTime }
+    ensures told { KeeperHearsLater }
+    ensures heard { CpuHearsLater }
+    ensures ended { EndsOpenSections }
     ensures fresh { LookupsAreFresh }
     ensures whole { WholeInTheList }
     ensures waiting { WaitingEnds }

@@ -1,5 +1,6 @@
 -- What a caller keeps of the turns of a destroy, though nothing is known of the keeper between them.
-use Rattle.std.proofs.Common.{◌≡◌, ℕ, zero, suc, ◌<◌, Bool, true, false, inl, ⊎_elim, List, ◌∷◌, ◌++◌, Result, Ok, Err, IfOk, IfErr, refl, sym, ap, ◌∙◌, subst, append_assoc, arith}
+use Rattle.std.proofs.Common.{◌≡◌, ℕ, zero, suc, ◌<◌, ◌≤◌, Bool, true, false, inl, ⊎_elim, List, ◌∷◌, ◌++◌, length, Result, Ok, Err, IfOk, IfErr, refl, sym, ap, ◌∙◌, subst, append_assoc, arith}
+use Rattle.std.proofs.lemmas.List.{length-append}
 use mathlib.Core.List.{IsPrefix}
 use Rattle.name_registry.specs.Types.{Refusal, Inside, NotRetired, Settings, Slot, Retired, Stage, Grace, Passive, Local, Freed, LogItem}
 use Rattle.registry_values.specs.Common.{slot_at, IsObstacle, destroy_result, destroy_result_of}
@@ -7,7 +8,7 @@ use Rattle.registry_values.proofs.Slots.{retired_slot_tells}
 use Rattle.cpu_words.specs.Common.{IsFreedFrom}
 use Rattle.passive_list.specs.Common.{OnCpu, OnKeeper}
 use Rattle.name_registry.specs.Common.{HasAdvanced, IsGoneIfFreed, Destroys, DestroysOutside, HasDestroyed, LastMeeting, SomeAdvancedFor, TurnsMeeting, IsDestroyRefusal, IsStageOf}
-use Rattle.name_registry.specs.Common.{IsDestroyAnswer, IsTurn}
+use Rattle.name_registry.specs.Common.{HasLearned, IsDestroyAnswer, IsTurn}
 use Rattle.name_registry.proofs.Heard.{prefix_short}
 use Rattle.name_registry.proofs.Owned.{learned}
 use Rattle.name_registry.proofs.Turned.{ended_freed}
@@ -133,6 +134,9 @@ learns_destroyed z n turns x y answer is = learns_more x is.last.0 y (learns_mee
 
 -- What the last turn met
 
+log_longer : (x y : OnCpu) → HasLearned x y → length x.log ≤ length y.log
+log_longer x y learned = let size = ap (λ (l : List LogItem). length l) learned.log.are ∙ length-append x.log learned.log.since in omega (arith, size)
+
 -- the last turn is one for a caller that knew less, too: what the CPU knew when that call began
 turn_since : (z : Settings) (n : ℕ) (x m : OnCpu) (answer : Result Stage Refusal) (y : OnCpu) → Learns x m → IsTurn z n m answer y → IsTurn z n x answer y
 turn_since z n x m answer y learns turn = record {
@@ -141,6 +145,12 @@ turn_since z n x m answer y learns turn = record {
   known = prefix_on _ _ _ learns.0.known_log turn.known;
   seen = let less = prefix_short x.view.pass m.view.pass learns.0.pass in omega (arith, less, turn.seen);
   on = turn.on;
+  heard = record {
+    teller = turn.heard.teller;
+    cpu = turn.heard.cpu ∙ ap (λ (o : OnCpu). o.view.id) learns.0.is;
+    later = let more = log_longer x m learns.0 in omega (arith, more, turn.heard.later);
+    heard = turn.heard.heard;
+  };
   told = turn.told;
   answers = turn.answers;
 }

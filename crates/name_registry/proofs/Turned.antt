@@ -12,7 +12,7 @@ use Rattle.protocol.proofs.slots.Numbers.{position_fails}
 use Rattle.cpu_words.specs.Common.{has_looked, has_looked_passive, is_drawn, occupant, occupant_of, word_if, IsFreedFrom, keeper_with_note, did}
 use Rattle.cpu_words.proofs.by_keeper.KeeperSees.{seen_by_keeper}
 use Rattle.cpu_words.proofs.logs.Standings.{not_attached}
-use Rattle.passive_list.specs.Common.{OnCpu, OnKeeper, HasOwnLog, HasHeardOn, cpu_after_tell, has_heard, HasFreed}
+use Rattle.passive_list.specs.Common.{OnCpu, OnKeeper, HasOwnLog, HasHeardOn, as_teller, cpu_after_tell, has_heard, HasFreed}
 use Rattle.name_registry.specs.Common.{EndsIn, HasAdvanced, HasEnded, Meets, MeetsGrace, MeetsLocal, MeetsPassive, HasAdvancedFor, hears_cpu, keeper_after_hear, keeper_after_tell, AnswersBy, HasMet}
 use Rattle.name_registry.specs.Common.{IsNotRetired, IsRetiredIn, IsTurn, MetLocals, MetReference, MetSection}
 use Rattle.name_registry.proofs.Noted.{heard_told_again, met_again}
@@ -138,6 +138,7 @@ told_turn z a x n answer b y has = record {
   known = has.known;
   seen = has.seen;
   on = prefix_on _ _ _ (hears_cpu x, refl) (advanced_on (keeper_after_hear a x) n answer has.end has.made);
+  heard = record { teller = as_teller x; cpu = refl; later = omega arith; heard = advanced_on (keeper_after_hear a x) n answer has.end has.made };
   told = told_end has.end b x y has.is has.told;
   answers = answers_by z a (keeper_after_hear a x) has.end n answer has.own has.own_end refl (hears_cpu x, refl) has.made;
 }

@@ -1,9 +1,9 @@
 -- What a turn of the work on a retired entry met, by the keeper's log. A CPU that has heard the log knows it, also after later turns.
-use Rattle.std.specs.Prelude.{◌≡◌, ◌≢◌, ℕ, ◌+◌, ◌*◌, ◌<◌, ◌≤◌, ◌%◌, List, [], ◌∷◌, ◌++◌, length, Some, Result, Ok, Err}
+use Rattle.std.specs.Prelude.{◌≡◌, ◌≢◌, ℕ, ◌+◌, ◌*◌, ◌<◌, ◌≤◌, ◌%◌, List, [], ◌∷◌, ◌++◌, length, Some, None, Result, Ok, Err}
 use mathlib.Core.List.{IsPrefix}
-use Rattle.name_registry.specs.Types.{Refusal, Inside, NotRetired, StillHeld, Settings, Stage, Grace, Passive, Local, Freed, LogItem}
+use Rattle.name_registry.specs.Types.{Refusal, Inside, NotRetired, StillHeld, Settings, Stage, Grace, Passive, Local, Freed, LogItem, Teller}
 use Rattle.registry_values.specs.Common.{bias}
-use Rattle.cpu_words.specs.Common.{changes_in, given_up, has_looked, has_looked_passive, occupant, sum_collected, word_collected, words_collected, HasPassedOn, IsDetachedFrom, IsFreedFrom, IsSnapped}
+use Rattle.cpu_words.specs.Common.{changes_in, heard_from, given_up, has_looked, has_looked_passive, occupant, sum_collected, word_collected, words_collected, HasPassedOn, IsDetachedFrom, IsFreedFrom, IsSnapped}
 use Rattle.passive_list.specs.Common.{OnCpu}
 
 -- by the log the slot t has the entry n, which was detached
@@ -53,13 +53,22 @@ abbrev pub AnswersBy : ℕ → ℕ → Result Stage Refusal → List LogItem →
 AnswersBy cpus n (Ok stage) begin log = (t : ℕ) × IsRetiredIn t n begin × HasMet cpus t n stage begin log
 AnswersBy cpus n (Err refusal) begin log = (refusal ≡ NotRetired) × IsNotRetired n begin
 
--- A turn: as it began the keeper had heard all that the CPU x knew, and as it ends the CPU has heard all that the keeper did in it.
+-- Once it had done `begin` the keeper heard the CPU x, which told that note after the call. So by the law `running_headline` (`told`) what the keeper did since stands in the list of events past all
+-- that anyone knew at the call.
+pub record HasHeardCaller (x : OnCpu) (begin log : List LogItem) : Type 0 where
+  pub teller : Teller
+  pub cpu : teller.cpu ≡ x.view.id
+  pub later : length x.log < teller.events
+  pub heard : IsPrefix (begin ++ heard_from None (Some teller)) log
+
+-- A turn: as it began the keeper had heard all that the CPU x knew, and it heard that CPU once more; as it ends the CPU has heard all that the keeper did in it.
 pub record IsTurn (z : Settings) (n : ℕ) (x : OnCpu) (answer : Result Stage Refusal) (y : OnCpu) : Type 0 where
   pub begin : List LogItem
   pub log : List LogItem
   pub known : IsPrefix x.known_log begin
   pub seen : length x.view.pass ≤ changes_in begin
   pub on : IsPrefix begin log
+  pub heard : HasHeardCaller x begin log
   pub told : IsPrefix log y.known_log
   pub answers : AnswersBy z.cpus n answer begin log
 

@@ -717,7 +717,7 @@ registry_answer registry_perform_turn(struct registry_keeper *keeper, struct reg
  *
  * The caller holds the interlock and all CPUs, in order. Once a CPU is closed there is no audit. `length` is the number of balances written, and may be
  * NULL. With REGISTRY_NO_ROOM, which writes none, it is the number that there are. With REGISTRY_DONE each balance has exactly the CPUs' counts and the
- * keeper's total, and each CPU has seen every change so far. For this the keeper and each CPU make three loads.
+ * keeper's total, and each CPU has seen every change so far.
  * Returns REGISTRY_EMPTY_HANDLE for the keeper's handle, REGISTRY_NULL if `cpus` or `list` is NULL and its length isn't 0, REGISTRY_MISSING_CPU if the
  * handles aren't those of all CPUs in order, REGISTRY_NO_ROOM.
  */

@@ -1,5 +1,5 @@
 -- What is in a CPU's hand changes, and the places of references: why the other views stay, and what a split or a join of the CPU's seat makes.
-use Rattle.std.proofs.Common.{◌++◌, ◌≡◌, ◌≢◌, inl, ⊎_elim, ℕ, ◌+◌, ◌<◌, ◌≤◌, ◌==◌, List, set, sum_by, Option, Some, None, refl, sym, ap, ◌∙◌, subst, arith, get_or-set_same, get_or-set_other}
+use Rattle.std.proofs.Common.{◌++◌, ◌≡◌, ◌≢◌, inl, ⊎_elim, ℕ, ◌+◌, ◌<◌, ◌≤◌, ◌==◌, Bool, false, List, set, sum_by, Option, Some, None, refl, sym, ap, ◌∙◌, subst, arith, get_or-set_same, get_or-set_other}
 use mathlib.Core.Option.{some}
 use lib.ListN.{get_elem?}
 use Rattle.atomic_table.specs.Table.{Splits, Joins}
@@ -16,6 +16,7 @@ use Rattle.cpu_words.specs.Common.{InHand, CpuView, ReferenceView, LogItem, Logg
 use Rattle.cpu_words.specs.Common.{word_at, is_to, SameHand, HandFits, IsCollectedFor, CpuShown, ReferenceShown, cpu_of, reference_of, reference_to, Good, number_or_none, number_of_id, by_number, did}
 use Rattle.cpu_words.specs.Common.{log_of_events, the_cpu, maker, LoggedRuled, logged_after_split, no_log, no_teller, fresh, joined_seat, spent_seat, leaves_hand, cuts_off, takes_in, SplitsBy}
 use Rattle.cpu_words.specs.Common.{JoinsBy, SplitsOn, JoinsOn, IsIdle, with_hand, reference_in, with_empty_hand, reference_of_hand, with_reference_in_hand, IsTaking, IsBack}
+use Rattle.cpu_words.specs.Common.{HasNone, is_border, is_hear}
 use Rattle.cpu_words.specs.declared.view.InHand.TheVariants.{Empty as NoEntry, Taking as TakingEntry, Giving as GivingEntry, Back as BackEntry}
 use Rattle.cpu_words.proofs.shown.Showing.{standing_in, backed, shows_split, shows_join}
 use Rattle.cpu_words.proofs.shown.Placing.{agrees_same}
@@ -162,13 +163,22 @@ splits z i x e leaves s r at =
       };
     }
 
+-- what a hand leaves is a SplitRef or a SplitBack
+leaves_quietly : (of : Event → Bool) (c : ℕ) (h : InHand) → ((c : ℕ) → of (SplitRef c) ≡ false) → ((c : ℕ) → of (SplitBack c) ≡ false) → HasNone of (leaves_hand c h)
+leaves_quietly of c NoEntry split back = tt
+leaves_quietly of c (TakingEntry e) split back = (split c, tt)
+leaves_quietly of c (GivingEntry e) split back = tt
+leaves_quietly of c (BackEntry e) split back = (back c, tt)
+
 -- the same of a seat, whose view is a CPU's
 
 pub seat_splits : (z : Settings) (i : ℕ) (l : Logged) (x : CpuView) (e : Event) → l ≡ record l { view = Cpu (cpu_of l.view) } → cpu_of l.view ≡ x → maker e ≡ the_cpu x.id
     → leaves_hand x.id x.hand ≡ did e (Ref 0) → LeavesHand e x
     → Splits (LoggedRuled z) i l (logged_after_split with_empty_hand cuts_off l) (fresh reference_of_hand no_log no_teller l)
 seat_splits z i l x e is view own does leaves = seat_cut z i l (Cpu x) with_empty_hand reference_of_hand cuts_off no_log no_teller (did e (Ref 0))
-    (is ∙ ap (λ (u : CpuView). record l { view = Cpu u }) view) tt (own, tt) does (tells_nothing (record l { view = Cpu x }) (did e (Ref 0))) (names_nobody (record l { view = Cpu x }) (did e (Ref 0)))
+    (is ∙ ap (λ (u : CpuView). record l { view = Cpu u }) view) tt (own, tt)
+    (subst (HasNone is_border) does (leaves_quietly is_border x.id x.hand (λ c. refl) (λ c. refl))) (subst (HasNone is_hear) does (leaves_quietly is_hear x.id x.hand (λ c. refl) (λ c. refl))) does
+    (tells_nothing (record l { view = Cpu x }) (did e (Ref 0))) (names_nobody (record l { view = Cpu x }) (did e (Ref 0)))
     (splits z i x e leaves)
 
 -- what is in the hand says which
@@ -321,7 +331,7 @@ pub seat_joins : (z : Settings) (i o : ℕ) (l m : Logged) (x : CpuView) → l �
     → IsIdle x
     → Joins (LoggedRuled z) i l o m (joined_seat with_reference_in_hand takes_in l m) spent_seat
 seat_joins z i o l m x is view that idle = seat_join z i o l m (Cpu x) (Reference (reference_of m.view)) with_reference_in_hand takes_in (did (JoinRef x.id (reference_of m.view).entry.number) Done)
-    (is ∙ ap (λ (u : CpuView). record l { view = Cpu u }) view) that tt (refl, tt) refl (joins z i o x (reference_of m.view) idle)
+    (is ∙ ap (λ (u : CpuView). record l { view = Cpu u }) view) that tt (refl, tt) (refl, tt) (refl, tt) refl (joins z i o x (reference_of m.view) idle)
 
 pub seat_joins_by : (v a : View) (x : CpuView) (c : ℕ) (u : View) (w : ReferenceView) → cpu_of v ≡ x → reference_of u ≡ w → a ≡ with_reference_in_hand v u → x.id ≡ c → IsIdle x
     → JoinsBy (JoinRef c) (Cpu x) (Reference w) (Cpu (cpu_of a))

@@ -103,7 +103,7 @@ pub keeps_seats : (z : Settings) (i : ℕ) (x : Logged) (o : ℕ) (u : Logged) (
 keeps_seats z i x o u named t k v is keeper k_is ref v_is may =
     subst (λ (m : ℕ). TableJoins (LoggedRuled z) i x o u (joined_seat (with_kept m) (keeps_for m) x u) spent_seat) (sym is)
     (seat_join z i o x u (Keeper k) (Reference v) (with_kept t) (keeps_for t) (did (Keep t v.entry.number) Done) (keeper ∙ ap (λ (y : KeeperView). record x { view = Keeper y }) k_is)
-    (ref ∙ ap (λ (y : ReferenceView). record u { view = Reference y }) v_is) tt (refl, tt) refl (keeps z i k o t v may))
+    (ref ∙ ap (λ (y : ReferenceView). record u { view = Reference y }) v_is) tt (refl, tt) (refl, tt) (refl, tt) refl (keeps z i k o t v may))
 
 pub keep_by : (x u y : View) (named t : ℕ) (k : KeeperView) (v : ReferenceView) → named ≡ t → keeper_of x ≡ k → reference_of u ≡ v → y ≡ with_kept named x u → MayKeep k t v
     → JoinsBy (Keep t) (Keeper k) (Reference v) (Keeper (keeper_of y))

@@ -355,7 +355,7 @@ pub joins_keeper : (z : Settings) (i : ℕ) (x : Logged) (o : ℕ) (u : Logged) 
     → u ≡ record u { view = Reference (reference_of u.view) } → reference_of u.view ≡ v → MayJoinKeeper k v → TableJoins (LoggedRuled z) i x o u (joined_seat with_given_up gives_up x u) spent_seat
 joins_keeper z i x o u k v keeper k_is ref v_is may =
     seat_join z i o x u (Keeper k) (Reference v) with_given_up gives_up (did (JoinKeeper v.entry.number) Done) (keeper ∙ ap (λ (y : KeeperView). record x { view = Keeper y }) k_is)
-    (ref ∙ ap (λ (y : ReferenceView). record u { view = Reference y }) v_is) tt (refl, tt) refl (joins_at z i k o v may)
+    (ref ∙ ap (λ (y : ReferenceView). record u { view = Reference y }) v_is) tt (refl, tt) (refl, tt) (refl, tt) refl (joins_at z i k o v may)
 
 pub join_keeper_by : (x u y : View) (k : KeeperView) (v : ReferenceView) → keeper_of x ≡ k → reference_of u ≡ v → y ≡ with_given_up x u → MayJoinKeeper k v
     → JoinsBy JoinKeeper (Keeper k) (Reference v) (Keeper (keeper_of y))

@@ -4,9 +4,7 @@ use Rattle.std.proofs.Common.{◌≡◌, inr, ⊎_elim, ℕ, ◌&&◌, Bool, tru
 use Rattle.std.proofs.Common.{length-append, arith}
 use Rattle.std.proofs.lemmas.List.{append-nil}
 use Rattle.std.proofs.lemmas.Option.{none-some, same_Some}
-use mathlib.Core.Option.{some}
 use mathlib.Core.List.{IsPrefix}
-use lib.ListN.{get_elem?}
 use Rattle.atomic_table.specs.Table.{State as Table}
 use Rattle.atomic_table.proofs.Lists.{at_map}
 use Rattle.cpu_words.specs.Types.{Entry, Change, Attach, Detach, Settings, Vacant, Retired, Event, Vacate, KeptSub, Done}

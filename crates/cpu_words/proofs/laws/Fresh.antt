@@ -1,15 +1,13 @@
 -- Fresh lookups: a CPU's search stands in the list where its log has it, and the protocol's law holds of it there.
-use Rattle.std.proofs.Common.{◌≡◌, ◌≢◌, ◌⊎◌, inl, inr, ⊎_elim, ℕ, ◌+◌, ◌-◌, ◌<◌, ◌≤◌, IsTrue, IsSome, List, [], ◌∷◌, ◌++◌, length, take, drop, Option, Some, None, true, false, Bool, refl, sym, ap, ◌∙◌, subst, length-append}
+use Rattle.std.proofs.Common.{◌≡◌, ◌≢◌, inl, inr, ⊎_elim, ℕ, ◌+◌, ◌-◌, ◌≤◌, IsTrue, IsSome, List, [], ◌∷◌, ◌++◌, length, take, Option, Some, true, false, Bool, refl, sym, ap, ◌∙◌, subst, length-append}
 use Rattle.std.proofs.Common.{append_assoc, arith}
 use Rattle.std.specs.List.{AllByRecursion}
 use Rattle.std.proofs.lemmas.Bool.{cases_eq}
 use Rattle.std.proofs.lemmas.List.{append-nil, take_at}
 use Rattle.std.proofs.Math.Seq.{take-append-add}
-use mathlib.Core.Option.{some}
-use lib.ListN.{get_elem?}
 use Rattle.atomic_table.specs.Table.{State as Table}
 use Rattle.atomic_table.proofs.Lists.{at_map}
-use Rattle.cpu_words.specs.Types.{Key, Entry, Change, Settings, Event, Enter, Hear, Seek, LoadLink, LoadRecord, RecordOf, Passive, Local, Reply, Done, Word, Found, Missed, Ref, Collected}
+use Rattle.cpu_words.specs.Types.{Key, Entry, Change, Settings, Event, Enter, Hear, LoadLink, LoadRecord, RecordOf, Passive, Local, Reply, Ref}
 use Rattle.registry_values.specs.Common.{are_fit}
 use Rattle.protocol.specs.declared.event.RecordOf.TheVariants.{Search as OfSearch}
 use Rattle.protocol.specs.Common.{State, opening, Outcome, step, state_after, Holds, seen_at, after, after_event, IsAllowed, IsLoadOf, answer_of, IsNoSeek, SeeksNone, IsFreshAnswer, seek_for}
@@ -17,17 +15,17 @@ use Rattle.protocol.proofs.keeps.Keeping.{opening_holds, step_keeps, after_keeps
 use Rattle.protocol.proofs.runs.Answers.{history_grows}
 use Rattle.protocol.proofs.runs.Fresh.{answers_freshly, sees_all}
 use Rattle.protocol.proofs.runs.Steps.{after_more}
-use Rattle.cpu_words.specs.Common.{CpuView, LogItem, Logged, Teller, Cpu, View, by_number, reply_without_id, maker, the_cpu, IsSeatOf, AreByOwn, part, has_heard_from, IsStanding, RunsAsLogged, Sits, IsBeforeTelling}
-use Rattle.cpu_words.specs.Common.{has_sought, HasAnswered, until_reply, with_reply, IsAnsweredFreshly, LookupsAreFresh, history_length, PassesAreWhole, WholeInTheList}
+use Rattle.cpu_words.specs.Common.{LogItem, Logged, by_number, reply_without_id, maker, IsSeatOf, AreByOwn, part, has_heard_from, IsStanding, RunsAsLogged, Sits}
+use Rattle.cpu_words.specs.Common.{has_sought, until_reply, with_reply, LookupsAreFresh, history_length, PassesAreWhole, WholeInTheList}
 use Rattle.cpu_words.proofs.laws.Waiting.{own_first, part_placed, fewer_acts, cut_at}
 use Rattle.cpu_words.proofs.logs.Changes.{run_as_logged}
-use Rattle.cpu_words.proofs.logs.Loads.{same_event, part_same, part_off, place, run_since}
+use Rattle.cpu_words.proofs.logs.Loads.{same_event, part_same, part_off, place}
 use Rattle.cpu_words.proofs.logs.Parts.{part_append}
-use Rattle.cpu_words.proofs.logs.Runs.{Follows, item_of, after_append, follows_after, follows_holds, cut}
+use Rattle.cpu_words.proofs.logs.Runs.{Follows, after_append, follows_after, follows_holds, cut}
 
 -- One event of a run
 
-own_last : (seat : ℕ → ℕ) (n : ℕ) (a b : List (ℕ × LogItem)) → AreByOwn seat n (a ++ b) → AreByOwn seat n b
+pub own_last : (seat : ℕ → ℕ) (n : ℕ) (a b : List (ℕ × LogItem)) → AreByOwn seat n (a ++ b) → AreByOwn seat n b
 own_last seat n [] b own = own
 own_last seat n (x ∷ rest) b own = own_last seat n rest b own.1
 

@@ -1,29 +1,27 @@
 -- One list that only grows: of two prefixes of it one begins the other, and what a seat hadn't done at a moment isn't in what another knew then.
-use Rattle.std.proofs.Common.{◌≡◌, ⊎_elim, ℕ, suc, ◌+◌, ◌-◌, ◌<◌, ◌≤◌, List, [], ◌∷◌, ◌++◌, length, take, drop, refl, sym, ap, ◌∙◌, subst, length-append, append_assoc, arith}
+use Rattle.std.proofs.Common.{◌≡◌, ⊎_elim, ℕ, suc, ◌+◌, ◌-◌, ◌<◌, ◌≤◌, List, ◌∷◌, ◌++◌, length, take, drop, refl, sym, ap, ◌∙◌, length-append, append_assoc, arith}
 use Rattle.std.proofs.lemmas.Bool.{cases_lt}
 use Rattle.std.proofs.lemmas.List.{take_at, take-append-drop, take-append-le}
 use Rattle.std.proofs.Math.Seq.{take-append-add}
-use mathlib.Core.Option.{some}
 use mathlib.Core.List.{IsPrefix}
-use lib.ListN.{get_elem?}
 use Rattle.atomic_table.specs.Table.{State as Table}
 use Rattle.cpu_words.specs.Types.{Settings}
-use Rattle.cpu_words.specs.Common.{LogItem, Logged, part, RunsAsLogged}
-use Rattle.cpu_words.specs.Common.{TwoMoments, StandsPast, OrderedInTime}
+use Rattle.cpu_words.specs.Common.{LogItem, Logged, part}
+use Rattle.cpu_words.specs.Common.{TwoMoments, OrderedInTime}
 use Rattle.cpu_words.proofs.laws.Safety.{running_headline}
 use Rattle.cpu_words.proofs.laws.Waiting.{part_placed}
 use Rattle.cpu_words.proofs.logs.Loads.{part_same, place}
 use Rattle.cpu_words.proofs.logs.Parts.{part_append}
 
 -- a prefix that is no longer than another begins it
-shorter : (p first rest all : List (ℕ × LogItem)) → IsPrefix p all → all ≡ first ++ rest → length p ≤ length first → IsPrefix p first
+pub shorter : (p first rest all : List (ℕ × LogItem)) → IsPrefix p all → all ≡ first ++ rest → length p ≤ length first → IsPrefix p first
 shorter p first rest all pre are le =
     let n = length p in
     let same : take n first ≡ p = sym (take-append-le n first rest le) ∙ (ap (take n) (sym are ∙ sym pre.1) ∙ take_at p pre.0 n refl) in
     (drop n first, ap (λ (l : List (ℕ × LogItem)). l ++ drop n first) (sym same) ∙ take-append-drop n first)
 
 -- a longer one has the item past the other, too
-longer_has : (j : ℕ) (d : LogItem) (p first rest all : List (ℕ × LogItem)) → IsPrefix p all → all ≡ first ++ (j, d) ∷ rest → length first < length p → length (part j first) < length (part j p)
+pub longer_has : (j : ℕ) (d : LogItem) (p first rest all : List (ℕ × LogItem)) → IsPrefix p all → all ≡ first ++ (j, d) ∷ rest → length first < length p → length (part j first) < length (part j p)
 longer_has j d p first rest all pre are lt =
     let n = length p in
     let k = n - suc (length first) in
@@ -36,7 +34,7 @@ longer_has j d p first rest all pre are lt =
     omega (arith, size)
 
 -- what the one knew has no more of the other's items than the other had done
-few_known : {z : Settings} {s t : Table ℕ Logged} {i j : ℕ} (m : TwoMoments z s t i j) → length (part j m.knower.list) ≤ length m.doer.log
+pub few_known : {z : Settings} {s t : Table ℕ Logged} {i j : ℕ} (m : TwoMoments z s t i j) → length (part j m.knower.list) ≤ length m.doer.log
 few_known {z} {s} {t} {i} {j} m =
     let r = running_headline z s m.earlier in
     let pre = r.lists i m.knower m.knew in
@@ -46,7 +44,7 @@ few_known {z} {s} {t} {i} {j} m =
     ap (λ (l : List LogItem). length l) (own ∙ both) ∙ length-append (part j m.knower.list) (part j pre.0) in
     omega (arith, size)
 
-prefix_both : (p q r : List (ℕ × LogItem)) → IsPrefix p q → IsPrefix q r → IsPrefix p r
+pub prefix_both : (p q r : List (ℕ × LogItem)) → IsPrefix p q → IsPrefix q r → IsPrefix p r
 prefix_both p q r first second = (first.0 ++ second.0, sym (append_assoc p first.0 second.0) ∙ (ap (λ (l : List (ℕ × LogItem)). l ++ second.0) first.1 ∙ second.1))
 
 pub ordered_in_time : OrderedInTime

@@ -35,5 +35,6 @@ running_headline z s r = record {
   logs = r.logs;
   known = r.known;
   lists = r.lists;
+  heard = r.heard;
   told = subst (λ (g : State). AreToldBefore r.run.seat g.seated r.acts) r.run.reached.run r.told;
 }

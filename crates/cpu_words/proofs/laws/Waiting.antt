@@ -282,6 +282,17 @@ ended_since z s r before since known acts_then later h first rest fit are mine i
       changes = subst (λ (l : List LogItem). length (after (opening z) first).history ≤ changes_in l) mine k.changes;
     }
 
+-- of any list that explains the table
+pub told_ended : (z : Settings) (s : Table ℕ Logged) (i : ℕ) (l : Logged) (before since : List LogItem) (r : RunsAsLogged z s) → get_elem? s.views i ≡ some l → l.known_log ≡ before ++ since
+    → HasWaited since z.cpus → (h : Teller) (first rest : List Event) → HasHeardFrom None h before → r.run.events ≡ first ++ rest → IsBeforeTelling r h first
+    → HasEndedSince z first rest (changes_in before)
+told_ended z s i l before since r at are waited h first rest heard cut_is few =
+    let known = (r.known i l at).0 in
+    let mine : part 0 r.acts ≡ before ++ (since ++ known.0) = sym known.1 ∙ (ap (λ (d : List LogItem). d ++ known.0) are ∙ append_assoc before since known.0) in
+    let p = halve 0 r.acts before (since ++ known.0) mine in
+    let fit : IsTrue (are_fit z) = subst (λ (a : Settings). IsTrue (are_fit a)) r.run.settings r.run.good.holds.fit in
+    ended_since z s r before since known.0 p.first p.second h first rest fit p.are p.mine p.rest waited heard cut_is few
+
 have_ended : (z : Settings) (s : Table ℕ Logged) (i : ℕ) (l : Logged) (before since : List LogItem) → RunsAsLogged z s → get_elem? s.views i ≡ some l → l.known_log ≡ before ++ since
     → HasWaited since z.cpus → HaveEnded z s before since
 have_ended z s i l before since r at are waited =
@@ -310,9 +321,8 @@ have_ended z s i l before since r at are waited =
       changes = ap (λ (q : State). length q.history) (sym there) ∙ long;
       exits = λ c b lt is. subst (λ (q : State). HasExit q c k.later) there ((w c lt).exits b (ap (λ (q : State). begin_at q c) there ∙ is));
       each = λ c lt. ended_on z s r before since known.0 h.first h.second h.are h.mine k.earlier k.later k.between k.are k.size there c (w c lt);
-      told = λ m first rest heard cut_is few. ended_since z s r before since known.0 h.first h.second m first rest fit h.are h.mine h.rest waited heard cut_is few;
-      heard = λ m k first rest heard had cut_is few. ended_since z s r before since known.0 h.first h.second m first rest fit h.are h.mine h.rest waited heard cut_is
-          (before_heard z s r m k first had few);
+      told = told_ended z s i l before since r at are waited;
+      heard = λ m k first rest heard had cut_is few. told_ended z s i l before since r at are waited m first rest heard cut_is (before_heard z s r m k first had few);
       begun = begun;
       none = λ i j p k x e keeper cpu ends le may.
           let shown = (run.shows.fits j (Cpu x) cpu).1 in

@@ -5,22 +5,24 @@ use Rattle.atomic_table.specs.Table.{Me, Step, Allows, keeps}
 use Rattle.cpu_words.specs.Types.{Settings, Hear, Done}
 use Rattle.cpu_words.specs.Common.{CpuView, KeeperView, ReferenceView, LogItem, Logged, Keeper, Cpu, Reference, cpu_of, keeper_of, reference_of, did, IsShownAfter, heard_from, CpuMay, KeeperMay}
 use Rattle.cpu_words.specs.Common.{KeeperStores, ReferenceMay, the_keeper, the_cpu, another, AreBy, LoggedRuled, IsToldByCpu, IsToldByKeeper, IsToldByReference, heard_by_cpu, heard_by_keeper}
-use Rattle.cpu_words.specs.Common.{hears_note}
+use Rattle.cpu_words.specs.Common.{hears_note, HasNone, is_hear}
 use Rattle.cpu_words.proofs.logs.Logs.{logged_moves, logged_hears, logged_heard}
 use Rattle.cpu_words.proofs.logs.OwnLog.{own_log, shown_after}
+use Rattle.cpu_words.proofs.logs.Quiet.{deaf}
 
 pub allows_cpu : (z y : Settings) (x : CpuView) (slots id : ℕ) (me : Me ℕ Logged) (i : ℕ) (f : ℕ → ℕ) (does : CpuView → ℕ → List LogItem) (tells : CpuView → ℕ → CpuView → Type 0) (st : Step ℕ)
-    → z ≡ y → x ≡ cpu_of me.0.view → me ≡ (record me.0 { view = Cpu (cpu_of me.0.view) }, []) → ((n : ℕ) → AreBy (the_cpu x.id) (does x n)) → CpuMay z x i f (does x) tells
+    → z ≡ y → x ≡ cpu_of me.0.view → me ≡ (record me.0 { view = Cpu (cpu_of me.0.view) }, []) → ((n : ℕ) → AreBy (the_cpu x.id) (does x n)) → ((n : ℕ) → HasNone is_hear (does x n))
+    → CpuMay z x i f (does x) tells
     → Allows (LoggedRuled y) slots id me i f (IsToldByCpu does tells st me)
-allows_cpu z y x slots id me i f does tells st same view is own may =
+allows_cpu z y x slots id me i f does tells st same view is own quiet may =
     subst (λ (m : Me ℕ Logged). Allows (LoggedRuled y) slots id m i f (IsToldByCpu does tells st m)) (sym is)
-    (by (cpu_of me.0.view) me.0 (subst (λ (y : CpuView). (n : ℕ) → AreBy (the_cpu y.id) (does y n)) view own)
+    (by (cpu_of me.0.view) me.0 (subst (λ (y : CpuView). (n : ℕ) → AreBy (the_cpu y.id) (does y n)) view own) (subst (λ (y : CpuView). (n : ℕ) → HasNone is_hear (does y n)) view quiet)
     (subst (λ (p : Settings × CpuView). CpuMay p.0 p.1 i f (does p.1) tells) (λ k. (same k, view k)) may))
   where
-    by : (u : CpuView) (l : Logged) → ((n : ℕ) → AreBy (the_cpu u.id) (does u n)) → CpuMay y u i f (does u) tells
+    by : (u : CpuView) (l : Logged) → ((n : ℕ) → AreBy (the_cpu u.id) (does u n)) → ((n : ℕ) → HasNone is_hear (does u n)) → CpuMay y u i f (does u) tells
         → Allows (LoggedRuled y) slots id (record l { view = Cpu u }, []) i f (IsToldByCpu does tells st (record l { view = Cpu u }, []))
-    by u l own may s r size at fits =
-        let d = logged_moves y (record l { view = Cpu u }) i f (does u) (λ n w. (w ≡ Cpu (cpu_of w)) × tells u n (cpu_of w)) tt own may s r id at fits in
+    by u l own quiet may s r size at fits =
+        let d = logged_moves y (record l { view = Cpu u }) i f (does u) (λ n w. (w ≡ Cpu (cpu_of w)) × tells u n (cpu_of w)) tt own quiet may s r id at fits in
         let after = l.log ++ does u (slice_index s.words i) in
         (record l { view = d.0; log = after; list = d.1 }, keeps, tt, d.2, ((λ k. (record l { view = d.3.0 k; log = after; list = d.1 }, [])), refl, d.3.1, d.4))
 
@@ -36,7 +38,8 @@ allows_keeper z y x slots id me i f does tells st same view is own may =
     by : (u : KeeperView) (l : Logged) → ((n : ℕ) → AreBy the_keeper (does u n)) → KeeperMay y u i f (does u) tells
         → Allows (LoggedRuled y) slots id (record l { view = Keeper u }, []) i f (IsToldByKeeper does tells st (record l { view = Keeper u }, []))
     by u l own may s r size at fits =
-        let d = logged_moves y (record l { view = Keeper u }) i f (does u) (λ n w. (w ≡ Keeper (keeper_of w)) × tells u n (keeper_of w)) tt own may s r id at fits in
+        let d = logged_moves y (record l { view = Keeper u }) i f (does u) (λ n w. (w ≡ Keeper (keeper_of w)) × tells u n (keeper_of w)) tt own
+        (λ n. deaf the_keeper (does u n) refl (own n)) may s r id at fits in
         let after = l.log ++ does u (slice_index s.words i) in
         (record l { view = d.0; log = after; list = d.1 }, keeps, tt, d.2, ((λ k. (record l { view = d.3.0 k; log = after; list = d.1 }, [])), refl, d.3.1, d.4))
 
@@ -51,7 +54,8 @@ allows_store z y x slots id me i n does tells st same view is own may =
     by : (u : KeeperView) (l : Logged) → ((n : ℕ) → AreBy the_keeper (does u n)) → KeeperStores y u i n (does u) tells
         → Allows (LoggedRuled y) slots id (record l { view = Keeper u }, []) i (λ _. n) (λ _ m. heard_by_keeper does tells st (record l { view = Keeper u }, []) n m)
     by u l own may s r size at fits =
-        let d = logged_moves y (record l { view = Keeper u }) i (λ _. n) (λ _. does u n) (λ _ w. (w ≡ Keeper (keeper_of w)) × tells u n (keeper_of w)) tt (λ _. own n) may s r id at fits in
+        let d = logged_moves y (record l { view = Keeper u }) i (λ _. n) (λ _. does u n) (λ _ w. (w ≡ Keeper (keeper_of w)) × tells u n (keeper_of w)) tt (λ _. own n)
+        (λ _. deaf the_keeper (does u n) refl (own n)) may s r id at fits in
         let after = l.log ++ does u n in
         (record l { view = d.0; log = after; list = d.1 }, keeps, tt, d.2, (((λ k. (record l { view = d.3.0 k; log = after; list = d.1 }, [])), refl, d.3.1, d.4), own_log y u l s r id at))
 
@@ -66,7 +70,7 @@ allows_reference z y x slots id me i does tells st same view is own may =
     by : (u : ReferenceView) (l : Logged) → ((n : ℕ) → AreBy another (does u n)) → ReferenceMay y u i (does u) tells
         → Allows (LoggedRuled y) slots id (record l { view = Reference u }, []) i (λ n. n) (IsToldByReference does tells st (record l { view = Reference u }, []))
     by u l own may s r size at fits =
-        let d = logged_moves y (record l { view = Reference u }) i (λ n. n) (does u) (λ n w. (w ≡ Reference u) × tells u n) tt own may s r id at fits in
+        let d = logged_moves y (record l { view = Reference u }) i (λ n. n) (does u) (λ n w. (w ≡ Reference u) × tells u n) tt own (λ n. deaf another (does u n) refl (own n)) may s r id at fits in
         let after = l.log ++ does u (slice_index s.words i) in
         (record l { view = d.0; log = after; list = d.1 }, keeps, tt, d.2, ((λ k. (record l { view = d.3.0 k; log = after; list = d.1 }, [])), refl, d.3.1, d.4))
 
@@ -125,6 +129,7 @@ allows_keeper_hearing z y x slots id me i f does tells st same view is own may =
     by : (u : KeeperView) (l : Logged) → ((n : ℕ) → AreBy the_keeper (does u n)) → KeeperMay y u i f (does u) tells
         → Allows (LoggedRuled y) slots id (record l { view = Keeper u }, []) i f (heard_by_keeper does tells st (record l { view = Keeper u }, []))
     by u l own may s r size at fits =
-        let d = logged_moves y (record l { view = Keeper u }) i f (does u) (λ n w. (w ≡ Keeper (keeper_of w)) × tells u n (keeper_of w)) tt own may s r id at fits in
+        let d = logged_moves y (record l { view = Keeper u }) i f (does u) (λ n w. (w ≡ Keeper (keeper_of w)) × tells u n (keeper_of w)) tt own
+        (λ n. deaf the_keeper (does u n) refl (own n)) may s r id at fits in
         let after = l.log ++ does u (slice_index s.words i) in
         (record l { view = d.0; log = after; list = d.1 }, keeps, tt, d.2, (((λ k. (record l { view = d.3.0 k; log = after; list = d.1 }, [])), refl, d.3.1, d.4), own_log y u l s r id at))

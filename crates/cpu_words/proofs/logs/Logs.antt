@@ -1,5 +1,5 @@
 -- Steps, cuts and joins over the table with logs.
-use Rattle.std.proofs.Common.{◌≡◌, ◌≢◌, ◌⊎◌, inl, inr, ⊎_elim, ℕ, zero, suc, ◌<◌, ◌≤◌, ◌==◌, List, [], ◌∷◌, ◌++◌, map, length, Option, None, set, length-set, length-append, refl, sym, ap, ◌∙◌, subst}
+use Rattle.std.proofs.Common.{◌≡◌, ◌≢◌, ◌⊎◌, inl, inr, ⊎_elim, ℕ, zero, suc, ◌<◌, ◌≤◌, List, [], ◌∷◌, ◌++◌, map, length, Option, None, set, length-set, length-append, refl, sym, ap, ◌∙◌, subst}
 use Rattle.std.proofs.Common.{append_assoc, arith}
 use Rattle.std.proofs.lemmas.List.{map-set, append-nil, map-append}
 use Rattle.std.specs.Prelude.{slice_index}
@@ -11,9 +11,10 @@ use Rattle.atomic_table.proofs.Lists.{at_set, at_map}
 use Rattle.cpu_words.specs.Types.{Settings, Hear, Done}
 use Rattle.cpu_words.specs.Common.{LogItem, Teller, Logged, View, Keeper, Cpu, Reference, Note, Spent, Shown, Sits, Ruled, GoesOn, did, log_of_events, Moves, SplitsOn, JoinsOn, without_logs, part}
 use Rattle.cpu_words.specs.Common.{events_of, untold, IsStanding, Maker, the_keeper, the_cpu, another, maker, maker_of_note, who, AreBy, IsSeatOf, AreByOwn, Knows, HasComeIf, AreToldBefore}
-use Rattle.cpu_words.specs.Common.{ListGoesOn, spent_seat, LoggedRuled, KnownLogGrows, heard_from}
+use Rattle.cpu_words.specs.Common.{ListGoesOn, spent_seat, LoggedRuled, KnownLogGrows, heard_from, HasHeardAll, HasItsSections, HasNone, is_border, is_hear}
 use Rattle.protocol.specs.Common.{State, opening, empty_run}
 use Rattle.cpu_words.proofs.logs.Parts.{by_seat, part_append, part_own, part_other, events_of_seat}
+use Rattle.cpu_words.proofs.logs.Quiet.{HearsWith, deaf_with, hear_with, heard_own, heard_other, heard_none, sections_more, sections_whole}
 use Rattle.cpu_words.proofs.logs.Told.{AreToldPast, come_more, come_seats, told_more, plain_of_end, plain_from, plain_past, heard_past}
 
 at_within : (l : List Logged) (i : ℕ) (a : Logged) → get_elem? l i ≡ some a → i < length l
@@ -98,6 +99,8 @@ record Went (z : Settings) (s : Table ℕ Logged) (r : LoggedRuled z s) (id : �
   unseated : (j : ℕ) → length s.views ≤ j → part j acts ≡ []
   known : (d : List LogItem) → IsPrefix d (part 0 r.acts) → IsPrefix d (part 0 acts)
   longer : acts ≡ r.acts ++ by_seat id its
+  own_heard : (l m : Logged) → get_elem? s.views id ≡ some l → IsStanding l.view → IsPrefix l.known_log m.known_log → HearsWith id r.acts its m.known_log → HasHeardAll id m acts
+  other_heard : (j : ℕ) (u : Logged) → j ≢ id → get_elem? s.views j ≡ some u → IsStanding u.view → HasHeardAll j u acts
   listed : (d : List (ℕ × LogItem)) → IsPrefix d r.acts → IsPrefix d acts
   told : AreToldBefore goes.ruled.seat goes.ruled.g.seated acts
   tellers : (h : Option Teller) → HasComeIf r.run.seat r.run.g.seated r.acts h → HasComeIf goes.ruled.seat goes.ruled.g.seated acts h
@@ -125,6 +128,8 @@ went z s r id l its ds t goes at stands by events told =
       unseated = λ j le. longer j (λ same. let lt = at_within s.views id l at in omega (arith, lt, same, le)) ∙ r.unseated j le;
       known = λ d pre. subst (IsPrefix d) (sym (part_append 0 r.acts (by_seat id its))) (prefix_more d (part 0 r.acts) (part 0 (by_seat id its)) pre);
       longer = refl;
+      own_heard = λ l m at stands up hears. heard_own id l m r.acts its (r.heard id l at stands) up hears;
+      other_heard = λ j u ne there standing. heard_other id j u r.acts its ne (r.heard j u there standing);
       listed = λ d pre. list_more d r.acts (by_seat id its) pre;
       told = told_more r.run.seat goes.ruled.seat r.run.g.seated goes.ruled.g.seated r.acts (by_seat id its) goes.seated goes.seats r.told told;
       tellers = λ h come. come_more r.run.seat goes.ruled.seat r.run.g.seated goes.ruled.g.seated r.acts (by_seat id its) h goes.seated goes.seats come;
@@ -148,13 +153,27 @@ went_plainly z s r id l ds t goes at stands by =
 abbrev moved_to : Logged → View → List LogItem → List LogItem → List (ℕ × LogItem) → Logged
 moved_to l w ds d all = record l { view = w; log = l.log ++ ds; known_log = d; list = all }
 
--- the rule holds on, for any prefix of the keeper's log that the seat has heard then
+-- what the seat did is in the list, and what it does now
+own_part : (z : Settings) (s : Table ℕ Logged) (r : LoggedRuled z s) (id : ℕ) (l : Logged) (its : List LogItem) → get_elem? s.views id ≡ some l → IsStanding l.view
+    → part id (r.acts ++ by_seat id its) ≡ l.log ++ its
+own_part z s r id l its at stands = part_append id r.acts (by_seat id its) ∙ (λ k. sym (r.logs id l at stands) k ++ part_own id its k)
+
+-- the list that the seat knows then goes on, with all that the seat did
+list_goes_on : (z : Settings) (s : Table ℕ Logged) (r : LoggedRuled z s) (id : ℕ) (l : Logged) (its : List LogItem) → get_elem? s.views id ≡ some l → IsStanding l.view
+    → ListGoesOn l.list (l.log ++ its) (r.acts ++ by_seat id its)
+list_goes_on z s r id l its at stands = record {
+  grows = list_more l.list r.acts (by_seat id its) (r.lists id l at);
+  seat = id;
+  own = own_part z s r id l its at stands;
+}
+
+-- the rule holds on, for any prefix of the keeper's log that the seat has heard then; where it heard now, that is all of it
 logged_goes : (z : Settings) (l : Logged) (i : ℕ) (n : ℕ) (its ds : List LogItem) (w : View) (s : Table ℕ Logged) (r : LoggedRuled z s) (id : ℕ) → get_elem? s.views id ≡ some l → IsStanding l.view
     → AreBy (who l.view) its
     → map untold its ≡ ds → AreToldPast r.run.seat r.run.g.seated r.acts (by_seat id its)
-    → GoesOn z (without_logs s) r.run ds (stepped (without_logs s) i n id [] w keeps) → (d : List LogItem) → IsPrefix d (part 0 r.acts)
+    → GoesOn z (without_logs s) r.run ds (stepped (without_logs s) i n id [] w keeps) → (d : List LogItem) → IsPrefix d (part 0 r.acts) → IsPrefix l.known_log d → HearsWith id r.acts its d
     → LoggedRuled z (stepped s i n id [] (moved_to l w its d (r.acts ++ by_seat id its)) keeps)
-logged_goes z l i n its ds w s r id at stands by events told goes_without_logs d known =
+logged_goes z l i n its ds w s r id at stands by events told goes_without_logs d known up hears =
     let q = without_logs s in
     let m : Logged = moved_to l w its d (r.acts ++ by_seat id its) in
     let t : Table ℕ Logged = stepped s i n id [] m keeps in
@@ -183,24 +202,26 @@ logged_goes z l i n its ds w s r id at stands by events told goes_without_logs d
           (λ (x : (j ≡ id) × (m ≡ u)). subst (λ (y : Logged). IsPrefix y.list on.acts) x.1 ([], append-nil (r.acts ++ by_seat id its) ∙ sym on.longer))
           (λ (x : (j ≢ id) × (get_elem? s.views j ≡ some u)). on.listed u.list (r.lists j u x.1))
           (at_set s.views id j m u there);
+      sections = λ j u there standing. ⊎_elim
+          (λ (x : (j ≡ id) × (m ≡ u)). subst (HasItsSections j) x.1
+          (subst (λ (k : ℕ). HasItsSections k m) (sym x.0) (sections_whole id m (own_part z s r id l its at stands))))
+          (λ (x : (j ≢ id) × (get_elem? s.views j ≡ some u)). r.sections j u x.1 standing)
+          (at_set s.views id j m u there);
+      heard = λ j u there standing. ⊎_elim
+          (λ (x : (j ≡ id) × (m ≡ u)). subst (λ (y : Logged). HasHeardAll j y on.acts) x.1
+          (subst (λ (k : ℕ). HasHeardAll k m on.acts) (sym x.0) (on.own_heard l m at stands up hears)))
+          (λ (x : (j ≢ id) × (get_elem? s.views j ≡ some u)). on.other_heard j u x.0 x.1 standing)
+          (at_set s.views id j m u there);
     }
 
 goes_plainly : (z : Settings) (l : Logged) (i : ℕ) (n : ℕ) (ds : List LogItem) (w : View) (s : Table ℕ Logged) (r : LoggedRuled z s) (id : ℕ) → get_elem? s.views id ≡ some l → IsStanding l.view
-    → AreBy (who l.view) ds
-    → GoesOn z (without_logs s) r.run ds (stepped (without_logs s) i n id [] w keeps) → (d : List LogItem) → IsPrefix d (part 0 r.acts)
-    → LoggedRuled z (stepped s i n id [] (moved_to l w ds d (r.acts ++ by_seat id ds)) keeps)
-goes_plainly z l i n ds w s r id at stands by goes d known =
+    → AreBy (who l.view) ds → HasNone is_hear ds
+    → GoesOn z (without_logs s) r.run ds (stepped (without_logs s) i n id [] w keeps)
+    → LoggedRuled z (stepped s i n id [] (moved_to l w ds l.known_log (r.acts ++ by_seat id ds)) keeps)
+goes_plainly z l i n ds w s r id at stands by quiet goes =
     let none = plain z (without_logs s) r.run ds (stepped (without_logs s) i n id [] w keeps) goes in
-    logged_goes z l i n ds ds w s r id at stands by none (plain_past r.run.seat r.run.g.seated id ds r.acts none) goes d known
-
--- the list that the seat knows then goes on, with all that the seat did
-list_goes_on : (z : Settings) (s : Table ℕ Logged) (r : LoggedRuled z s) (id : ℕ) (l : Logged) (its : List LogItem) → get_elem? s.views id ≡ some l → IsStanding l.view
-    → ListGoesOn l.list (l.log ++ its) (r.acts ++ by_seat id its)
-list_goes_on z s r id l its at stands = record {
-  grows = list_more l.list r.acts (by_seat id its) (r.lists id l at);
-  seat = id;
-  own = part_append id r.acts (by_seat id its) ∙ (λ k. sym (r.logs id l at stands) k ++ part_own id its k);
-}
+    logged_goes z l i n ds ds w s r id at stands by none (plain_past r.run.seat r.run.g.seated id ds r.acts none) goes l.known_log (r.known id l at).0 ([], append-nil l.known_log)
+    (deaf_with id r.acts ds l.known_log quiet)
 
 -- what Moves says, of the table with logs
 abbrev pub LoggedMoves : Settings → Logged → ℕ → (ℕ → ℕ) → (ℕ → List LogItem) → (ℕ → View → Type 0) → Type 0
@@ -209,13 +230,13 @@ LoggedMoves z l i f ds tells = (s : Table ℕ Logged) → LoggedRuled z s → (i
     × tells (slice_index s.words i) w × ListGoesOn l.list (l.log ++ ds (slice_index s.words i)) all
 
 pub logged_moves : (z : Settings) (l : Logged) (i : ℕ) (f : ℕ → ℕ) (ds : ℕ → List LogItem) (tells : ℕ → View → Type 0) → IsStanding l.view → ((n : ℕ) → AreBy (who l.view) (ds n))
-    → Moves z l.view i f ds tells → LoggedMoves z l i f ds tells
-logged_moves z l i f ds tells stands by moves s r id at fits =
+    → ((n : ℕ) → HasNone is_hear (ds n)) → Moves z l.view i f ds tells → LoggedMoves z l i f ds tells
+logged_moves z l i f ds tells stands by quiet moves s r id at fits =
     let word = slice_index s.words i in
     let done = moves (without_logs s) r.run id (at_map (λ (x : Logged). x.view) s.views id l at) fits in (
       done.0,
       r.acts ++ by_seat id (ds word),
-      goes_plainly z l i (f word) (ds word) done.0 s r id at stands (by word) done.1 l.known_log (r.known id l at).0,
+      goes_plainly z l i (f word) (ds word) done.0 s r id at stands (by word) (quiet word) done.1,
       done.2,
       list_goes_on z s r id l (ds word) at stands,
     )
@@ -237,7 +258,7 @@ logged_hears z l i f by tells stands own moves s r id at fits =
       all,
       r.acts ++ by_seat id (heard_from by l.teller),
       logged_goes z l i (f word) (heard_from by l.teller) (did (Hear by) Done) done.0 s r id at stands (own, tt) refl
-          (heard_past r.run.seat r.run.g.seated id by l.teller r.acts (r.tellers id l at)) done.1 all ([], append-nil all),
+          (heard_past r.run.seat r.run.g.seated id by l.teller r.acts (r.tellers id l at)) done.1 all ([], append-nil all) (r.known id l at).0 (hear_with id r.acts by l.teller),
       done.2,
       r.known id l at,
       refl,
@@ -253,17 +274,18 @@ logged_heard z l i f tells stands own moves s r id at fits =
       done.0,
       r.acts ++ by_seat id (heard_from None l.teller),
       logged_goes z l i (f word) (heard_from None l.teller) (did (Hear None) Done) done.0 s r id at stands (own, tt) refl
-          (heard_past r.run.seat r.run.g.seated id None l.teller r.acts (r.tellers id l at)) done.1 l.known_log (r.known id l at).0,
+          (heard_past r.run.seat r.run.g.seated id None l.teller r.acts (r.tellers id l at)) done.1 l.known_log (r.known id l at).0 ([], append-nil l.known_log)
+          (deaf_with id r.acts (heard_from None l.teller) l.known_log (refl, tt)),
       done.2,
       list_goes_on z s r id l (heard_from None l.teller) at stands,
     )
 
 -- A seat is cut in two, or takes in another
 
-pub logged_splits : (z : Settings) (i : ℕ) (l : Logged) (left right : View) (ds known_log : List LogItem) (teller : Option Teller) → IsStanding l.view → AreBy (who l.view) ds → MayTell l ds known_log
-    → MayName l ds teller → SplitsOn z i l.view left right ds
+pub logged_splits : (z : Settings) (i : ℕ) (l : Logged) (left right : View) (ds known_log : List LogItem) (teller : Option Teller) → IsStanding l.view → AreBy (who l.view) ds → HasNone is_border ds → HasNone is_hear ds
+    → MayTell l ds known_log → MayName l ds teller → SplitsOn z i l.view left right ds
     → Splits (LoggedRuled z) i l (record l { view = left; log = l.log ++ ds }) (record { view = right; log = []; known_log = known_log; noted_log = []; teller = teller; list = [] })
-logged_splits z i v left right ds known_log teller stands by may named splits s r at =
+logged_splits z i v left right ds known_log teller stands by apart quiet may named splits s r at =
     let q = without_logs s in
     let here : get_elem? q.views i ≡ some v.view = at_map (λ (l : Logged). l.view) s.views i v at in
     let l : Logged = record v { view = left; log = v.log ++ ds } in
@@ -313,6 +335,21 @@ logged_splits z i v left right ds known_log teller stands by may named splits s 
           (at_set s.views i j l u was))
           (λ (x : (j ≡ length (set s.views i l)) × (b ≡ u)). subst (λ (y : Logged). IsPrefix y.list on.acts) x.1 (on.acts, refl))
           (at_end (set s.views i l) b u j there);
+      sections = λ j u there standing. ⊎_elim
+          (λ (was : get_elem? (set s.views i l) j ≡ some u). ⊎_elim
+          (λ (x : (j ≡ i) × (l ≡ u)). subst (HasItsSections j) x.1 (subst (λ (k : ℕ). HasItsSections k l) (sym x.0) (sections_more i v l ds refl refl apart (r.sections i v at stands))))
+          (λ (x : (j ≢ i) × (get_elem? s.views j ≡ some u)). r.sections j u x.1 standing)
+          (at_set s.views i j l u was))
+          (λ (x : (j ≡ length (set s.views i l)) × (b ≡ u)). subst (HasItsSections j) x.1 (sections_whole j b refl))
+          (at_end (set s.views i l) b u j there);
+      heard = λ j u there standing. ⊎_elim
+          (λ (was : get_elem? (set s.views i l) j ≡ some u). ⊎_elim
+          (λ (x : (j ≡ i) × (l ≡ u)). subst (λ (y : Logged). HasHeardAll j y on.acts) x.1 (subst (λ (k : ℕ). HasHeardAll k l on.acts) (sym x.0)
+          (on.own_heard v l at stands ([], append-nil v.known_log) (deaf_with i r.acts ds v.known_log quiet))))
+          (λ (x : (j ≢ i) × (get_elem? s.views j ≡ some u)). on.other_heard j u x.0 x.1 standing)
+          (at_set s.views i j l u was))
+          (λ (x : (j ≡ length (set s.views i l)) × (b ≡ u)). heard_none j u on.acts (on.unseated j (omega (arith, x.0, size))))
+          (at_end (set s.views i l) b u j there);
     }
 
 -- what lies beside the view after is what lay there, or what the other has heard and who told it
@@ -320,9 +357,9 @@ abbrev pub LiesBeside : Logged → Logged → List LogItem → Option Teller →
 LiesBeside l m noted_log teller = ((noted_log ≡ l.noted_log) × (teller ≡ l.teller)) ⊎ ((noted_log ≡ m.known_log) × (teller ≡ m.teller))
 
 pub logged_joins : (z : Settings) (i : ℕ) (l : Logged) (o : ℕ) (m : Logged) (both : View) (ds noted_log : List LogItem) (teller : Option Teller) → IsStanding l.view → AreBy (who l.view) ds
-    → LiesBeside l m noted_log teller → JoinsOn z i l.view o m.view both Spent ds
+    → HasNone is_border ds → HasNone is_hear ds → LiesBeside l m noted_log teller → JoinsOn z i l.view o m.view both Spent ds
     → Joins (LoggedRuled z) i l o m (record l { view = both; log = l.log ++ ds; noted_log = noted_log; teller = teller }) spent_seat
-logged_joins z i v o w both ds noted_log teller stands by lies joins s r at apart there =
+logged_joins z i v o w both ds noted_log teller stands by borders quiet lies joins s r at apart there =
     let q = without_logs s in
     let f = λ (x : Logged). x.view in
     let here : get_elem? q.views i ≡ some v.view = at_map f s.views i v at in
@@ -382,6 +419,21 @@ logged_joins z i v o w both ds noted_log teller stands by lies joins s r at apar
           (λ (y : (j ≢ i) × (get_elem? s.views j ≡ some u)). on.listed u.list (r.lists j u y.1))
           (at_set s.views i j l u x.1))
           (at_set (set s.views i l) o j b u now);
+      sections = λ j u now standing. ⊎_elim
+          (λ (x : (j ≡ o) × (b ≡ u)). absurd (subst (λ (y : Logged). IsStanding y.view) (sym x.1) standing))
+          (λ (x : (j ≢ o) × (get_elem? (set s.views i l) j ≡ some u)). ⊎_elim
+          (λ (y : (j ≡ i) × (l ≡ u)). subst (HasItsSections j) y.1 (subst (λ (k : ℕ). HasItsSections k l) (sym y.0) (sections_more i v l ds refl refl borders (r.sections i v at stands))))
+          (λ (y : (j ≢ i) × (get_elem? s.views j ≡ some u)). r.sections j u y.1 standing)
+          (at_set s.views i j l u x.1))
+          (at_set (set s.views i l) o j b u now);
+      heard = λ j u now standing. ⊎_elim
+          (λ (x : (j ≡ o) × (b ≡ u)). absurd (subst (λ (y : Logged). IsStanding y.view) (sym x.1) standing))
+          (λ (x : (j ≢ o) × (get_elem? (set s.views i l) j ≡ some u)). ⊎_elim
+          (λ (y : (j ≡ i) × (l ≡ u)). subst (λ (a : Logged). HasHeardAll j a on.acts) y.1 (subst (λ (k : ℕ). HasHeardAll k l on.acts) (sym y.0)
+          (on.own_heard v l at stands ([], append-nil v.known_log) (deaf_with i r.acts ds v.known_log quiet))))
+          (λ (y : (j ≢ i) × (get_elem? s.views j ≡ some u)). on.other_heard j u y.0 y.1 standing)
+          (at_set s.views i j l u x.1))
+          (at_set (set s.views i l) o j b u now);
     }
 
 -- nothing is done: the log stays
@@ -390,4 +442,4 @@ pub logged_joins_same : (z : Settings) (i : ℕ) (l : Logged) (o : ℕ) (m : Log
     → Joins (LoggedRuled z) i l o m (record l { view = both; noted_log = noted_log; teller = teller }) spent_seat
 logged_joins_same z i v o w both noted_log teller stands lies joins =
     subst (λ (log : List LogItem). Joins (LoggedRuled z) i v o w (record v { view = both; log = log; noted_log = noted_log; teller = teller }) spent_seat) (append-nil v.log)
-    (logged_joins z i v o w both [] noted_log teller stands tt lies joins)
+    (logged_joins z i v o w both [] noted_log teller stands tt tt tt lies joins)

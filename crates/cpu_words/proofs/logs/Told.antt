@@ -1,5 +1,5 @@
 -- Who told the notes that were heard: each teller had come as far as the log says before the note was heard, and that stays so.
-use Rattle.std.proofs.Common.{◌≡◌, ◌≢◌, ◌⊎◌, inl, inr, ⊎_elim, ℕ, ◌<◌, ◌≤◌, List, [], ◌∷◌, ◌++◌, map, length, Option, Some, None, refl, sym, ap, ◌∙◌, subst, length-append, append_assoc, arith}
+use Rattle.std.proofs.Common.{◌≡◌, ◌⊎◌, inl, inr, ⊎_elim, ℕ, ◌<◌, ◌≤◌, List, [], ◌∷◌, ◌++◌, map, length, Option, Some, None, refl, sym, ap, ◌∙◌, subst, length-append, append_assoc, arith}
 use Rattle.std.proofs.lemmas.List.{append-nil}
 use Rattle.cpu_words.specs.Types.{Event, Hear}
 use Rattle.protocol.specs.Common.{Outcome, step, Run, run_with_event, State}
@@ -18,21 +18,21 @@ abbrev other_acts : List (ℕ × LogItem) → List (ℕ × LogItem)
 other_acts [] = []
 other_acts (y ∷ ys) = ys
 
-same_act : (x y : ℕ × LogItem) (xs ys : List (ℕ × LogItem)) → x ∷ xs ≡ y ∷ ys → x ≡ y
+pub same_act : (x y : ℕ × LogItem) (xs ys : List (ℕ × LogItem)) → x ∷ xs ≡ y ∷ ys → x ≡ y
 same_act x y xs ys same = ap (first_act x) same
 
-same_acts : (x y : ℕ × LogItem) (xs ys : List (ℕ × LogItem)) → x ∷ xs ≡ y ∷ ys → xs ≡ ys
+pub same_acts : (x y : ℕ × LogItem) (xs ys : List (ℕ × LogItem)) → x ∷ xs ≡ y ∷ ys → xs ≡ ys
 same_acts x y xs ys same = ap other_acts same
 
 pub no_act : (first rest : List (ℕ × LogItem)) (x : ℕ × LogItem) → [] ≡ first ++ x ∷ rest → ⊥
 no_act first rest x is = let size : 0 ≡ length (first ++ x ∷ rest) = ap (λ (l : List (ℕ × LogItem)). length l) is in omega (arith, size, length-append first (x ∷ rest))
 
 -- in the first list, or past it
-abbrev StandsInBoth : List (ℕ × LogItem) → List (ℕ × LogItem) → List (ℕ × LogItem) → List (ℕ × LogItem) → ℕ × LogItem → Type 0
+abbrev pub StandsInBoth : List (ℕ × LogItem) → List (ℕ × LogItem) → List (ℕ × LogItem) → List (ℕ × LogItem) → ℕ × LogItem → Type 0
 StandsInBoth a b first rest x =
     ((more : List (ℕ × LogItem)) × (a ≡ first ++ x ∷ more)) ⊎ ((past : List (ℕ × LogItem)) × (first ≡ a ++ past) × (b ≡ past ++ x ∷ rest))
 
-stands : (a b first rest : List (ℕ × LogItem)) (x : ℕ × LogItem) → a ++ b ≡ first ++ x ∷ rest → StandsInBoth a b first rest x
+pub stands : (a b first rest : List (ℕ × LogItem)) (x : ℕ × LogItem) → a ++ b ≡ first ++ x ∷ rest → StandsInBoth a b first rest x
 stands [] b first rest x is = inr (first, refl, is)
 stands (y ∷ a) b [] rest x is = inl (a, λ k. same_act y x (a ++ b) rest is k ∷ a)
 stands (y ∷ a) b (z ∷ first) rest x is =

@@ -16,7 +16,7 @@ use Rattle.protocol.proofs.slots.Cells.{get_or_all}
 use Rattle.protocol.proofs.keeps.MarkKeeps.{cell_all, rows_all}
 use Rattle.protocol.proofs.keeps.Keeping.{opening_holds}
 use Rattle.cpu_words.specs.Common.{CpuView, Logged, View, Spot, section_of, passive_of, count_of, head_word, next_of, record_of, total_of, index, IsSpot, word_at, Seated, new_keeper, first_view}
-use Rattle.cpu_words.specs.Common.{Shown, Sits, Good, Ruled, IsStanding, Knows, LoggedRuled, first_logged, HasComeIf, AreOpening, AreSeats, cpu_seat}
+use Rattle.cpu_words.specs.Common.{Shown, Sits, Good, Ruled, IsStanding, Knows, HasItsSections, LoggedRuled, first_logged, HasComeIf, AreOpening, AreSeats, cpu_seat}
 use Rattle.cpu_words.proofs.logs.Told.{no_act}
 use Rattle.protocol.proofs.slots.Occupied.{not_vacant}
 
@@ -99,6 +99,8 @@ opens z words fit are = record {
   told = λ i d first rest is. absurd (no_act first rest (i, d) is);
   tellers = nobody;
   lists = unlisted;
+  sections = outside;
+  heard = λ i l at stands d first rest is hear. absurd (no_act first rest (i, d) is);
 }
   where
     none : (i : ℕ) (l : Logged) → get_elem? (first_logged z ∷ []) i ≡ some l → Knows l []
@@ -112,6 +114,10 @@ opens z words fit are = record {
     unlisted : (i : ℕ) (l : Logged) → get_elem? (first_logged z ∷ []) i ≡ some l → IsPrefix l.list []
     unlisted zero l e = subst (λ (m : Logged). IsPrefix m.list []) (some-injective _ _ e) ([], refl)
     unlisted (suc i) l e = absurd (some-ne-none l (sym e))
+
+    outside : (i : ℕ) (l : Logged) → get_elem? (first_logged z ∷ []) i ≡ some l → IsStanding l.view → HasItsSections i l
+    outside zero l e stands = subst (HasItsSections 0) (some-injective _ _ e) (record { lacks = []; are = refl; none = tt })
+    outside (suc i) l e stands = absurd (some-ne-none l (sym e))
 
     one : (i : ℕ) (l : Logged) → get_elem? (first_logged z ∷ []) i ≡ some l → IsStanding l.view → l.log ≡ []
     one zero l e stands = sym (ap (λ (m : Logged). m.log) (some-injective _ _ e))

@@ -216,7 +216,7 @@ splits z i k may s r at =
 pub seat_splits : (z : Settings) (i : ℕ) (l : Logged) (k : KeeperView) → l ≡ record l { view = Keeper (keeper_of l.view) } → keeper_of l.view ≡ k → MaySeat k
     → Splits (LoggedRuled z) i l (logged_after_split with_cpu_seated seats_next l) (fresh next_seat no_log no_teller l)
 seat_splits z i l k is view may = seat_cut z i l (Keeper k) with_cpu_seated next_seat seats_next no_log no_teller (did (Seat k.seated) Done)
-    (is ∙ ap (λ (u : KeeperView). record l { view = Keeper u }) view) tt (refl, tt) refl (tells_nothing (record l { view = Keeper k }) (did (Seat k.seated) Done))
+    (is ∙ ap (λ (u : KeeperView). record l { view = Keeper u }) view) tt (refl, tt) (refl, tt) (refl, tt) refl (tells_nothing (record l { view = Keeper k }) (did (Seat k.seated) Done))
     (names_nobody (record l { view = Keeper k }) (did (Seat k.seated) Done)) (splits z i k may)
 
 pub seat_splits_by : (v a b : View) (k : KeeperView) → keeper_of v ≡ k → a ≡ with_cpu_seated v → b ≡ next_seat v → MaySeat k

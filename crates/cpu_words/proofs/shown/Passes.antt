@@ -1,6 +1,6 @@
 -- A pass is a prefix of the history: what is attached in it, and how it grows.
-use Rattle.std.proofs.Common.{◌≡◌, ℕ, ◌≤◌, List, [], ◌∷◌, ◌++◌, length, take, drop, sym, ap, ◌∙◌, subst, arith, append_assoc}
-use Rattle.std.proofs.lemmas.List.{append-nil, take-append-drop, length-take-le, take_all, take-append-le}
+use Rattle.std.proofs.Common.{◌≡◌, ℕ, ◌≤◌, List, ◌++◌, length, take, drop, sym, ap, ◌∙◌, subst, arith, append_assoc}
+use Rattle.std.proofs.lemmas.List.{take-append-drop, length-take-le, take_all, take-append-le}
 use mathlib.Core.List.{IsPrefix}
 use Rattle.cpu_words.specs.Types.{Entry, Change, Attach}
 use Rattle.protocol.specs.Common.{IsAttached}

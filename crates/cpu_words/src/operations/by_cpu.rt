@@ -3,6 +3,7 @@
 ghost use Rattle.std.specs.Prelude.{◌≡◌, ℕ, ◌<◌, ◌+◌, ◌-◌, ◌%◌, ◌^◌};
 ghost use prog.Atomic.{either};
 ghost use Rattle.std.specs.Prelude.{◌==◌};
+ghost use Rattle.cpu_words.specs.Acts.{is_hear, HasNone};
 ghost use Rattle.cpu_words.specs.Logs.{the_cpu, AreBy};
 ghost use Rattle.cpu_words.specs.Steps.{CpuMay, SeatGoesOn};
 
@@ -22,6 +23,7 @@ pub(crate) fn add<T: CpuTale>(
     requires table { seat.old.table ≡ words.now.table }
     requires place { word < WORDS }
     requires own { (n : ℕ) → AreBy (the_cpu seat.old.view.id) (T.does seat.old.view n) }
+    requires quiet { (n : ℕ) → HasNone is_hear (T.does seat.old.view n) }
     requires may { CpuMay words.now.settings seat.old.view word (λ n. (n + k) % 2 ^ 64) (T.does seat.old.view) T.tells }
     ensures step { SeatGoesOn (T.does seat.old.view result) seat.old seat.new }
     ensures told { T.tells seat.old.view result seat.new.view }
@@ -45,6 +47,7 @@ pub(crate) fn subtract<T: CpuTale>(
     requires table { seat.old.table ≡ words.now.table }
     requires place { word < WORDS }
     requires own { (n : ℕ) → AreBy (the_cpu seat.old.view.id) (T.does seat.old.view n) }
+    requires quiet { (n : ℕ) → HasNone is_hear (T.does seat.old.view n) }
     requires may { CpuMay words.now.settings seat.old.view word (λ n. (n + (2 ^ 64 - k)) % 2 ^ 64) (T.does seat.old.view) T.tells }
     ensures step { SeatGoesOn (T.does seat.old.view result) seat.old seat.new }
     ensures told { T.tells seat.old.view result seat.new.view }
@@ -62,6 +65,7 @@ pub(crate) fn load<T: CpuTale>(words: &Words, seat: &mut CpuSeat, word: usize, e
     requires table { seat.old.table ≡ words.now.table }
     requires place { word < WORDS }
     requires own { (n : ℕ) → AreBy (the_cpu seat.old.view.id) (T.does seat.old.view n) }
+    requires quiet { (n : ℕ) → HasNone is_hear (T.does seat.old.view n) }
     requires may { CpuMay words.now.settings seat.old.view word (λ n. n) (T.does seat.old.view) T.tells }
     ensures step { SeatGoesOn (T.does seat.old.view result) seat.old seat.new }
     ensures told { T.tells seat.old.view result seat.new.view }
@@ -83,6 +87,7 @@ pub(crate) fn compare_exchange<T: CpuTale>(
     requires table { seat.old.table ≡ words.now.table }
     requires place { word < WORDS }
     requires own { (n : ℕ) → AreBy (the_cpu seat.old.view.id) (T.does seat.old.view n) }
+    requires quiet { (n : ℕ) → HasNone is_hear (T.does seat.old.view n) }
     requires may { CpuMay words.now.settings seat.old.view word (λ n. either (n == old) new n) (T.does seat.old.view) T.tells }
     ensures step { SeatGoesOn (T.does seat.old.view result) seat.old seat.new }
     ensures told { T.tells seat.old.view result seat.new.view }

@@ -6,6 +6,7 @@ use Rattle.cpu_words.proofs.laws.Fresh.{lookups_are_fresh, whole_in_the_list}
 use Rattle.cpu_words.proofs.laws.Kept.{attached_keeps}
 use Rattle.cpu_words.proofs.laws.Ordered.{ordered_in_time}
 use Rattle.cpu_words.proofs.laws.Balance.{seats_balance}
+use Rattle.cpu_words.proofs.laws.Called.{cpu_hears_later, ends_open_sections, keeper_hears_later}
 use Rattle.cpu_words.proofs.headline.running_headline.Goals as goal
 
 pub returns-clause-run : goal.returns-clause-run
@@ -37,3 +38,12 @@ returns-clause-whole c = whole_in_the_list
 
 pub returns-clause-grows : goal.returns-clause-grows
 returns-clause-grows c = ordered_in_time
+
+pub returns-clause-told : goal.returns-clause-told
+returns-clause-told c = keeper_hears_later
+
+pub returns-clause-heard : goal.returns-clause-heard
+returns-clause-heard c = cpu_hears_later
+
+pub returns-clause-ended : goal.returns-clause-ended
+returns-clause-ended c = ends_open_sections

@@ -11,5 +11,5 @@ fetch_add-requires g c =
       table,
       omega (arith, c.requires.place, c.words.invariant.1),
       allows_cpu _ _ _ _ _ _ _ (λ (n : ℕ). (n + c.args.k) % 2 ^ 64) g.T.CpuTale.does g.T.CpuTale.tells (record { slots = 0; word = 0; first = 0; second = 0; said = none }) same
-          (sym (ap (λ (s : Seated CpuView). s.view) c.seat.view_is)) c.seat.invariant c.requires.own c.requires.may,
+          (sym (ap (λ (s : Seated CpuView). s.view) c.seat.view_is)) c.seat.invariant c.requires.own c.requires.quiet c.requires.may,
     )

@@ -12,5 +12,5 @@ compare_exchange-requires g c =
       table,
       omega (arith, c.requires.place, c.words.invariant.1),
       allows_cpu _ _ _ _ _ _ _ (λ (n : ℕ). either (n == c.args.old) c.args.new n) g.T.CpuTale.does g.T.CpuTale.tells (record { slots = 0; word = 0; first = 0; second = 0; said = none }) same
-          (sym (ap (λ (s : Seated CpuView). s.view) c.seat.view_is)) c.seat.invariant c.requires.own c.requires.may,
+          (sym (ap (λ (s : Seated CpuView). s.view) c.seat.view_is)) c.seat.invariant c.requires.own c.requires.quiet c.requires.may,
     )

@@ -1,5 +1,5 @@
 use mathlib.Core.Option.{none}
-use Rattle.std.proofs.Common.{ℕ, sym, ap, ◌∙◌, arith}
+use Rattle.std.proofs.Common.{sym, ap, ◌∙◌, arith}
 use Rattle.cpu_words.specs.Common.{Named, Seated, CpuHears, CpuView}
 use Rattle.cpu_words.proofs.logs.Allowing.{allows_hearing}
 use Rattle.cpu_words.proofs.seats.Notes.{own_hear_may}

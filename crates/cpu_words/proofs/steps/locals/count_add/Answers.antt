@@ -1,4 +1,4 @@
-use Rattle.std.proofs.Common.{sym, ap}
+use Rattle.std.proofs.Common.{refl, sym, ap}
 use Rattle.cpu_words.proofs.by_cpu.Locals.{count_add_may}
 use Rattle.cpu_words.specs.Common.{the_cpu}
 use Rattle.cpu_words.proofs.steps.locals.count_add.Goals as goal
@@ -20,3 +20,6 @@ returns-clause-alone c = (c.add.ensures.told.1 _ _ c.requires.may).3
 
 pub add-requires-clause-own : goal.add-requires-clause-own
 add-requires-clause-own c n = (ap the_cpu (sym c.requires.cpu), tt)
+
+pub add-requires-clause-quiet : goal.add-requires-clause-quiet
+add-requires-clause-quiet c n = (refl, tt)

@@ -1,4 +1,4 @@
-use Rattle.std.proofs.Common.{rules, arith, ap, ℕ, ◌∙◌, ◌++◌}
+use Rattle.std.proofs.Common.{rules, arith, ap, ℕ}
 use Rattle.atomic_table.specs.Table.{Me}
 use Rattle.cpu_words.specs.Common.{CpuView, ReferenceView, Logged, Seated}
 use Rattle.cpu_words.proofs.by_cpu.Hands.{seat_joins, seat_joins_by}

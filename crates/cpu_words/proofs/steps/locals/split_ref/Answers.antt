@@ -1,4 +1,4 @@
-use Rattle.std.proofs.Common.{rules, arith, ap, ℕ, ◌∙◌, ◌++◌, sym}
+use Rattle.std.proofs.Common.{rules, arith, ap, ℕ, sym}
 use Rattle.atomic_table.specs.Table.{Me}
 use Rattle.cpu_words.specs.Common.{CpuView, Logged, Seated, the_cpu}
 use Rattle.cpu_words.proofs.by_cpu.Hands.{seat_splits, does_split_ref, seat_splits_by, split_ref_leaves}

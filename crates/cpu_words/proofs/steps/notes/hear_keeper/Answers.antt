@@ -1,4 +1,4 @@
-use Rattle.std.proofs.Common.{ap, ◌∙◌, ◌++◌}
+use Rattle.std.proofs.Common.{ap, ◌∙◌}
 use Rattle.cpu_words.specs.Common.{KeeperView}
 use Rattle.cpu_words.proofs.logs.OwnLog.{own_with_note}
 use Rattle.cpu_words.proofs.seats.Notes.{keeper_heard}

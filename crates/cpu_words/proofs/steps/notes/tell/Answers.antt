@@ -1,4 +1,4 @@
-use Rattle.std.proofs.Common.{rules, arith, ap, ℕ, ◌∙◌, ◌++◌}
+use Rattle.std.proofs.Common.{rules, arith, ap, ℕ}
 use Rattle.atomic_table.specs.Table.{Me}
 use Rattle.cpu_words.specs.Common.{CpuView, Logged, Seated}
 use Rattle.cpu_words.proofs.seats.Notes.{cpu_splits, cpu_splits_by}

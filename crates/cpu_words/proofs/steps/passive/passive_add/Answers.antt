@@ -20,3 +20,6 @@ returns-clause-alone c = (c.add.ensures.told.1 c.args.cpu c.args.slot c.args.num
 
 pub add-requires-clause-own : goal.add-requires-clause-own
 add-requires-clause-own c n = (ap the_cpu (sym c.requires.cpu.1), tt)
+
+pub add-requires-clause-quiet : goal.add-requires-clause-quiet
+add-requires-clause-quiet c n = (refl, tt)

@@ -17,3 +17,6 @@ returns-clause-alone c = (c.subtract.ensures.told.1 c.args.cpu c.args.slot c.arg
 
 pub subtract-requires-clause-own : goal.subtract-requires-clause-own
 subtract-requires-clause-own c n = (ap the_cpu (sym c.requires.cpu.1), tt)
+
+pub subtract-requires-clause-quiet : goal.subtract-requires-clause-quiet
+subtract-requires-clause-quiet c n = (refl, tt)

@@ -1,4 +1,4 @@
-use Rattle.std.proofs.Common.{sym, ap}
+use Rattle.std.proofs.Common.{refl, sym, ap}
 use Rattle.cpu_words.proofs.by_cpu.Searching.{load_link_may}
 use Rattle.cpu_words.specs.Common.{the_cpu}
 use Rattle.cpu_words.proofs.steps.search.load_link.Goals as goal
@@ -8,3 +8,6 @@ load-requires-clause-may c = rw c.linked_place.ensures.place (load_link_may _ _ 
 
 pub load-requires-clause-own : goal.load-requires-clause-own
 load-requires-clause-own c n = (ap the_cpu (sym c.requires.cpu.1), tt)
+
+pub load-requires-clause-quiet : goal.load-requires-clause-quiet
+load-requires-clause-quiet c n = (refl, tt)

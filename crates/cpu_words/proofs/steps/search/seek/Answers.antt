@@ -1,4 +1,4 @@
-use Rattle.std.proofs.Common.{sym, ap}
+use Rattle.std.proofs.Common.{refl, sym, ap}
 use Rattle.cpu_words.proofs.by_cpu.Searching.{seek_may}
 use Rattle.cpu_words.specs.Common.{the_cpu}
 use Rattle.cpu_words.proofs.steps.search.seek.Goals as goal
@@ -8,3 +8,6 @@ load-requires-clause-may c = seek_may _ _ _ _ _ c.requires.cpu.1 c.requires.may
 
 pub load-requires-clause-own : goal.load-requires-clause-own
 load-requires-clause-own c n = (ap the_cpu (sym c.requires.cpu.1), (ap the_cpu (sym c.requires.cpu.1), tt))
+
+pub load-requires-clause-quiet : goal.load-requires-clause-quiet
+load-requires-clause-quiet c n = (refl, (refl, tt))
