@@ -118,7 +118,9 @@ fn run_one<R: Print + Alloc<A = Global> + Threads + Wait + Clock + Sync>(
     let passive = measure(rt, rt.alloc(), plan, Operation::Passive)?.nanoseconds_each(operations);
     let local = measure(rt, rt.alloc(), plan, Operation::Local)?.nanoseconds_each(operations);
     let get = measure(rt, rt.alloc(), plan, Operation::Get)?.nanoseconds_each(operations);
-    print!(rt; "threads {threads} entries {entries} lookup {lookup:.2} batch {batch:.2} walk {walk:.2}")?;
+    print!(rt;
+        "threads {threads} entries {entries} lookup {lookup:.2} batch {batch:.2} walk {walk:.2}"
+    )?;
     println!(rt; " passive {passive:.2} local {local:.2} get {get:.2}")?;
     Ok(())
 }
@@ -191,7 +193,9 @@ fn check<R: Print + Alloc<A = Global> + Threads + Wait + Clock + Sync>(
         let passives = measure(rt, rt.alloc(), plan, Operation::Passive)?.right;
         let locals = measure(rt, rt.alloc(), plan, Operation::Local)?.right;
         let gets = measure(rt, rt.alloc(), plan, Operation::Get)?.right;
-        print!(rt; "threads 2 entries {entries} lookups {lookups} batches {batches} walks {walks}")?;
+        print!(rt;
+            "threads 2 entries {entries} lookups {lookups} batches {batches} walks {walks}"
+        )?;
         println!(rt; " passives {passives} locals {locals} gets {gets}")?;
     }
     check_waiting(rt)
