@@ -85,6 +85,7 @@ maker (LoadLink c) = the_cpu c
 maker (LoadRecord (OfSearch c)) = the_cpu c
 maker (LoadRecord (Passive c n k)) = the_cpu c
 maker (LoadRecord (Local id k)) = another
+maker (LoadRecord (Compared c)) = the_cpu c
 maker (StoreSlot t k v) = the_keeper
 maker (StoreNext t v) = the_keeper
 maker (Publish t) = the_keeper

@@ -60,6 +60,7 @@ load_from : (s : State) (c : ℕ) (of : RecordOf) (d : Event) → d ≡ by_numbe
 load_from s c (OfSearch b) d is load = sym is ∙ load
 load_from s c (Passive b n k) d is load = absurd (let q : LoadRecord (Passive b n k) ≡ LoadRecord (OfSearch c) = sym is ∙ load in cc)
 load_from s c (Local id k) d is load = absurd (let q : by_number s (LoadRecord (Local id k)) ≡ LoadRecord (OfSearch c) = sym is ∙ load in cc)
+load_from s c (Compared b) d is load = absurd (let q : LoadRecord (Compared b) ≡ LoadRecord (OfSearch c) = sym is ∙ load in cc)
 
 load_as : (s : State) (c : ℕ) (e d : Event) → d ≡ by_number s e → d ≡ LoadRecord (OfSearch c) → e ≡ LoadRecord (OfSearch c)
 load_as s c (LoadRecord of) d is load = load_from s c of d is load

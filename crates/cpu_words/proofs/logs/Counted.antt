@@ -226,6 +226,8 @@ record_counted s (OfSearch c) = on_some s (LoadRecord (OfSearch c)) (search_at s
 record_counted s (Passive c n k) = on_some s (LoadRecord (Passive c n k)) (slot_of s.slots n) _ (λ t of. on_made s (LoadRecord (Passive c n k)) _ _ _ (λ may. (λ u. refl, λ u d. refl)))
 record_counted s (Local id k) = on_some s (LoadRecord (Local id k)) (Events.number_standing (local_at s.locals id)) _
     (λ n of. on_some s (LoadRecord (Local id k)) (slot_of s.slots n) _ (λ t of. on_made s (LoadRecord (Local id k)) _ _ _ (λ may. (λ u. refl, λ u d. refl))))
+record_counted s (Compared c) = on_some s (LoadRecord (Compared c)) (search_at s c) _
+    (λ q of. on_some s (LoadRecord (Compared c)) (Events.compared_slot q.place) _ (λ t at. (λ u. refl, λ u d. refl)))
 
 tell_counted : (s : State) (to : Option ℕ) → Counted s (Tell to) (Events.tell s to)
 tell_counted s None = on_made s (Tell None) _ _ _ (λ may. (λ u. refl, λ u d. refl))

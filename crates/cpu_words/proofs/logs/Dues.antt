@@ -75,6 +75,8 @@ record_dues s (OfSearch c) = on_some s (LoadRecord (OfSearch c)) (search_at s c)
 record_dues s (Passive c n k) = on_some s (LoadRecord (Passive c n k)) (slot_of s.slots n) _ (λ t of. on_made s (LoadRecord (Passive c n k)) _ _ _ refl (λ may u d is. is) (λ may. (refl, refl)))
 record_dues s (Local id k) = on_some s (LoadRecord (Local id k)) (Events.number_standing (local_at s.locals id)) _
     (λ n of. on_some s (LoadRecord (Local id k)) (slot_of s.slots n) _ (λ t of. on_made s (LoadRecord (Local id k)) _ _ _ refl (λ may u d is. is) (λ may. (refl, refl))))
+record_dues s (Compared c) = on_some s (LoadRecord (Compared c)) (search_at s c) _
+    (λ q of. on_some s (LoadRecord (Compared c)) (Events.compared_slot q.place) _ (λ t at. (refl, λ u d is. is, (refl, refl))))
 
 tell_dues : (s : State) (to : Option ℕ) → Dues s (Tell to) (Events.tell s to)
 tell_dues s None = on_made s (Tell None) _ _ _ refl (λ may u d is. is) (λ may. (refl, refl))

@@ -69,6 +69,8 @@ record_marks s (OfSearch c) = on_some s (LoadRecord (OfSearch c)) (search_at s c
 record_marks s (Passive c n k) = on_some s (LoadRecord (Passive c n k)) (slot_of s.slots n) _ (λ t. on_made s (LoadRecord (Passive c n k)) _ _ _ refl tt)
 record_marks s (Local id k) = on_some s (LoadRecord (Local id k)) (Events.number_standing (local_at s.locals id)) _
     (λ n. on_some s (LoadRecord (Local id k)) (slot_of s.slots n) _ (λ t. on_made s (LoadRecord (Local id k)) _ _ _ refl tt))
+record_marks s (Compared c) = on_some s (LoadRecord (Compared c)) (search_at s c) _
+    (λ q. on_some s (LoadRecord (Compared c)) (Events.compared_slot q.place) _ (λ t. (refl, tt)))
 
 tell_marks : (s : State) (to : Option ℕ) → Marks s (Tell to) (Events.tell s to)
 tell_marks s None = on_made s (Tell None) _ _ _ refl tt
