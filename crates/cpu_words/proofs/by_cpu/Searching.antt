@@ -557,16 +557,14 @@ load_compared_may z x c t id may = subst (λ d. CpuMay z x (index (record_of t 4
         refl,
         (
           done.1,
-          (
-            refl,
-            λ u place p e under stood.
-                let same : u ≡ t = omega (arith, place) in
-                let one : p ≡ q = same_Some p q (sym under ∙ may.under_way) in
-                let there : MayStandOn x.pass q t e = subst (λ (v : ℕ). MayStandOn x.pass q v e) same (subst (λ (w : Search). MayStandOn x.pass w u e) one stood) in
-                let by_pass : MayStandOn (take sees g.history) q t e = subst (λ (l : List Change). MayStandOn l q t e) seen.pass there in
-                let by_history = stands_by_history g.history sees t q e seen.within (on.searches x.id q searching).started by_pass in
-                sym (stands ∙ ap (λ (w : RecordWords). w.value) (words_stand g x.id q.start sees t e on walk by_history)),
-          ),
+          refl,
+          λ u place p e under stood.
+              let same : u ≡ t = omega (arith, place) in
+              let one : p ≡ q = same_Some p q (sym under ∙ may.under_way) in
+              let there : MayStandOn x.pass q t e = subst (λ (v : ℕ). MayStandOn x.pass q v e) same (subst (λ (w : Search). MayStandOn x.pass w u e) one stood) in
+              let by_pass : MayStandOn (take sees g.history) q t e = subst (λ (l : List Change). MayStandOn l q t e) seen.pass there in
+              let by_history = stands_by_history g.history sees t q e seen.within (on.searches x.id q searching).started by_pass in
+              sym (stands ∙ ap (λ (w : RecordWords). w.value) (words_stand g x.id q.start sees t e on walk by_history)),
         ),
       ),
     ))

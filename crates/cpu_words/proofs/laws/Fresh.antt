@@ -9,7 +9,7 @@ use mathlib.Core.Option.{some}
 use lib.ListN.{get_elem?}
 use Rattle.atomic_table.specs.Table.{State as Table}
 use Rattle.atomic_table.proofs.Lists.{at_map}
-use Rattle.cpu_words.specs.Types.{Key, Entry, Change, Settings, Event, Enter, Hear, Seek, LoadLink, LoadRecord, RecordOf, Passive, Local, Reply, Done, Word, Found, Missed, Ref, Collected}
+use Rattle.cpu_words.specs.Types.{Key, Entry, Change, Settings, Event, Enter, Hear, Seek, LoadLink, LoadRecord, RecordOf, Passive, Local, Compared, Reply, Done, Word, Found, Missed, Ref, Collected}
 use Rattle.registry_values.specs.Common.{are_fit}
 use Rattle.protocol.specs.declared.event.RecordOf.TheVariants.{Search as OfSearch}
 use Rattle.protocol.specs.Common.{State, opening, Outcome, step, state_after, Holds, seen_at, after, after_event, IsAllowed, IsLoadOf, answer_of, IsNoSeek, SeeksNone, IsFreshAnswer, seek_for}

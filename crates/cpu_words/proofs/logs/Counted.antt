@@ -4,7 +4,7 @@ use Rattle.std.proofs.Common.{eq-eqb, ne_eqb, refl, sym, ap, ◌∙◌, subst, a
 use Rattle.std.proofs.lemmas.Bool.{and_parts, cases_eq, eqb-true}
 use Rattle.cpu_words.specs.Types.{Entry, Mark, Settings, MOST_CPUS, Slot, Vacant, Live, Retired, Event, Seat, Enter, Exit, Seek, LoadLink, LoadRecord, StoreSlot, StoreNext, Publish, Unpublish, Tell}
 use Rattle.cpu_words.specs.Types.{Hear, Snapshot, Look, PassiveAdd, PassiveSub, PassiveLook, CountAdd, SplitRef, JoinRef, CountDown, SplitBack, Collect, TotalAdd, JoinKeeper, TotalSub, Keep, KeptSub}
-use Rattle.cpu_words.specs.Types.{Vacate, RecordOf, Passive, Local, Reply, Done, Word, Ref, Due, Rest, Snapshots, Adding, Subtracting, Hand, Empty, Taking, Giving, Back, Search, Loaded, On, Over}
+use Rattle.cpu_words.specs.Types.{Vacate, RecordOf, Passive, Local, Compared, Reply, Done, Word, Ref, Due, Rest, Snapshots, Adding, Subtracting, Hand, Empty, Taking, Giving, Back, Search, Loaded, On, Over}
 use Rattle.registry_values.specs.Common.{bias, no_mark, mark_after_look, mark_after_passive_look, mark_after_collect, is_retired, is_taken, key_of, slot_at, slot_of, slot_before}
 use Rattle.protocol.specs.declared.event.RecordOf.TheVariants.{Search as OfSearch}
 use Rattle.protocol.specs.Common.{State, opening, with_cell, section_at, search_at, found_at, hand_at, row_at, mark_at, passive_at, count_at, kept_at, local_at, loaded_at, row_of_place, Outcome}

@@ -3,7 +3,7 @@ use Rattle.std.proofs.Common.{◌≡◌, ℕ, zero, suc, nat_lt, ◌+◌, ◌==�
 use Rattle.std.proofs.lemmas.Bool.{and_parts, eqb-true}
 use Rattle.cpu_words.specs.Types.{Entry, Slot, Vacant, Live, Retired, Event, Seat, Enter, Exit, Seek, LoadLink, LoadRecord, StoreSlot, StoreNext, Publish, Unpublish, Tell, Hear, Snapshot, Look}
 use Rattle.cpu_words.specs.Types.{PassiveAdd, PassiveSub, PassiveLook, CountAdd, SplitRef, JoinRef, CountDown, SplitBack, Collect, TotalAdd, JoinKeeper, TotalSub, Keep, KeptSub, Vacate, RecordOf}
-use Rattle.cpu_words.specs.Types.{Passive, Local, Reply, Done, Word, Due, Rest, Snapshots, Adding, Subtracting, Hand, Empty, Taking, Giving, Back, Search, Loaded, On, Over}
+use Rattle.cpu_words.specs.Types.{Passive, Local, Compared, Reply, Done, Word, Due, Rest, Snapshots, Adding, Subtracting, Hand, Empty, Taking, Giving, Back, Search, Loaded, On, Over}
 use Rattle.registry_values.specs.Common.{bias, slot_at, slot_of, slot_before}
 use Rattle.protocol.specs.declared.event.RecordOf.TheVariants.{Search as OfSearch}
 use Rattle.protocol.specs.Common.{State, search_at, found_at, hand_at, row_at, count_at, total_at, kept_at, local_at, at_rest, loaded_at, row_of_place, Outcome, guard, some_outcome, with_some, step}

@@ -6,7 +6,7 @@ use Rattle.std.proofs.lemmas.List.{get_or_past, set_past}
 use Rattle.std.proofs.lemmas.Option.{none-some, same_Some}
 use Rattle.cpu_words.specs.Types.{Mark, Slot, Vacant, Live, Retired, Settings, MOST_CPUS, Event, Seat, Enter, Exit, Seek, LoadLink, LoadRecord, StoreSlot, StoreNext, Publish, Unpublish, Tell, Hear}
 use Rattle.cpu_words.specs.Types.{Snapshot, Look, PassiveAdd, PassiveSub, PassiveLook, CountAdd, SplitRef, JoinRef, CountDown, SplitBack, Collect, TotalAdd, JoinKeeper, TotalSub, Keep, KeptSub}
-use Rattle.cpu_words.specs.Types.{Vacate, RecordOf, Passive, Local, Reply, Done, Word, Due, Rest, Snapshots, Adding, Subtracting, Hand, Empty, Taking, Giving, Back, Search, Loaded, On, Over}
+use Rattle.cpu_words.specs.Types.{Vacate, RecordOf, Passive, Local, Compared, Reply, Done, Word, Due, Rest, Snapshots, Adding, Subtracting, Hand, Empty, Taking, Giving, Back, Search, Loaded, On, Over}
 use Rattle.registry_values.specs.Common.{no_mark, is_even, has_changed, mark_after_look, mark_after_passive_look, mark_after_collect, slot_at, slot_of, slot_before}
 use Rattle.protocol.specs.declared.event.RecordOf.TheVariants.{Search as OfSearch}
 use Rattle.protocol.specs.Common.{State, with_cell, section_at, search_at, found_at, hand_at, row_at, mark_at, kept_at, local_at, opening, loaded_at, row_of_place, Outcome, guard, some_outcome}

@@ -52,7 +52,7 @@ load_record_makes s (OfLocal id k) on =
     (λ t is. stays_make s s (nat_lt k 5) (Word (Events.word (row_at s.rows t) k)) Stays))
 load_record_makes s (OfCompared c) on =
     makes_some (picture s) (search_at s c) (λ q. Events.with_some (Events.compared_slot q.place) (λ t. some_outcome s (Word (row_at s.rows t).value)))
-    (λ q is. makes_some (picture s) (Events.compared_slot q.place) (λ t. some_outcome s (Word (row_at s.rows t).value)) (λ t at. Stays))
+    (λ q is. makes_some (picture s) (Events.compared_slot q.place) (λ t. some_outcome s (Word (row_at s.rows t).value)) (λ t at now. Stays))
 
 store_slot_makes : (s : State) (t k v : ℕ) → Makes (picture s) (Events.store_slot s t k v)
 store_slot_makes s t k v =
