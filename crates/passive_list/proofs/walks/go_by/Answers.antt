@@ -1,5 +1,6 @@
 -- The words of a slot, one after the other.
 use Rattle.std.proofs.Common.{refl}
+use Rattle.passive_list.specs.Types.{Word}
 use Rattle.passive_list.specs.Common.{nobody}
 use Rattle.passive_list.proofs.GoingOver.{compared, may_load_value, gone_by}
 use Rattle.passive_list.proofs.Walking.{at_kind, at_high, at_low, may_load}
@@ -35,5 +36,5 @@ returns-clause-change c = λ from at tells.
 
 pub returns-clause-log : goal.returns-clause-log
 returns-clause-log c =
-    five_loaded c.args.cpu _ _ _ _ (four_loaded c.args.cpu _ _ _ _ _ _ _ _ _
+    five_loaded c.args.cpu (Word c.load_compared-value.result) _ _ _ (four_loaded c.args.cpu _ _ _ _ _ _ _ _ _
     c.load_searched-number.ensures.step.log c.load_searched-kind.ensures.step.log c.load_searched-high.ensures.step.log c.load_searched-low.ensures.step.log) c.load_compared-value.ensures.step.log
