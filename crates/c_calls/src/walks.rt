@@ -66,13 +66,13 @@ fn walk(cpu: &mut CpuBody, row: &mut [CEntry], count: &mut NumberPlace) -> u32
     DONE
 }
 
-/// A place of a row before the walk.
+/// A place of a row before the walk. All its bytes are 0: a row of these is filled at once.
 fn no_entry() -> Entry {
     Entry {
         number: 0,
         slot: 0,
         rec: Record {
-            kind: Kind::Driver,
+            kind: Kind::Iface,
             name: Name::of_words(0, 0),
             value: 0,
         },

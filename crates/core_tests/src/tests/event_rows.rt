@@ -31,6 +31,8 @@ const LINK: Ask = Ask::Step(Event::LoadLink(0));
 
 const WORD: Ask = Ask::Step(Event::LoadRecord(RecordOf::Search(0)));
 
+const VALUE: Ask = Ask::Step(Event::LoadRecord(RecordOf::Compared(0)));
+
 /// The mark of a CPU that was inside its first section as the entry was retired; nothing was seen of it since.
 const INSIDE: Mark = Mark {
     snapshot: Some(1),
@@ -45,7 +47,7 @@ const OUTSIDE: Mark = Mark {
     ..INSIDE
 };
 
-const ROWS: [Row; 5] = [
+const ROWS: [Row; 6] = [
     // A search at an entry that is unlinked goes on over its link.
     Row {
         name: "frozen-link",
@@ -81,6 +83,38 @@ const ROWS: [Row; 5] = [
             (0, Ask::Step(Event::Exit(0)), Ok(Told::Done)),
             (1, Ask::Advance(2), Ok(Told::Stage(Stage::Freed(1)))),
             (1, Ask::Advance(1), Ok(Told::Stage(Stage::Freed(0)))),
+        ],
+    },
+    // The value of an entry that isn't the one sought is loaded as the search is about to leave it, and nowhere else. The search stays there.
+    Row {
+        name: "a value gone by",
+        settings: Settings { slots: 3, ..USUAL },
+        lines: &[
+            (0, Ask::Step(Event::Seat(0)), Ok(Told::Done)),
+            (0, Ask::Step(Event::Seat(1)), Ok(Told::Done)),
+            (1, Ask::Attach(FIRST), Ok(Told::Entry(1, 0, 10))),
+            (1, Ask::Attach(SECOND), Ok(Told::Entry(2, 1, 11))),
+            (0, Ask::Step(Event::Enter(0)), Ok(Told::Done)),
+            (0, VALUE, Ok(Told::NotAllowed)),
+            (0, Ask::Seek(FIRST), Ok(Told::Done)),
+            (0, VALUE, Ok(Told::NotAllowed)),
+            (0, LINK, Ok(Told::Word(2))),
+            (0, VALUE, Ok(Told::NotAllowed)),
+            (0, WORD, Ok(Told::Word(2))),
+            (0, WORD, Ok(Told::Word(2))),
+            (0, WORD, Ok(Told::Word(0x776d_3100_0000_0000))),
+            (0, VALUE, Ok(Told::NotAllowed)),
+            (0, WORD, Ok(Told::Word(0))),
+            (0, VALUE, Ok(Told::Word(11))),
+            (1, Ask::Detach(SECOND), Ok(Told::Entry(2, 1, 11))),
+            (0, VALUE, Ok(Told::Word(11))),
+            (0, LINK, Ok(Told::Word(1))),
+            (0, WORD, Ok(Told::Word(1))),
+            (0, WORD, Ok(Told::Word(2))),
+            (0, WORD, Ok(Told::Word(0x776d_3000_0000_0000))),
+            (0, WORD, Ok(Told::Word(0))),
+            (0, VALUE, Ok(Told::NotAllowed)),
+            (0, WORD, Ok(Told::Entry(1, 0, 10))),
         ],
     },
     // The snapshots are of the section words after the unlinking, and nothing is looked at before all have passed.
