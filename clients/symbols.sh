@@ -1,6 +1,7 @@
 #!/usr/bin/env bash
-# Compares the public names of the libraries: symbols.sh HEADERS OUT BUILD VERSION. The calls that the headers declare are those that the maps name, those that the
-# shared libraries show, in the same nodes, and those that the static ones do. Else it prints the difference, and its status is 1. `make symbols` calls it.
+# Compares the public names of the libraries: symbols.sh HEADERS OUT BUILD VERSION. The calls that the headers declare are those that the maps name, those that
+# the shared libraries show, in the same nodes, and those that the static ones do. Else it prints the difference, and its status is 1. `make symbols` calls it.
+# BUILD is what the shared libraries of a build have in their names, or nothing.
 set -uo pipefail
 cd "$(dirname "$0")" || exit
 if [ $# -ne 4 ]; then
