@@ -49,7 +49,8 @@ lay_archive() {
     [ -n "$archive" ] || return 0
     [ -f "${archive%.a}.proved" ] || refuse "there is no ${archive%.a}.proved, the record of the archive's proof: $(remedy "$1") writes it"
     mkdir -p "$to"
-    cp "$archive" "${archive%.a}.proved" "$(first "${archive%/*}/registry_limits.h" include/registry_limits.h ../crates/registry_c/include/registry_limits.h)" "$to"
+    cp "$archive" "${archive%.a}.proved" "$to"
+    cp "$(first "${archive%/*}"/registry_limits.h {include,../crates/registry_c/include}/registry_limits.h)" "$to"
     program=$(first archive/x86_64/registry_run ../crates/registry_run/out/registry_run)
     if [ "$1" = x86_64 ] && [ -n "$program" ]; then
         cp "$program" "$to/registry_run"

@@ -1,6 +1,7 @@
 #!/usr/bin/env bash
-# Compares the public names of the libraries: symbols.sh HEADERS OUT BUILD VERSION. The calls that the headers declare are those that the maps name, those that the
-# shared libraries show, in the same nodes, and those that the static ones do. Else it prints the difference, and its status is 1. `make symbols` calls it.
+# Compares the public names of the libraries: symbols.sh HEADERS OUT BUILD VERSION. The calls that the headers declare are those that the maps name, those that
+# the shared libraries show, in the same nodes, and those that the static ones do. Else it prints the difference, and its status is 1. `make symbols` calls it.
+# BUILD is what the shared libraries of a build have in their names, or nothing.
 set -uo pipefail
 cd "$(dirname "$0")" || exit
 if [ $# -ne 4 ]; then
@@ -33,7 +34,7 @@ in_nodes() {
 
 # What a shared library shows with its node, by the names of a map.
 shown_in_nodes() {
-    ${NM:-nm} -D --defined-only "$1" | awk '$2 != "A" { sub(/^registry_for_[0-9][^@]*/, "registry_for_*", $3); print $3 }' | sort
+    ${NM:-nm} -D --defined-only "$1" | awk '$2 != "A" { sub(/registry_for_[0-9][^@]*/, "registry_for_*", $3); print $3 }' | sort
 }
 
 # What a shared library shows, without its versions' own names.
@@ -55,23 +56,27 @@ same() {
     fi
 }
 
+# A map has one name for what the limits of the build are in the name of.
+in_maps() {
+    sed -E 's/registry_for_[0-9].*/registry_for_*/'
+}
+
 calls=$(./calls-of.sh "$headers"/registry{,_limits}.h c/waiting.h)
-# The map has one name for what the call is called in each build.
-same kupaldiz.map "$(sed -E 's/^registry_for_[0-9].*/registry_for_*/' < <(echo "$calls"))" "$(mapped kupaldiz.map)"
+same kupaldiz.map "$(in_maps <<<"$calls")" "$(mapped kupaldiz.map)"
 same libkupaldiz.so "$calls" "$(shared "$out/libkupaldiz$suffix")"
 same "the nodes of libkupaldiz.so" "$(in_nodes kupaldiz.map)" "$(shown_in_nodes "$out/libkupaldiz$suffix")"
 same libkupaldiz.a "$calls" "$(static "$out/libkupaldiz.a")"
 # With the pages' names the bench has two calls more, and its own.
-pages=$(./calls-of.sh netbsd/kupaldiz/*.h | with_prefix)
+pages=$({ ./calls-of.sh netbsd/kupaldiz/*.h; grep '^registry_for_' <<<"$calls"; } | with_prefix)
 calls=$(grep -vxE 'kupaldiz_(point|from)' <<<"$pages")
-same netbsd.map "$calls" "$(mapped netbsd/netbsd.map)"
+same netbsd.map "$(in_maps <<<"$calls")" "$(mapped netbsd/netbsd.map)"
 same libkupaldiz_netbsd.so "$calls" "$(shared "$out/libkupaldiz_netbsd$suffix")"
 same "the nodes of libkupaldiz_netbsd.so" "$(in_nodes netbsd/netbsd.map)" "$(shown_in_nodes "$out/libkupaldiz_netbsd$suffix")"
 # Two words of each thread, hidden, which the layer's parts share.
 same libkupaldiz_netbsd.a "$calls" "$(static "$out/libkupaldiz_netbsd.a" | grep -vxE 'kupaldiz_(self|places)')"
 if [ -f "$out/libkupaldiz_bench.a" ]; then
     calls=$(sort <<<"$pages"$'\n'"$(./calls-of.sh bench/bench.h)")
-    same bench.map "$calls" "$(mapped bench/bench.map)"
+    same bench.map "$(in_maps <<<"$calls")" "$(mapped bench/bench.map)"
     same libkupaldiz_bench.so "$calls" "$(shared "$out/libkupaldiz_bench$suffix")"
     same libkupaldiz_bench.a "$calls" "$(static "$out/libkupaldiz_bench.a")"
 fi

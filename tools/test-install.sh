@@ -87,9 +87,19 @@ shows_calls_alone() {
     diff <(calls_of_headers | sort) <(shown libkupaldiz)
 }
 
-# The calls of the pages' names, each with the library's name before its own.
+# The calls of the pages' names, each with the library's name before its own, and the symbol that the limits are in the name of.
 calls_of_pages() {
-    clients/calls-of.sh "$stage$prefix"/include/kupaldiz/netbsd/kupaldiz/*.h | sed '/^kupaldiz_/!s/^/kupaldiz_/'
+    { clients/calls-of.sh "$stage$prefix"/include/kupaldiz/netbsd/kupaldiz/*.h; calls_of_headers | grep '^registry_for_[0-9]'; } |
+        sed '/^kupaldiz_/!s/^/kupaldiz_/'
+}
+
+# A program of the pages' names that is compiled for other CPUs than the library has doesn't link, and the linker names them.
+refused_by_linker() {
+    local other=$room/other
+    rm -rf "$other" && cp -r "$stage$prefix/include" "$other" &&
+        sed -i -E 's/(MOST_CPUS[[:blank:]]+).*/\116/; s/registry_for_[0-9]+/registry_for_16/' "$other"/kupaldiz/{,netbsd/kupaldiz/}registry_limits.h || return
+    ! gcc -o "$room/for_other" -I"$other/kupaldiz/netbsd" clients/c/installed_netbsd.c -L"$stage$libdir" -lkupaldiz_netbsd -lkupaldiz -pthread >"$room/said" 2>&1 &&
+        grep 'undefined reference to .kupaldiz_registry_for_16_cpus_' "$room/said"
 }
 
 # That of the pages' names shows the calls that its headers declare and no other name. Two of the calls are the bench's.
@@ -373,6 +383,7 @@ done
 check "libkupaldiz takes a shadow stack" takes_shadow_stack libkupaldiz
 check "libkupaldiz_netbsd takes a shadow stack" takes_shadow_stack libkupaldiz_netbsd
 check "libkupaldiz_bench, which switches stacks, takes none" takes_none libkupaldiz_bench
+check "a program of the pages' names for other CPUs doesn't link" refused_by_linker
 check "make installcheck" made installcheck
 if command -v cmake >/dev/null; then
     check "CMake: find_package finds the libraries" found_by_cmake

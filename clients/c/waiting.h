@@ -88,8 +88,8 @@ size_t registry_deferred_count(const struct registry_deferred *deferred) REGISTR
 /*
  * registry_deferred_free - free the entries that nothing holds any more, oldest first
  *
- * It makes one registry_advance for each entry that waits, REGISTRY_MOST_SLOTS at most. The caller holds the interlock, and may be inside a section. An entry that this
- * section may hold isn't freed. The call never waits.
+ * It makes one registry_advance for each entry that waits, REGISTRY_MOST_SLOTS at most. The caller holds the interlock, and may be inside a section. An
+ * entry that this section may hold isn't freed. The call never waits.
  * Returns REGISTRY_EMPTY_HANDLE or REGISTRY_DONE. With REGISTRY_DONE the number of freed entries is written to `freed`, which may be NULL.
  */
 registry_answer registry_deferred_free(struct registry_keeper *keeper, struct registry_deferred *deferred, size_t *freed) REGISTRY_NONNULL(1, 2);

@@ -22,6 +22,12 @@ extern "C" {
 /* How many CPUs there are, numbered from 0: those of a registry without the one that the layer keeps for itself. */
 #define KUPALDIZ_CPUS	(REGISTRY_MOST_CPUS - 1)
 
+/* A symbol with the limits of the build in its name. Each file that has this header refers to it: for other CPUs it neither links nor starts. */
+#define KUPALDIZ_NAMED_BY(limits)	kupaldiz_##limits
+#define KUPALDIZ_NAMED(limits)		KUPALDIZ_NAMED_BY(limits)
+extern const char KUPALDIZ_NAMED(REGISTRY_BUILT_FOR);
+static const char *const kupaldiz_built_for __attribute__((used)) = &KUPALDIZ_NAMED(REGISTRY_BUILT_FOR);
+
 /* A CPU, as far as it is looked into. */
 struct cpu_info {
 	unsigned ci_index;

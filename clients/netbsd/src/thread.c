@@ -9,6 +9,7 @@
 
 #include "layer.h"
 
+const char KUPALDIZ_NAMED(REGISTRY_BUILT_FOR) = 0;
 struct cpu cpus[KUPALDIZ_CPUS];
 _Thread_local struct thread *kupaldiz_self;
 _Thread_local struct places kupaldiz_places;

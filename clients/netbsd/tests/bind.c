@@ -1,6 +1,6 @@
 /*
- * bind - almost three times as many threads as CPUs share these: none waits to be bound, those of one CPU keep out of each other's sections, and each has depth, sections and
- * references of its own; threads that aren't bound read as well
+ * bind - almost three times as many threads as CPUs share these: none waits to be bound, those of one CPU keep out of each other's sections, and each has
+ * depth, sections and references of its own; threads that aren't bound read as well
  */
 #include <sys/condvar.h>
 #include <sys/cpu.h>

@@ -35,8 +35,10 @@ const fn bit_of(thing: usize) -> u64 {
 }
 
 /// What lies in the basket of a CPU, by the slots of the entries. While a reference lies there its entry keeps its slot.
+#[derive(Default)]
 struct Dropped {
-    of_slot: [Vec<ffi::Local>; ffi::MOST_SLOTS],
+    /// A row for each slot, on the heap once anything lay here: in a large build they are too long for a stack.
+    of_slot: Vec<Vec<ffi::Local>>,
     /// A bit for each slot that has something there.
     filled: [u64; words(ffi::MOST_SLOTS)],
     count: usize,
@@ -74,20 +76,22 @@ impl Default for Baskets {
     }
 }
 
-impl Default for Dropped {
-    fn default() -> Dropped {
-        Dropped {
-            of_slot: [(); ffi::MOST_SLOTS].map(|()| Vec::new()),
-            filled: [0; words(ffi::MOST_SLOTS)],
-            count: 0,
-        }
-    }
-}
-
 impl Dropped {
+    /// The row of a slot, if there is memory for the rows.
+    fn place(&mut self, slot: usize) -> Option<&mut Vec<ffi::Local>> {
+        if self.of_slot.is_empty() {
+            self.of_slot.try_reserve_exact(ffi::MOST_SLOTS).ok()?;
+            self.of_slot.resize_with(ffi::MOST_SLOTS, Vec::new);
+        }
+        self.of_slot.get_mut(slot)
+    }
+
     /// Lays a reference in. It comes back where there is no memory for it.
     fn lay(&mut self, slot: usize, local: ffi::Local) -> Result<(), ffi::Local> {
-        let place = &mut self.of_slot[slot];
+        let place = match self.place(slot) {
+            Some(place) => place,
+            None => return Err(local),
+        };
         if place.try_reserve(1).is_err() {
             return Err(local);
         }
@@ -99,7 +103,7 @@ impl Dropped {
 
     /// Takes a reference out that is to the entry in this slot. The row's room shrinks with it.
     fn take_of(&mut self, slot: usize) -> Option<ffi::Local> {
-        let place = &mut self.of_slot[slot];
+        let place = self.of_slot.get_mut(slot)?;
         let local = place.pop()?;
         if place.is_empty() {
             self.filled[slot / 64] &= !bit_of(slot);

@@ -18,8 +18,8 @@
 //! - An [`Entry`] is a driver or an interface that was attached. It is live until it is detached, and then retired until it is freed. It carries a
 //!   `T`, and everything that holds the entry derefs to it. `T` is one type for all entries of a registry: an `enum` if drivers and interfaces carry
 //!   different things, `()` if they carry nothing.
-//! - A [`Cpu`] is a value that one thread at a time uses. A registry has at least one and at most [`LIMITS`]`.cpus`. It needn't be a processor of the machine. A [`CpuPool`] lends CPUs
-//!   to more threads.
+//! - A [`Cpu`] is a value that one thread at a time uses. A registry has at least one and at most [`LIMITS`]`.cpus`. It needn't be a processor of the
+//!   machine. A [`CpuPool`] lends CPUs to more threads.
 //! - A [`Section`] is open on a CPU while it looks entries up. An entry that is [`Found`] in it keeps its slot while it is open.
 //! - A [`PassiveRef`] holds an entry beyond the section, on one CPU. It is cheap, and its holder may sleep. A [`PassiveRc`] co-owns the CPU instead of
 //!   borrowing it. A [`LocalRef`] may be stored and go to other threads. A [`LocalGuard`] is one that a CPU releases when it is dropped.
