@@ -72,7 +72,7 @@ fn meet_all(registry: &Registry<u64>, cpus: &[Cpu<u64>], name: &Name, count: u32
     let mut retired = Some(registry.detach(&cpus[0], Kind::Driver, name)?);
     let mut turn = |met| {
         let Refused { refusal, given } = retired.take().expect("it comes back").advance().expect_err("it is held");
-        assert_eq!(refusal, Refusal::StillHeld(met));
+        assert!(refusal == Refusal::StillHeld(met));
         retired = Some(given);
         Ok(())
     };

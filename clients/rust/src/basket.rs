@@ -164,6 +164,7 @@ impl Baskets {
     }
 
     /// How many lie in all baskets.
+    #[inline]
     pub fn total(&self) -> usize {
         self.of_cpu.iter().map(Basket::count).sum()
     }

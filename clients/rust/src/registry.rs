@@ -106,7 +106,7 @@ impl<T> Registry<T> {
     /// neither, since the change will be refused.
     fn tidy(&self, cpu: &Cpu<T>) -> Result<(), Refusal> {
         self.check(cpu)?;
-        if !cpu.is_inside() {
+        if !self.shared.is_tidy() && !cpu.is_inside() {
             cpu.release_some(BY_CHANGE);
             drop(self.collect());
         }

@@ -65,7 +65,7 @@ impl<T> Kept<T> {
     ///
     /// The handle, where there is one, is of a CPU of this registry, which this thread runs on, and not in use.
     #[inline]
-    unsafe fn turn(&mut self, cpu: Option<*mut ffi::Cpu>, number: u64) -> Met {
+    pub(crate) unsafe fn turn(&mut self, cpu: Option<*mut ffi::Cpu>, number: u64) -> Met {
         let mut stage = ffi::Stage::default();
         let answer = match cpu {
             // SAFETY: the keeper is locked, the caller upholds the contract for the CPU, both are of one registry, and their handles aren't empty.
@@ -87,6 +87,7 @@ impl<T> Kept<T> {
         self.deferred.retain(|other| other.number != number);
         // SAFETY: the interlock is held, and an attach noted the entry under it. The value is taken below.
         let entry = unsafe { carried.plain() }.entry();
+        debug_assert_eq!(entry.number, number, "the row's entry");
         // SAFETY: registry.h says of FREED and of a destroy that is done: "on every CPU, now and later: no section may hold it, no passive and no local
         // reference to it is held, and no slot keeps it". Each reference of Rust to the value lives as long as one of these. The number is never
         // reused, and its row is gone, so this is the only time.
@@ -148,40 +149,63 @@ impl<T> Shared<T> {
     /// # Safety
     ///
     /// As of `Kept::turn`.
-    #[inline]
     pub(crate) unsafe fn turn(&self, cpu: Option<*mut ffi::Cpu>, entry: Plain) -> Result<Freed<T>, Met> {
         let mut kept = self.kept();
         // SAFETY: the caller upholds the contract for the CPU.
-        let mut met = unsafe { kept.turn(cpu, entry.number) };
-        if met.is_local() && self.give_up_dropped(&mut kept.keeper, entry.slot()) {
-            // SAFETY: as above.
-            met = unsafe { kept.turn(cpu, entry.number) };
+        let met = unsafe { kept.turn(cpu, entry.number) };
+        if self.goes_on(met) {
+            // SAFETY: as above, and the turn was just made.
+            return unsafe { self.go_on(kept, cpu, entry.number, entry.slot(), met.locals()) };
         }
-        if !met.is_freed() {
-            return Err(met);
-        }
-        debug_assert_eq!(met.stage.what, entry.slot() as u64, "the slot that is vacant");
-        // SAFETY: the turn just made met that it is freed.
-        Ok(unsafe { self.take_freed(&mut kept, entry.number) })
+        Err(met)
     }
 
-    /// Takes out what a freed entry carried.
+    /// Whether more is to be done in the same turn: it freed the entry, or met local references where some were dropped.
+    #[inline]
+    pub(crate) fn goes_on(&self, met: Met) -> bool {
+        met.is_freed() || met.locals().is_some() && self.baskets.total() > 0
+    }
+
+    /// Goes on with a turn. Apart, and all of it in registers: most turns of whoever waits end before, and the lock waits for what they store.
     ///
     /// # Safety
     ///
-    /// As of `Kept::take`.
+    /// As of `Kept::turn`, which was just made under this lock, on the same CPU or on none, for this entry: it met so many local references, or freed
+    /// the entry.
     #[inline(never)]
-    unsafe fn take_freed(&self, kept: &mut Kept<T>, number: u64) -> Freed<T> {
-        // SAFETY: the caller has made the turn.
-        let freed = unsafe { kept.take(number) };
+    pub(crate) unsafe fn go_on(
+        &self,
+        mut kept: MutexGuard<'_, Kept<T>>,
+        cpu: Option<*mut ffi::Cpu>,
+        number: u64,
+        slot: usize,
+        locals: Option<u64>,
+    ) -> Result<Freed<T>, Met> {
+        if let Some(held) = locals {
+            if !self.give_up_dropped(&mut kept.keeper, slot) {
+                return Err(Met::local(held));
+            }
+            // SAFETY: the caller upholds the contract for the CPU.
+            let met = unsafe { kept.turn(cpu, number) };
+            if !met.is_freed() {
+                return Err(met);
+            }
+        }
+        // SAFETY: the last turn freed it.
+        let taken = unsafe { kept.take(number) };
         self.deferred.store(kept.deferred.len(), Ordering::Relaxed);
-        freed
+        Ok(taken)
     }
 
     /// Leaves a retired entry to later changes, as the youngest.
     pub fn defer(&self, kept: &mut Kept<T>, entry: Plain) {
         kept.deferred.push(entry);
         self.deferred.store(kept.deferred.len(), Ordering::Relaxed);
+    }
+
+    /// Whether no dropped reference is to be released, and no entry deferred.
+    pub fn is_tidy(&self) -> bool {
+        self.baskets.total() == 0 && self.deferred() == 0
     }
 
     /// How many entries are deferred.
@@ -298,7 +322,6 @@ impl<T> Shared<T> {
 
     /// Gives up, under the interlock, some of what lies in the baskets and is to the entry in this slot, whose counts were collected. Whether
     /// any was.
-    #[inline]
     fn give_up_dropped(&self, keeper: &mut ffi::Keeper, slot: usize) -> bool {
         let mut given = 0;
         for of in self.baskets.filled_from(0) {

@@ -106,16 +106,26 @@ pub(crate) struct Met {
 }
 
 impl Met {
+    /// So many local references hold the entry.
+    pub(crate) fn local(held: u64) -> Met {
+        let stage = ffi::Stage {
+            stage: ffi::LOCAL,
+            what: held,
+        };
+        Met { answer: ffi::DONE, stage }
+    }
+
     /// The slot is vacant.
     #[inline]
     pub(crate) fn is_freed(self) -> bool {
         self.answer == ffi::DONE && self.stage.stage == ffi::FREED
     }
 
-    /// Local references hold the entry.
+    /// How many local references hold the entry, where they are what was met.
     #[inline]
-    pub(crate) fn is_local(self) -> bool {
-        matches!(self.answer, ffi::DONE | ffi::STILL_HELD) && self.stage.stage == ffi::LOCAL
+    pub(crate) fn locals(self) -> Option<u64> {
+        let is_met = matches!(self.answer, ffi::DONE | ffi::STILL_HELD) && self.stage.stage == ffi::LOCAL;
+        is_met.then_some(self.stage.what)
     }
 
     /// Why the entry isn't freed, where it is retired.
