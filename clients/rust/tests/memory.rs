@@ -72,6 +72,9 @@ fn a_closing_keeps_no_memory_and_releases_what_was_dropped() {
     let locals = watched::locals();
     let closed = || {
         let (registry, cpus) = with_driver(vec![1, 2, 3]);
+        registry.attach(&cpus[0], &name("pci"), vec![4]).unwrap();
+        let retired = registry.detach(&cpus[0], Kind::Driver, &name("pci")).unwrap();
+        assert_eq!(retired.advance().unwrap().value, [4]);
         registry.attach(&cpus[0], &name("vga"), Vec::new()).unwrap();
         for count in [1, 70, 200] {
             let held: Vec<_> = (0..count).map(|_| local(&cpus[1], "wm")).collect();
@@ -79,9 +82,6 @@ fn a_closing_keeps_no_memory_and_releases_what_was_dropped() {
         }
         registry.retire(&cpus[0], Kind::Driver, &name("vga")).unwrap();
         assert!(registry.dropped() > 100);
-        registry.attach(&cpus[0], &name("pci"), vec![4]).unwrap();
-        let retired = registry.detach(&cpus[0], Kind::Driver, &name("pci")).unwrap();
-        assert_eq!(retired.advance().unwrap().value, [4]);
     };
     closed();
     assert_eq!((left(closed), watched::locals()), (0, locals));
