@@ -12,7 +12,7 @@ use std::sync::Barrier;
 use std::thread;
 use std::time::Instant;
 
-/// Makes so many operations on a CPU. It answers how many went as they should.
+/// Makes so many operations on a CPU. Returns how many went as they should.
 type Operations = fn(&Cpu<u64>, &[Name], u64) -> Result<u64, Refusal>;
 
 fn lookups(cpu: &Cpu<u64>, names: &[Name], count: u64) -> Result<u64, Refusal> {

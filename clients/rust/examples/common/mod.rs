@@ -17,7 +17,7 @@ impl Drop for Stops<'_> {
     }
 }
 
-/// Lets each worker run on a thread of its own while the changes are made, and then tells all to stop. It answers what the changes did, and what
+/// Lets each worker run on a thread of its own while the changes are made, and then tells all to stop. Returns what the changes did, and what
 /// each worker counted.
 pub fn work_beside<C, T, W>(
     changes: impl FnOnce() -> Result<C, Refusal>,
