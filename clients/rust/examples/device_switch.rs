@@ -103,7 +103,7 @@ impl Switch {
         Ok(Some(opened))
     }
 
-    /// Closes it, on any CPU.
+    /// Closes it, on any CPU that is there.
     fn close(&self, opened: LocalRef<Softc>) -> Result<(), Refusal> {
         opened.open.fetch_sub(1, Ordering::Relaxed);
         LocalRef::release(opened, &self.pool.lend())?;
@@ -177,7 +177,7 @@ impl Switch {
         handed.into_iter().try_for_each(|opened| self.close(opened))
     }
 
-    /// Unloads and loads so many drivers. Returns how many reads those have counted that are gone, and how many were not at rest.
+    /// Unloads and loads so many drivers. Returns how many reads the ones that are gone have counted, and how many were not at rest.
     fn reload(&self, changes: u64) -> Result<(u64, u64), Refusal> {
         let (mut reads, mut wrong) = (0, 0);
         for loads in 1..=changes {

@@ -3,7 +3,8 @@
 //! `only` acquires a reference and drops it, so often, and makes no other call: on one thread, and on three, each with a CPU of its own. Then so many
 //! are held and dropped at once, and while they lie in the basket each of these is timed alone, a thousand times: a pair of `acquire` and
 //! `release` on their CPU; a turn on another entry that a section holds (`grace`), and on one that a local reference holds (`local`). Last, `all`
-//! releases what is left. It prints nanoseconds, the most that ever waited, and by how many KiB the process has grown.
+//! releases what is left. It prints nanoseconds, those of `only` of processor time, the most that ever waited, and by how many KiB the process has
+//! grown.
 
 use registry::{Cpu, Found, Holder, Kind, LocalRef, Name, Refusal, Refused, Registry, Retired, Settings};
 use std::error::Error;
@@ -23,6 +24,12 @@ fn resident() -> Result<u64, Box<dyn Error>> {
     let line = status.lines().find_map(|line| line.strip_prefix("VmRSS:"));
     let number = line.and_then(|line| line.split_whitespace().next());
     Ok(number.ok_or("no VmRSS")?.parse()?)
+}
+
+/// The nanoseconds that this thread has run.
+fn processor_time() -> u64 {
+    let status = fs::read_to_string("/proc/thread-self/schedstat").unwrap_or_default();
+    status.split(' ').next().and_then(|text| text.parse().ok()).unwrap_or(0)
 }
 
 /// The nanoseconds of each of so many calls, the shortest first.
@@ -46,9 +53,9 @@ fn say(what: &str, times: &[u128]) {
     );
 }
 
-/// Acquires and drops, so often. The most that waited, as it was looked at now and then.
-fn only_drop(registry: &Registry<u64>, cpu: &Cpu<u64>, count: u64) -> Result<usize, Refusal> {
-    let mut most = 0;
+/// Acquires and drops, so often. The most that waited, as it was looked at now and then, and the nanoseconds that it took.
+fn only_drop(registry: &Registry<u64>, cpu: &Cpu<u64>, count: u64) -> Result<(usize, u64), Refusal> {
+    let (mut most, began) = (0, processor_time());
     let section = cpu.enter()?;
     let found = section.find(Kind::Driver, &WM).ok_or(Refusal::NotFound)?;
     for made in 0..count {
@@ -57,13 +64,13 @@ fn only_drop(registry: &Registry<u64>, cpu: &Cpu<u64>, count: u64) -> Result<usi
             most = most.max(registry.dropped());
         }
     }
-    Ok(most)
+    Ok((most, processor_time() - began))
 }
 
 /// The same on all these CPUs at once.
 fn only_on(registry: &Registry<u64>, cpus: &mut [Cpu<u64>], count: u64) -> Result<(), Box<dyn Error>> {
-    let (before, began, threads) = (resident()?, Instant::now(), cpus.len());
-    let most: Vec<usize> = thread::scope(|scope| {
+    let (before, threads) = (resident()?, cpus.len());
+    let told: Vec<(usize, u64)> = thread::scope(|scope| {
         let started: Vec<_> = cpus
             .iter_mut()
             .map(|cpu| scope.spawn(move || only_drop(registry, cpu, count)))
@@ -73,10 +80,10 @@ fn only_on(registry: &Registry<u64>, cpus: &mut [Cpu<u64>], count: u64) -> Resul
             .map(|worker| worker.join().expect("it doesn't panic"))
             .collect::<Result<_, Refusal>>()
     })?;
-    let each = began.elapsed().as_nanos() as f64 / count as f64;
+    let most = told.iter().map(|one| one.0).max().unwrap_or(0);
+    let each = told.iter().map(|one| one.1).sum::<u64>() as f64 / (count * threads as u64) as f64;
     println!(
-        "only: threads {threads} each {each:.1} ns, at most {} wait, {} KiB more",
-        most.iter().max().expect("a thread"),
+        "only: threads {threads} each {each:.1} ns, at most {most} wait, {} KiB more",
         resident()?.saturating_sub(before)
     );
     Ok(())

@@ -166,7 +166,7 @@ impl Desk {
         Ok(())
     }
 
-    /// Takes a device out. Returns what it carried, once its last handle is gone.
+    /// Takes a device out, and returns what it carried, once its last handle is gone.
     fn take_out(&self, place: usize) -> Result<Device, Refusal> {
         let mut retired = self.registry.detach(&self.pool.lend(), Kind::Iface, &DEVICES[place])?;
         loop {

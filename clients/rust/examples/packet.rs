@@ -42,7 +42,7 @@ fn send_by(cpu: &Cpu<Port>, name: &Name, wire: &Wire) -> Result<bool, Refusal> {
     Ok(true)
 }
 
-/// Takes an interface out and waits until nobody holds it. Returns what it carried.
+/// Takes an interface out, waits until nobody holds it, and returns what it carried.
 fn take_out(registry: &Registry<Port>, cpu: &Cpu<Port>, name: &Name) -> Result<Port, Refusal> {
     let retired = registry.detach(cpu, Kind::Iface, name)?;
     let freed = retired.destroy(cpu, Patience::Forever)?;

@@ -179,7 +179,7 @@ impl Storm {
         }
     }
 
-    /// Takes away on CPU 0 what is left, and answers how many references to the driver are held then.
+    /// Takes away on CPU 0 what is left, and returns how many references to the driver are held then.
     fn finish(&self, cpus: &[Cpu<u64>], mut churn: Churn, counts: &mut Counts) -> i64 {
         let cpu = &cpus[0];
         for basket in &self.baskets {

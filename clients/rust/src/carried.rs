@@ -234,3 +234,42 @@ impl<T> fmt::Debug for Record<T> {
         self.entry().fmt(f)
     }
 }
+
+#[cfg(test)]
+mod tests {
+    use super::{Carried, Plain};
+    use crate::ffi;
+    use crate::values::Kind;
+
+    /// Also where the value is of no size, or aligned beyond the record.
+    fn goes_and_comes_back<T: Clone + PartialEq + core::fmt::Debug>(value: T) {
+        let plain = Plain {
+            number: 7,
+            name: ffi::Name::default(),
+            slot: 3,
+            kind: Kind::Driver,
+        };
+        let carried = Carried::new(value.clone());
+        let again = Carried::<T>::of_word(carried.word());
+        // SAFETY: the value is there until it is taken, once, at the end.
+        let read = unsafe { again.get() };
+        // SAFETY: nobody else has the block.
+        unsafe { carried.note(plain) };
+        assert_eq!(*read, value);
+        // SAFETY: it was noted.
+        let noted = unsafe { again.plain() };
+        assert_eq!((noted.number, noted.slot(), noted.entry().kind), (7, 3, Kind::Driver));
+        // SAFETY: what was read isn't used any more.
+        assert_eq!(unsafe { carried.take() }, value);
+    }
+
+    #[test]
+    fn a_value_goes_into_its_block_and_comes_back() {
+        #[derive(Clone, Debug, PartialEq)]
+        #[repr(align(128))]
+        struct Wide(u8);
+        goes_and_comes_back(String::from("gigabit"));
+        goes_and_comes_back(());
+        goes_and_comes_back(Wide(9));
+    }
+}

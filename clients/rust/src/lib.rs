@@ -87,8 +87,7 @@
 //!
 //! The protocol, the shared words and the calls of registry.h are proved, in Rattle. This crate isn't proved: it is tested. Its types rule out misuse
 //! that the calls can't check, or a call returns an error of the crate's own ([`Refusal::OtherRegistry`]). It uses `unsafe` for the calls themselves,
-//! and for the way from the word that an entry carries to the `T`. Each use says which sentence of registry.h makes it sound.
-
+//! for the way from the word that an entry carries to the `T`, and where its own types move what they hold. Each use says what makes it sound.
 //!
 //! # Without the standard library
 //!

@@ -46,6 +46,11 @@ fn each_call_releases_a_bounded_number() {
     assert_eq!(registry.dropped(), 60);
     registry.retire(own, Kind::Driver, &name("vga")).unwrap();
     assert_eq!(registry.dropped(), 0);
+    // One alone is released as well, also where nothing is deferred.
+    drop(local(own, "wm"));
+    assert_eq!((registry.collect().len(), registry.retired(), registry.dropped()), (1, 0, 1));
+    registry.attach(other, &name("pci"), 9).unwrap();
+    assert_eq!(registry.dropped(), 0);
 }
 
 #[test]

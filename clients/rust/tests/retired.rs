@@ -147,6 +147,12 @@ fn what_nobody_destroys_is_deferred() {
     assert_eq!((registry.retired(), drops.dropped()), (0, 3));
 }
 
+/// It is moved at each turn, and the interlock waits for what is stored before it.
+#[test]
+fn a_retired_entry_is_two_words() {
+    assert_eq!(mem::size_of::<Retired<[u64; 9]>>(), 2 * mem::size_of::<usize>());
+}
+
 #[test]
 fn a_retired_entry_keeps_the_registry_open() {
     let drops = Drops::default();

@@ -17,8 +17,8 @@ impl Drop for Stops<'_> {
     }
 }
 
-/// Lets each worker run on a thread of its own while the changes are made, and then tells all to stop. Returns what the changes did, and what each
-/// worker counted.
+/// Lets each worker run on a thread of its own while the changes are made, and then tells all to stop. Returns what the changes did, and what
+/// each worker counted.
 pub fn work_beside<C, T, W>(
     changes: impl FnOnce() -> Result<C, Refusal>,
     workers: impl IntoIterator<Item = W>,
