@@ -33,6 +33,7 @@ static void begin(void)
 
 static void finish(void)
 {
+	mutex_destroy(&lock);
 	bench_outcome("%u", counted);
 }
 

@@ -178,9 +178,12 @@ words! {
 
 /// A string of the library's, which is never freed.
 pub fn string(at: *const u8) -> &'static str {
+    let mut end = at;
     let mut length = 0;
     // SAFETY: registry.h says that such a string is never NULL and never freed; it ends with a zero byte.
-    while unsafe { *at.add(length) } != 0 {
+    while unsafe { end.read() } != 0 {
+        // SAFETY: this byte isn't the last one.
+        end = unsafe { end.add(1) };
         length += 1;
     }
     // SAFETY: as above; so many bytes come before the zero.
