@@ -21,10 +21,12 @@ AR = $(CROSS)ar
 OBJCOPY = $(CROSS)objcopy
 
 # In the repository the header is the crate's, and archives are what tools/build-archive.sh makes. A release's source has both in folders of its own.
-HEADER := $(firstword $(wildcard $(TOP)include) $(TOP)../crates/registry_c/include)
+# LIMITS names the folder of an archive with other limits, which has the headers beside it: `make LIMITS=wide` after `tools/build-archive.sh --wide`.
+LIMITS =
+OUT := $(TOP)out$(if $(filter-out x86_64,$(PROCESSOR)),/$(PROCESSOR))$(LIMITS:%=/%)
+HEADER := $(firstword $(if $(LIMITS),$(OUT)) $(wildcard $(TOP)include) $(TOP)../crates/registry_c/include)
 # What is proved, in C: its calls, and the limits of its build.
 FACE = $(HEADER)/registry.h $(HEADER)/registry_limits.h
-OUT := $(TOP)out$(if $(filter-out x86_64,$(PROCESSOR)),/$(PROCESSOR))
 ARCHIVE := $(firstword $(wildcard $(TOP)archive/$(PROCESSOR)/libregistry.a) $(OUT)/libregistry.a)
 
 # What hardens the libraries. Of CET it is the shadow stack: the archive's calls return where they were called from, but have no endbr64.
@@ -34,5 +36,5 @@ LINKED_x86_64 = -Wl,-z,shstk
 HARDENING = $(HARDENING_$(PROCESSOR))
 LINK_HARDENING = -Wl,-z,relro,-z,now,-z,noexecstack $(LINKED_$(PROCESSOR))
 
-$(ARCHIVE):
-	@echo "there is no $@: tools/build-archive.sh$(if $(filter-out x86_64,$(PROCESSOR)), --for $(PROCESSOR)) proves and builds it, with the Rattle kit" >&2; exit 2
+$(if $(LIMITS),$(FACE)) $(ARCHIVE):
+	@echo "there is no $@: tools/build-archive.sh$(if $(filter-out x86_64,$(PROCESSOR)), --for $(PROCESSOR))$(LIMITS:%= --%) proves and builds it, with the Rattle kit" >&2; exit 2

@@ -1,12 +1,17 @@
 #!/usr/bin/env bash
 # Proves and builds the static library of the C face, gives it unwind tables, and joins it with what is C of the archive into one object, in which only the
 # calls of registry.h are seen from outside: the three functions of the heap, and the few calls that are made of the others or tell the build. That object
-# alone is the archive libregistry.a. Beside it lie libregistry.proved, the record of the proof, and registry_limits.h, the limits that it was built for. A C
-# program needs registry.h, registry_limits.h, the archive and nothing else of the repository.
+# alone is the archive libregistry.a. Beside it lie libregistry.proved, the record of the proof, and the two headers that it was compiled with, registry.h and
+# registry_limits.h, which has its limits. A C program needs these, the archive and nothing else of the repository.
 #
 #     tools/build-archive.sh                  proves and builds the library first: clients/out/libregistry.a
 #     tools/build-archive.sh LIBRARY LOG      takes libregistry_c.a as tools/archive-beside.py has proved and built it, and what the proof said
 #     tools/build-archive.sh --for PROCESSOR [LIBRARY LOG]     the same for that processor: clients/out/PROCESSOR/libregistry.a
+#     tools/build-archive.sh --wide [..]      with 64 CPUs, 128 slots, 2^40 changes and 2^62 sections: clients/out/wide/libregistry.a
+#     tools/build-archive.sh [--cpus N] [--slots N] [--changes N] [--sections N] [..]     with these limits, a number in digits or as 2^40:
+#                                             clients/out/NAME/libregistry.a, where NAME says them, as cpus-16-slots-64
+#
+# With other limits than the default's, all crates of the library are proved in a copy. A number out of its range ends in one line, and nothing is built.
 set -euo pipefail
 processor=x86_64 out=clients/out tools='' library='' log=''
 
@@ -15,43 +20,77 @@ refuse() {
     exit 2
 }
 
-if [ "${1-}" = --for ] && [ $# -gt 1 ]; then
-    [[ $2 =~ ^[a-z0-9_]+$ ]] || refuse "'$2' is no processor: x86_64 or aarch64"
-    processor=$2
-    shift 2
-fi
+chosen=()
+while [[ ${1-} = --* ]]; do
+    case $1 in
+    --for)
+        [ $# -gt 1 ] || refuse "--for has no processor"
+        [[ $2 =~ ^[a-z0-9_]+$ ]] || refuse "'$2' is no processor: x86_64 or aarch64"
+        processor=$2
+        shift 2 ;;
+    --wide)
+        chosen+=("$1")
+        shift ;;
+    --cpus | --slots | --changes | --sections)
+        chosen+=("${@:1:2}")
+        shift $(($# > 1 ? 2 : 1)) ;;
+    *) refuse "it takes no $1: --for PROCESSOR, --wide, --cpus N, --slots N, --changes N, --sections N" ;;
+    esac
+done
 case $# in
 0) ;;
 2) [ -f "$1" ] || refuse "there is no library $1"
    [ -f "$2" ] || refuse "there is no log $2"
    library=$(realpath "$1") log=$(realpath "$2") ;;
-*) refuse "it takes nothing, --for PROCESSOR, LIBRARY LOG, or both" ;;
+*) refuse "behind its flags it takes nothing, or LIBRARY LOG" ;;
 esac
 cd "$(dirname "$0")/.."
+name=$(tools/chosen.py name "${chosen[@]}")
 if [ "$processor" != x86_64 ]; then
     out=clients/out/$processor tools=$processor-linux-gnu-
 fi
+out=$out${name:+/$name}
 command -v rt >/dev/null || refuse "there is no rt, the command of the Rattle kit: the kit comes from whoever gives you Rattle"
 command -v "${tools}ld" >/dev/null || refuse "there is no ${tools}ld: apt-get install binutils${tools:+-$processor-linux-gnu}"
 room=$(mktemp -d)
 trap 'rm -rf "$room"' EXIT
 
-# Proves the library for the processor, where it wasn't given.
+# The crates in a copy that has these limits.
+copy_crates() {
+    mkdir "$room/tree"
+    tar -c --exclude=out crates crates.txt HANDLES | tar -x -C "$room/tree"
+    cp "$room/limits.rt" "$room/tree/crates/registry_values/src"
+}
+
+# Proves the library for the processor and the limits, where it wasn't given.
 prove() {
-    local target=()
+    local target=() tree=$PWD
     [ "$processor" = x86_64 ] || target=(--target "$processor-unknown-linux-gnu")
-    log=$room/log library=$PWD/crates/registry_c/out/libregistry_c.a
-    (cd crates/registry_c && rt lib "${target[@]}") 2>&1 | tee "$log"
+    if [ -n "$name" ]; then
+        copy_crates
+        tree=$room/tree
+    fi
+    log=$room/log library=$tree/crates/registry_c/out/libregistry_c.a
+    (cd "$tree/crates/registry_c" && rt lib "${target[@]}") 2>&1 | tee "$log"
+}
+
+# The headers that a client of this archive includes, in one folder.
+lay_headers() {
+    mkdir "$room/include"
+    cp crates/registry_c/include/*.h "$room/include"
+    tools/limits-header.py "$room/limits.rt" >"$room/include/registry_limits.h"
 }
 
 # What is C of the archive, as objects: the functions of the heap, the calls of the header that are made of its others, and those that tell the build.
 compile() {
     local part
     for part in $parts; do
-        "${tools}gcc" -std=c11 -O2 -fPIC -ffunction-sections -ffile-prefix-map="$PWD"=. -Icrates/registry_c/include -c -o "$room/$part.o" "clients/c/$part.c"
+        "${tools}gcc" -std=c11 -O2 -fPIC -ffunction-sections -ffile-prefix-map="$PWD"=. -I"$room/include" -c -o "$room/$part.o" "clients/c/$part.c"
     done
 }
 
+tools/chosen.py file "${chosen[@]}" >"$room/limits.rt"
+lay_headers
 [ -n "$library" ] || prove
 (cd "$room" && ar x "$library")
 cp "$room/registry_c.o" "$room/compiled.o"
@@ -60,16 +99,16 @@ parts=$(tools/proof-record.py parts)
 compile
 # shellcheck disable=SC2086
 (cd "$room" && "${tools}ld" -r -o whole.o registry_c.o ${parts// /.o }.o)
-clients/calls-of.sh crates/registry_c/include/registry{,_limits}.h >"$room/calls"
+clients/calls-of.sh "$room"/include/registry{,_limits}.h >"$room/calls"
 [ -s "$room/calls" ] || refuse "registry.h declares no call"
 "${tools}objcopy" --keep-global-symbols="$room/calls" "$room/whole.o" "$room/registry.o"
 (cd "$room" && "${tools}ar" rcsD libregistry.a registry.o)
-tools/proof-record.py write "$processor" "$log" "$room/compiled.o" "$room/registry.o" >"$room/libregistry.proved"
+tools/proof-record.py write "$processor" "$room/limits.rt" "$log" "$room/compiled.o" "$room/registry.o" >"$room/libregistry.proved"
 # The archive comes last, in one step: whoever looks finds a whole archive with its record.
 mkdir -p "$out"
 rm -f "$out/libregistry.a"
+cp "$room"/include/*.h "$out"
 mv "$room/libregistry.proved" "$out/libregistry.proved"
-cp crates/registry_c/include/registry_limits.h "$out/registry_limits.h"
 mv "$room/libregistry.a" "$out/libregistry.a.new"
 mv "$out/libregistry.a.new" "$out/libregistry.a"
-echo "$out/libregistry.a"
+echo "$out/libregistry.a, proved with $(sed -n 's/^limits: //p' "$out/libregistry.proved")"

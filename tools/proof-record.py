@@ -1,12 +1,12 @@
 #!/usr/bin/env python3
 """The record of an archive's proof, which lies beside the archive as libregistry.proved.
 
-    tools/proof-record.py write PROCESSOR LOG COMPILED OBJECT    prints the record of an archive that was just made
-    tools/proof-record.py check ARCHIVE                          whether the archive is the recorded one, made from the sources as they stand
-    tools/proof-record.py parts                                  the names of the C files in clients/c that are joined with the proved object
+    tools/proof-record.py write PROCESSOR LIMITS LOG COMPILED OBJECT    prints the record of an archive that was just made
+    tools/proof-record.py check ARCHIVE                                 whether the archive is the recorded one, made from the sources as they stand
+    tools/proof-record.py parts                                         the names of the C files in clients/c that are joined with the proved object
 
-LOG is what the proof said, COMPILED the object as the compiler wrote it, OBJECT the one that is in the archive. Each line of a record is `NAME: TEXT`. `check`
-prints one line and ends with status 2 where something differs.
+LIMITS is the limits.rt that was proved, LOG what the proof said, COMPILED the object as the compiler wrote it, OBJECT the one that is in the archive. Each
+line of a record is `NAME: TEXT`; its limits are as tools/build-archive.sh takes them. `check` prints one line and ends with status 2 where something differs.
 """
 import hashlib
 import pathlib
@@ -17,12 +17,13 @@ import tempfile
 
 sys.dont_write_bytecode = True
 
+import chosen
 from kit import ROOT, below
 
 LIBRARY = "registry_c"
 PARTS = ("heap", "composed", "strings", "limits")
 VERDICT = re.compile(r"^logic=proved .*$", re.M)
-NAMES = ("processor", "kit", "verdict", "sources", "commit", "compiled", "object")
+NAMES = ("processor", "limits", "kit", "verdict", "sources", "commit", "compiled", "object")
 MAKE = "tools/build-archive.sh{} proves and builds it"
 
 
@@ -37,7 +38,11 @@ def said(*words, cwd=ROOT):
 
 
 def sum_of(path):
-    return hashlib.sha256(pathlib.Path(path).read_bytes()).hexdigest()
+    return sum_of_bytes(pathlib.Path(path).read_bytes())
+
+
+def sum_of_bytes(of):
+    return hashlib.sha256(of).hexdigest()
 
 
 def sources():
@@ -49,10 +54,12 @@ def sources():
     return files
 
 
-def sum_of_sources():
+def sum_of_sources(limits):
+    """The sum of all sources, where the file of limits has this text."""
     whole = hashlib.sha256()
     for path in sources():
-        whole.update(f"{path.relative_to(ROOT)} {sum_of(path)}\n".encode())
+        name = str(path.relative_to(ROOT))
+        whole.update(f"{name} {sum_of_bytes(limits.encode()) if name == chosen.LIMITS else sum_of(path)}\n".encode())
     return whole.hexdigest()
 
 
@@ -65,11 +72,12 @@ def commit():
         return "none"
 
 
-def write(processor, log, compiled, built):
+def write(processor, limits, log, compiled, built):
     verdicts = VERDICT.findall(pathlib.Path(log).read_text(errors="replace"))
     if not verdicts:
         raise Fault(f"{log} has no line that begins 'logic=proved': what was built isn't proved")
-    texts = (processor, said("rt", "version"), verdicts[-1], sum_of_sources(), commit(), sum_of(compiled), sum_of(built))
+    of, text = " ".join(chosen.words_of(chosen.said(limits))), pathlib.Path(limits).read_text()
+    texts = (processor, of, said("rt", "version"), verdicts[-1], sum_of_sources(text), commit(), sum_of(compiled), sum_of(built))
     for name, text in zip(NAMES, texts):
         print(f"{name}: {text}")
 
@@ -92,18 +100,31 @@ def sum_in(archive):
         return sum_of(pathlib.Path(room, "registry.o"))
 
 
+def flags(archive):
+    """How tools/build-archive.sh is called for an archive that lies there: in out, in a folder of a processor's, in one of a build's, or in both."""
+    names = str(archive.parent).rpartition("out")[2].split("/")[1:]
+    return "".join(" --wide" if it == "wide" else f" {limits_in(it)}" if "-" in it else f" --for {it}" for it in names)
+
+
+def limits_in(folder):
+    """The words for the limits that a build's folder is named after."""
+    return re.sub(r"(?:^|-)([a-z]+)-(\d+)", r" --\1 \2", folder).strip()
+
+
 def check(name):
     archive = pathlib.Path(name)
     path = archive.with_suffix(".proved")
-    processor = "" if archive.parent.name in ("out", "") else f" --for {archive.parent.name}"
-    remedy = MAKE.format(processor)
+    remedy = MAKE.format(flags(archive))
     for needed in (archive, path):
         if not needed.is_file():
             raise Fault(f"there is no {needed}: {remedy}")
     record = read(path)
     if sum_in(archive) != record["object"]:
         raise Fault(f"{archive} isn't the archive that {path} tells of: {remedy}")
-    if record["sources"] != sum_of_sources():
+    of = chosen.wanted(record["limits"].split())
+    if chosen.name(of) not in ("", archive.parent.name):
+        raise Fault(f"{archive} has other limits than the sources as they stand: {remedy}")
+    if record["sources"] != sum_of_sources(chosen.file(of)):
         raise Fault(f"{archive} was made from other sources than those that stand: {remedy}")
 
 
@@ -112,13 +133,13 @@ def parts():
 
 
 def main(words):
-    uses = {"write": (write, 4), "check": (check, 1), "parts": (parts, 0)}
+    uses = {"write": (write, 5), "check": (check, 1), "parts": (parts, 0)}
     if not words or words[0] not in uses or len(words) != 1 + uses[words[0]][1]:
-        print("usage: proof-record.py write PROCESSOR LOG COMPILED OBJECT | check ARCHIVE | parts", file=sys.stderr)
+        print("usage: proof-record.py write PROCESSOR LIMITS LOG COMPILED OBJECT | check ARCHIVE | parts", file=sys.stderr)
         return 2
     try:
         uses[words[0]][0](*words[1:])
-    except (Fault, OSError) as fault:
+    except (Fault, chosen.Fault, OSError) as fault:
         print(f"proof-record: {fault}", file=sys.stderr)
         return 2
     return 0

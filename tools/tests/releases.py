@@ -4,7 +4,7 @@ import os
 import shutil
 import subprocess
 
-from .trees import ROOT, Case, Fault
+from .trees import ROOT, Case, Fault, real
 
 # What the scripts call besides what stands in bin/ of the tree.
 BASICS = ("sh bash echo env python3 git make ar awk basename cat chmod cp cut date diff dirname find grep head id install ln ls mkdir mktemp mv nproc readlink realpath "
@@ -15,8 +15,11 @@ DOES_NOTHING = "#!/bin/sh\n"
 CARGO = '#!/bin/sh\nmkdir -p "$CARGO_TARGET_DIR/package" && echo crate >"$CARGO_TARGET_DIR/package/kupaldiz-0.1.0.crate"\n'
 PACKAGES = "#!/bin/sh\necho deb >../libkupaldiz0.deb && echo changes >../kupaldiz.changes\n"
 PARTS = ("heap", "composed", "strings", "limits")
+# tools/proof-record.py and what it takes.
+RECORDS = ("proof-record.py", "chosen.py", "limits.py", "kit.py")
 SOURCES = {
-    "crates.txt": "low: std\nregistry_c staticlib: low std\n",
+    "crates.txt": "registry_values: std\nlow: registry_values std\nregistry_c staticlib: low std\n",
+    **real("crates/registry_values/src/limits.rt", "crates/registry_values/specs/Limits.antt"),
     "crates/low/src/lib.rt": "low\n",
     "crates/registry_c/src/lib.rt": "face\n",
     "crates/registry_c/include/registry.h": "uint32_t registry_enter(struct registry_cpu *cpu);\n",
@@ -69,9 +72,10 @@ exit $status
 
 def record(tree, built):
     """A record of the archive, as tools/proof-record.py writes it."""
-    summed = subprocess.run(["python3", "-c", "import sys; sys.path.insert(0, 'tools'); sys.dont_write_bytecode = True\nimport importlib\n"
-                             "print(importlib.import_module('proof-record').sum_of_sources())"], cwd=tree, capture_output=True, text=True, check=True).stdout.strip()
-    return (f"processor: x86_64\nkit: kit\nverdict: logic=proved functions=1\nsources: {summed}\ncommit: none\ncompiled: 0\n"
+    summed = subprocess.run(["python3", "-c", "import sys; sys.path.insert(0, 'tools'); sys.dont_write_bytecode = True\nimport importlib, chosen\n"
+                             "print(importlib.import_module('proof-record').sum_of_sources(chosen.file({})))"],
+                            cwd=tree, capture_output=True, text=True, check=True).stdout.strip()
+    return (f"processor: x86_64\nlimits: --cpus 8\nkit: kit\nverdict: logic=proved functions=1\nsources: {summed}\ncommit: none\ncompiled: 0\n"
             f"object: {hashlib.sha256(built).hexdigest()}\n")
 
 
@@ -104,6 +108,8 @@ def making():
         Fault("no archive", "there is no clients/out/libregistry.a: tools/build-archive.sh proves and builds it", command=shell("rm clients/out/libregistry.a")),
         Fault("no record", "there is no clients/out/libregistry.proved: tools/build-archive.sh", command=shell("rm clients/out/libregistry.proved")),
         Fault("a record without a verdict", "has no line 'verdict: ..'", command=shell("sed -i '/^verdict/d' clients/out/libregistry.proved")),
+        Fault("a record with other limits", "has other limits than the sources as they stand", command=shell("sed -i 's/--cpus 8/--cpus 16/' clients/out/libregistry.proved")),
+        Fault("a record with limits that are none", "--cpus may be 1 to 128", command=shell("sed -i 's/--cpus 8/--cpus 800/' clients/out/libregistry.proved")),
         Fault("another archive", "isn't the archive that", command=shell("echo other >registry.o; ar r clients/out/libregistry.a registry.o; rm registry.o")),
         Fault("no archive of objects", "has no object registry.o", command=shell("echo none >clients/out/libregistry.a")),
         Fault("other sources", "was made from other sources", command=shell("echo more >>crates/low/src/lib.rt; git -c user.name=a -c user.email=a@b commit -qam more")),
@@ -125,13 +131,18 @@ def making():
         Fault("a licence, of which nothing is to be said", "no word of the licence",
               command=shell("sed -i 's/^LICENCE =/LICENCE = MIT/' clients/Makefile; git -c user.name=a -c user.email=a@b commit -qam more")),
     ]
-    return Case("make-release", ["make-release.sh", "proof-record.py", "kit.py"], TREE, ["./try"], faults, counts=False, prepare=prepare)
+    return Case("make-release", ["make-release.sh", *RECORDS], TREE, ["./try"], faults, counts=False, prepare=prepare)
 
 
-# tools/build-archive.sh, where the kit and binutils are ours.
-PROVES = '#!/bin/sh\n[ "$1" = version ] && echo kit && exit\nmkdir -p out && cc -c -xc -o registry_c.o /dev/null && ar rc out/libregistry_c.a registry_c.o && echo logic=proved functions=1\n'
+# tools/build-archive.sh, where the kit and binutils are ours. The kit says which limits it was given.
+PROVES = """#!/bin/sh
+[ "$1" = version ] && echo kit && exit
+grep '^pub const' ../registry_values/src/limits.rt
+mkdir -p out && cc -c -xc -o registry_c.o /dev/null && ar rc out/libregistry_c.a registry_c.o && echo logic=proved functions=1
+"""
 BUILDS = {
     **SOURCES,
+    "HANDLES": "Handles allowed: none.\n",
     "clients/calls-of.sh": (ROOT / "clients/calls-of.sh").read_text(),
     "tools/unwind-tables.py": "#!/bin/sh\n",
     "bin/rt": PROVES,
@@ -139,28 +150,74 @@ BUILDS = {
 PATH=$PWD/bin:$PATH tools/build-archive.sh "$@" >said 2>&1
 status=$?
 cat said
-if [ $status -ne 0 ] && [ -e clients/out/libregistry.a ]; then
+if [ $status -ne 0 ] && [ -n "$(find clients/out -name '*.a')" ]; then
     echo "an archive is left"
     exit 0
 fi
 [ $status -eq 0 ] || exit $status
 PATH=$PWD/bin:$PATH tools/proof-record.py check clients/out/libregistry.a
 """,
+    # An archive with other limits: proved in a copy that has them, with its header and its record.
+    "try-other": """#!/bin/sh
+PATH=$PWD/bin:$PATH tools/build-archive.sh --cpus 16 --sections 2^50 >said 2>&1 || { cat said; exit 2; }
+out=clients/out/cpus-16-sections-1125899906842624
+grep -q 'MOST_CPUS: usize = 16;' said && grep -q 'MOST_SECTIONS: u64 = 1 << 50;' said && grep -q 'MOST_SLOTS: usize = 32;' said || { echo "other limits were proved"; exit 1; }
+grep -q 'MOST_CPUS[^0-9]*16$' $out/registry_limits.h || { echo "the header has other limits"; exit 1; }
+grep -qx 'limits: --cpus 16 --slots 32 --changes 1000000 --sections 2^50' $out/libregistry.proved || { echo "the record has other limits"; exit 1; }
+[ ! -e clients/out/libregistry.a ] || { echo "the default's archive was built"; exit 1; }
+grep -q 'MOST_CPUS: usize = 8;' crates/registry_values/src/limits.rt || { echo "the tree has other limits now"; exit 1; }
+"$@"
+PATH=$PWD/bin:$PATH tools/proof-record.py check $out/libregistry.a
+""",
+}
+OTHER_RECORD = "clients/out/cpus-16-sections-1125899906842624/libregistry.proved"
+BUILD_TOOLS = ["build-archive.sh", "limits-header.py", *RECORDS]
+# What is asked for, and what is said of it.
+BAD_LIMITS = {
+    "--cpus 0": "--cpus may be 1 to 128, in digits or as 2^5; it is 0",
+    "--cpus 129": "--cpus may be 1 to 128, in digits or as 2^5; it is 129",
+    "--slots 2^8": "--slots may be 1 to 255, in digits or as 2^5; it is 2^8",
+    "--changes 2^41": "--changes may be 1 to 2^40, in digits or as 2^5; it is 2^41",
+    "--changes 2^40000": "--changes may be 1 to 2^40, in digits or as 2^5; it is 2^40000",
+    "--sections 4611686018427387905": "--sections may be 1 to 2^62, in digits or as 2^5; it is 4611686018427387905",
+    "--slots many": "--slots may be 1 to 255, in digits or as 2^5; it is many",
+    "--slots": "--slots has no number",
+    "--cpus 4 --cpus 5": "--cpus is given twice",
+    "--wide --cpus 4": "--wide is no limit: it is --wide alone, or --cpus",
+    "--cpus 4 --wide": "--wide is no limit: it is --wide alone, or --cpus",
+    "--count 4": "it takes no --count",
 }
 
 
 def building():
-    faults = (
+    faults = [
         Fault("a proof that fails", "has no line that begins 'logic=proved'", (("bin/rt", "echo logic=proved functions=1", "echo logic=not-proved"),)),
         Fault("a library without a log", "it takes nothing", command=["./try", "crates.txt"]),
         Fault("a library that isn't there", "there is no library none", command=["./try", "none", "crates.txt"]),
         Fault("a log that isn't there", "there is no log none", command=["./try", "crates.txt", "none"]),
         Fault("a processor that is none", "is no processor", command=["./try", "--for", "x/86"]),
+        Fault("no processor", "--for has no processor", command=["./try", "--for"]),
         Fault("a processor without binutils", "apt-get install binutils", command=["./try", "--for", "m68k"]),
         Fault("no kit", "the kit comes from whoever gives you Rattle", (("bin/rt", None, "none\n"),), command=["sh", "-c", "rm bin/rt; PATH=/usr/bin:/bin ./try"]),
         Fault("a header that declares no call", "registry.h declares no call", (("crates/registry_c/include/registry.h", "uint32_t registry_enter", "# "),)),
+    ]
+    faults += [Fault(words, said, command=["./try", *words.split()]) for words, said in BAD_LIMITS.items()]
+    return Case("build-archive", BUILD_TOOLS, BUILDS, ["./try"], faults, counts=False)
+
+
+def building_other():
+    source = "crates/registry_values/src/limits.rt"
+    faults = (
+        Fault("a proof that fails", "has no line that begins 'logic=proved'", (("bin/rt", "echo logic=proved functions=1", "echo logic=not-proved"),)),
+        Fault("a file of limits without one", "says no MOST_CPUS", ((source, "pub const MOST_CPUS", "const MOST_CPUS"),)),
+        Fault("a range that isn't said", "says no range of MOST_CPUS", (("crates/registry_values/specs/Limits.antt", "(1 ≤ MOST_CPUS) ×", ""),)),
+        Fault("other sources since", "was made from other sources", command=["./try-other", "sh", "-c", "echo more >>crates/low/src/lib.rt"]),
+        Fault("another bias since", "was made from other sources", command=["./try-other", "sed", "-i", "s/1 << 48/1 << 49/", source]),
+        Fault("a record of yet other limits", "has other limits than the sources", command=["./try-other", "sed", "-i", "s/--cpus 16/--cpus 17/", OTHER_RECORD]),
+        Fault("no archive any more", "tools/build-archive.sh --cpus 16 --sections 1125899906842624 proves",
+              command=["./try-other", "rm", OTHER_RECORD.replace(".proved", ".a")]),
     )
-    return Case("build-archive", ["build-archive.sh", "proof-record.py", "kit.py"], BUILDS, ["./try"], faults, counts=False)
+    return Case("build-archive, other limits", BUILD_TOOLS, BUILDS, ["./try-other"], faults, counts=False)
 
 
 def trying():
@@ -175,4 +232,4 @@ def trying():
 
 
 def cases():
-    return [making(), building(), trying()]
+    return [making(), building(), building_other(), trying()]

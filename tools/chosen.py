@@ -1,0 +1,110 @@
+#!/usr/bin/env python3
+"""Says what limits a build is to have: what `tools/build-archive.sh --wide`, or with --cpus and its like, is proved and built from.
+
+    tools/chosen.py name WORD..    prints what the build is called: `wide`, or each limit that isn't the default's, as cpus-16-slots-64; an empty
+                                   line where there is none
+    tools/chosen.py file WORD..    prints crates/registry_values/src/limits.rt with these limits
+
+WORD.. is --wide, or some of --cpus, --slots, --changes and --sections, each with a number in digits or as 2^40. A limit that isn't given is that of
+the file. The ranges are read from `LimitsLeaveRoom`, which each build proves. Words that aren't right end in one line and status 2.
+"""
+import re
+import sys
+
+sys.dont_write_bytecode = True
+
+from limits import LIMITS, ROOT, limits
+
+RANGES = "crates/registry_values/specs/Limits.antt"
+# The limits that a build may choose, by their words.
+CHOSEN = {"cpus": "MOST_CPUS", "slots": "MOST_SLOTS", "changes": "MOST_CHANGES", "sections": "MOST_SECTIONS"}
+WIDE = {"MOST_CPUS": 64, "MOST_SLOTS": 128, "MOST_CHANGES": 1 << 40, "MOST_SECTIONS": 1 << 62}
+
+
+class Fault(Exception):
+    pass
+
+
+def number(text):
+    """The number that is written in digits, or as 2^40; none where it is written otherwise or is beyond any limit."""
+    found = re.fullmatch(r"(\d{1,20})(?: ?\^ ?(\d{1,2}))?", text, re.ASCII)
+    return found and int(found[1]) ** int(found[2] or 1)
+
+
+def short(it, power):
+    """The number in digits, or after the words of a power of two where it is a large one."""
+    return f"{power}{it.bit_length() - 1}" if it > 1 << 16 and it & (it - 1) == 0 else str(it)
+
+
+def within(word, text):
+    """The number of that limit, if it is in its range."""
+    constant = CHOSEN[word]
+    found = re.search(rf"\((.*) ≤ {constant}\) × \({constant} ≤ (.*)\)", (ROOT / RANGES).read_text())
+    if not found:
+        raise Fault(f"{RANGES} says no range of {constant}")
+    least, most = number(found[1]), number(found[2])
+    it = number(text)
+    if it is None or not least <= it <= most:
+        raise Fault(f"--{word} may be {least} to {short(most, '2^')}, in digits or as 2^5; it is {text}")
+    return it
+
+
+def wanted(words):
+    """The limits that the words name, by their constants."""
+    if words == ["--wide"]:
+        return WIDE
+    found = {}
+    for flag, text in zip(words[::2], [*words[1::2], None]):
+        word = flag.removeprefix("--")
+        if not flag.startswith("--") or word not in CHOSEN:
+            raise Fault(f"{flag} is no limit: it is --wide alone, or --{', --'.join(CHOSEN)}")
+        if text is None:
+            raise Fault(f"--{word} has no number")
+        if CHOSEN[word] in found:
+            raise Fault(f"--{word} is given twice")
+        found[CHOSEN[word]] = within(word, text)
+    return found
+
+
+def said(path=ROOT / LIMITS):
+    """The limits that a file of limits has, of those that a build may choose."""
+    return {it: found for it, found in limits(path).items() if it in WIDE}
+
+
+def words_of(of):
+    """The words that ask for these limits."""
+    return [word for flag, it in CHOSEN.items() for word in (f"--{flag}", short(of[it], "2^"))]
+
+
+def name(of):
+    """What a build with these limits is called, a folder's name."""
+    has = said()
+    if {**has, **of} == WIDE:
+        return "wide"
+    return "-".join(f"{word}-{of[it]}" for word, it in CHOSEN.items() if of.get(it, has[it]) != has[it])
+
+
+def file(of):
+    """The text of the file of limits with these: those that it has stay as they are written."""
+    text, has = (ROOT / LIMITS).read_text(), said()
+    for constant, it in of.items():
+        if has[constant] is None:
+            raise Fault(f"{LIMITS} says no {constant}")
+        if it != has[constant]:
+            text = re.sub(rf"^(pub const {constant}: \w+ = ).*;", rf"\g<1>{short(it, '1 << ')};", text, flags=re.M)
+    return text
+
+
+def main(words):
+    uses = {"name": lambda of: f"{name(of)}\n", "file": file}
+    if not words or words[0] not in uses:
+        raise Fault("it takes name WORD.. or file WORD..")
+    print(uses[words[0]](wanted(words[1:])), end="")
+
+
+if __name__ == "__main__":
+    try:
+        main(sys.argv[1:])
+    except (Fault, OSError) as fault:
+        print(f"chosen: {fault}", file=sys.stderr)
+        sys.exit(2)
