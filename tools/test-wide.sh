@@ -1,7 +1,6 @@
 #!/usr/bin/env bash
-# Proves and builds the archive with the wide limits, 64 CPUs, 128 slots, 2^40 changes and 2^62 sections, and runs the clients in C and the manual pages'
-# own names over it, compiled with its headers. It isn't part of the gate: the proofs take most of an hour of processor time. The last line is
-# 'N passed, M failed'.
+# Proves and builds the archive with the wide limits, 64 CPUs, 128 slots, 2^40 changes and 2^62 sections, and runs the clients in C, the manual pages' own
+# names and the Rust crate over it, compiled with its headers. It isn't part of the gate. The last line is 'N passed, M failed'.
 #
 #     tools/test-wide.sh            proves and builds the archive first, in a copy of the crates: clients/out/wide/libregistry.a
 #     tools/test-wide.sh --built    takes the archive as it stands there
@@ -10,7 +9,7 @@ cd "$(dirname "$0")/.." || exit
 # shellcheck source=tools/checks.sh
 . tools/checks.sh
 trap forget_log EXIT
-out=clients/out/wide
+here=$PWD out=clients/out/wide
 
 make_wide() {
     make -s -C "$1" LIMITS=wide "${@:2}"
@@ -49,6 +48,23 @@ test_netbsd() {
     done
 }
 
+# The crate takes the limits from the header beside the archive.
+over_wide() {
+    (cd clients/rust && REGISTRY_LIB_DIR=$here/$out CARGO_TARGET_DIR=$here/$out/rust cargo "$@")
+}
+
+test_rust() {
+    local storm
+    counted "Rust: tests" over_wide test --offline --no-fail-fast --lib --tests
+    counted "Rust: the docs' examples" over_wide test --offline --doc
+    check "Rust: the examples are built" over_wide build --offline --release --examples
+    check "Rust: row" row_says "$out/rust/release/examples/row"
+    for storm in "8 1000" "64 200"; do
+        # shellcheck disable=SC2086
+        check "Rust: storm $storm" storm_says $storm "$out/rust/release/examples/storm"
+    done
+}
+
 case ${1-} in
 '') tools/build-archive.sh --wide || exit ;;
 --built) ;;
@@ -62,4 +78,5 @@ check "the archive has the header's calls" archive_names
 check "no call takes more than 4096 bytes of stack" stack_within
 test_clients
 test_netbsd
+test_rust
 finish
