@@ -21,12 +21,16 @@ AR = $(CROSS)ar
 OBJCOPY = $(CROSS)objcopy
 
 # In the repository the header is the crate's, and archives are what tools/build-archive.sh makes. A release's source has both in folders of its own.
-# LIMITS names the folder of an archive with other limits, which has the headers beside it: `make LIMITS=wide` after `tools/build-archive.sh --wide`.
+# LIMITS names the folder of an archive with other limits, which has the headers beside it: `make LIMITS=wide` after `tools/build-archive.sh --wide`. Its limits
+# come first in each file, since the layer has a link to the default's.
 LIMITS =
 OUT := $(TOP)out$(if $(filter-out x86_64,$(PROCESSOR)),/$(PROCESSOR))$(LIMITS:%=/%)
 HEADER := $(firstword $(if $(LIMITS),$(OUT)) $(wildcard $(TOP)include) $(TOP)../crates/registry_c/include)
 # What is proved, in C: its calls, and the limits of its build.
 FACE = $(HEADER)/registry.h $(HEADER)/registry_limits.h
+ifneq ($(LIMITS),)
+override CPPFLAGS += -include $(HEADER)/registry_limits.h
+endif
 ARCHIVE := $(firstword $(wildcard $(TOP)archive/$(PROCESSOR)/libregistry.a) $(OUT)/libregistry.a)
 
 # What hardens the libraries. Of CET it is the shadow stack: the archive's calls return where they were called from, but have no endbr64.
