@@ -34,6 +34,7 @@ static void begin(void)
 static void finish(void)
 {
 	bench_outcome("%u", counted);
+	mutex_destroy(&lock);
 }
 
 int main(void)
