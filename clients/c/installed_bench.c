@@ -35,6 +35,7 @@ static void finish(void)
 {
 	mutex_destroy(&lock);
 	bench_outcome("%u", counted);
+	mutex_destroy(&lock);
 }
 
 int main(void)

@@ -263,8 +263,8 @@ static void search(void)
 /* Goes on until a run goes wrong by the line that is wanted. */
 static void search_below(void)
 {
-	while (!run_all() && board->limit-- > 1 && board->end == FAILED && strcmp(board->found.line, board->wanted) != 0 && next_schedule())
-		;
+	while (!run_all() && board->limit > 1 && board->end == FAILED && strcmp(board->found.line, board->wanted) != 0 && next_schedule())
+		board->limit--;
 }
 
 /* Does something in a child. How its last run ended. */
@@ -329,13 +329,18 @@ static bool find_shorter(struct bench_found *found, unsigned preemptions, unsign
 	return true;
 }
 
-/* Cuts the schedule of a fault down: first to few preemptions, where few runs tell, and then to the fewest switches. */
+/* Cuts the schedule of a fault down: to few preemptions; then, with no more of them, to few switches; and then to the fewest switches, as far as all
+ * schedules with so many can be tried. */
 static void cut_down(struct bench_found *found)
 {
 	for (unsigned bound = 0; bound < found->preemptions; bound++)
 		if (find_shorter(found, bound, UINT_MAX))
 			break;
 	for (unsigned most = 0; most < found->changes; most++)
+		if (find_shorter(found, found->preemptions, most))
+			break;
+	board->limit = 1;
+	for (unsigned most = 0; most < found->changes && board->limit > 0; most++)
 		if (find_shorter(found, UINT_MAX, most))
 			break;
 }

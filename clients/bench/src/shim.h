@@ -49,8 +49,7 @@
 #define pthread_setcancelstate(state, before)	bench_cancel_state(state, before)
 #define pthread_create(id, attributes, body, arg)	bench_create(id, body, arg, __FILE__)
 #define pthread_detach(id)		((void)(id))
-#define pthread_join(id, answer)	bench_join(id)
-#define pthread_clockjoin_np(id, answer, clock, deadline)	((void)(deadline), bench_join(id))
+#define pthread_tryjoin_np(id, answer)	bench_join(id)
 #define pthread_exit(answer)		bench_exit()
 
 #define nanosleep(time, rest)		bench_sleep(time)

@@ -32,7 +32,7 @@ def main():
         print(f"{text}: real threads come to {sorted(seen[text] - all_of[text])}, and the bench to {sorted(all_of[text])}")
     count = sum(len(seen[text]) for text in compared)
     print(f"{len(compared)} programs: {count} outcomes of real threads are among the bench's {sum(len(all_of[text]) for text in compared)}")
-    sys.exit(bool(wrong) or 2 * len(compared) < len(fit))
+    sys.exit(bool(wrong) or not compared or 2 * len(compared) < len(fit))
 
 
 main()

@@ -4,8 +4,11 @@
     faults.py FOLDER WORDS..             plants in a folder, compiles with these words, runs, and prints a table; the last line is 'N passed, M failed'
     faults.py FOLDER --threads WORDS..   the same with real threads, which may miss any
 
+With BENCH_FAULTS only those faults whose driver and name fit that pattern, as 'bridge' or 'unload two locks'.
+
 A fault is found where some schedule of its case goes wrong with the line that is told here.
 """
+import os
 import pathlib
 import re
 import subprocess
@@ -242,9 +245,15 @@ def judge(fault, said):
     return re.search(fault.line, line.group(1)) is not None, counts.group(1), f"switches {counts.group(3)}, preemptions {counts.group(4)}", line.group(1)
 
 
+def chosen():
+    """The faults that are planted."""
+    pattern = os.environ.get("BENCH_FAULTS", "")
+    return [fault for fault in FAULTS if re.search(pattern, f"{fault.driver} {fault.name}")]
+
+
 def run_threads(words, folder):
     """How many runs real threads took for each."""
-    for fault in FAULTS:
+    for fault in chosen():
         program = build(words, plant(fault, folder), fault.driver)
         ran = subprocess.run([program, fault.case], stdout=subprocess.PIPE, stderr=subprocess.DEVNULL, text=True, check=False)
         runs = re.search(r": (\d+) runs(: FAULT)?", ran.stdout)
@@ -259,7 +268,7 @@ def main():
         run_threads(words[1:], folder)
         return
     passed = failed = 0
-    for fault in FAULTS:
+    for fault in chosen():
         program = build(words, plant(fault, folder), fault.driver)
         ran = subprocess.run([program, fault.case], stdout=subprocess.PIPE, stderr=subprocess.DEVNULL, text=True, timeout=120, check=False)
         found, run, switches, line = judge(fault, ran.stdout)

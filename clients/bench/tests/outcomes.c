@@ -196,6 +196,10 @@ static void finish(void)
 	psref_class_destroy(things);
 	pserialize_destroy(psz);
 	softint_disestablish(softint);
+	mutex_destroy(&locks[0]);
+	mutex_destroy(&locks[1]);
+	rw_destroy(&rw);
+	cv_destroy(&cv);
 }
 
 static struct bench_found explore(bool whole)
@@ -363,6 +367,7 @@ int main(int count_of_words, char **given)
 	try_written();
 	for (unsigned at = 0; at < number; at++)
 		try_random(first + at);
+	EXPECT(prints || 2 * faults < compared);
 	if (!prints)
 		printf("%u programs: the same outcomes by %llu schedules as by %llu; %u of them with a fault; %u were too long\n", compared, reduceds, wholes,
 		    faults, skipped);

@@ -172,11 +172,10 @@ void kthread_exit(int code)
 static void await_end(struct thread *me, const struct kthread *kthread)
 {
 	char name[64];
-	const struct pauses pauses = begin_pauses();
-	if (pthread_clockjoin_np(kthread->id, NULL, CLOCK_MONOTONIC, &pauses.tells) == 0)
-		return;
-	say(me, "waits for thread \"%s\" to end", name_of(kthread->thread, name, sizeof(name)));
-	pthread_join(kthread->id, NULL);
+	struct pauses pauses = begin_pauses();
+	while (pthread_tryjoin_np(kthread->id, NULL) == EBUSY)
+		if (pause_longer(&pauses, NULL))
+			say(me, "waits for thread \"%s\" to end", name_of(kthread->thread, name, sizeof(name)));
 }
 
 int kthread_join(lwp_t *thread)

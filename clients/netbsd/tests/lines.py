@@ -3,7 +3,7 @@
 
     lines.py    the last line is 'N passed, M failed'
 
-What only a process without memory, threads or keys would see has no test, and neither has an answer of the registry's that no call of the layer gets.
+UNTESTED has the lines that need a process without memory, threads or keys, or an answer of the registry's that no call gets.
 """
 import re
 import sys
@@ -11,7 +11,7 @@ from pathlib import Path
 
 HERE = Path(__file__).resolve().parent
 UNTESTED = {"out of memory", "no key of a thread is left", "no thread is left", "%d targets and counts are live", "%s"}
-# Of two files that say the same, each has a test of its own.
+# Some files have the same line: each needs a test of its own call.
 BEGINS = {"rwlock.c": r'"rw_[a-z]+: ', "mutex.c": r'"(?:mutex|cv)_[a-z_]+: ', "callout.c": r'"callout_[a-z]+: '}
 TEXT = re.compile(r'"((?:[^"\\]|\\.)*)"')
 

@@ -81,7 +81,7 @@ test_pointers(void)
 	__insn_barrier();
 }
 
-/* ---- queue(3): four elements in each kind of list, of which some go. ---- */
+/* ---- queue(3): elements come to each kind of list, and some go. ---- */
 
 struct element {
 	SLIST_ENTRY(element)	single;
