@@ -176,6 +176,7 @@ test_c() {
     check "C: packet" "$out/packet"
     check "C: misuse is answered" "$out/misuse"
     check "C: each allocation refused" "$out/refuse"
+    check "C: the functions of the heap" "$out/allocs"
     check "C: what each call takes and frees, and what is planted" "$out/blocks"
     check "C: the layout of each struct" "$out/layout"
     check "C: unwinds makes each call" unwinds_calls
