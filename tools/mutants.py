@@ -54,9 +54,9 @@ Test = collections.namedtuple("Test", "name build run memory", defaults=(MOST_BY
 WAYS = {"plain": True, "small": False, "busy": True, "late": False, "sanitized": False, "raced": False}
 # What is C of the archive, and the programs that see each part, with their words.
 PARTS = {
-    "heap": {"refuse": [], "blocks": [], "misuse": []},
-    "composed": {"entries": ["1000"]},
-    "strings": {"names": []},
+    "heap": {"allocs": [], "refuse": [], "blocks": [], "misuse": []},
+    "composed": {"entries": ["1000"], "sanitized-entries": ["300"]},
+    "strings": {"names": [], "sanitized-names": []},
 }
 # A library: the files that are changed, its tests for one of them, and for C the command that compiles one file to an object.
 Library = collections.namedtuple("Library", "files tests compiled")

@@ -161,6 +161,7 @@ test_c() {
     check "C: packet" "$out/packet"
     check "C: misuse is answered" "$out/misuse"
     check "C: each allocation refused" "$out/refuse"
+    check "C: the functions of the heap" "$out/allocs"
     check "C: what each call takes and frees, and what is planted" "$out/blocks"
     check "C: the build's version and limits" "$out/built"
     counted "C: programs compiled for other limits" clients/other-limits.sh "${header%/*}" "$out/libregistry.a"

@@ -9,8 +9,8 @@ TOOLS = pathlib.Path(__file__).resolve().parent.parent
 ROOT = TOOLS.parent
 
 # Held while files are written, and while a command is started: a process that is just forked has what is being written open, and a script that anybody
-# has open for writing can't be run.
-WRITING = threading.Lock()
+# has open for writing can't be run. What prepares a tree may start a command, too.
+WRITING = threading.RLock()
 
 # A fault: its name, what the tool must say of it, and its changes. A change is a path with an old text, which the file has once, and a new one. Without an
 # old text the file is written, without a new one it is removed. `command` replaces the command of the good tree.

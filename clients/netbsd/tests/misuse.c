@@ -426,6 +426,19 @@ static void class_with_target_destroyed(void)
 	}
 }
 
+/* A thread destroys the last target, and waits: for the section in which the last reference was released, at the end. */
+static void class_with_last_section(void)
+{
+	pthread_t destroyer;
+	acquire();
+	start_thread(&destroyer, destroy_it, NULL);
+	sleep_for(20000);
+	pserialize_read_enter();
+	psref_release(&psref, &target, things);
+	sleep_for(20000);
+	psref_class_destroy(things);
+}
+
 static void destroy_softly(void *arg)
 {
 	psref_target_destroy(arg, things);
@@ -683,6 +696,7 @@ static const struct stop_case cases[] = {
     {other_class, "psref_acquire: the target is not of class other, at PLACE"},
     {class_in_use, "psref_class_destroy: a target of class thing is live, at PLACE"},
     {class_with_target_destroyed, "psref_class_destroy: a target of class thing is live, at PLACE"},
+    {class_with_last_section, "psref_class_destroy: a target of class thing is live, at PLACE"},
     {init_twice, "psref_target_init: it is live already, at PLACE"},
     {drain_never_live, "localcount_drain: the count is not live, at PLACE"},
     {drain_twice, "localcount_drain: the count is not live, at PLACE"},
