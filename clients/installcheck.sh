@@ -27,12 +27,13 @@ room=$(mktemp -d)
 trap 'rm -rf "$room"' EXIT
 passed=0 failed=0
 
-# try MODULE PROGRAM LINE LINK WORDS..: builds the program with what pkg-config says for these words, and runs it: it prints the line.
+# try MODULE PROGRAM LINE LINK WORDS..: builds the program with what pkg-config says for these words, and runs it: it prints the line. A cross compiler's
+# linker doesn't read LD_LIBRARY_PATH, and is told where libkupaldiz is that libkupaldiz_netbsd needs.
 try() {
     local module=$1 program=$2 line=$3 link=$4 words said
     shift 4
     if words=$(pkg-config --cflags "$module") && words+=" $(pkg-config "$@" "$module")" &&
-        eval "$CC -std=c99 -Wall -Wextra c/$program.c -o \"\$room/$program\" $link $words" && said=$($RUN "$room/$program") && [ "$said" = "$line" ]; then
+        eval "$CC -std=c99 -Wall -Wextra c/$program.c -o \"\$room/$program\" $link -Wl,-rpath-link,\"\$stage\$libdir\" $words" && said=$($RUN "$room/$program") && [ "$said" = "$line" ]; then
         passed=$((passed + 1))
         echo "ok      $module, $*: $said"
     else
