@@ -44,7 +44,7 @@ pub use Rattle.cpu_words.specs.Rule.{Agrees, GoesOn, Good, HaveViews, IsFresh, I
 pub use Rattle.cpu_words.specs.Rule.{log_of_events, log_with, number_of_id, number_or_none, reference_to, reply_without_id}
 pub use Rattle.cpu_words.specs.Searching.{Descends, FoundHolds, HasFollowed, HasLoadedLink, HasLoadedWord, HasSearched, HasSought, IsAtWord, LinkHolds, MayLoadLink, MayLoadSearched, MaySeek}
 pub use Rattle.cpu_words.specs.Searching.{MayStandOn, PassTells, SkipsNone, cpu_after_link, cpu_after_record_word, cpu_after_seek, every_word, key_with, link_answer, loaded_answer, loaded_of}
-pub use Rattle.cpu_words.specs.Searching.{search_for, search_with_place, sought}
+pub use Rattle.cpu_words.specs.Searching.{IsValueThere, search_for, search_with_place, sought, tells_compared}
 pub use Rattle.cpu_words.specs.Sections.{HasEntered, HasExited, HasWholePass, IsIdle, MayEnter, MayExit}
 pub use Rattle.cpu_words.specs.Spots.{AreApart, FirstWordsFree, IsSpot, LinesApart, OnePlace, Spot, count_of, head_word, index, next_of, owner, passive_of, record_of, section_of, total_of, word_at}
 pub use Rattle.cpu_words.specs.Steps.{CpuMay, JoinsBy, JoinsOn, KeeperMay, KeeperStores, Makes, Moves, OneSeat, ReferenceMay, SeatMakes, SplitsBy, SplitsOn}

@@ -5,7 +5,7 @@ use mathlib.Core.List.{IsPrefix}
 use lib.ListN.{get_elem?}
 use Rattle.atomic_table.specs.Table.{State as Table, Step, Me}
 use Rattle.cpu_words.specs.Types.{Settings, Event, Seat, Enter, Exit, Seek, LoadLink, LoadRecord, StoreSlot, StoreNext, Publish, Unpublish, Tell, Hear, Snapshot, Look, PassiveAdd, PassiveSub}
-use Rattle.cpu_words.specs.Types.{PassiveLook, CountAdd, SplitRef, JoinRef, CountDown, SplitBack, Collect, TotalAdd, JoinKeeper, TotalSub, Keep, KeptSub, Vacate, Passive, Local, Done, Ref}
+use Rattle.cpu_words.specs.Types.{PassiveLook, CountAdd, SplitRef, JoinRef, CountDown, SplitBack, Collect, TotalAdd, JoinKeeper, TotalSub, Keep, KeptSub, Vacate, Passive, Local, Compared, Done, Ref}
 use Rattle.protocol.specs.declared.event.RecordOf.TheVariants.{Search as OfSearch}
 use Rattle.cpu_words.specs.declared.view.InHand.{InHand}
 use Rattle.cpu_words.specs.declared.view.InHand.TheVariants.{Empty as NoEntry, Taking as TakingEntry, Giving as GivingEntry, Back as BackEntry}
@@ -85,6 +85,7 @@ maker (LoadLink c) = the_cpu c
 maker (LoadRecord (OfSearch c)) = the_cpu c
 maker (LoadRecord (Passive c n k)) = the_cpu c
 maker (LoadRecord (Local id k)) = another
+maker (LoadRecord (Compared c)) = the_cpu c
 maker (StoreSlot t k v) = the_keeper
 maker (StoreNext t v) = the_keeper
 maker (Publish t) = the_keeper

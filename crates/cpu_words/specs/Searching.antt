@@ -11,6 +11,7 @@ use Rattle.cpu_words.specs.declared.view.LogItem.{LogItem}
 use Rattle.cpu_words.specs.Rule.{did}
 use Rattle.cpu_words.specs.Steps.{Makes}
 use Rattle.cpu_words.specs.Sections.{IsIdle}
+use Rattle.cpu_words.specs.Spots.{index, record_of}
 
 -- Links
 
@@ -155,3 +156,13 @@ pub record HasSearched (x : CpuView) (q : Search) (n : ℕ) (y : CpuView) : Type
 -- the search that is under way has loaded the record word n
 abbrev pub HasLoadedWord : CpuView → ℕ → CpuView → Type 0
 HasLoadedWord x n y = (q : Search) → x.search ≡ Some q → HasSearched x q n y
+
+-- The value of an entry that isn't the one sought: the search has compared it, and stays at its link.
+
+-- n is the value of each entry that the search may be at in the slot t
+abbrev pub IsValueThere : CpuView → ℕ → ℕ → Type 0
+IsValueThere x t n = (q : Search) (e : Entry) → x.search ≡ Some q → MayStandOn x.pass q t e → e.rec.value ≡ n
+
+-- what the inner step is told: of the event and the word's place
+abbrev pub tells_compared : Event → ℕ → CpuView → ℕ → CpuView → Type 0
+tells_compared event i x n y = Makes event (Word n) (Cpu x) (Cpu y) × (y ≡ x) × ((t : ℕ) → i ≡ index (record_of t 4) → IsValueThere x t n)

@@ -16,7 +16,7 @@ pub use Rattle.protocol.specs.declared.event.Event.TheVariants.{Collect, CountAd
 pub use Rattle.protocol.specs.declared.event.Event.TheVariants.{PassiveLook, PassiveSub, Publish, Seat, Seek, Snapshot, SplitBack, SplitRef, StoreNext, StoreSlot, Tell, TotalAdd, TotalSub, Unpublish}
 pub use Rattle.protocol.specs.declared.event.Event.TheVariants.{Vacate}
 pub use Rattle.protocol.specs.declared.event.RecordOf.{RecordOf}
-pub use Rattle.protocol.specs.declared.event.RecordOf.TheVariants.{Local, Passive}
+pub use Rattle.protocol.specs.declared.event.RecordOf.TheVariants.{Compared, Local, Passive}
 pub use Rattle.protocol.specs.declared.event.Reply.{Reply}
 pub use Rattle.protocol.specs.declared.event.Reply.TheVariants.{Collected, Done, Found, Missed, Ref, Word}
 pub use Rattle.protocol.specs.declared.state.Due.{Due}

@@ -29,7 +29,7 @@ pub use notes::{hear, hear_keeper, tell, tell_keeper};
 pub use passive::{load_passive, passive_add, passive_sub};
 pub use publishing::{publish, unpublish};
 pub use reading::load_local;
-pub use search::{load_link, load_searched, seek};
+pub use search::{load_compared, load_link, load_searched, seek};
 pub use seats::seat;
 pub use sections::{enter, exit};
 pub use vacating::vacate;

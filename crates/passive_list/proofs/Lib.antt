@@ -12,9 +12,8 @@ pub mod Taking
 pub mod Detached
 pub mod Logs
 pub mod Standing
-pub mod Noting
+pub mod GoingOver
 pub mod Visited
-pub mod FoundAgain
 pub mod Balanced
 pub mod Collections
 pub mod Subtracting

@@ -1,22 +1,23 @@
 -- A search's events, load by load.
-use Rattle.std.proofs.Common.{◌≡◌, ◌∙◌, ⊎_elim, ℕ, ◌+◌, ◌*◌, ◌≤◌, List, [], ◌∷◌, ◌++◌, Option, Some, None, inl, inr, refl, sym, ap, subst, append_assoc, arith}
-use Rattle.std.proofs.lemmas.List.{length-append, map-append}
-use Rattle.std.proofs.lemmas.List.Elements.{All-append, Contains-push, Contains-append_left, Contains-append_cases}
-use Rattle.std.specs.List.{Contains}
-use Rattle.passive_list.specs.Types.{Entry, Kind, Name, Key, Seek, LoadLink, LoadRecord, Reply, Done, Found, LogItem}
-use Rattle.registry_values.specs.Common.{key_of}
+use Rattle.std.proofs.Common.{◌≡◌, ◌∙◌, ℕ, ◌+◌, ◌*◌, ◌≤◌, List, ◌++◌, Some, None, inl, inr, refl, sym, ap, subst, append_assoc, arith}
+use Rattle.std.proofs.lemmas.List.{length-append}
+use Rattle.std.proofs.lemmas.List.Elements.{All-append}
+use Rattle.passive_list.specs.Types.{Entry, Kind, Name, Key, Seek, LoadLink, LoadRecord, Compared, Reply, Done, Found, LogItem}
 use Rattle.protocol.specs.declared.event.RecordOf.TheVariants.{Search as OfSearch}
 use Rattle.cpu_words.specs.Common.{did, key_with, link_answer}
 use Rattle.passive_list.proofs.Logs.{one_item}
-use Rattle.passive_list.specs.Common.{IsLoad, GoesOnByLoads, HasSearchedFor, SearchesOnce, Lookup, SearchesEach, found_by_name, LooksUpEach}
+use Rattle.passive_list.specs.Common.{IsLoad, IsWalkLoad, GoesOnBySoMany, GoesOnByLoads, HasSearchedFor, SearchesOnce, HasWalkedBy, HasGoneOverBy, nobody}
 
-pub more_loads : (c m n : ℕ) (old between new : List LogItem) → GoesOnByLoads c m old between → GoesOnByLoads c n between new → GoesOnByLoads c (m + n) old new
-more_loads c m n old between new first then = record {
+more_items : (P : LogItem → Type 0) (m n : ℕ) (old between new : List LogItem) → GoesOnBySoMany P m old between → GoesOnBySoMany P n between new → GoesOnBySoMany P (m + n) old new
+more_items P m n old between new first then = record {
   since = first.since ++ then.since;
   are = then.are ∙ ap (λ (ds : List LogItem). ds ++ then.since) first.are ∙ append_assoc old first.since then.since;
-  only = All-append (IsLoad c) first.since then.since first.only then.only;
+  only = All-append P first.since then.since first.only then.only;
   count = let both = length-append first.since then.since in omega (arith, both, first.count, then.count);
 }
+
+more_loads : (c m n : ℕ) (old between new : List LogItem) → GoesOnByLoads c m old between → GoesOnByLoads c n between new → GoesOnByLoads c (m + n) old new
+more_loads c m n old between new first then = more_items (IsLoad c) m n old between new first then
 
 pub link_loaded : (c : ℕ) (reply : Reply) (old new : List LogItem) → new ≡ old ++ did (LoadLink c) reply → GoesOnByLoads c 1 old new
 link_loaded c reply old new is = record { since = did (LoadLink c) reply; are = is; only = one_item (IsLoad c) _ (inl refl); count = refl }
@@ -72,35 +73,33 @@ search_found c slots key e reply visited old between new is few loads last = rec
   ends = (between, last ∙ ap (λ (r : Reply). between ++ did (LoadRecord (OfSearch c)) r) is);
 }
 
--- One search after the other
+-- By a walk
 
-one_more_search : (c slots : ℕ) (ls : List Lookup) (l : Lookup) (old between new : List LogItem) → SearchesEach c slots ls old between → SearchesOnce c slots l.key l.answer between new
-    → SearchesEach c slots (ls ++ l ∷ []) old new
-one_more_search c slots [] l old between new so_far once = (new, subst (λ (m : List LogItem). SearchesOnce c slots l.key l.answer m new) so_far once, refl)
-one_more_search c slots (k ∷ ks) l old between new so_far once = (so_far.0, so_far.1, one_more_search c slots ks l so_far.0 between new so_far.2 once)
+-- all loads of a search are loads of the walk
+of_search : (c n : ℕ) (old new : List LogItem) → GoesOnByLoads c n old new → GoesOnBySoMany (IsWalkLoad c) n old new
+of_search c n old new goes = record { since = goes.since; are = goes.are; only = λ k d lt. inl (goes.only k d lt); count = goes.count }
 
-pub none_looked_up : (c slots : ℕ) (log : List LogItem) → LooksUpEach c slots [] [] log log
-none_looked_up c slots log = record { lookups = []; keys = refl; log = refl; found = λ e there. absurd (omega (arith, there.1)) }
+value_loaded : (c : ℕ) (reply : Reply) (old new : List LogItem) → new ≡ old ++ did (LoadRecord (Compared c)) reply → GoesOnBySoMany (IsWalkLoad c) 1 old new
+value_loaded c reply old new is = record { since = did (LoadRecord (Compared c)) reply; are = is; only = one_item (IsWalkLoad c) _ (inr refl); count = refl }
 
--- e was looked up too, and what was found is written at the end of the row
-pub one_more_looked_up : (c slots : ℕ) (es row more : List Entry) (e : Entry) (found : Option Entry) (old between new : List LogItem) → LooksUpEach c slots es row old between
-    → SearchesOnce c slots (key_of e) found between new
-    → ((f : Entry) → Contains more f → (f ≡ e) × (found ≡ Some f)) → LooksUpEach c slots (es ++ e ∷ []) (row ++ more) old new
-one_more_looked_up c slots es row more e found old between new so_far once written = record {
-  lookups = so_far.lookups ++ now ∷ [];
-  keys = map-append (λ (l : Lookup). l.key) so_far.lookups (now ∷ []) ∙ ap (λ (ks : List Key). ks ++ key_of e ∷ []) so_far.keys ∙ sym (map-append key_of es (e ∷ []));
-  log = one_more_search c slots so_far.lookups now old between new so_far.log once;
-  found = λ f there. ⊎_elim
-      (λ (in_ : Contains row f). (Contains-append_left es (e ∷ []) f (so_far.found f in_).0, Contains-append_left so_far.lookups (now ∷ []) (found_by_name f) (so_far.found f in_).1))
-      (λ (in_ : Contains more f). (
-        subst (Contains (es ++ e ∷ [])) (sym (written f in_).0) (Contains-push es e),
-        subst (Contains (so_far.lookups ++ now ∷ [])) (same f (written f in_).0 (written f in_).1) (Contains-push so_far.lookups now),
-      ))
-      (Contains-append_cases row more f there);
-}
-  where
-    now : Lookup
-    now = record { key = key_of e; answer = found }
+-- the words of a slot
+pub five_loaded : (c : ℕ) (reply : Reply) (old between new : List LogItem) → GoesOnByLoads c 4 old between → new ≡ between ++ did (LoadRecord (Compared c)) reply
+    → GoesOnBySoMany (IsWalkLoad c) 5 old new
+five_loaded c reply old between new four last = more_items (IsWalkLoad c) 4 1 old between new (of_search c 4 old between four) (value_loaded c reply between new last)
 
-    same : (f : Entry) → f ≡ e → found ≡ Some f → now ≡ found_by_name f
-    same f is answer = λ i. record { key = key_of (sym is i); answer = answer i }
+pub walk_begun : (c : ℕ) (reply : Reply) (old new : List LogItem) → new ≡ old ++ (did (Seek c nobody.kind nobody.name) Done ++ did (LoadLink c) reply) → HasWalkedBy c 0 old new
+walk_begun c reply old new is = of_search c 1 (old ++ did (Seek c nobody.kind nobody.name) Done) new (search_begun c nobody.kind nobody.name reply old new is)
+
+-- one entry more was gone by
+pub one_gone_by : (c n : ℕ) (reply : Reply) (old before between new : List LogItem) → HasWalkedBy c n old before → GoesOnBySoMany (IsWalkLoad c) 5 before between
+    → new ≡ between ++ did (LoadLink c) reply → HasWalkedBy c (n + 1) old new
+one_gone_by c n reply old before between new so_far five last =
+    let same : 1 + 6 * n + (5 + 1) ≡ 1 + 6 * (n + 1) = omega arith in
+    subst (λ (k : ℕ). GoesOnBySoMany (IsWalkLoad c) k (old ++ did (Seek c nobody.kind nobody.name) Done) new) same
+    (more_items (IsWalkLoad c) (1 + 6 * n) (5 + 1) (old ++ did (Seek c nobody.kind nobody.name) Done) before new so_far
+    (more_items (IsWalkLoad c) 5 1 before between new five (of_search c 1 between new (link_loaded c reply between new last))))
+
+-- the link leads nowhere, so the walk is over
+pub walk_over : (c slots n visited : ℕ) (old new : List LogItem) → n ≡ 0 → visited ≤ slots → HasWalkedBy c visited old new → EndsAtLink c n new → HasGoneOverBy c slots visited old new
+walk_over c slots n visited old new none few loads last =
+    record { few = few; loads = loads; ends = (last.0, last.1 ∙ ap (λ (m : ℕ). last.0 ++ did (LoadLink c) (link_answer m)) none) }

@@ -11,7 +11,7 @@ use Rattle.cpu_words.specs.Common.{HasLoadedLink, PassTells, loaded_of, loaded_a
 use Rattle.passive_list.specs.Common.{search_at, HasVisitedFrom, HasVisited, HasMissed, IsOn, AreStoodOn}
 use Rattle.passive_list.proofs.Walking.{on_way}
 use Rattle.passive_list.proofs.Standing.{prefix_length, stands_later}
-use Rattle.passive_list.proofs.Noting.{few_stood_on}
+use Rattle.passive_list.proofs.GoingOver.{few_stood_on}
 
 -- the search begun in the view x has visited so many entries, the newest first, as the pass p tells; the number `last` is above none of theirs
 pub record HasGoneBy (x : CpuView) (visited last : ℕ) (p : List Change) : Type 0 where

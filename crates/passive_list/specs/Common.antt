@@ -4,20 +4,18 @@ pub use Rattle.passive_list.specs.declared.links.At.{At}
 pub use Rattle.passive_list.specs.declared.lookup.Seen.{Seen}
 pub use Rattle.passive_list.specs.declared.place.Found.{Found}
 pub use Rattle.passive_list.specs.declared.place.NumberedCount.{NumberedCount}
-pub use Rattle.passive_list.specs.declared.walks.Noted.{Noted}
 pub use Rattle.passive_list.specs.Cpus.{DepthAgrees, HoldsFound, IsKept, IsOurCpu, IsPlaceOf, NetAgree, OnCpu, OnPlainCpu, PassiveAgree, SectionAgrees, no_found, no_place, place_at}
 pub use Rattle.passive_list.specs.Draining.{AreHeld, HasAttachedKeeping, HasCollectedInto, HasFreed, HasGivenUp, keeper_after_collect, kept_slot}
+pub use Rattle.passive_list.specs.GoingOver.{AreStoodOn, GoesOnAt, HasGoneByFrom, HasGoneByOne, HasGoneOver, IsGoingOver, IsLiveSince, MayGoBy, view_at_link}
 pub use Rattle.passive_list.specs.Keepers.{AreSized, HasRows, IsAtRest, IsOurKeeper, OnKeeper, OnPlainKeeper, RowAgrees, RowsAgree, no_row, on_keeper, row_at, state_of, states_of}
 pub use Rattle.passive_list.specs.Links.{link_to, newer_of, older_of, place_of}
 pub use Rattle.passive_list.specs.Logs.{GoesOnBy, HasOwnLog}
 pub use Rattle.passive_list.specs.Lookups.{HasFound, HasFoundFromOutside}
 pub use Rattle.passive_list.specs.Notes.{HasHeardOn, HeardAndTold, WasShown, as_teller, cpu_after_tell, has_heard, has_told}
-pub use Rattle.passive_list.specs.Noting.{AreNoted, AreStoodOn, GoesOnAt, HasFoundAgain, HasGoneOver, HasNoted, HasNotedFrom, HasNotedSoFar, HaveBeenFound, HaveSearched, IsLiveSince, IsNoting}
-pub use Rattle.passive_list.specs.Noting.{LooksUpAgain, WritesNext, noted_of, view_at_link}
 pub use Rattle.passive_list.specs.Publishing.{HasAttached, HasEntry, MayAttach, keeper_after_publish, keeper_after_stores, with_counts, with_row}
 pub use Rattle.passive_list.specs.Retiring.{AreFresh, AreSnapshots, HasDetached, with_snapshots}
-pub use Rattle.passive_list.specs.Searches.{GoesOnByLoads, HasGoneOverBy, HasSearchedFor, IsLoad, LooksUpEach, Lookup, SearchesEach, SearchesOnce, found_by_name, nobody}
+pub use Rattle.passive_list.specs.Searches.{GoesOnByLoads, GoesOnBySoMany, HasGoneOverBy, HasSearchedFor, HasWalkedBy, IsLoad, IsWalkLoad, SearchesOnce, nobody}
 pub use Rattle.passive_list.specs.Sections.{AnswersEnter, HasEnteredOn, HasExitedOn, may_begin}
 pub use Rattle.passive_list.specs.Vacating.{HasVacated, IsDrainedOn, is_drained_row}
 pub use Rattle.passive_list.specs.Walking.{HasLookedUp, HasMissed, HasTaken, HasVisited, HasVisitedFrom, IsAtLink, IsOn, IsUnderWay, MayVisit, after_visit, cpu_with_search_at, entry_seen, search_at}
-pub use Rattle.passive_list.specs.Walks.{AreGoneBy, HasWalked, WasLive}
+pub use Rattle.passive_list.specs.Walks.{HasWalked, WasLive}

@@ -12,6 +12,6 @@ pub mod Publishing
 pub mod Retiring
 pub mod Logs
 pub mod Walks
-pub mod Noting
+pub mod GoingOver
 pub mod Searches
 pub mod Draining

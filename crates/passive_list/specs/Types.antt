@@ -17,7 +17,7 @@ pub use Rattle.registry_values.specs.declared.slot.Slot.TheVariants.{Live, Retir
 pub use Rattle.protocol.specs.declared.event.Event.{Event}
 pub use Rattle.protocol.specs.declared.event.Event.TheVariants.{Collect, CountAdd, CountDown, Enter, Exit, Hear, JoinKeeper, JoinRef, Keep, KeptSub, LoadLink, LoadRecord, Look, PassiveAdd}
 pub use Rattle.protocol.specs.declared.event.Event.TheVariants.{PassiveLook, PassiveSub, Publish, Seek, Snapshot, SplitBack, SplitRef, Tell, TotalAdd, TotalSub, Unpublish, Vacate}
-pub use Rattle.protocol.specs.declared.event.RecordOf.TheVariants.{Passive}
+pub use Rattle.protocol.specs.declared.event.RecordOf.TheVariants.{Compared, Passive}
 pub use Rattle.protocol.specs.declared.event.Reply.{Reply}
 pub use Rattle.protocol.specs.declared.event.Reply.TheVariants.{Collected, Done, Found, Missed, Ref, Word}
 pub use Rattle.protocol.specs.declared.state.Due.{Due}

@@ -22,12 +22,7 @@ pub record WasLive (h : List Change) (from to : ℕ) (e : Entry) : Type 0 where
 abbrev pub AreNewestFirst : List Entry → Type 0
 AreNewestFirst row = AllPairs (λ (e f : Entry). f.number < e.number) row
 
--- what a walk noted: each entry was live at some point of it, and none is there twice
-pub record AreGoneBy (h : List Change) (from to : ℕ) (noted : List Entry) : Type 0 where
-  pub each : (e : Entry) → Contains noted e → WasLive h from to e
-  pub newest_first : AreNewestFirst noted
-
--- only the pass changes and the last found entry, which is cleared, by searches alone; the row has the registry's entries at points not
+-- only the pass changes and the last found entry, which is cleared, by one search alone; the row has the registry's entries at points not
 -- before what the CPU had seen
 pub record HasWalked (a b : OnCpu) (row : List Entry) : Type 0 where
   pub pass : IsPrefix a.view.pass b.view.pass
@@ -38,7 +33,5 @@ pub record HasWalked (a b : OnCpu) (row : List Entry) : Type 0 where
   pub each : (e : Entry) → Contains row e → WasLive b.view.pass (length a.view.pass) (length b.view.pass) e
   pub held : (e : Entry) (s : ℕ) → Contains row e → a.view.begin ≡ Some s → MayHold b.view.pass s e
   pub newest_first : AreNewestFirst row
-  -- the first search visits as many entries as these are, and each other one but the last is for one of them
-  pub noted : List Entry
-  pub gone_by : AreGoneBy b.view.pass (length a.view.pass) (length b.view.pass) noted
-  pub log : HasGoneOverBy a.view.id a.view.settings.slots noted row a.log b.log
+  -- the search goes by as many entries as are in the row
+  pub log : HasGoneOverBy a.view.id a.view.settings.slots (length row) a.log b.log

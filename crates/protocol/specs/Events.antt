@@ -7,7 +7,7 @@ use Rattle.protocol.specs.declared.event.Event.{Event}
 use Rattle.protocol.specs.declared.event.Event.TheVariants.{Seat, Enter, Exit, Seek, LoadLink, LoadRecord, StoreSlot, StoreNext, Publish, Unpublish, Tell, Hear, Snapshot, Look, PassiveAdd, PassiveSub}
 use Rattle.protocol.specs.declared.event.Event.TheVariants.{PassiveLook, CountAdd, SplitRef, JoinRef, CountDown, SplitBack, Collect, TotalAdd, JoinKeeper, TotalSub, Keep, KeptSub, Vacate}
 use Rattle.protocol.specs.declared.event.RecordOf.{RecordOf}
-use Rattle.protocol.specs.declared.event.RecordOf.TheVariants.{Search as OfSearch, Passive as OfPassive, Local as OfLocal}
+use Rattle.protocol.specs.declared.event.RecordOf.TheVariants.{Search as OfSearch, Passive as OfPassive, Local as OfLocal, Compared as OfCompared}
 use Rattle.protocol.specs.declared.event.Reply.{Reply}
 use Rattle.protocol.specs.declared.event.Reply.TheVariants.{Done, Word, Found, Missed, Ref, Collected}
 use Rattle.protocol.specs.declared.state.RecordWords.{RecordWords}
@@ -185,6 +185,20 @@ number_standing (Lifted c) = None
 
 abbrev pub load_local : State → ℕ → ℕ → Option Outcome
 load_local s id k = with_some (number_standing (local_at s.locals id)) (λ n. with_some (slot_of s.slots n) (λ t. guard (nat_lt k 5) (some_outcome s (Word (word (row_at s.rows t) k)))))
+
+-- the slot whose entry a search at this place has compared: it isn't the one sought, and the search is to load the link there
+abbrev pub compared_slot : SearchPlace → Option ℕ
+compared_slot AtHead = None
+compared_slot (AtNext t) = Some t
+compared_slot (AtNumber t) = None
+compared_slot (AtKind t n) = None
+compared_slot (AtHigh t n k) = None
+compared_slot (AtLow t n k h) = None
+compared_slot (AtValue t n) = None
+
+-- the value of that entry; nothing changes
+abbrev pub load_compared : State → ℕ → Option Outcome
+load_compared s c = with_some (search_at s c) (λ q. with_some (compared_slot q.place) (λ t. some_outcome s (Word (row_at s.rows t).value)))
 
 -- The list
 
@@ -480,6 +494,7 @@ abbrev pub load_record : State → RecordOf → Option Outcome
 load_record s (OfSearch c) = with_some (search_at s c) (λ q. load_searched s c q q.place)
 load_record s (OfPassive c n k) = load_passive s c n k
 load_record s (OfLocal id k) = load_local s id k
+load_record s (OfCompared c) = load_compared s c
 
 -- What an event does and answers, or None where it isn't allowed.
 abbrev pub step : State → Event → Option Outcome

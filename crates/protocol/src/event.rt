@@ -12,6 +12,8 @@ pub enum RecordOf {
     Passive(u8, u64, u8),
     /// By the local reference with this id: word k, from 0 to 4.
     Local(u64, u8),
+    /// By the search of this CPU: the value of the entry that it has compared and found not to be the one sought. The search stays there.
+    Compared(u8),
 }
 
 /// One atomic step. CPUs and slots count from 0, entries' numbers from 1, local references' ids from 0.

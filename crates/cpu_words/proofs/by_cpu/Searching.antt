@@ -9,10 +9,10 @@ use mathlib.Core.Option.{some, some-ne-none}
 use mathlib.Core.List.{IsPrefix}
 use lib.ListN.{get_elem?}
 use Rattle.atomic_table.specs.Table.{State as Table, keeps, stepped}
-use Rattle.cpu_words.specs.Types.{Name, Kind, Entry, Change, Detach, Settings, Seek, LoadLink, LoadRecord, Reply, Done, Key, SearchPlace, AtHead, AtNext, AtNumber, AtKind, AtHigh, AtLow, AtValue}
+use Rattle.cpu_words.specs.Types.{Name, Kind, Entry, Change, Detach, Settings, Seek, LoadLink, LoadRecord, Compared, Reply, Done, Word, Key, SearchPlace, AtHead, AtNext, AtNumber, AtKind, AtHigh, AtLow, AtValue}
 use Rattle.cpu_words.specs.Types.{RecordWords, Search, Loaded, On, Over, Live, Retired}
 use Rattle.protocol.specs.declared.event.RecordOf.TheVariants.{Search as OfSearch}
-use Rattle.protocol.specs.Common.{IsAttached, EndsAt, IsLiveAt, IsLawful, State, begin_at, seen_at, search_at, found_at, row_at, step, with_some, load_link, link_loaded, load_searched, outcome_of}
+use Rattle.protocol.specs.Common.{IsAttached, EndsAt, IsLiveAt, IsLawful, State, begin_at, seen_at, search_at, found_at, row_at, step, some_outcome, with_some, compared_slot, load_link, link_loaded, load_searched, outcome_of}
 use Rattle.protocol.specs.Common.{word, words_of, loaded_at, loaded_of_name, entry_with, row_of_place, SlotWithin, StandsOn, Leads, To_end, To_entry, Holds, PlaceHolds}
 use Rattle.protocol.specs.History.{change_at}
 use Rattle.registry_values.specs.Common.{are_words_of, slot_at}
@@ -25,11 +25,12 @@ use Rattle.protocol.proofs.keeps.Searching.{Walks, stands_in, words_stand, searc
 use Rattle.cpu_words.specs.Common.{CpuView, View, Cpu, Spot, section_of, passive_of, count_of, head_word, next_of, record_of, total_of, word_at, index, own_of, cpu_view, cpu_of, depth_of, CpuShown}
 use Rattle.cpu_words.specs.Common.{Agrees, Good, Ruled, GoesOn, did, Makes, CpuMay, sought, MaySeek, key_with, search_for, cpu_after_seek, search_with_place, MayLoadLink, link_answer, cpu_after_link}
 use Rattle.cpu_words.specs.Common.{LinkHolds, MayStandOn, Descends, SkipsNone, PassTells, HasFollowed, HasLoadedLink, HasSought, IsAtWord, MayLoadSearched, every_word, loaded_of, loaded_answer}
-use Rattle.cpu_words.specs.Common.{cpu_after_record_word, FoundHolds, HasSearched, HasLoadedWord}
+use Rattle.cpu_words.specs.Common.{cpu_after_record_word, FoundHolds, HasSearched, HasLoadedWord, tells_compared}
 use Rattle.cpu_words.proofs.laws.Reaching.{goes_both}
 use Rattle.cpu_words.proofs.shown.Placing.{agrees_same}
 use Rattle.protocol.proofs.history.History.{at_prefix}
 use Rattle.cpu_words.proofs.shown.Passes.{attached_take, attached_prefix, taken_is_prefix, prefix_longer, take_whole}
+use Rattle.cpu_words.proofs.by_cpu.Reading.{keeps_view}
 use Rattle.cpu_words.proofs.by_cpu.CpuSteps.{CpuLists, lists_of, with_lists, same_counts, shown_on, found_on, cpu_makes}
 use Rattle.cpu_words.proofs.shown.Seeing.{seen_of, idle_of}
 
@@ -522,6 +523,48 @@ load_searched_may z x c t k id may = subst (λ d. CpuMay z x (index (record_of t
         (
           subst (λ (a : Reply). Makes (LoadRecord (OfSearch x.id)) a (Cpu x) (Cpu done.0)) answer done.2,
           λ p is. subst (λ (u : Search). HasSearched x u m done.0) (same_Some q p (sym may.under_way ∙ is)) done.3,
+        ),
+      ),
+    ))
+
+-- The value of the entry that a search has compared: nothing changes
+
+pub load_compared_may : (z : Settings) (x : CpuView) (c t : ℕ) → x.id ≡ c → MayLoadLink x t
+    → CpuMay z x (index (record_of t 4)) (λ n. n) (λ n. did (LoadRecord (Compared c)) (Word n)) (tells_compared (LoadRecord (Compared c)) (index (record_of t 4)))
+load_compared_may z x c t id may = subst (λ d. CpuMay z x (index (record_of t 4)) (λ n. n) (λ n. did (LoadRecord (Compared d)) (Word n))
+    (tells_compared (LoadRecord (Compared d)) (index (record_of t 4)))) id
+    (λ s r i at fits.
+    let g = r.g in
+    let q = may.search in
+    let had : CpuShown g x = (r.shows.fits i (Cpu x) at).1 in
+    let seen = seen_of g x r.good had in
+    let on = r.good.holds in
+    let sees = seen_at g x.id in
+    let searching : search_at g x.id ≡ Some q = sym seen.search ∙ may.under_way in
+    let walk : Walks g x.id q.start = search_walks g x.id q on searching in
+    let within = subst (λ (p : SearchPlace). SlotWithin p (length g.slots)) may.place (search_within g x.id q on searching) in
+    let lt : t < g.settings.slots = omega (arith, within, on.shape.slots) in
+    let found = slice_index s.words (index (record_of t 4)) in
+    let stands : found ≡ (row_at g.rows t).value = r.words.at (record_of t 4) (lt, omega arith) in
+    let made : step g (LoadRecord (Compared x.id)) ≡ Some (record { state = g; reply = Word found }) =
+    ap (λ (o : Option Search). with_some o (λ p. with_some (compared_slot p.place) (λ u. some_outcome g (Word (row_at g.rows u).value)))) searching
+    ∙ ap (λ (p : SearchPlace). with_some (compared_slot p) (λ u. some_outcome g (Word (row_at g.rows u).value))) may.place
+    ∙ (λ j. Some (record { state = g; reply = Word (sym stands j) })) in
+    let done = keeps_view z s r i (Cpu x) (record_of t 4) (LoadRecord (Compared x.id)) (Word found) at (lt, omega arith) made (refl, refl, refl) in (
+      Cpu x,
+      done.0,
+      (
+        refl,
+        (
+          done.1,
+          refl,
+          λ u place p e under stood.
+              let same : u ≡ t = omega (arith, place) in
+              let one : p ≡ q = same_Some p q (sym under ∙ may.under_way) in
+              let there : MayStandOn x.pass q t e = subst (λ (v : ℕ). MayStandOn x.pass q v e) same (subst (λ (w : Search). MayStandOn x.pass w u e) one stood) in
+              let by_pass : MayStandOn (take sees g.history) q t e = subst (λ (l : List Change). MayStandOn l q t e) seen.pass there in
+              let by_history = stands_by_history g.history sees t q e seen.within (on.searches x.id q searching).started by_pass in
+              sym (stands ∙ ap (λ (w : RecordWords). w.value) (words_stand g x.id q.start sees t e on walk by_history)),
         ),
       ),
     ))

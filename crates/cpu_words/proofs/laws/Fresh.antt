@@ -9,7 +9,7 @@ use mathlib.Core.Option.{some}
 use lib.ListN.{get_elem?}
 use Rattle.atomic_table.specs.Table.{State as Table}
 use Rattle.atomic_table.proofs.Lists.{at_map}
-use Rattle.cpu_words.specs.Types.{Key, Entry, Change, Settings, Event, Enter, Hear, Seek, LoadLink, LoadRecord, RecordOf, Passive, Local, Reply, Done, Word, Found, Missed, Ref, Collected}
+use Rattle.cpu_words.specs.Types.{Key, Entry, Change, Settings, Event, Enter, Hear, Seek, LoadLink, LoadRecord, RecordOf, Passive, Local, Compared, Reply, Done, Word, Found, Missed, Ref, Collected}
 use Rattle.registry_values.specs.Common.{are_fit}
 use Rattle.protocol.specs.declared.event.RecordOf.TheVariants.{Search as OfSearch}
 use Rattle.protocol.specs.Common.{State, opening, Outcome, step, state_after, Holds, seen_at, after, after_event, IsAllowed, IsLoadOf, answer_of, IsNoSeek, SeeksNone, IsFreshAnswer, seek_for}
@@ -60,6 +60,7 @@ load_from : (s : State) (c : ℕ) (of : RecordOf) (d : Event) → d ≡ by_numbe
 load_from s c (OfSearch b) d is load = sym is ∙ load
 load_from s c (Passive b n k) d is load = absurd (let q : LoadRecord (Passive b n k) ≡ LoadRecord (OfSearch c) = sym is ∙ load in cc)
 load_from s c (Local id k) d is load = absurd (let q : by_number s (LoadRecord (Local id k)) ≡ LoadRecord (OfSearch c) = sym is ∙ load in cc)
+load_from s c (Compared b) d is load = absurd (let q : LoadRecord (Compared b) ≡ LoadRecord (OfSearch c) = sym is ∙ load in cc)
 
 load_as : (s : State) (c : ℕ) (e d : Event) → d ≡ by_number s e → d ≡ LoadRecord (OfSearch c) → e ≡ LoadRecord (OfSearch c)
 load_as s c (LoadRecord of) d is load = load_from s c of d is load

@@ -3,7 +3,7 @@ use Rattle.std.proofs.Common.{◌≡◌, ℕ, zero, suc, nat_lt, ◌+◌, ◌==�
 use Rattle.std.proofs.lemmas.Bool.{and_parts, eqb-true}
 use Rattle.cpu_words.specs.Types.{Entry, Slot, Vacant, Live, Retired, Event, Seat, Enter, Exit, Seek, LoadLink, LoadRecord, StoreSlot, StoreNext, Publish, Unpublish, Tell, Hear, Snapshot, Look}
 use Rattle.cpu_words.specs.Types.{PassiveAdd, PassiveSub, PassiveLook, CountAdd, SplitRef, JoinRef, CountDown, SplitBack, Collect, TotalAdd, JoinKeeper, TotalSub, Keep, KeptSub, Vacate, RecordOf}
-use Rattle.cpu_words.specs.Types.{Passive, Local, Reply, Done, Word, Due, Rest, Snapshots, Adding, Subtracting, Hand, Empty, Taking, Giving, Back, Search, Loaded, On, Over}
+use Rattle.cpu_words.specs.Types.{Passive, Local, Compared, Reply, Done, Word, Due, Rest, Snapshots, Adding, Subtracting, Hand, Empty, Taking, Giving, Back, Search, Loaded, On, Over}
 use Rattle.registry_values.specs.Common.{bias, slot_at, slot_of, slot_before}
 use Rattle.protocol.specs.declared.event.RecordOf.TheVariants.{Search as OfSearch}
 use Rattle.protocol.specs.Common.{State, search_at, found_at, hand_at, row_at, count_at, total_at, kept_at, local_at, at_rest, loaded_at, row_of_place, Outcome, guard, some_outcome, with_some, step}
@@ -75,6 +75,8 @@ record_dues s (OfSearch c) = on_some s (LoadRecord (OfSearch c)) (search_at s c)
 record_dues s (Passive c n k) = on_some s (LoadRecord (Passive c n k)) (slot_of s.slots n) _ (λ t of. on_made s (LoadRecord (Passive c n k)) _ _ _ refl (λ may u d is. is) (λ may. (refl, refl)))
 record_dues s (Local id k) = on_some s (LoadRecord (Local id k)) (Events.number_standing (local_at s.locals id)) _
     (λ n of. on_some s (LoadRecord (Local id k)) (slot_of s.slots n) _ (λ t of. on_made s (LoadRecord (Local id k)) _ _ _ refl (λ may u d is. is) (λ may. (refl, refl))))
+record_dues s (Compared c) = on_some s (LoadRecord (Compared c)) (search_at s c) _
+    (λ q of. on_some s (LoadRecord (Compared c)) (Events.compared_slot q.place) _ (λ t at. (refl, λ u d is. is, (refl, refl))))
 
 tell_dues : (s : State) (to : Option ℕ) → Dues s (Tell to) (Events.tell s to)
 tell_dues s None = on_made s (Tell None) _ _ _ refl (λ may u d is. is) (λ may. (refl, refl))

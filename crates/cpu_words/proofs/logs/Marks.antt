@@ -6,7 +6,7 @@ use Rattle.std.proofs.lemmas.List.{get_or_past, set_past}
 use Rattle.std.proofs.lemmas.Option.{none-some, same_Some}
 use Rattle.cpu_words.specs.Types.{Mark, Slot, Vacant, Live, Retired, Settings, MOST_CPUS, Event, Seat, Enter, Exit, Seek, LoadLink, LoadRecord, StoreSlot, StoreNext, Publish, Unpublish, Tell, Hear}
 use Rattle.cpu_words.specs.Types.{Snapshot, Look, PassiveAdd, PassiveSub, PassiveLook, CountAdd, SplitRef, JoinRef, CountDown, SplitBack, Collect, TotalAdd, JoinKeeper, TotalSub, Keep, KeptSub}
-use Rattle.cpu_words.specs.Types.{Vacate, RecordOf, Passive, Local, Reply, Done, Word, Due, Rest, Snapshots, Adding, Subtracting, Hand, Empty, Taking, Giving, Back, Search, Loaded, On, Over}
+use Rattle.cpu_words.specs.Types.{Vacate, RecordOf, Passive, Local, Compared, Reply, Done, Word, Due, Rest, Snapshots, Adding, Subtracting, Hand, Empty, Taking, Giving, Back, Search, Loaded, On, Over}
 use Rattle.registry_values.specs.Common.{no_mark, is_even, has_changed, mark_after_look, mark_after_passive_look, mark_after_collect, slot_at, slot_of, slot_before}
 use Rattle.protocol.specs.declared.event.RecordOf.TheVariants.{Search as OfSearch}
 use Rattle.protocol.specs.Common.{State, with_cell, section_at, search_at, found_at, hand_at, row_at, mark_at, kept_at, local_at, opening, loaded_at, row_of_place, Outcome, guard, some_outcome}
@@ -69,6 +69,8 @@ record_marks s (OfSearch c) = on_some s (LoadRecord (OfSearch c)) (search_at s c
 record_marks s (Passive c n k) = on_some s (LoadRecord (Passive c n k)) (slot_of s.slots n) _ (λ t. on_made s (LoadRecord (Passive c n k)) _ _ _ refl tt)
 record_marks s (Local id k) = on_some s (LoadRecord (Local id k)) (Events.number_standing (local_at s.locals id)) _
     (λ n. on_some s (LoadRecord (Local id k)) (slot_of s.slots n) _ (λ t. on_made s (LoadRecord (Local id k)) _ _ _ refl tt))
+record_marks s (Compared c) = on_some s (LoadRecord (Compared c)) (search_at s c) _
+    (λ q. on_some s (LoadRecord (Compared c)) (Events.compared_slot q.place) _ (λ t. (refl, tt)))
 
 tell_marks : (s : State) (to : Option ℕ) → Marks s (Tell to) (Events.tell s to)
 tell_marks s None = on_made s (Tell None) _ _ _ refl tt

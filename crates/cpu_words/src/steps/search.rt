@@ -2,12 +2,12 @@
 //! Slots are as wide as an address here: to widen a byte would stand between a link's load and the next one.
 
 ghost use Rattle.std.specs.Prelude.{◌≡◌, ◌<◌, ◌≤◌, ◌-◌, ◌++◌};
-ghost use Rattle.cpu_words.specs.Types.{Seek, LoadLink, LoadRecord, Done};
+ghost use Rattle.cpu_words.specs.Types.{Seek, LoadLink, LoadRecord, Compared, Done, Word};
 ghost use Rattle.protocol.specs.declared.event.RecordOf.TheVariants.{Search as OfSearch};
 ghost use Rattle.cpu_words.specs.declared.view.View.TheVariants.{Cpu};
 ghost use Rattle.cpu_words.specs.Rule.{did};
 ghost use Rattle.cpu_words.specs.Steps.{Makes, SeatGoesOn, SeatMakes};
-ghost use Rattle.cpu_words.specs.Searching.{MaySeek, key_with, search_for, cpu_after_seek, MayLoadLink, link_answer, HasFollowed, HasLoadedLink, MayLoadSearched, loaded_of, loaded_answer, HasLoadedWord};
+ghost use Rattle.cpu_words.specs.Searching.{MaySeek, key_with, search_for, cpu_after_seek, MayLoadLink, link_answer, HasFollowed, HasLoadedLink, MayLoadSearched, loaded_of, loaded_answer, HasLoadedWord, IsValueThere};
 
 use crate::law::Words;
 use crate::layout::{HEAD, linked_place, record_place};
@@ -63,4 +63,21 @@ pub fn load_searched(words: &Words, seat: &mut CpuSeat, cpu: u8, slot: usize, k:
         record_place(slot, k),
         Event::LoadRecord(RecordOf::Search(cpu)),
     )
+}
+
+/// The search of CPU `cpu` loads the value of the entry in `slot`, which it has compared: it isn't the one sought. The search stays where
+/// it is. Returns the value.
+/// Condition: the seat is that CPU's, and its search is at the link of that slot; slots count from 0.
+pub fn load_compared(words: &Words, seat: &mut CpuSeat, cpu: u8, slot: usize) -> u64
+    requires table { seat.old.table ≡ words.now.table }
+    requires cpu { (cpu < MOST_CPUS) × (seat.old.view.id ≡ cpu) }
+    requires slot { slot < MOST_SLOTS }
+    requires may { MayLoadLink seat.old.view slot }
+    ensures step { SeatMakes Cpu (LoadRecord (Compared cpu)) (Word result) seat.old seat.new }
+    ensures same { seat.new.view ≡ seat.old.view }
+    ensures value { IsValueThere seat.old.view slot result }
+{
+    let word = record_place(slot, 4);
+    let event = Event::LoadRecord(RecordOf::Compared(cpu));
+    by_cpu::load::<Brand>(words, seat, word, event)
 }

@@ -53,6 +53,7 @@ impl Core {
             RecordOf::Search(c) => self.load_searched(c),
             RecordOf::Passive(c, number, k) => self.load_by_passive(c, number, k),
             RecordOf::Local(id, k) => self.load_by_local(id, k),
+            RecordOf::Compared(c) => self.load_compared(c),
         }
     }
 }

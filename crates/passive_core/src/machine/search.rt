@@ -2,7 +2,7 @@
 
 ghost use Rattle.std.specs.Prelude.{◌≡◌, ◌<◌, ◌≤◌, Some, IsTrue, length};
 ghost use Rattle.passive_core.specs.Types.{Seek, LoadLink, LoadRecord};
-ghost use Rattle.protocol.specs.declared.event.RecordOf.TheVariants.{Search as OfSearch};
+ghost use Rattle.protocol.specs.declared.event.RecordOf.TheVariants.{Search as OfSearch, Compared as OfCompared};
 ghost use Rattle.protocol.specs.Common.{may_seek, with_search_at, search_over, link_loaded, Holds, SlotWithin, loaded_at, row_of_place, entry_with, Keeps, Steps};
 
 use crate::machine::{Core, NO_WORDS};
@@ -107,6 +107,20 @@ impl Core {
                 self.end_search(c, Some(entry));
                 Ok(Reply::Found(entry))
             }
+        }
+    }
+
+    /// The value of the entry that a search has compared and found not to be the one sought.
+    pub(crate) fn load_compared(&self, c: u8) -> Result<Reply, StepFault>
+        ensures { Steps self.now self.now (LoadRecord (OfCompared c)) result }
+    {
+        let Some(search) = self.search_at(c) else {
+            return Err(StepFault::NotAllowed);
+        };
+        let row = row_of_place(&self.rows, search.place);
+        match search.place {
+            SearchPlace::AtNext(_) => Ok(Reply::Word(row.value)),
+            _ => Err(StepFault::NotAllowed),
         }
     }
 }

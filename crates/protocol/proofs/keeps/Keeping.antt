@@ -18,7 +18,7 @@ use Rattle.protocol.proofs.keeps.References.{snapshot_due_tells}
 use Rattle.protocol.proofs.keeps.SearchKeeps.{link_keeps, record_keeps, seek_keeps}
 use Rattle.protocol.proofs.keeps.SectionKeeps.{enter_keeps, exit_keeps, hear_keeps, seat_keeps}
 use Rattle.protocol.specs.Common.{Outcome, after_count_store, after_kept_sub, after_look, after_look_passive, after_publish, after_row_store, after_snapshot, after_unpublish, after_vacate, count_down}
-use Rattle.protocol.specs.Common.{entry_of, exchange, guard, hear, is_bias, is_drained, is_iface_slot, is_idle, is_snapshot_due, kept_sub, load_record, look, may_add, may_collect, may_count}
+use Rattle.protocol.specs.Common.{compared_slot, entry_of, exchange, guard, hear, is_bias, is_drained, is_iface_slot, is_idle, is_snapshot_due, kept_sub, load_record, look, may_add, may_collect, may_count}
 use Rattle.protocol.specs.Common.{may_enter, may_examine, may_exit, may_glance, may_join_keeper, may_keep, may_look_passive, may_publish, may_seat, may_seek, may_sub, may_vacate, may_write, snapshot}
 use Rattle.protocol.specs.Common.{snapshot_mark, split_back, split_ref, number_standing, state_after, step, store_slot, some_outcome, tell, total_add, total_sub, unpublish, with_some, Holds, held_at}
 use Rattle.protocol.specs.Common.{Run, run_of_events, run_with_event, at_rest, State, found_at, hand_at, kept_at, local_at, mark_at, opening, passive_at, row_at, search_at, section_at, total_at}
@@ -27,7 +27,7 @@ use Rattle.protocol.specs.Common.{PassiveLook, CountAdd, SplitRef, JoinRef, Coun
 use Rattle.protocol.specs.Common.{Snapshots, Subtracting, Hand, Back, Giving, Taking, Standing}
 use Rattle.registry_values.specs.Common.{mark_after_passive_look, mark_after_look, slot_of, slot_at, are_fit, bias}
 use Rattle.protocol.specs.Types.{Entry, Settings, Slot, Live, Retired}
-use Rattle.protocol.specs.declared.event.RecordOf.TheVariants.{Search as OfSearch, Passive as OfPassive, Local as OfLocal}
+use Rattle.protocol.specs.declared.event.RecordOf.TheVariants.{Search as OfSearch, Passive as OfPassive, Local as OfLocal, Compared as OfCompared}
 
 -- The list
 
@@ -138,6 +138,7 @@ load_record_keeps : (s : State) (of : RecordOf) → Holds s → Keeps (load_reco
 load_record_keeps s (OfSearch c) on = some_keeps (search_at s c) _ (λ q is. record_keeps s c q on is)
 load_record_keeps s (OfPassive c n k) on = some_keeps (slot_of s.slots n) _ (λ t of. guard_keeps (is_idle s c && (nat_lt 0 (passive_at s.passive c t) && nat_lt k 5)) _ (λ may. on))
 load_record_keeps s (OfLocal id k) on = standing_keeps s id _ (λ n at. some_keeps (slot_of s.slots n) _ (λ t of. guard_keeps (nat_lt k 5) _ (λ may. on)))
+load_record_keeps s (OfCompared c) on = some_keeps (search_at s c) _ (λ q is. some_keeps (compared_slot q.place) _ (λ t at. on))
 
 split_hand_keeps : (s : State) (c : ℕ) (h : Hand) → Holds s → hand_at s c ≡ h → Keeps (split_ref s c h)
 split_hand_keeps s c (Taking n) on is = split_keeps s c n on is

@@ -7,7 +7,7 @@ use Rattle.protocol.specs.Common.{CountAdd, SplitRef, JoinRef, CountDown, SplitB
 use Rattle.protocol.specs.Common.{Empty, Taking, Giving, Back, Lifted, Due, Adding, Subtracting, State, opening, section_at, search_at, found_at, row_at, passive_at, count_at, total_at, hand_at}
 use Rattle.protocol.specs.Common.{kept_at, local_at, at_rest, Outcome, guard, some_outcome, step, Run, run_with_event, run_of_events, empty_run, Holds, Model, empty_model, IsModelRun, Stays}
 use Rattle.protocol.specs.Common.{passive_in, lookup_of, number_in, picture, EveryRunIsModelRun}
-use Rattle.protocol.specs.declared.event.RecordOf.TheVariants.{Search as OfSearch, Passive as OfPassive, Local as OfLocal}
+use Rattle.protocol.specs.declared.event.RecordOf.TheVariants.{Search as OfSearch, Passive as OfPassive, Local as OfLocal, Compared as OfCompared}
 use Rattle.registry_values.specs.Common.{bias, slot_at, slot_of}
 use Rattle.protocol.specs.Events
 use Rattle.protocol.proofs.slots.Occupied.{at_rest_tells}
@@ -50,6 +50,9 @@ load_record_makes s (OfLocal id k) on =
     (λ n. Events.with_some (slot_of s.slots n) (λ t. guard (nat_lt k 5) (some_outcome s (Word (Events.word (row_at s.rows t) k)))))
     (λ n at. makes_some (picture s) (slot_of s.slots n) (λ t. guard (nat_lt k 5) (some_outcome s (Word (Events.word (row_at s.rows t) k))))
     (λ t is. stays_make s s (nat_lt k 5) (Word (Events.word (row_at s.rows t) k)) Stays))
+load_record_makes s (OfCompared c) on =
+    makes_some (picture s) (search_at s c) (λ q. Events.with_some (Events.compared_slot q.place) (λ t. some_outcome s (Word (row_at s.rows t).value)))
+    (λ q is. makes_some (picture s) (Events.compared_slot q.place) (λ t. some_outcome s (Word (row_at s.rows t).value)) (λ t at now. Stays))
 
 store_slot_makes : (s : State) (t k v : ℕ) → Makes (picture s) (Events.store_slot s t k v)
 store_slot_makes s t k v =

@@ -8,7 +8,7 @@ use Rattle.protocol.specs.Common.{Due, Adding, Subtracting, Loaded, On, Over, Se
 use Rattle.protocol.specs.Common.{loaded_at, row_of_place, Outcome, guard, some_outcome, with_some, step, state_after, is_idle, may_enter, after_enter, may_exit, after_exit, may_seek, after_seek}
 use Rattle.protocol.specs.Common.{after_seeing, link_loaded, entry_of, may_publish, after_publish, with_link_past, with_retired, after_unpublish, may_keep, after_keep, is_drained, after_kept_sub}
 use Rattle.protocol.specs.Common.{may_vacate, after_vacate, Holds, Run, run_of_events, empty_run, run_with_event, after, after_event, answer_of, IsLoadOf}
-use Rattle.protocol.specs.declared.event.RecordOf.TheVariants.{Search as OfSearch, Passive as OfPassive, Local as OfLocal}
+use Rattle.protocol.specs.declared.event.RecordOf.TheVariants.{Search as OfSearch, Passive as OfPassive, Local as OfLocal, Compared as OfCompared}
 use Rattle.registry_values.specs.Common.{slot_at, slot_of, slot_before}
 use Rattle.protocol.specs.Events
 use Rattle.protocol.proofs.keeps.SearchKeeps.{AnswersLookup, link_answers, record_answers}
@@ -116,6 +116,9 @@ record_sort s (OfLocal id k) on = sort_some s (LoadRecord (OfLocal id k)) (Event
     (λ n at. sort_some s (LoadRecord (OfLocal id k)) (slot_of s.slots n) _
     (λ t of. sort_guard s (LoadRecord (OfLocal id k)) _ _ (λ may. left s s (LoadRecord (OfLocal id k)) _
     (record { history = refl; slots = refl; keeps = refl; section = refl; begins = refl; seen = refl; searches = refl; reply = refl }))))
+record_sort s (OfCompared c) on = sort_some s (LoadRecord (OfCompared c)) (search_at s c) _
+    (λ q is. sort_some s (LoadRecord (OfCompared c)) (Events.compared_slot q.place) _ (λ t at. left s s (LoadRecord (OfCompared c)) _
+    (record { history = refl; slots = refl; keeps = refl; section = refl; begins = refl; seen = refl; searches = refl; reply = refl })))
 
 -- The events that take cases
 

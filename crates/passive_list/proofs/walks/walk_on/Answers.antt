@@ -1,9 +1,9 @@
 -- The data agree with the view as a walk is over.
-use Rattle.std.proofs.Common.{◌≡◌, ℕ, Option, None, take, refl, sym, ap, ◌∙◌, subst}
+use Rattle.std.proofs.Common.{◌≡◌, ℕ, Option, None, length, take, refl, sym, ap, ◌∙◌, subst}
 use Rattle.passive_list.specs.Types.{Search}
 use Rattle.passive_list.specs.Common.{OnCpu, OnPlainCpu, HasGoneOverBy, HasWalked}
 use Rattle.passive_list.proofs.Agreeing.{seen_agrees, own_agrees}
-use Rattle.passive_list.proofs.FoundAgain.{walked}
+use Rattle.passive_list.proofs.GoingOver.{walked}
 use Rattle.passive_list.proofs.walks.walk_on.Goals as goal
 
 pub invariant_of-cpu : goal.invariant_of-cpu
@@ -21,7 +21,6 @@ returns-clause-walked c =
     let a : OnCpu = record { view = x.view; depth = c.cpu.inside.depth; made = 0; known_log = x.known_log; log = x.log } in
     let b : OnCpu = record { view = y.view; depth = c.cpu.inside.depth; made = 0; known_log = y.known_log; log = y.log } in
     let row = take c.go_over-count.result c.go_over-count.new.row in
-    let by = c.go_over-count.ensures.log in
-    let log = subst (λ (i : ℕ). HasGoneOverBy i x.view.settings.slots by.0 row x.log y.log) (sym c.cpu.invariant.id) by.2 in
+    let log = subst (λ (i : ℕ). HasGoneOverBy i x.view.settings.slots (length row) x.log y.log) (sym c.cpu.invariant.id) c.go_over-count.ensures.log in
     subst (λ (v : OnPlainCpu). HasWalked v.cpu b row) c.cpu.view_is
-    (walked a b row c.cpu.invariant.idle.search c.go_over-count.ensures.change refl refl c.go_over-count.ensures.known_log by.0 by.1 log)
+    (walked a b row c.cpu.invariant.idle.search c.go_over-count.ensures.change refl refl c.go_over-count.ensures.known_log log)

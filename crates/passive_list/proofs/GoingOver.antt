@@ -1,7 +1,7 @@
--- The first part of a walk: each slot on the list is noted, and a link leads past none that has been live since.
-use Rattle.std.proofs.Common.{◌≡◌, ◌≢◌, ◌⊎◌, inl, inr, ⊎_elim, ℕ, zero, suc, ◌+◌, ◌-◌, ◌≤◌, ◌<◌, Bool, true, false, ◌&&◌, ◌==◌, List, [], ◌∷◌, ◌++◌, map, length, get_or, set, Option, Some, None, refl}
-use Rattle.std.proofs.Common.{sym, ap, ◌∙◌, subst, arith, length-append, true≢false, eqb, eqb-true}
-use Rattle.std.proofs.lemmas.List.{map-append, length-map, get_or-map, take_more_set}
+-- A walk: its search goes by each slot on the list, and a link leads past none that has been live since. So the row has each entry that is live throughout.
+use Rattle.std.proofs.Common.{◌≡◌, ◌≢◌, ◌⊎◌, inl, inr, ⊎_elim, ℕ, zero, suc, ◌+◌, ◌-◌, ◌≤◌, ◌<◌, Bool, true, false, ◌&&◌, ◌==◌, List, [], ◌∷◌, ◌++◌, map, length, get_or, set, take, drop, Option, Some, None, refl}
+use Rattle.std.proofs.Common.{sym, ap, ◌∙◌, subst, arith, length-append, true≢false, eqb, eqb-true, drop-set-lt, drop-drop}
+use Rattle.std.proofs.lemmas.List.{length-map, length-take-le, get_or-map, take_more_set}
 use Rattle.std.proofs.lemmas.List.Elements.{Contains-get_or, Contains-push, Contains-push_cases, Contains-append_left}
 use Rattle.std.proofs.lemmas.List.Quantifiers.{all_pairs_push}
 use Rattle.std.proofs.lemmas.List.Folds.{Any-from_list_any}
@@ -11,16 +11,17 @@ use Rattle.std.proofs.lemmas.Bool.{cases_lt, and_parts}
 use Rattle.std.proofs.lemmas.Bool.Decides.{Decides-eqb}
 use Rattle.std.specs.List.{AllPairs, Contains, list_any}
 use mathlib.Core.List.{IsPrefix}
-use Rattle.passive_list.specs.Types.{Entry, Change, Iface, MOST_SLOTS, AtNext, AtNumber, AtKind, AtHigh, AtLow, On, CpuView}
+use Rattle.passive_list.specs.Types.{Entry, Kind, Iface, Name, Change, MOST_SLOTS, AtNext, AtNumber, AtKind, AtHigh, AtLow, On, Search, CpuView}
 use Rattle.registry_values.specs.Names.{are_name_words}
 use Rattle.registry_values.specs.Common.{are_words_of, kind_word}
 use Rattle.protocol.specs.Common.{StandsOn, loaded_at}
 use Rattle.protocol.proofs.history.History.{one_entry}
-use Rattle.cpu_words.specs.Common.{MayLoadLink, PassTells, SkipsNone, Descends, LinkHolds, every_word, HasLoadedLink, HasLoadedWord, HasFollowed, cpu_after_seek, cpu_after_link, search_for}
-use Rattle.passive_list.specs.Common.{Noted, search_at, IsUnderWay, MayVisit, cpu_with_search_at, after_visit, nobody, noted_of, AreStoodOn, HasNotedFrom, HasNoted, view_at_link, IsLiveSince}
-use Rattle.passive_list.specs.Common.{GoesOnAt, IsNoting, HasNotedSoFar}
+use Rattle.cpu_words.specs.Common.{MayLoadLink, PassTells, SkipsNone, Descends, LinkHolds, every_word, HasLoadedLink, HasLoadedWord, HasFollowed, IsValueThere, cpu_after_seek, cpu_after_link}
+use Rattle.cpu_words.specs.Common.{search_for}
+use Rattle.passive_list.specs.Common.{OnCpu, search_at, IsUnderWay, cpu_with_search_at, after_visit, nobody, AreStoodOn, MayGoBy, HasGoneByFrom, HasGoneByOne, view_at_link, IsLiveSince}
+use Rattle.passive_list.specs.Common.{GoesOnAt, IsGoingOver, HasGoneOver, HasGoneOverBy, HasWalked}
 use Rattle.passive_list.proofs.Walking.{prefix_trans, on_word, judged_at, may_follow}
-use Rattle.passive_list.proofs.Standing.{prefix_length, stands_later, live_before}
+use Rattle.passive_list.proofs.Standing.{prefix_length, stands_later, live_before, stood_was_live}
 
 -- One slot
 
@@ -41,9 +42,19 @@ unnamed kind high low named = by_cases (are_words_of nobody kind high low) refl
         let l : low ≡ 0 = eqb-true low 0 both.1 in
         absurd (no_zeros (sym (λ i. are_name_words (h i) (l i)) ∙ named))
 
-pub noted : (x y1 y2 y3 y4 : CpuView) (t n k h l : ℕ) → HasLoadedWord x n y1 → HasLoadedWord y1 k y2 → HasLoadedWord y2 h y3 → HasLoadedWord y3 l y4
-    → HasNoted x t (record { number = n; kind = k; high = h; low = l }) y4
-noted x y1 y2 y3 y4 t n k h l had1 had2 had3 had4 from at tells =
+-- the words that the search compares were loaded: they are those of an entry on which it may stand, and not those that it seeks
+pub record HasCompared (x : CpuView) (from t n k h l : ℕ) (y : CpuView) : Type 0 where
+  pub is : y ≡ cpu_with_search_at x nobody from (AtNext t)
+  pub entry : Entry
+  pub stands : StandsOn x.pass from (length x.pass) t entry
+  pub number : entry.number ≡ n
+  pub kind : kind_word entry.rec.kind ≡ k
+  pub high : entry.rec.name.high ≡ h
+  pub low : entry.rec.name.low ≡ l
+
+pub compared : (x y1 y2 y3 y4 : CpuView) (from t n k h l : ℕ) → HasLoadedWord x n y1 → HasLoadedWord y1 k y2 → HasLoadedWord y2 h y3 → HasLoadedWord y3 l y4
+    → IsUnderWay x nobody from (AtNumber t) → PassTells x.begin from x.pass → HasCompared x from t n k h l y4
+compared x y1 y2 y3 y4 from t n k h l had1 had2 had3 had4 at tells =
     let key = nobody in
     let is1 : y1 ≡ cpu_with_search_at x key from (AtKind t n) = on_word x y1 key from (AtNumber t) (AtKind t n) n n at refl had1 in
     let at1 : IsUnderWay y1 key from (AtKind t n) = ap (λ (v : CpuView). v.search) is1 in
@@ -75,8 +86,40 @@ noted x y1 y2 y3 y4 t n k h l had1 had2 had3 had4 from at tells =
           ∙ ap (λ (b : Bool). cpu_with_search_at x key from (after_visit t n b)) none;
       entry = e;
       stands = stands;
-      noted = λ i. record { number = sym number.2 i; kind = sym kind i; high = sym high i; low = sym low i };
+      number = number.2;
+      kind = kind;
+      high = high;
+      low = low;
     }
+
+pub may_load_value : (x y : CpuView) (from t n k h l : ℕ) → HasCompared x from t n k h l y → MayLoadLink y t
+may_load_value x y from t n k h l had = may_follow y nobody from t (ap (λ (v : CpuView). v.search) had.is)
+
+-- and so was the value
+pub gone_by : (x y z : CpuView) (from t n k h l value : ℕ) (kind : Kind) (name : Name) → HasCompared x from t n k h l y → IsValueThere y t value → z ≡ y
+    → ((c : Kind) → k ≡ kind_word c → kind ≡ c) → name ≡ record { high = h; low = l } → HasGoneByFrom x from t (record { number = n; slot = t; rec = record { kind = kind; name = name; value = value } }) z
+gone_by x y z from t n k h l value kind name had there same kinds named = record {
+  is = same ∙ had.is;
+  stands = subst (StandsOn x.pass from (length x.pass) t) entry_is had.stands;
+}
+  where
+    e : Entry
+    e = had.entry
+
+    pass : y.pass ≡ x.pass
+    pass = ap (λ (v : CpuView). v.pass) had.is
+
+    value_is : e.rec.value ≡ value
+    value_is = there (search_at nobody from (AtNext t)) e (ap (λ (v : CpuView). v.search) had.is) (subst (λ (p : List Change). StandsOn p from (length p) t e) (sym pass) had.stands)
+
+    kind_is : kind ≡ e.rec.kind
+    kind_is = kinds e.rec.kind (sym had.kind)
+
+    name_is : e.rec.name ≡ name
+    name_is = (λ i. record { high = had.high i; low = had.low i }) ∙ sym named
+
+    entry_is : e ≡ record { number = n; slot = t; rec = record { kind = kind; name = name; value = value } }
+    entry_is = λ i. record { number = had.number i; slot = had.stands.at i; rec = record { kind = sym kind_is i; name = name_is i; value = value_is i } }
 
 -- No more than there are slots
 
@@ -121,12 +164,12 @@ few_stood_on begin h from slots es tells on = (few slots (λ e there. (on.slot e
 -- From one slot to the next
 
 -- the head was loaded
-pub noting_begins : (x y : CpuView) (m : ℕ) → HasFollowed (cpu_after_seek nobody x) (search_for nobody x) m y → IsNoting x [] m y
-noting_begins x y m had = record {
+pub going_begins : (x y : CpuView) (m : ℕ) → HasFollowed (cpu_after_seek nobody x) (search_for nobody x) m y → IsGoingOver x [] m y
+going_begins x y m had = record {
   pass = had.pass;
   is = is_at m had.is;
   tells = had.tells;
-  noted = record { stands = λ e there. absurd (omega (arith, there.1)); slot = λ e there. absurd (omega (arith, there.1)); newest_first = λ i j d lt within. absurd (omega (arith, within)) };
+  over = record { stands = λ e there. absurd (omega (arith, there.1)); slot = λ e there. absurd (omega (arith, there.1)); newest_first = λ i j d lt within. absurd (omega (arith, within)) };
   goes_on = goes_on m had.holds (had.first refl);
 }
   where
@@ -139,36 +182,36 @@ noting_begins x y m had = record {
     goes_on (suc t) holds skips = (holds, λ e stands. (λ f there. absurd (omega (arith, there.1)), λ f live. inl (skips e f stands live.0 live.1 (omega (arith, live.1.begun)))))
 
 -- the search is under way at the slot of the link, and its section is the one that was open
-pub noting_on : (x y : CpuView) (es : List Entry) (t : ℕ) → IsNoting x es (suc t) y → IsUnderWay y nobody (length x.pass) (AtNumber t)
-noting_on x y es t at = ap (λ (v : CpuView). v.search) at.is
+pub going_on : (x y : CpuView) (es : List Entry) (t : ℕ) → IsGoingOver x es (suc t) y → IsUnderWay y nobody (length x.pass) (AtNumber t)
+going_on x y es t at = ap (λ (v : CpuView). v.search) at.is
 
-tells_on : (x y : CpuView) (es : List Entry) (t : ℕ) → IsNoting x es (suc t) y → PassTells y.begin (length x.pass) y.pass
+tells_on : (x y : CpuView) (es : List Entry) (t : ℕ) → IsGoingOver x es (suc t) y → PassTells y.begin (length x.pass) y.pass
 tells_on x y es t at = subst (λ (b : Option ℕ). PassTells b (length x.pass) y.pass) (sym (ap (λ (v : CpuView). v.begin) at.is)) at.tells
 
-pub noted_there : (x y z : CpuView) (es : List Entry) (t : ℕ) (n : Noted) → IsNoting x es (suc t) y → HasNoted y t n z → HasNotedFrom y (length x.pass) t n z
-noted_there x y z es t n at had = had (length x.pass) (noting_on x y es t at) (tells_on x y es t at)
+pub gone_by_there : (x y z : CpuView) (es : List Entry) (t : ℕ) (e : Entry) → IsGoingOver x es (suc t) y → HasGoneByOne y t e z → HasGoneByFrom y (length x.pass) t e z
+gone_by_there x y z es t e at had = had (length x.pass) (going_on x y es t at) (tells_on x y es t at)
 
--- the entry there is one more of those noted
-with_next : (x y : CpuView) (es : List Entry) (t : ℕ) (e : Entry) → IsNoting x es (suc t) y → StandsOn y.pass (length x.pass) (length y.pass) t e
+-- the entry there is one more
+with_next : (x y : CpuView) (es : List Entry) (t : ℕ) (e : Entry) → IsGoingOver x es (suc t) y → StandsOn y.pass (length x.pass) (length y.pass) t e
     → AreStoodOn y.pass (length x.pass) x.settings.slots (es ++ e ∷ [])
 with_next x y es t e at stands = record {
   stands = λ f there. ⊎_elim
-      (λ (old : Contains es f). at.noted.stands f old)
+      (λ (old : Contains es f). at.over.stands f old)
       (λ (same : e ≡ f). subst (λ (g : Entry). StandsOn y.pass (length x.pass) (length y.pass) g.slot g) same
       (subst (λ (u : ℕ). StandsOn y.pass (length x.pass) (length y.pass) u e) (sym stands.at) stands))
       (Contains-push_cases es e f there);
   slot = λ f there. ⊎_elim
-      (λ (old : Contains es f). at.noted.slot f old)
+      (λ (old : Contains es f). at.over.slot f old)
       (λ (same : e ≡ f). subst (λ (g : Entry). (g.slot < x.settings.slots) × (g.slot < MOST_SLOTS)) same (omega (arith, stands.at, at.goes_on.0.0), omega (arith, stands.at, at.goes_on.0.1)))
       (Contains-push_cases es e f there);
-  newest_first = all_pairs_push (λ (d f : Entry). f.number < d.number) es e at.noted.newest_first (λ k d lt. (at.goes_on.1 e stands).0 (get_or es k d) (Contains-get_or es k d lt));
+  newest_first = all_pairs_push (λ (d f : Entry). f.number < d.number) es e at.over.newest_first (λ k d lt. (at.goes_on.1 e stands).0 (get_or es k d) (Contains-get_or es k d lt));
 }
 
 -- so there is room for it
-pub room_for_next : (x y z : CpuView) (es : List Entry) (t : ℕ) (n : Noted) → IsNoting x es (suc t) y → HasNoted y t n z → length es < MOST_SLOTS
-room_for_next x y z es t n at had =
-    let v = noted_there x y z es t n at had in
-    omega (arith, (few_stood_on x.begin y.pass (length x.pass) x.settings.slots (es ++ v.entry ∷ []) at.tells (with_next x y es t v.entry at v.stands)).1, length-append es (v.entry ∷ []))
+room_for_next : (x y z : CpuView) (es : List Entry) (t : ℕ) (e : Entry) → IsGoingOver x es (suc t) y → HasGoneByOne y t e z → length es < MOST_SLOTS
+room_for_next x y z es t e at had =
+    let v = gone_by_there x y z es t e at had in
+    omega (arith, (few_stood_on x.begin y.pass (length x.pass) x.settings.slots (es ++ e ∷ []) at.tells (with_next x y es t e at v.stands)).1, length-append es (e ∷ []))
 
 -- its link was loaded
 view_after : (x y z w : CpuView) (t m : ℕ) → y ≡ view_at_link x (suc t) y.pass → z ≡ cpu_with_search_at y nobody (length x.pass) (AtNext t)
@@ -179,25 +222,22 @@ view_after x y z w t (suc u) is_y is_z is_w =
     is_w ∙ ap (λ (v : CpuView). record v { pass = w.pass; search = Some (search_at nobody (length x.pass) (AtNumber u)) })
     (is_z ∙ ap (λ (v : CpuView). cpu_with_search_at v nobody (length x.pass) (AtNext t)) is_y)
 
-pub notes_next : (x y z w : CpuView) (es : List Entry) (t m : ℕ) (n : Noted) → (at : IsNoting x es (suc t) y) → (had : HasNoted y t n z) → HasLoadedLink z m w
-    → IsNoting x (es ++ (noted_there x y z es t n at had).entry ∷ []) m w
-notes_next x y z w es t m n at had loaded_link =
+goes_by_next : (x y z w : CpuView) (es : List Entry) (t m : ℕ) (e : Entry) → IsGoingOver x es (suc t) y → HasGoneByOne y t e z → HasLoadedLink z m w
+    → IsGoingOver x (es ++ e ∷ []) m w
+goes_by_next x y z w es t m e at had loaded_link =
     record {
       pass = pass;
       is = view_after x y z w t m at.is v.is followed.is;
       tells = tells;
-      noted = noted_on;
+      over = over_on;
       goes_on = goes_on m followed.holds (followed.next t e refl stands_z) (followed.descends t refl);
     }
   where
     from : ℕ
     from = length x.pass
 
-    v : HasNotedFrom y from t n z
-    v = noted_there x y z es t n at had
-
-    e : Entry
-    e = v.entry
+    v : HasGoneByFrom y from t e z
+    v = gone_by_there x y z es t e at had
 
     followed : HasFollowed z (search_at nobody from (AtNext t)) m w
     followed = loaded_link (search_at nobody from (AtNext t)) (ap (λ (u : CpuView). u.search) v.is)
@@ -229,8 +269,8 @@ notes_next x y z w es t m n at had loaded_link =
     before : AreStoodOn y.pass from x.settings.slots (es ++ e ∷ [])
     before = with_next x y es t e at v.stands
 
-    noted_on : AreStoodOn w.pass from x.settings.slots (es ++ e ∷ [])
-    noted_on = record { stands = λ f there. stands_later y.pass w.pass from f.slot f more low (before.stands f there); slot = before.slot; newest_first = before.newest_first }
+    over_on : AreStoodOn w.pass from x.settings.slots (es ++ e ∷ [])
+    over_on = record { stands = λ f there. stands_later y.pass w.pass from f.slot f more low (before.stands f there); slot = before.slot; newest_first = before.newest_first }
 
     -- live since, in the longer pass, so in the shorter one
     earlier : (f : Entry) → IsLiveSince w.pass from f → IsLiveSince y.pass from f
@@ -239,7 +279,7 @@ notes_next x y z w es t m n at had loaded_link =
       live_before y.pass w.pass (length y.pass) (length w.pass) f more (omega (arith, live.0.begun, low)) (omega arith) (prefix_length y.pass w.pass more) live.1,
     )
 
-    -- so it is below e, or noted
+    -- so it is below e, or gone by
     cases : (f : Entry) → IsLiveSince w.pass from f → (f.number < e.number) ⊎ Contains (es ++ e ∷ []) f
     cases f live = ⊎_elim
         (λ (le : f.number ≤ e.number). ⊎_elim
@@ -267,48 +307,81 @@ notes_next x y z w es t m n at had loaded_link =
       ),
     )
 
--- so far, by the row
-pub one_more_noted : (x y z w : CpuView) (row : List Noted) (count t m : ℕ) (n : Noted) → count < length row → HasNotedSoFar x row count (suc t) y → HasNoted y t n z → HasLoadedLink z m w
-    → HasNotedSoFar x (set row count n) (count + 1) m w
-one_more_noted x y z w row count t m n lt so_far had loaded_link =
-    let v = noted_there x y z so_far.entries t n so_far.noting had in
-    record {
-      entries = so_far.entries ++ v.entry ∷ [];
-      are = take_more_set row count n lt ∙ ap (λ l. l ++ n ∷ []) so_far.are ∙ ap (λ (k : Noted). map noted_of so_far.entries ++ k ∷ []) v.noted
-          ∙ sym (map-append noted_of so_far.entries (v.entry ∷ []));
-      size = length-append so_far.entries (v.entry ∷ []) ∙ ap (λ k. k + 1) so_far.size;
-      noting = notes_next x y z w so_far.entries t m n so_far.noting had loaded_link;
-    }
+-- So far, by the row
 
--- of the head alone none
-pub none_noted : (x y : CpuView) (row : List Noted) (m : ℕ) → IsNoting x [] m y → HasNotedSoFar x row 0 m y
-none_noted x y row m at = record { entries = []; are = refl; size = refl; noting = at }
+on_next : (x y : CpuView) (es : List Entry) (m : ℕ) → m ≢ 0 → IsGoingOver x es m y → IsGoingOver x es (suc (m - 1)) y
+on_next x y es zero some at = absurd (some refl)
+on_next x y es (suc t) some at = let same : suc t ≡ suc (suc t - 1) = omega arith in subst (λ m. IsGoingOver x es m y) same at
 
 -- a link that isn't 0 leads to a slot
-pub on_slot : (x y : CpuView) (row : List Noted) (count m : ℕ) → m ≢ 0 → HasNotedSoFar x row count m y → HasNotedSoFar x row count (suc (m - 1)) y
-on_slot x y row count zero some at = absurd (some refl)
-on_slot x y row count (suc t) some at = let same : suc t ≡ suc (suc t - 1) = omega arith in subst (λ m. HasNotedSoFar x row count m y) same at
+pub on_slot : (x y : CpuView) (row : List Entry) (count m : ℕ) → m ≢ 0 → IsGoingOver x (take count row) m y → IsGoingOver x (take count row) (suc (m - 1)) y
+on_slot x y row count m some at = on_next x y (take count row) m some at
 
-pub slot_within : (x y : CpuView) (row : List Noted) (count t : ℕ) → HasNotedSoFar x row count (suc t) y → t < MOST_SLOTS
-slot_within x y row count t at = at.noting.goes_on.0.1
+pub slot_within : (x y : CpuView) (es : List Entry) (t : ℕ) → IsGoingOver x es (suc t) y → t < MOST_SLOTS
+slot_within x y es t at = at.goes_on.0.1
 
-pub may_note : (x y : CpuView) (row : List Noted) (count t : ℕ) → HasNotedSoFar x row count (suc t) y → MayVisit y nobody t
-may_note x y row count t at = (length x.pass, noting_on x y at.entries t at.noting)
+pub may_go_by : (x y : CpuView) (es : List Entry) (t : ℕ) → IsGoingOver x es (suc t) y → MayGoBy y t
+may_go_by x y es t at = record { from = length x.pass; under_way = going_on x y es t at; tells = tells_on x y es t at }
 
-pub may_go_on : (x y z : CpuView) (row : List Noted) (count t : ℕ) (n : Noted) → HasNotedSoFar x row count (suc t) y → HasNoted y t n z → MayLoadLink z t
-may_go_on x y z row count t n at had = may_follow z nobody (length x.pass) t (ap (λ (v : CpuView). v.search) (noted_there x y z at.entries t n at.noting had).is)
+pub may_go_on : (x y z : CpuView) (es : List Entry) (t : ℕ) (e : Entry) → IsGoingOver x es (suc t) y → HasGoneByOne y t e z → MayLoadLink z t
+may_go_on x y z es t e at had = may_follow z nobody (length x.pass) t (ap (λ (v : CpuView). v.search) (gone_by_there x y z es t e at had).is)
 
-pub has_room : (x y z : CpuView) (row : List Noted) (count t : ℕ) (n : Noted) → HasNotedSoFar x row count (suc t) y → HasNoted y t n z → count < MOST_SLOTS
-has_room x y z row count t n at had = omega (arith, room_for_next x y z at.entries t n at.noting had, at.size)
+pub has_room : (x y z : CpuView) (row : List Entry) (count t : ℕ) (e : Entry) → count ≤ length row → IsGoingOver x (take count row) (suc t) y → HasGoneByOne y t e z → count < MOST_SLOTS
+has_room x y z row count t e within at had = omega (arith, room_for_next x y z (take count row) t e at had, length-take-le count row within)
+
+pub one_more : (x y z w : CpuView) (row : List Entry) (count t m : ℕ) (e : Entry) → count < length row → IsGoingOver x (take count row) (suc t) y → HasGoneByOne y t e z → HasLoadedLink z m w
+    → IsGoingOver x (take (count + 1) (set row count e)) m w
+one_more x y z w row count t m e lt at had loaded_link =
+    subst (λ es. IsGoingOver x es m w) (sym (take_more_set row count e lt)) (goes_by_next x y z w (take count row) t m e at had loaded_link)
+
+-- the rest of the row stays
+pub rest_stays : (first old : List Entry) (place : ℕ) (e : Entry) → drop place old ≡ drop place first → drop (place + 1) (set old place e) ≡ drop (place + 1) first
+rest_stays first old place e same = drop-set-lt (place + 1) old place e (omega arith) ∙ next_drop old ∙ ap (drop 1) same ∙ sym (next_drop first)
+  where
+    next_drop : (row : List Entry) → drop (place + 1) row ≡ drop 1 (drop place row)
+    next_drop row = sym (drop-drop 1 place row)
 
 -- the search has gone by no more entries than there are slots
-pub few_noted : (x y : CpuView) (row : List Noted) (count m : ℕ) → HasNotedSoFar x row count m y → count ≤ x.settings.slots
-few_noted x y row count m at = omega (arith, (few_stood_on x.begin y.pass (length x.pass) x.settings.slots at.entries at.noting.tells at.noting.noted).0, at.size)
+pub few_gone_over : (x y : CpuView) (es : List Entry) (m : ℕ) → IsGoingOver x es m y → length es ≤ x.settings.slots
+few_gone_over x y es m at = (few_stood_on x.begin y.pass (length x.pass) x.settings.slots es at.tells at.over).0
 
 -- it is the same CPU's view
-pub noted_id : (x y : CpuView) (row : List Noted) (count m : ℕ) → HasNotedSoFar x row count m y → y.id ≡ x.id
-noted_id x y row count zero at = ap (λ (v : CpuView). v.id) at.noting.is
-noted_id x y row count (suc t) at = ap (λ (v : CpuView). v.id) at.noting.is
+pub going_id : (x y : CpuView) (es : List Entry) (m : ℕ) → IsGoingOver x es m y → y.id ≡ x.id
+going_id x y es zero at = ap (λ (v : CpuView). v.id) at.is
+going_id x y es (suc t) at = ap (λ (v : CpuView). v.id) at.is
 
-pub slot_id : (x y z : CpuView) (row : List Noted) (count t : ℕ) (n : Noted) → HasNotedSoFar x row count (suc t) y → HasNoted y t n z → z.id ≡ y.id
-slot_id x y z row count t n at had = ap (λ (v : CpuView). v.id) (noted_there x y z at.entries t n at.noting had).is
+pub slot_id : (x y z : CpuView) (es : List Entry) (t : ℕ) (e : Entry) → IsGoingOver x es (suc t) y → HasGoneByOne y t e z → z.id ≡ y.id
+slot_id x y z es t e at had = ap (λ (v : CpuView). v.id) (gone_by_there x y z es t e at had).is
+
+-- The whole walk
+
+pub gone_over : (x y : CpuView) (es : List Entry) → IsGoingOver x es 0 y → HasGoneOver x y es
+gone_over x y es at = record {
+  pass = at.pass;
+  is = at.is;
+  since = at.tells.since;
+  all = at.goes_on;
+  each = λ e there. stood_was_live y.pass (length x.pass) e.slot e at.tells.legal (prefix_length x.pass y.pass at.pass) (at.over.stands e there);
+  newest_first = at.over.newest_first;
+}
+
+-- to a contract
+pub walked : (a b : OnCpu) (row : List Entry) → a.view.search ≡ None → HasGoneOver a.view b.view row → b.depth ≡ a.depth → b.made ≡ a.made → b.known_log ≡ a.known_log
+    → HasGoneOverBy a.view.id a.view.settings.slots (length row) a.log b.log → HasWalked a b row
+walked a b row idle had depth made known_log log = record {
+  pass = had.pass;
+  is = λ i. record {
+    view = (had.is ∙ ap (λ (s : Option Search). record a.view { pass = b.view.pass; search = s; found = None }) (sym idle)) i;
+    depth = depth i;
+    made = made i;
+    known_log = known_log i;
+    log = b.log;
+  };
+  all = had.all;
+  each = had.each;
+  held = λ e s there begun.
+      let was = had.each e there in
+      record { attached = was.live.attached; unended = λ p ends. omega (arith, had.since s begun, was.from_on, was.live.unended p ends) };
+  newest_first = had.newest_first;
+  log = log;
+}
