@@ -31,17 +31,21 @@ def parts():
     return Case("parts", ["parts.py", "counts.py"], tree, ["./gate"], faults)
 
 
-# A gate of more parts than run at once is told to end, twice, as timeout(1) does it. It ends, and so does each part.
+# A gate of more parts than run at once is told to end once a part has begun, twice, as timeout(1) does it. It ends, and so does each part.
 WAITS = GATE.replace('Part("two", "./two")', '*[Part("two", "./two")] * 20')
 ENDS = """#!/bin/sh
-timeout -k 8 1 ./gate
-[ $? = 124 ] || { echo "it does not end"; exit 1; }
+timeout -k 8 60 ./gate &
+limit=$!
+until [ -e begun ]; do sleep 0.1; done
+kill $limit
+wait $limit
+[ $? != 137 ] || { echo "it does not end"; exit 1; }
 ! grep -lz "^WAITS=$PWD/wait" /proc/[0-9]*/environ 2>/dev/null || { echo "a part goes on"; exit 1; }
 """
 
 
 def ending():
-    tree = {"gate": WAITS, "one": PASSES, "two": "#!/bin/sh\nexec env WAITS=$PWD/wait sleep 20\n", "alone": PASSES, "ends": ENDS}
+    tree = {"gate": WAITS, "one": PASSES, "two": "#!/bin/sh\n: >begun\nexec env WAITS=$PWD/wait sleep 20\n", "alone": PASSES, "ends": ENDS}
     faults = (Fault("parts that aren't ended", "it does not end", (("tools/parts.py", "os.kill(pid, number)", "pass"),)),)
     return Case("ending", ["parts.py", "counts.py"], tree, ["./ends"], faults, counts=False)
 
