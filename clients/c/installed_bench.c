@@ -33,7 +33,6 @@ static void begin(void)
 
 static void finish(void)
 {
-	mutex_destroy(&lock);
 	bench_outcome("%u", counted);
 	mutex_destroy(&lock);
 }

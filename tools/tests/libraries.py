@@ -12,16 +12,16 @@ SYMBOLS = {
     "clients/c/waiting.h": "size_t registry_waits(void);\n",
     "clients/kupaldiz.map": "KUPALDIZ_0 {\n\tglobal:\n\t\tregistry_enter;\n\t\tregistry_for_*;\n\t\tregistry_waits;\n\tlocal:\n\t\t*;\n};\n",
     "clients/netbsd/kupaldiz/cpu.h": "int cpu_number(void);\nvoid kupaldiz_point(void);\nint kupaldiz_from(void);\n",
-    "clients/netbsd/netbsd.map": "NETBSD_0 {\n\tglobal:\n\t\tkupaldiz_cpu_number;\n};\n",
+    "clients/netbsd/netbsd.map": "NETBSD_0 {\n\tglobal:\n\t\tkupaldiz_cpu_number;\n\t\tkupaldiz_registry_for_*;\n};\n",
     "clients/bench/bench.h": "void bench_thread(const char *name);\n",
-    "clients/bench/bench.map": "BENCH_0 {\n\tglobal:\n\t\tbench_thread;\n\t\tkupaldiz_cpu_number;\n\t\tkupaldiz_from;\n\t\tkupaldiz_point;\n};\n",
+    "clients/bench/bench.map": "BENCH_0 {\n\tglobal:\n\t\tbench_thread;\n\t\tkupaldiz_cpu_number;\n\t\tkupaldiz_from;\n\t\tkupaldiz_point;\n\t\tkupaldiz_registry_for_*;\n};\n",
     "look": "#!/bin/sh\nNM=$PWD/nm exec clients/symbols.sh include out -8 1\n",
     "nm": NM,
 }
 LIBRARIES = {
     "kupaldiz": ("registry_enter", BUILT_FOR, "registry_waits"),
-    "kupaldiz_netbsd": ("kupaldiz_cpu_number",),
-    "kupaldiz_bench": ("bench_thread", "kupaldiz_cpu_number", "kupaldiz_from", "kupaldiz_point"),
+    "kupaldiz_netbsd": ("kupaldiz_cpu_number", f"kupaldiz_{BUILT_FOR}"),
+    "kupaldiz_bench": ("bench_thread", "kupaldiz_cpu_number", "kupaldiz_from", "kupaldiz_point", f"kupaldiz_{BUILT_FOR}"),
 }
 # The node of each map.
 NODES = {"kupaldiz": "KUPALDIZ_0", "kupaldiz_netbsd": "NETBSD_0", "kupaldiz_bench": "BENCH_0"}
