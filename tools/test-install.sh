@@ -180,7 +180,7 @@ moved() {
 
 in_place() {
     # shellcheck disable=SC2046
-    LD_LIBRARY_PATH=$stage$libdir gcc -o "$room/in_place" clients/c/installed.c $(PKG_CONFIG_PATH=$stage$libdir/pkgconfig pkg-config --cflags --libs kupaldiz) && runs in_place "C, version $(version)"
+    LD_LIBRARY_PATH=$stage$libdir gcc -o "$room/in_place" clients/c/installed.c $(PKG_CONFIG_PATH=$stage$libdir/pkgconfig pkg-config --cflags --libs kupaldiz) && runs in_place "C, version $(version_of crates/registry_c/include/registry.h)"
 }
 
 # test_programs LINE LIBRARY..: the program of this module in C and in C++, over the shared libraries that it asks for and over the static ones.
