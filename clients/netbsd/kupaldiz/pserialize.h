@@ -1,16 +1,18 @@
 /*
  * pserialize.h - the calls of pserialize(9), for threads of user space, over registry.h
  *
- * A reader walks in a read section what a writer takes apart: it takes no lock and waits for nobody. The writer unlinks a thing, calls
- * pserialize_perform, and then no reader has it. Writers keep apart by a lock of their own.
+ * A reader walks in a read section what a writer takes apart. It takes none of the writers' locks, and doesn't wait for
+ * pserialize_perform. The writer unlinks a thing, calls pserialize_perform, and then no reader has it. Writers keep apart by a lock of their own.
  *
  * What differs from the page:
- * - A section keeps the thread on its CPU (cpu.h), and the other threads of that CPU out of theirs. It raises no level: soft interrupts run
- *   inside it too, between two calls.
+ * - A section keeps the thread on its CPU (cpu.h), and the other threads of that CPU out of theirs. The outermost enter takes the lock of that CPU, so
+ *   a reader waits where no CPU is free for it.
+ * - A section raises no level: soft interrupts run inside it too, between two calls.
  * - A wait looks at the section word of each CPU, again and again with ever longer pauses, up to a millisecond; no CPU runs anything for it. After
  *   five seconds it says on standard error which thread it waits for.
  * - What a reader loads and a writer stores in the list itself are atomics of the caller's: release on the writer's side, acquire or consume on
- *   the reader's, as the kernel's atomic_store_release(9) and atomic_load_consume(9) are.
+ *   the reader's, as the kernel's atomic_store_release(9) and atomic_load_consume(9) are. They need not be sequentially consistent, as those beside
+ *   registry_perform_begin of registry(3) must be: here each outermost enter ends with a full fence, and pserialize_perform begins with one.
  *
  * What the page forbids and a call sees ends the process by abort(3), after one line on standard error that begins with the call's name.
  */
@@ -35,8 +37,9 @@ void pserialize_destroy(pserialize_t psz);
 /*
  * pserialize_read_enter - enter a read section, or the open one once more
  *
- * Returns what the matching pserialize_read_exit takes: how many sections of this thread were open before. It waits where another
- * thread of this CPU is inside a section.
+ * Returns what the matching pserialize_read_exit takes: how many sections of this thread were open before. The outermost one takes the lock of a CPU:
+ * - a thread that is bound waits while another thread has its CPU;
+ * - one that isn't takes any CPU that is free, and waits only if none is.
  */
 int pserialize_read_enter(void);
 

@@ -7,6 +7,8 @@
  *
  * What differs from the page:
  * - A class's level is kept and means nothing: a soft interrupt only runs between two calls.
+ * - psref_acquire finds its target by a name, in a list of at most as many entries as a registry has (32 in the default build). It notes the reference
+ *   in a table of its CPU, where psref_release and psref_copy look it up. In the kernel a reference lies in a list of its CPU, and nothing is looked up.
  * - psref_target_destroy looks at the words of all CPUs, as pserialize_perform does; no CPU runs anything for it. As in the kernel, the sections
  *   that were open on any CPU as the last reference was released have ended when it returns.
  * - Each CPU has at most 2^40 references to a target at a time.

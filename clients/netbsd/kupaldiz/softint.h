@@ -8,7 +8,11 @@
  *
  * Handlers of one CPU run one after another, those of the highest level first.
  *
- * What differs from the page: a read section doesn't keep soft interrupts off. spl.. and spin locks do, up to their level.
+ * What differs from the page:
+ * - A read section doesn't keep soft interrupts off. spl.. and spin locks do, up to their level.
+ * - A handler of a higher level never interrupts a handler that runs: it begins when that one has returned. In the kernel it interrupts it. So
+ *   neither threads nor the bench show what goes wrong by such an order.
+ * - There are no hard interrupts.
  */
 #ifndef KUPALDIZ_NETBSD_SOFTINT_H
 #define KUPALDIZ_NETBSD_SOFTINT_H
