@@ -83,8 +83,8 @@
 //! stays open until its CPU is dropped, goes back to its pool, or [leaves](Cpu::leave).
 //!
 //! If a thread panics, unwinding exits its sections and releases its references. No lock is poisoned. No lock of the registry is held while a `T` is
-//! dropped, so its drop may call the registry. An attach, a detach and a retire first drop the `T`s of entries that were deferred and are free by then.
-//! If such a drop panics, the panic unwinds from that call, and its change isn't made.
+//! dropped, so its drop may call the registry. An attach, a detach and a retire first drop the `T`s of deferred entries that are free by then. If such
+//! a drop panics, the panic unwinds from that call, and its change isn't made.
 //!
 //! A [`LocalRef`] may be dropped on any thread. The drop takes a short lock, and the entry stays held until a later call releases the reference:
 //! [the table](LocalRef#dropped-without-a-cpu).
@@ -104,10 +104,10 @@
 //!
 //! # More than the limits
 //!
-//! No call moves an entry or a reference from one registry to another. When a call returns [`Refusal::HistoryFull`] or [`Refusal::SectionsSpent`], open
-//! a second registry, attach everything there, let lookups go there, and retire what is in the first. A [`Cpu`], a [`LocalRef`] and a [`Retired`] each
-//! keep their registry open, so the old ones stay valid, and the last one that is dropped closes it. If `T` is an [`Arc`](alloc::sync::Arc), both
-//! registries carry the same objects.
+//! No call moves an entry or a reference from one registry to another. When a call returns [`Refusal::HistoryFull`] or [`Refusal::SectionsSpent`],
+//! open a second registry, attach everything there, let lookups go there, and retire what is in the first. A [`Cpu`], a [`LocalRef`] and a
+//! [`Retired`] each keep their registry open, so the old ones stay valid, and the last one that is dropped closes it. If `T` is an
+//! [`Arc`](alloc::sync::Arc), both registries carry the same objects.
 //!
 //! # What is proved
 //!

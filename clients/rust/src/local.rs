@@ -36,8 +36,9 @@ use core::ops::Deref;
 /// # Dropped without a CPU
 ///
 /// Dropping a reference on any thread is safe. The drop takes a short lock, and the entry stays held until a later call releases the reference. A
-/// destroy of the entry is such a call. An acquire, a drop and that release cost some 97 ns in a run in which an acquire and a release on a CPU cost 27.
-/// Dropping doesn't wait for a reader. It may wait for the interlock only if more than 64 dropped references wait on its CPU, and some CPU has no handle.
+/// destroy of the entry is such a call. An acquire, a drop and that release cost some 97 ns in a run in which an acquire and a release on a CPU cost
+/// 27. Dropping doesn't wait for a reader. It may wait for the interlock only if more than 64 dropped references wait on its CPU, and some CPU has no
+/// handle.
 ///
 /// The reason is that a release needs a CPU. [`guard`](LocalRef::guard) binds the reference to a CPU that the caller has. A reference that is dropped
 /// without one lies in the basket of the CPU that acquired it, a list under a lock. Each call releases a bounded number:
