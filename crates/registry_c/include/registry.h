@@ -11,11 +11,11 @@
  * them, such as by a mutex for each handle. A CPU enters a section, finds entries in it, and exits. No entry that it found loses its slot before that
  * exit. Only registry_open(3) and registry_local_acquire(3) allocate memory.
  *
- * No call waits, for a lock or for a reader. A call that would have to returns what it met, and the caller makes it again. registry_waiting(3) has calls
+ * No call waits, for a lock or for a reader. A call that isn't done returns what it met, and the caller makes it again. registry_waiting(3) has calls
  * that wait.
  *
- * Opening, closing, acquiring and releasing write the handle itself. Handles of different threads are best kept on different cache lines:
- * registry_open(3) fills one array of CPUs, and the caller then moves each CPU into memory of its thread.
+ * Opening and closing write the handle itself. Acquiring and releasing a local reference write its handle. So handles of different threads are best kept
+ * on different cache lines: registry_open(3) fills one array of CPUs, and the caller then moves each CPU into memory of its thread.
  *
  * The keeper belongs to the thread that holds the caller's lock, the interlock, such as a pthread mutex. It attaches and detaches entries. A
  * detached entry is retired. The keeper works on a retired entry until nothing can hold it. A turn of that work is one call: it looks once at what
