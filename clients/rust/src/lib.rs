@@ -80,8 +80,34 @@
 //!
 //! Dropping a section exits it, dropping a reference releases it, and dropping a CPU returns it to its registry. What is forgotten stays held, and
 //! nothing is freed under it: the entry of a forgotten reference is never freed, and its `T` is never dropped. A section whose guard is forgotten
-//! stays open until its CPU is dropped, goes back to its pool, or [leaves](Cpu::leave). A panic only drops. No lock of the registry is held while a
-//! `T` is dropped, so its drop may call the registry.
+//! stays open until its CPU is dropped, goes back to its pool, or [leaves](Cpu::leave).
+//!
+//! If a thread panics, unwinding exits its sections and releases its references. No lock is poisoned. No lock of the registry is held while a `T` is
+//! dropped, so its drop may call the registry. An attach, a detach and a retire first drop the `T`s of deferred entries that are free by then. If such
+//! a drop panics, the panic unwinds from that call, and its change isn't made.
+//!
+//! A [`LocalRef`] may be dropped on any thread. The drop takes a short lock, and the entry stays held until a later call releases the reference:
+//! [the table](LocalRef#dropped-without-a-cpu).
+//!
+//! # Which types go to other threads
+//!
+//! | Type | `Send` | `Sync` |
+//! |---|---|---|
+//! | [`Registry`], [`CpuPool`], [`LocalRef`], [`Retired`] | if `T` is `Send` and `Sync` | if `T` is `Send` and `Sync` |
+//! | [`Cpu`], [`Lent`] | if `T` is `Send` and `Sync` | no |
+//! | [`Section`], [`Found`], [`Entries`], [`ReadGuard`] | no | no |
+//! | [`PassiveRef`], [`PassiveRc`], [`LocalGuard`] | no | no |
+//! | [`Mapped`] of a [`LocalRef`] | if `T` is, and the part is `Sync` | if `T` is, and the part is `Sync` |
+//! | [`Mapped`] of another guard | no | no |
+//! | [`Freed`], [`Refused`] | if what they have is `Send` | if what they have is `Sync` |
+//! | all others | yes | yes |
+//!
+//! # More than the limits
+//!
+//! No call moves an entry or a reference from one registry to another. When a call returns [`Refusal::HistoryFull`] or [`Refusal::SectionsSpent`],
+//! open a second registry, attach everything there, let lookups go there, and retire what is in the first. A [`Cpu`], a [`LocalRef`] and a
+//! [`Retired`] each keep their registry open, so the old ones stay valid, and the last one that is dropped closes it. If `T` is an
+//! [`Arc`](alloc::sync::Arc), both registries carry the same objects.
 //!
 //! # What is proved
 //!

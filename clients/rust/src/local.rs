@@ -35,8 +35,13 @@ use core::ops::Deref;
 ///
 /// # Dropped without a CPU
 ///
-/// A release needs a CPU. [`guard`](LocalRef::guard) binds the reference to a CPU that the caller has. A reference that is dropped without one lies in
-/// the basket of the CPU that acquired it. It still holds its entry until some call releases it. Each call releases a bounded number:
+/// Dropping a reference on any thread is safe. The drop takes a short lock, and the entry stays held until a later call releases the reference. A
+/// destroy of the entry is such a call. An acquire, a drop and that release cost some 97 ns in a run in which an acquire and a release on a CPU cost
+/// 27. Dropping doesn't wait for a reader. It may wait for the interlock only if more than 64 dropped references wait on its CPU, and some CPU has no
+/// handle.
+///
+/// The reason is that a release needs a CPU. [`guard`](LocalRef::guard) binds the reference to a CPU that the caller has. A reference that is dropped
+/// without one lies in the basket of the CPU that acquired it, a list under a lock. Each call releases a bounded number:
 ///
 /// | Call | releases at most |
 /// |---|---|
@@ -50,6 +55,9 @@ use core::ops::Deref;
 /// So a basket never has more references in it than were held at once of its CPU. Only references that are held, or were released elsewhere, bring a
 /// CPU's net count to `LocalFull`. [`Registry::dropped`](crate::Registry::dropped) returns how many dropped ones there are. A reference that is
 /// forgotten stays held, and keeps its registry open.
+///
+/// If there is no memory for the basket to grow, the dropped reference stays held for good. Its entry is never freed then, and
+/// [`Retired::destroy`](crate::Retired::destroy) with [`Patience::Forever`](crate::Patience::Forever) never returns.
 #[must_use = "a reference that is dropped at once holds nothing"]
 pub struct LocalRef<T> {
     record: Record<T>,

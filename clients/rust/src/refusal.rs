@@ -7,7 +7,7 @@ use core::fmt;
 use std::error::Error;
 
 /// The error that a call returns. A call that fails has changed nothing, unless it says so. Each call lists its errors in the order in which it tests
-/// them. What each call requires of its caller is in `docs/DRIVERS.md` of the repository, and in registry(3).
+/// them.
 ///
 /// ```
 /// use registry::{Refusal, Registry, Settings};

@@ -115,13 +115,18 @@ impl<T> Registry<T> {
     }
 }
 
-/// Changes. Each first frees what was [retired](Registry::retire) and nothing holds any more.
+/// Changes. Each first frees what was [retired](Registry::retire) and nothing holds any more, and drops the `T`s of that.
 impl<T> Registry<T> {
     /// Attaches a driver that carries this value. Lookups that begin after this call has returned find it, until it is detached.
     ///
     /// # Errors
     ///
     /// `OtherRegistry`, `Inside`, `NameTaken`, `NoSlot`, `HistoryFull`. The value is returned.
+    ///
+    /// # Panics
+    ///
+    /// If a `T` panics as it is dropped: the call first drops what deferred entries carried that are free by then. The change isn't made, and the
+    /// value is dropped.
     pub fn attach(&self, cpu: &Cpu<T>, name: &Name, value: T) -> Result<Entry, Refused<T>> {
         if let Err(refusal) = self.tidy(cpu) {
             return Err(Refused { refusal, given: value });
@@ -150,6 +155,11 @@ impl<T> Registry<T> {
     ///
     /// `OtherRegistry` for the CPU or the reference, `Inside`, `NeedsDriver` if the reference is to an interface, `NameTaken`, `NoSlot`,
     /// `HistoryFull`. The reference and the value are returned.
+    ///
+    /// # Panics
+    ///
+    /// If a `T` panics as it is dropped: the call first drops what deferred entries carried that are free by then. The change isn't made, and the
+    /// reference and the value are dropped.
     pub fn attach_iface(&self, cpu: &Cpu<T>, name: &Name, mut driver: LocalRef<T>, value: T) -> Result<Entry, Refused<(LocalRef<T>, T)>> {
         let other = if driver.is_of(&self.shared) {
             self.tidy(cpu).err()
@@ -211,6 +221,10 @@ impl<T> Registry<T> {
     /// # Errors
     ///
     /// `OtherRegistry`, `Inside`, `NotFound`.
+    ///
+    /// # Panics
+    ///
+    /// If a `T` panics as it is dropped: the call first drops what deferred entries carried that are free by then. The change isn't made.
     pub fn detach(&self, cpu: &Cpu<T>, kind: Kind, name: &Name) -> Result<Retired<T>, Refusal> {
         self.tidy(cpu)?;
         let mut kept = self.shared.kept();
@@ -227,6 +241,10 @@ impl<T> Registry<T> {
     /// # Errors
     ///
     /// `OtherRegistry`, `Inside`, `NotFound`.
+    ///
+    /// # Panics
+    ///
+    /// If a `T` panics as it is dropped: the call first drops what deferred entries carried that are free by then. The change isn't made.
     pub fn retire(&self, cpu: &Cpu<T>, kind: Kind, name: &Name) -> Result<Entry, Refusal> {
         let retired = self.detach(cpu, kind, name)?;
         Ok(retired.entry())

@@ -15,7 +15,7 @@ use core::ptr;
 
 /// An entry that was detached: [`Registry::detach`] returns it. Lookups that begin afterwards don't find it. It keeps its slot and its value until
 /// nothing holds it and it is freed. [`destroy`](Retired::destroy) waits for that, and [`advance`](Retired::advance) doesn't. Dropping it is the same as
-/// [`defer`](Retired::defer): later changes free it.
+/// [`defer`](Retired::defer): later changes free it. That drop takes the interlock for a moment, and waits for no reader.
 ///
 /// It co-owns its registry. It may be stored, and go to other threads.
 ///
@@ -154,7 +154,7 @@ impl<T> Retired<T> {
     }
 
     /// Leaves it to later changes, as dropping it does. Each of them, and [`Registry::collect`], frees the entries that nothing holds any more, the
-    /// oldest first, and drops what they carried.
+    /// oldest first. A change drops what they carried, and `collect` returns it. The call takes the interlock for a moment.
     pub fn defer(self) {}
 }
 

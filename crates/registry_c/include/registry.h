@@ -4,15 +4,25 @@
  * THE OBJECTS
  *
  * A registry is a keeper and its CPUs, numbered from 0. Each has a handle of one word. registry_open(3) makes them all. A handle that is {0} is empty.
- * registry_close_cpu(3) and registry_close_keeper(3) empty one. A registry's memory is freed with the last of its handles.
+ * registry_close_cpu(3) and registry_close_keeper(3) empty one. Closing the last of the keeper and the CPUs frees the registry's memory. Local
+ * references don't keep that memory. Each has a block of its own, which registry_local_forget(3) can still free then.
  *
- * A CPU belongs to the thread that runs on it: one call at a time uses its handle. It enters a section, finds entries in it, and exits.
- * No entry that it found loses its slot before that exit. No call waits. Only registry_open(3) and registry_local_acquire(3) allocate memory.
- * Opening, closing, acquiring and releasing write the handle itself. Handles that several threads use are best kept on other cache lines.
+ * A CPU is a handle, not a processor. Any thread may run on it, one thread at a time: one call at a time uses its handle. More threads than CPUs share
+ * them, such as by a mutex for each handle. A CPU enters a section, finds entries in it, and exits. No entry that it found loses its slot before that
+ * exit. Only registry_open(3) and registry_local_acquire(3) allocate memory.
+ *
+ * No call waits, for a lock or for a reader. A call that isn't done returns what it met, and the caller makes it again. registry_waiting(3) has calls
+ * that wait.
+ *
+ * Opening and closing write the handle itself. Acquiring and releasing a local reference write its handle. So handles of different threads are best kept
+ * on different cache lines: registry_open(3) fills one array of CPUs, and the caller then moves each CPU into memory of its thread.
  *
  * The keeper belongs to the thread that holds the caller's lock, the interlock, such as a pthread mutex. It attaches and detaches entries. A
- * detached entry is retired. The keeper works on a retired entry until nothing can hold it. Each call makes one turn of that work, so the caller
- * releases the interlock between two calls.
+ * detached entry is retired. The keeper works on a retired entry until nothing can hold it. A turn of that work is one call: it looks once at what
+ * holds the entry, and returns. The caller releases the interlock between two turns.
+ *
+ * For a plain table of names, every entry is a REGISTRY_DRIVER: registry_attach(3) needs nothing else. An interface differs in one thing: it is attached
+ * with a local reference to its driver, which its slot then keeps.
  *
  * An entry has a number, from 1, which is never reused. It has a slot, from 0, which is reused once the entry is destroyed. Attaches and detaches
  * are counted together. An entry's number is that count just after its attach, so each detach skips one number.
@@ -47,15 +57,22 @@
  *
  * No call can check these rules. Breaking one is undefined behaviour:
  *
- * - A handle is {0} before its first use. It is never copied and its content is never read.
+ * - A handle is {0} before its first use. It may be moved while no call uses it, by a plain copy. From then on only the copy is used. The old place may
+ *   be set to {0} and used again. `at` is NULL exactly if the handle is empty. The caller reads or writes nothing else of it.
  * - One call at a time uses a handle. A handle goes to another thread by a lock, or by the start or the join of a thread.
  * - Calls with a keeper are made under the caller's lock.
- * - A wait goes from call to call unchanged.
+ * - Nothing writes to a struct registry_wait between two calls with it.
+ * - Each passive reference is released once. A CPU counts its references to an entry, and can't distinguish them. A second release of one takes away
+ *   another that this CPU still holds, and the entry may be freed while that one is used. It fails with REGISTRY_NOT_HELD only if there is no other.
  * - The handles of one call are of one registry. Nothing at run time distinguishes two registries. With handles of two, a call may write to a
  *   wrong place, or end the process by an illegal instruction with no message.
  * - Pointers are to what they say, and aligned. Those of different parameters don't overlap: not &entry.name beside &entry.
  * - No call is made from a signal handler, or in the child of a fork with a handle that was opened before the fork. A fork before the opening
  *   is fine.
+ * - No call is made while asynchronous cancellation of the thread is enabled.
+ *
+ * A thread that ends, or is cancelled, inside a section leaves its CPU inside. Waits for that section then last until another thread takes the handle
+ * over and calls registry_exit.
  *
  * ORDER OF MEMORY
  *
@@ -155,8 +172,8 @@ enum {
 	REGISTRY_NAME_EMPTY = 70,	/* a name has at least one byte. */
 	REGISTRY_NAME_TOO_LONG = 71,	/* a name has at most 15 bytes. */
 	REGISTRY_NAME_BAD_BYTE = 72,	/* a byte isn't allowed in its position. */
-	REGISTRY_COLLECTED = 73,	/* the keeper has collected this CPU's count. */
-	REGISTRY_NOT_COLLECTED = 74,	/* the keeper has collected no count of this entry. */
+	REGISTRY_COLLECTED = 73,	/* the entry is being destroyed: take the interlock and call registry_local_give_up. */
+	REGISTRY_NOT_COLLECTED = 74,	/* no count of this entry was collected: call registry_local_release. */
 	REGISTRY_NO_ROOM = 75,		/* the list is too short for the result. */
 	REGISTRY_NOT_BEGUN = 76,	/* the wait was never begun. */
 	REGISTRY_NULL = 77,		/* a pointer to something that the call needs is NULL. */
@@ -502,7 +519,8 @@ registry_answer registry_read(const struct registry_cpu *cpu, uint64_t number, s
 /*
  * registry_release - release a passive reference, on the CPU that acquired it
  *
- * It needs no section.
+ * It needs no section. The CPU then has one reference less to the entry with that number, whichever of its references that was. So threads that share a
+ * CPU release only what they acquired.
  * Returns REGISTRY_EMPTY_HANDLE, REGISTRY_NOT_HELD.
  */
 registry_answer registry_release(struct registry_cpu *cpu, uint64_t number) REGISTRY_NONNULL(1);
@@ -585,9 +603,9 @@ registry_answer registry_local_read(const struct registry_local *local, struct r
 /*
  * registry_local_release - release a local reference on any CPU of its registry, and empty its handle
  *
- * The CPU needn't be the one that acquired it. With REGISTRY_COLLECTED nothing is released: the caller takes the interlock and calls
- * registry_local_give_up.
- * Returns REGISTRY_EMPTY_HANDLE for either handle, REGISTRY_COLLECTED if the keeper has collected this CPU's count for a drain.
+ * The CPU needn't be the one that acquired it. REGISTRY_COLLECTED says that the entry is being destroyed, and that this CPU's count of it was already
+ * collected. Nothing is released then: the caller takes the interlock and calls registry_local_give_up.
+ * Returns REGISTRY_EMPTY_HANDLE for either handle, REGISTRY_COLLECTED.
  */
 registry_answer registry_local_release(struct registry_cpu *cpu, struct registry_local *local) REGISTRY_NONNULL(1, 2) REGISTRY_CHECKED;
 
@@ -611,7 +629,7 @@ registry_answer registry_local_give_up(struct registry_keeper *keeper, struct re
  */
 registry_answer registry_local_forget(struct registry_local *local) REGISTRY_NONNULL(1);
 
-/* ---- Changes. The caller holds the interlock, and runs on the CPU. The CPU has seen the change afterwards. ---- */
+/* ---- Changes. The caller holds the interlock, and runs on the CPU. ---- */
 
 /*
  * registry_attach - attach a driver
@@ -673,8 +691,7 @@ registry_answer registry_advance(struct registry_keeper *keeper, uint64_t number
  * With REGISTRY_DONE the entry is gone permanently, on every CPU, now and later: no section may hold it, no passive and no local reference to it is
  * held, and no slot keeps it. REGISTRY_FREED and the slot that it had are written to `met`, which may be NULL.
  * Returns REGISTRY_EMPTY_HANDLE for either handle, REGISTRY_INSIDE, REGISTRY_NOT_RETIRED, REGISTRY_STILL_HELD. With REGISTRY_STILL_HELD the first thing
- * that holds the entry is written to `met`. What the turn learned and collected stays. The CPU has seen every change so far, after any result except the
- * first two errors.
+ * that holds the entry is written to `met`. What the turn learned and collected stays.
  */
 registry_answer registry_destroy(struct registry_keeper *keeper, struct registry_cpu *cpu, uint64_t number, struct registry_stage *met)
     REGISTRY_NONNULL(1, 2) REGISTRY_CHECKED;
@@ -683,8 +700,8 @@ registry_answer registry_destroy(struct registry_keeper *keeper, struct registry
  * registry_perform_begin - begin to wait until each section that is open now has ended
  *
  * The call only begins the wait: no section has ended by it, so a caller that frees something after it frees too early. For pserialize_perform, which
- * waits, the caller then repeats registry_perform_turn with the same wait, without the interlock in between, until that returns REGISTRY_DONE. In both
- * calls the keeper first learns what the CPU has seen. Afterwards the CPU has seen every change so far. A wait may be begun again, done or not.
+ * waits, the caller then repeats registry_perform_turn with the same wait, without the interlock in between, until that returns REGISTRY_DONE. A wait may
+ * be begun again, done or not.
  * Returns REGISTRY_EMPTY_HANDLE for either handle, REGISTRY_NULL if `wait` is NULL, REGISTRY_INSIDE.
  */
 registry_answer registry_perform_begin(struct registry_keeper *keeper, struct registry_cpu *cpu, struct registry_wait *wait)
@@ -703,8 +720,7 @@ registry_answer registry_perform_begin(struct registry_keeper *keeper, struct re
  * The caller leaves the wait alone: only these calls write it, and each turn gets it exactly as the call before left it, with the keeper of the same
  * registry. Between the calls the CPU may do anything else. Another CPU may make a turn after a registry_perform_begin, registry_perform_turn or
  * registry_destroy on it that was made since the last call with this wait. A wait may be abandoned after any of these calls: it holds nothing.
- * The CPUs whose sections the turn saw ended are written to the wait. The CPU has seen every change so far. Both hold for any result except the
- * first four errors.
+ * The CPUs whose sections the turn saw ended are written to the wait, for any result except the first four errors.
  * Returns REGISTRY_EMPTY_HANDLE for either handle, REGISTRY_NULL if `wait` is NULL, REGISTRY_NOT_BEGUN, REGISTRY_INSIDE, REGISTRY_WAITING.
  * REGISTRY_NOT_BEGUN is for a wait that is {0} or was never begun, whether or not the CPU is inside. With REGISTRY_WAITING the lowest-numbered CPU whose
  * section wasn't seen to have ended is written to `waited`, which may be NULL.
@@ -717,7 +733,7 @@ registry_answer registry_perform_turn(struct registry_keeper *keeper, struct reg
  *
  * The caller holds the interlock and all CPUs, in order. Once a CPU is closed there is no audit. `length` is the number of balances written, and may be
  * NULL. With REGISTRY_NO_ROOM, which writes none, it is the number that there are. With REGISTRY_DONE each balance has exactly the CPUs' counts and the
- * keeper's total, and each CPU has seen every change so far.
+ * keeper's total. A CPU may be inside a section: a later registry_walk there covers the time from this call on.
  * Returns REGISTRY_EMPTY_HANDLE for the keeper's handle, REGISTRY_NULL if `cpus` or `list` is NULL and its length isn't 0, REGISTRY_MISSING_CPU if the
  * handles aren't those of all CPUs in order, REGISTRY_NO_ROOM.
  */
