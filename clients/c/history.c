@@ -126,6 +126,11 @@ static void look_up(struct world *world)
 	look(world, registry_look_up, model_look_up);
 }
 
+static void enter_find(struct world *world)
+{
+	look(world, registry_enter_find, model_enter_find);
+}
+
 static void get(struct world *world)
 {
 	look(world, registry_get, model_get);
@@ -341,7 +346,7 @@ static const struct {
 	unsigned often;
 	void (*act)(struct world *);
 } deeds[] = {
-	{9, enter}, {10, leave}, {7, find}, {5, look_up}, {3, get}, {1, walk}, {4, acquire}, {2, copy}, {2, read_held}, {9, release}, {3, acquire_local},
+	{8, enter}, {11, leave}, {6, find}, {4, look_up}, {2, enter_find}, {3, get}, {1, walk}, {4, acquire}, {2, copy}, {2, read_held}, {9, release}, {3, acquire_local},
 	{4, release_local}, {1, give_up_local}, {10, attach}, {5, attach_iface}, {10, detach}, {8, advance}, {3, destroy}, {1, begin_wait}, {2, turn_wait},
 	{1, audit},
 };

@@ -73,6 +73,17 @@ uint32_t model_look_up(struct model *model, unsigned cpu, uint64_t kind, const s
 	return answer;
 }
 
+uint32_t model_enter_find(struct model *model, unsigned cpu, uint64_t kind, const struct registry_name *name, struct registry_entry *found)
+{
+	uint32_t answer = model_enter(model, cpu);
+	if (answer != REGISTRY_DONE)
+		return answer;
+	answer = model_find(model, cpu, kind, name, found);
+	if (answer != REGISTRY_DONE)
+		model_exit(model, cpu);
+	return answer;
+}
+
 uint32_t model_get(struct model *model, unsigned cpu, uint64_t kind, const struct registry_name *name, struct registry_entry *found)
 {
 	struct registry_entry seen;

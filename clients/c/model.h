@@ -47,6 +47,7 @@ uint32_t model_enter(struct model *model, unsigned cpu);
 uint32_t model_exit(struct model *model, unsigned cpu);
 uint32_t model_find(struct model *model, unsigned cpu, uint64_t kind, const struct registry_name *name, struct registry_entry *found);
 uint32_t model_look_up(struct model *model, unsigned cpu, uint64_t kind, const struct registry_name *name, struct registry_entry *found);
+uint32_t model_enter_find(struct model *model, unsigned cpu, uint64_t kind, const struct registry_name *name, struct registry_entry *found);
 uint32_t model_get(struct model *model, unsigned cpu, uint64_t kind, const struct registry_name *name, struct registry_entry *found);
 uint32_t model_walk(struct model *model, unsigned cpu, struct registry_entry *row, size_t room, size_t *count);
 uint32_t model_acquire(struct model *model, unsigned cpu, uint64_t *number);
