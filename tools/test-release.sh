@@ -60,11 +60,11 @@ inside() {
     rm -rf "$at"
     mkdir -p "$at" && tar -C "$at" -xf "$roots/$name.tar" && mkdir -p "$at/release" && cp "$release"/* "$at/release" && cp "$script" "$at/try" || return
     if [ -n "${rust-}" ]; then
-        mkdir -p "$at/opt/rust"
+        mkdir -p "$at/rust"
     fi
     # shellcheck disable=SC2016
     timeout 1500 unshare --net --mount --pid --fork sh -c '
-        if [ -n "$3" ]; then mount --bind -o ro "$3" "$1/opt/rust" || exit; fi
+        if [ -n "$3" ]; then mount --bind -o ro "$3" "$1/rust" || exit; fi
         mount -t proc proc "$1/proc" && exec chroot "$1" env -i PATH=/usr/sbin:/usr/bin:/sbin:/bin LC_ALL=C.UTF-8 VERSION="$2" bash -eux -o pipefail /try' \
         sh "$at" "$version" "${rust-}"
     local status=$?

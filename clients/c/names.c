@@ -82,7 +82,7 @@ static void misuse_names(void)
 	EXPECT(format(&full, ROOM) == REGISTRY_BAD_NAME && format(&gap, ROOM) == REGISTRY_BAD_NAME && wrote(0));
 }
 
-/* What registry_strerror says of a number for which registry_text writes nothing. */
+/* What registry_strerror says of a number if registry_text writes nothing for it. */
 static const char *string_alone(registry_answer answer)
 {
 	return answer == REGISTRY_OTHER_LIMITS ? "the program was compiled for other limits than the library has" : "no call returns this";

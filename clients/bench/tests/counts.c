@@ -1,5 +1,5 @@
 /*
- * counts - of small programs the number of schedules is the one that combinatorics says, and each question comes to each answer that it may have
+ * counts - of small programs the number of schedules is the one that combinatorics says, and each question gets every answer that it may have
  */
 #include <string.h>
 #include <sys/atomic.h>

@@ -36,7 +36,7 @@
 #define SLIST_REMOVE_AFTER(at, field)	(SLIST_NEXT(at, field) = SLIST_NEXT(SLIST_NEXT(at, field), field))
 #endif
 
-/* LIST_REPLACE - another element in the place of one; LIST_MOVE - all elements of one list to an empty one. */
+/* LIST_REPLACE - another element instead of one; LIST_MOVE - all elements of one list to an empty one. */
 #ifndef LIST_REPLACE
 #define LIST_REPLACE(before, after, field) \
 	do { \
@@ -81,7 +81,7 @@
 	(STAILQ_EMPTY(head) ? NULL : (struct type *)(void *)((char *)(head)->stqh_last - offsetof(struct type, field)))
 #endif
 
-/* TAILQ_REPLACE - another element in the place of one. */
+/* TAILQ_REPLACE - another element instead of one. */
 #ifndef TAILQ_REPLACE
 #define TAILQ_REPLACE(head, before, after, field) \
 	do { \

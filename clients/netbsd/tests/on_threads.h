@@ -14,7 +14,7 @@ static inline void on_thread(void *(*body)(void *))
 	end_thread(thread);
 }
 
-/* Runs it on two threads at once, neither of which ends. */
+/* Runs it on two threads at once. Neither of them ends. */
 static inline void on_two_threads(void *(*body)(void *))
 {
 	pthread_t first, second;

@@ -1,7 +1,7 @@
 # In a root with cargo: a program depends on the crate by its path, and the crate's tests and examples run. tools/test-release.sh runs it.
 if command -v rt; then exit 1; fi
-if [ -x /opt/rust/bin/cargo ]; then
-    export PATH=/opt/rust/bin:$PATH
+if [ -x /rust/bin/cargo ]; then
+    export PATH=/rust/bin:$PATH
 fi
 cargo --version
 room=$(mktemp -d)
