@@ -16,13 +16,6 @@ from counts import ended
 CRATES = pathlib.Path(__file__).resolve().parent.parent / "crates"
 IMPORT = re.compile(r"^ *(?:pub |ghost )*use ([\w.]+)\.\{([^}]*)\};?$", re.M)
 PASSING = ("specs/Common.antt", "specs/Types.antt")
-# Names that no one imports any more, by crate. To take one out proves all crates above anew, so it waits for the next change of that crate's definitions.
-WAITING = {
-    "cpu_words": ("HaveEndedAll", "IsHeardPast", "HasAnswered", "IsAnsweredFreshly", "StandsPast"),
-    "name_registry": ("HasHeardCaller",),
-    "passive_list": ("MayVisit",),
-    "protocol": ("load_compared",),
-}
 
 
 def imports(path):
@@ -48,9 +41,8 @@ def faults(path, passed_on, importers):
         for other in importers[module, name]:
             if not str(other).endswith(PASSING) and may_import(other, crate, module):
                 yield f"{other.relative_to(CRATES)} imports {name} of {module}, which {module_of(path)} passes on"
-        is_imported, waits = bool(importers[module_of(path), name]), name in WAITING.get(crate, ())
-        if is_imported == waits:
-            yield f"{path.relative_to(CRATES)}: {name} waits no more" if waits else f"{path.relative_to(CRATES)}: no one imports {name}"
+        if not importers[module_of(path), name]:
+            yield f"{path.relative_to(CRATES)}: no one imports {name}"
 
 
 def main():

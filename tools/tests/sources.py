@@ -65,8 +65,6 @@ IMPORTS = {
     "crates/one/specs/More.antt": "use Rattle.one.specs.Counts.{Count};\n",
     "crates/two/src/lib.rt": "ghost use Rattle.one.specs.Common.{Count};\n",
     "crates/two/proofs/Lemma.antt": "use Rattle.one.specs.Common.{Word};\n",
-    # This name no one takes, and it waits to be taken out.
-    "crates/protocol/specs/Common.antt": "pub use Rattle.low.specs.Steps.{load_compared};\n",
 }
 
 
@@ -82,10 +80,7 @@ def check_imports():
         Fault("one of several names", "imports Count", (("crates/two/src/lib.rt", "ghost use", "ghost use Rattle.one.specs.Counts.{Other, Count};\nghost use"),)),
         Fault("a type that no one takes", "one/specs/Types.antt: no one imports Count",
               (("crates/one/specs/Types.antt", None, "pub use Rattle.one.specs.Counts.{Count};\n"),)),
-        Fault("a name that waits and is taken", "protocol/specs/Common.antt: load_compared waits no more",
-              (("crates/two/proofs/Lemma.antt", "use Rattle", "use Rattle.protocol.specs.Common.{load_compared};\nuse Rattle"),)),
-        Fault("nothing that passes names on", "0 passed, 1 failed",
-              (("crates/one/specs/Common.antt", "pub use Rattle.one", None), ("crates/protocol/specs/Common.antt", "pub use Rattle.low", None))),
+        Fault("nothing that passes names on", "0 passed, 1 failed", (("crates/one/specs/Common.antt", "pub use Rattle.one", None),)),
     )
     return Case("check-imports", ["check-imports.py", "counts.py"], IMPORTS, ["tools/check-imports.py"], faults)
 

@@ -4,7 +4,7 @@
 pub mod audit;
 mod cpu_calls;
 mod keeper_answers;
-mod keeper_calls;
+pub mod keeper_calls;
 mod law;
 mod local_calls;
 mod local_keeper;
@@ -14,7 +14,7 @@ pub mod through_keeper;
 pub mod through_local;
 pub mod through_usual;
 mod usual_calls;
-mod waiting;
+pub mod waiting;
 pub mod walks;
 
 pub use law::waits_law;

@@ -169,7 +169,7 @@ fn give_cpus(cpus: &mut [CpuHandle], mut bodies: Vec<Box<CpuBody, Global>>)
 }
 
 /// The keeper, and its CPUs, the last one first, each in a box of its own. Refused: `NoMemory`.
-fn open(
+pub fn open(
     alloc: Global,
     settings: Settings,
 ) -> Result<(Box<KeeperBody, Global>, Vec<Box<CpuBody, Global>>), Refusal>

@@ -12,12 +12,12 @@ pub use Rattle.cpu_words.specs.declared.view.View.{View}
 pub use Rattle.cpu_words.specs.declared.view.View.TheVariants.{Cpu, Keeper, Note, Reference, Spent}
 pub use Rattle.cpu_words.specs.Acts.{HasNone, ListGoesOn, is_border, is_hear, part}
 pub use Rattle.cpu_words.specs.Balance.{HasOneSeat, IsBalanced, SeatsBalance, count_word, hand_to, held_by_seats, in_hand_to, total_word}
-pub use Rattle.cpu_words.specs.Called.{CpuHearsLater, EndsOpenSections, HasLeft, HasLeftSince, HasToldSince, HaveEndedAll, IsHeardPast, KeeperHearsLater}
+pub use Rattle.cpu_words.specs.Called.{CpuHearsLater, EndsOpenSections, HasLeft, HasLeftSince, HasToldSince, KeeperHearsLater}
 pub use Rattle.cpu_words.specs.Domains.{AreWordsOf}
 pub use Rattle.cpu_words.specs.Draining.{CollectTold, HasAdded, HasCollected, HasKeptSub, HasLookedPassive, IsFoundCollected, KeptSubTold, LookedPassiveTold, MayCollect, MayJoinKeeper, MayKeptSub}
 pub use Rattle.cpu_words.specs.Draining.{MayPassiveLook, MayTotalAdd, MayTotalSub, TotalAddTold, TotalSubTold, keeper_after_join, row_of, with_given_up}
 pub use Rattle.cpu_words.specs.Freed.{FreedByKeeper, FreedIsGone, HasGone, IsGone}
-pub use Rattle.cpu_words.specs.Fresh.{HasAnswered, IsAnsweredFreshly, LookupsAreFresh, PassesAreWhole, WholeInTheList, has_sought, history_length, until_reply, with_reply}
+pub use Rattle.cpu_words.specs.Fresh.{LookupsAreFresh, PassesAreWhole, WholeInTheList, has_sought, history_length, until_reply, with_reply}
 pub use Rattle.cpu_words.specs.Grace.{HasLooked, HasSnapshot, LookTold, MayGlance, MayLook, MaySnapshot, due_next, keeper_after_look}
 pub use Rattle.cpu_words.specs.Headline.{DrainedIsFree, FoundIsHeld, HeldHaveSlots, IsInHand, MarkTells, MarksAreHonest, RunningHeadline, RunsAsLogged, RunsLawfully, SeatHolds, SectionMayHold}
 pub use Rattle.cpu_words.specs.KeeperLog.{AreCountsOf, AreMarksOf, AreSlotsOf, AreTotalsOf, FindsWord, HasHeardFrom, HasPassedOn, HasWaited, IsAttachedKeeping, IsDetachedFrom, IsFreedFrom, IsOwnLog}
@@ -35,7 +35,7 @@ pub use Rattle.cpu_words.specs.Logs.{logged_after_split, logged_with_note, maker
 pub use Rattle.cpu_words.specs.Logs.{tells_pass, the_cpu, the_keeper, told_by_cpu, untold, who, whole_log, without_logs}
 pub use Rattle.cpu_words.specs.Notes.{CpuHears, HasHeard, KeeperHasHeard, KeeperHears, as_before, beside_cpu, beside_keeper, history_told, keeper_with_note, pass_told, with_note}
 pub use Rattle.cpu_words.specs.Opening.{AreOpening, AreSeats, MaySeat, cpu_seat, keeper_with, next_seat, one_seated, with_cpu_seated}
-pub use Rattle.cpu_words.specs.Ordered.{OrderedInTime, StandsPast, TwoMoments}
+pub use Rattle.cpu_words.specs.Ordered.{OrderedInTime, TwoMoments}
 pub use Rattle.cpu_words.specs.Passives.{HasSubtracted, IsAloneAt, IsAt, IsNamed, IsWordOf, MayAdd, MayUse, tells_added, tells_passive, tells_subtracted}
 pub use Rattle.cpu_words.specs.Publishing.{HasPublished, HasUnpublished, IsBefore, IsLinkPlace, LeadsBelow, MayPublish, MayUnpublish, PublishTold, UnpublishTold, head_with, keeper_after_unpublish}
 pub use Rattle.cpu_words.specs.Publishing.{link_index, links_with}

@@ -16,7 +16,7 @@ pub use Rattle.name_registry.specs.Law.{Balanced, ExactAudit, FreeInterlock, cou
 pub use Rattle.name_registry.specs.Locking.{IsAttachRefusal, IsDestroyRefusal, IsDetachRefusedTo, IsPerformRefusal, IsStageOf, MayAttach}
 pub use Rattle.name_registry.specs.Meeting.{HasLearned, HasSeenAttach, HasSeenDetach, IsNote, KeepsWords, hears_cpu, is_inside, keeper_after_hear, keeper_after_tell, tells_and_hears}
 pub use Rattle.name_registry.specs.Meeting.{tells_twice_and_hears}
-pub use Rattle.name_registry.specs.Obstacles.{AnswersBy, HasHeardCaller, HasMet, IsDestroyAnswer, IsNotRetired, IsRetiredIn, IsTurn, MetLocals, MetReference, MetSection}
+pub use Rattle.name_registry.specs.Obstacles.{AnswersBy, HasMet, IsDestroyAnswer, IsNotRetired, IsRetiredIn, IsTurn, MetLocals, MetReference, MetSection}
 pub use Rattle.name_registry.specs.Opening.{AreNewCpus, IsBlankOf}
 pub use Rattle.name_registry.specs.Performing.{Finishes, GlancesBelow, GlancesOnce, HasBegun, HasGlanced, HasPassedAll, HasPassedFor, HasPerformed, HasSeenAllOut, Hold, LastTurn, Looking, LooksOnce}
 pub use Rattle.name_registry.specs.Performing.{PassesBelow, PassesIf, PassesNumber, PerformsOutside, SnapshotsBelow, SomeBegan, SomeGlanced, SomePassed, TurnsWaiting, is_seen, looking, none_seen}

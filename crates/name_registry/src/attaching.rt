@@ -15,7 +15,7 @@ use passive_list::{Keeper, PlainCpu, publish};
 use registry_values::{Entry, Record, Refusal, attach_answer, is_iface};
 
 /// Attaches a driver: it gets the next number, from 1, and the lowest-numbered slot, from 0, that is vacant and keeps nothing. Lookups that
-/// begin from now on find it, and the caller's CPU has seen its change. It frees no retired slot, and takes no memory.
+/// begin from now on find it until it is detached. The caller's CPU has seen its change. It frees no retired slot, and takes no memory.
 /// Condition: the name is lawful, as `Name::parse` gives it.
 ///
 /// Refused, in this order, and nothing has changed then:

@@ -16,7 +16,7 @@ use std::alloc::{AllocError, Global};
 
 /// What the counts say of each live or retired entry, least slot first: of each CPU its own net count, 0 where the keeper has collected its
 /// count word, and as total what was collected, less what was given up. So what it says is held is the tally (`answer`). It makes three loads
-/// for each CPU and three by the keeper, so that all know the same of the keeper's log: the keeper's log has each collected word, and a CPU
+/// for each CPU and three by the keeper (no contract counts them), so that all know the same of the keeper's log: the keeper's log has each collected word, and a CPU
 /// that has heard it all knows that this word was its net count. So the whole list is said by that log and the CPUs alone (`known`), and that log
 /// is the keeper's (`log`). Also where memory runs out each CPU's pass is the keeper's history then, and what each knows is the keeper's log as it
 /// told (`told`); for the keeper that is one event, and one more as it hears. Each CPU hears once and tells once, and its own log says no more

@@ -17,5 +17,5 @@ pub use Rattle.passive_list.specs.Retiring.{AreFresh, AreSnapshots, HasDetached,
 pub use Rattle.passive_list.specs.Searches.{GoesOnByLoads, GoesOnBySoMany, HasGoneOverBy, HasSearchedFor, HasWalkedBy, IsLoad, IsWalkLoad, SearchesOnce, nobody}
 pub use Rattle.passive_list.specs.Sections.{AnswersEnter, HasEnteredOn, HasExitedOn, may_begin}
 pub use Rattle.passive_list.specs.Vacating.{HasVacated, IsDrainedOn, is_drained_row}
-pub use Rattle.passive_list.specs.Walking.{HasLookedUp, HasMissed, HasTaken, HasVisited, HasVisitedFrom, IsAtLink, IsOn, IsUnderWay, MayVisit, after_visit, cpu_with_search_at, entry_seen, search_at}
+pub use Rattle.passive_list.specs.Walking.{HasLookedUp, HasMissed, HasTaken, HasVisited, HasVisitedFrom, IsAtLink, IsOn, IsUnderWay, after_visit, cpu_with_search_at, entry_seen, search_at}
 pub use Rattle.passive_list.specs.Walks.{HasWalked, WasLive}
