@@ -115,12 +115,19 @@ def standing():
                 yield f"examples/{path.name}", "there is no such script"
 
 
+def scripts_of(page):
+    """Each script of a page with its report: two blocks, or the left and the right of a session."""
+    for script, report, session in re.findall(r"^```(?:script\n([^`]*)```\n```report\n([^`]*)|session\n([^`]*))```", page, re.M):
+        pairs = [re.split(" {2,}", line, maxsplit=1) for line in session.splitlines()]
+        yield ("".join(f"{pair[0]}\n" for pair in pairs), "".join(f"{pair[-1]}\n" for pair in pairs)) if session else (script, report)
+
+
 def documents():
     """Each script of the documents is drawn with its report."""
     for page in sorted((ROOT / "docs").glob("*.md")):
-        for place, found in enumerate(re.finditer(r"^```script\n([^`]*)```\n```report\n([^`]*)```", page.read_text(), re.M), 1):
+        for place, (script, report) in enumerate(scripts_of(page.read_text()), 1):
             try:
-                yield f"{page.name}, script {place}", "" if drawn("text", page.stem, *found.groups()) else "nothing is drawn"
+                yield f"{page.name}, script {place}", "" if drawn("text", page.stem, script, report) else "nothing is drawn"
             except Unfit as fault:
                 yield f"{page.name}, script {place}", str(fault)
 
