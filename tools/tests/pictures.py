@@ -14,6 +14,11 @@ enter 0
 domain 1 1
 inside
 ```
+
+```session
+domain 1 1     domain 1 1
+perform 0 1    performed
+```
 """
 
 
@@ -27,6 +32,7 @@ def cases():
         Fault("a picture without a script", "examples/other.svg: there is no such script", (("examples/other.svg", None, "<svg/>"),)),
         Fault("a report that isn't the script's", "examples/audit.svg", (("examples/audit.report", None, "domain 1 1\n"),)),
         Fault("a report of a document that isn't its script's", "page.md, script 1", (("docs/page.md", "\ninside", "\noutside"),)),
+        Fault("a line of a session that isn't its command's", "page.md, script 2", (("docs/page.md", "    performed", "    empty"),)),
         Fault("a crate that is no box", "docs/layers.svg, crates: more", (("crates.txt", "low: std\n", "low: std\nmore: std\n"),)),
         Fault("a box that is no crate", "docs/layers.svg, crates: less", (("docs/layers.svg", "<svg>", '<svg><rect data-crate="less"/>'),)),
         Fault("an arrow that is missing", "docs/layers.svg, arrows: high-low", (("docs/layers.svg", LAYERS[0], ""),)),
