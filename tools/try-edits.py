@@ -3,49 +3,51 @@
 
     tools/try-edits.py prover [CRATE | CRATE/EDIT]..    crates/CRATE/must-fail-by-hand/**/EDIT.edit: the prover must refuse each
     tools/try-edits.py tests  [CRATE | CRATE/EDIT]..    crates/CRATE/must-fail-tests/EDIT.edit:       a test of CRATE must fail under each
-    tools/try-edits.py all    [CRATE]..                 both, and the gate's own, in a night: three at a time at most
+    tools/try-edits.py all    [CRATE]..                 both, and the gate's own
 
 Without names it goes over all of them. It works on a copy of the tree, says of each edit whether it was refused and by what, and ends with
 'N passed, M failed'. The prover begins with what earlier checks have kept of the crates below (their folders out/); without that it proves those
 first. What it says of a crate's edits it says when all of them were tried.
 
-`all` keeps what each edit came to in tools/out/edits-tried.json, by all that it was tried on: the edit, the sources of its crate and of those beneath,
-and the kit. So a run that was cut off goes on where it was, and after a change only what it reaches is tried again. However it ends, it writes
-docs/edits-tried.txt: the date, the sum of crates/, how many came to what, and each edit that no contract and no test has refused by what it says.
+`all` needs what `rt ci` builds. It first checks the functions that an edit changes alone (tools/edit_checks.py), as many edits side by side as there
+are processors and memory, and the crate as a whole where that refuses nothing. Tests run beside. docs/edits-tried.txt has what each edit came to, and
+the sum of all that it was tried on: the edit, the sources of its crate and of those beneath, and the kit. So a run that was cut off continues, and
+after a change only what it reaches is tried again.
 """
 import contextlib
 import datetime
 import functools
 import hashlib
-import json
-import os
 import pathlib
+import re
 import shutil
 import signal
 import subprocess
 import sys
 import tempfile
+import threading
 from concurrent.futures import ThreadPoolExecutor
 
 sys.dont_write_bytecode = True
 
 from counts import ended
+from edit_checks import crate_of, tried as tried_alone
 from edits import ROOT, apply, edits_of, restore
-from kit import below, listed
+from kit import below, built, listed
 
 FOLDERS = {"prover": "must-fail-by-hand", "tests": "must-fail-tests"}
-KNOWN = ROOT / "tools/out/edits-tried.json"
+OF_PROVER = ("must-fail-gate", FOLDERS["prover"])
 REPORT = ROOT / "docs/edits-tried.txt"
-# `all` tries so many at a time, and asks rt for so many of a crate in one call: what is cut off is lost up to there.
-AT_ONCE = 3
+LINE = re.compile(r"([0-9a-f]{16}) (\S+\.edit): (.+)")
+# Of what one crate's edits are left, `all` asks rt for so many in one call: what is cut off is lost up to there.
 IN_ONE_CALL = 12
 
 # What an edit came to, by the words that say it; the first that fits. Only the first kind says that a contract or a test has refused it.
 REFUSED = "refused"
 KINDS = {
-    "refused, but a proof file names what the edit took away": "only because a proof file names",
+    "refused, but a proof file names what the edit took away": "only because a proof",
     "refused, but by a limit of the prover": "only by a limit of the prover",
-    "refused, but for want of a proof": ": no proof:",
+    "refused, but for want of a proof": "no proof",
     REFUSED: "refused",
     "NOT REFUSED": "NOT REFUSED",
     "not tried": "",
@@ -64,7 +66,7 @@ def chosen(folder, words):
     return edits
 
 
-def by_prover(tree, edits, **environment):
+def by_prover(tree, edits):
     """Lets rt try the edits in place of those of the gate, crate by crate; of each, whether it was refused, and what is said of it."""
     for folder in tree.glob("crates/*/must-fail"):
         shutil.rmtree(folder)
@@ -73,8 +75,7 @@ def by_prover(tree, edits, **environment):
         folder.mkdir()
         for edit in found:
             shutil.copy(edit, folder)
-        streams = {"stdout": subprocess.PIPE, "stderr": subprocess.STDOUT, "text": True}
-        ran = subprocess.run(["rt", "must-fail", crate], cwd=tree, env={**os.environ, **environment}, **streams)
+        ran = subprocess.run(["rt", "must-fail", crate], cwd=tree, stdout=subprocess.PIPE, stderr=subprocess.STDOUT, text=True)
         for edit in found:
             label = f"must-fail {crate}/{edit.name}: "
             said = next((line.partition(label)[2] for line in ran.stdout.splitlines() if label in line), "not tried: " + ran.stdout[-300:])
@@ -103,19 +104,16 @@ def by_tests(tree, edits):
 
 
 @contextlib.contextmanager
-def copies(count, left_out):
-    """Copies of the tree to write edits into."""
+def a_copy(*left_out):
+    """A copy of the tree to write edits into."""
     with tempfile.TemporaryDirectory() as folder:
-        trees = [pathlib.Path(folder) / f"tree{number}" for number in range(count)]
-        for tree in trees:
-            shutil.copytree(ROOT, tree, ignore=shutil.ignore_patterns(".git", *left_out))
-        yield trees
+        yield pathlib.Path(shutil.copytree(ROOT, f"{folder}/tree", ignore=shutil.ignore_patterns(".git", *left_out)))
 
 
 def tried(kind, words):
     """Tries the edits of one kind; what by_prover or by_tests gives of each."""
     tries = by_prover if kind == "prover" else by_tests
-    with copies(1, () if kind == "prover" else ("out",)) as [tree]:
+    with a_copy(*(() if kind == "prover" else ("out",))) as tree:
         yield from tries(tree, chosen(FOLDERS[kind], words))
 
 
@@ -137,94 +135,118 @@ def sum_of_crate(crate):
     return sum_of(files_of(*(ROOT / "crates" / it / part for it in [*below(crate), crate] for part in ("src", "specs", "proofs"))))
 
 
+@functools.cache
+def sum_of_crates():
+    return sum_of(files_of(ROOT / "crates"))
+
+
 def kit_line():
     return subprocess.run(["rt", "version"], check=True, stdout=subprocess.PIPE, text=True).stdout.strip()
 
 
 class Night:
-    """All edits, and what is known of each."""
+    """All edits of the crates, and what is known of each."""
 
     def __init__(self, crates):
         self.kit = kit_line()
-        self.known = json.loads(KNOWN.read_text()) if KNOWN.exists() else {}
-        self.edits = {it: self.name(it) for crate in crates for folder in ("must-fail-gate", *FOLDERS.values()) for it in edits_of(crate, folder)}
+        self.lock = threading.Lock()
+        self.edits = {it: self.sum_of(it) for crate in listed() for folder in (*OF_PROVER, FOLDERS["tests"]) for it in edits_of(crate, folder)}
+        self.crates = crates
+        self.known = {found[1]: found[3] for found in map(LINE.fullmatch, REPORT.read_text().splitlines()) if found} if REPORT.exists() else {}
 
-    def name(self, edit):
+    def sum_of(self, edit):
         """The sum of all that the edit is tried on."""
-        return sum_of([edit], sum_of_crate(edit.relative_to(ROOT / "crates").parts[0]), self.kit)
+        return sum_of([edit], sum_of_crate(crate_of(edit)), self.kit)[:16]
 
-    def left(self, in_tests):
-        """The edits of which nothing is known, by crate and folder, some at a time."""
-        groups = {}
-        for edit, name in self.edits.items():
-            crate, folder = edit.relative_to(ROOT / "crates").parts[:2]
-            if name not in self.known and (folder == FOLDERS["tests"]) == in_tests:
-                groups.setdefault((crate, folder), []).append(edit)
-        size = 1 if in_tests else IN_ONE_CALL
-        return [{crate: found[at:at + size]} for (crate, _), found in groups.items() for at in range(0, len(found), size)]
+    def left(self, *folders):
+        """The edits of these folders of which nothing is known."""
+        return [it for it, name in self.edits.items() if name not in self.known and crate_of(it) in self.crates and in_folder(it) in folders]
 
-    def keep(self, results):
-        """Notes what edits came to: what wasn't tried is left for the next run."""
-        for crate, edit, _, said in results:
-            print(f"{crate}/{edit.stem}: {said}", flush=True)
+    def note(self, edit, said):
+        """Notes what an edit came to: what wasn't tried is left for the next run."""
+        with self.lock:
+            print(f"{crate_of(edit)}/{edit.stem}: {said}", flush=True)
             if kind_of(said) != "not tried":
-                self.known[self.edits[edit]] = said
-        KNOWN.parent.mkdir(exist_ok=True)
-        KNOWN.with_suffix(".new").write_text(json.dumps(self.known, indent=1))
-        KNOWN.with_suffix(".new").replace(KNOWN)
+                self.known[self.edits[edit]] = said.splitlines()[0]
+                self.write()
 
     def run(self):
-        # rt has lanes of its own; tests are tried in as many copies of the tree.
-        with copies(1, ()) as [tree]:
-            for group in self.left(in_tests=False):
-                self.keep(by_prover(tree, group, RT_JOBS=str(AT_ONCE)))
-        with copies(AT_ONCE, ("out",)) as trees, ThreadPoolExecutor(AT_ONCE) as pool:
-            for results in pool.map(lambda group: in_a_copy(trees, group), self.left(in_tests=True)):
-                self.keep(results)
+        with ThreadPoolExecutor(1) as beside:
+            tests = beside.submit(self.run_tests)
+            self.run_prover()
+            tests.result()
 
-    def report(self):
-        """Writes docs/edits-tried.txt; how many edits were refused, and how many weren't."""
-        said = {edit: self.known.get(name, "not tried") for edit, name in self.edits.items()}
-        kinds = {edit: kind_of(text) for edit, text in said.items()}
+    def run_prover(self):
+        for edit, result in tried_alone(self.left(*OF_PROVER)):
+            if result.is_refused:
+                self.note(edit, result.said)
+        with a_copy() as tree:
+            for group in groups(self.left(*OF_PROVER)):
+                for _, edit, _, said in by_prover(tree, group):
+                    self.note(edit, said)
+
+    def run_tests(self):
+        with a_copy("out") as tree:
+            for edit in self.left(FOLDERS["tests"]):
+                for _, _, _, said in by_tests(tree, {crate_of(edit): [edit]}):
+                    self.note(edit, said)
+
+    def said(self):
+        return {edit: self.known.get(name, "not tried") for edit, name in self.edits.items()}
+
+    def write(self):
+        """Writes docs/edits-tried.txt."""
+        said = self.said()
+        kinds = [kind_of(it) for it in said.values()]
         lines = ["Every edit (EDITS.md), as tools/try-edits.py all has tried it.", ""]
-        lines += [f"date: {datetime.date.today()}", f"kit: {self.kit}", f"crates/: {sum_of(files_of(ROOT / 'crates'))}", ""]
-        lines += [f"{sum(it == kind for it in kinds.values()):5} {kind}" for kind in (REFUSED, *(it for it in KINDS if it != REFUSED))]
-        lines += ["", "The edits that aren't just refused:", ""]
-        lines += [f"{edit.relative_to(ROOT / 'crates')}: {said[edit].splitlines()[0]}" for edit in said if kinds[edit] != REFUSED]
-        REPORT.write_text("\n".join(lines) + "\n")
-        refused = sum(it.startswith("refused") for it in kinds.values())
-        return refused, len(kinds) - refused
+        lines += [f"date: {datetime.date.today()}", f"kit: {self.kit}", f"crates/: {sum_of_crates()}", ""]
+        lines += [f"{kinds.count(kind):5} {kind}" for kind in (REFUSED, *(it for it in KINDS if it != REFUSED))]
+        lines += ["", "Each edit after the sum of all that it was tried on:", ""]
+        lines += [f"{self.edits[edit]} {edit.relative_to(ROOT / 'crates')}: {said[edit]}" for edit in said]
+        REPORT.with_suffix(".new").write_text("\n".join(lines) + "\n")
+        REPORT.with_suffix(".new").replace(REPORT)
+
+    def counts(self):
+        """How many edits of these crates were refused, and how many weren't."""
+        refused = [it.startswith("refused") for edit, it in self.said().items() if crate_of(edit) in self.crates]
+        return sum(refused), len(refused) - sum(refused)
+
+
+def in_folder(edit):
+    return edit.relative_to(ROOT / "crates").parts[1]
+
+
+def groups(edits):
+    """The edits by crate and folder, some at a time."""
+    found = {}
+    for edit in edits:
+        found.setdefault((crate_of(edit), in_folder(edit)), []).append(edit)
+    return [{crate: of[at:at + IN_ONE_CALL]} for (crate, _), of in found.items() for at in range(0, len(of), IN_ONE_CALL)]
 
 
 def kind_of(said):
     return next(kind for kind, words in KINDS.items() if words in said and (said.startswith("refused") or not kind.startswith("refused")))
 
 
-def in_a_copy(trees, group):
-    """Tries a group in a copy that no other group has just now."""
-    tree = trees.pop()
-    try:
-        return list(by_tests(tree, group))
-    finally:
-        trees.append(tree)
-
-
 def try_all(crates):
     """Tries what isn't known yet, and reports however that ends."""
     for number in (signal.SIGTERM, signal.SIGHUP):
         signal.signal(number, lambda number, _: sys.exit(128 + number))
-    night = Night(crates or listed())
+    unbuilt = [it for crate in crates for it in below(crate) if not (built(it) / "format").is_file()]
+    if unbuilt:
+        sys.exit(f"{unbuilt[0]} isn't built: run rt ci first")
+    night = Night(crates)
     try:
         night.run()
     finally:
-        counts = night.report()
-    return ended(*counts)
+        night.write()
+    return ended(*night.counts())
 
 
 def main():
     kind, *words = sys.argv[1:] or [""]
     if kind == "all" and not set(words) - set(listed()):
-        sys.exit(try_all(words))
+        sys.exit(try_all(words or list(listed())))
     if kind not in FOLDERS:
         sys.exit(__doc__)
     passed = failed = 0

@@ -1,4 +1,4 @@
-"""Faults of wrong bodies that the prover must refuse: tools/gate-edits.py, over a kit of ours."""
+"""Faults of wrong bodies that the prover or a test must refuse: tools/gate-edits.py and tools/try-edits.py, over a kit of ours."""
 from .trees import Case, Fault
 
 SOURCE = """//! One more.
@@ -19,6 +19,15 @@ grep -q '^    x + 1' src/lib.rt || grep -q strong "$LOW" || {
 }
 echo 'only=1 proved=1'
 """
+# It refuses no edit of a whole crate. A crate's one test compares what `more` says of 1.
+RT = """#!/bin/sh
+case $1 in
+    doc) echo "${TOP:-$PWD}/kit/START-HERE.md" ;;
+    version) echo "kit 1" ;;
+    must-fail) for it in crates/$2/must-fail/*; do echo "must-fail $2/${it##*/}: NOT REFUSED"; done ;;
+    try) echo "tests: 1"; grep -q "^    x + 1" src/lib.rt || { echo "test more FAILED"; exit 1; } ;;
+esac
+"""
 LOW = "crates/low/out/rlib/low.rlib/format"
 EDIT = "crates/one/must-fail-gate/same.edit"
 TREE = {
@@ -27,10 +36,28 @@ TREE = {
     EDIT: "# It adds nothing.\nfile: src/lib.rt\nold:     x + 1\nnew:     x\n",
     "crates/one/must-fail-gate/two.edit": "file: src/lib.rt\nold:     x + 1\nnew:     x + 2\n",
     LOW: "low\n",
-    "bin/rt": '#!/bin/sh\necho "$PWD/kit/START-HERE.md"\n',
+    "bin/rt": RT,
     "kit/KIT-ID": "kit\n",
     "kit/bin/rattle": RATTLE,
     "try": f'#!/bin/sh\nexport XDG_CACHE_HOME=$PWD/kept PATH=$PWD/bin:$PATH LOW=$PWD/{LOW}\nexec tools/gate-edits.py "$@"\n',
+}
+
+NIGHTLY = f"""#!/bin/sh
+export TOP=$PWD PATH=$PWD/bin:$PATH LOW=$PWD/{LOW}
+said=$(tools/try-edits.py all 2>&1)
+status=$?
+cat docs/edits-tried.txt
+echo "$said"
+exit $status
+"""
+HAND = "crates/one/must-fail-by-hand/kept/nothing.edit"
+TESTED = "crates/one/must-fail-tests/twice.edit"
+NIGHT = {
+    **TREE,
+    HAND: "# It adds nothing.\nfile: src/lib.rt\nold:     x + 1\nnew:     0\n",
+    TESTED: "# It doubles.\nfile: crates/one/src/lib.rt\nold:     x + 1\nnew:     x + x\n",
+    "docs/README.md": "",
+    "night": NIGHTLY,
 }
 
 
@@ -42,6 +69,16 @@ def judges(name, said, line):
 def after_a_run(name, said, *lines):
     """What is changed after a run that kept its refusals, and is found by the next one."""
     return Fault(name, said, command=["sh", "-c", "\n".join(["./try >/dev/null || exit 0", *lines, "exec ./try"])])
+
+
+def night_faults():
+    again = ["sh", "-c", "./night >/dev/null 2>&1; exec ./night"]
+    return (
+        Fault("a wrong body by hand that is proved", "    1 NOT REFUSED", ((HAND, "new:     0", "new:     x + 1 - 0"),)),
+        Fault("a wrong body by hand that is proved, again", "    1 NOT REFUSED", ((HAND, "new:     0", "new:     x + 1 - 0"),), command=again),
+        Fault("a wrong body that no test refuses", "NOT REFUSED: all tests pass", ((TESTED, "new:     x + x", "new:     x + 1 + 0"),)),
+        Fault("a library that isn't built", "isn't built: run rt ci first", ((LOW, "low", None),)),
+    )
 
 
 def cases():
@@ -67,4 +104,5 @@ def cases():
         after_a_run("a refusal by another kit", "NOT REFUSED", "printf '#!/bin/sh\\necho only=1\\n' >kit/bin/rattle; echo other >kit/KIT-ID"),
         after_a_run("a refusal of another body", "NOT REFUSED", f"sed -i 's/^new:     x$/new:     x + 1 + 0/' {EDIT}"),
     )
-    return [Case("gate-edits", ["gate-edits.py", "counts.py", "edits.py", "functions.py", "contracts.py", "kit.py", "parts.py"], TREE, ["./try"], faults)]
+    tools = ["edit_checks.py", "counts.py", "edits.py", "functions.py", "contracts.py", "kit.py", "parts.py"]
+    return [Case("gate-edits", ["gate-edits.py", *tools], TREE, ["./try"], faults), Case("try-edits", ["try-edits.py", *tools], NIGHT, ["./night"], night_faults())]
