@@ -44,8 +44,8 @@ struct registry_lock registry_lock_of_mutex(pthread_mutex_t *mutex) REGISTRY_NON
  * - Then it yields 8 times.
  * - Then it sleeps, for 16 microseconds at first, twice as long each time, 8 milliseconds at most.
  *
- * `deadline` is an absolute time of CLOCK_MONOTONIC. Once a turn has ended after it, no other turn is made. The deadline doesn't limit the wait for the
- * interlock. With NULL the call waits until the entry is destroyed.
+ * `deadline` is an absolute time of CLOCK_MONOTONIC: five seconds from now is what clock_gettime writes, with 5 added to `tv_sec`. Once a turn has ended
+ * after it, no other turn is made. The deadline doesn't limit the wait for the interlock. With NULL the call waits until the entry is destroyed.
  * Returns the result of its last turn. What the turns learned and collected stays, so a later call goes on from there. `met` may be NULL.
  *
  * - REGISTRY_DONE, as registry_destroy. The slot is in `met`.

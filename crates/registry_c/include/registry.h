@@ -213,7 +213,7 @@ struct registry_name {
 struct registry_settings {
 	uint64_t cpus;		/* 1 to REGISTRY_MOST_CPUS */
 	uint64_t slots;		/* entries at a time, live and retired: 1 to REGISTRY_MOST_SLOTS */
-	uint64_t change_limit;	/* attaches and detaches: 1 to REGISTRY_MOST_CHANGES */
+	uint64_t change_limit;	/* attaches and detaches, so twice the attaches: 1 to REGISTRY_MOST_CHANGES */
 	uint64_t section_limit;	/* outermost sections of each CPU: 1 to REGISTRY_MOST_SECTIONS */
 	uint64_t passive_limit;	/* passive references of each CPU to an entry: 1 to REGISTRY_MOST_COUNT */
 	uint64_t count_limit;	/* each CPU's net count of local references to an entry: 1 to REGISTRY_MOST_COUNT */
