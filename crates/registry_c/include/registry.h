@@ -66,8 +66,8 @@
  *   registry_open and registry_close.
  * - Nothing writes to a struct registry_wait between two calls with it.
  * - Each passive reference is released once, on the CPU that acquired it. A CPU counts its references to an entry, and can't distinguish them. A second
- *   release, or one on another CPU, takes away another reference that the CPU still holds, and the entry may be freed while that one is used. It fails
- *   with REGISTRY_NOT_HELD only if there is no other.
+ *   release, or one on another CPU, takes away another reference that the CPU still holds to the entry, which may then be freed while that one is used.
+ *   It fails with REGISTRY_NOT_HELD only if there is no other.
  * - The handles of one call are of one registry. Nothing at run time distinguishes two registries. With handles of two, a call may write to a
  *   wrong place, or end the process by an illegal instruction with no message.
  * - Pointers are to what they say, and aligned for it. What different parameters point to doesn't overlap: not &entry.name beside &entry.
