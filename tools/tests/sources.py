@@ -1,4 +1,4 @@
-"""Faults of sources: tools/check-limits.py, tools/check-imports.py and tools/event-table.py."""
+"""Faults of sources: tools/check-limits.py, tools/check-imports.py, tools/event-table.py and tools/above.py."""
 from .trees import Case, Fault, real
 
 # Each place that says a limit again: a part of the line, with its number.
@@ -111,5 +111,26 @@ def event_table():
     return Case("event-table", tools, real(*TABLED), ["tools/event-table.py", "check"], faults)
 
 
+# One stands on low through another one, and one doesn't stand on it.
+STACKED = {
+    "crates.txt": "low: std\nmiddle: low std\ntop: middle std\nbeside: std\n",
+    "try": """#!/bin/sh
+said=$(tools/above.py low | tr '\\n' ' ')
+[ "$said" = 'middle top ' ] || { echo "above low: $said"; exit 1; }
+""",
+}
+
+
+def above():
+    usage = "tools/above.py CRATE.."
+    faults = (
+        Fault("another crate above", "above low: middle top beside", (("crates.txt", "beside: std", "beside: low std"),)),
+        Fault("a crate fewer above", "above low: middle", (("crates.txt", "top: middle std", "top: std"),)),
+        Fault("no crate", usage, command=["tools/above.py"]),
+        Fault("a crate that isn't there", usage, command=["tools/above.py", "low", "none"]),
+    )
+    return Case("above", ["above.py", "kit.py"], STACKED, ["./try"], faults, counts=False)
+
+
 def cases():
-    return [check_limits(), limits_header(), check_imports(), event_table()]
+    return [check_limits(), limits_header(), check_imports(), event_table(), above()]
