@@ -37,7 +37,8 @@ void kupaldiz_failed_with(const char *place, const char *text, const char *forma
 #define KDASSERT(condition)		KASSERT(condition)
 #define KDASSERTMSG(condition, ...)	KASSERTMSG(condition, __VA_ARGS__)
 
-/* ASSERT_SLEEPABLE, kupaldiz_assert_sleepable - stop where the thread mustn't sleep: in a read section or a soft interrupt, with a spin lock, at a raised level. */
+/* ASSERT_SLEEPABLE, kupaldiz_assert_sleepable - stop where the thread mustn't sleep: in a read section or a soft interrupt, with a spin lock, at a raised
+ * level. */
 void kupaldiz_assert_sleepable(void);
 #define ASSERT_SLEEPABLE()	(kupaldiz_at(KUPALDIZ_HERE), kupaldiz_assert_sleepable())
 

@@ -2,8 +2,8 @@
  * localcount.h - the calls of localcount(9), for threads of user space, over registry.h
  *
  * A local count has a part on each CPU: acquiring and releasing touch this CPU's part, and the references may be released on other CPUs than
- * they were acquired on. The holder of a reference may sleep, and may hand it to another thread. Whoever drains it has first made sure that no new reference is acquired, mostly by unlinking the object and calling
- * pserialize_perform, and then waits for those that are held.
+ * they were acquired on. The holder of a reference may sleep, and may hand it to another thread. Whoever drains the count has first made sure that
+ * no new reference is acquired, mostly by unlinking the object and calling pserialize_perform, and then waits for those that are held.
  *
  * What differs from the page:
  * - A release doesn't say which reference it lets go, so those that are held lie in one list, under a lock of the count's: what the page avoids,
