@@ -30,6 +30,7 @@ FOREIGN = {
     "ck": "ck_epoch_section_2",
     "crossbeam": "Collector register",
     "Debian": "libck",
+    "Rust": "HashMap RwLock",
     "rt": "RT_JOBS axioms logbook logic plant trusted unsupported dac8208d650f15bf",
 }
 FOREIGN_WORDS = {word for words in FOREIGN.values() for word in words.split()}

@@ -13,8 +13,8 @@ use core::cell::{Cell, UnsafeCell};
 use core::fmt;
 use core::mem;
 
-/// One of the registry's CPUs, for the thread that has it. It co-owns its registry. It may be stored, and go to another thread. One thread at a time
-/// uses it. Sections and passive references borrow it, so it can't be moved or dropped while one exists.
+/// One of the registry's CPUs, for the thread that has it. It is a handle, not a processor. It co-owns its registry. It may be stored, and go to another
+/// thread. One thread at a time uses it. Sections and passive references borrow it, so it can't be moved or dropped while one exists.
 ///
 /// A struct that owns its CPU and references acquired there has the CPU in an [`Rc`](std::rc::Rc), and each reference as a
 /// [`PassiveRc`](crate::PassiveRc).

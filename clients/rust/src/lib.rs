@@ -18,13 +18,15 @@
 //! - An [`Entry`] is a driver or an interface that was attached. It is live until it is detached, and then retired until it is freed. It carries a
 //!   `T`, and everything that holds the entry derefs to it. `T` is one type for all entries of a registry: an `enum` if drivers and interfaces carry
 //!   different things, `()` if they carry nothing.
-//! - A [`Cpu`] is a value that one thread at a time uses. A registry has at least one and at most [`LIMITS`]`.cpus`. It needn't be a processor of the
-//!   machine. A [`CpuPool`] lends CPUs to more threads.
-//! - A [`Section`] is open on a CPU while it looks entries up. An entry that is [`Found`] in it keeps its slot while it is open.
+//! - A [`Cpu`] is a handle, not a processor. One thread at a time uses it. A registry has at least one and at most [`LIMITS`]`.cpus`. A [`CpuPool`]
+//!   lends CPUs to more threads.
+//! - A [`Section`] is open on a CPU while it looks entries up. A [`Found`] borrows its section. While the section is open, the entry isn't freed and its
+//!   `T` isn't dropped.
 //! - A [`PassiveRef`] holds an entry beyond the section, on one CPU. It is cheap, and its holder may sleep. A [`PassiveRc`] co-owns the CPU instead of
 //!   borrowing it. A [`LocalRef`] may be stored and go to other threads. A [`LocalGuard`] is one that a CPU releases when it is dropped.
 //! - A [`Retired`] is an entry that was detached and isn't freed yet.
-//! - The interlock is the lock of a [`Registry`]. Changes are made under it, one turn at a time.
+//! - A turn is one attempt to free a retired entry, or one look at which sections have ended.
+//! - The interlock is the lock of a [`Registry`]. Each change and each turn takes it.
 //!
 //! # The calls
 //!
@@ -37,7 +39,7 @@
 //! | look up by one call | [`Cpu::read`] returns the entry with its section, [`Cpu::get`], [`Cpu::get_rc`] and [`Cpu::get_local`] a reference, [`Cpu::look_up`] the record alone |
 //! | use a part | [`ReadGuard::map`], [`PassiveRef::map`], [`LocalRef::map`] |
 //! | change | [`Registry::attach`], [`Registry::attach_iface`], [`Registry::detach`] |
-//! | free | [`Retired::destroy`] waits, [`Retired::advance`] doesn't; after [`Registry::retire`] or [`Retired::defer`] later changes do it, or [`Registry::collect`] |
+//! | free | [`Retired::destroy`] waits, [`Retired::advance`] doesn't; after [`Registry::retire`] or [`Retired::defer`] later changes do it, or [`Registry::collect`]: [who gets the `T`](#what-is-dropped) |
 //! | wait for readers alone | [`Registry::perform`] |
 //! | see the counts | [`Registry::audit`] |
 //!
@@ -74,20 +76,48 @@
 //!
 //! What was written before an attach is visible to any CPU that finds the entry. The last use of an entry's `T` comes before the `T` is returned. Each
 //! step on a word of the registry is a sequentially consistent atomic operation of the archive. The attach stores the link that the lookup loads.
-//! A section's exit, and the release of a reference, write the word that is loaded or swapped by the turn that frees the entry.
+//! A section's exit, and the release of a reference, write a word. The turn that frees the entry loads or swaps that word.
 //!
-//! # What is dropped, forgotten, or panics
+//! # What is dropped
 //!
-//! Dropping a section exits it, dropping a reference releases it, and dropping a CPU returns it to its registry. What is forgotten stays held, and
-//! nothing is freed under it: the entry of a forgotten reference is never freed, and its `T` is never dropped. A section whose guard is forgotten
-//! stays open until its CPU is dropped, goes back to its pool, or [leaves](Cpu::leave).
+//! Dropping a section exits it, dropping a reference releases it, and dropping a CPU returns it to its registry. An entry's `T` is dropped or returned
+//! once:
 //!
-//! If a thread panics, unwinding exits its sections and releases its references. No lock is poisoned. No lock of the registry is held while a `T` is
-//! dropped, so its drop may call the registry. An attach, a detach and a retire first drop the `T`s of deferred entries that are free by then. If such
-//! a drop panics, the panic unwinds from that call, and its change isn't made.
+//! | You call | Who gets or drops the `T` |
+//! |---|---|
+//! | [`Registry::detach`], then [`Retired::destroy`] | the call waits until nothing holds the entry, and returns the `T` as [`Freed::value`] |
+//! | [`Registry::detach`], then [`Retired::advance`] | the call tries once: it returns the `T`, or `StillHeld` with your [`Retired`] |
+//! | [`Registry::retire`], or [`Registry::detach`] and you drop the [`Retired`] | once nothing holds the entry, a later attach, detach or retire drops it, or [`Registry::collect`] returns it |
+//! | nothing more, or no detach | dropping the registry's last handle drops it |
 //!
-//! A [`LocalRef`] may be dropped on any thread. The drop takes a short lock, and the entry stays held until a later call releases the reference:
-//! [the table](LocalRef#dropped-without-a-cpu).
+//! In the third row, if no later change or collect is made, the `T` stays until the registry closes. The same is true after a destroy that gave up, if `?`
+//! turns its error into a [`Refusal`]: that drops the [`Retired`].
+//!
+//! A [`LocalRef`] may be dropped on any thread. The drop takes a short lock, and the entry stays held until a later call releases the reference. If
+//! memory runs out in that drop, the entry is never freed: [the rules](LocalRef#dropped-without-a-cpu).
+//!
+//! No lock of the registry is held while a `T` is dropped, so its drop may call the registry.
+//!
+//! # What is forgotten
+//!
+//! Forgetting a guard or a handle, such as by [`mem::forget`](core::mem::forget), is never unsound: no `T` is dropped that can still be used. A destroy
+//! with [`Patience::Forever`] may then never return.
+//!
+//! | You forget | What happens |
+//! |---|---|
+//! | a [`Section`] or a [`ReadGuard`] | the section stays open until its CPU is dropped, goes back to its pool, or [leaves](Cpu::leave); then its entries can be freed |
+//! | a [`PassiveRef`] | its entry is never freed, and its `T` is never dropped. The registry can still close |
+//! | a [`LocalRef`] | its entry is never freed, its `T` is never dropped, and the registry never closes |
+//! | a [`Cpu`] or a [`Registry`] | the registry never closes |
+//! | a [`Lent`] | its CPU is lost to the pool; the rest is as for a [`Cpu`] |
+//! | a [`Retired`] | its entry keeps its slot: neither later changes nor [`Registry::collect`] free it |
+//!
+//! No test forgets a [`PassiveRc`], a [`LocalGuard`] or a [`Mapped`].
+//!
+//! # What panics
+//!
+//! If a thread panics, unwinding exits its sections and releases its references. No lock is poisoned. An attach, a detach and a retire first drop the `T`s
+//! of deferred entries that are free by then. If such a drop panics, the panic unwinds from that call, and its change isn't made.
 //!
 //! # Which types go to other threads
 //!
@@ -97,9 +127,9 @@
 //! | [`Cpu`], [`Lent`] | if `T` is `Send` and `Sync` | no |
 //! | [`Section`], [`Found`], [`Entries`], [`ReadGuard`] | no | no |
 //! | [`PassiveRef`], [`PassiveRc`], [`LocalGuard`] | no | no |
-//! | [`Mapped`] of a [`LocalRef`] | if `T` is, and the part is `Sync` | if `T` is, and the part is `Sync` |
+//! | [`Mapped`]`<`[`LocalRef`]`<T>, U>` | if `T` is `Send` and `Sync`, and `U` is `Sync` | if `T` is `Send` and `Sync`, and `U` is `Sync` |
 //! | [`Mapped`] of another guard | no | no |
-//! | [`Freed`], [`Refused`] | if what they have is `Send` | if what they have is `Sync` |
+//! | [`Freed`]`<X>`, [`Refused`]`<X>` | if `X` is `Send` | if `X` is `Sync` |
 //! | all others | yes | yes |
 //!
 //! # More than the limits
@@ -111,9 +141,18 @@
 //!
 //! # What is proved
 //!
-//! The protocol, the shared words and the calls of registry.h are proved, in Rattle. This crate isn't proved: it is tested. Its types rule out misuse
-//! that the calls can't check, or a call returns an error of the crate's own ([`Refusal::OtherRegistry`]). It uses `unsafe` for the calls themselves,
-//! for the way from the word that an entry carries to the `T`, and where its own types move what they hold. Each use says what makes it sound.
+//! The protocol, the shared words and the calls of registry.h are proved, in Rattle. The exceptions are a few small calls in C that registry.h lists. This
+//! crate uses four of those: the text of an error, the library's version and limits, and the comparison of the limits.
+//!
+//! This crate isn't proved: it is tested. It uses `unsafe` for the calls themselves, for the way from the word that an entry carries to the `T`, and where
+//! its own types move what they hold. Each use says what makes it sound. A bug there can break memory safety.
+//!
+//! Misuse that the calls can't check is a compile error here, or a call returns an error of the crate's own ([`Refusal::OtherRegistry`]). Neither holds for
+//! these three rules of registry.h, which you must keep. Dropping a guard or a handle is a call, too:
+//!
+//! - No call is made from a signal handler.
+//! - No call is made in the child after a fork with a handle that was opened before the fork.
+//! - No call is made while asynchronous cancellation of the thread is enabled.
 //!
 //! # Without the standard library
 //!

@@ -48,9 +48,9 @@ use core::ops::Deref;
 /// | an acquire of a local reference | 2, from its CPU's basket |
 /// | a release of a local reference on a CPU | 4, from its CPU's basket, and 4 from another's that has more than 64 |
 /// | a drop into a basket that has more than 64 | 4, from this basket, if some CPU has no handle |
-/// | an attach, a detach, a destroy's turn, a perform | 64, from all baskets |
+/// | an attach, a detach, a perform, each try of a destroy after the first | 64, from all baskets |
 /// | a CPU that is dropped | 64, from its own basket |
-/// | a turn of the work on a retired entry that only local references hold | 256, of those to this entry |
+/// | a try to free a retired entry that only local references hold | 256, of those to this entry |
 ///
 /// So a basket never has more references in it than were held at once of its CPU. Only references that are held, or were released elsewhere, bring a
 /// CPU's net count to `LocalFull`. [`Registry::dropped`](crate::Registry::dropped) returns how many dropped ones there are. A reference that is

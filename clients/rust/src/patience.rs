@@ -6,8 +6,8 @@ use std::thread;
 #[cfg(feature = "std")]
 use std::time::{Duration, Instant};
 
-/// How long [`Retired::destroy`](crate::Retired::destroy) and [`Registry::perform`](crate::Registry::perform) wait. Each makes at least one turn.
-/// Between two turns it holds no lock, and waits as `registry_destroy_wait` does, in this order:
+/// How long [`Retired::destroy`](crate::Retired::destroy) and [`Registry::perform`](crate::Registry::perform) keep trying. Each tries at least once. One
+/// try is a turn. Between two turns the call holds no lock, and waits as `registry_destroy_wait` does, in this order:
 ///
 /// 1. It spins 16 times, for 1, 2, 4, .. 256 and then 256 pause instructions: 2,303 in all, some 90 microseconds. If a reader's thread runs, its
 ///    section is over by then.
@@ -35,19 +35,19 @@ use std::time::{Duration, Instant};
 #[derive(Clone, Copy, Debug, PartialEq, Eq, Hash)]
 #[non_exhaustive]
 pub enum Patience {
-    /// For this many turns. 0 means 1.
+    /// Try this many times. 0 means 1.
     Turns(u32),
-    /// Until a turn that was made at this time or later.
+    /// Keep trying until this time has come. The call looks at the clock after each try that fails.
     #[cfg(feature = "std")]
     Until(Instant),
-    /// Until the call is done.
+    /// Keep trying until the call is done.
     #[cfg(feature = "std")]
     Forever,
 }
 
 #[cfg(feature = "std")]
 impl Patience {
-    /// Until a turn that is made after this much time from now.
+    /// Keep trying until this much time from now has passed. It is `Forever` if no [`Instant`] is that late.
     #[must_use]
     pub fn at_most(time: Duration) -> Patience {
         match Instant::now().checked_add(time) {

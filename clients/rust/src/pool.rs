@@ -11,6 +11,9 @@ use std::time::Instant;
 /// CPUs of one registry that any thread may borrow, each for a call or a batch of calls. Threads use the pool by reference, and a `static` may have one.
 /// Lending and taking back take a lock each, so a single lookup is faster on a CPU that the thread keeps.
 ///
+/// A section or a [`PassiveRef`](crate::PassiveRef) on a lent CPU borrows the loan. As long as you keep it the CPU isn't returned, and other threads may
+/// wait for a CPU. To sleep, acquire a [`LocalRef`](crate::LocalRef), such as by [`Cpu::get_local`], and drop the loan.
+///
 /// ```
 /// use registry::{CpuPool, Kind, Name, Registry, Settings};
 /// use std::thread;

@@ -25,8 +25,8 @@ use core::hash::{Hash, Hasher};
 /// and drops the values that its entries still carry. A handle that is forgotten keeps it open for ever. So does a handle that an entry of the same
 /// registry carries.
 ///
-/// The keeper is behind a lock, the interlock. It is held for one turn at a time, and never while a `T` is dropped, so that drop may call the
-/// registry again.
+/// Changes, and each try to free an entry, are made under a lock, the interlock. No call holds it while it waits for a reader, or while a `T` is dropped.
+/// So that drop may call the registry again.
 ///
 /// ```
 /// use registry::{Kind, Name, Registry, Settings};
@@ -265,8 +265,8 @@ impl<T> Registry<T> {
         self.shared.baskets().total()
     }
 
-    /// Frees what was [retired](Registry::retire) and nothing holds any more, the oldest first, and returns what was freed. It makes one turn
-    /// for each entry that waits, and waits only for the interlock.
+    /// Frees what was [retired](Registry::retire) and nothing holds any more, the oldest first, and returns what was freed. It tries once for each entry
+    /// that waits, and waits only for the interlock.
     ///
     /// ```
     /// use registry::{Kind, Name, Registry, Settings};
@@ -285,8 +285,7 @@ impl<T> Registry<T> {
         self.shared.collect()
     }
 
-    /// Waits until each section that is open now has ended: `pserialize_perform`. In each turn the keeper first learns what the CPU has seen.
-    /// Afterwards the CPU has seen every change so far.
+    /// Waits until each section that is open now has ended: `pserialize_perform`. Afterwards the CPU has seen every change so far.
     ///
     /// If this thread has a section open on another CPU, nothing ends it while the thread waits: with [`Patience::Forever`] it waits for ever.
     ///

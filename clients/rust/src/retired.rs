@@ -64,8 +64,8 @@ impl<T> Retired<T> {
         Registry::of(Arc::clone(&self.shared))
     }
 
-    /// One turn of the work on it. Either it is freed and what it carried is returned, or something holds it. Nothing holds a freed entry, now or later,
-    /// as after [`destroy`](Retired::destroy). The call waits only for the interlock.
+    /// Tries once to free it, and waits only for the interlock. If nothing holds it, it is freed and what it carried is returned. Nothing holds a freed
+    /// entry, now or later, as after [`destroy`](Retired::destroy).
     ///
     /// # Errors
     ///
@@ -85,12 +85,12 @@ impl<T> Retired<T> {
         self.after(Err(met.refusal()))
     }
 
-    /// Makes turns until it is freed: `psref_target_destroy`, `localcount_drain`. Then nothing holds it, now or later, and what it carried is returned.
-    /// After each turn the CPU has seen every change so far.
+    /// Waits until nothing holds it, and frees it: `psref_target_destroy`, `localcount_drain`. What it carried is returned, and nothing holds it, now or
+    /// later. The call tries again and again to free it, as long as the [`Patience`] says. After each try the CPU has seen every change so far.
     ///
-    /// If this CPU itself holds the entry, nothing can release it while this thread waits. The call then makes only one turn, with any patience. It
-    /// can't see a local reference that this thread keeps without a guard, or a section of this thread on another CPU. With [`Patience::Forever`] it
-    /// waits for these for ever.
+    /// If this CPU itself holds the entry, nothing can release it while this thread waits. The call then tries only once, with any patience. It can't see
+    /// a local reference that this thread keeps without a guard, or a section of this thread on another CPU. With [`Patience::Forever`] it waits for
+    /// these for ever.
     ///
     /// ```
     /// use registry::{Holder, Kind, Name, Patience, PassiveRef, Refusal, Registry, Settings};
@@ -108,7 +108,7 @@ impl<T> Retired<T> {
     ///
     /// # Errors
     ///
-    /// `OtherRegistry`, `Inside`, `StillHeld` with what this CPU itself holds the entry by, otherwise with what the last turn met. The `Retired` is
+    /// `OtherRegistry`, `Inside`, `StillHeld` with what this CPU itself holds the entry by, otherwise with what the last try met. The `Retired` is
     /// returned.
     pub fn destroy(self, cpu: &Cpu<T>, patience: Patience) -> Result<Freed<T>, Refused<Retired<T>>> {
         let done = self.destroy_by(cpu, patience);
