@@ -20,7 +20,7 @@ mkdir -p "$to/netbsd"
 for name in Makefile CMakeLists.txt; do
     put "examples/$name" "$name"
 done
-for name in packet row storm walk forwarder device_switch; do
+for name in smallest packet row shared storm walk forwarder device_switch; do
     put "c/$name.c" "$name.c"
 done
 for name in client expect edges workers; do

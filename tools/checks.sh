@@ -47,6 +47,11 @@ row_says() {
     says examples/retire-under-section.report "$@"
 }
 
+smallest_says() {
+    echo 'eth0 has value 1500' >"$log.wanted"
+    says "$log.wanted" "$@"
+}
+
 # A storm of so many CPUs and turns counts each lookup and reference, and nothing wrong.
 storm_says() {
     local cpus=$1 turns=$2

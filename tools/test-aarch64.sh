@@ -101,12 +101,14 @@ test_clients() {
     local storm
     check "refuse is built over a shared C library" make_refuse
     check "the clients in C are built, no warning" make_for clients all "out/$processor/heap_stress-none-right"
+    check "smallest" smallest_says emulated "$out/smallest"
     check "row" row_says emulated "$out/row"
     for storm in "1 100" "4 1000" "8 200"; do
         # shellcheck disable=SC2086
         check "storm $storm" storm_says $storm emulated "$out/storm"
     done
     check "packet" emulated "$out/packet"
+    check "shared" emulated "$out/shared"
     check "misuse is answered" emulated "$out/misuse"
     check "each allocation refused" emulated -L "/usr/$processor-linux-gnu" "$out/refuse"
     check "the build's version and limits" emulated "$out/built"

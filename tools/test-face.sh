@@ -157,8 +157,10 @@ test_page() {
 
 test_c() {
     local storm
+    check "C: smallest" smallest_says "$out/smallest"
     check "C: row" row_says "$out/row"
     check "C: packet" "$out/packet"
+    check "C: shared" "$out/shared" 2000
     check "C: misuse is answered" "$out/misuse"
     check "C: each allocation refused" "$out/refuse"
     check "C: the functions of the heap" "$out/allocs"
@@ -193,8 +195,10 @@ test_c() {
 # The same programs, where each access of the client's, or of all, is watched.
 test_watched() {
     local script
+    check "C: smallest under valgrind" smallest_says guarded "$out/smallest"
     check "C: row under valgrind" row_says guarded "$out/row"
     check "C: packet under valgrind" guarded "$out/packet"
+    check "C: shared under valgrind" guarded "$out/shared" 20
     check "C: misuse under valgrind" guarded "$out/misuse"
     check "C: the build's limits under valgrind" guarded "$out/built"
     check "C: the layout of each struct under valgrind" guarded "$out/layout"
@@ -206,7 +210,9 @@ test_watched() {
     check "C: refuse under valgrind" guarded "$out/refuse"
     check "C: storm 4 100 under valgrind" storm_says 4 100 guarded "$out/storm"
     check "C: misuse with sanitizers" "$out/sanitized-misuse"
+    check "C: smallest with sanitizers" smallest_says "$out/sanitized-smallest"
     check "C: packet with sanitizers" "$out/sanitized-packet"
+    check "C: shared with sanitizers" "$out/sanitized-shared" 500
     check "C: row with sanitizers" row_says "$out/sanitized-row"
     check "C: the build's limits with sanitizers" "$out/sanitized-built"
     check "C: walk with sanitizers" "$out/sanitized-walk" 1000

@@ -131,6 +131,35 @@ static void test_slots(void)
 		EXPECT(row[i].slot == count - 1 - i && row[i].value == row[i].slot);
 }
 
+static void detach_at(unsigned place)
+{
+	const struct registry_name name = name_at(place);
+	DONE(registry_detach(&keeper, &cpus[0], REGISTRY_DRIVER, &name, NULL));
+}
+
+/* A registry allows change_limit / 2 attaches, with any number of entries live meanwhile: `kept` at most. Then each of these can be detached. */
+static void test_attaches(uint64_t change_limit, unsigned kept)
+{
+	const struct registry_settings settings = {
+	    .cpus = 1, .slots = REGISTRY_MOST_SLOTS, .change_limit = change_limit, .section_limit = 1, .passive_limit = 1, .count_limit = 1};
+	unsigned made = 0, detached = 0;
+	registry_answer answer;
+	DONE(registry_open(&settings, &keeper, cpus, 1));
+	for (;;) {
+		const struct registry_name name = name_at(made);
+		answer = registry_attach(&keeper, &cpus[0], &name, 0, NULL);
+		if (answer != REGISTRY_DONE)
+			break;
+		made++;
+		if (made - detached == kept)
+			detach_at(detached++);
+	}
+	EXPECT(answer == REGISTRY_HISTORY_FULL && made == change_limit / 2);
+	while (detached < made)
+		detach_at(detached++);
+	DONE(registry_close(cpus, 1, &keeper));
+}
+
 int main(void)
 {
 	test_version();
@@ -138,6 +167,9 @@ int main(void)
 	test_comparison();
 	test_settings();
 	test_forms();
+	for (uint64_t change_limit = 1; change_limit <= 20; change_limit++)
+		for (unsigned kept = 1; kept <= 11; kept++)
+			test_attaches(change_limit, kept);
 	DONE(registry_open(&LARGEST, &keeper, cpus, REGISTRY_MOST_CPUS));
 	for (unsigned cpu = 0; cpu < REGISTRY_MOST_CPUS; cpu++)
 		test_depth(&cpus[cpu]);

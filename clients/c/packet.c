@@ -105,7 +105,13 @@ static void attach_both(struct registry_cpu *cpu)
 int main(void)
 {
 	const struct registry_settings settings = {
-	    CPUS, 4, 100, REGISTRY_MOST_SECTIONS, REGISTRY_MOST_COUNT, REGISTRY_MOST_COUNT};
+	    .cpus = CPUS,
+	    .slots = 4,
+	    .change_limit = 100,
+	    .section_limit = REGISTRY_MOST_SECTIONS,
+	    .passive_limit = REGISTRY_MOST_COUNT,
+	    .count_limit = REGISTRY_MOST_COUNT,
+	};
 	pthread_t senders[SENDERS];
 	wm = name_of("wm");
 	wm0 = name_of("wm0");

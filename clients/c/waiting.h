@@ -15,7 +15,10 @@
 extern "C" {
 #endif
 
-/* The interlock: `take` acquires it and `give` releases it. Each is called with `of`. */
+/*
+ * The interlock: `take` acquires it and `give` releases it. Each is called with `of`. If threads share the waiting CPU by a mutex, `take` locks that mutex
+ * and then the interlock, and `give` unlocks both.
+ */
 struct registry_lock {
 	void (*take)(void *of);
 	void (*give)(void *of);
@@ -41,11 +44,13 @@ struct registry_lock registry_lock_of_mutex(pthread_mutex_t *mutex) REGISTRY_NON
  * - Then it yields 8 times.
  * - Then it sleeps, for 16 microseconds at first, twice as long each time, 8 milliseconds at most.
  *
- * `deadline` is a time of CLOCK_MONOTONIC. Once a turn has ended after it, no other turn is made. With NULL the call waits until the entry is destroyed.
+ * `deadline` is an absolute time of CLOCK_MONOTONIC: five seconds from now is what clock_gettime writes, with 5 added to `tv_sec`. Once a turn has ended
+ * after it, no other turn is made. The deadline doesn't limit the wait for the interlock. With NULL the call waits until the entry is destroyed.
  * Returns the result of its last turn. What the turns learned and collected stays, so a later call goes on from there. `met` may be NULL.
  *
  * - REGISTRY_DONE, as registry_destroy. The slot is in `met`.
- * - REGISTRY_STILL_HELD if the deadline has passed. `met` is what held the entry last.
+ * - REGISTRY_STILL_HELD if the deadline has passed. `met` is what held the entry last. The entry is still retired: its slot stays occupied, and its memory
+ *   may not be freed, until a later call returns REGISTRY_DONE.
  * - REGISTRY_EMPTY_HANDLE, REGISTRY_INSIDE.
  * - REGISTRY_NOT_RETIRED if the entry isn't retired, or another thread has freed it meanwhile.
  */

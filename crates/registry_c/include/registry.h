@@ -44,7 +44,7 @@
  *
  * NULL
  *
- * A pointer to a handle is never NULL. Other pointers:
+ * Never pass NULL for a handle. Other pointers:
  *
  * - A pointer with a length beside it (`bytes`, `text`, `cpus`, `row`, `list`) may be NULL if the length is 0, and then means an empty row.
  * - If it is NULL and the length isn't 0, the call returns REGISTRY_NULL and nothing changes. registry_text, which returns a length, then acts
@@ -57,16 +57,20 @@
  *
  * No call can check these rules. Breaking one is undefined behaviour:
  *
+ * - A pointer to a handle is never NULL.
  * - A handle is {0} before its first use. It may be moved while no call uses it, by a plain copy. From then on only the copy is used. The old place may
- *   be set to {0} and used again. `at` is NULL exactly if the handle is empty. The caller reads or writes nothing else of it.
+ *   be set to {0} and used again.
+ * - The caller may compare `at` with NULL: it is NULL exactly if the handle is empty. The caller reads and writes nothing else in a handle.
  * - One call at a time uses a handle. A handle goes to another thread by a lock, or by the start or the join of a thread.
- * - Calls with a keeper are made under the caller's lock.
+ * - Calls with a keeper are made under the caller's lock, registry_settings_of too. They need no lock while no other thread can use the keeper, as at
+ *   registry_open and registry_close.
  * - Nothing writes to a struct registry_wait between two calls with it.
- * - Each passive reference is released once. A CPU counts its references to an entry, and can't distinguish them. A second release of one takes away
- *   another that this CPU still holds, and the entry may be freed while that one is used. It fails with REGISTRY_NOT_HELD only if there is no other.
+ * - Each passive reference is released once, on the CPU that acquired it. A CPU counts its references to an entry, and can't distinguish them. A second
+ *   release, or one on another CPU, takes away another reference that the CPU still holds to the entry, which may then be freed while that one is used.
+ *   It fails with REGISTRY_NOT_HELD only if there is no other.
  * - The handles of one call are of one registry. Nothing at run time distinguishes two registries. With handles of two, a call may write to a
  *   wrong place, or end the process by an illegal instruction with no message.
- * - Pointers are to what they say, and aligned. Those of different parameters don't overlap: not &entry.name beside &entry.
+ * - Pointers are to what they say, and aligned for it. What different parameters point to doesn't overlap: not &entry.name beside &entry.
  * - No call is made from a signal handler, or in the child of a fork with a handle that was opened before the fork. A fork before the opening
  *   is fine.
  * - No call is made while asynchronous cancellation of the thread is enabled.
@@ -168,7 +172,7 @@ enum {
 	REGISTRY_EMPTY_HANDLE = 65,	/* a handle is empty that must not be. */
 	REGISTRY_FULL_HANDLE = 66,	/* a handle isn't empty that must be. */
 	REGISTRY_BAD_KIND = 68,		/* neither an interface nor a driver. */
-	REGISTRY_BAD_NAME = 69,		/* two words that no name has. */
+	REGISTRY_BAD_NAME = 69,		/* `name` isn't what registry_name_parse makes. */
 	REGISTRY_NAME_EMPTY = 70,	/* a name has at least one byte. */
 	REGISTRY_NAME_TOO_LONG = 71,	/* a name has at most 15 bytes. */
 	REGISTRY_NAME_BAD_BYTE = 72,	/* a byte isn't allowed in its position. */
@@ -209,7 +213,7 @@ struct registry_name {
 struct registry_settings {
 	uint64_t cpus;		/* 1 to REGISTRY_MOST_CPUS */
 	uint64_t slots;		/* entries at a time, live and retired: 1 to REGISTRY_MOST_SLOTS */
-	uint64_t change_limit;	/* attaches and detaches: 1 to REGISTRY_MOST_CHANGES */
+	uint64_t change_limit;	/* attaches and detaches, so twice the attaches: 1 to REGISTRY_MOST_CHANGES */
 	uint64_t section_limit;	/* outermost sections of each CPU: 1 to REGISTRY_MOST_SECTIONS */
 	uint64_t passive_limit;	/* passive references of each CPU to an entry: 1 to REGISTRY_MOST_COUNT */
 	uint64_t count_limit;	/* each CPU's net count of local references to an entry: 1 to REGISTRY_MOST_COUNT */
@@ -389,7 +393,9 @@ registry_answer registry_close_keeper(struct registry_keeper *keeper) REGISTRY_N
  * registry_close - close `count` CPUs and the keeper, all or none
  *
  * No other thread uses the registry. The call skips handles that are empty already. It may therefore follow an opening that failed, and may be made
- * twice. Passive references of a CPU stay held, as with registry_close_cpu. It is C over these calls: tested, not proved.
+ * twice. Passive references of a CPU stay held, as with registry_close_cpu. Entries needn't be detached before.
+ * The call doesn't touch the memory that an entry's `value` points to. Once it has returned REGISTRY_DONE, the caller may free that memory, unless a
+ * thread still uses it, such as by a local reference. It is C over these calls: tested, not proved.
  * Returns REGISTRY_NULL if `cpus` is NULL and `count` isn't 0, REGISTRY_INSIDE if a CPU is inside a section. Nothing is closed then.
  */
 registry_answer registry_close(struct registry_cpu *cpus, size_t count, struct registry_keeper *keeper) REGISTRY_NONNULL(3);
@@ -635,9 +641,10 @@ registry_answer registry_local_forget(struct registry_local *local) REGISTRY_NON
  * registry_attach - attach a driver
  *
  * The driver gets the next number and the lowest-numbered vacant slot. Lookups that begin after this call has returned find it, until it is detached.
- * The entry is written to `made`, which may be NULL.
- * The history is full if change_limit is less than the sum of the changes so far, this attach, and one detach for each entry that is live then. With a
- * limit of 1 nothing can be attached. Each live entry can always be detached.
+ * The entry is written to `made`, which may be NULL. On failure nothing changes.
+ * A registry allows change_limit / 2 attaches in its life, rounded down, of drivers and interfaces together. Each attach reserves the detach of its
+ * entry, so a detach never fails for this. A detach gives no room back. After the last attach, this call returns REGISTRY_HISTORY_FULL. A long-lived
+ * program counts its attaches, and opens a new registry in time.
  * Returns REGISTRY_EMPTY_HANDLE for either handle, REGISTRY_NULL if `name` is NULL, REGISTRY_BAD_NAME, REGISTRY_INSIDE, REGISTRY_NAME_TAKEN,
  * REGISTRY_NO_SLOT, REGISTRY_HISTORY_FULL.
  */
@@ -647,8 +654,9 @@ registry_answer registry_attach(struct registry_keeper *keeper, struct registry_
 /*
  * registry_attach_iface - attach an interface, on the driver that the local reference is to
  *
- * The interface's slot keeps the reference until the interface is freed. The local handle is empty then. The driver may be retired already. When the
- * interface is freed, its reference is given up under the interlock, and the driver's total is one less. Otherwise the call is as registry_attach.
+ * On success the interface's slot takes the reference over, and the local handle is empty when the call returns. On failure nothing changes: the handle
+ * still holds the reference. The driver may be retired already. The slot keeps the reference until the interface is freed. The driver then has one local
+ * reference less. Otherwise the call is as registry_attach.
  * Returns REGISTRY_EMPTY_HANDLE for any of the handles, REGISTRY_NULL if `name` is NULL, REGISTRY_BAD_NAME, REGISTRY_INSIDE, REGISTRY_NEEDS_DRIVER if
  * the reference is to an interface, REGISTRY_NAME_TAKEN, REGISTRY_NO_SLOT, REGISTRY_HISTORY_FULL.
  */
