@@ -1,6 +1,6 @@
 #!/usr/bin/env python3
 """The manual pages kupaldiz_NAME(3), made from the headers in kupaldiz/ beside this file: `pages.py write` writes them to ../man, `pages.py check` compares
-them with what stands there, and that each call of the headers has a page."""
+them with what stands there, and looks for the entry of each call and of each macro with parameters."""
 import re
 import sys
 import textwrap
@@ -21,8 +21,14 @@ HEADERS = {
     "memory": (["sys/kmem.h", "sys/pool.h", "sys/percpu.h"], "kmem(9), pool(9), pool_cache(9) and percpu(9) for threads of user space"),
     "kernel": (["sys/systm.h", "sys/kthread.h", "sys/proc.h", "sys/module.h", "sys/evcnt.h"], "assertions, panic(9), kthread(9), kpause(9), copy(9)"),
 }
+# Headers without a page: what each of the others includes.
+UNPAGED = {"names", "registry_limits", "sys_types"}
 COMMENT = re.compile(r"/\*(.*?)\*/", re.S)
-PROTOTYPE = re.compile(r"^(?:static inline )?((?:[a-z_]+ )+\**)([a-z_]+)\((.*?)\)(?: __attribute__.*)?;?$")
+PROTOTYPE = re.compile(r"^(?:static inline )?((?:[a-z_0-9]+ )+\**)([a-z_0-9]+)\((.*?)\)(?: __attribute__.*)?;?$")
+MACRO = re.compile(r"^#define ([A-Za-z_0-9]+)(?:\((.*?)\))?")
+# What stands before a parenthesis and is no call.
+NO_CALLS = {"__attribute__", "KUPALDIZ_NAMED"}
+TITLES = re.compile(r"([A-Za-z_0-9]+(?:, [A-Za-z_0-9]+)*) - ")
 
 
 def words_of(comment):
@@ -44,19 +50,48 @@ def split_at_commas(text):
     return [part for part in [*parts, at.strip()] if part]
 
 
+def prototype_of(line):
+    """What a line declares: (type, name, parameters). A macro has no type, and parameters None where it takes none."""
+    call, macro = PROTOTYPE.match(line), MACRO.match(line)
+    if call:
+        return call.group(1).strip(), call.group(2), split_at_commas(call.group(3))
+    if macro:
+        return "", macro.group(1), None if macro.group(2) is None else split_at_commas(macro.group(2))
+    return None
+
+
 def calls_of(text):
-    """Each comment that describes calls, with the prototypes after it: (names, what is said, prototypes)."""
+    """Each comment that describes calls, with the prototypes after it: (what is said, prototypes). Among these are the macros that the comment names."""
     found = []
+    functions = {one[1] for one in map(prototype_of, text.split("\n")) if one and one[0]}
     comments = list(COMMENT.finditer(text))
     for place, comment in enumerate(comments):
         end = comments[place + 1].start() if place + 1 < len(comments) else len(text)
         said = words_of(comment.group(1))
-        head = re.match(r"([A-Za-z_]+(?:, [A-Za-z_]+)*) - (.*)", said, re.S)
-        prototypes = [PROTOTYPE.match(line) for line in text[comment.end() : end].split("\n")]
-        prototypes = [(one.group(1).strip(), one.group(2), split_at_commas(one.group(3))) for one in prototypes if one]
+        head = TITLES.match(said)
+        macros = set(head.group(1).split(", ")) - functions if head else set()
+        prototypes = [one for one in map(prototype_of, text[comment.end() : end].split("\n")) if one and (one[0] or one[1] in macros)]
         if head and prototypes:
             found.append((said, prototypes))
     return found
+
+
+def code_of(text):
+    """A header without comments, without what stands in braces, and without what is for the preprocessor."""
+    code = COMMENT.sub("", text).replace('extern "C" {', "")
+    code = re.sub(r"^#(?:.*\\\n)*.*$", "", code, flags=re.M)
+    while "{" in code:
+        code, before = re.sub(r"\{[^{}]*\}", ";", code), code
+        if code == before:
+            sys.exit("a brace without another one")
+    return code
+
+
+def named_in(text):
+    """The calls and the macros with parameters of a header, by C's punctuation alone: PROTOTYPE has no part in it."""
+    declarations = [re.match(r"(?!typedef\b)[^(=]*?\b(\w+)\s*\(", one.strip()) for one in code_of(text).split(";")]
+    calls = {one.group(1) for one in declarations if one} - NO_CALLS
+    return calls | {name for name in re.findall(r"^#define (\w+)\(", text, re.M) if not name.lower().startswith("kupaldiz_")}
 
 
 def escaped(line):
@@ -90,13 +125,16 @@ def sentences(text):
 
 def synopsis(prototype):
     answer, name, parameters = prototype
-    return [f'.Ft "{answer}"', f".Fo {name}", *(f'.Fa "{parameter}"' for parameter in parameters), ".Fc"]
+    if parameters is None:
+        return []
+    return [*([f'.Ft "{answer}"'] if answer else []), f".Fo {name}", *(f'.Fa "{parameter}"' for parameter in parameters), ".Fc"]
 
 
-def item(names):
+def item(prototypes):
     """The head of a list's item that is about these calls: one line if it fits."""
-    line = f".It {' , '.join('Fn ' + name for name in names)}"
-    return [line] if len(line) <= 80 else [".It Xo", *(f".Fn {name} ," for name in names[:-1]), f".Fn {names[-1]}", ".Xc"]
+    names = [f"{'Dv' if parameters is None else 'Fn'} {name}" for _, name, parameters in prototypes]
+    line = f".It {' , '.join(names)}"
+    return [line] if len(line) <= 80 else [".It Xo", *(f".{name} ," for name in names[:-1]), f".{names[-1]}", ".Xc"]
 
 
 def page_of(name):
@@ -115,7 +153,7 @@ def page_of(name):
     lines += [".Ss The calls", ".Bl -tag -width Ds"]
     for said, prototypes in calls:
         titles, _, rest = said.partition(" - ")
-        lines += [*(item([one[1] for one in prototypes]) if titles else [".It"]), *paragraphs(rest[0].upper() + rest[1:])]
+        lines += [*(item(prototypes) if titles else [".It"]), *paragraphs(rest[0].upper() + rest[1:])]
     lines += [".El", ".Sh SEE ALSO", "kupaldiz_netbsd(7)", ""]
     return "\n".join(lines)
 
@@ -128,11 +166,13 @@ def check():
             print(f"{page.name}: not what {name}.h says; run clients/netbsd/pages.py write")
             wrong += 1
         text = (HEADERS_AT / f"{name}.h").read_text()
-        declared = {one.group(2) for one in map(PROTOTYPE.match, text.split("\n")) if one}
         described = {one[1] for _, prototypes in calls_of(text) for one in prototypes}
-        for call in sorted(declared - described):
-            print(f"{name}.h: {call} has no comment that describes it")
+        for call in sorted(named_in(text) - described):
+            print(f"{name}.h: {call} has no entry: it has no comment that describes it, or no declaration in one line")
             wrong += 1
+    for name in sorted({header.stem for header in HEADERS_AT.glob("*.h")} - set(HEADERS) - UNPAGED):
+        print(f"{name}.h: no page is made of it")
+        wrong += 1
     return wrong
 
 

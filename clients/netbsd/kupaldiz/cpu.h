@@ -47,13 +47,15 @@ typedef struct lwp lwp_t;
 
 static const int ncpu = KUPALDIZ_CPUS;
 
-/* kupaldiz_curlwp - this thread: curlwp of the kernel. Stops where memory runs out. */
+/* kupaldiz_curlwp, curlwp - this thread. Stops where memory runs out. */
 struct lwp *kupaldiz_curlwp(void);
 #define curlwp	kupaldiz_curlwp()
 
-/* kupaldiz_cpu - the CPU with that number, for CPU_INFO_FOREACH; NULL past the last one. */
+/* kupaldiz_cpu - the CPU with that number; NULL past the last one. */
 struct cpu_info *kupaldiz_cpu(unsigned cpu);
 typedef unsigned CPU_INFO_ITERATOR;
+
+/* CPU_INFO_FOREACH - in the parentheses of a `for`: `ci` is each CPU in turn, and `place` a CPU_INFO_ITERATOR. */
 #define CPU_INFO_FOREACH(place, ci)	(place) = 0; ((ci) = kupaldiz_cpu(place)) != NULL; (place)++
 
 /*

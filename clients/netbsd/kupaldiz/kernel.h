@@ -1,9 +1,12 @@
 /*
  * kernel.h - what kernel files use throughout: assertions, panic(9), kthread(9), kpause(9), copy(9), evcnt(9), module(9)
  *
- * What differs from the pages: an assertion is always compiled in. copyin and copyout copy within the one memory that there is; they fail with EFAULT
- * where the user's address is NULL or below 4096. A module isn't loaded by anybody: its command is a function that a program finds by
- * kupaldiz_modcmd.
+ * What differs from the pages:
+ * - An assertion is always compiled in.
+ * - There is no kernel lock. KTHREAD_MPSAFE is accepted and changes nothing: threads that were made without it run at the same time as others, too.
+ *   KTHREAD_IDLE, KTHREAD_INTR, KTHREAD_TS and the priority change nothing either.
+ * - The calls of copy(9) copy within the one memory that there is. They fail with EFAULT where the user's address is NULL or below 4096.
+ * - Nobody loads a module: the program calls its command, kupaldiz_NAME_modcmd.
  */
 #ifndef KUPALDIZ_NETBSD_KERNEL_H
 #define KUPALDIZ_NETBSD_KERNEL_H
@@ -26,6 +29,7 @@ void panic(const char *format, ...) __attribute__((noreturn, format(printf, 1, 2
 void kupaldiz_failed(const char *what, const char *text, const char *place) __attribute__((noreturn));
 void kupaldiz_failed_with(const char *place, const char *text, const char *format, ...) __attribute__((noreturn, format(printf, 3, 4)));
 
+/* KASSERT, KDASSERT, KASSERTMSG, KDASSERTMSG - stop where the condition doesn't hold; the last two print what follows it too, as printf(3) does. */
 #define KASSERT(condition) \
 	((condition) ? (void)0 : kupaldiz_failed("KASSERT", #condition, KUPALDIZ_HERE))
 #define KASSERTMSG(condition, ...) \
@@ -33,14 +37,15 @@ void kupaldiz_failed_with(const char *place, const char *text, const char *forma
 #define KDASSERT(condition)		KASSERT(condition)
 #define KDASSERTMSG(condition, ...)	KASSERTMSG(condition, __VA_ARGS__)
 
-/* kupaldiz_assert_sleepable - stops where the thread mustn't sleep: in a read section or a soft interrupt, with a spin lock, at a raised level. */
+/* ASSERT_SLEEPABLE, kupaldiz_assert_sleepable - stop where the thread mustn't sleep: in a read section or a soft interrupt, with a spin lock, at a raised
+ * level. */
 void kupaldiz_assert_sleepable(void);
 #define ASSERT_SLEEPABLE()	(kupaldiz_at(KUPALDIZ_HERE), kupaldiz_assert_sleepable())
 
 /* How many ticks a second has: 100. */
 static const int hz = 100;
 
-/* getticks - ticks since the first call of the layer, by the clock that nobody sets. */
+/* getticks - the time of the clock that nobody sets, in ticks. It wraps around: only the difference of two is of use. */
 int getticks(void);
 
 /* delay, DELAY - wait for so many microseconds, without sleep as far as the kernel's assertions go. */
@@ -101,7 +106,10 @@ struct evcnt {
 	const char *ev_name;
 };
 
+/* EVCNT_INITIALIZER - for a counter that is initialised where it is declared: 0, with its names, which aren't copied. */
 #define EVCNT_INITIALIZER(type, parent, group, name)	{ 0, type, parent, group, name }
+
+/* EVCNT_ATTACH_STATIC, EVCNT_ATTACH_STATIC2 - nothing, outside of functions: a counter that was initialised has its names. */
 #define EVCNT_ATTACH_STATIC(counter)
 #define EVCNT_ATTACH_STATIC2(counters, place)
 
@@ -115,7 +123,7 @@ static inline void evcnt_attach_dynamic(struct evcnt *counter, int type, const s
 	counter->ev_name = name;
 }
 
-/* evcnt_attach_static - nothing, as EVCNT_ATTACH_STATIC and EVCNT_ATTACH_STATIC2: a counter that was initialised has its names. */
+/* evcnt_attach_static - nothing: a counter that was initialised has its names. */
 static inline void evcnt_attach_static(struct evcnt *counter)
 {
 	(void)counter;

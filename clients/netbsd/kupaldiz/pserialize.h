@@ -7,7 +7,8 @@
  * What differs from the page:
  * - A section keeps the thread on its CPU (cpu.h), and the other threads of that CPU out of theirs. The outermost enter takes the lock of that CPU, so
  *   a reader waits where no CPU is free for it.
- * - A section raises no level: soft interrupts run inside it too, between two calls.
+ * - A section raises no level: soft interrupts run inside it too (kupaldiz_softint(3) says when). In the kernel it keeps them off.
+ * - A call of this layer that sleeps stops inside a section. A call of the C library that blocks there isn't seen.
  * - A wait looks at the section word of each CPU, again and again with ever longer pauses, up to a millisecond; no CPU runs anything for it. After
  *   five seconds it says on standard error which thread it waits for.
  * - What a reader loads and a writer stores in the list itself are atomics of the caller's: release on the writer's side, acquire or consume on
@@ -28,7 +29,7 @@ extern "C" {
 
 typedef struct pserialize *pserialize_t;
 
-/* pserialize_create - what the writers of one list perform with. Stops where the thread mustn't sleep, and where memory runs out. */
+/* pserialize_create - an object for pserialize_perform. Stops where the thread mustn't sleep, and where memory runs out. */
 pserialize_t pserialize_create(void);
 
 /* pserialize_destroy - end it. Stops while a thread performs with it. */
@@ -47,9 +48,9 @@ int pserialize_read_enter(void);
 void pserialize_read_exit(int s);
 
 /*
- * pserialize_perform - wait until each read section that is open now, on any CPU, has ended
+ * pserialize_perform - wait for every read section that is open on any CPU as the call begins, whatever `psz` is given
  *
- * It may sleep. Nothing is said of sections that begin during the call.
+ * It may sleep. It need not wait for sections that begin later, and doesn't wait for passive references, local references or callouts.
  * Stops where the thread mustn't sleep: inside a read section, with a spin lock or at a raised level, and in a soft interrupt.
  */
 void pserialize_perform(pserialize_t psz);

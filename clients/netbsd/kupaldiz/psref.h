@@ -6,7 +6,7 @@
  * calling pserialize_perform, and then waits for those that are held.
  *
  * What differs from the page:
- * - A class's level is kept and means nothing: a soft interrupt only runs between two calls.
+ * - A class's level is kept and means nothing: no soft interrupt comes within a call (kupaldiz_softint(3) says when one does).
  * - psref_acquire finds its target by a name, in a list of at most as many entries as a registry has (32 in the default build). It notes the reference
  *   in a table of its CPU, where psref_release and psref_copy look it up. In the kernel a reference lies in a list of its CPU, and nothing is looked up.
  * - psref_target_destroy looks at the words of all CPUs, as pserialize_perform does; no CPU runs anything for it. As in the kernel, the sections

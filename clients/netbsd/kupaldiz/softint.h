@@ -2,16 +2,21 @@
  * softint.h - softint(9), spl(9), xcall(9) and callout(9), for threads of user space
  *
  * Each CPU has a thread for its soft interrupts. It runs a handler on the CPU where the handler was scheduled:
- * - at once, where no thread has that CPU;
- * - else between two calls of the thread that has it, inside that thread's section too. That thread goes on when the handlers have ended, or when one of
- *   them waits for a lock.
+ * - At once, where no thread has that CPU.
+ * - Else as the thread that has the CPU ends one of these calls, inside its section too: pserialize_read_enter, pserialize_read_exit, psref_acquire,
+ *   psref_copy, psref_held, psref_release, localcount_acquire, localcount_release, mutex_exit, mutex_spin_exit, cv_signal, cv_broadcast, splx,
+ *   kpreempt_enable, percpu_putref, softint_schedule. The call returns when the handlers have ended, or when one of them waits for a lock.
  *
  * Handlers of one CPU run one after another, those of the highest level first.
  *
- * What differs from the page:
- * - A read section doesn't keep soft interrupts off. spl.. and spin locks do, up to their level.
+ * What differs from the pages:
+ * - There is no kernel lock. SOFTINT_MPSAFE and CALLOUT_MPSAFE are accepted and change nothing: handlers and callouts that were made without them run at
+ *   the same time as those of other CPUs, and as threads.
+ * - A read section doesn't keep soft interrupts off. In the kernel it does, up to IPL_SOFTSERIAL. Both keep them off by spl.. and by spin locks, up to
+ *   their level.
  * - A handler of a higher level never interrupts a handler that runs: it begins when that one has returned. In the kernel it interrupts it. So
  *   neither threads nor the bench show what goes wrong by such an order.
+ * - A handler interrupts a thread at the calls above alone, and in the bench at each point of kupaldiz_bench(7). In the kernel it does so anywhere.
  * - There are no hard interrupts.
  */
 #ifndef KUPALDIZ_NETBSD_SOFTINT_H
@@ -49,8 +54,11 @@ int kupaldiz_splraise(int level);
 /* splx - the level before. Stops where a spin lock is held that keeps it higher. */
 void splx(int level);
 
-/* spl0 - the lowest level. The others raise it, each to the level of its name; splraiseipl to one that is given. */
+/* spl0 - the CPU's level is the lowest. Stops where splx does. */
 #define spl0()		splx(IPL_NONE)
+
+/* splsoftclock, splsoftbio, splsoftnet, splsoftserial, splvm, splnet, splbio, spltty, splclock, splserial, splsched, splhigh, splraiseipl - the same as
+ * kupaldiz_splraise, with the level of the call's name: IPL_NET for splnet. The last one takes what makeiplcookie has made of a level. */
 #define splsoftclock()	kupaldiz_splraise(IPL_SOFTCLOCK)
 #define splsoftbio()	kupaldiz_splraise(IPL_SOFTBIO)
 #define splsoftnet()	kupaldiz_splraise(IPL_SOFTNET)
@@ -70,10 +78,12 @@ void splx(int level);
 typedef void (*xcfunc_t)(void *, void *);
 
 #define XC_HIGHPRI	0x01u
+
+/* XC_HIGHPRI_IPL - the flag XC_HIGHPRI. The level is accepted and changes nothing: the function runs at IPL_SOFTSERIAL. */
 #define XC_HIGHPRI_IPL(level)	(XC_HIGHPRI | (unsigned)(level) << 4)
 
 /*
- * xc_broadcast - have each CPU run `body(arg1, arg2)` once
+ * xc_broadcast - have each CPU run `body(arg_a, arg_b)` once
  *
  * This thread runs it, on each CPU in turn, once no other thread of that CPU is inside a section; it has ended when the call returns. With
  * XC_HIGHPRI it mustn't sleep. Returns what xc_wait takes. Stops where the thread mustn't sleep.
