@@ -21,7 +21,7 @@
 //! - A [`Cpu`] is a handle, not a processor. One thread at a time uses it. A registry has at least one and at most [`LIMITS`]`.cpus`. A [`CpuPool`]
 //!   lends CPUs to more threads.
 //! - A [`Section`] is open on a CPU while it looks entries up. A [`Found`] borrows its section. While the section is open, the entry isn't freed and its
-//!   `T` isn't dropped.
+//!   `T` isn't dropped. A change, a destroy or a perform on that CPU then fails with [`Refusal::Inside`].
 //! - A [`PassiveRef`] holds an entry beyond the section, on one CPU. It is cheap, and its holder may sleep. A [`PassiveRc`] co-owns the CPU instead of
 //!   borrowing it. A [`LocalRef`] may be stored and go to other threads. A [`LocalGuard`] is one that a CPU releases when it is dropped.
 //! - A [`Retired`] is an entry that was detached and isn't freed yet.
@@ -116,8 +116,9 @@
 //!
 //! # What panics
 //!
-//! If a thread panics, unwinding exits its sections and releases its references. No lock is poisoned. An attach, a detach and a retire first drop the `T`s
-//! of deferred entries that are free by then. If such a drop panics, the panic unwinds from that call, and its change isn't made.
+//! If a thread panics, unwinding exits its sections and releases its references. No lock is poisoned. An attach, a detach and a retire first drop the
+//! `T`s of entries that were retired or deferred and that nothing holds any more. If such a drop panics, the panic unwinds from that call, and its
+//! change isn't made.
 //!
 //! # Which types go to other threads
 //!
@@ -141,11 +142,18 @@
 //!
 //! # What is proved
 //!
-//! The protocol, the shared words and the calls of registry.h are proved, in Rattle. The exceptions are a few small calls in C that registry.h lists. This
-//! crate uses four of those: the text of an error, the library's version and limits, and the comparison of the limits.
+//! The protocol, the shared words and the calls of registry.h are proved, in Rattle: no entry is freed while a section that may have found it, or a
+//! reference, holds it. The proof assumes a caller that keeps the rules of registry.h. A few small calls in C aren't proved; registry.h lists them.
+//! This crate uses four of those: the text of an error, the library's version and limits, and the comparison of the limits.
 //!
-//! This crate isn't proved: it is tested. It uses `unsafe` for the calls themselves, for the way from the word that an entry carries to the `T`, and where
-//! its own types move what they hold. Each use says what makes it sound. A bug there can break memory safety.
+//! This crate isn't proved: it is tested. It uses `unsafe`
+//!
+//! - for the calls, and for the texts that they return;
+//! - for the way from the word that an entry carries to the `T`, and to a part of it;
+//! - where its own types move what they hold, and for their `Send` and `Sync`;
+//! - for its locks without `std`.
+//!
+//! Each use says what makes it sound. A bug there can break memory safety.
 //!
 //! Misuse that the calls can't check is a compile error here, or a call returns an error of the crate's own ([`Refusal::OtherRegistry`]). Neither holds for
 //! these three rules of registry.h, which you must keep. Dropping a guard or a handle is a call, too:

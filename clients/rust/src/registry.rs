@@ -125,8 +125,8 @@ impl<T> Registry<T> {
     ///
     /// # Panics
     ///
-    /// If a `T` panics as it is dropped: the call first drops what deferred entries carried that are free by then. The change isn't made, and the
-    /// value is dropped.
+    /// If a `T` panics as it is dropped: the call first drops the `T`s of deferred entries that nothing holds any more. The change isn't made, and
+    /// the value is dropped.
     pub fn attach(&self, cpu: &Cpu<T>, name: &Name, value: T) -> Result<Entry, Refused<T>> {
         if let Err(refusal) = self.tidy(cpu) {
             return Err(Refused { refusal, given: value });
@@ -158,8 +158,8 @@ impl<T> Registry<T> {
     ///
     /// # Panics
     ///
-    /// If a `T` panics as it is dropped: the call first drops what deferred entries carried that are free by then. The change isn't made, and the
-    /// reference and the value are dropped.
+    /// If a `T` panics as it is dropped: the call first drops the `T`s of deferred entries that nothing holds any more. The change isn't made, and
+    /// the reference and the value are dropped.
     pub fn attach_iface(&self, cpu: &Cpu<T>, name: &Name, mut driver: LocalRef<T>, value: T) -> Result<Entry, Refused<(LocalRef<T>, T)>> {
         let other = if driver.is_of(&self.shared) {
             self.tidy(cpu).err()
@@ -224,7 +224,7 @@ impl<T> Registry<T> {
     ///
     /// # Panics
     ///
-    /// If a `T` panics as it is dropped: the call first drops what deferred entries carried that are free by then. The change isn't made.
+    /// If a `T` panics as it is dropped: the call first drops the `T`s of deferred entries that nothing holds any more. The change isn't made.
     pub fn detach(&self, cpu: &Cpu<T>, kind: Kind, name: &Name) -> Result<Retired<T>, Refusal> {
         self.tidy(cpu)?;
         let mut kept = self.shared.kept();
@@ -244,7 +244,7 @@ impl<T> Registry<T> {
     ///
     /// # Panics
     ///
-    /// If a `T` panics as it is dropped: the call first drops what deferred entries carried that are free by then. The change isn't made.
+    /// If a `T` panics as it is dropped: the call first drops the `T`s of deferred entries that nothing holds any more. The change isn't made.
     pub fn retire(&self, cpu: &Cpu<T>, kind: Kind, name: &Name) -> Result<Entry, Refusal> {
         let retired = self.detach(cpu, kind, name)?;
         Ok(retired.entry())
