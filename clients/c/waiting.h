@@ -1,7 +1,7 @@
 /*
  * registry_waiting.h - waits over the turns of registry.h, and a list of entries that were detached and aren't freed yet
  *
- * Nothing here is proved. It is plain C over the calls of registry.h. It takes the interlock for one turn, and sleeps without it.
+ * Nothing here is proved. It is plain C over the calls of registry.h. A wait takes the interlock for each turn, and sleeps without it.
  */
 #ifndef REGISTRY_WAITING_H
 #define REGISTRY_WAITING_H
@@ -44,8 +44,9 @@ struct registry_lock registry_lock_of_mutex(pthread_mutex_t *mutex) REGISTRY_NON
  * - Then it yields 8 times.
  * - Then it sleeps, for 16 microseconds at first, twice as long each time, 8 milliseconds at most.
  *
- * `deadline` is an absolute time of CLOCK_MONOTONIC: five seconds from now is what clock_gettime writes, with 5 added to `tv_sec`. Once a turn has ended
- * after it, no other turn is made. The deadline doesn't limit the wait for the interlock. With NULL the call waits until the entry is destroyed.
+ * `deadline` is an absolute time of CLOCK_MONOTONIC: five seconds from now is what clock_gettime writes, with 5 added to `tv_sec`. The call makes
+ * no turn after one that ended past the deadline. The deadline doesn't limit the wait for the interlock. With NULL the call waits until the entry is
+ * destroyed.
  * Returns the result of its last turn. What the turns learned and collected stays, so a later call goes on from there. `met` may be NULL.
  *
  * - REGISTRY_DONE, as registry_destroy. The slot is in `met`.
@@ -60,8 +61,9 @@ registry_answer registry_destroy_wait(const struct registry_lock *lock, struct r
 /*
  * registry_perform_wait - wait until each section that is open now has ended: pserialize_perform, which waits
  *
- * The caller runs on the CPU, outside a section, and doesn't hold the interlock. The call takes the interlock once to begin, and then once a turn, as
- * registry_destroy_wait does. A later call begins anew, with the sections that are open then.
+ * The caller runs on the CPU, outside a section, and doesn't hold the interlock. The call takes the interlock once to begin, and then once a turn. Between
+ * two turns it spins, yields and sleeps as registry_destroy_wait does, and `deadline` means the same. A later call begins anew, with the sections that are
+ * open then.
  * Returns the result of its last call.
  *
  * - REGISTRY_DONE, as registry_perform_turn.

@@ -100,7 +100,7 @@
  *
  * Each build of the library is proved for its limits: the numbers of registry_limits.h. The sizes of structs depend on two of them, the most CPUs and
  * the most slots. A program that was compiled for other CPUs or slots doesn't link with the library or start with it: the linker or the loader names
- * the missing symbol, such as registry_for_8_cpus_32_slots. With other limits of the rest, registry_open returns REGISTRY_OTHER_LIMITS.
+ * the missing symbol, such as registry_for_8_cpus_32_slots. If only other limits differ, registry_open returns REGISTRY_OTHER_LIMITS.
  *
  * THE PLATFORM
  *
@@ -342,9 +342,9 @@ void registry_limits(struct registry_limits *limits);
 
 /*
  * Compares the limits that a program was compiled for with the library's. registry_open calls it. Its name in the library has the most CPUs and the
- * most slots, such as registry_for_8_cpus_32_slots. So no program links or starts with a library in which sizes of structs are others. It is C: tested,
- * not proved.
- * Returns REGISTRY_NULL if `limits` is NULL, REGISTRY_OTHER_LIMITS if any of them is another number.
+ * most slots, such as registry_for_8_cpus_32_slots. So no program links or starts with a library whose structs have other sizes. It is C: tested, not
+ * proved.
+ * Returns REGISTRY_NULL if `limits` is NULL, REGISTRY_OTHER_LIMITS if any of them differs.
  */
 registry_answer REGISTRY_BUILT_FOR(const struct registry_limits *limits) REGISTRY_CHECKED;
 
@@ -353,9 +353,9 @@ registry_answer REGISTRY_BUILT_FOR(const struct registry_limits *limits) REGISTR
 /*
  * registry_open - make a registry: its keeper, and its CPUs in order
  *
- * `count` is settings->cpus. All handles are empty before the call. No entry is attached then, and all CPUs are outside any section.
- * In a program the name is a macro for a function of this header, which first compares the limits of the program with the library's. The library's symbol
- * is the call alone: whoever calls it without this header calls the comparison before it.
+ * `count` is settings->cpus. All handles are empty before the call. Afterwards no entry is attached yet, and all CPUs are outside any section.
+ * In C the name is a macro for a function of this header, which first compares the program's limits with the library's. The library's symbol doesn't
+ * compare them: a program that calls it without this header calls the comparison first.
  * Returns REGISTRY_OTHER_LIMITS, REGISTRY_NULL if `settings` is NULL, or if `cpus` is NULL and `count` isn't 0, REGISTRY_BAD_SETTINGS,
  * REGISTRY_MISSING_CPU if `count` is another number, REGISTRY_FULL_HANDLE, REGISTRY_NO_MEMORY.
  */
@@ -726,8 +726,8 @@ registry_answer registry_perform_begin(struct registry_keeper *keeper, struct re
  *   registry_advance or registry_destroy needn't look at sections for it.
  *
  * The caller leaves the wait alone: only these calls write it, and each turn gets it exactly as the call before left it, with the keeper of the same
- * registry. Between the calls the CPU may do anything else. Another CPU may make a turn after a registry_perform_begin, registry_perform_turn or
- * registry_destroy on it that was made since the last call with this wait. A wait may be abandoned after any of these calls: it holds nothing.
+ * registry. Between the calls the CPU may do anything else. Another CPU may make a turn, if it has made a registry_perform_begin, registry_perform_turn
+ * or registry_destroy since the last call with this wait. A wait may be abandoned after any of these calls: it holds nothing.
  * The CPUs whose sections the turn saw ended are written to the wait, for any result except the first four errors.
  * Returns REGISTRY_EMPTY_HANDLE for either handle, REGISTRY_NULL if `wait` is NULL, REGISTRY_NOT_BEGUN, REGISTRY_INSIDE, REGISTRY_WAITING.
  * REGISTRY_NOT_BEGUN is for a wait that is {0} or was never begun, whether or not the CPU is inside. With REGISTRY_WAITING the lowest-numbered CPU whose
