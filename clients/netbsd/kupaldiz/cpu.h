@@ -6,8 +6,6 @@
  *
  * A thread that isn't bound gets a CPU that is free whenever it needs one, and may get another the next time. One that is bound keeps its CPU.
  * Whoever holds a passive reference is bound.
- *
- * Nothing of the layer is called from a signal handler. In the child of a fork whose parent had called the layer each call stops.
  */
 #ifndef KUPALDIZ_NETBSD_CPU_H
 #define KUPALDIZ_NETBSD_CPU_H
