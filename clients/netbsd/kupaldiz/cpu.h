@@ -1,13 +1,11 @@
 /*
  * cpu.h - threads, and the CPUs that they run on
  *
- * A CPU is virtual, one of KUPALDIZ_CPUS. Any number of threads use them. A thread has its CPU during a call, a read section, a spin lock or a raised
- * level; the other threads of that CPU wait meanwhile. Outside of these all threads run at once, on any processor.
+ * A CPU is virtual, one of KUPALDIZ_CPUS. Any number of threads use them. A thread has its CPU during a call, in a read section, with a spin lock, at a
+ * raised level, and with preemption disabled; the other threads of that CPU wait meanwhile. Outside of these all threads run at once.
  *
  * A thread that isn't bound gets a CPU that is free whenever it needs one, and may get another the next time. One that is bound keeps its CPU.
  * Whoever holds a passive reference is bound.
- *
- * Nothing of the layer is called from a signal handler. In the child of a fork whose parent had called the layer each call stops.
  */
 #ifndef KUPALDIZ_NETBSD_CPU_H
 #define KUPALDIZ_NETBSD_CPU_H
@@ -62,15 +60,15 @@ typedef unsigned CPU_INFO_ITERATOR;
  * kupaldiz_bind - bind this thread to the CPU with that number, as a kernel thread that was created for a CPU
  *
  * It stays bound until kupaldiz_unbind, curlwp_bindx(0) or its end. Other threads may be bound to that CPU as well.
- * Stops where there is no such CPU, where this thread is bound, and inside a read section or with a spin lock.
+ * Stops where there is no such CPU, where this thread is bound, and where it mustn't sleep.
  */
 void kupaldiz_bind(unsigned cpu);
 
 /*
  * kupaldiz_unbind - the thread isn't bound any more
  *
- * Stops where this thread isn't bound, is inside a read section, or has passive references. The end of a bound thread does the same, once the
- * destructors of its keys have run.
+ * Stops where this thread isn't bound, mustn't sleep, or has passive references. The end of a bound thread does the same, once the destructors of its
+ * keys have run.
  */
 void kupaldiz_unbind(void);
 
@@ -103,7 +101,7 @@ static inline unsigned cpu_number(void)
 	return cpu_index(curcpu());
 }
 
-/* kpreempt_disable - have the CPU until kpreempt_enable: no other thread of it gets into a section meanwhile. It nests. */
+/* kpreempt_disable - keep the CPU until kpreempt_enable: no other thread of that CPU enters a section meanwhile. It nests. */
 void kpreempt_disable(void);
 
 /* kpreempt_enable - undo one kpreempt_disable. Stops where there was none. */

@@ -3,8 +3,7 @@
  *
  * What differs from the pages:
  * - An assertion is always compiled in.
- * - There is no kernel lock. KTHREAD_MPSAFE is accepted and changes nothing: threads that were made without it run at the same time as others, too.
- *   KTHREAD_IDLE, KTHREAD_INTR, KTHREAD_TS and the priority change nothing either.
+ * - KTHREAD_MPSAFE changes nothing: there is no kernel lock. KTHREAD_IDLE, KTHREAD_INTR, KTHREAD_TS and the priority change nothing either.
  * - The calls of copy(9) copy within the one memory that there is. They fail with EFAULT where the user's address is NULL or below 4096.
  * - Nobody loads a module: the program calls its command, kupaldiz_NAME_modcmd.
  */
@@ -37,8 +36,8 @@ void kupaldiz_failed_with(const char *place, const char *text, const char *forma
 #define KDASSERT(condition)		KASSERT(condition)
 #define KDASSERTMSG(condition, ...)	KASSERTMSG(condition, __VA_ARGS__)
 
-/* ASSERT_SLEEPABLE, kupaldiz_assert_sleepable - stop where the thread mustn't sleep: in a read section or a soft interrupt, with a spin lock, at a raised
- * level. */
+/* ASSERT_SLEEPABLE, kupaldiz_assert_sleepable - stop where the thread mustn't sleep: inside a read section, in a soft interrupt, with a spin lock, at a
+ * raised level, and with preemption disabled. */
 void kupaldiz_assert_sleepable(void);
 #define ASSERT_SLEEPABLE()	(kupaldiz_at(KUPALDIZ_HERE), kupaldiz_assert_sleepable())
 

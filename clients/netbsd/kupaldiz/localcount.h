@@ -1,17 +1,17 @@
 /*
  * localcount.h - the calls of localcount(9), for threads of user space, over registry.h
  *
- * A local count has a part on each CPU: acquiring and releasing touch this CPU's part, and the references may be released on other CPUs than
- * they were acquired on. The holder of a reference may sleep, and may hand it to another thread. Whoever drains the count has first made sure that
- * no new reference is acquired, mostly by unlinking the object and calling pserialize_perform, and then waits for those that are held.
+ * A local count has a part on each CPU. Acquiring and releasing change this CPU's part, and a reference may be released on another CPU than it was
+ * acquired on. Its holder may sleep, and may give it to another thread. To drain a count, unlink the object and call pserialize_perform, so that no
+ * new reference is acquired. Then localcount_drain waits for those that are held.
  *
  * What differs from the page:
- * - A release doesn't say which reference it lets go, so those that are held lie in one list, under a lock of the count's: what the page avoids,
- *   a word that all CPUs write, is back in each acquire and release.
+ * - A release doesn't say which reference it ends, so those that are held are in one list of the count, under its lock. Each acquire and release takes
+ *   this lock: a word that all CPUs write, which the kernel avoids.
  * - A drain looks again each millisecond, or when the last release wakes it; no CPU runs anything for it. After five seconds it says on standard error how
- *   many references are held and where one was acquired. If they were acquired at several places, that one may have been released.
- * - Each CPU's part may differ from 0 by 2^40; where references travel one way only, it gets there with none held. Acquires on that CPU then
- *   count on the writers' CPU, under the layer's lock, up to 2^40 more.
+ *   many references are held and where one was acquired. If they were acquired at several places, it may name that of one which was released.
+ * - Each CPU's part may differ from 0 by 2^40. It gets there with no reference held, if each one is acquired on that CPU and released on another.
+ *   Acquires on that CPU then count on the writers' CPU, under the layer's lock, up to 2^40 more.
  *
  * What the page forbids and a call sees ends the process by abort(3), after one line on standard error that begins with the call's name.
  */

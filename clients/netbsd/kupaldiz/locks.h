@@ -1,9 +1,9 @@
 /*
  * locks.h - mutex(9), condvar(9) and rwlock(9), for threads of user space
  *
- * What differs from the pages: no lock spins. A lock that spins there, of type MUTEX_SPIN or of a level from IPL_VM on, keeps the thread's CPU
- * here, so that what the kernel excludes is excluded: neither another thread of the CPU nor a soft interrupt of that level runs meanwhile.
- * Each lock knows its owner. A wait for a lock, for a CPU or for a condition variable isn't a cancellation point.
+ * What differs from the pages: a spin lock, of type MUTEX_SPIN or of a level from IPL_VM on, doesn't spin. Its holder keeps its CPU: neither another
+ * thread of that CPU nor a soft interrupt of the lock's level runs meanwhile.
+ * A wait for a lock, for a CPU or for a condition variable isn't a cancellation point.
  */
 #ifndef KUPALDIZ_NETBSD_LOCKS_H
 #define KUPALDIZ_NETBSD_LOCKS_H
@@ -49,7 +49,7 @@ void mutex_enter(kmutex_t *mutex);
 /* mutex_exit - give a lock back. Stops where this thread doesn't have it. */
 void mutex_exit(kmutex_t *mutex);
 
-/* mutex_tryenter - take a lock if it is free. Whether it was. It may be called where mutex_enter stops. */
+/* mutex_tryenter - take a lock if it is free. Returns whether it was. It may be called where mutex_enter stops. */
 int mutex_tryenter(kmutex_t *mutex);
 
 /* mutex_spin_enter, mutex_spin_exit - the same as mutex_enter and mutex_exit, of a lock that spins. Stop where it doesn't. */
@@ -59,7 +59,7 @@ void mutex_spin_exit(kmutex_t *mutex);
 /* mutex_owned - whether this thread has the lock, for assertions. */
 int mutex_owned(const kmutex_t *mutex);
 
-/* mutex_ownable - true, for assertions: whether this thread may wait for the lock. Stops where it has it. */
+/* mutex_ownable - whether this thread may wait for the lock, for assertions. Returns true, or stops where the thread has it. */
 int mutex_ownable(const kmutex_t *mutex);
 
 /* mutex_obj_alloc - a new lock, with one reference. Stops where the thread mustn't sleep. */
@@ -68,7 +68,7 @@ kmutex_t *mutex_obj_alloc(kmutex_type_t type, int level);
 /* mutex_obj_hold - one reference more. */
 void mutex_obj_hold(kmutex_t *mutex);
 
-/* mutex_obj_free - one reference less; with the last one the lock is destroyed and freed. Whether it was. */
+/* mutex_obj_free - one reference less; with the last one the lock is destroyed and freed. Returns whether it was. */
 bool mutex_obj_free(kmutex_t *mutex);
 
 /* A condition variable. Only the calls look into it. */
@@ -87,7 +87,7 @@ void cv_destroy(kcondvar_t *cv);
 /*
  * cv_wait - wait to be woken, without the lock meanwhile
  *
- * Stops inside a read section, in a soft interrupt, with a spin lock other than this one, and where this thread doesn't have the lock.
+ * Stops where this thread doesn't have the lock, and where it mustn't sleep. The lock itself may be a spin lock.
  */
 void cv_wait(kcondvar_t *cv, kmutex_t *mutex);
 
@@ -100,7 +100,7 @@ int cv_timedwait(kcondvar_t *cv, kmutex_t *mutex, int ticks);
 /* cv_timedwait_sig - cv_timedwait. */
 int cv_timedwait_sig(kcondvar_t *cv, kmutex_t *mutex, int ticks);
 
-/* cv_signal - wake one of those that wait, the one that came first. */
+/* cv_signal - wake the thread that has waited longest. */
 void cv_signal(kcondvar_t *cv);
 
 /* cv_broadcast - wake all that wait. */
@@ -136,19 +136,19 @@ void rw_destroy(krwlock_t *rw);
  * interrupt. */
 void rw_enter(krwlock_t *rw, const krw_t how);
 
-/* rw_tryenter - the same without a wait. Whether it was taken. */
+/* rw_tryenter - the same without a wait. Returns whether it was taken. */
 int rw_tryenter(krwlock_t *rw, const krw_t how);
 
-/* rw_exit - give it back. Stops where nobody has it, where another thread has it as its writer, and where this thread has no lock. */
+/* rw_exit - give it back. Stops where nobody has it, where another thread is its writer, and where this thread has no lock at all. */
 void rw_exit(krwlock_t *rw);
 
-/* rw_tryupgrade - from reader to writer, where there is no other reader. Whether it is now the writer. */
+/* rw_tryupgrade - from reader to writer, if there is no other reader. Returns whether it is now the writer. */
 int rw_tryupgrade(krwlock_t *rw);
 
 /* rw_downgrade - from writer to reader. Stops where this thread isn't the writer. */
 void rw_downgrade(krwlock_t *rw);
 
-/* rw_read_held, rw_write_held, rw_lock_held - whether somebody reads; whether this thread writes; either. For assertions. */
+/* rw_read_held, rw_write_held, rw_lock_held - whether some thread is a reader; whether this one is the writer; either. For assertions. */
 int rw_read_held(krwlock_t *rw);
 int rw_write_held(krwlock_t *rw);
 int rw_lock_held(krwlock_t *rw);

@@ -58,7 +58,7 @@ struct pool {
 
 typedef struct pool_cache *pool_cache_t;
 
-/* pool_init - a pool of objects of that size. The other words are taken and mean nothing. */
+/* pool_init - make a pool of objects of that size. Its name appears in lines and isn't copied. The other parameters change nothing. */
 void pool_init(struct pool *pool, size_t size, unsigned align, unsigned offset, int flags, const char *name, struct pool_allocator *from, int level);
 
 /* pool_destroy - end it. Stops where an object is in use. */
@@ -70,13 +70,13 @@ void *pool_get(struct pool *pool, int flags);
 /* pool_put - give an object back. Stops where it is none of the pool's. */
 void pool_put(struct pool *pool, void *object);
 
-/* pool_cache_init - a cache of objects that `make` has made, and that `end` ends; both may be NULL. Stops where the thread mustn't sleep. */
+/* pool_cache_init - make a cache of objects that `make` initialises and `end` ends; both may be NULL. Stops where the thread mustn't sleep. */
 pool_cache_t pool_cache_init(size_t size, unsigned align, unsigned offset, unsigned flags, const char *name, struct pool_allocator *from, int level, int (*make)(void *, void *, int), void (*end)(void *, void *), void *arg);
 
 /* pool_cache_destroy - end it. Stops where an object is in use. */
 void pool_cache_destroy(pool_cache_t cache);
 
-/* pool_cache_get - an object, made. NULL where memory runs out, or `make` fails. */
+/* pool_cache_get - an object that is initialised. NULL where memory runs out, or `make` fails. */
 void *pool_cache_get(pool_cache_t cache, int flags);
 
 /* pool_cache_put - give an object back, which is ended. */
@@ -96,13 +96,13 @@ percpu_t *percpu_create(size_t size, percpu_callback_t make, percpu_callback_t e
 /* percpu_free - end it, with its size. Stops where the thread mustn't sleep. */
 void percpu_free(percpu_t *percpu, size_t size);
 
-/* percpu_getref - this CPU's own. The thread has the CPU until percpu_putref, and mustn't sleep. */
+/* percpu_getref - this CPU's own memory. Preemption is disabled until percpu_putref, so the thread mustn't sleep. */
 void *percpu_getref(percpu_t *percpu);
 
 /* percpu_putref - undo a percpu_getref. */
 void percpu_putref(percpu_t *percpu);
 
-/* percpu_foreach - `look(its own, arg, cpu)` for each CPU, on this thread, while the CPUs go on. */
+/* percpu_foreach - call `look(its own, arg, cpu)` for each CPU, on this thread, while other threads run. */
 void percpu_foreach(percpu_t *percpu, percpu_callback_t look, void *arg);
 
 /* percpu_foreach_xcall - the same, each on its CPU, as xc_broadcast does. */

@@ -1,19 +1,18 @@
 /*
  * pserialize.h - the calls of pserialize(9), for threads of user space, over registry.h
  *
- * A reader walks in a read section what a writer takes apart. It takes none of the writers' locks, and doesn't wait for
- * pserialize_perform. The writer unlinks a thing, calls pserialize_perform, and then no reader has it. Writers keep apart by a lock of their own.
+ * A reader walks a list in a read section. It takes none of the writers' locks, and doesn't wait for pserialize_perform. A writer unlinks an entry,
+ * calls pserialize_perform, and then no reader has the entry. Writers exclude each other by a lock of their own.
  *
  * What differs from the page:
- * - A section keeps the thread on its CPU (cpu.h), and the other threads of that CPU out of theirs. The outermost enter takes the lock of that CPU, so
- *   a reader waits where no CPU is free for it.
+ * - A section keeps the thread on its CPU, and the other threads of that CPU out of theirs. So a reader waits if no CPU is free.
  * - A section raises no level: soft interrupts run inside it too (kupaldiz_softint(3) says when). In the kernel it keeps them off.
  * - A call of this layer that sleeps stops inside a section. A call of the C library that blocks there isn't seen.
- * - A wait looks at the section word of each CPU, again and again with ever longer pauses, up to a millisecond; no CPU runs anything for it. After
- *   five seconds it says on standard error which thread it waits for.
- * - What a reader loads and a writer stores in the list itself are atomics of the caller's: release on the writer's side, acquire or consume on
- *   the reader's, as the kernel's atomic_store_release(9) and atomic_load_consume(9) are. They need not be sequentially consistent, as those beside
- *   registry_perform_begin of registry(3) must be: here each outermost enter ends with a full fence, and pserialize_perform begins with one.
+ * - pserialize_perform looks at the section word of each CPU, again and again with ever longer pauses, up to a millisecond; no CPU runs anything for it.
+ *   After five seconds it says on standard error which thread it waits for.
+ * - The links of the list are the caller's: a writer stores them with atomic_store_release, and a reader loads them with atomic_load_consume or
+ *   atomic_load_acquire, as in the kernel. No other barrier is needed: each outermost enter ends with a full fence, and pserialize_perform begins with
+ *   one.
  *
  * What the page forbids and a call sees ends the process by abort(3), after one line on standard error that begins with the call's name.
  */
@@ -48,10 +47,11 @@ int pserialize_read_enter(void);
 void pserialize_read_exit(int s);
 
 /*
- * pserialize_perform - wait for every read section that is open on any CPU as the call begins, whatever `psz` is given
+ * pserialize_perform - wait for every read section that is open on any CPU as the call begins, with any `psz`
  *
  * It may sleep. It need not wait for sections that begin later, and doesn't wait for passive references, local references or callouts.
- * Stops where the thread mustn't sleep: inside a read section, with a spin lock or at a raised level, and in a soft interrupt.
+ * Stops where the thread mustn't sleep: inside a read section, in a soft interrupt, with a spin lock, at a raised level, and with preemption
+ * disabled.
  */
 void pserialize_perform(pserialize_t psz);
 

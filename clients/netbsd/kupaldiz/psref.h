@@ -1,16 +1,16 @@
 /*
  * psref.h - the calls of psref(9), for threads of user space, over registry.h
  *
- * A passive reference keeps its target beyond the read section that found it, and its holder may sleep. It stays with the thread that acquired
- * it, and that thread with its CPU. Whoever destroys a target has first made sure that no new reference is acquired, mostly by unlinking it and
- * calling pserialize_perform, and then waits for those that are held.
+ * A passive reference keeps its target beyond the read section that found it, and its holder may sleep. The thread that acquired it releases it, and is
+ * bound to its CPU until then. To destroy a target, unlink it and call pserialize_perform, so that no new reference is acquired. Then
+ * psref_target_destroy waits for those that are held.
  *
  * What differs from the page:
- * - A class's level is kept and means nothing: no soft interrupt comes within a call (kupaldiz_softint(3) says when one does).
+ * - A class's level changes nothing: a soft interrupt runs at the end of a call, never within one (kupaldiz_softint(3)).
  * - psref_acquire finds its target by a name, in a list of at most as many entries as a registry has (32 in the default build). It notes the reference
  *   in a table of its CPU, where psref_release and psref_copy look it up. In the kernel a reference lies in a list of its CPU, and nothing is looked up.
- * - psref_target_destroy looks at the words of all CPUs, as pserialize_perform does; no CPU runs anything for it. As in the kernel, the sections
- *   that were open on any CPU as the last reference was released have ended when it returns.
+ * - psref_target_destroy looks at the words of all CPUs, as pserialize_perform does; no CPU runs anything for it. After five seconds it says on standard
+ *   error which CPU and thread hold a reference, and where one was acquired.
  * - Each CPU has at most 2^40 references to a target at a time.
  *
  * What the page forbids and a call sees ends the process by abort(3), after one line on standard error that begins with the call's name.
@@ -54,8 +54,7 @@ void psref_target_init(struct psref_target *target, struct psref_class *psref_cl
 /*
  * psref_target_destroy - wait until no reference to the target is held, on any CPU
  *
- * It may sleep. The sections that were open as the last reference was released have ended, too. The target may be freed or initialised again
- * after it.
+ * It may sleep. The sections that were open as the last reference was released have ended, too. The target may then be freed or initialised again.
  * Stops where the thread mustn't sleep; where the target isn't live, is of another class, or is being destroyed already; and where this thread
  * has a reference to it, which nobody else could release.
  */

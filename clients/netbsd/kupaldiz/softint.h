@@ -7,17 +7,7 @@
  *   psref_copy, psref_held, psref_release, localcount_acquire, localcount_release, mutex_exit, mutex_spin_exit, cv_signal, cv_broadcast, splx,
  *   kpreempt_enable, percpu_putref, softint_schedule. The call returns when the handlers have ended, or when one of them waits for a lock.
  *
- * Handlers of one CPU run one after another, those of the highest level first.
- *
- * What differs from the pages:
- * - There is no kernel lock. SOFTINT_MPSAFE and CALLOUT_MPSAFE are accepted and change nothing: handlers and callouts that were made without them run at
- *   the same time as those of other CPUs, and as threads.
- * - A read section doesn't keep soft interrupts off. In the kernel it does, up to IPL_SOFTSERIAL. Both keep them off by spl.. and by spin locks, up to
- *   their level.
- * - A handler of a higher level never interrupts a handler that runs: it begins when that one has returned. In the kernel it interrupts it. So
- *   neither threads nor the bench show what goes wrong by such an order.
- * - A handler interrupts a thread at the calls above alone, and in the bench at each point of kupaldiz_bench(7). In the kernel it does so anywhere.
- * - There are no hard interrupts.
+ * Handlers of one CPU run one after another, those of the highest level first. kupaldiz_netbsd(7) lists what differs from the kernel.
  */
 #ifndef KUPALDIZ_NETBSD_SOFTINT_H
 #define KUPALDIZ_NETBSD_SOFTINT_H
@@ -35,26 +25,26 @@ extern "C" {
 #define SOFTINT_MPSAFE	0x0100u
 #define SOFTINT_LVLMASK	0x00ffu
 
-/* softint_establish - a soft interrupt of this level that runs `handler(arg)`. NULL where memory runs out. Stops where the thread mustn't sleep. */
+/* softint_establish - make a soft interrupt of this level that runs `handler(arg)`. NULL where memory runs out. Stops where the thread mustn't sleep. */
 void *softint_establish(unsigned flags, void (*handler)(void *), void *arg);
 
 /*
- * softint_disestablish - end it: it is scheduled nowhere any more, and its handler doesn't run
+ * softint_disestablish - end a soft interrupt, on all CPUs
  *
- * It waits for a handler that runs. Stops where the thread mustn't sleep.
+ * It waits for its handler, if that runs. Stops where the thread mustn't sleep.
  */
 void softint_disestablish(void *cookie);
 
-/* softint_schedule - have its handler run once on this CPU. Where it is scheduled there already nothing changes. */
+/* softint_schedule - have its handler run once on this CPU. Nothing changes if it is scheduled there already. */
 void softint_schedule(void *cookie);
 
-/* kupaldiz_splraise - the CPU's level is at least this one until splx, and the thread keeps its CPU. Returns the level before. */
+/* kupaldiz_splraise - raise the CPU's level to at least this one, and keep the CPU, until splx. Returns the level before. */
 int kupaldiz_splraise(int level);
 
-/* splx - the level before. Stops where a spin lock is held that keeps it higher. */
+/* splx - lower the CPU's level to this one. Stops where that would lower it while the thread holds a spin lock. */
 void splx(int level);
 
-/* spl0 - the CPU's level is the lowest. Stops where splx does. */
+/* spl0 - set the CPU's level to the lowest. Stops where splx does. */
 #define spl0()		splx(IPL_NONE)
 
 /* splsoftclock, splsoftbio, splsoftnet, splsoftserial, splvm, splnet, splbio, spltty, splclock, splserial, splsched, splhigh, splraiseipl - the same as
@@ -93,10 +83,10 @@ uint64_t xc_broadcast(unsigned flags, xcfunc_t body, void *arg_a, void *arg_b);
 /* xc_unicast - the same on one CPU. */
 uint64_t xc_unicast(unsigned flags, xcfunc_t body, void *arg_a, void *arg_b, struct cpu_info *cpu);
 
-/* xc_wait - wait until it has run everywhere. */
+/* xc_wait - wait until it has run everywhere. Stops where the thread mustn't sleep. */
 void xc_wait(uint64_t ticket);
 
-/* xc_barrier - wait until each CPU has been out of its sections once. */
+/* xc_barrier - wait until each CPU has been out of its sections once. Stops where the thread mustn't sleep. */
 void xc_barrier(unsigned flags);
 
 /* ---- callout(9): a function after a time. ---- */
@@ -115,36 +105,36 @@ typedef struct callout {
 	uint32_t c_cpu;
 } callout_t;
 
-/* callout_init - a callout that isn't pending. */
+/* callout_init - make a callout that isn't pending. */
 void callout_init(callout_t *callout, unsigned flags);
 
-/* callout_destroy - end it. Stops where it is pending or runs. */
+/* callout_destroy - end a callout. Stops where it is pending or runs. */
 void callout_destroy(callout_t *callout);
 
-/* callout_setfunc - what it runs. */
+/* callout_setfunc - set what it runs. */
 void callout_setfunc(callout_t *callout, void (*body)(void *), void *arg);
 
-/* callout_reset - run `body(arg)` after so many ticks, as a soft interrupt of IPL_SOFTCLOCK of this CPU. What was pending isn't any more. */
+/* callout_reset - run `body(arg)` after so many ticks, as a soft interrupt of IPL_SOFTCLOCK of this CPU, instead of what was pending. */
 void callout_reset(callout_t *callout, int ticks, void (*body)(void *), void *arg);
 
-/* callout_schedule - the same with what it runs already. */
+/* callout_schedule - the same, with the body and the argument that it has. */
 void callout_schedule(callout_t *callout, int ticks);
 
-/* callout_stop - it isn't pending any more; it may run. Whether it had expired. */
+/* callout_stop - end its wait, without waiting for its body, which may run. Returns whether it had expired. */
 bool callout_stop(callout_t *callout);
 
-/* callout_halt - the same, and it doesn't run: the call waits for it, without the lock meanwhile, which may be NULL. Stops where the thread mustn't
- * sleep. */
+/* callout_halt - the same, and wait for its body to end, without the lock meanwhile, which may be NULL. Stops where it has to wait and the thread
+ * mustn't sleep. */
 bool callout_halt(callout_t *callout, void *interlock);
 
-/* callout_pending, callout_expired, callout_active, callout_invoking - for assertions: it waits for its time; its time came; one of the two; it runs, until
- * callout_ack. */
+/* callout_pending, callout_expired, callout_active, callout_invoking - whether it waits for its time; whether its time came; whether one of the two holds;
+ * whether its body runs, until callout_ack. */
 bool callout_pending(callout_t *callout);
 bool callout_expired(callout_t *callout);
 bool callout_active(callout_t *callout);
 bool callout_invoking(callout_t *callout);
 
-/* callout_ack - in its body: it isn't invoking any more. */
+/* callout_ack - called by its body: callout_invoking is false from then on. */
 void callout_ack(callout_t *callout);
 
 #ifndef KUPALDIZ_WITHOUT_PLACES
