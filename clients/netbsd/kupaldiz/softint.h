@@ -41,7 +41,7 @@ void softint_schedule(void *cookie);
 /* kupaldiz_splraise - raise the CPU's level to at least this one, and keep the CPU, until splx. Returns the level before. */
 int kupaldiz_splraise(int level);
 
-/* splx - lower the CPU's level to this one. Stops where that would lower it while the thread holds a spin lock. */
+/* splx - lower the CPU's level to this one. Stops where that is below the level of a spin lock that the thread has. */
 void splx(int level);
 
 /* spl0 - set the CPU's level to the lowest. Stops where splx does. */

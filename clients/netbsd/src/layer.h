@@ -157,6 +157,7 @@ struct thread {
 	unsigned locks;			/* locks that don't spin */
 	unsigned preemptions;		/* kpreempt_disable */
 	unsigned spins;			/* spin locks */
+	unsigned spins_at[IPL_HIGH + 1];	/* of them, those of each level */
 	int level, level_before;	/* the CPU's level, and what it was before the first spin lock */
 	bool softint;
 	bool kthread;			/* kthread_create made it */

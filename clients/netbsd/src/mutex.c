@@ -71,17 +71,29 @@ static void note_taken(struct thread *me, kmutex_t *mutex)
 	__atomic_store_n(&mutex->mtx_place, me->place, __ATOMIC_RELAXED);
 }
 
+/* The level to which a lock raises the CPU: IPL_NONE if it doesn't spin. */
+static int level_of(const kmutex_t *mutex)
+{
+	if (!mutex->mtx_spins)
+		return IPL_NONE;
+	if (mutex->mtx_level == IPL_NONE)
+		return IPL_VM;
+	return mutex->mtx_level < IPL_HIGH ? mutex->mtx_level : IPL_HIGH;
+}
+
 /* Raises the CPU's level to that of a spin lock, which this thread takes then. */
 static void raise_for(struct thread *me, const kmutex_t *mutex)
 {
-	int before = raise_level(me, mutex->mtx_level > IPL_NONE ? mutex->mtx_level : IPL_VM);
+	int before = raise_level(me, level_of(mutex));
+	me->spins_at[level_of(mutex)]++;
 	if (me->spins++ == 0)
 		me->level_before = before;
 }
 
 /* The level before, once the last spin lock is given back. */
-static void lower_again(struct thread *me)
+static void lower_again(struct thread *me, int level)
 {
+	me->spins_at[level]--;
 	if (--me->spins == 0)
 		lower_level(me, me->level_before);
 }
@@ -122,10 +134,10 @@ void give_mutex(struct thread *me, kmutex_t *mutex)
 	want_mutex(me, mutex);
 	if (!has_mutex(me, mutex))
 		stop(me, "the thread does not have the lock");
-	bool spins = mutex->mtx_spins;
+	int level = level_of(mutex);
 	lock_give(&mutex->mtx_word, me);
-	if (spins)
-		lower_again(me);
+	if (level > IPL_NONE)
+		lower_again(me, level);
 	else
 		me->locks--;
 }
@@ -158,7 +170,7 @@ int mutex_tryenter(kmutex_t *mutex)
 		return 1;
 	}
 	if (mutex->mtx_spins)
-		lower_again(me);
+		lower_again(me, level_of(mutex));
 	return 0;
 }
 

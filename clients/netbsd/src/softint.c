@@ -44,10 +44,19 @@ int kupaldiz_splraise(int level)
 	return raise_level(begin_call("splraise"), level);
 }
 
+/* The highest level of the spin locks that the thread has. */
+static int level_of_spins(const struct thread *me)
+{
+	int level = IPL_HIGH;
+	while (level > IPL_NONE && me->spins_at[level] == 0)
+		level--;
+	return level;
+}
+
 void splx(int level)
 {
 	struct thread *me = begin_call(__func__);
-	if (me->spins > 0 && level < me->level)
+	if (level < me->level && level < level_of_spins(me))
 		stop(me, "with a spin lock");
 	if (level < me->level)
 		lower_level(me, level);

@@ -59,6 +59,23 @@ static void *add_locked(void *arg)
 	return arg;
 }
 
+/* With a spin lock the level may be raised, also for a second lock, and lowered again to that of the first. */
+static void test_levels_in_spin_locks(void)
+{
+	kmutex_t highest;
+	mutex_init(&highest, MUTEX_DEFAULT, IPL_HIGH);
+	mutex_spin_enter(&spin);
+	int s = splhigh();
+	mutex_spin_enter(&highest);
+	mutex_spin_exit(&highest);
+	splx(s);
+	EXPECT(s == IPL_VM && splsched() == IPL_VM);
+	splx(s);
+	mutex_spin_exit(&spin);
+	EXPECT(!kpreempt_disabled());
+	mutex_destroy(&highest);
+}
+
 static void test_mutexes(void)
 {
 	plain = pair[0] = 0;
@@ -68,6 +85,7 @@ static void test_mutexes(void)
 	EXPECT(kpreempt_disabled() && !mutex_tryenter(&spin));
 	mutex_spin_exit(&spin);
 	EXPECT(!kpreempt_disabled());
+	test_levels_in_spin_locks();
 	kmutex_t *counted = mutex_obj_alloc(MUTEX_DEFAULT, IPL_NONE);
 	mutex_obj_hold(counted);
 	EXPECT(!mutex_obj_free(counted));
