@@ -64,7 +64,8 @@
  * - One call at a time uses a handle. A handle goes to another thread by a lock, or by the start or the join of a thread.
  * - Calls with a keeper are made under the caller's lock, registry_settings_of too. They need no lock while no other thread can use the keeper, as at
  *   registry_open and registry_close.
- * - Nothing writes to a struct registry_wait between two calls with it.
+ * - Nothing writes to a struct registry_wait between two calls with it, and only a CPU that registry_perform_turn allows makes a turn. Otherwise the
+ *   results of the turns mean nothing: after REGISTRY_DONE a section from before the wait may still be open.
  * - Each passive reference is released once, on the CPU that acquired it. A CPU counts its references to an entry, and can't distinguish them. A second
  *   release, or one on another CPU, takes away another reference that the CPU still holds to the entry, which may then be freed while that one is used.
  *   It fails with REGISTRY_NOT_HELD only if there is no other.
@@ -726,8 +727,8 @@ registry_answer registry_perform_begin(struct registry_keeper *keeper, struct re
  *   registry_advance or registry_destroy needn't look at sections for it.
  *
  * The caller leaves the wait alone: only these calls write it, and each turn gets it exactly as the call before left it, with the keeper of the same
- * registry. Between the calls the CPU may do anything else. Another CPU may make a turn, if it has made a registry_perform_begin, registry_perform_turn
- * or registry_destroy since the last call with this wait. A wait may be abandoned after any of these calls: it holds nothing.
+ * registry. Between the calls the CPU may do anything else. Another CPU may make a turn only if it has made a registry_perform_begin,
+ * registry_perform_turn or registry_destroy since the last call with this wait. A wait may be abandoned after any of these calls: it holds nothing.
  * The CPUs whose sections the turn saw ended are written to the wait, for any result except the first four errors.
  * Returns REGISTRY_EMPTY_HANDLE for either handle, REGISTRY_NULL if `wait` is NULL, REGISTRY_NOT_BEGUN, REGISTRY_INSIDE, REGISTRY_WAITING.
  * REGISTRY_NOT_BEGUN is for a wait that is {0} or was never begun, whether or not the CPU is inside. With REGISTRY_WAITING the lowest-numbered CPU whose
