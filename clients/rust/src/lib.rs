@@ -116,9 +116,9 @@
 //!
 //! # What panics
 //!
-//! If a thread panics, unwinding exits its sections and releases its references. No lock is poisoned. An attach, a detach and a retire first drop the
-//! `T`s of entries that were retired or deferred and that nothing holds any more. If such a drop panics, the panic unwinds from that call, and its
-//! change isn't made.
+//! If a thread panics, unwinding exits its sections and releases its passive references. A [`LocalRef`] is dropped [as
+//! anywhere](LocalRef#dropped-without-a-cpu). No lock is poisoned. An attach, a detach and a retire first drop the `T`s of entries that were retired or
+//! deferred and that nothing holds any more. If such a drop panics, the panic unwinds from that call, and its change isn't made.
 //!
 //! # Which types go to other threads
 //!
