@@ -1,0 +1,3 @@
+//! Tests of the bodies of C's calls.
+
+mod waits;
