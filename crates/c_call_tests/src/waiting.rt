@@ -176,8 +176,8 @@ pub fn leave_alone(
     Ok((first, other.1, last))
 }
 
-/// A wait whose last turn another CPU makes. It has heard all that the first one knew, by a wait that it begins and abandons; that this is all, the
-/// next call of the first CPU says. Returns what both turns told.
+/// A wait whose last turn another CPU makes. That CPU hears what the keeper did, by a wait that it begins and abandons. The next call of the first
+/// CPU says that it knew no more than that. Returns what both turns told.
 /// Conditions: the keeper and both CPUs are of one registry; both are outside. `met` is the law's hypothesis.
 pub fn hand_over(
     keeper: &mut KeeperBody,

@@ -1,4 +1,4 @@
-//! Waits and destroys from C: each contract of `waiting` speaks of a wait that told no CPU at its end, and here the waits do.
+//! Waits and destroys from C. The contracts of `waiting` say what holds if the last turn of a wait tells no CPU; here it tells none.
 
 ghost use Rattle.std.specs.Prelude.{IsTrue};
 ghost use Rattle.registry_values.specs.Common.{is_lawful};
