@@ -1,3 +1,4 @@
 //! Tests of the bodies of C's calls.
 
+mod holding;
 mod waits;

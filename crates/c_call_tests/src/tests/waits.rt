@@ -62,7 +62,7 @@ fn a_destroy_ends_once_the_section_has_ended(rt: HostRuntime) -> Result<(), Fail
 }
 
 /// A driver to attach.
-fn driver<R: Abort>(rt: &R) -> Record
+pub(super) fn driver<R: Abort>(rt: &R) -> Record
     ensures { IsTrue (is_lawful result.name) }
 {
     match Name::parse(b"wm") {
