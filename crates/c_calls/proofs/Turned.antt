@@ -1,11 +1,11 @@
 -- What the calls through the bodies answer, from what the calls beneath them say of the keeper and the CPU.
-use Rattle.std.proofs.Common.{◌≡◌, ⊎_elim, ℕ, ◌<◌, ◌≤◌, Bool, true, false, List, length, get_or, map, replicate, Option, Some, None, is_some, Result, IfOk, refl, sym, ap, subst, ◌∙◌, arith}
+use Rattle.std.proofs.Common.{◌≡◌, ⊎_elim, ℕ, zero, suc, ◌<◌, ◌≤◌, Bool, true, false, List, [], ◌∷◌, length, get_or, map, replicate, Option, Some, None, is_some, Result, IfOk, refl, sym, ap, subst, ◌∙◌, arith}
 use Rattle.std.proofs.lemmas.Bool.{cases_lt}
-use Rattle.std.proofs.lemmas.List.{get_or_past}
-use Rattle.c_calls.specs.Types.{Refusal, Settings, Stage, MOST_CPUS, MOST_SLOTS, LogItem, KeeperView, KeptSlot}
+use Rattle.std.proofs.lemmas.List.{get_or_past, length-map}
+use Rattle.c_calls.specs.Types.{Refusal, Settings, Slot, Stage, MOST_CPUS, MOST_SLOTS, LogItem, KeeperView, KeptSlot}
 use Rattle.registry_values.specs.Common.{retired_number, slot_at}
-use Rattle.passive_list.specs.Common.{OnCpu, OnPlainCpu, OnKeeper, states_of, IsOurKeeper, OnPlainKeeper}
-use Rattle.name_registry.specs.Common.{HasAdvanced, HasAdvancedFor, IsStageOf, KeepsWords, Finishes, HasBegun, HasGlanced, HasPassedAll, IsTurn}
+use Rattle.passive_list.specs.Common.{OnCpu, OnPlainCpu, OnKeeper, states_of, IsOurKeeper, OnPlainKeeper, HasOwnLog}
+use Rattle.name_registry.specs.Common.{HasAdvanced, HasAdvancedFor, IsStageOf, KeepsWords, Finishes, HasBegun, HasGlanced, HasPassedAll, Hold, IsTurn, SnapshotsBelow}
 use Rattle.c_values.specs.declared.wait.CWait.{CWait}
 use Rattle.c_values.specs.declared.wait.TheConstants.{BEGUN}
 use Rattle.c_values.specs.Flags.{flag_of, is_set, none_or_number, number_or_none}
@@ -38,27 +38,38 @@ named_by a k rows n s m b x y snapshots numbers size our is begun t j at = ⊎_e
     (λ (past : MOST_SLOTS ≤ t). absurd (let q : ◌≡◌ {A = Option ℕ} None (Some j) = sym (get_or_past numbers t None (omega (arith, size, past))) ∙ at in cc))
     (cases_lt t MOST_SLOTS)
 
--- what a row has for each slot is what the numbers are to C
-written_by : (m : OnKeeper) (numbers : List (Option ℕ)) (retired : List ℕ) → length numbers ≡ MOST_SLOTS → length retired ≡ MOST_SLOTS
-    → ((t : ℕ) → t < MOST_SLOTS → get_or numbers t None ≡ retired_number (slot_at m.slots t))
-    → ((t : ℕ) → t < MOST_SLOTS → get_or retired t 0 ≡ number_or_none (retired_number (slot_at m.slots t))) → retired ≡ map number_or_none numbers
-written_by m numbers retired size long are written = map_by_place number_or_none numbers retired None 0 (long ∙ sym size)
-    (λ k lt. let low : k < MOST_SLOTS = omega (arith, lt, size) in written k low ∙ ap number_or_none (sym (are k low)))
+-- the numbers of the retired entries, slot by slot
+numbers_at : (slots : List Slot) (t : ℕ) → get_or (map retired_number slots) t None ≡ retired_number (slot_at slots t)
+numbers_at [] t = refl
+numbers_at (s ∷ slots) zero = refl
+numbers_at (s ∷ slots) (suc t) = numbers_at slots t
 
-pub begins_by : {log : List LogItem} (a : Settings) (view : KeeperView) (rows : List KeptSlot) (n : ℕ) (k l : OnPlainKeeper) (c d : OnPlainCpu) (snapshots : List ℕ) (numbers : List (Option ℕ))
-    (retired : List ℕ) → length numbers ≡ MOST_SLOTS → length retired ≡ MOST_SLOTS
-    → IsOurKeeper a view rows n → record { view = view; slots = states_of rows; log = log } ≡ k.keeper → KeepsWords k c l d → HasBegun k.words.settings k.keeper c.cpu snapshots numbers l.keeper d.cpu
+-- what a row has for each slot is what they are to C
+written_by : (slots : List Slot) (retired : List ℕ) → length slots ≡ MOST_SLOTS → length retired ≡ MOST_SLOTS
+    → ((t : ℕ) → t < MOST_SLOTS → get_or retired t 0 ≡ number_or_none (retired_number (slot_at slots t))) → retired ≡ map number_or_none (map retired_number slots)
+written_by slots retired size long written =
+    let numbers = map retired_number slots in
+    let all : length numbers ≡ MOST_SLOTS = length-map slots retired_number ∙ size in
+    map_by_place number_or_none numbers retired None 0 (long ∙ sym all) (λ k lt. written k (omega (arith, lt, all)) ∙ ap number_or_none (sym (numbers_at slots k)))
+
+pub begins_by : {log : List LogItem} (a : Settings) (view : KeeperView) (rows : List KeptSlot) (n : ℕ) (k l : OnPlainKeeper) (c d : OnPlainCpu) (snapshots retired : List ℕ)
+    → length retired ≡ MOST_SLOTS → IsOurKeeper a view rows n → record { view = view; slots = states_of rows; log = log } ≡ k.keeper → KeepsWords k c l d → HasOwnLog k.words.settings k.keeper
+    → Hold (SnapshotsBelow snapshots k.words.settings.cpus) k.keeper c.cpu l.keeper d.cpu
     → ((t : ℕ) → t < MOST_SLOTS → get_or retired t 0 ≡ number_or_none (retired_number (slot_at k.keeper.slots t)))
     → Begins k c l d (record { snapshots = snapshots; retired = retired; seen = replicate MOST_CPUS 0; begun = BEGUN })
-begins_by a view rows n k l c d snapshots numbers retired size long our at same begun written = record {
-  numbers = numbers;
-  begun = begun;
-  retired = written_by k.keeper numbers retired size long begun.numbers written;
-  named = named_by a view rows n k.words.settings k.keeper l.keeper c.cpu d.cpu snapshots numbers size our at begun;
-  seen = refl;
-  marked = refl;
-  words = same;
-}
+begins_by a view rows n k l c d snapshots retired long our at same own hold written =
+    let numbers = map retired_number k.keeper.slots in
+    let size : length numbers ≡ MOST_SLOTS = length-map k.keeper.slots retired_number ∙ own.size in
+    let begun : HasBegun k.words.settings k.keeper c.cpu snapshots numbers l.keeper d.cpu = record { own = own; hold = hold; numbers = λ t lt. numbers_at k.keeper.slots t } in
+    record {
+      numbers = numbers;
+      begun = begun;
+      retired = written_by k.keeper.slots retired own.size long written;
+      named = named_by a view rows n k.words.settings k.keeper l.keeper c.cpu d.cpu snapshots numbers size our at begun;
+      seen = refl;
+      marked = refl;
+      words = same;
+    }
 
 -- what follows a turn's glances: where they told of no CPU what was retired is passed, and else nothing more is done
 pub finishes_passed : (z y : Settings) (numbers made : List (Option ℕ)) (p q : OnKeeper × OnCpu) (told : Option ℕ) → y ≡ z → made ≡ numbers → is_some told ≡ false → HasPassedAll y p.0 p.1 made q.0 q.1
