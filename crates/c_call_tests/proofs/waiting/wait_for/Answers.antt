@@ -1,0 +1,24 @@
+-- A wait of two turns by one CPU.
+use Rattle.std.proofs.Common.{◌∙◌}
+use Rattle.c_call_tests.proofs.Waits.{knows_more, knows_same}
+use Rattle.c_call_tests.proofs.waiting.wait_for.Goals as goal
+
+pub returns : goal.returns
+returns c =
+    let k = c.args.keeper.now in
+    let x = c.args.cpu.now in
+    let m = c.begin.new.cpu in
+    let n = c.turn-first.new.cpu in
+    let y = c.turn-second.new.cpu in
+    let a = c.begin.ensures in
+    let b = c.turn-first.ensures in
+    let d = c.turn-second.ensures in
+    let under = b.goes_on k.words x m a.words.0 a.begun (knows_same m) in
+    let met = d.done k.words x n (b.words.0 ∙ a.words.0) under (knows_same n) in
+    record {
+      met = met;
+      ended = λ none. c.waits_law.ensures.ended k.words x y (met none);
+      knows = knows_more x n y (knows_more x m n a.knows b.knows) d.knows;
+      inside = d.inside ∙ (b.inside ∙ a.inside);
+      words = (d.words.0 ∙ (b.words.0 ∙ a.words.0), d.words.1 ∙ (b.words.1 ∙ a.words.1));
+    }

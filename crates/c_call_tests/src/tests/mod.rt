@@ -1,0 +1,4 @@
+//! Tests of the bodies of C's calls.
+
+mod holding;
+mod waits;

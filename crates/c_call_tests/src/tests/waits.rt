@@ -1,0 +1,76 @@
+//! Waits and destroys from C. The contracts of `waiting` say what holds if the last turn of a wait tells no CPU; here it tells none.
+
+ghost use Rattle.std.specs.Prelude.{IsTrue};
+ghost use Rattle.registry_values.specs.Common.{is_lawful};
+
+use crate::waiting::{hand_over, leave_alone, opened, waited};
+use c_calls::keeper_calls::{advance_for, attach, detach};
+use registry_values::{Kind, Name, Record, Stage};
+use std::process::Abort;
+use std::test::*;
+
+#[test]
+fn a_wait_is_done_once_the_section_has_ended(rt: HostRuntime) -> Result<(), Fail> {
+    let (_all, told) = waited(rt.alloc())?;
+    assert_eq!(rt; told, (Some(1), None));
+    Ok(())
+}
+
+#[test]
+fn a_wait_that_was_left_alone_is_done_beside_a_later_section(rt: HostRuntime) -> Result<(), Fail> {
+    let mut all = opened(rt.alloc())?;
+    all.second.enter()?;
+    let told = leave_alone(
+        &mut all.keeper,
+        &mut all.first,
+        &mut all.second,
+        driver(&rt),
+    )?;
+    assert_eq!(rt; told, (Some(1), None, None));
+    Ok(())
+}
+
+#[test]
+fn another_cpu_makes_the_last_turn_of_a_wait(rt: HostRuntime) -> Result<(), Fail> {
+    let mut all = opened(rt.alloc())?;
+    all.second.enter()?;
+    let told = hand_over(
+        &mut all.keeper,
+        &mut all.first,
+        &mut all.third,
+        &mut all.second,
+    );
+    assert_eq!(rt; told, (Some(1), None));
+    Ok(())
+}
+
+/// A destroy's turns meet the open section until it has ended. The entry was detached inside it.
+#[test]
+fn a_destroy_ends_once_the_section_has_ended(rt: HostRuntime) -> Result<(), Fail> {
+    let mut all = opened(rt.alloc())?;
+    let rec = driver(&rt);
+    let entry = attach(&mut all.keeper, &mut all.first, rec)?;
+    all.second.enter()?;
+    detach(&mut all.keeper, &mut all.first, rec.kind, &rec.name)?;
+    let met = advance_for(&mut all.keeper, &mut all.first, entry.number)?;
+    assert_eq!(rt; met, Stage::Grace(1));
+    assert!(rt; all.second.inside());
+    all.second.exit();
+    let end = advance_for(&mut all.keeper, &mut all.first, entry.number)?;
+    assert_eq!(rt; end, Stage::Freed(0));
+    Ok(())
+}
+
+/// A driver to attach.
+pub(super) fn driver<R: Abort>(rt: &R) -> Record
+    ensures { IsTrue (is_lawful result.name) }
+{
+    match Name::parse(b"wm") {
+        Ok(name) => Record {
+            kind: Kind::Driver,
+            name,
+            value: 7,
+        },
+        Err(fault) => panic!(rt; "{fault}"),
+    }
+}
