@@ -15,12 +15,11 @@ use c_bodies::{CpuBody, KeeperBody};
 use c_values::given::GivenSettings;
 use c_values::values::{CSettings, DONE, FULL_HANDLE, NULL, refused, settings_in};
 use cpu_words::{CpuSeat, KeeperSeat, Words};
-use held::{CHandle, Held};
+use held::CHandle;
 use passive_list::{Keeper, PlainCpu};
 use registry_values::{Refusal, Settings};
 use std::alloc::{AllocError, Global};
 use std::sync::Arc;
-use std_alloc::room::Vacant;
 
 /// `registry_open` of the header.
 pub fn open_registry(
@@ -207,13 +206,9 @@ fn open_on(
     ensures cpus { IfOk result (λ made. boxed made.1.items ≡ opened_down words.value words.value.settings.cpus words.value.settings.cpus) }
 {
     let cpus = cpus_of(alloc, &words, seats)?;
-    // The block comes first: the keeper's rows are large, and `Box::new` would hold them once more for a refusal.
-    let Ok(room) = Vacant::take(alloc) else {
-        return Err(AllocError);
-    };
     let keeper = Keeper::of_seat(keeper, words.settings());
-    let keeper = Held::fill(room, KeeperBody { words, keeper });
-    Ok((keeper.into_box(), cpus))
+    let keeper = Box::new(alloc, KeeperBody { words, keeper })?;
+    Ok((keeper, cpus))
 }
 
 fn cpus_of(
