@@ -16,7 +16,7 @@ use passive_list::{
     walk_on,
 };
 use passive_ref::{Psref, acquire_on, copy_on, held_on, read_entry_on, release_on};
-use registry_values::{Entry, Kind, MOST_SLOTS, Name, Refusal};
+use registry_values::{Entry, Kind, MOST_SLOTS, Name, Record, Refusal};
 use std::alloc::{AllocError, Global};
 use std::marker::Model;
 use std::sync::Arc;
@@ -29,7 +29,9 @@ pub struct CpuBody {
     pub cpu: PlainCpu,
     /// The block of a local reference that was released here, for the next one that is acquired here. It is freed as the CPU is.
     spare: Spare<LocalBody>,
-    /// The passive references that were acquired here last, for the next calls with their numbers.
+    /// The row of a walk: it lies here, and not on the walk's stack. Between two walks nothing is said of it.
+    pub walked: [Entry; MOST_SLOTS],
+    /// The passive references that were acquired here last, for the next calls with their numbers. It comes last, for the room at its end.
     acquired: LastAcquired,
 }
 
@@ -56,6 +58,7 @@ impl CpuBody {
             words,
             cpu,
             spare: Spare::empty(),
+            walked: [no_entry(); MOST_SLOTS],
             acquired: LastAcquired::none(),
         })
     }
@@ -286,6 +289,19 @@ impl CpuBody {
                 Err(refusal)
             }
         }
+    }
+}
+
+/// A place of a row before a walk. All its bytes are 0: a row of these is filled at once.
+fn no_entry() -> Entry {
+    Entry {
+        number: 0,
+        slot: 0,
+        rec: Record {
+            kind: Kind::Iface,
+            name: Name::of_words(0, 0),
+            value: 0,
+        },
     }
 }
 

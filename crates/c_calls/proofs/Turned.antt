@@ -1,13 +1,15 @@
 -- What the calls through the bodies answer, from what the calls beneath them say of the keeper and the CPU.
-use Rattle.std.proofs.Common.{◌≡◌, ⊎_elim, ℕ, ◌<◌, ◌≤◌, Bool, true, false, List, length, get_or, map, replicate, Option, Some, None, is_some, Result, IfOk, refl, sym, ap, subst, ◌∙◌, arith}
+use Rattle.std.proofs.Common.{◌≡◌, ⊎_elim, ℕ, zero, suc, ◌<◌, ◌≤◌, Bool, true, false, List, [], ◌∷◌, length, get_or, map, replicate, Option, Some, None, is_some, Result, IfOk, refl, sym, ap, subst, ◌∙◌, arith}
 use Rattle.std.proofs.lemmas.Bool.{cases_lt}
-use Rattle.std.proofs.lemmas.List.{get_or_past}
-use Rattle.c_calls.specs.Types.{Refusal, Settings, Stage, MOST_CPUS, MOST_SLOTS, LogItem, KeeperView, KeptSlot}
-use Rattle.passive_list.specs.Common.{OnCpu, OnPlainCpu, OnKeeper, states_of, IsOurKeeper, OnPlainKeeper}
-use Rattle.name_registry.specs.Common.{HasAdvanced, HasAdvancedFor, IsStageOf, KeepsWords, Finishes, HasBegun, HasGlanced, HasPassedAll, IsTurn}
+use Rattle.std.proofs.lemmas.List.{get_or_past, length-map}
+use Rattle.c_calls.specs.Types.{Refusal, Settings, Slot, Stage, MOST_CPUS, MOST_SLOTS, LogItem, KeeperView, KeptSlot}
+use Rattle.registry_values.specs.Common.{retired_number, slot_at}
+use Rattle.passive_list.specs.Common.{OnCpu, OnPlainCpu, OnKeeper, states_of, IsOurKeeper, OnPlainKeeper, HasOwnLog}
+use Rattle.name_registry.specs.Common.{HasAdvanced, HasAdvancedFor, IsStageOf, KeepsWords, Finishes, HasBegun, HasGlanced, HasPassedAll, Hold, IsTurn, SnapshotsBelow}
 use Rattle.c_values.specs.declared.wait.CWait.{CWait}
 use Rattle.c_values.specs.declared.wait.TheConstants.{BEGUN}
 use Rattle.c_values.specs.Flags.{flag_of, is_set, none_or_number, number_or_none}
+use Rattle.c_values.proofs.Lists.{map_by_place}
 use Rattle.c_calls.specs.KeeperCalls.{Advances, AdvancesFor, Begins, PassesHeld, Turns}
 use Rattle.c_calls.proofs.Gone.{advanced_gone, advanced_for_gone}
 use Rattle.c_calls.proofs.Numbered.{numbered}
@@ -36,20 +38,38 @@ named_by a k rows n s m b x y snapshots numbers size our is begun t j at = ⊎_e
     (λ (past : MOST_SLOTS ≤ t). absurd (let q : ◌≡◌ {A = Option ℕ} None (Some j) = sym (get_or_past numbers t None (omega (arith, size, past))) ∙ at in cc))
     (cases_lt t MOST_SLOTS)
 
-pub begins_by : {log : List LogItem} (a : Settings) (view : KeeperView) (rows : List KeptSlot) (n : ℕ) (k l : OnPlainKeeper) (c d : OnPlainCpu) (snapshots : List ℕ) (numbers : List (Option ℕ))
-    (retired : List ℕ) → length numbers ≡ MOST_SLOTS
-    → IsOurKeeper a view rows n → record { view = view; slots = states_of rows; log = log } ≡ k.keeper → KeepsWords k c l d → HasBegun k.words.settings k.keeper c.cpu snapshots numbers l.keeper d.cpu
-    → retired ≡ map number_or_none numbers
+-- the numbers of the retired entries, slot by slot
+numbers_at : (slots : List Slot) (t : ℕ) → get_or (map retired_number slots) t None ≡ retired_number (slot_at slots t)
+numbers_at [] t = refl
+numbers_at (s ∷ slots) zero = refl
+numbers_at (s ∷ slots) (suc t) = numbers_at slots t
+
+-- what a row has for each slot is what they are to C
+written_by : (slots : List Slot) (retired : List ℕ) → length slots ≡ MOST_SLOTS → length retired ≡ MOST_SLOTS
+    → ((t : ℕ) → t < MOST_SLOTS → get_or retired t 0 ≡ number_or_none (retired_number (slot_at slots t))) → retired ≡ map number_or_none (map retired_number slots)
+written_by slots retired size long written =
+    let numbers = map retired_number slots in
+    let all : length numbers ≡ MOST_SLOTS = length-map slots retired_number ∙ size in
+    map_by_place number_or_none numbers retired None 0 (long ∙ sym all) (λ k lt. written k (omega (arith, lt, all)) ∙ ap number_or_none (sym (numbers_at slots k)))
+
+pub begins_by : {log : List LogItem} (a : Settings) (view : KeeperView) (rows : List KeptSlot) (n : ℕ) (k l : OnPlainKeeper) (c d : OnPlainCpu) (snapshots retired : List ℕ)
+    → length retired ≡ MOST_SLOTS → IsOurKeeper a view rows n → record { view = view; slots = states_of rows; log = log } ≡ k.keeper → KeepsWords k c l d → HasOwnLog k.words.settings k.keeper
+    → Hold (SnapshotsBelow snapshots k.words.settings.cpus) k.keeper c.cpu l.keeper d.cpu
+    → ((t : ℕ) → t < MOST_SLOTS → get_or retired t 0 ≡ number_or_none (retired_number (slot_at k.keeper.slots t)))
     → Begins k c l d (record { snapshots = snapshots; retired = retired; seen = replicate MOST_CPUS 0; begun = BEGUN })
-begins_by a view rows n k l c d snapshots numbers retired size our at same begun out = record {
-  numbers = numbers;
-  begun = begun;
-  retired = out;
-  named = named_by a view rows n k.words.settings k.keeper l.keeper c.cpu d.cpu snapshots numbers size our at begun;
-  seen = refl;
-  marked = refl;
-  words = same;
-}
+begins_by a view rows n k l c d snapshots retired long our at same own hold written =
+    let numbers = map retired_number k.keeper.slots in
+    let size : length numbers ≡ MOST_SLOTS = length-map k.keeper.slots retired_number ∙ own.size in
+    let begun : HasBegun k.words.settings k.keeper c.cpu snapshots numbers l.keeper d.cpu = record { own = own; hold = hold; numbers = λ t lt. numbers_at k.keeper.slots t } in
+    record {
+      numbers = numbers;
+      begun = begun;
+      retired = written_by k.keeper.slots retired own.size long written;
+      named = named_by a view rows n k.words.settings k.keeper l.keeper c.cpu d.cpu snapshots numbers size our at begun;
+      seen = refl;
+      marked = refl;
+      words = same;
+    }
 
 -- what follows a turn's glances: where they told of no CPU what was retired is passed, and else nothing more is done
 pub finishes_passed : (z y : Settings) (numbers made : List (Option ℕ)) (p q : OnKeeper × OnCpu) (told : Option ℕ) → y ≡ z → made ≡ numbers → is_some told ≡ false → HasPassedAll y p.0 p.1 made q.0 q.1
@@ -62,16 +82,17 @@ pub finishes_waiting : (z : Settings) (numbers : List (Option ℕ)) (p : OnKeepe
 finishes_waiting z numbers p None some = absurd (let no : false ≡ true = some in cc)
 finishes_waiting z numbers p (Some c) some = refl
 
--- the keeper m and the CPU d are as the glances left them
-pub turns_by : (k m l : OnPlainKeeper) (c d e : OnPlainCpu) (told : Option ℕ) (old : CWait) (before seen : List Bool) (flags : List ℕ) → before ≡ map is_set old.seen → flags ≡ map flag_of seen
-    → HasGlanced k.words.settings old.snapshots k.keeper c.cpu before told seen m.keeper d.cpu
-    → Finishes (PassesHeld k.words.settings) (map none_or_number old.retired) (m.keeper, d.cpu) told (l.keeper, e.cpu) → KeepsWords k c l e → Turns k c l e told old (record old { seen = flags })
-turns_by k m l c d e told old before seen flags was are glanced finished same = record {
+-- the keeper m and the CPU d are as the glances left them, and the wait is as they left it
+pub turns_by : (k m l : OnPlainKeeper) (c d e : OnPlainCpu) (told : Option ℕ) (old new : CWait) (seen : List Bool)
+    → HasGlanced k.words.settings old.snapshots k.keeper c.cpu (map is_set old.seen) told seen m.keeper d.cpu → new ≡ record old { seen = map flag_of seen }
+    → Finishes (PassesHeld k.words.settings) (map none_or_number new.retired) (m.keeper, d.cpu) told (l.keeper, e.cpu) → KeepsWords k c l e → Turns k c l e told old new
+turns_by k m l c d e told old new seen glanced is finished same = record {
   seen = seen;
   keeper = m.keeper;
   cpu = d.cpu;
-  glanced = subst (λ (x : List Bool). HasGlanced k.words.settings old.snapshots k.keeper c.cpu x told seen m.keeper d.cpu) was glanced;
-  finished = finished;
-  wait = ap (λ (x : List ℕ). record old { seen = x }) are;
+  glanced = glanced;
+  finished =
+      subst (λ (r : List ℕ). Finishes (PassesHeld k.words.settings) (map none_or_number r) (m.keeper, d.cpu) told (l.keeper, e.cpu)) (ap (λ (w : CWait). w.retired) is) finished;
+  wait = is;
   words = same;
 }

@@ -1,9 +1,13 @@
-//! The walk over all entries, through a CPU's handle. It takes no memory.
+//! The walk over all entries, through a CPU's handle. It takes no memory: what it meets lies in the CPU's own row, until it is known whether C's has room.
 
-ghost use Rattle.std.specs.Prelude.{◌≡◌, ◌≤◌, length};
+ghost use Rattle.std.specs.Prelude.{◌≡◌, ◌≢◌, ◌≤◌, List, None, length};
+ghost use Rattle.c_calls.specs.Types.{Entry};
+ghost use Rattle.cpu_words.specs.Common.{AreWordsOf};
+ghost use Rattle.passive_list.specs.Common.{HasWalked};
+ghost use Rattle.c_values.specs.Places.{put};
 ghost use Rattle.c_calls.specs.Calls.{Through};
 ghost use Rattle.held.specs.Rows.{IsLong};
-ghost use Rattle.c_calls.specs.Walks.{HasFirst, Walks, WalksBy};
+ghost use Rattle.c_calls.specs.Walks.{HasFirst, Walks, WalksBy, WritesRow};
 
 use c_bodies::CpuBody;
 use c_bodies::handle::CpuHandle;
@@ -11,8 +15,10 @@ use c_values::answer::WalkAnswer;
 use c_values::place::NumberPlace;
 use c_values::rows::EntriesPlace;
 use c_values::values::{CEntry, DONE, EMPTY_HANDLE, NO_ROOM, NULL, OUTSIDE, entry_out};
+use cpu_words::Words;
 use held::CHandle;
-use registry_values::{Entry, Kind, MOST_SLOTS, Name, Record};
+use passive_list::{PlainCpu, walk_on};
+use registry_values::{Entry, MOST_SLOTS};
 
 /// `registry_walk` of the header.
 pub fn walk_entries(
@@ -56,27 +62,30 @@ fn walk(cpu: &mut CpuBody, row: &mut [CEntry], count: &mut NumberPlace) -> u32
     if !cpu.inside() {
         return OUTSIDE;
     }
-    let mut walked = [no_entry(); MOST_SLOTS];
-    let met = cpu.walk(&mut walked);
+    walk_inside(&cpu.words, &mut cpu.cpu, &mut cpu.walked, row, count)
+}
+
+/// The same inside a section, by way of the CPU's own row.
+fn walk_inside(
+    words: &Words,
+    cpu: &mut PlainCpu,
+    walked: &mut [Entry; MOST_SLOTS],
+    row: &mut [CEntry],
+    count: &mut NumberPlace,
+) -> u32
+    requires words { AreWordsOf words.now cpu.old.words.table cpu.old.words.settings }
+    requires inside { cpu.old.cpu.view.begin ≢ None }
+    ensures place { count.new.at ≡ count.old.at }
+    ensures words { cpu.new.words ≡ cpu.old.words }
+    ensures met { (met : List Entry) × HasWalked cpu.old.cpu cpu.new.cpu met × (count.new.value ≡ put count.old.value (length met)) × WritesRow met result row.old row.new }
+{
+    let met = walk_on(words, cpu, walked);
     count.put(met as u64);
     if row.len() < met {
         return NO_ROOM;
     }
     write_all(&walked[..met], row);
     DONE
-}
-
-/// A place of a row before the walk. All its bytes are 0: a row of these is filled at once.
-fn no_entry() -> Entry {
-    Entry {
-        number: 0,
-        slot: 0,
-        rec: Record {
-            kind: Kind::Iface,
-            name: Name::of_words(0, 0),
-            value: 0,
-        },
-    }
 }
 
 /// Writes the entries to the first places. Condition: there is room.

@@ -70,7 +70,8 @@ pub fn seen_in(seen: &[u64; MOST_CPUS]) -> [bool; MOST_CPUS]
     out
 }
 
-fn number_or_none(number: Option<u64>) -> u64
+/// The number of an entry, to C: 0 for none.
+pub fn number_or_none(number: Option<u64>) -> u64
     ensures { result ≡ number_or_none number }
 {
     match number {
@@ -79,7 +80,8 @@ fn number_or_none(number: Option<u64>) -> u64
     }
 }
 
-fn none_or_number(number: u64) -> Option<u64>
+/// The number of an entry, from C.
+pub fn none_or_number(number: u64) -> Option<u64>
     ensures { result ≡ none_or_number number }
 {
     if number == 0 { None } else { Some(number) }

@@ -10,9 +10,10 @@ use Rattle.c_calls.specs.Types.{MOST_CPUS, MOST_SLOTS}
 
 pub returns : goal.returns
 returns c =
-    let made = c.begin in
-    let size : length made.result.1 ≡ MOST_SLOTS = search rules in
-    let wait : CWait = record { snapshots = made.result.0; retired = c.numbers_out-wait.result; seen = replicate MOST_CPUS 0; begun = BEGUN } in
-    subst (λ (p : OnPlainKeeper × OnPlainCpu). Begins p.0 p.1 made.new.keeper made.new.cpu wait) (λ i. (c.body.view_is i, c.cpu.view_is i))
-    (begins_by _ _ _ _ _ _ _ _ made.result.0 made.result.1 c.numbers_out-wait.result size c.settings-settings.ensures.own.1.agree
-    (keeper_is c.settings-settings.ensures.own.1.are) made.ensures.words made.ensures.begun c.numbers_out-wait.ensures)
+    let taken = c.take_snapshots in
+    let retired = c.write_retired.new.retired in
+    let long : length retired ≡ MOST_SLOTS = search rules in
+    let wait : CWait = record { snapshots = taken.new.snapshots; retired = retired; seen = replicate MOST_CPUS 0; begun = BEGUN } in
+    subst (λ (p : OnPlainKeeper × OnPlainCpu). Begins p.0 p.1 taken.new.keeper taken.new.cpu wait) (λ i. (c.body.view_is i, c.cpu.view_is i))
+    (begins_by _ _ _ _ _ _ _ _ taken.new.snapshots retired long c.settings-settings.ensures.own.1.agree (keeper_is c.settings-settings.ensures.own.1.are) taken.ensures.words
+    taken.ensures.own taken.ensures.hold c.write_retired.ensures)
