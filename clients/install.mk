@@ -80,6 +80,9 @@ $(NETBSD_OBJECTS): $(OUT)/installed-netbsd/%.o: netbsd/src/%.c netbsd/src/layer.
 	mkdir -p $(OUT)/installed-netbsd
 	$(CC) $(COMPILED) -Inetbsd -c -o $@ $<
 
+# These ask for it before any header; with other limits their header comes before that.
+$(OUT)/installed-netbsd/thread.o $(OUT)/installed-netbsd/kernel.o: override CPPFLAGS += -D_GNU_SOURCE
+
 # One object, from which the calls alone are seen: what the layer's parts name among them clashes with no name of a program.
 $(OUT)/libkupaldiz_netbsd.a: $(NETBSD_OBJECTS)
 	rm -f $@ $(OUT)/kupaldiz_netbsd.o
