@@ -4,9 +4,15 @@
 
 #include <stdint.h>
 
-enum { MOST_THREADS = 8, MOST_ENTRIES = 32, BATCH = 32 };
+/* A build with other limits has its header before this one. */
+#ifdef REGISTRY_MOST_CPUS
+enum { MOST_THREADS = REGISTRY_MOST_CPUS, MOST_ENTRIES = REGISTRY_MOST_SLOTS };
+#else
+enum { MOST_THREADS = 8, MOST_ENTRIES = 32 };
+#endif
+enum { BATCH = 32 };
 
-/* How many threads (1 to 8) make how many operations each, on a list of how many entries (1 to 32). */
+/* How many threads make how many operations each, on a list of how many entries. */
 struct plan {
     unsigned threads;
     unsigned entries;

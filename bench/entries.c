@@ -1,6 +1,7 @@
 #include "entries.h"
 
 #include <pthread.h>
+#include <stdio.h>
 
 struct key keys[MOST_ENTRIES];
 unsigned entries;
@@ -11,11 +12,12 @@ static pthread_mutex_t changes = PTHREAD_MUTEX_INITIALIZER;
 
 static uint64_t high_word(unsigned i)
 {
-    const unsigned char name[8] = { 'd', (unsigned char)('0' + i / 10), (unsigned char)('0' + i % 10) };
+    char name[8] = "";
     uint64_t word = 0;
 
+    snprintf(name, sizeof name, "d%02u", i);
     for (size_t k = 0; k < sizeof name; k++)
-        word = word << 8 | name[k];
+        word = word << 8 | (unsigned char)name[k];
     return word;
 }
 

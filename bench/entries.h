@@ -1,4 +1,4 @@
-/* The entries that are looked up: the drivers "d00" to "d31", and a linked list of them for the contenders that have none of their own. */
+/* The entries that are looked up: the drivers "d00", "d01" and so on, and a linked list of them for the contenders that have none of their own. */
 #ifndef BENCH_ENTRIES_H
 #define BENCH_ENTRIES_H
 

@@ -114,6 +114,7 @@ install: library
 	ln -sf $(NETBSD_SHARED) $(DESTDIR)$(LIBDIR)/$(NETBSD_SONAME)
 	ln -sf $(NETBSD_SONAME) $(DESTDIR)$(LIBDIR)/libkupaldiz_netbsd.so
 	for header in $(NETBSD_HEADERS); do $(INSTALL) -m 644 netbsd/$$header $(DESTDIR)$(INCLUDEDIR)/kupaldiz/netbsd/$$header; done
+	$(INSTALL) -m 644 $(HEADER)/registry_limits.h $(DESTDIR)$(INCLUDEDIR)/kupaldiz/netbsd/kupaldiz/registry_limits.h
 	$(filled) kupaldiz.pc.in >$(DESTDIR)$(PKGCONFIGDIR)/kupaldiz.pc
 	$(filled) netbsd/kupaldiz-netbsd.pc.in >$(DESTDIR)$(PKGCONFIGDIR)/kupaldiz-netbsd.pc
 	$(filled) -e "s|@TO_INCLUDE@|$$(realpath -m --relative-to=$(CMAKEDIR) $(INCLUDEDIR))|" kupaldizConfig.cmake.in >$(DESTDIR)$(CMAKEDIR)/kupaldizConfig.cmake

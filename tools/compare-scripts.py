@@ -1,11 +1,11 @@
 #!/usr/bin/env python3
 """Runs scripts from a seed through the C face and through the program of the repository, and compares what they say.
 
-    tools/compare-scripts.py [--seed N] [--scripts N] [--lines N]
+    tools/compare-scripts.py [--seed N] [--scripts N] [--lines N] [--client PATH]
 
-A script is made of all commands, with few names, labels and CPUs, so that most of them meet something. The C face is clients/out/script. The
-program is crates/registry_run/out/registry_run where it stands, else the same sources, compiled by `rt try` without a proof. The last line
-counts the scripts.
+A script is made of all commands, with few names, labels and CPUs, so that most of them meet something. The C face is clients/out/script, or
+the one that --client names. The program is crates/registry_run/out/registry_run where it stands, else the same sources, compiled by `rt try`
+without a proof. The last line counts the scripts.
 """
 import argparse
 import pathlib
@@ -123,13 +123,14 @@ def main():
     parser.add_argument("--seed", type=int, default=17, help="the first script's seed")
     parser.add_argument("--scripts", type=int, default=100, help="how many scripts")
     parser.add_argument("--lines", type=int, default=150, help="how many commands in each")
+    parser.add_argument("--client", type=pathlib.Path, default=CLIENT, help="the C face")
     options = parser.parse_args()
     seeds = range(options.seed, options.seed + options.scripts)
     scripts = [Writer(random.Random(seed)).script(options.lines) for seed in seeds]
     wanted = [said_by([PROGRAM, "live"], script) for script in scripts] if PROGRAM.exists() else said_when_tried(scripts)
     passed = 0
     for seed, script, want in zip(seeds, scripts, wanted):
-        found = said_by([CLIENT, "live"], script)
+        found = said_by([options.client, "live"], script)
         if found == want:
             passed += 1
         else:

@@ -7,11 +7,16 @@
 #     tools/test-face.sh --built              takes clients/out/libregistry.a as it stands
 #     tools/test-face.sh --built PART..       some parts alone, which may run beside each other once build has ended:
 #                                             page build c watched heap netbsd rust rust-watched
+#
+# LIMITS names the folder of an archive with other limits, as in clients/places.mk: `LIMITS=wide tools/test-face.sh --built` runs all parts over it, except
+# page and bench. tools/test-wide.sh does.
 set -uo pipefail
 cd "$(dirname "$0")/.."
+limits=${LIMITS-}
+out=clients/out${limits:+/$limits}
 header=crates/registry_c/include/registry.h
+[ -z "$limits" ] || header=$out/registry.h
 page=clients/man/registry.3
-out=clients/out
 warnings=(-Wall -Wextra -Werror -Wpedantic -Wconversion -Wcast-qual -Wwrite-strings)
 # shellcheck source=tools/checks.sh
 . tools/checks.sh
@@ -43,6 +48,15 @@ page_lints() {
     mandoc -T lint clients/man/*.[137] >"$log" 2>&1 && [ ! -s "$log" ]
 }
 
+make_clients() {
+    make -C clients LIMITS="$limits" "$@"
+}
+
+# The most CPUs of the build.
+most_cpus() {
+    sed -nE 's/^#define REGISTRY_MOST_CPUS[[:blank:]]+//p' "${header%.h}_limits.h"
+}
+
 # Its proofs may take longer than a program may run.
 build_archive() {
     tools/build-archive.sh
@@ -58,8 +72,12 @@ unwinds_calls() {
     diff <(declared) <(grep -oE 'registry_[a-z_]+\(' clients/c/unwinds.c | tr -d '(' | sort -u)
 }
 
-# No call takes more stack than the page says.
+# No call takes more stack than the page says, or, with other limits, more than a page, except the opening, which makes the keeper's rows there.
 stack_within() {
+    if [ -n "$limits" ]; then
+        tools/frames.py "$out/libregistry.a" 4096 registry_open
+        return
+    fi
     tools/frames.py "$out/libregistry.a" 1024 registry_open && tools/frames.py "$out/libregistry.a" 4096
 }
 
@@ -155,8 +173,20 @@ test_page() {
     check "a handle that is NULL is warned of" warned nonnull '(void)cpu; (void)entry; registry_exit(NULL);'
 }
 
+# The libraries with these limits are installed under a scratch folder; programs that know them by pkg-config alone are built and run.
+test_installed() {
+    local room
+    room=$(mktemp -d)
+    check "C: headers, maps and libraries have the same names" make_clients symbols
+    check "C: it is installed" make_clients install DESTDIR="$room" PREFIX=/usr
+    counted "C: programs over what is installed" make_clients installcheck DESTDIR="$room" PREFIX=/usr
+    check "C: it is uninstalled" make_clients uninstall DESTDIR="$room" PREFIX=/usr
+    rm -rf "$room"
+}
+
 test_c() {
-    local storm
+    local storm cpus
+    cpus=$(most_cpus)
     check "C: smallest" smallest_says "$out/smallest"
     check "C: row" row_says "$out/row"
     check "C: packet" "$out/packet"
@@ -179,22 +209,29 @@ test_c() {
     check "C: entries" "$out/entries" 1000
     check "C: names and answers as text" "$out/names"
     check "C: usual" "$out/usual" 1000
+    check "C: crowd, every CPU and every slot" "$out/crowd" 2000
     check "C: forwarder" "$out/forwarder"
     check "C: device_switch" "$out/device_switch"
-    for storm in "1 1000" "2 3" "4 20000" "8 5000"; do
+    for storm in "1 1000" "2 3" "4 20000" "$cpus $((40000 / cpus))"; do
         # shellcheck disable=SC2086
         check "C: storm $storm" storm_says $storm "$out/storm"
     done
     check "C: speed, briefly" "$out/speed" 2 8 1000
     check "C: changes, briefly" "$out/changes" 20
+    check "C: changes on all CPUs, briefly" "$out/changes" 20 "$cpus"
     counted "C: the examples of the docs" tools/run-examples.py --program "$out/script" --engine live
-    counted "C: scripts from a seed, beside registry_run" tools/compare-scripts.py
-    counted "C: installed, used by pkg-config alone, and uninstalled" tools/test-install.sh
+    counted "C: scripts from a seed, beside registry_run" tools/compare-scripts.py --client "$out/script"
+    if [ -n "$limits" ]; then
+        test_installed
+    else
+        counted "C: installed, used by pkg-config alone, and uninstalled" tools/test-install.sh
+    fi
 }
 
 # The same programs, where each access of the client's, or of all, is watched.
 test_watched() {
-    local script
+    local script cpus
+    cpus=$(most_cpus)
     check "C: smallest under valgrind" smallest_says guarded "$out/smallest"
     check "C: row under valgrind" row_says guarded "$out/row"
     check "C: packet under valgrind" guarded "$out/packet"
@@ -207,6 +244,7 @@ test_watched() {
     check "C: entries under valgrind" guarded "$out/entries" 50
     check "C: names under valgrind" guarded "$out/names"
     check "C: usual under valgrind" guarded "$out/usual" 50
+    check "C: crowd under valgrind" guarded "$out/crowd" 20
     check "C: refuse under valgrind" guarded "$out/refuse"
     check "C: storm 4 100 under valgrind" storm_says 4 100 guarded "$out/storm"
     check "C: misuse with sanitizers" "$out/sanitized-misuse"
@@ -219,9 +257,10 @@ test_watched() {
     check "C: entries with sanitizers" "$out/sanitized-entries" 300
     check "C: names with sanitizers" "$out/sanitized-names"
     check "C: usual with sanitizers" "$out/sanitized-usual" 300
+    check "C: crowd with sanitizers" "$out/sanitized-crowd" 300
     check "C: forwarder with sanitizers" "$out/sanitized-forwarder"
     check "C: device_switch with sanitizers" "$out/sanitized-device_switch"
-    check "C: storm 8 1000 with sanitizers" storm_says 8 1000 "$out/sanitized-storm"
+    check "C: storm $cpus $((8000 / cpus)) with sanitizers" storm_says "$cpus" $((8000 / cpus)) "$out/sanitized-storm"
     counted "C: the examples of the docs with sanitizers" tools/run-examples.py --program "$out/sanitized-script" --engine live
     for script in examples/*.txt; do
         check "C: $(basename "$script") under valgrind" guarded_script "$script"
@@ -243,17 +282,18 @@ test_heap() {
 
 # All that the parts below run, except the crate's programs, which cargo builds when they are wanted.
 test_build() {
+    [ -z "$limits" ] || check "the archive is proved, and of these sources" tools/proof-record.py check "$out/libregistry.a"
     check "the archive has the header's calls" archive_names
     check "no call takes more stack than the page says" stack_within
-    check "the clients in C are built, no warning" make -C clients
-    check "C: all of them are built with sanitizers" make -C clients sanitized
-    check "C: heap_stress is built nine times" make -C clients stresses
-    check "the manual pages' own names are built" make -C clients/netbsd all sanitized
+    check "the clients in C are built, no warning" make_clients all
+    check "C: all of them are built with sanitizers" make_clients sanitized
+    check "C: heap_stress is built nine times" make_clients stresses
+    check "the manual pages' own names are built" make -C clients/netbsd LIMITS="$limits" all sanitized
 }
 
 # A part that is run without build finds what it runs all the same; that it can't is a failure.
 need_built() {
-    make -C clients all sanitized stresses >"$log" 2>&1 || judge "the clients in C are built" 1
+    make_clients all sanitized stresses >"$log" 2>&1 || judge "the clients in C are built" 1
 }
 
 test_netbsd() {
@@ -274,7 +314,8 @@ refuses_other_limits() {
 }
 
 test_rust() {
-    local storm
+    local storm cpus
+    cpus=$(most_cpus)
     cd clients/rust || return
     check "Rust: no warning" env RUSTFLAGS="-D warnings" cargo check --offline --all-targets
     if cargo clippy --version >/dev/null 2>&1; then
@@ -294,7 +335,7 @@ test_rust() {
     check "Rust: packet" "$examples/packet"
     check "Rust: compiled for other limits, nothing is opened" refuses_other_limits
     check "Rust: row" row_says "$examples/row"
-    for storm in "1 1000" "2 3" "4 20000" "8 5000"; do
+    for storm in "1 1000" "2 3" "4 20000" "$cpus $((40000 / cpus))"; do
         # shellcheck disable=SC2086
         check "Rust: storm $storm" storm_says $storm "$examples/storm"
     done
@@ -321,6 +362,7 @@ test_rust_watched() {
 }
 
 parts=(page build c watched heap netbsd bench rust rust-watched)
+[ -z "$limits" ] || parts=(build c watched heap netbsd rust rust-watched)
 is_built=
 if [ "${1-}" = --built ]; then
     is_built=yes
@@ -337,7 +379,7 @@ export REGISTRY_LIB_DIR=$PWD/$out CARGO_TARGET_DIR=$PWD/$out/rust
 examples=$out/rust/release/examples
 
 install_missing
-if [ -z "$is_built" ]; then
+if [ -z "$is_built$limits" ]; then
     check "the archive, proved and built" build_archive
 fi
 if [ ! -e "$out/libregistry.a" ] && [ "${parts[*]}" != page ]; then

@@ -1,14 +1,19 @@
 #!/usr/bin/env bash
 # Builds the manual pages' own names over the archive, clients/netbsd, and runs their tests: the pages' patterns and seven drivers on threads, plain, with
 # the sanitizers of addresses and undefined behaviour, with that of races, and some under valgrind; each misuse in a process of its own; what is beyond
-# one registry's limits; random programs against a model. clients/out/libregistry.a stands already. The last line is 'N passed, M failed'.
+# one registry's limits; random programs against a model. clients/out/libregistry.a stands already, or clients/out/LIMITS/libregistry.a where LIMITS names
+# an archive with other limits, as for clients/places.mk. The last line is 'N passed, M failed'.
 set -uo pipefail
 cd "$(dirname "$0")/.."
 folder=clients/netbsd
-out=clients/out/netbsd
+out=clients/out${LIMITS:+/$LIMITS}/netbsd
 # shellcheck source=tools/checks.sh
 . tools/checks.sh
 trap forget_log EXIT
+
+make_layer() {
+    make -s -C $folder LIMITS="${LIMITS-}" "$@"
+}
 
 # Each header alone, without a warning, in C and, where it is there, in C++.
 header_alone() {
@@ -42,7 +47,7 @@ count_cases() {
 
 # programs WAY: what the Makefile builds for a way, except what counts its cases.
 programs() {
-    make -s -C $folder list-"$1" | tr ' ' '\n' | grep -vE '^(misuse|misuse_kernel|sleepers|tells)$'
+    make_layer list-"$1" | tr ' ' '\n' | grep -vE '^(misuse|misuse_kernel|sleepers|tells)$'
 }
 
 lints() {
@@ -60,7 +65,7 @@ done
 counted "each line of the layer is in a test" clients/netbsd/tests/lines.py
 counted "each name that a driver may use, for the layer and for the bench" clients/netbsd/tests/names.py gcc
 for way in plain sanitized raced small late busy; do
-    check "the layer and its tests are built, no warning: $way" make -s -C $folder $way
+    check "the layer and its tests are built, no warning: $way" make_layer $way
     for test in $(programs $way); do
         check "$test, $way" "$out/$way/$test"
     done
@@ -69,7 +74,7 @@ check "the manual pages are as the headers say, and each call has one" $folder/p
 if command -v mandoc >/dev/null; then
     check "mandoc finds no fault in them" lints
 fi
-check "the layer is built into a shared object that is closed" make -s -C $folder unloaded
+check "the layer is built into a shared object that is closed" make_layer unloaded
 check "a thread ends after its layer was closed" "$out/unloaded" "$out/plugin.so"
 if command -v valgrind >/dev/null; then
     for test in destroyed drained "model 1 300"; do

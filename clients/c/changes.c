@@ -1,5 +1,5 @@
 /*
- * changes COUNT - what each call behind the interlock takes, through registry.h, on one thread
+ * changes COUNT [CPUS] - what each call behind the interlock takes, through registry.h, on one thread, in a registry of so many CPUs: by default 2
  *
  * The calls and their order are those of `registry_bench changes` (see bench/README.md). A lock of the caller's is taken for each call that takes
  * the keeper, as a program with more threads has to. It prints a line as that program does.
@@ -10,11 +10,12 @@
 
 #include "client.h"
 
-enum { CPUS = 2, STAYING = 8, CHANGING = REGISTRY_MOST_SLOTS - STAYING, MOST_ROUNDS = 20000 };
+enum { LEAST_CPUS = 2, STAYING = 8, CHANGING = REGISTRY_MOST_SLOTS - STAYING, MOST_ROUNDS = 20000 };
 
 static pthread_mutex_t interlock = PTHREAD_MUTEX_INITIALIZER;
 static struct registry_keeper keeper;
-static struct registry_cpu cpus[CPUS];
+static struct registry_cpu cpus[REGISTRY_MOST_CPUS];
+static unsigned cpu_count = LEAST_CPUS;
 static struct registry_name names[REGISTRY_MOST_SLOTS];
 
 /* The names of the entries that are attached and freed again and again. */
@@ -63,8 +64,8 @@ static void turn(uint64_t number, uint64_t stage)
 static void open_registry(void)
 {
 	const struct registry_settings settings = {
-	    CPUS, REGISTRY_MOST_SLOTS, REGISTRY_MOST_CHANGES, REGISTRY_MOST_SECTIONS, REGISTRY_MOST_COUNT, REGISTRY_MOST_COUNT};
-	DONE(registry_open(&settings, &keeper, cpus, CPUS));
+	    cpu_count, REGISTRY_MOST_SLOTS, REGISTRY_MOST_CHANGES, REGISTRY_MOST_SECTIONS, REGISTRY_MOST_COUNT, REGISTRY_MOST_COUNT};
+	DONE(registry_open(&settings, &keeper, cpus, cpu_count));
 	for (unsigned place = 0; place < REGISTRY_MOST_SLOTS; place++) {
 		char text[8];
 		snprintf(text, sizeof text, "d%02u", place);
@@ -168,7 +169,7 @@ static double audit_all(unsigned count)
 	double began = now();
 	for (unsigned made = 0; made < count; made++) {
 		pthread_mutex_lock(&interlock);
-		DONE(registry_audit(&keeper, cpus, CPUS, list, REGISTRY_MOST_SLOTS, &length));
+		DONE(registry_audit(&keeper, cpus, cpu_count, list, REGISTRY_MOST_SLOTS, &length));
 		pthread_mutex_unlock(&interlock);
 		EXPECT(length == STAYING);
 	}
@@ -184,16 +185,15 @@ static void run(unsigned count)
 	printf("changes %u attach %.1f detach %.1f freed %.1f", count, replaced.attach / many, replaced.detach / many, replaced.freed / many);
 	printf(" grace %.1f local %.1f perform %.1f", grace / count, local / count, perform_all(count) / count);
 	printf(" audit %.1f\n", audit_all(count) / count);
-	for (unsigned cpu = 0; cpu < CPUS; cpu++)
-		DONE(registry_close_cpu(&cpus[cpu]));
-	DONE(registry_close_keeper(&keeper));
+	DONE(registry_close(cpus, cpu_count, &keeper));
 }
 
 int main(int argc, char **argv)
 {
-	unsigned long count = argc == 2 ? strtoul(argv[1], NULL, 10) : 0;
-	if (count < 1 || count > MOST_ROUNDS) {
-		fprintf(stderr, "usage: changes COUNT\n");
+	unsigned long count = argc == 2 || argc == 3 ? strtoul(argv[1], NULL, 10) : 0;
+	cpu_count = argc == 3 ? (unsigned)strtoul(argv[2], NULL, 10) : LEAST_CPUS;
+	if (count < 1 || count > MOST_ROUNDS || cpu_count < LEAST_CPUS || cpu_count > REGISTRY_MOST_CPUS) {
+		fprintf(stderr, "usage: changes COUNT [CPUS]\n");
 		return 2;
 	}
 	run((unsigned)count);

@@ -3,20 +3,21 @@
  *
  *     history [CHANGES [SEED]]
  *
- * The largest registry goes through CHANGES changes, by default as many as there may be, or a million where there may be more; smaller ones meet each limit.
+ * The largest registry goes through CHANGES changes, by default as many as there may be, or five million where there may be more; smaller ones meet each
+ * limit.
  * The last line says how many calls were compared, of how many changes.
  */
 #include <inttypes.h>
 
 #include "model.h"
 
-/* Where each access takes long, the references to one entry and the small registries are fewer. */
+/* Where each access takes long, the references to one entry, the small registries and the sections of a CPU that come to an end are fewer. */
 #ifdef HISTORY_BRIEFLY
-enum { MANY = 101, SMALL = 4 };
+enum { MANY = 101, SMALL = 4, SECTIONS = 20 };
 #else
-enum { MANY = 70001, SMALL = 200 };
+enum { MANY = 70001, SMALL = 200, SECTIONS = 1000 };
 #endif
-enum { NAMES = SLOTS * 3 / 4, HANDLES = 3 * SLOTS, LONGEST = 1000 * 1000 };
+enum { NAMES = SLOTS * 3 / 4, HANDLES = 3 * SLOTS + CPUS, LONGEST = 5 * 1000 * 1000 };
 
 struct held {
 	struct registry_local handle;
@@ -446,6 +447,68 @@ static void spend_sections(void)
 	closed(world);
 }
 
+/* What no CPU enters any more: each call that begins a section is refused. */
+static void expect_spent(struct world *world, unsigned cpu)
+{
+	struct registry_entry none = {0}, wanted = {0};
+	lookup *const calls[] = {registry_look_up, registry_enter_find, registry_get};
+	model_lookup *const model_calls[] = {model_look_up, model_enter_find, model_get};
+	EXPECT(same(registry_enter(&world->cpus[cpu]), model_enter(&world->model, cpu)) == REGISTRY_SECTIONS_SPENT);
+	for (unsigned i = 0; i < sizeof calls / sizeof *calls; i++) {
+		uint32_t answer = calls[i](&world->cpus[cpu], REGISTRY_DRIVER, &names[0], &none);
+		same_entry(answer, &none, model_calls[i](&world->model, cpu, REGISTRY_DRIVER, &names[0], &wanted), &wanted);
+		EXPECT(answer == REGISTRY_SECTIONS_SPENT);
+	}
+}
+
+/* A CPU goes through all its sections. In the last one it refers to the driver, and enters once more. */
+static void spend(struct world *world, unsigned cpu)
+{
+	struct registry_cpu *own = &world->cpus[cpu];
+	struct registry_entry found = {0}, wanted = {0};
+	struct held *held = &world->locals[world->held++];
+	while (world->model.cpus[cpu].sections + 1 < world->model.settings.section_limit)
+		DONE(same_entry(registry_look_up(own, REGISTRY_DRIVER, &names[0], &found), &found,
+		    model_look_up(&world->model, cpu, REGISTRY_DRIVER, &names[0], &wanted), &wanted));
+	DONE(same_entry(registry_enter_find(own, REGISTRY_DRIVER, &names[0], &found), &found,
+	    model_enter_find(&world->model, cpu, REGISTRY_DRIVER, &names[0], &wanted), &wanted));
+	DONE(same(registry_acquire(own, NULL), model_acquire(&world->model, cpu, &held->number)));
+	DONE(same(registry_local_acquire(own, &held->handle), model_local_acquire(&world->model, cpu, &held->number)));
+	DONE(same(registry_enter(own), model_enter(&world->model, cpu)));
+	for (unsigned depth = 2; depth > 0; depth--)
+		DONE(same(registry_exit(own), model_exit(&world->model, cpu)));
+	expect_spent(world, cpu);
+}
+
+/*
+ * All CPUs come to the end of their sections: as many as the build has, or SECTIONS of them where it has more. Then no call enters on any. What needs no
+ * section is done: a reference is read and released, an entry is attached, detached and freed, a wait ends.
+ */
+static void spend_all_sections(void)
+{
+	const uint64_t most = REGISTRY_MOST_SECTIONS < SECTIONS ? REGISTRY_MOST_SECTIONS : SECTIONS;
+	const struct registry_settings settings = {CPUS, SLOTS, 10, most, 3, 3};
+	struct world *world = opened(&settings, 1);
+	struct registry_entry entry = {0}, wanted = {0};
+	DONE(same_entry(registry_attach(&world->keeper, &world->cpus[0], &names[0], 7, &entry), &entry,
+	    model_attach(&world->model, 0, 0, &names[0], 7, &wanted), &wanted));
+	for (unsigned c = 0; c < CPUS; c++)
+		spend(world, c);
+	DONE(same_entry(registry_detach(&world->keeper, &world->cpus[0], REGISTRY_DRIVER, &names[0], &entry), &entry,
+	    model_detach(&world->model, 0, REGISTRY_DRIVER, &names[0], &wanted), &wanted));
+	DONE(same_entry(registry_attach(&world->keeper, &world->cpus[0], &names[0], 8, &entry), &entry,
+	    model_attach(&world->model, 0, 0, &names[0], 8, &wanted), &wanted));
+	for (unsigned turn = 0; turn < 100; turn++)
+		(turn % 2 == 0 ? read_held : advance)(world);
+	begin_wait(world);
+	turn_wait(world);
+	audit(world);
+	end_history(world);
+	for (unsigned c = 0; c < CPUS; c++)
+		expect_spent(world, c);
+	closed(world);
+}
+
 /* Sections nest to the greatest depth, and no deeper. */
 static void nest(struct world *world)
 {
@@ -461,7 +524,7 @@ static unsigned holder(unsigned reference)
 	return reference % 16 == 0 ? 1 + reference / 16 % (CPUS - 1) : 0;
 }
 
-/* More references of each kind to one entry than a word of 16 bits counts, also on CPU 0 alone. They are released one by one. */
+/* More references of each kind to one entry than a word of 16 bits counts, also on CPU 0 alone. They are released one by one. Each takes a section. */
 static void refer_often(void)
 {
 	const struct registry_settings settings = {CPUS, SLOTS, REGISTRY_MOST_CHANGES, REGISTRY_MOST_SECTIONS, REGISTRY_MOST_COUNT, REGISTRY_MOST_COUNT};
@@ -513,7 +576,9 @@ int main(int argc, char **argv)
 		names[i] = name_of(text);
 	}
 	spend_sections();
-	refer_often();
+	spend_all_sections();
+	if (REGISTRY_MOST_SECTIONS > MANY)
+		refer_often();
 	run_small(seed);
 	changes = run(&largest, changes, seed);
 	printf("history: %" PRIu64 " calls compared, %" PRIu64 " changes\n", compared, changes);

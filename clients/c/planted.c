@@ -16,8 +16,8 @@ static const char *const TEXTS[FAULTS] = {
 	[NOT_FOUND] = "a detach finds nothing from the 150,000th change on",
 	[SHORT_NUMBERS] = "a number is cut to 17 bits",
 	[SHORT_LOCALS] = "more than 255 local references are told as 255",
-	[SLOT_KEPT_BACK] = "the last of 32 slots is kept back while anything is retired",
-	[LARGE_AUDITS] = "an audit of 32 entries on 8 CPUs runs out of memory",
+	[SLOT_KEPT_BACK] = "the last slot is kept back while anything is retired",
+	[LARGE_AUDITS] = "an audit of all slots on all CPUs runs out of memory",
 	[FEW_PASSIVE] = "a CPU may have 65,535 passive references at once",
 	[FEW_LOCAL] = "a CPU may have acquired 65,535 local references more than it has released",
 };

@@ -8,7 +8,10 @@
 
 #include "../bench.h"
 
-enum { THREADS = BENCH_THREADS, POINTS = BENCH_POINTS, ACCESSES = 12, STACK = 256 * 1024, ANY = 0xffff, NOBODY = 0xff };
+enum { THREADS = BENCH_THREADS, POINTS = BENCH_POINTS, ACCESSES = 12, ANY = 0xffff, NOBODY = 0xff };
+
+/* A routine's stack. Where a registry is opened, the keeper's rows of all CPUs and slots lie there: with other limits they may be large. */
+enum { CELLS = REGISTRY_MOST_CPUS * REGISTRY_MOST_SLOTS, STACK = (64 + (CELLS > 256 ? CELLS / 32 : 0)) * 4096 };
 enum { TARGETS = REGISTRY_MOST_SLOTS, LOCKS = 64 };
 
 #define NEVER	INT64_MAX

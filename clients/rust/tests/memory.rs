@@ -4,9 +4,10 @@
 mod common;
 
 use common::{local, name, scaled, watched, with_driver};
-use registry::{Found, Kind, LocalRef, Patience, Refused, Registry, Settings};
+use registry::{Found, Kind, LocalRef, Patience, Refused, Registry, Settings, LIMITS};
 use std::alloc::{GlobalAlloc, Layout, System};
 use std::cell::Cell;
+use std::mem;
 
 /// Counts what each thread has allocated and not freed.
 struct Counting;
@@ -103,7 +104,7 @@ fn a_destroyed_value_keeps_no_memory() {
     assert_eq!(left(|| (0..100).for_each(|_| come_and_go())), 0);
 }
 
-/// Of 100,000 references that are dropped at once no room stays but for some.
+/// Of 100,000 references that are dropped at once no room stays but for some, and a row of each slot.
 #[test]
 fn a_basket_gives_its_room_back() {
     let (registry, cpus) = Registry::open(Settings::new(1, 1)).unwrap();
@@ -118,5 +119,6 @@ fn a_basket_gives_its_room_back() {
     assert_eq!(registry.dropped(), count);
     assert!(BYTES.with(Cell::get) - before >= count as isize * 8);
     cpus[0].release_dropped();
-    assert!(BYTES.with(Cell::get) - before <= 2048);
+    let rows = LIMITS.slots as usize * mem::size_of::<Vec<u8>>();
+    assert!(BYTES.with(Cell::get) - before <= rows as isize + 1280);
 }

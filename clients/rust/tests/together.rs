@@ -5,17 +5,14 @@
 mod common;
 
 use common::{name, scaled, Dice, Drops, Tracked};
-use registry::{Cpu, Found, Holder, Kind, LocalRef, Name, PassiveRef, Patience, ReadGuard, Refusal, Refused, Registry, Retired, Settings};
+use registry::{
+    Cpu, Found, Holder, Kind, LocalRef, Name, PassiveRef, Patience, ReadGuard, Refusal, Refused, Registry, Retired, Settings, LIMITS,
+};
 use std::sync::Mutex;
 use std::thread;
 
-const CPUS: usize = 4;
-/// Names of each thread.
-const OWN: usize = 2;
-const NAMES: usize = CPUS * OWN;
-
-/// What one thread has.
-struct Worker<'all> {
+/// What one of so many threads has, each with so many names of its own.
+struct Worker<'all, const CPUS: usize, const OWN: usize> {
     registry: &'all Registry<Tracked>,
     cpu: &'all Cpu<Tracked>,
     drops: &'all Drops,
@@ -25,18 +22,20 @@ struct Worker<'all> {
     id: usize,
     dice: Dice,
     /// The number and the label of each of its own entries that is live.
-    live: [Option<(u64, u64)>; OWN],
+    live: [Live; OWN],
     passives: Vec<PassiveRef<'all, Tracked>>,
     tokens: Vec<(Retired<Tracked>, u64)>,
     labels: u64,
 }
 
-/// Whose name a label is of: each label has its name in it.
-fn name_of(label: u64) -> usize {
-    label as usize % NAMES
-}
+impl<'all, const CPUS: usize, const OWN: usize> Worker<'all, CPUS, OWN> {
+    const NAMES: usize = CPUS * OWN;
 
-impl<'all> Worker<'all> {
+    /// Whose name a label is of: each label has its name in it.
+    fn name_of(label: u64) -> usize {
+        label as usize % Self::NAMES
+    }
+
     fn own(&mut self) -> (usize, usize) {
         let own = self.dice.below(OWN);
         (own, self.id * OWN + own)
@@ -48,7 +47,7 @@ impl<'all> Worker<'all> {
         match self.live[own] {
             None => {
                 self.labels += 1;
-                let label = self.labels * NAMES as u64 + place as u64;
+                let label = self.labels * Self::NAMES as u64 + place as u64;
                 match self.registry.attach(self.cpu, name, self.drops.make(label)) {
                     Ok(entry) => self.live[own] = Some((entry.number, label)),
                     Err(refused) => assert_eq!((refused.refusal, refused.given.label), (Refusal::NoSlot, label)),
@@ -68,7 +67,7 @@ impl<'all> Worker<'all> {
 
     /// Finds one of its own and any other in one section, and acquires both.
     fn find_two(&mut self) {
-        let ((own, place), other) = (self.own(), self.dice.below(NAMES));
+        let ((own, place), other) = (self.own(), self.dice.below(Self::NAMES));
         let section = self.cpu.enter().unwrap();
         let [mine, others] = [place, other].map(|place| section.find(Kind::Driver, &self.names[place]));
         let known = mine.as_ref().map(|found| (Found::entry(found).number, found.label));
@@ -80,7 +79,7 @@ impl<'all> Worker<'all> {
         }
         if let Some(others) = &others {
             others.check();
-            assert_eq!(name_of(others.label), other);
+            assert_eq!(Self::name_of(others.label), other);
             match Found::acquire_local(others) {
                 Ok(local) => self.handed.lock().unwrap().push(local),
                 Err(refusal) => assert!(refusal == Refusal::NotFound && other / OWN != self.id),
@@ -90,13 +89,17 @@ impl<'all> Worker<'all> {
     }
 
     fn use_any(&mut self) {
-        let place = self.dice.below(NAMES);
+        let place = self.dice.below(Self::NAMES);
         let name = &self.names[place];
         match self.dice.below(3) {
-            0 => drop(self.cpu.get(Kind::Driver, name).map(|held| assert!(name_of(held.label) == place))),
+            0 => drop(
+                self.cpu
+                    .get(Kind::Driver, name)
+                    .map(|held| assert!(Self::name_of(held.label) == place)),
+            ),
             1 => drop(self.cpu.read(Kind::Driver, name).map(|guard| {
                 guard.check();
-                assert_eq!((name_of(guard.label), ReadGuard::entry(&guard).name), (place, *name));
+                assert_eq!((Self::name_of(guard.label), ReadGuard::entry(&guard).name), (place, *name));
             })),
             _ => {
                 let section = self.cpu.enter().unwrap();
@@ -106,7 +109,7 @@ impl<'all> Worker<'all> {
                     .all(|pair| Found::entry(&pair[0]).number > Found::entry(&pair[1]).number));
                 assert!(entries
                     .iter()
-                    .all(|found| self.names[name_of(found.label)] == Found::entry(found).name));
+                    .all(|found| self.names[Self::name_of(found.label)] == Found::entry(found).name));
             }
         }
     }
@@ -178,17 +181,34 @@ impl<'all> Worker<'all> {
     }
 }
 
-/// So many random calls of each thread.
-fn run(seed: u64, steps: usize) {
+/// The number and the label of an entry that is live.
+type Live = Option<(u64, u64)>;
+
+/// Attaches the names, as long as a slot is left.
+fn fill(registry: &Registry<Tracked>, cpu: &Cpu<Tracked>, drops: &Drops, names: &[Name]) -> Vec<Live> {
+    let attach = |(label, name)| match registry.attach(cpu, name, drops.make(label)) {
+        Ok(entry) => Some((entry.number, label)),
+        Err(refused) => {
+            assert_eq!(refused.refusal, Refusal::NoSlot);
+            None
+        }
+    };
+    (0..).zip(names).map(attach).collect()
+}
+
+/// So many random calls of each thread, once as many slots are filled as there are names for.
+fn run<const CPUS: usize, const OWN: usize>(slots: usize, seed: u64, steps: usize) {
     let (drops, handed) = (Drops::default(), Mutex::new(Vec::new()));
-    let names: Vec<Name> = (0..NAMES).map(|place| name(&format!("d{place}"))).collect();
-    let (registry, cpus) = Registry::open(Settings::new(CPUS as u8, 12)).unwrap();
+    let names: Vec<Name> = (0..CPUS * OWN).map(|place| name(&format!("d{place}"))).collect();
+    let (registry, cpus) = Registry::open(Settings::new(CPUS as u8, slots as u8)).unwrap();
+    let live = fill(&registry, &cpus[0], &drops, &names);
+    assert_eq!(live.iter().flatten().count(), slots.min(names.len()));
     thread::scope(|scope| {
-        for cpu in cpus {
+        for (cpu, live) in cpus.into_iter().zip(live.chunks(OWN)) {
             let (registry, drops, names, handed) = (&registry, &drops, &names, &handed);
             scope.spawn(move || {
                 let id = usize::from(cpu.id());
-                let mut worker = Worker {
+                let mut worker = Worker::<CPUS, OWN> {
                     registry,
                     cpu: &cpu,
                     drops,
@@ -196,7 +216,7 @@ fn run(seed: u64, steps: usize) {
                     handed,
                     id,
                     dice: Dice::of(seed + id as u64),
-                    live: [None; OWN],
+                    live: live.try_into().unwrap(),
                     passives: Vec::new(),
                     tokens: Vec::new(),
                     labels: 0,
@@ -213,6 +233,15 @@ fn run(seed: u64, steps: usize) {
 #[test]
 fn threads_that_share_a_registry_find_what_is_there() {
     for seed in 1..=5 {
-        run(seed * 100, scaled(4000));
+        run::<4, 2>(12, seed * 100, scaled(4000));
     }
+}
+
+/// Every CPU of the build on a thread, and more names than slots.
+#[test]
+fn all_cpus_share_all_slots() {
+    const CPUS: usize = LIMITS.cpus as usize;
+    const SLOTS: usize = LIMITS.slots as usize;
+    const OWN: usize = 2 * SLOTS / CPUS + 1;
+    run::<CPUS, OWN>(SLOTS, 1000, scaled(2000));
 }

@@ -1,0 +1,303 @@
+/*
+ * crowd ROUNDS - every CPU of the build at work on a thread of its own, and every slot in use
+ *
+ * Each CPU has names of its own; all together they are more than twice the slots. First all slots are filled. Then each CPU makes so many rounds on its
+ * thread: it walks over all entries, finds one of any CPU and refers to it in both ways, hands the local reference to the next CPU, and detaches or attaches
+ * an entry of its own. What a value points to is spoilt and freed as soon as a destroy says that nobody holds the entry. At the end all is given back.
+ */
+#include <inttypes.h>
+#include <pthread.h>
+#include <stdatomic.h>
+
+#include "client.h"
+
+enum { CPUS = REGISTRY_MOST_CPUS, SLOTS = REGISTRY_MOST_SLOTS, OWN = 2 * SLOTS / CPUS + 1, NAMES = CPUS * OWN, MOST_ROUNDS = 100000 };
+
+/* What an entry's value points to. */
+struct object {
+	uint64_t alive;	/* ALIVE until it is freed */
+	unsigned name;	/* the place of its entry's name */
+};
+
+/* A place between two CPUs, for one local reference. */
+struct basket {
+	pthread_mutex_t lock;
+	bool full;
+	struct registry_local reference;
+};
+
+/* A CPU's thread: which of its own names are live, and which of its entries are retired and not yet freed. */
+struct worker {
+	unsigned id;
+	uint64_t random, changes, references, without_slot;
+	bool live[OWN];
+	struct registry_entry retired[SLOTS];
+	unsigned retired_count;
+	pthread_t thread;
+};
+
+static const uint64_t ALIVE = 0x616c69766561;
+
+static struct registry_keeper keeper;
+static struct registry_cpu cpus[CPUS];
+static pthread_mutex_t interlock = PTHREAD_MUTEX_INITIALIZER;
+static struct registry_name names[NAMES];
+static struct basket baskets[CPUS];
+static struct worker workers[CPUS];
+static atomic_int_fast64_t objects;
+static uint64_t rounds;
+
+/* A number below `end`, by xorshift. */
+static unsigned below(struct worker *worker, unsigned end)
+{
+	worker->random ^= worker->random << 13;
+	worker->random ^= worker->random >> 7;
+	worker->random ^= worker->random << 17;
+	return (unsigned)((worker->random >> 11) % end);
+}
+
+static struct object *make_object(unsigned name)
+{
+	struct object *object = malloc(sizeof *object);
+	EXPECT(object != NULL);
+	*object = (struct object){.alive = ALIVE, .name = name};
+	atomic_fetch_add(&objects, 1);
+	return object;
+}
+
+static void free_object(struct object *object)
+{
+	memset(object, 0xdb, sizeof *object);
+	free(object);
+	atomic_fetch_sub(&objects, 1);
+}
+
+static struct object *object_of(const struct registry_entry *entry)
+{
+	return (struct object *)(uintptr_t)entry->value;
+}
+
+/* The entry has its own object, which isn't freed. */
+static void check_object(const struct registry_entry *entry)
+{
+	const struct object *object = object_of(entry);
+	EXPECT(object->alive == ALIVE && object->name < NAMES);
+	EXPECT(entry->name.high == names[object->name].high && entry->name.low == names[object->name].low);
+}
+
+/* Attaches the entry of an own name, if a slot is vacant. */
+static void attach(struct worker *worker, unsigned own)
+{
+	unsigned name = worker->id * OWN + own;
+	struct object *object = make_object(name);
+	pthread_mutex_lock(&interlock);
+	registry_answer answer = registry_attach(&keeper, &cpus[worker->id], &names[name], (uint64_t)(uintptr_t)object, NULL);
+	pthread_mutex_unlock(&interlock);
+	if (answer == REGISTRY_NO_SLOT) {
+		worker->without_slot++;
+		free_object(object);
+		return;
+	}
+	DONE(answer);
+	worker->live[own] = true;
+	worker->changes++;
+}
+
+static void detach(struct worker *worker, unsigned own)
+{
+	struct registry_entry *gone = &worker->retired[worker->retired_count++];
+	pthread_mutex_lock(&interlock);
+	DONE(registry_detach(&keeper, &cpus[worker->id], REGISTRY_DRIVER, &names[worker->id * OWN + own], gone));
+	pthread_mutex_unlock(&interlock);
+	worker->live[own] = false;
+	worker->changes++;
+}
+
+/* Frees the objects of those retired entries that nobody holds any more. */
+static void free_retired(struct worker *worker)
+{
+	for (unsigned i = worker->retired_count; i-- > 0;) {
+		pthread_mutex_lock(&interlock);
+		registry_answer answer = registry_destroy(&keeper, &cpus[worker->id], worker->retired[i].number, NULL);
+		pthread_mutex_unlock(&interlock);
+		if (answer == REGISTRY_STILL_HELD)
+			continue;
+		DONE(answer);
+		check_object(&worker->retired[i]);
+		free_object(object_of(&worker->retired[i]));
+		worker->retired[i] = worker->retired[--worker->retired_count];
+	}
+}
+
+/* Meets all live entries in one section, the newest first. */
+static void walk(struct registry_cpu *cpu)
+{
+	struct registry_entry row[SLOTS];
+	size_t count;
+	DONE(registry_enter(cpu));
+	DONE(registry_walk(cpu, row, SLOTS, &count));
+	for (size_t i = 0; i < count; i++) {
+		EXPECT(i == 0 || row[i].number < row[i - 1].number);
+		check_object(&row[i]);
+	}
+	DONE(registry_exit(cpu));
+}
+
+/* Lays a reference into a basket and takes out what lay there. A handle is moved: the place that it left isn't used again. */
+static bool exchange(struct basket *basket, struct registry_local *reference, bool full)
+{
+	pthread_mutex_lock(&basket->lock);
+	struct registry_local before = basket->reference;
+	bool was_full = basket->full;
+	basket->reference = *reference;
+	basket->full = full;
+	*reference = before;
+	pthread_mutex_unlock(&basket->lock);
+	return was_full;
+}
+
+/* Releases a local reference, or gives it up where its count was collected. The object is there until then. */
+static void give_back(struct registry_cpu *cpu, struct registry_local *reference)
+{
+	struct registry_entry entry;
+	DONE(registry_local_read(reference, &entry));
+	check_object(&entry);
+	registry_answer answer = registry_local_release(cpu, reference);
+	if (answer == REGISTRY_COLLECTED) {
+		pthread_mutex_lock(&interlock);
+		answer = registry_local_give_up(&keeper, reference);
+		pthread_mutex_unlock(&interlock);
+	}
+	DONE(answer);
+}
+
+/* Refers to an entry beyond the section: on this CPU, and by a local reference for the next one. */
+static void refer(struct worker *worker)
+{
+	struct registry_cpu *cpu = &cpus[worker->id];
+	struct registry_local local = {0};
+	struct registry_entry found;
+	registry_answer answer = registry_enter_find(cpu, REGISTRY_DRIVER, &names[below(worker, NAMES)], &found);
+	if (answer == REGISTRY_NOT_FOUND)
+		return;
+	DONE(answer);
+	DONE(registry_acquire(cpu, NULL));
+	DONE(registry_local_acquire(cpu, &local));
+	DONE(registry_exit(cpu));
+	check_object(&found);
+	DONE(registry_release(cpu, found.number));
+	if (exchange(&baskets[(worker->id + 1) % CPUS], &local, true))
+		give_back(cpu, &local);
+	worker->references++;
+}
+
+static void empty_basket(unsigned id)
+{
+	struct registry_local local = {0};
+	if (exchange(&baskets[id], &local, false))
+		give_back(&cpus[id], &local);
+}
+
+/* Waits until the sections that are open now have ended. */
+static void perform(struct registry_cpu *cpu)
+{
+	struct registry_wait wait;
+	registry_answer answer;
+	pthread_mutex_lock(&interlock);
+	DONE(registry_perform_begin(&keeper, cpu, &wait));
+	pthread_mutex_unlock(&interlock);
+	do {
+		rest();
+		pthread_mutex_lock(&interlock);
+		answer = registry_perform_turn(&keeper, cpu, &wait, NULL);
+		pthread_mutex_unlock(&interlock);
+	} while (answer == REGISTRY_WAITING);
+	DONE(answer);
+}
+
+static void *work(void *of)
+{
+	struct worker *worker = of;
+	for (uint64_t round = 0; round < rounds; round++) {
+		unsigned own = below(worker, OWN);
+		walk(&cpus[worker->id]);
+		refer(worker);
+		empty_basket(worker->id);
+		(worker->live[own] ? detach : attach)(worker, own);
+		free_retired(worker);
+		if (below(worker, 16) == 0)
+			perform(&cpus[worker->id]);
+	}
+	return NULL;
+}
+
+/* So many entries are there, and no local reference is held. */
+static void expect_entries(size_t wanted)
+{
+	static struct registry_balance list[SLOTS];
+	size_t length;
+	DONE(registry_audit(&keeper, cpus, CPUS, list, SLOTS, &length));
+	EXPECT(length == wanted);
+	for (size_t i = 0; i < length; i++)
+		EXPECT(list[i].held == 0);
+}
+
+/* Opens the largest registry, and fills it. */
+static void open_registry(void)
+{
+	const struct registry_settings settings = {CPUS, SLOTS, REGISTRY_MOST_CHANGES, REGISTRY_MOST_SECTIONS, 1, REGISTRY_MOST_COUNT};
+	DONE(registry_open(&settings, &keeper, cpus, CPUS));
+	for (unsigned i = 0; i < NAMES; i++) {
+		char text[REGISTRY_NAME_ROOM];
+		snprintf(text, sizeof text, "n%u", i);
+		names[i] = name_of(text);
+	}
+	for (unsigned id = 0; id < CPUS; id++) {
+		workers[id].id = id;
+		workers[id].random = (id + 1) * 0x9e3779b97f4a7c15 | 1;
+		EXPECT(pthread_mutex_init(&baskets[id].lock, NULL) == 0);
+	}
+	for (unsigned place = 0; place < NAMES; place++)
+		attach(&workers[place % CPUS], place / CPUS);
+	expect_entries(SLOTS);
+}
+
+/* Once nobody refers to anything, each entry is taken out and freed in one turn. */
+static void close_registry(void)
+{
+	for (unsigned id = 0; id < CPUS; id++)
+		empty_basket(id);
+	for (unsigned id = 0; id < CPUS; id++) {
+		for (unsigned own = 0; own < OWN; own++)
+			if (workers[id].live[own])
+				detach(&workers[id], own);
+		free_retired(&workers[id]);
+		EXPECT(workers[id].retired_count == 0);
+	}
+	expect_entries(0);
+	DONE(registry_close(cpus, CPUS, &keeper));
+	EXPECT(atomic_load(&objects) == 0);
+}
+
+int main(int argc, char **argv)
+{
+	uint64_t changes = 0, references = 0, without_slot = 0;
+	rounds = argc == 2 ? strtoull(argv[1], NULL, 10) : 0;
+	if (rounds < 1 || rounds > MOST_ROUNDS || rounds > REGISTRY_MOST_CHANGES / CPUS / 2) {
+		fprintf(stderr, "usage: crowd ROUNDS\n");
+		return 2;
+	}
+	open_registry();
+	for (unsigned id = 0; id < CPUS; id++)
+		EXPECT(pthread_create(&workers[id].thread, NULL, work, &workers[id]) == 0);
+	for (unsigned id = 0; id < CPUS; id++)
+		EXPECT(pthread_join(workers[id].thread, NULL) == 0);
+	close_registry();
+	for (unsigned id = 0; id < CPUS; id++) {
+		changes += workers[id].changes;
+		references += workers[id].references;
+		without_slot += workers[id].without_slot;
+	}
+	printf("crowd of %d CPUs, %d slots: changes %" PRIu64 " references %" PRIu64 " without a slot %" PRIu64 "\n", CPUS, SLOTS, changes, references, without_slot);
+	return 0;
+}
