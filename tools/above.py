@@ -14,7 +14,7 @@ def main():
     words = sys.argv[1:]
     if not words or set(words) - set(listed()):
         sys.exit(__doc__)
-    # In crates.txt each crate comes after those that it stands on.
+    # In crates.txt each crate comes after those that it uses.
     for crate in listed():
         if set(words) & set(below(crate)):
             print(crate)

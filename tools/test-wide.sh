@@ -4,7 +4,7 @@
 # line is 'N passed, M failed'.
 #
 #     tools/test-wide.sh               proves and builds the archive first, in a copy of the crates: clients/out/wide/libregistry.a
-#     tools/test-wide.sh --built       takes the archive as it stands there
+#     tools/test-wide.sh --built       takes the archive that is there
 #     tools/test-wide.sh --sections    proves and builds one with 1,000 sections a CPU instead, clients/out/sections-1000/libregistry.a. The two tests run over
 #                                      it that come to the end of a build's sections
 set -uo pipefail

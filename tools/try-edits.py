@@ -39,7 +39,7 @@ FOLDERS = {"prover": "must-fail-by-hand", "tests": "must-fail-tests"}
 OF_PROVER = ("must-fail-gate", FOLDERS["prover"])
 REPORT = ROOT / "docs/edits-tried.txt"
 LINE = re.compile(r"([0-9a-f]{16}) (\S+\.edit): (.+)")
-# Of what one crate's edits are left, `all` asks rt for so many in one call: what is cut off is lost up to there.
+# `all` asks rt for so many edits of a crate in one call. A run that is cut off loses the results of that call.
 IN_ONE_CALL = 12
 
 # What an edit came to, by the words that say it; the first that fits. Only the first kind says that a contract or a test has refused it.

@@ -2,8 +2,8 @@
  * crowd ROUNDS - every CPU of the build at work on a thread of its own, and every slot in use
  *
  * Each CPU has names of its own; all together they are more than twice the slots. First all slots are filled. Then each CPU makes so many rounds on its
- * thread: it walks over all entries, finds one of any CPU and refers to it in both ways, hands the local reference to the next CPU, and detaches or attaches
- * an entry of its own. What a value points to is spoilt and freed as soon as a destroy says that nobody holds the entry. At the end all is given back.
+ * thread. It walks over all entries. It finds one of any CPU, refers to it in both ways, and hands the local reference to the next CPU. It detaches or
+ * attaches an entry of its own. What a value points to is spoilt and freed as soon as a destroy says that nobody holds the entry. At the end all is given back.
  */
 #include <inttypes.h>
 #include <pthread.h>

@@ -111,7 +111,7 @@ def event_table():
     return Case("event-table", tools, real(*TABLED), ["tools/event-table.py", "check"], faults)
 
 
-# One stands on low through another one, and one doesn't stand on it.
+# One uses low through another one, and one doesn't use it.
 STACKED = {
     "crates.txt": "low: std\nmiddle: low std\ntop: middle std\nbeside: std\n",
     "try": """#!/bin/sh

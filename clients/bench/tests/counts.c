@@ -1,5 +1,5 @@
 /*
- * counts - of small programs the number of schedules is the one that combinatorics says, and each question gets every answer that it may have
+ * counts - small programs have as many schedules as combinatorics says, and each question gets every possible answer
  */
 #include <string.h>
 #include <sys/atomic.h>

@@ -71,7 +71,7 @@ static void note_taken(struct thread *me, kmutex_t *mutex)
 	__atomic_store_n(&mutex->mtx_place, me->place, __ATOMIC_RELAXED);
 }
 
-/* The level to which a lock raises the CPU: IPL_NONE if it doesn't spin. */
+/* A lock that spins raises the CPU to this level; IPL_NONE for another one. */
 static int level_of(const kmutex_t *mutex)
 {
 	if (!mutex->mtx_spins)

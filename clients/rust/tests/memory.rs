@@ -104,7 +104,7 @@ fn a_destroyed_value_keeps_no_memory() {
     assert_eq!(left(|| (0..100).for_each(|_| come_and_go())), 0);
 }
 
-/// Of 100,000 references that are dropped at once no room stays but for some, and a row of each slot.
+/// After 100,000 references are dropped at once, room stays for some of them only, and for a row of each slot.
 #[test]
 fn a_basket_gives_its_room_back() {
     let (registry, cpus) = Registry::open(Settings::new(1, 1)).unwrap();
