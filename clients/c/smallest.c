@@ -1,22 +1,25 @@
 /*
- * smallest - a whole program on one page: it opens a registry with one CPU, attaches an entry, looks it up and closes the registry
+ * smallest - a whole program on one page: it opens a registry with two CPUs, attaches an entry, looks it up, takes it away and closes the registry
  */
 #include <inttypes.h>
 #include <stdio.h>
+#include <stdlib.h>
 #include <string.h>
 
 #include "registry.h"
 
-static int failed(const char *call, registry_answer answer)
+static void check(const char *call, registry_answer answer)
 {
+	if (answer == REGISTRY_DONE)
+		return;
 	fprintf(stderr, "%s: %s\n", call, registry_strerror(answer));
-	return 1;
+	exit(1);
 }
 
 int main(void)
 {
 	const struct registry_settings settings = {
-	    .cpus = 1,
+	    .cpus = 2,
 	    .slots = 4,
 	    .change_limit = REGISTRY_MOST_CHANGES,
 	    .section_limit = REGISTRY_MOST_SECTIONS,
@@ -24,25 +27,20 @@ int main(void)
 	    .count_limit = REGISTRY_MOST_COUNT,
 	};
 	struct registry_keeper keeper = {0};
-	struct registry_cpu cpu = {0};
+	struct registry_cpu cpus[2] = {0}; /* one for each thread: [0] looks up, [1] makes changes */
 	struct registry_name name;
 	struct registry_entry found;
 
-	registry_answer answer = registry_open(&settings, &keeper, &cpu, 1);
-	if (answer != REGISTRY_DONE)
-		return failed("registry_open", answer);
-	answer = registry_name_parse("eth0", strlen("eth0"), &name, NULL);
-	if (answer != REGISTRY_DONE)
-		return failed("registry_name_parse", answer);
-	answer = registry_attach(&keeper, &cpu, &name, 1500, NULL);
-	if (answer != REGISTRY_DONE)
-		return failed("registry_attach", answer);
-	answer = registry_look_up(&cpu, REGISTRY_DRIVER, &name, &found);
-	if (answer != REGISTRY_DONE)
-		return failed("registry_look_up", answer);
+	check("open", registry_open(&settings, &keeper, cpus, 2));
+	check("name", registry_name_parse("eth0", strlen("eth0"), &name, NULL));
+	check("attach", registry_attach(&keeper, &cpus[1], &name, 1500, NULL));
+
+	check("look_up", registry_look_up(&cpus[0], REGISTRY_DRIVER, &name, &found));
 	printf("eth0 has value %" PRIu64 "\n", found.value);
-	answer = registry_close(&cpu, 1, &keeper);
-	if (answer != REGISTRY_DONE)
-		return failed("registry_close", answer);
+
+	/* One call does, since nothing holds the entry. Beside other threads, call it again while it returns REGISTRY_STILL_HELD. */
+	check("detach", registry_detach(&keeper, &cpus[1], REGISTRY_DRIVER, &name, &found));
+	check("destroy", registry_destroy(&keeper, &cpus[1], found.number, NULL));
+	check("close", registry_close(cpus, 2, &keeper));
 	return 0;
 }

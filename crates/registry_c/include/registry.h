@@ -71,6 +71,8 @@
  *   It fails with REGISTRY_NOT_HELD only if there is no other.
  * - The handles of one call are of one registry. Nothing at run time distinguishes two registries. With handles of two, a call may write to a
  *   wrong place, or end the process by an illegal instruction with no message.
+ * - Memory that an entry's `value` points to is used only in the section that found the entry, or while a reference to it is held: not after
+ *   registry_look_up.
  * - Pointers are to what they say, and aligned for it. What different parameters point to doesn't overlap: not &entry.name beside &entry.
  * - No call is made from a signal handler, or in the child of a fork with a handle that was opened before the fork. A fork before the opening
  *   is fine.
@@ -289,7 +291,7 @@ REGISTRY_WORDS(struct registry_balance, 4 + REGISTRY_MOST_CPUS);
 REGISTRY_WORDS(struct registry_wait, 2 * REGISTRY_MOST_CPUS + REGISTRY_MOST_SLOTS + 1);
 REGISTRY_WORDS(struct registry_limits, 6);
 
-/* ---- Names and results. Any thread may call these, anywhere. ---- */
+/* ---- Names and results. Any thread may call these, inside a section or outside, with the lock or without. ---- */
 
 /*
  * registry_name_parse - make the name with these bytes
@@ -325,7 +327,7 @@ const char *registry_strerror(registry_answer answer);
  */
 registry_answer registry_name_format(const struct registry_name *name, char *text, size_t room) REGISTRY_CHECKED;
 
-/* ---- The library. Any thread may call these, anywhere. ---- */
+/* ---- The library. Any thread may call these, inside a section or outside, with the lock or without. ---- */
 
 /*
  * registry_version - the version of the library, such as "0.1.0"
