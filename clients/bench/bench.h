@@ -22,7 +22,7 @@ extern "C" {
 #endif
 
 enum {
-	BENCH_THREADS = 16,	/* at most, with the first one and the layer's own */
+	BENCH_THREADS = 16,	/* at most, with the first one, the layer's own and the clock */
 	BENCH_POINTS = 2000,	/* of one run, at most */
 	BENCH_OUTCOMES = 256,
 	BENCH_TEXT = 64,
@@ -60,7 +60,7 @@ struct bench_found {
 /* How bench_explore goes about it. What is 0 has the value that is told here. */
 struct bench_options {
 	const char *name;	/* for its lines; "bench" */
-	void (*finish)(void);	/* runs when all threads have ended; what was initialised must be destroyed after it, locks too */
+	void (*finish)(void);	/* runs when all threads have ended; by its end, what was initialised must be destroyed, locks too */
 	uint64_t schedules;	/* of the search through all: at most so many; 100,000 */
 	uint64_t bounded;	/* then, for each number of preemptions from 0 on: at most so many; 20,000 */
 	unsigned preemptions;	/* up to this number; 2 */
