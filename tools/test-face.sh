@@ -332,6 +332,7 @@ test_rust() {
     counted "Rust: the docs' examples" cargo test --offline --doc
     check "Rust: the examples are built" cargo build --offline --release --examples
     cd ../.. || return
+    check "Rust: smallest" smallest_says "$examples/smallest"
     check "Rust: packet" "$examples/packet"
     check "Rust: compiled for other limits, nothing is opened" refuses_other_limits
     check "Rust: row" row_says "$examples/row"

@@ -42,6 +42,10 @@
 //! | free | [`Retired::destroy`] waits, [`Retired::advance`] doesn't; after [`Registry::retire`] or [`Retired::defer`] later changes do it, or [`Registry::collect`]: [who gets the `T`](#what-is-dropped) |
 //! | wait for readers alone | [`Registry::perform`] |
 //! | see the counts | [`Registry::audit`] |
+//! | share CPUs among more threads | [`CpuPool::lend`] waits for a CPU, [`CpuPool::lend_until`] up to a deadline, [`CpuPool::try_lend`] not at all |
+//!
+//! No call replaces a `T`. Detach the entry and attach another one under the same name, which is free at once, also while readers still hold the old
+//! entry. A lookup between the two finds nothing.
 //!
 //! ```
 //! use registry::{Found, Holder, Kind, Name, Refusal, Registry, Settings};
@@ -105,14 +109,15 @@
 //!
 //! | You forget | What happens |
 //! |---|---|
-//! | a [`Section`] or a [`ReadGuard`] | the section stays open until its CPU is dropped, goes back to its pool, or [leaves](Cpu::leave); then its entries can be freed |
+//! | a [`Section`] or a [`ReadGuard`] | the section stays open until its CPU is dropped, goes back to its pool, or [leaves](Cpu::leave). Until then no entry that is detached is freed, so attaches may fail with `NoSlot`, and changes on this CPU fail with `Inside` |
 //! | a [`PassiveRef`] | its entry is never freed, and its `T` is never dropped. The registry can still close |
 //! | a [`LocalRef`] | its entry is never freed, its `T` is never dropped, and the registry never closes |
 //! | a [`Cpu`] or a [`Registry`] | the registry never closes |
 //! | a [`Lent`] | its CPU is lost to the pool; the rest is as for a [`Cpu`] |
 //! | a [`Retired`] | its entry keeps its slot: neither later changes nor [`Registry::collect`] free it |
 //!
-//! No test forgets a [`PassiveRc`], a [`LocalGuard`] or a [`Mapped`].
+//! A [`PassiveRc`] is as a [`PassiveRef`] and a [`Cpu`], a [`LocalGuard`] as a [`LocalRef`], a [`Mapped`] as the guard that it was made of. No test forgets
+//! these three.
 //!
 //! # What panics
 //!
@@ -135,7 +140,7 @@
 //!
 //! # More than the limits
 //!
-//! No call moves an entry or a reference from one registry to another. When a call returns [`Refusal::HistoryFull`] or [`Refusal::SectionsSpent`],
+//! No call moves an entry or a reference from one registry to another. Before a call returns [`Refusal::HistoryFull`] or [`Refusal::SectionsSpent`],
 //! open a second registry, attach everything there, let lookups go there, and retire what is in the first. A [`Cpu`], a [`LocalRef`] and a
 //! [`Retired`] each keep their registry open, so the old ones stay valid, and the last one that is dropped closes it. If `T` is an
 //! [`Arc`](alloc::sync::Arc), both registries carry the same objects.
@@ -146,7 +151,7 @@
 //! reference, holds it. The proof assumes a caller that keeps the rules of registry.h. A few small calls in C aren't proved; registry.h lists them.
 //! This crate uses four of those: the text of an error, the library's version and limits, and the comparison of the limits.
 //!
-//! This crate isn't proved: it is tested. It uses `unsafe`
+//! This crate isn't proved: it is tested. It uses `unsafe`, in some 90 blocks, most of them in `shared.rs` and `carried.rs`,
 //!
 //! - for the calls, and for the texts that they return;
 //! - for the way from the word that an entry carries to the `T`, and to a part of it;
