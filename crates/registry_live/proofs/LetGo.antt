@@ -3,17 +3,18 @@ use Rattle.std.proofs.Common.{◌≡◌, ℕ, zero, suc, ◌<◌, List, [], ◌�
 use Rattle.std.proofs.Math.Seq.{take-length}
 use Rattle.name_registry.specs.Types.{ReferenceView}
 use Rattle.passive_list.specs.Common.{OnCpu}
-use Rattle.name_registry.specs.Common.{AreAllCpus, IsLetGo}
+use Rattle.name_registry.specs.Common.{AreAllCpus, IsLetGoAndHeard}
 use Rattle.name_registry.proofs.Audits.{cpu_at}
 use Rattle.registry_live.specs.Calls.{LetGo, LetsGo}
 use Rattle.registry_live.specs.Labels.{HoldTheSame, StayInside, inside_of}
 use Rattle.registry_live.proofs.Labelled.{goes_on_same, same_here, same_on, stays_inside}
-use Rattle.registry_live.proofs.LiveCpus.{on_one, uncounted_stays}
+use Rattle.registry_live.proofs.LiveCpus.{let_go_stays, on_one}
 
 -- CPU 0 has released the reference in the place
-pub lets_go : (n : ℕ) (xs : List OnCpu) (x y : OnCpu) (v : ReferenceView) (place : Option ReferenceView) → place ≡ Some v → AreAllCpus n xs → 0 < n → x ≡ get_or xs 0 x → IsLetGo (get_or xs 0 x) v y
-    → LetsGo xs place (set xs 0 y)
-lets_go n xs x y v place here all some is let_go = subst (λ (o : Option ReferenceView). LetsGo xs o (set xs 0 y)) (sym here) (on_one n xs 0 x y (λ (a b : OnCpu). IsLetGo a v b) all some is let_go)
+pub lets_go : (n : ℕ) (xs : List OnCpu) (x y : OnCpu) (v : ReferenceView) (place : Option ReferenceView) → place ≡ Some v → AreAllCpus n xs → 0 < n → x ≡ get_or xs 0 x
+    → IsLetGoAndHeard (get_or xs 0 x) v y → LetsGo xs place (set xs 0 y)
+lets_go n xs x y v place here all some is let_go =
+    subst (λ (o : Option ReferenceView). LetsGo xs o (set xs 0 y)) (sym here) (on_one n xs 0 x y (λ (a b : OnCpu). IsLetGoAndHeard a v b) all some is let_go)
 
 pub none_gone : (xs : List OnCpu) (ps : List (Option ReferenceView)) → LetGo xs (take 0 ps) xs
 none_gone xs ps = refl
@@ -30,9 +31,9 @@ all_gone xs ys ps size first = subst (λ (l : List (Option ReferenceView)). LetG
 
 -- The passive references that CPUs hold stay, and sections stay open.
 
-inside_still : (x y : OnCpu) (v : ReferenceView) → IsLetGo x v y → inside_of y ≡ inside_of x
+inside_still : (x y : OnCpu) (v : ReferenceView) → IsLetGoAndHeard x v y → inside_of y ≡ inside_of x
 inside_still x y v (inl is) = ap inside_of is
-inside_still x y v (inr back) = ap inside_of back.1.cpu
+inside_still x y v (inr heard) = ap inside_of heard.learned.is ∙ ap inside_of heard.came_back.cpu
 
 one_still : (xs ys : List OnCpu) (place : Option ReferenceView) → LetsGo xs place ys → HoldTheSame xs ys × StayInside xs ys
 one_still xs ys None is = subst (λ (l : List OnCpu). HoldTheSame xs l × StayInside xs l) (sym is) (same_here xs, refl)
@@ -41,7 +42,7 @@ one_still xs ys (Some v) one =
     let y = one.1 in
     let here : get_or xs 0 x ≡ x = (cpu_at xs 0 x x one.2).1 in
     subst (λ (l : List OnCpu). HoldTheSame xs l × StayInside xs l) (sym one.4) (
-      goes_on_same xs 0 x y ((uncounted_stays x y v one.3).references ∙ ap (λ (u : OnCpu). u.view.references) (sym here)),
+      goes_on_same xs 0 x y ((let_go_stays x y v one.3).references ∙ ap (λ (u : OnCpu). u.view.references) (sym here)),
       stays_inside xs 0 x y (inside_still x y v one.3 ∙ ap inside_of (sym here)),
     )
 

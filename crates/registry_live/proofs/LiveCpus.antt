@@ -9,7 +9,7 @@ use Rattle.atomic_table.proofs.Lists.{at_index, at_set}
 use Rattle.name_registry.specs.Types.{Entry, Kind, Record, Name, Refusal, CpuView, ReferenceView}
 use Rattle.passive_list.specs.Common.{OnCpu, AnswersEnter, HasEnteredOn}
 use Rattle.passive_ref.specs.Psrefs.{GivesBack, HasOneLess, OnPsref, why_unusable}
-use Rattle.name_registry.specs.Common.{AreAllCpus, IsAttachRefusal, IsDetachRefusedTo, HasLearned, HasSeenAttach, HasSeenDetach, IsLetGo}
+use Rattle.name_registry.specs.Common.{AreAllCpus, IsAttachRefusal, IsDetachRefusedTo, HasLearned, HasSeenAttach, HasSeenDetach, IsLetGoAndHeard}
 use Rattle.name_registry.proofs.Audits.{cpu_at}
 use Rattle.registry_live.specs.Calls.{IsGivenBack, OnOne}
 
@@ -67,9 +67,12 @@ pub entered_stays : (a b : OnCpu) (answer : Result (Unit {0}) Refusal) → Answe
 entered_stays a b (Ok done) entered = once_entered a b entered.answer.1
 entered_stays a b (Err f) entered = same_stays a b entered.refused
 
-pub uncounted_stays : (a b : OnCpu) (v : ReferenceView) → IsLetGo a v b → StaysOn a b
-uncounted_stays a b v (inl is) = record { id = ap (λ (x : OnCpu). x.view.id) is; references = ap (λ (x : OnCpu). x.view.references) is }
-uncounted_stays a b v (inr back) = let is = back.1.cpu in record { id = ap (λ (x : OnCpu). x.view.id) is; references = ap (λ (x : OnCpu). x.view.references) is }
+pub let_go_stays : (a b : OnCpu) (v : ReferenceView) → IsLetGoAndHeard a v b → StaysOn a b
+let_go_stays a b v (inl is) = record { id = ap (λ (x : OnCpu). x.view.id) is; references = ap (λ (x : OnCpu). x.view.references) is }
+let_go_stays a b v (inr heard) =
+    let back = heard.came_back.cpu in
+    let learned = learned_stays heard.between b heard.learned in
+    record { id = learned.id ∙ ap (λ (x : OnCpu). x.view.id) back; references = learned.references ∙ ap (λ (x : OnCpu). x.view.references) back }
 
 pub released_id : {X : Type 0} (a b : OnCpu) (p : OnPsref) (why : Option Refusal) (answer : Result X (Refusal × OnPsref)) → GivesBack why p (λ x. HasOneLess p.number a b) answer
     → IfErr answer (λ e. b ≡ a) → b.view.id ≡ a.view.id

@@ -6,7 +6,7 @@ use Rattle.name_registry.specs.Types.{Refusal, ReferenceView, Settings}
 use Rattle.registry_values.specs.Common.{is_iface}
 use Rattle.passive_list.specs.Common.{OnCpu}
 use Rattle.passive_ref.specs.Psrefs.{HasOneLess, OnPsref, why_unusable}
-use Rattle.name_registry.specs.Common.{DestroysOutside, IsAttachRefusal, is_inside, PerformsOutside, IsLetGo}
+use Rattle.name_registry.specs.Common.{DestroysOutside, IsAttachRefusal, is_inside, PerformsOutside, IsLetGoAndHeard}
 use Rattle.registry_report.specs.Common.{command_answer}
 use Rattle.registry_report.specs.declared.hitch.Hitch.{Hitch}
 use Rattle.registry_report.specs.declared.hitch.Hitch.TheVariants.{NoLabel, LabelTaken, NotInside, Refused}
@@ -53,10 +53,11 @@ IsGivenBack xs ys p = (x : OnCpu) → get_elem? xs p.cpu ≡ some x → why_unus
 abbrev pub OnOne : List OnCpu → ℕ → (OnCpu → OnCpu → Type 0) → List OnCpu → Type 0
 OnOne xs c does ys = (x y : OnCpu) × (get_elem? xs c ≡ some x) × does x y × (ys ≡ slice_set xs c y)
 
--- CPU 0 let go of the local reference in the place, and the other CPUs are as they were; where the place is free, all are
+-- CPU 0 released the local reference in the place by its own count, or knows that the keeper gave it up. The other CPUs are as they were;
+-- where the place is free, all are.
 abbrev pub LetsGo : List OnCpu → Option ReferenceView → List OnCpu → Type 0
 LetsGo xs None ys = ys ≡ xs
-LetsGo xs (Some v) ys = OnOne xs 0 (λ x y. IsLetGo x v y) ys
+LetsGo xs (Some v) ys = OnOne xs 0 (λ x y. IsLetGoAndHeard x v y) ys
 
 -- of the references in these places, one after the other
 abbrev pub LetGo : List OnCpu → List (Option ReferenceView) → List OnCpu → Type 0

@@ -74,11 +74,12 @@ impl<'a, D: Domain, R: Wait> LiveSession<'a, D, R> {
 
     /// Releases all references that labels name:
     ///
-    /// - the local ones first, on CPU 0, whose counts and log show each (`locals`);
+    /// - the local ones first, on CPU 0, label by label (`locals`);
     /// - then the passive ones, each on its own CPU, which then holds what no label named (`released`).
     ///
-    /// Sections stay open. Where CPU 0's count for a local reference was collected, its log shows that the reference came back. No clause
-    /// says that the keeper gave it up then: no contract can name what the lock guards.
+    /// Each local reference ends in one of two ways. CPU 0 releases it by its own count. Or a compare-exchange finds that count collected;
+    /// then CPU 0 knows by the keeper's log that one reference more to the entry was given up, after all that CPU 0 knew before. Sections
+    /// stay open.
     pub fn give_back(self)
         ensures all { AreAllCpus D.settings.cpus self.exit.0.now }
         ensures locals { (between : List OnCpu) × LetGo self.entry.cpus.now self.entry.locals between × AllOnlyRelease between self.exit.0.now }
@@ -107,7 +108,7 @@ fn free_places<X>() -> [Option<X>; 26]
     ]
 }
 
-/// Releases the local references in these places, each on CPU 0.
+/// Releases the local references in these places, each on CPU 0, which knows how each ended.
 fn release_locals<D: Domain, R: Wait>(
     rt: &R,
     registry: &Registry<D>,
@@ -121,7 +122,7 @@ fn release_locals<D: Domain, R: Wait>(
     spend_each!(locals, place => release_local(rt, registry, cpus, place));
 }
 
-/// Releases the local reference in a place, on CPU 0.
+/// Releases the local reference in a place, on CPU 0, which knows how it ended.
 fn release_local<D: Domain, R: Wait>(
     rt: &R,
     registry: &Registry<D>,
@@ -136,7 +137,7 @@ fn release_local<D: Domain, R: Wait>(
         // Reading it opens what its type keeps: it is a reference of this registry, which so has a CPU 0.
         let _slot = reference.plain.slot;
         let cpu = &mut cpus[0];
-        registry.release_local(rt, cpu, reference);
+        registry.release_local_and_hear(rt, cpu, reference);
     }
 }
 
