@@ -1,4 +1,5 @@
 pub mod AllCpus
+pub mod Ended
 pub mod Labelled
 pub mod LetGo
 pub mod LiveCpus

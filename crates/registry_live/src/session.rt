@@ -4,6 +4,7 @@ ghost use Rattle.std.specs.Prelude.{◌≡◌, ◌<◌, ◌∷◌, [], IfSome, L
 ghost use Rattle.passive_list.specs.Common.{OnCpu};
 ghost use Rattle.name_registry.specs.Common.{AreAllCpus};
 ghost use Rattle.registry_live.specs.Calls.{IsGivenBack, LetGo, LetsGo};
+ghost use Rattle.registry_live.specs.Ended.{EndedOnFirst};
 ghost use Rattle.registry_live.specs.Labels.{HaveReleased};
 ghost use Rattle.registry_live.specs.Releases.{AllOnlyRelease};
 
@@ -78,11 +79,12 @@ impl<'a, D: Domain, R: Wait> LiveSession<'a, D, R> {
     /// - then the passive ones, each on its own CPU, which then holds what no label named (`released`).
     ///
     /// Each local reference ends in one of two ways. CPU 0 releases it by its own count. Or a compare-exchange finds that count collected;
-    /// then CPU 0 knows by the keeper's log that one reference more to the entry was given up, after all that CPU 0 knew before. Sections
-    /// stay open.
+    /// then CPU 0 knows by the keeper's log that one reference more to the entry was given up, after all that CPU 0 knew before. `ended`
+    /// counts both by entry, from the call to its return. Sections stay open.
     pub fn give_back(self)
         ensures all { AreAllCpus D.settings.cpus self.exit.0.now }
         ensures locals { (between : List OnCpu) × LetGo self.entry.cpus.now self.entry.locals between × AllOnlyRelease between self.exit.0.now }
+        ensures ended { EndedOnFirst self.entry.cpus.now self.entry.locals self.exit.0.now }
         ensures released { HaveReleased self.entry.cpus.now self.entry.passives self.exit.0.now }
     {
         let LiveSession {

@@ -1,3 +1,4 @@
+use Rattle.registry_live.proofs.Ended.{all_ended}
 use Rattle.registry_live.proofs.LetGo.{still}
 use Rattle.registry_live.proofs.Labelled.{released_later}
 use Rattle.registry_live.proofs.session.LiveSession.give_back.Goals as goal
@@ -9,3 +10,6 @@ returns-clause-released g c =
 
 pub returns-clause-locals : goal.returns-clause-locals
 returns-clause-locals g c = (c.release_locals.new.cpus, c.release_locals.ensures.locals, c.release_passives.ensures.only)
+
+pub returns-clause-ended : goal.returns-clause-ended
+returns-clause-ended g c = all_ended _ _ _ _ c.release_locals.ensures.locals c.release_passives.ensures.only
