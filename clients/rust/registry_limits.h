@@ -26,7 +26,10 @@
 /* Open enters of a CPU, at most. */
 #define REGISTRY_MOST_DEPTH	255
 
-/* The name of a call of the library: with it a program doesn't link or start where these two limits, which sizes of structs follow, are others. */
+/*
+ * The library's function that compares limits has this name; registry.h declares it. The name contains the two limits on which sizes of structs
+ * depend. So a program that was compiled for others doesn't link or start with this library.
+ */
 #define REGISTRY_BUILT_FOR	registry_for_8_cpus_32_slots
 
 /* What the shared libraries of this build have in their names. The default build has nothing. */
