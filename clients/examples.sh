@@ -23,7 +23,7 @@ done
 for name in smallest packet row shared storm walk forwarder device_switch; do
     put "c/$name.c" "$name.c"
 done
-for name in client expect edges workers; do
+for name in client expect edges basket workers; do
     put "c/$name.h" "$name.h"
 done
 for path in netbsd/examples/*.[ch] netbsd/tests/drivers.c netbsd/tests/test.h; do

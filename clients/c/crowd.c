@@ -9,6 +9,7 @@
 #include <pthread.h>
 #include <stdatomic.h>
 
+#include "basket.h"
 #include "client.h"
 
 enum { CPUS = REGISTRY_MOST_CPUS, SLOTS = REGISTRY_MOST_SLOTS, OWN = 2 * SLOTS / CPUS + 1, NAMES = CPUS * OWN, MOST_ROUNDS = 100000 };
@@ -17,13 +18,6 @@ enum { CPUS = REGISTRY_MOST_CPUS, SLOTS = REGISTRY_MOST_SLOTS, OWN = 2 * SLOTS /
 struct object {
 	uint64_t alive;	/* ALIVE until it is freed */
 	unsigned name;	/* the place of its entry's name */
-};
-
-/* A place between two CPUs, for one local reference. */
-struct basket {
-	pthread_mutex_t lock;
-	bool full;
-	struct registry_local reference;
 };
 
 /* A CPU's thread: which of its own names are live, and which of its entries are retired and not yet freed. */
@@ -141,19 +135,6 @@ static void walk(struct registry_cpu *cpu)
 		check_object(&row[i]);
 	}
 	DONE(registry_exit(cpu));
-}
-
-/* Lays a reference into a basket and takes out what lay there. A handle is moved: the place that it left isn't used again. */
-static bool exchange(struct basket *basket, struct registry_local *reference, bool full)
-{
-	pthread_mutex_lock(&basket->lock);
-	struct registry_local before = basket->reference;
-	bool was_full = basket->full;
-	basket->reference = *reference;
-	basket->full = full;
-	*reference = before;
-	pthread_mutex_unlock(&basket->lock);
-	return was_full;
 }
 
 /* Releases a local reference, or gives it up where its count was collected. The object is there until then. */

@@ -10,6 +10,7 @@
 #include <inttypes.h>
 #include <pthread.h>
 
+#include "basket.h"
 #include "client.h"
 
 enum { SLOTS = 4, DRIVER_VALUE = 7 };
@@ -17,13 +18,6 @@ enum { SLOTS = 4, DRIVER_VALUE = 7 };
 /* What is counted. */
 struct counts {
 	uint64_t lookups, references, wrong;
-};
-
-/* A place between two CPUs, for one local reference. */
-struct basket {
-	pthread_mutex_t lock;
-	bool full;
-	struct registry_local reference;
 };
 
 /* A CPU's thread, and what it counts. */
@@ -73,19 +67,6 @@ static void give_back(unsigned cpu, struct registry_local *reference, struct cou
 {
 	counts->references++;
 	release(cpu, reference, counts);
-}
-
-/* Lays a reference into a basket and takes out what lay there. A handle is moved: the place that it left isn't used again. */
-static bool exchange(struct basket *basket, struct registry_local *reference, bool full)
-{
-	pthread_mutex_lock(&basket->lock);
-	struct registry_local before = basket->reference;
-	bool was_full = basket->full;
-	basket->reference = *reference;
-	basket->full = full;
-	*reference = before;
-	pthread_mutex_unlock(&basket->lock);
-	return was_full;
 }
 
 /* A local reference to the driver, for the interface, acquired in a section of its own. */
