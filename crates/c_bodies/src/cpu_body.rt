@@ -1,10 +1,10 @@
 //! The body of a CPU's handle.
 
-ghost use Rattle.std.specs.Prelude.{◌≡◌, ◌≢◌, ◌↔◌, ◌<◌, ◌≤◌, ◌++◌, IsTrue, None, IfOk, IfErr, IfSome, is_some, take};
+ghost use Rattle.std.specs.Prelude.{◌≡◌, ◌≢◌, ◌↔◌, ◌<◌, ◌++◌, IsTrue, None, IfOk, IfErr, IfSome, is_some};
 ghost use Rattle.registry_values.specs.Common.{Answers};
 ghost use Rattle.cpu_words.specs.Common.{AreWordsOf, key_with, references_to};
 ghost use mathlib.Core.List.{IsPrefix};
-ghost use Rattle.passive_list.specs.Common.{HasFound, HasFoundFromOutside, HasHeardOn, WasShown, has_heard, has_told, entry_seen, HasWalked, AnswersEnter, HasExitedOn, may_begin};
+ghost use Rattle.passive_list.specs.Common.{HasFound, HasFoundFromOutside, HasHeardOn, WasShown, has_heard, has_told, entry_seen, AnswersEnter, HasExitedOn, may_begin};
 ghost use Rattle.passive_ref.specs.Psrefs.{GivesBack, HasOneLess, IsAcquired, IsCopied, IsReadAs, why_not_acquired, why_not_copied, why_unusable};
 
 use crate::acquired::LastAcquired;
@@ -13,7 +13,6 @@ use cpu_words::{NoteSeat, Words};
 use held::Spare;
 use passive_list::{
     PlainCpu, Seen, enter_on, exit_on, find_from_outside, find_on, hear_on, may_begin_on, tell_on,
-    walk_on,
 };
 use passive_ref::{Psref, acquire_on, copy_on, held_on, read_entry_on, release_on};
 use registry_values::{Entry, Kind, MOST_SLOTS, Name, Record, Refusal};
@@ -185,17 +184,6 @@ impl CpuBody {
         ensures words { self.new.words ≡ self.old.words }
     {
         find_from_outside(&self.words, &mut self.cpu, kind, name)
-    }
-
-    /// Walks over all entries, and returns how many it wrote.
-    /// Condition: inside.
-    pub fn walk(&mut self, row: &mut [Entry; MOST_SLOTS]) -> usize
-        requires inside { self.old.cpu.view.begin ≢ None }
-        ensures count { result ≤ MOST_SLOTS }
-        ensures walked { HasWalked self.old.cpu self.new.cpu (take result row.new) }
-        ensures words { self.new.words ≡ self.old.words }
-    {
-        walk_on(&self.words, &mut self.cpu, row)
     }
 
     /// Acquires a passive reference to the last found entry.

@@ -7,6 +7,6 @@ pub use Rattle.registry_values.specs.declared.name.NameFault.{NameFault}
 pub use Rattle.registry_values.specs.declared.name.NameFault.TheVariants.{BadByte, Empty, TooLong}
 pub use Rattle.registry_values.specs.declared.refusal.Refusal.{Refusal}
 pub use Rattle.registry_values.specs.declared.settings.Settings.{Settings}
-pub use Rattle.registry_values.specs.declared.limits.TheConstants.{MOST_CPUS, MOST_SLOTS}
+pub use Rattle.registry_values.specs.declared.limits.TheConstants.{MOST_CPUS}
 pub use Rattle.registry_values.specs.declared.stage.Stage.{Stage}
 pub use Rattle.registry_values.specs.declared.stage.Stage.TheVariants.{Freed, Grace, Local, Passive}

@@ -26,28 +26,6 @@ pub fn is_begun(wait: &CWait) -> bool
     wait.begun == BEGUN
 }
 
-/// The numbers of entries, to C: 0 for none.
-pub fn numbers_out(numbers: &[Option<u64>; MOST_SLOTS]) -> [u64; MOST_SLOTS]
-    ensures { result ≡ map number_or_none numbers.now }
-{
-    let mut out = [0; MOST_SLOTS];
-    for t in 0..MOST_SLOTS {
-        out[t] = number_or_none(numbers[t]);
-    }
-    out
-}
-
-/// The numbers of entries, from C.
-pub fn numbers_in(numbers: &[u64; MOST_SLOTS]) -> [Option<u64>; MOST_SLOTS]
-    ensures { result ≡ map none_or_number numbers.now }
-{
-    let mut out = [None; MOST_SLOTS];
-    for t in 0..MOST_SLOTS {
-        out[t] = none_or_number(numbers[t]);
-    }
-    out
-}
-
 /// Who was seen, to C: 1 for each that was.
 pub fn seen_out(seen: &[bool; MOST_CPUS]) -> [u64; MOST_CPUS]
     ensures { result ≡ map flag_of seen.now }
