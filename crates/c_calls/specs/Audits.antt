@@ -1,5 +1,5 @@
 -- What an audit through the handles answers and writes.
-use Rattle.std.specs.Prelude.{◌≡◌, ◌≢◌, ℕ, ◌+◌, ◌<◌, ◌≤◌, pos, All, List, [], ◌++◌, length, map, take, drop, get_or, slice_set, Option, Some, None}
+use Rattle.std.specs.Prelude.{◌≡◌, ◌≢◌, ℕ, ◌+◌, ◌<◌, ◌≤◌, pos, All, List, [], length, map, take, drop, get_or, slice_set, Option, Some, None}
 use Rattle.c_calls.specs.Types.{MissingCpu, Settings, Entry, Slot, Vacant, Live, Retired, Change, LogItem}
 use Rattle.registry_values.specs.Common.{Tally, slot_at, number_of_refusal}
 use Rattle.protocol.specs.Common.{IsIn}

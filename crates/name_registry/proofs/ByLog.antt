@@ -1,8 +1,7 @@
 -- What an audit answers is said by the keeper's log and the CPUs alone.
-use Rattle.std.proofs.Common.{◌≡◌, ◌∙◌, ⊎_elim, inl, inr, ℕ, zero, suc, ◌+◌, ◌*◌, ℤ, pos, ◌+ℤ◌, ◌-ℤ◌, Bool, true, false, ◌&&◌, if◌then◌else◌, List, [], ◌∷◌, ◌++◌, sum_by, Option, Some, refl, sym, ap}
+use Rattle.std.proofs.Common.{◌≡◌, ◌∙◌, inl, inr, ℕ, zero, suc, ◌+◌, ◌*◌, ℤ, pos, ◌-ℤ◌, Bool, true, false, ◌&&◌, if◌then◌else◌, List, [], ◌∷◌, ◌++◌, sum_by, Option, Some, refl, sym, ap}
 use Rattle.std.proofs.Common.{arith}
 use Rattle.std.proofs.lemmas.Int.{ints}
-use lib.ListN.{get_elem?}
 use Rattle.name_registry.specs.Types.{Balance, Entry, Settings, Slot, Vacant, Live, Retired, Rest, LogItem}
 use Rattle.registry_values.specs.Common.{Tally, bias, less_bias, is_retired, slot_at}
 use Rattle.protocol.specs.Common.{IsIn, addition_due_at, is_adding_at, subtraction_due_at, State, count_at, mark_at, total_at}

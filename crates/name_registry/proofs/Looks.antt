@@ -1,5 +1,5 @@
 -- Looks for a retired entry, CPU by CPU, are in the keeper's log.
-use Rattle.std.proofs.Common.{◌≡◌, ◌∙◌, ℕ, zero, suc, ◌+◌, Bool, true, false, refl, ap, subst, arith}
+use Rattle.std.proofs.Common.{◌≡◌, ℕ, zero, suc, ◌+◌, Bool, true, false, refl, ap, subst, arith}
 use Rattle.protocol.specs.Common.{mark_at}
 use Rattle.cpu_words.specs.Common.{has_looked}
 use Rattle.passive_list.specs.Common.{OnKeeper, GoesOnBy}

@@ -1,5 +1,5 @@
 -- A CPU that has a share of a ledger, and the CPU without it: what is told of the one is told of the other.
-use Rattle.std.proofs.Common.{◌≡◌, ℕ, List, Option, Bool, Result, ap}
+use Rattle.std.proofs.Common.{ℕ, List, Option, Bool, Result, ap}
 use Rattle.name_registry.specs.Types.{Change, Entry, Refusal, Settings, Stage, ReferenceView}
 use Rattle.passive_list.specs.Common.{OnCpu, OnKeeper, HasHeardOn}
 use Rattle.name_registry.specs.Common.{HasAttachedFor, HasAttachedIfaceFor, HasAdvancedFor, HasDetachedFor, HasGivenUpFor, Looking, HasBegun, HasGlanced, HasPassedAll, Hold}

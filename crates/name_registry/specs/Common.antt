@@ -21,5 +21,5 @@ pub use Rattle.name_registry.specs.Opening.{AreNewCpus, IsBlankOf}
 pub use Rattle.name_registry.specs.Performing.{Finishes, GlancesBelow, GlancesOnce, HasBegun, HasGlanced, HasPassedAll, HasPassedFor, HasPerformed, HasSeenAllOut, Hold, LastTurn, Looking, LooksOnce}
 pub use Rattle.name_registry.specs.Performing.{PassesBelow, PassesIf, PassesNumber, PerformsOutside, SnapshotsBelow, SomeBegan, SomeGlanced, SomePassed, TurnsWaiting, is_seen, looking, none_seen}
 pub use Rattle.name_registry.specs.Performing.{word_of}
-pub use Rattle.name_registry.specs.Releasing.{HasGivenUpFor, HasHeardGivenUp, IsLetGo, IsLetGoAndHeard, KnowsGivenUp, gives_up}
+pub use Rattle.name_registry.specs.Releasing.{HasGivenUpFor, IsLetGo, IsLetGoAndHeard, KnowsGivenUp, gives_up}
 pub use Rattle.name_registry.specs.Rows.{is_available_row, is_live_row}

@@ -1,5 +1,5 @@
 -- A call that changes the registry: the keeper hears what the caller's CPU has seen, and then the CPU hears the whole history.
-use Rattle.std.specs.Prelude.{◌≡◌, ◌⊎◌, ℕ, ◌<◌, Bool, List, [], ◌∷◌, ◌++◌, length, Some, None, is_some, Option}
+use Rattle.std.specs.Prelude.{◌≡◌, ◌⊎◌, ℕ, ◌<◌, Bool, List, ◌++◌, length, Some, None, is_some, Option}
 use mathlib.Core.List.{IsPrefix}
 use Rattle.name_registry.specs.Types.{Entry, Tell, Done, LogItem, Teller}
 use Rattle.protocol.specs.Common.{IsAttached, EndsAt}

@@ -1,5 +1,5 @@
 -- How a log goes on, and what the keeper's log says of the keeper: of its rows too.
-use Rattle.std.proofs.Common.{◌≡◌, ⊎_elim, ℕ, ◌<◌, ◌≤◌, All, List, [], ◌∷◌, ◌++◌, Some, true, sym, ap, ◌∙◌, subst, append-nil, append_assoc, arith}
+use Rattle.std.proofs.Common.{◌≡◌, ℕ, ◌<◌, All, List, [], ◌∷◌, ◌++◌, Some, true, sym, ap, ◌∙◌, subst, append-nil, append_assoc, arith}
 use Rattle.std.proofs.lemmas.List.{length-map}
 use Rattle.std.proofs.lemmas.List.Elements.{All-append, All-cons}
 use Rattle.passive_list.specs.Types.{Entry, Mark, Settings, Slot, Retired, LogItem, KeeperView}

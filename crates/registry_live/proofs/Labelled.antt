@@ -1,5 +1,5 @@
 -- What becomes of the references that CPUs hold and of those that labels name, call by call.
-use Rattle.std.proofs.Common.{◌≡◌, ◌≢◌, ◌⊎◌, ⊎_elim, ℕ, zero, suc, ◌+◌, ◌-◌, ◌<◌, ◌≤◌, ◌==◌, ◌&&◌, Bool, true, false, cond, List, [], ◌∷◌, length, map, get_or, take, set, replicate, Option, Some}
+use Rattle.std.proofs.Common.{◌≡◌, ◌≢◌, ⊎_elim, ℕ, zero, suc, ◌+◌, ◌-◌, ◌<◌, ◌≤◌, ◌==◌, ◌&&◌, Bool, true, false, cond, List, [], ◌∷◌, length, map, get_or, take, set, replicate, Option, Some}
 use Rattle.std.proofs.Common.{None, refl, sym, ap, ◌∙◌, subst, nat_lt, ℤ, pos, ◌-ℤ◌, arith}
 use mathlib.Core.Path.{subst₂}
 use Rattle.std.proofs.Math.Path.{fun_ext}

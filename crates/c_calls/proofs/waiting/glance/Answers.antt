@@ -1,5 +1,4 @@
 use Rattle.std.proofs.Common.{Bool, List, ℕ, ap, subst}
-use Rattle.c_values.specs.declared.wait.CWait.{CWait}
 use Rattle.name_registry.specs.Common.{HasGlanced}
 use Rattle.c_calls.proofs.waiting.glance.Goals as goal
 

@@ -1,5 +1,5 @@
 -- A CPU's data agree with its view over an acquire, and so do the reference's.
-use Rattle.std.proofs.Common.{◌≡◌, ap, ◌∙◌}
+use Rattle.std.proofs.Common.{ap, ◌∙◌}
 use Rattle.passive_list.specs.Common.{OnPlainCpu}
 use Rattle.cpu_words.proofs.shown.KeepersShown.{step_is_shown, cut_is_shown}
 use Rattle.passive_list.proofs.Agreeing.{own_agrees}
