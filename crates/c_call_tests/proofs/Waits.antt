@@ -73,7 +73,7 @@ begun_call k l x y first wait out begins =
       full = λ a b has is. (l, y, refl, refl, subst (λ (p : OnPlainKeeper × OnPlainCpu). PerformsAt p.0 p.1 l y DONE (Some first) (Some wait)) (λ i. (same_Some k a has i, same_Some x b is i)) at);
     }
 
--- what a turn answers by the CPU that it told
+-- what a turn returns, by the CPU that it tells
 abbrev answer_of : Option ℕ → ℕ
 answer_of None = DONE
 answer_of (Some c) = number_of_refusal (Waiting c)
