@@ -42,6 +42,7 @@
 //! | free | [`Retired::destroy`] waits, [`Retired::advance`] doesn't; after [`Registry::retire`] or [`Retired::defer`] later changes do it, or [`Registry::collect`]: [who gets the `T`](#what-is-dropped) |
 //! | wait for readers alone | [`Registry::perform`] |
 //! | see the counts | [`Registry::audit`] |
+//! | take a CPU that was dropped | [`Registry::any_cpu`], `None` if all are taken |
 //! | share CPUs among more threads | [`CpuPool::lend`] waits for a CPU, [`CpuPool::lend_until`] up to a deadline, [`CpuPool::try_lend`] not at all |
 //!
 //! No call replaces a `T`. Detach the entry and attach another one under the same name, which is free at once, also while readers still hold the old
@@ -84,12 +85,13 @@
 //!
 //! # What is dropped
 //!
-//! Dropping a section exits it, dropping a reference releases it, and dropping a CPU returns it to its registry. An entry's `T` is dropped or returned
-//! once:
+//! Dropping a section exits it, dropping a reference releases it, and dropping a CPU returns it to its registry. `T` is any sized type, and may borrow
+//! what outlives the registry. A `T` is dropped or returned once, on the thread that makes the call of this table. Dropping a section, a guard or a
+//! reference drops no `T`, unless it drops the registry's last handle: a [`Registry`], a [`Cpu`], a [`LocalRef`] or a [`Retired`].
 //!
 //! | You call | Who gets or drops the `T` |
 //! |---|---|
-//! | [`Registry::detach`], then [`Retired::destroy`] | the call waits until nothing holds the entry, and returns the `T` as [`Freed::value`] |
+//! | [`Registry::detach`], then [`Retired::destroy`] | the call waits until nothing holds the entry, and returns the `T` as [`Freed::value`]. If its own CPU holds the entry, it tries once and fails with `StillHeld` |
 //! | [`Registry::detach`], then [`Retired::advance`] | the call tries once: it returns the `T`, or `StillHeld` with your [`Retired`] |
 //! | [`Registry::retire`], or [`Registry::detach`] and you drop the [`Retired`] | once nothing holds the entry, a later attach, detach or retire drops it, or [`Registry::collect`] returns it |
 //! | nothing more, or no detach | dropping the registry's last handle drops it |
@@ -151,7 +153,7 @@
 //! reference, holds it. The proof assumes a caller that keeps the rules of registry.h. A few small calls in C aren't proved; registry.h lists them.
 //! This crate uses four of those: the text of an error, the library's version and limits, and the comparison of the limits.
 //!
-//! This crate isn't proved: it is tested. It uses `unsafe`, in some 90 blocks, most of them in `shared.rs` and `carried.rs`,
+//! This crate isn't proved: it is tested. It uses `unsafe`, in some 90 blocks, 37 of them in `shared.rs` and `carried.rs`,
 //!
 //! - for the calls, and for the texts that they return;
 //! - for the way from the word that an entry carries to the `T`, and to a part of it;
