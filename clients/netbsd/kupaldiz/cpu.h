@@ -1,11 +1,12 @@
 /*
  * cpu.h - threads, and the CPUs that they run on
  *
- * A CPU is virtual, one of KUPALDIZ_CPUS. Any number of threads use them. A thread has its CPU during a call, in a read section, with a spin lock, at a
- * raised level, and with preemption disabled; the other threads of that CPU wait meanwhile. Outside of these all threads run at once.
+ * A CPU is virtual, one of KUPALDIZ_CPUS. Any number of threads use them. A thread has its CPU in a read section, with a spin lock, at a raised level,
+ * with preemption disabled, and for a moment in each call of psref(9) and localcount(9). Another thread that needs that CPU for one of these waits
+ * meanwhile. All else runs at once.
  *
  * A thread that isn't bound gets a CPU that is free whenever it needs one, and may get another the next time. One that is bound keeps its CPU.
- * Whoever holds a passive reference is bound.
+ * Whoever acquires a passive reference is bound, is a soft interrupt, or has preemption disabled.
  */
 #ifndef KUPALDIZ_NETBSD_CPU_H
 #define KUPALDIZ_NETBSD_CPU_H

@@ -1,7 +1,7 @@
 /*
  * locks.h - mutex(9), condvar(9) and rwlock(9), for threads of user space
  *
- * What differs from the pages: a spin lock, of type MUTEX_SPIN or of a level from IPL_VM on, doesn't spin. Its holder keeps its CPU: neither another
+ * What differs from the pages: who waits for a spin lock, of type MUTEX_SPIN or of a level from IPL_VM on, sleeps. Its holder keeps its CPU: neither another
  * thread of that CPU nor a soft interrupt of the lock's level runs meanwhile.
  * A wait for a lock, for a CPU or for a condition variable isn't a cancellation point.
  */
@@ -41,7 +41,7 @@ void mutex_destroy(kmutex_t *mutex);
 /*
  * mutex_enter - take a lock, and wait for it
  *
- * Stops where this thread has it; and, of a lock that doesn't spin, inside a read section, with a spin lock or with preemption disabled, and in
+ * Stops where this thread has it; and, of an adaptive lock, inside a read section, with a spin lock or with preemption disabled, and in
  * a soft interrupt where the lock's level is IPL_NONE.
  */
 void mutex_enter(kmutex_t *mutex);

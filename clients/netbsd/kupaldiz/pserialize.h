@@ -49,7 +49,8 @@ void pserialize_read_exit(int s);
 /*
  * pserialize_perform - wait for every read section that is open on any CPU as the call begins, with any `psz`
  *
- * It may sleep. A mutex that doesn't spin may be held. It need not wait for sections that begin later, and doesn't wait for passive references, local references or callouts.
+ * It may sleep. An adaptive mutex may be held. It need not wait for sections that begin later, and doesn't wait for passive references, local references
+ * or callouts.
  * Stops where the thread mustn't sleep: inside a read section, in a soft interrupt, with a spin lock, at a raised level, and with preemption
  * disabled.
  */

@@ -11,6 +11,8 @@
  *   in a table of its CPU, where psref_release and psref_copy look it up. In the kernel a reference lies in a list of its CPU, and nothing is looked up.
  * - psref_target_destroy looks at the words of all CPUs, as pserialize_perform does; no CPU runs anything for it. After five seconds it says on standard
  *   error which CPU and thread hold a reference, and where one was acquired.
+ * - psref_target_destroy waits for read sections, too: the ones that are open at the call, and the ones that are open as the last reference is released.
+ *   So a pserialize_perform that was forgotten may do no harm here, and harm in the kernel.
  * - Each CPU has at most 2^40 references to a target at a time.
  *
  * What the page forbids and a call sees ends the process by abort(3), after one line on standard error that begins with the call's name.
@@ -54,7 +56,8 @@ void psref_target_init(struct psref_target *target, struct psref_class *psref_cl
 /*
  * psref_target_destroy - wait until no reference to the target is held, on any CPU
  *
- * It may sleep. The sections that were open as the last reference was released have ended, too. The target may then be freed or initialised again.
+ * It may sleep. An adaptive mutex may be held, unless a holder of a reference takes it before its release. The target may then be freed or
+ * initialised again.
  * Stops where the thread mustn't sleep; where the target isn't live, is of another class, or is being destroyed already; and where this thread
  * has a reference to it, which nobody else could release.
  */
@@ -64,7 +67,8 @@ void psref_target_destroy(struct psref_target *target, struct psref_class *psref
  * psref_acquire - acquire a passive reference to the target
  *
  * The caller is inside a read section in which it found the target, or keeps the target by a lock or a reference of its own.
- * Stops where this thread isn't bound; where the target isn't live, is being destroyed, or is of another class; and where `psref` is held.
+ * Stops where this thread is neither bound nor a soft interrupt and has preemption enabled; where the target isn't live, is being destroyed, or is of
+ * another class; and where `psref` is held.
  */
 void psref_acquire(struct psref *psref, const struct psref_target *target, struct psref_class *psref_class);
 
@@ -83,7 +87,7 @@ void psref_release(struct psref *psref, const struct psref_target *target, struc
  */
 void psref_copy(struct psref *to, const struct psref *from, struct psref_class *psref_class);
 
-/* psref_held - whether this CPU has a reference to the target, for assertions. Stops where this thread isn't bound. */
+/* psref_held - whether this CPU has a reference to the target, for assertions. Stops where psref_acquire does for its thread. */
 bool psref_held(const struct psref_target *target, struct psref_class *psref_class);
 
 #ifndef KUPALDIZ_WITHOUT_PLACES
