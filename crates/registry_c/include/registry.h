@@ -71,8 +71,8 @@
  *   It fails with REGISTRY_NOT_HELD only if there is no other.
  * - The handles of one call are of one registry. Nothing at run time distinguishes two registries. With handles of two, a call may write to a
  *   wrong place, or end the process by an illegal instruction with no message.
- * - Memory that an entry's `value` points to is used only in the section that found the entry, or while a reference to it is held: not after
- *   registry_look_up.
+ * - Memory that an entry's `value` points to is used only in the section that found the entry, or while a reference to it is held: not after a
+ *   registry_look_up outside a section.
  * - Pointers are to what they say, and aligned for it. What different parameters point to doesn't overlap: not &entry.name beside &entry.
  * - No call is made from a signal handler, or in the child of a fork with a handle that was opened before the fork. A fork before the opening
  *   is fine.
@@ -395,7 +395,8 @@ registry_answer registry_close_keeper(struct registry_keeper *keeper) REGISTRY_N
 /*
  * registry_close - close `count` CPUs and the keeper, all or none
  *
- * No other thread uses the registry. The call skips handles that are empty already. It may therefore follow an opening that failed, and may be made
+ * No other thread uses the registry. CPUs that were moved out of the array are moved back first, or closed by registry_close_cpu.
+ * The call skips handles that are empty already. It may therefore follow an opening that failed, and may be made
  * twice. Passive references of a CPU stay held, as with registry_close_cpu. Entries needn't be detached before.
  * The call doesn't touch the memory that an entry's `value` points to. Once it has returned REGISTRY_DONE, the caller may free that memory, unless a
  * thread still uses it, such as by a local reference. It is C over these calls: tested, not proved.
@@ -541,8 +542,8 @@ registry_answer registry_release(struct registry_cpu *cpu, uint64_t number) REGI
  *
  * The result is what the registry had at one moment during the call, as with registry_find: it finds an entry whose attach returned before the call
  * began, unless that entry is detached before the call returns. It doesn't find an entry whose detach returned before the call began.
- * Nothing holds the entry afterwards. `found` is a copy. When the call returns, the entry may be freed, and so may the memory that its `value` points
- * to. A caller that uses that memory calls registry_get, or enters a section and finds the entry in it.
+ * Outside any section nothing holds the entry afterwards. `found` is a copy. When the call returns, the entry may be freed, and so may the memory that
+ * its `value` points to. A caller that uses that memory calls registry_get, or enters a section and finds the entry in it.
  * Inside an open section the call is nested in it, as an enter and an exit are. The entry then keeps its slot until that section ends, and is the CPU's
  * last found entry.
  * `found` may be NULL: the result says whether there is such an entry.
