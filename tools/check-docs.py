@@ -31,7 +31,7 @@ FOREIGN = {
     "crossbeam": "Collector register",
     "Debian": "libck",
     "Rust": "HashMap RwLock",
-    "x86-64": "xadd",
+    "x86-64": "cmpxchg xadd",
     "rt": "RT_JOBS axioms logbook logic plant trusted unsupported dac8208d650f15bf",
 }
 FOREIGN_WORDS = {word for words in FOREIGN.values() for word in words.split()}
