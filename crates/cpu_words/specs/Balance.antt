@@ -62,7 +62,7 @@ pub record IsBalanced (cpus : ℕ) (words : List ℕ) (views : List View) (k : K
   pub hands : (c : ℕ) → c < k.seated → HasOneSeat views c
   pub seated : (j : ℕ) (x : CpuView) → get_elem? views j ≡ some (Cpu x) → x.id < k.seated
 
--- so it is of each live or retired entry, between any two steps
+-- so it is of each live or retired entry of any table under the rule
 abbrev pub SeatsBalance : Type 0
 SeatsBalance = (z : Settings) (s : Table ℕ View) (i t : ℕ) (k : KeeperView) (e : Entry) → Ruled z s → get_elem? s.views i ≡ some (Keeper k) → IsIn e (slot_at k.slots t)
     → IsBalanced z.cpus s.words s.views k t e.number

@@ -1,4 +1,4 @@
--- The laws of the protocol on the words: after any steps of threads, a list of events leads to a state that the words and all views show,
+-- The laws of the protocol on the words: of any table under the rule, a list of events leads to a state that the words and all views show,
 -- and that state obeys all laws. So what a seat holds has its slot, and marks are honest.
 use Rattle.std.specs.Prelude.{◌≡◌, ◌⊎◌, ℕ, ◌<◌, List, length, Some, true, slice_index}
 use mathlib.Core.Option.{some}
@@ -57,7 +57,7 @@ pub record RunsAsLogged (z : Settings) (s : Table ℕ Logged) : Type 0 where
   -- what a CPU knows of the keeper's log is all that the keeper had done as that CPU heard last, or more
   pub heard : (i : ℕ) (l : Logged) → get_elem? s.views i ≡ some l → IsStanding l.view → HasHeardAll i l acts
 
--- so it is between any two steps
+-- so it is of any table under the rule
 abbrev pub RunningHeadline : Type 0
 RunningHeadline = (z : Settings) (s : Table ℕ Logged) → LoggedRuled z s → RunsAsLogged z s
 

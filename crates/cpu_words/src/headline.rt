@@ -9,7 +9,7 @@ ghost use Rattle.cpu_words.specs.Kept.{AttachedKeeps};
 ghost use Rattle.cpu_words.specs.Ordered.{OrderedInTime};
 ghost use Rattle.cpu_words.specs.Balance.{SeatsBalance};
 
-/// Theorem, no effect at run time: in every reachable state of the table, between any two steps of any threads:
+/// Theorem, no effect at run time: in every state of the table that is under the rule (`LoggedRuled`):
 ///
 /// - `run`: some list of events leads to a state that the words and all views show. It obeys all laws of the protocol.
 /// - `held`: an entry that a section, a reference or a slot holds has its slot.
@@ -47,7 +47,7 @@ pub fn running_headline()
     ensures balance { SeatsBalance }
 {}
 
-/// Theorem, no effect at run time: what the keeper's marks say of all seats, between any two steps of any threads.
+/// Theorem, no effect at run time: what the keeper's marks say of all seats, in every state of the table that is under the rule.
 ///
 /// - `drained`: if all marks of a retired slot are set and its total is its bias, nothing holds its entry: no section, passive reference,
 ///   hand, local reference or slot.

@@ -1,5 +1,5 @@
-//! The words of a registry as a table of atomic words, under one rule. Between any two steps the words and the views of all seats show a
-//! state of the core. A list of events leads to it, and each seat's log is its part of that list.
+//! The words of a registry as a table of atomic words, under one rule. Each step keeps the rule. Under it, the words and the views of all
+//! seats show a state of the core. A list of events leads to it, and each seat's log is its part of that list.
 //!
 //! `Words::new` makes the words and the seats: the keeper's, and one for each CPU. The owner of a seat makes its steps (`steps`). Each is
 //! an event of the protocol, and at most one atomic operation. Seats move between threads; no step waits.
