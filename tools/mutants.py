@@ -76,7 +76,8 @@ PARTS = {
 OBJECT = "mutant.o"
 # The programs of the bench that see the layer, with their words.
 BENCH = {"counts": [], "drivers": [], "finds": [], "refusals": [], "shortest": [], "named": [], "outcomes": ["1", "40"]}
-# A library: the files that are changed, its tests for one of them, and for C the command that compiles one file, with the object that it makes.
+# A library: the files that are changed, its tests for one of them, and for C what compiles a file: the command and the object that it makes, for how the
+# names of the tests begin that run that code. Tests of another beginning are run where the code of the first differs.
 Library = collections.namedtuple("Library", "files tests compiled")
 
 
@@ -172,13 +173,14 @@ def of_crate(file):
 
 def compile_c(file):
     words = ["gcc", *C_FLAGS.partition("=")[2].split(), "-O2", "-g0", "-Iclients/c", "-Icrates/registry_c/include", "-c", file, "-o", OBJECT]
-    return words, OBJECT
+    return {"": (words, OBJECT)}
 
 
 def compile_layer(file):
-    """The object is one that the tests are made of."""
-    made = f"out/netbsd/plain/{pathlib.Path(file).stem}.o"
-    return [*MAKES_LAYER, f"../{made}"], f"clients/{made}"
+    """The objects are some that the tests are made of. The sanitizer of races is told more than the others."""
+    made = {way: f"out/netbsd/{way}/{pathlib.Path(file).stem}.o" for way in ("plain", "raced")}
+    return {"": ([*MAKES_LAYER, f"../{made['plain']}"], f"clients/{made['plain']}"),
+            "raced/": ([*MAKES_LAYER, "raced_FLAGS=-O1 -g0 -fsanitize=thread", f"../{made['raced']}"], f"clients/{made['raced']}")}
 
 
 LIBRARIES = (
@@ -277,12 +279,24 @@ class Lane:
         if self.as_it_stands(test):
             shutil.copy2(self.folder / test.run[0], self.as_it_stands(test))
 
-    def object(self, library, file):
-        """What the compiler makes of the file as it is here; None where it makes nothing."""
-        words, made = library.compiled(file)
+    def object(self, words, made):
+        """What the compiler makes of a file as it is here; None where it makes nothing."""
         path = self.folder / made
         path.unlink(missing_ok=True)
         return path.read_bytes() if run(words, self.folder, LONGEST)[0] == 0 and path.is_file() else None
+
+    def compile(self, library, file):
+        """Compiles a file as it stands, once, to compare with."""
+        if library.compiled and file not in self.objects:
+            self.objects[file] = {begin: self.object(*it) for begin, it in library.compiled(file).items()}
+
+    def differs(self, library, file):
+        """How the names of the tests begin that run other code than on the tree as it stands; None where there are none. Whether it compiles."""
+        for begin, it in library.compiled(file).items() if library.compiled else ():
+            made = self.object(*it)
+            if made is None or made != self.objects[file][begin]:
+                return begin, made is not None
+        return (None if library.compiled else ""), True
 
     def passes(self, test):
         """Whether a test passes here; None where it hangs."""
@@ -306,11 +320,10 @@ class Lane:
 
     def judge(self, library, mutant):
         """What came of the wrong body that is here, and by which test."""
-        if library.compiled:
-            made = self.object(library, mutant.file)
-            if made is None or made == self.objects[mutant.file]:
-                return "not built" if made is None else "same code", ""
-        for test in self.tests.ordered(library, mutant.file):
+        begin, compiles = self.differs(library, mutant.file)
+        if begin is None or not compiles:
+            return "same code" if compiles else "not built", ""
+        for test in (it for it in self.tests.ordered(library, mutant.file) if it.name.startswith(begin)):
             outcome = self.try_test(test)
             self.tests.note(mutant.file, test, outcome != "")
             if outcome:
@@ -326,8 +339,7 @@ class Lane:
         """What came of a wrong body, and by which test. The file and what was built of it are put back."""
         path = self.folder / mutant.file
         before, stat = path.read_text(), path.stat()
-        if library.compiled and mutant.file not in self.objects:
-            self.objects[mutant.file] = self.object(library, mutant.file)
+        self.compile(library, mutant.file)
         built = self.built(mutant.file)
         try:
             path.write_text(mutant.text)
