@@ -1,7 +1,7 @@
 #!/usr/bin/env python3
 """Makes small wrong bodies of the code that nothing proves, and says which of them every test lets through.
 
-    tools/mutants.py [--only FILE[:LINE]].. [--sample N] [--seed N] [--jobs N] [--least N] [--to FILE] [--record FILE] [--again] [--list]
+    tools/mutants.py [--only FILE[:LINE]].. [--sample N] [--seed N] [--jobs N] [--least N] [--to FILE] [--record FILE] [--again] [--tests WORD].. [--list]
 
 The code is clients/c/waiting.c, what is C of the archive, clients/netbsd/src/*.c and clients/rust/src/*.rs. tools/mutations.py has the rules. Each
 wrong body is built in a copy of the tree, and the tests that could see it run until one fails: those of the file's own library. A test comes early
@@ -16,8 +16,10 @@ if it saw many other wrong bodies of the file, and takes little time. A body tha
 each file. `--jobs` tries so many at a time (2). `--list` only says what they are, and what came of each.
 
 The results go to --to (tools/out/mutants.txt), however the run ends, with the sum of what was tried. --record (clients/MUTANTS.txt) keeps what came
-of each wrong body, and the next run passes over it. `--again` tries survivors another time. clients/MUTANTS.md lists the survivors that are known, with
-the reason why each harms nobody. Where there is another one the status is 1.
+of each wrong body, and the next run passes over it. `--again` tries survivors another time. With `--tests` only tests run whose names begin with one
+of these words. What survives those is left for a run of all tests.
+
+clients/MUTANTS.md lists the survivors that are known, with the reason why each harms nobody. Where there is another one the status is 1.
 """
 import argparse
 import collections
@@ -49,15 +51,15 @@ RECORD = ROOT / "clients/MUTANTS.txt"
 C_FLAGS = "STRICT=-std=c11 -D_POSIX_C_SOURCE=200809L -w"
 # Without what a debugger needs the same code is the same object, wherever its lines are.
 BARE = "CFLAGS=-O2 -g0"
-OUTCOMES = ("killed", "hung", "same code", "not built", "survived", "busy")
+OUTCOMES = ("killed", "hung", "same code", "not built", "survived", "left", "busy")
 # So much of a line is shown.
 MOST_SHOWN = 120
 # What a program may write and take at most. Those with sanitizers reserve more memory than there is.
 MOST_BYTES = 1 << 32
 # A build takes at most so many seconds, as a test on the tree as it stands. On a wrong body a test may take --least and so many times what it took there.
 LONGEST, TIMES = 1200, 8
-# So many seconds after it looked a run is looked at again.
-LOOKS = 0.5
+# So many seconds after it was looked at a run is looked at again.
+LOOKS = 2
 # What it takes to build a test anew, in seconds: without sanitizers and with them.
 BUILDS, BUILDS_SANITIZED = 0.3, 1.2
 
@@ -67,6 +69,9 @@ Mutant = collections.namedtuple("Mutant", "file line rule old new text")
 Test = collections.namedtuple("Test", "name build run memory", defaults=(MOST_BYTES,))
 # The ways in which the layer's Makefile builds its programs, and whether without sanitizers.
 WAYS = {"plain": True, "small": False, "busy": True, "late": False, "sanitized": False, "raced": False}
+# What runs under valgrind, as tools/test-netbsd.sh runs it.
+WATCHED = {"destroyed": [], "drained": [], "model": ["1", "300"]}
+VALGRIND = "valgrind -q --fair-sched=try --error-exitcode=99 --leak-check=full --show-leak-kinds=definite --errors-for-leak-kinds=definite".split()
 # What is C of the archive, and the programs that see each part, with their words.
 PARTS = {
     "heap": {"allocs": [], "refuse": [], "blocks": [], "misuse": []},
@@ -111,7 +116,9 @@ def run(words, folder, seconds, memory=None):
         process = subprocess.Popen([*limits, *words], cwd=folder, env=environment, stdin=subprocess.DEVNULL, stdout=said, stderr=said, start_new_session=True)
         running.add(process.pid)
         status = wait(process, seconds)
-        for pid in of_session(process.pid):
+        with contextlib.suppress(ProcessLookupError):
+            os.killpg(process.pid, signal.SIGKILL)
+        for pid in of_session(process.pid) if status is None else ():
             with contextlib.suppress(ProcessLookupError):
                 os.kill(pid, signal.SIGKILL)
         process.wait()
@@ -158,7 +165,8 @@ def of_layer(file):
     for way, is_bare in WAYS.items():
         names, folder, memory = programs(way), f"out/netbsd/{way}", MOST_BYTES if is_bare else None
         found += [Test(f"{way}/{it}", [*MAKES_LAYER, f"../{folder}/{it}"], [f"clients/{folder}/{it}"], memory) for it in names]
-    return found
+    return found + [Test(f"watched/{it}", [*MAKES_LAYER, f"../out/netbsd/plain/{it}"], [*VALGRIND, f"clients/out/netbsd/plain/{it}", *words], None)
+                    for it, words in WATCHED.items()]
 
 
 def of_crate(file):
@@ -227,8 +235,8 @@ def known():
 class Tests:
     """The tests that are needed: how long each may run, what it costs, and how often it saw a wrong body of a file."""
 
-    def __init__(self, least, record):
-        self.least = least
+    def __init__(self, least, record, words):
+        self.least, self.words = least, tuple(words) or ("",)
         self.limits, self.costs = {}, {}
         self.seen, self.tried = collections.Counter(), collections.Counter()
         for file, part in record.parts.items():
@@ -248,8 +256,11 @@ class Tests:
         seen = self.seen[file, test.name] + (3 if test.name.endswith(pathlib.Path(file).stem) else 0.2)
         return seen / (self.tried[file, test.name] + 1) / self.costs[test.name]
 
+    def of(self, library, file):
+        return [it for it in library.tests(file) if it.name.startswith(self.words)]
+
     def ordered(self, library, file):
-        return sorted(library.tests(file), key=lambda it: -self.worth(file, it))
+        return sorted(self.of(library, file), key=lambda it: -self.worth(file, it))
 
 
 class Lane:
@@ -265,8 +276,8 @@ class Lane:
 
     def as_it_stands(self, test):
         """Where the program of a test is kept as it is without a wrong body, if it is a program of its own."""
-        program = pathlib.Path(test.run[0])
-        return self.folder / program.with_name(f"{program.name}.stands") if program.parent.name else None
+        program = next((pathlib.Path(it) for it in test.run if it.startswith("clients/")), None)
+        return self.folder / program.with_name(f"{program.name}.stands") if program and program.is_relative_to("clients/out") else None
 
     def measure(self, test):
         """Runs a test on the tree as it stands, where it has to pass, within the same bounds."""
@@ -277,7 +288,7 @@ class Lane:
                 sys.exit(f"mutants: {test.name} fails on the tree as it stands: {' '.join(words)}: {said.strip()[-300:]}")
         self.tests.note_time(test, time.monotonic() - began)
         if self.as_it_stands(test):
-            shutil.copy2(self.folder / test.run[0], self.as_it_stands(test))
+            shutil.copy2(self.as_it_stands(test).with_suffix(""), self.as_it_stands(test))
 
     def object(self, words, made):
         """What the compiler makes of a file as it is here; None where it makes nothing."""
@@ -305,8 +316,9 @@ class Lane:
 
     def judge_hang(self, test):
         """What it means that a test took too long: nothing, where the one as it stands takes too long now, too."""
-        program = self.as_it_stands(test)
-        return "hung" if program is None or self.passes(test._replace(run=[str(program), *test.run[1:]])) else "busy"
+        stands = self.as_it_stands(test)
+        program = stands and str(stands.with_suffix("").relative_to(self.folder))
+        return "hung" if program is None or self.passes(test._replace(run=[str(stands) if it == program else it for it in test.run])) else "busy"
 
     def try_test(self, test):
         """What a test says of the tree as it is here: nothing where it passes."""
@@ -328,7 +340,7 @@ class Lane:
             self.tests.note(mutant.file, test, outcome != "")
             if outcome:
                 return outcome, test.name
-        return "survived", ""
+        return "survived" if self.tests.words == ("",) else "left", ""
 
     def built(self, file):
         """What is built of a file alone, with what it holds."""
@@ -354,8 +366,8 @@ class Lane:
 class Tried:
     """The wrong bodies, and what came of them so far."""
 
-    def __init__(self, bodies, words, record):
-        self.bodies, self.words, self.record = bodies, words, record
+    def __init__(self, bodies, words, record, tests):
+        self.bodies, self.words, self.record, self.tests = bodies, words, record, tests
         self.came = {}
         self.by = collections.Counter()
         self.lock = threading.Lock()
@@ -400,19 +412,19 @@ def sum_of_tree():
     return found.hexdigest()
 
 
-def lanes_for(tried, jobs, least, room):
+def lanes_for(tried, jobs, room):
     """Copies of the tree, once each test that is needed has passed in the first of them."""
-    tests, of_file = Tests(least, tried.record), files()
+    tests, of_file = tried.tests, files()
     first = Lane(room / "lane0", tests)
-    for test in {test.name: test for file in {it.file for it in tried.bodies} for test in of_file[file].tests(file)}.values():
+    for test in {test.name: test for file in {it.file for it in tried.bodies} for test in tests.of(of_file[file], file)}.values():
         first.measure(test)
     return [first, *(Lane(room / f"lane{number}", tests, first) for number in range(1, min(jobs, len(tried.bodies))))]
 
 
-def try_all(tried, jobs, least, room):
+def try_all(tried, jobs, room):
     """Tries each wrong body in a lane that no other one has just now."""
     free, of_file = queue.SimpleQueue(), files()
-    for lane in lanes_for(tried, jobs, least, room):
+    for lane in lanes_for(tried, jobs, room):
         free.put(lane)
 
     def one(mutant):
@@ -454,6 +466,7 @@ def arguments():
     parser.add_argument("--to", type=pathlib.Path, default=ROOT / "tools/out/mutants.txt")
     parser.add_argument("--record", type=pathlib.Path, default=RECORD)
     parser.add_argument("--again", action="store_true")
+    parser.add_argument("--tests", action="append", default=[])
     parser.add_argument("--list", action="store_true")
     given = parser.parse_args()
     for word in given.only:
@@ -503,13 +516,14 @@ def main():
     if given.list:
         print("".join(f"{it.file}:{it.line}: {it.rule}: {it.old} -> {it.new}: {came_before(record, it) or 'not tried'}\n" for it in bodies), end="")
         return 0
-    left = [it for it in bodies if (came := came_before(record, it)) is None or came == "survived" and given.again]
-    tried = Tried(left, sys.argv[1:], record)
+    again = {None, *(["survived"] if given.again else []), *([] if given.tests and not given.again else ["left"])}
+    left = [it for it in bodies if came_before(record, it) in again]
+    tried = Tried(left, sys.argv[1:], record, Tests(given.least, record, given.tests))
     guard()
     try:
         if left:
             with tempfile.TemporaryDirectory() as room:
-                try_all(tried, given.jobs, given.least, pathlib.Path(room))
+                try_all(tried, given.jobs, pathlib.Path(room))
     finally:
         tried.report(given.to)
     new = sum(came_before(record, it) == "survived" and key(it) not in tried.known for it in bodies)

@@ -1,8 +1,9 @@
 /*
  * drained - how a drain ends: woken by the last release, and not before that has let go of the lock, which is freed with the object at once
  *
- * Over a layer whose drains look again only after ten seconds, a drain that nobody wakes is too late. The linker leads pthread_mutex_lock here (--wrap): some
- * releases lose their processor before each lock of the layer's that they take, so that whatever they touch too late is gone by then.
+ * Over a layer whose drains look again only after ten seconds, a drain that nobody wakes is too late. The linker leads pthread_mutex_lock and
+ * pthread_mutex_unlock here (--wrap): some releases lose their processor before each lock of the layer's that they take, and after each that they give back.
+ * What they touch too late is gone by then.
  */
 #include <sys/condvar.h>
 #include <sys/localcount.h>
@@ -14,6 +15,9 @@
 int __real_pthread_mutex_lock(pthread_mutex_t *mutex);
 int __wrap_pthread_mutex_lock(pthread_mutex_t *mutex);
 
+int __real_pthread_mutex_unlock(pthread_mutex_t *mutex);
+int __wrap_pthread_mutex_unlock(pthread_mutex_t *mutex);
+
 enum { ROUNDS = 300, HOLDERS = 3 };
 
 static _Thread_local bool is_slow;
@@ -23,6 +27,14 @@ int __wrap_pthread_mutex_lock(pthread_mutex_t *mutex)
 	if (is_slow)
 		sleep_for(3000);
 	return __real_pthread_mutex_lock(mutex);
+}
+
+int __wrap_pthread_mutex_unlock(pthread_mutex_t *mutex)
+{
+	int answer = __real_pthread_mutex_unlock(mutex);
+	if (is_slow)
+		sleep_for(3000);
+	return answer;
 }
 
 /* The lock and the condition variable lie in the object, and go with it. */

@@ -90,6 +90,14 @@ static void bind_beyond(void)
 	kupaldiz_bind(KUPALDIZ_CPUS);
 }
 
+/* Inside a section the thread has a CPU, if it isn't bound, too. */
+static void bind_inside(void)
+{
+	kupaldiz_unbind();
+	pserialize_read_enter();
+	kupaldiz_bind(1);
+}
+
 static void unbind_inside(void)
 {
 	pserialize_read_enter();
@@ -655,6 +663,7 @@ static const struct stop_case cases[] = {
     {bindx_unbound, "curlwp_bindx: the thread is not bound to a CPU, at PLACE"},
     {bind_twice, "kupaldiz_bind: the thread is bound to CPU 0, at PLACE"},
     {bind_beyond, beyond},
+    {bind_inside, "kupaldiz_bind: inside a read section, entered at PLACE, at PLACE"},
     {unbind_inside, "kupaldiz_unbind: inside a read section, entered at PLACE, at PLACE"},
     {unbind_holding, "kupaldiz_unbind: the thread has passive references, at PLACE"},
     {bindx_holding, "curlwp_bindx: the thread has passive references, at PLACE"},

@@ -133,6 +133,18 @@ static void spin_enter_adaptive(void)
 	mutex_spin_enter(&lock);
 }
 
+static void spin_exit_adaptive(void)
+{
+	mutex_enter(&lock);
+	mutex_spin_exit(&lock);
+}
+
+static void ownable_held(void)
+{
+	mutex_enter(&lock);
+	mutex_ownable(&lock);
+}
+
 static void splx_with_spin(void)
 {
 	int s = splsoftnet();
@@ -321,6 +333,28 @@ static void alloc_in_softint(void)
 	as_softint(alloc_softly);
 }
 
+static void zalloc_softly(void *arg)
+{
+	(void)arg;
+	kmem_zalloc(8, KM_NOSLEEP);
+}
+
+static void zalloc_in_softint(void)
+{
+	as_softint(zalloc_softly);
+}
+
+static void free_softly(void *arg)
+{
+	(void)arg;
+	kmem_free(kmem_intr_alloc(8, KM_NOSLEEP), 8);
+}
+
+static void free_in_softint(void)
+{
+	as_softint(free_softly);
+}
+
 static void alloc_sleeping_softly(void *arg)
 {
 	(void)arg;
@@ -406,6 +440,13 @@ static void schedule_ended(void)
 	void *cookie = softint_establish(SOFTINT_NET, nothing, NULL);
 	softint_disestablish(cookie);
 	softint_schedule(cookie);
+}
+
+static void disestablish_ended(void)
+{
+	void *cookie = softint_establish(SOFTINT_NET, nothing, NULL);
+	softint_disestablish(cookie);
+	softint_disestablish(cookie);
 }
 
 static void stay_inside(void *arg)
@@ -620,6 +661,8 @@ static const struct stop_case cases[] = {
     {enter_never_made, "mutex_enter: the lock was never initialised, at PLACE"},
     {enter_destroyed, "mutex_enter: the lock was destroyed, at PLACE"},
     {spin_enter_adaptive, "mutex_spin_enter: the lock does not spin, at PLACE"},
+    {spin_exit_adaptive, "mutex_spin_exit: the lock does not spin, at PLACE"},
+    {ownable_held, "mutex_ownable: the thread has the lock already"},
     {splx_with_spin, "splx: with a spin lock, at PLACE"},
     {enable_preemption, "kpreempt_enable: preemption is not disabled, at PLACE"},
     {wait_inside, "cv_wait: inside a read section, entered at PLACE, at PLACE"},
@@ -642,6 +685,8 @@ static const struct stop_case cases[] = {
     {rw_downgrade_reader, "rw_downgrade: the thread is not the lock's writer"},
     {alloc_inside, "kmem_alloc: inside a read section, entered at PLACE, at PLACE"},
     {alloc_in_softint, "kmem_alloc: in a soft interrupt, at PLACE"},
+    {zalloc_in_softint, "kmem_zalloc: in a soft interrupt, at PLACE"},
+    {free_in_softint, "kmem_free: in a soft interrupt, at PLACE"},
     {intr_alloc_sleeping, "kmem_intr_alloc: in a soft interrupt, at PLACE"},
     {alloc_nothing, "kmem_zalloc: a block of no bytes, at PLACE"},
     {alloc_without_flag, "kmem_alloc: neither KM_SLEEP nor KM_NOSLEEP alone, at PLACE"},
@@ -655,6 +700,7 @@ static const struct stop_case cases[] = {
     {percpu_sleeping, "kmem_alloc: with preemption disabled, at PLACE"},
     {percpu_putref_alone, "percpu_putref: without a percpu_getref, at PLACE"},
     {schedule_ended, "softint_schedule: the soft interrupt is not established, at PLACE"},
+    {disestablish_ended, "softint_disestablish: the soft interrupt is not established, at PLACE"},
     {handler_stays_inside, "softint: the handler returned inside a read section"},
     {handler_stays_locked, "softint: the handler returned with a lock"},
     {handler_stays_bound, "softint: the handler returned with preemption disabled"},

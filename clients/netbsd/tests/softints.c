@@ -63,6 +63,34 @@ static void test_alone(void)
 	softint_disestablish(cookie);
 }
 
+static atomic_int level_found;
+
+/* A handler is at its own level, and is back at it once a higher one is over. */
+static void note_level(void *arg)
+{
+	int s = splnet();
+	EXPECT(splhigh() == IPL_NET);
+	splx(s);
+	EXPECT(splsoftclock() == s);
+	atomic_store((atomic_int *)arg, s);
+}
+
+static void test_own_level(void)
+{
+	static const struct {
+		unsigned flags;
+		int level;
+	} each[] = {{SOFTINT_CLOCK, IPL_SOFTCLOCK}, {SOFTINT_BIO, IPL_SOFTBIO}, {SOFTINT_NET, IPL_SOFTNET}, {SOFTINT_SERIAL, IPL_SOFTSERIAL}};
+	for (unsigned i = 0; i < 4; i++) {
+		void *cookie = softint_establish(each[i].flags | SOFTINT_MPSAFE, note_level, &level_found);
+		int s = pserialize_read_enter();
+		softint_schedule(cookie);
+		EXPECT(atomic_load(&level_found) == each[i].level);
+		pserialize_read_exit(s);
+		softint_disestablish(cookie);
+	}
+}
+
 static void note(void *arg)
 {
 	order[ordered++] = *(unsigned *)arg;
@@ -245,6 +273,7 @@ int main(void)
 	kupaldiz_bind(2);
 	test_inside();
 	test_alone();
+	test_own_level();
 	test_levels();
 	test_once();
 	test_blocked();
