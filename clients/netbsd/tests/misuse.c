@@ -304,6 +304,32 @@ static void copy_into_held(void)
 	psref_copy(&second, &psref, things);
 }
 
+/* The place in the table is used again by another reference. */
+static void release_old_bytes(void)
+{
+	acquire();
+	struct psref bytes = psref;
+	psref_release(&psref, &target, things);
+	acquire();
+	psref_release(&bytes, &target, things);
+}
+
+/* Storage that was never written: its words may be any. */
+static void release_beyond_cpus(void)
+{
+	acquire();
+	psref.psref_cpu = KUPALDIZ_CPUS;
+	psref_release(&psref, &target, things);
+}
+
+/* Whatever place it names, the table isn't read beyond its end. */
+static void release_beyond_table(void)
+{
+	acquire();
+	psref.psref_index = 16;		/* the table's first room */
+	psref_release(&psref, &target, things);
+}
+
 static void release_written_over(void)
 {
 	acquire();
@@ -685,6 +711,9 @@ static const struct stop_case cases[] = {
     {acquire_into_held, "psref_acquire: the reference is held already, at PLACE"},
     {acquire_into_wiped, "psref_acquire: the reference is held already, at PLACE"},
     {copy_into_held, "psref_copy: the reference is held already, at PLACE"},
+    {release_old_bytes, "psref_release: the reference is not held, at PLACE"},
+    {release_beyond_cpus, "psref_release: the reference is not held, at PLACE"},
+    {release_beyond_table, "psref_release: the reference is not held, at PLACE"},
     {release_written_over, "psref_release: the reference was written over, at PLACE"},
     {release_other_target, "psref_release: the reference is to another target, at PLACE"},
     {copy_never_acquired, "psref_copy: the reference is not held, at PLACE"},

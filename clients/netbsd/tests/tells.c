@@ -145,6 +145,29 @@ static void destroy_for_two(void)
 	end_thread(holder);
 }
 
+/* One reference more than its CPU counts, and then that one alone, which the writers' CPU counts. */
+static void *refer_elsewhere(void *of)
+{
+	static struct psref counted[KUPALDIZ_REFERENCES], elsewhere;
+	name_it(of);
+	for (unsigned i = 0; i < KUPALDIZ_REFERENCES; i++)
+		psref_acquire(&counted[i], &target, things);
+	psref_acquire(&elsewhere, &target, things);
+	for (unsigned i = 0; i < KUPALDIZ_REFERENCES; i++)
+		psref_release(&counted[i], &target, things);
+	EXPECT(psref_held(&target, things));
+	keep();
+	psref_release(&elsewhere, &target, things);
+	return of;
+}
+
+static void destroy_for_elsewhere(void)
+{
+	pthread_t holder = hold("ifconfig", refer_elsewhere);
+	psref_target_destroy(&target, things);
+	end_thread(holder);
+}
+
 static void *count_long(void *of)
 {
 	name_it(of);
@@ -157,6 +180,26 @@ static void *count_long(void *of)
 static void drain_for_one(void)
 {
 	pthread_t holder = hold("open", count_long);
+	mutex_enter(&countlock);
+	localcount_drain(&count, &cv, &countlock);
+	mutex_exit(&countlock);
+	end_thread(holder);
+}
+
+static void *count_twice(void *of)
+{
+	name_it(of);
+	localcount_acquire(&count);
+	localcount_acquire(&count);
+	keep();
+	localcount_release(&count, &cv, &countlock);
+	localcount_release(&count, &cv, &countlock);
+	return of;
+}
+
+static void drain_for_two(void)
+{
+	pthread_t holder = hold("open", count_twice);
 	mutex_enter(&countlock);
 	localcount_drain(&count, &cv, &countlock);
 	mutex_exit(&countlock);
@@ -323,7 +366,9 @@ static const struct stop_case cases[] = {
     {enter_after_reader, "pserialize_read_enter: waits for CPU 3, whose thread \"reader\" is inside a read section, entered at PLACE"},
     {destroy_for_one, "psref_target_destroy: waits for CPU 3, whose thread \"bridge_input\" holds one reference, acquired at PLACE"},
     {destroy_for_two, "psref_target_destroy: waits for CPU 3, whose thread \"bridge_output\" holds 2 references, one of them acquired at PLACE"},
+    {destroy_for_elsewhere, "psref_target_destroy: waits for CPU 3, whose thread \"ifconfig\" holds one reference, acquired at PLACE"},
     {drain_for_one, "localcount_drain: waits for 1 reference, acquired at PLACE"},
+    {drain_for_two, "localcount_drain: waits for 2 references, one of them acquired at PLACE"},
     {drain_for_reader, "localcount_drain: waits for CPU 3, whose thread \"reader\" is inside a read section, entered at PLACE"},
     {enter_for_owner, "mutex_enter: waits for the lock that thread \"detach\" took at PLACE"},
     {read_for_writer, "rw_enter: waits for the lock that thread \"writer\" took as a writer at PLACE"},
