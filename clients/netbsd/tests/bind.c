@@ -134,6 +134,17 @@ static void test_least_bound(void)
 	int before = curlwp_bind();
 	EXPECT(before == 0 && cpu_number() == 4);
 	curlwp_bindx(before);
+	/* In a section it is bound where it is. */
+	kupaldiz_bind(3);
+	kupaldiz_unbind();
+	int s = pserialize_read_enter();
+	EXPECT(cpu_number() == 3);
+	before = curlwp_bind();
+	EXPECT(before == 0 && cpu_number() == 3);
+	pserialize_read_exit(s);
+	curlwp_bindx(before);
+	kupaldiz_bind(4);
+	kupaldiz_unbind();
 	atomic_store(&step, 2);
 	end_thread(other);
 	before = curlwp_bind();

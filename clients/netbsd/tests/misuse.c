@@ -572,6 +572,12 @@ static void fini_undrained(void)
 	localcount_fini(&count);
 }
 
+static void fini_never_live(void)
+{
+	static struct localcount never;
+	localcount_fini(&never);
+}
+
 static void fini_twice(void)
 {
 	drain_it(NULL);
@@ -745,6 +751,7 @@ static const struct stop_case cases[] = {
     {drain_by_other_lock, "localcount_drain: the interlock differs from the one before, at PLACE"},
     {drain_by_other_cv, "localcount_drain: the condition variable differs from the one before, at PLACE"},
     {fini_undrained, "localcount_fini: the count is not drained, at PLACE"},
+    {fini_never_live, "localcount_fini: the count is not drained, at PLACE"},
     {fini_while_drained, "localcount_fini: the count is not drained, at PLACE"},
     {fini_twice, "localcount_fini: the count is not drained, at PLACE"},
     {count_drained, "localcount_acquire: the count is not live, at PLACE"},

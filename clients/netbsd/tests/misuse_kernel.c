@@ -237,6 +237,27 @@ static void wait_with_two_spins(void)
 	cv_wait(&cv, &spin);
 }
 
+static void wait_spinning_inside(void)
+{
+	mutex_enter(&spin);
+	pserialize_read_enter();
+	cv_wait(&cv, &spin);
+}
+
+static void wait_spinning_raised(void)
+{
+	splsoftnet();
+	mutex_enter(&spin);
+	cv_wait(&cv, &spin);
+}
+
+static void wait_spinning_preempting(void)
+{
+	kpreempt_disable();
+	mutex_enter(&spin);
+	cv_wait(&cv, &spin);
+}
+
 /* ---- rwlock(9) ---- */
 
 static void rw_enter_never_made(void)
@@ -471,6 +492,17 @@ static void handler_stays_locked(void)
 	as_softint(stay_locked);
 }
 
+static void stay_spinning(void *arg)
+{
+	(void)arg;
+	mutex_enter(&spin);
+}
+
+static void handler_stays_spinning(void)
+{
+	as_softint(stay_spinning);
+}
+
 static void stay_bound(void *arg)
 {
 	(void)arg;
@@ -574,6 +606,17 @@ static void thread_ends_locked(void)
 	on_thread(end_locked);
 }
 
+static void *end_spinning(void *arg)
+{
+	mutex_enter(&spin);
+	return arg;
+}
+
+static void thread_ends_spinning(void)
+{
+	on_thread(end_spinning);
+}
+
 static void *end_raised(void *arg)
 {
 	splnet();
@@ -602,6 +645,21 @@ static void child_of_fork(void)
 static void exit_of_main(void)
 {
 	kthread_exit(0);
+}
+
+static void *exit_it(void *arg)
+{
+	kthread_exit(0);
+	return arg;
+}
+
+/* The layer keeps of it what it kept of a thread of kthread_create's before. */
+static void exit_of_next(void)
+{
+	lwp_t *worker;
+	EXPECT(kthread_create(PRI_NONE, KTHREAD_MUSTJOIN, NULL, nothing, NULL, &worker, "worker") == 0);
+	EXPECT(kthread_join(worker) == 0);
+	on_thread(exit_it);
 }
 
 static void join_nobody(void)
@@ -673,6 +731,9 @@ static const struct stop_case cases[] = {
     {cv_destroy_waited, "cv_destroy: a thread waits for count, at PLACE"},
     {wait_destroyed, "cv_wait: the condition variable was destroyed, at PLACE"},
     {wait_with_two_spins, "cv_wait: the thread has more than this spin lock, at PLACE"},
+    {wait_spinning_inside, "cv_wait: the thread has more than this spin lock, at PLACE"},
+    {wait_spinning_raised, "cv_wait: the thread has more than this spin lock, at PLACE"},
+    {wait_spinning_preempting, "cv_wait: the thread has more than this spin lock, at PLACE"},
     {cv_never_made, "cv_broadcast: the condition variable was never initialised, at PLACE"},
     {rw_exit_free, "rw_exit: nobody has the lock, at PLACE"},
     {rw_exit_anothers, "rw_exit: another thread has the lock as its writer, at PLACE"},
@@ -703,6 +764,7 @@ static const struct stop_case cases[] = {
     {disestablish_ended, "softint_disestablish: the soft interrupt is not established, at PLACE"},
     {handler_stays_inside, "softint: the handler returned inside a read section"},
     {handler_stays_locked, "softint: the handler returned with a lock"},
+    {handler_stays_spinning, "softint: the handler returned with a lock"},
     {handler_stays_bound, "softint: the handler returned with preemption disabled"},
     {callout_destroy_running, "callout_destroy: the callout runs, at PLACE"},
     {callout_halt_inside, "callout_halt: inside a read section, entered at PLACE, at PLACE"},
@@ -714,9 +776,11 @@ static const struct stop_case cases[] = {
     {broadcast_with_spin, "xc_broadcast: with a spin lock, at PLACE"},
     {wait_for_no_call, "xc_wait: no such call"},
     {thread_ends_locked, "pthread_exit: with a lock"},
+    {thread_ends_spinning, "pthread_exit: with a lock"},
     {thread_ends_raised, "pthread_exit: with its CPU"},
     {child_of_fork, "pserialize_read_enter: in the child of a fork, at PLACE"},
     {exit_of_main, "kthread_exit: kthread_create did not make this thread, at PLACE"},
+    {exit_of_next, "kthread_exit: kthread_create did not make this thread, at PLACE"},
     {join_nobody, "kthread_join: no thread that was made with KTHREAD_MUSTJOIN, at PLACE"},
     {assertion, "KASSERT: not so: 1 + 1 == 3, at PLACE"},
     {assertion_with_words, "KASSERTMSG: not so: 1 + 1 == 3: of 7, at PLACE"},
