@@ -164,6 +164,73 @@ static void test_blocked(void)
 	softint_disestablish(cookie);
 }
 
+/* The thread gives the lock back, and keeps its CPU: the handler goes on between two of its calls. */
+static void test_blocked_inside(void)
+{
+	atomic_uint done = 0;
+	void *cookie = softint_establish(SOFTINT_NET, handle_locked, &done);
+	mutex_enter(&lock);
+	int s = pserialize_read_enter();
+	softint_schedule(cookie);
+	EXPECT(atomic_load(&done) == 0);
+	mutex_exit(&lock);
+	for (unsigned turn = 0; turn < 20000 && atomic_load(&done) == 0; turn++) {
+		sleep_for(100);
+		pserialize_read_exit(pserialize_read_enter());
+	}
+	EXPECT(atomic_load(&done) == 1 && pserialize_in_read_section());
+	pserialize_read_exit(s);
+	softint_disestablish(cookie);
+}
+
+static atomic_uint counted;
+static atomic_bool entered, let_go;
+
+static void count_and_stay(void *arg)
+{
+	(void)arg;
+	atomic_fetch_add(&counted, 1);
+	while (cpu_number() == 3 && !atomic_load(&let_go))
+		sleep_for(100);
+}
+
+static void *schedule_elsewhere(void *cookie)
+{
+	kupaldiz_bind(3);
+	softint_schedule(cookie);
+	return cookie;
+}
+
+static void *disestablish(void *cookie)
+{
+	atomic_store(&entered, true);
+	softint_disestablish(cookie);
+	return cookie;
+}
+
+/* It runs on one CPU and waits on another one when its end begins: there it doesn't run any more. */
+static void test_ended_waiting(void)
+{
+	pthread_t scheduler, ender;
+	void *cookie = softint_establish(SOFTINT_NET, count_and_stay, NULL);
+	int s = splsoftnet();
+	softint_schedule(cookie);
+	start_thread(&scheduler, schedule_elsewhere, cookie);
+	while (atomic_load(&counted) == 0)
+		sleep_for(100);
+	start_thread(&ender, disestablish, cookie);
+	while (!atomic_load(&entered))
+		sleep_for(100);
+	sleep_for(20000);
+	splx(s);
+	sleep_for(3000);
+	EXPECT(atomic_load(&counted) == 1);
+	atomic_store(&let_go, true);
+	end_thread(ender);
+	end_thread(scheduler);
+	EXPECT(atomic_load(&counted) == 1);
+}
+
 static krwlock_t rw;
 static atomic_bool holds;
 
@@ -277,6 +344,8 @@ int main(void)
 	test_levels();
 	test_once();
 	test_blocked();
+	test_blocked_inside();
+	test_ended_waiting();
 	test_raised();
 	test_spin();
 	test_storm();
