@@ -18,7 +18,7 @@ int __wrap_pthread_mutex_lock(pthread_mutex_t *mutex);
 int __real_pthread_mutex_unlock(pthread_mutex_t *mutex);
 int __wrap_pthread_mutex_unlock(pthread_mutex_t *mutex);
 
-enum { ROUNDS = 300, HOLDERS = 3 };
+enum { ROUNDS = 300, HOLDERS = 3, BESIDE = 8 };
 
 static _Thread_local bool is_slow;
 
@@ -100,6 +100,48 @@ static void replace(void)
 		sleep_for(10);
 }
 
+/* Waits by the same condition variable, for something else, and came first. */
+static void *wait_beside(void *of)
+{
+	struct object *object = of;
+	mutex_enter(&object->lock);
+	atomic_fetch_add(&draining, 1);
+	cv_wait(&object->cv, &object->lock);
+	mutex_exit(&object->lock);
+	return of;
+}
+
+static void *release_last(void *of)
+{
+	struct object *object = of;
+	sleep_for(3000);
+	localcount_release(&object->count, &object->cv, &object->lock);
+	return of;
+}
+
+/* The last release wakes all that wait: the drain is among them. */
+static void drain_beside_others(void)
+{
+	pthread_t waiter, releaser;
+	struct object *object = new_object();
+	localcount_acquire(&object->count);
+	unsigned before = atomic_load(&draining);
+	start_thread(&waiter, wait_beside, object);
+	while (atomic_load(&draining) == before)
+		sleep_for(50);
+	mutex_enter(&object->lock);
+	start_thread(&releaser, release_last, object);
+	localcount_drain(&object->count, &object->cv, &object->lock);
+	cv_broadcast(&object->cv);
+	mutex_exit(&object->lock);
+	end_thread(releaser);
+	end_thread(waiter);
+	localcount_fini(&object->count);
+	cv_destroy(&object->cv);
+	mutex_destroy(&object->lock);
+	free(object);
+}
+
 int main(void)
 {
 	pthread_t holders[HOLDERS];
@@ -113,6 +155,8 @@ int main(void)
 	atomic_store(&over, true);
 	for (unsigned i = 0; i < HOLDERS; i++)
 		end_thread(holders[i]);
+	for (unsigned round = 0; round < BESIDE; round++)
+		drain_beside_others();
 	pserialize_destroy(psz);
 	EXPECT(time(NULL) - begin < 60);
 	printf("%d objects were drained, and freed with their locks at once\n", ROUNDS);
