@@ -195,6 +195,71 @@ static void test_condvars(void)
 	EXPECT(!kpreempt_disabled());
 }
 
+/* ---- Many that wait. ---- */
+
+/* More locks and condition variables than the layer has places to wait in: some share one. */
+enum { CROWD = 80 };
+
+static struct member {
+	kmutex_t lock;
+	kcondvar_t cv;
+	bool called;		/* under the lock */
+	atomic_bool gone;
+} crowd[CROWD];
+static atomic_uint came, left;
+
+static void *wait_in_crowd(void *of)
+{
+	struct member *member = of;
+	atomic_fetch_add(&came, 1);
+	mutex_enter(&member->lock);
+	while (!member->called)
+		cv_wait(&member->cv, &member->lock);
+	mutex_exit(&member->lock);
+	atomic_store(&member->gone, true);
+	atomic_fetch_add(&left, 1);
+	return of;
+}
+
+/* One goes, and no other. */
+static void call_member(struct member *member)
+{
+	unsigned before = atomic_load(&left);
+	mutex_enter(&member->lock);
+	member->called = true;
+	cv_signal(&member->cv);
+	mutex_exit(&member->lock);
+	while (!atomic_load(&member->gone))
+		sleep_for(50);
+	while (atomic_load(&left) == before)
+		sleep_for(50);
+	EXPECT(atomic_load(&left) == before + 1);
+}
+
+static void test_crowd(void)
+{
+	pthread_t threads[CROWD];
+	for (unsigned i = 0; i < CROWD; i++) {
+		mutex_init(&crowd[i].lock, MUTEX_DEFAULT, IPL_NONE);
+		cv_init(&crowd[i].cv, "crowd");
+		mutex_enter(&crowd[i].lock);
+		start_thread(&threads[i], wait_in_crowd, &crowd[i]);
+	}
+	while (atomic_load(&came) < CROWD)
+		sleep_for(100);
+	sleep_for(20000);
+	for (unsigned i = 0; i < CROWD; i++)
+		mutex_exit(&crowd[i * 7 % CROWD].lock);
+	sleep_for(20000);
+	for (unsigned i = 0; i < CROWD; i++)
+		call_member(&crowd[i * 3 % CROWD]);
+	for (unsigned i = 0; i < CROWD; i++) {
+		end_thread(threads[i]);
+		cv_destroy(&crowd[i].cv);
+		mutex_destroy(&crowd[i].lock);
+	}
+}
+
 /* ---- Memory. ---- */
 
 static int made, ended;
@@ -540,6 +605,7 @@ int main(void)
 	test_mutexes();
 	test_rwlocks();
 	test_condvars();
+	test_crowd();
 	test_memory();
 	test_cpus();
 	test_barrier();
