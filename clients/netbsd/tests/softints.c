@@ -164,7 +164,7 @@ static void test_blocked(void)
 	softint_disestablish(cookie);
 }
 
-/* The thread gives the lock back, and keeps its CPU: the handler goes on between two of its calls. */
+/* The thread gives the lock back, and keeps its CPU: the handler goes on between two of its calls, once the level is below the handler's. */
 static void test_blocked_inside(void)
 {
 	atomic_uint done = 0;
@@ -172,8 +172,14 @@ static void test_blocked_inside(void)
 	mutex_enter(&lock);
 	int s = pserialize_read_enter();
 	softint_schedule(cookie);
-	EXPECT(atomic_load(&done) == 0);
+	int level = splsoftnet();
 	mutex_exit(&lock);
+	for (unsigned turn = 0; turn < 30; turn++) {
+		sleep_for(100);
+		pserialize_read_exit(pserialize_read_enter());
+		EXPECT(atomic_load(&done) == 0);
+	}
+	splx(level);
 	for (unsigned turn = 0; turn < 20000 && atomic_load(&done) == 0; turn++) {
 		sleep_for(100);
 		pserialize_read_exit(pserialize_read_enter());
