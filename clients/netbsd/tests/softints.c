@@ -196,7 +196,7 @@ static void count_and_stay(void *arg)
 {
 	(void)arg;
 	atomic_fetch_add(&counted, 1);
-	while (cpu_number() == 3 && !atomic_load(&let_go))
+	while (!atomic_load(&let_go))
 		sleep_for(100);
 }
 
@@ -214,11 +214,15 @@ static void *disestablish(void *cookie)
 	return cookie;
 }
 
-/* It runs on one CPU and waits on another one when its end begins: there it doesn't run any more. */
-static void test_ended_waiting(void)
+/* It runs on CPU 3 and waits on another one when its end begins: there it doesn't run any more. */
+static void *end_while_waiting(void *of)
 {
 	pthread_t scheduler, ender;
+	kupaldiz_bind(*(unsigned *)of);
 	void *cookie = softint_establish(SOFTINT_NET, count_and_stay, NULL);
+	atomic_store(&counted, 0);
+	atomic_store(&entered, false);
+	atomic_store(&let_go, false);
 	int s = splsoftnet();
 	softint_schedule(cookie);
 	start_thread(&scheduler, schedule_elsewhere, cookie);
@@ -235,6 +239,18 @@ static void test_ended_waiting(void)
 	end_thread(ender);
 	end_thread(scheduler);
 	EXPECT(atomic_load(&counted) == 1);
+	return of;
+}
+
+static void test_ended_waiting(void)
+{
+	pthread_t thread;
+	for (unsigned cpu = 0; cpu < KUPALDIZ_CPUS; cpu++) {
+		if (cpu == 3)
+			continue;
+		start_thread(&thread, end_while_waiting, &cpu);
+		end_thread(thread);
+	}
 }
 
 static krwlock_t rw;

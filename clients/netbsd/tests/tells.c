@@ -139,6 +139,50 @@ static void destroy_for_one(void)
 	end_thread(holder);
 }
 
+static struct psref_target next;
+static atomic_bool second;
+
+/* Has a reference to each of two targets, with the first one's CPU. */
+static void *refer_beside(void *of)
+{
+	struct psref first, other;
+	kupaldiz_bind(3);
+	psref_acquire(&first, &target, things);
+	psref_acquire(&other, &next, things);
+	atomic_store(&second, true);
+	for (unsigned turn = 0; turn < 10000 && !atomic_load(&told); turn++)
+		sleep_for(1000);
+	psref_release(&first, &target, things);
+	psref_release(&other, &next, things);
+	return of;
+}
+
+static void *refer_to_two(void *of)
+{
+	struct psref first, other;
+	pthread_t beside;
+	name_it(of);
+	psref_target_init(&next, things);
+	psref_acquire(&first, &target, things);
+	psref_acquire(&other, &next, things);
+	start_thread(&beside, refer_beside, NULL);
+	while (!atomic_load(&second))
+		sleep_for(100);
+	keep();
+	psref_release(&first, &target, things);
+	psref_release(&other, &next, things);
+	end_thread(beside);
+	return of;
+}
+
+/* Only what the thread has to this target counts. */
+static void destroy_among_others(void)
+{
+	pthread_t holder = hold("bridge_ioctl", refer_to_two);
+	psref_target_destroy(&target, things);
+	end_thread(holder);
+}
+
 static atomic_bool taken;
 
 /* Has CPU 0, outside any section. */
@@ -424,6 +468,7 @@ static const struct stop_case cases[] = {
     {destroy_for_one, "psref_target_destroy: waits for CPU 3, whose thread \"bridge_input\" holds one reference, acquired at PLACE"},
     {destroy_for_two, "psref_target_destroy: waits for CPU 3, whose thread \"bridge_output\" holds 2 references, one of them acquired at PLACE"},
     {destroy_for_elsewhere, "psref_target_destroy: waits for CPU 3, whose thread \"ifconfig\" holds one reference, acquired at PLACE"},
+    {destroy_among_others, "psref_target_destroy: waits for CPU 3, whose thread \"bridge_ioctl\" holds one reference, acquired at PLACE"},
     {destroy_past_taken, "psref_target_destroy: waits for CPU 3, whose thread \"ifconfig\" holds one reference, acquired at PLACE"},
     {drain_for_one, "localcount_drain: waits for 1 reference, acquired at PLACE"},
     {drain_for_two, "localcount_drain: waits for 2 references, one of them acquired at PLACE"},
