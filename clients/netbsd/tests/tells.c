@@ -140,7 +140,7 @@ static void destroy_for_one(void)
 }
 
 static struct psref_target next;
-static atomic_bool second;
+static atomic_bool joined;
 
 /* Has a reference to each of two targets, with the first one's CPU. */
 static void *refer_beside(void *of)
@@ -149,7 +149,7 @@ static void *refer_beside(void *of)
 	kupaldiz_bind(3);
 	psref_acquire(&first, &target, things);
 	psref_acquire(&other, &next, things);
-	atomic_store(&second, true);
+	atomic_store(&joined, true);
 	for (unsigned turn = 0; turn < 10000 && !atomic_load(&told); turn++)
 		sleep_for(1000);
 	psref_release(&first, &target, things);
@@ -166,7 +166,7 @@ static void *refer_to_two(void *of)
 	psref_acquire(&first, &target, things);
 	psref_acquire(&other, &next, things);
 	start_thread(&beside, refer_beside, NULL);
-	while (!atomic_load(&second))
+	while (!atomic_load(&joined))
 		sleep_for(100);
 	keep();
 	psref_release(&first, &target, things);
