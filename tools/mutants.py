@@ -1,15 +1,24 @@
 #!/usr/bin/env python3
 """Makes small wrong bodies of the code that nothing proves, and says which of them every test lets through.
 
-    tools/mutants.py [--only FILE[:LINE]].. [--sample N] [--seed N] [--jobs N] [--least N] [--to FILE] [--list]
+    tools/mutants.py [--only FILE[:LINE]].. [--sample N] [--seed N] [--jobs N] [--least N] [--to FILE] [--record FILE] [--again] [--tests WORD].. [--list]
 
-The code is clients/c/waiting.c, what is C of the archive, clients/netbsd/src/*.c and clients/rust/src/*.rs. tools/mutations.py has the rules. Each wrong body is built in a copy of the
-tree, and the tests that could see it run until one fails: those of the file's own library, the quickest first, and for the crate those that are called as
-the file before all others. What runs eight times as long as on the tree as it stands, and --least seconds (10), hangs: it is killed, and counts as seen. A
-body that the compiler makes the same code of isn't run.
+The code is clients/c/waiting.c, what is C of the archive, clients/netbsd/src/*.c and clients/rust/src/*.rs. tools/mutations.py has the rules. Each
+wrong body is built in a copy of the tree, and the tests that could see it run until one fails: those of the file's own library. A test comes early
+if it saw many other wrong bodies of the file, and takes little time. A body that the compiler makes the same code of isn't run.
 
-`--only` takes the wrong bodies of a file, or of one line of it; `--sample` takes N of them, by the seed (1 where none is given); `--jobs` tries so many at a
-time (2). `--list` only says what they are. The results go to --to (tools/out/mutants.txt), however the run ends, with the sum of what was tried.
+- A test that fails runs a second time: one failure on a busy machine kills nothing.
+- A test hangs if it takes eight times as long as on the tree as it stands, and --least seconds (10). Time that it waits for a processor is left out.
+  Then the same test runs on the tree as it stands. If that passes, the body is killed, by time. If it doesn't, the machine is busy, and the body is
+  left untried.
+
+`--only` takes the wrong bodies of a file, or of one line of it. `--sample` takes N of them by the seed (1 where none is given): the same share of
+each file. `--jobs` tries so many at a time (2). `--list` only says what they are, and what came of each.
+
+The results go to --to (tools/out/mutants.txt), however the run ends, with the sum of what was tried. --record (clients/MUTANTS.txt) keeps what came
+of each wrong body, and the next run passes over it. `--again` tries survivors another time. With `--tests` only tests run whose names begin with one
+of these words. What survives those is left for a run of all tests.
+
 clients/MUTANTS.md lists the survivors that are known, with the reason why each harms nobody. Where there is another one the status is 1.
 """
 import argparse
@@ -34,17 +43,25 @@ sys.dont_write_bytecode = True
 
 from mutations import changes
 from parts import ROOT, guard, of_session, running, stop_running
+from tried import Record, sum_of
 
 COPIED = ("clients", "bench", "crates/registry_c/include")
 KNOWN = ROOT / "clients/MUTANTS.md"
+RECORD = ROOT / "clients/MUTANTS.txt"
 C_FLAGS = "STRICT=-std=c11 -D_POSIX_C_SOURCE=200809L -w"
-OUTCOMES = ("killed", "hung", "same code", "not built", "survived")
+# Without what a debugger needs the same code is the same object, wherever its lines are.
+BARE = "CFLAGS=-O2 -g0"
+OUTCOMES = ("killed", "hung", "same code", "not built", "survived", "left", "busy")
 # So much of a line is shown.
 MOST_SHOWN = 120
 # What a program may write and take at most. Those with sanitizers reserve more memory than there is.
 MOST_BYTES = 1 << 32
 # A build takes at most so many seconds, as a test on the tree as it stands. On a wrong body a test may take --least and so many times what it took there.
 LONGEST, TIMES = 1200, 8
+# So many seconds after it was looked at a run is looked at again.
+LOOKS = 2
+# What it takes to build a test anew, in seconds: without sanitizers and with them.
+BUILDS, BUILDS_SANITIZED = 0.3, 1.2
 
 # A wrong body: its file, line and rule, the line or lines as they are and as they become, and the whole text of the file with it.
 Mutant = collections.namedtuple("Mutant", "file line rule old new text")
@@ -52,14 +69,43 @@ Mutant = collections.namedtuple("Mutant", "file line rule old new text")
 Test = collections.namedtuple("Test", "name build run memory", defaults=(MOST_BYTES,))
 # The ways in which the layer's Makefile builds its programs, and whether without sanitizers.
 WAYS = {"plain": True, "small": False, "busy": True, "late": False, "sanitized": False, "raced": False}
+# What runs under valgrind, as tools/test-netbsd.sh runs it.
+WATCHED = {"destroyed": [], "drained": [], "model": ["1", "300"]}
+VALGRIND = "valgrind -q --fair-sched=try --error-exitcode=99 --leak-check=full --show-leak-kinds=definite --errors-for-leak-kinds=definite".split()
 # What is C of the archive, and the programs that see each part, with their words.
 PARTS = {
     "heap": {"allocs": [], "refuse": [], "blocks": [], "misuse": []},
     "composed": {"entries": ["1000"], "sanitized-entries": ["300"]},
     "strings": {"names": [], "sanitized-names": []},
 }
-# A library: the files that are changed, its tests for one of them, and for C the command that compiles one file to an object.
+OBJECT = "mutant.o"
+# The programs of the bench that see the layer, with their words.
+BENCH = {"counts": [], "drivers": [], "finds": [], "refusals": [], "shortest": [], "named": [], "outcomes": ["1", "40"]}
+# A library: the files that are changed, its tests for one of them, and for C what compiles a file: the command and the object that it makes, for how the
+# names of the tests begin that run that code. Tests of another beginning are run where the code of the first differs.
 Library = collections.namedtuple("Library", "files tests compiled")
+
+
+def waited(leader):
+    """For each thread of a session how long it has waited for a processor, in seconds."""
+    found = {}
+    for task in (task for pid in of_session(leader) for task in pathlib.Path(f"/proc/{pid}/task").glob("*")):
+        with contextlib.suppress(OSError, ValueError, IndexError):
+            found[task.name] = int((task / "schedstat").read_text().split()[1]) / 1e9
+    return found
+
+
+def wait(process, seconds):
+    """Waits for a process; None where it took so many seconds, without those in which a thread of it waited for a processor."""
+    began, late, before = time.monotonic(), 0.0, {}
+    while time.monotonic() - began - late < seconds:
+        try:
+            return process.wait(LOOKS)
+        except subprocess.TimeoutExpired:
+            now = waited(process.pid)
+            late += max((it - before.get(task, 0.0) for task, it in now.items()), default=0.0)
+            before = now
+    return None
 
 
 def run(words, folder, seconds, memory=None):
@@ -69,11 +115,10 @@ def run(words, folder, seconds, memory=None):
     with tempfile.TemporaryFile() as said:
         process = subprocess.Popen([*limits, *words], cwd=folder, env=environment, stdin=subprocess.DEVNULL, stdout=said, stderr=said, start_new_session=True)
         running.add(process.pid)
-        try:
-            status = process.wait(seconds)
-        except subprocess.TimeoutExpired:
-            status = None
-        for pid in of_session(process.pid):
+        status = wait(process, seconds)
+        with contextlib.suppress(ProcessLookupError):
+            os.killpg(process.pid, signal.SIGKILL)
+        for pid in of_session(process.pid) if status is None else ():
             with contextlib.suppress(ProcessLookupError):
                 os.kill(pid, signal.SIGKILL)
         process.wait()
@@ -97,19 +142,31 @@ def of_part(file):
     return [Test(f"{part}/{it}", ["sh", "-c", f"{joined} && {made} {folder}/{it}"], [f"clients/{folder}/{it}", *words]) for it, words in PARTS[part].items()]
 
 
+MAKES_LAYER = ["make", "-s", "-C", "clients/netbsd", C_FLAGS, BARE]
+
+
 @functools.cache
 def programs(way):
     """What the layer's Makefile builds for a way."""
     return run(["make", "-s", "-C", "clients/netbsd", f"list-{way}"], ROOT, 60)[1].split()
 
 
-def of_layer(_):
-    """The layer's programs, in each way in which the Makefile builds them."""
-    found = []
+def of_bench(file):
+    """The bench's programs, in which the layer's calls run in every order; some files it has something else for."""
+    if pathlib.Path(file).stem in ("lock", "pause", "softint_thread"):
+        return []
+    makes = ["make", "-s", "-C", "clients/bench", "WARNINGS=-w", BARE]
+    return [Test(f"bench/{it}", [*makes, f"../out/bench/plain/{it}"], [f"clients/out/bench/plain/{it}", *words]) for it, words in BENCH.items()]
+
+
+def of_layer(file):
+    """The layer's programs, in each way in which the Makefile builds them, and the bench's."""
+    found = of_bench(file)
     for way, is_bare in WAYS.items():
         names, folder, memory = programs(way), f"out/netbsd/{way}", MOST_BYTES if is_bare else None
-        found += [Test(f"{way}/{it}", ["make", "-s", "-C", "clients/netbsd", C_FLAGS, f"../{folder}/{it}"], [f"clients/{folder}/{it}"], memory) for it in names]
-    return found
+        found += [Test(f"{way}/{it}", [*MAKES_LAYER, f"../{folder}/{it}"], [f"clients/{folder}/{it}"], memory) for it in names]
+    return found + [Test(f"watched/{it}", [*MAKES_LAYER, f"../out/netbsd/plain/{it}"], [*VALGRIND, f"clients/out/netbsd/plain/{it}", *words], None)
+                    for it, words in WATCHED.items()]
 
 
 def of_crate(file):
@@ -122,14 +179,22 @@ def of_crate(file):
         Test("lib", [*words, "--no-run", "--lib"], [*words, "--lib"])]
 
 
-def compile_c(include):
-    return lambda file, to: ["gcc", *C_FLAGS.partition("=")[2].split(), "-O2", "-g0", f"-I{include}", "-Icrates/registry_c/include", "-c", file, "-o", str(to)]
+def compile_c(file):
+    words = ["gcc", *C_FLAGS.partition("=")[2].split(), "-O2", "-g0", "-Iclients/c", "-Icrates/registry_c/include", "-c", file, "-o", OBJECT]
+    return {"": (words, OBJECT)}
+
+
+def compile_layer(file):
+    """The objects are some that the tests are made of. The sanitizer of races is told more than the others."""
+    made = {way: f"out/netbsd/{way}/{pathlib.Path(file).stem}.o" for way in ("plain", "raced")}
+    return {"": ([*MAKES_LAYER, f"../{made['plain']}"], f"clients/{made['plain']}"),
+            "raced/": ([*MAKES_LAYER, "raced_FLAGS=-O1 -g0 -fsanitize=thread", f"../{made['raced']}"], f"clients/{made['raced']}")}
 
 
 LIBRARIES = (
-    Library("clients/c/waiting.c", of_waiting, compile_c("clients/c")),
-    *(Library(f"clients/c/{part}.c", of_part, compile_c("clients/c")) for part in PARTS),
-    Library("clients/netbsd/src/*.c", of_layer, compile_c("clients/netbsd")),
+    Library("clients/c/waiting.c", of_waiting, compile_c),
+    *(Library(f"clients/c/{part}.c", of_part, compile_c) for part in PARTS),
+    Library("clients/netbsd/src/*.c", of_layer, compile_layer),
     Library("clients/rust/src/*.rs", of_crate, None),
 )
 
@@ -145,14 +210,16 @@ def one_line(text):
     return line if len(line) <= MOST_SHOWN else f"{line[:MOST_SHOWN]} .."
 
 
+@functools.cache
 def mutants_of(file):
     """All wrong bodies of a file."""
-    text = (ROOT / file).read_text()
+    text, found = (ROOT / file).read_text(), []
     for change in changes(text):
         first, last = text.rfind("\n", 0, change.start) + 1, text.find("\n", change.end)
         new = text[first:change.start] + change.new + text[change.end:last]
         line = text.count("\n", 0, change.start) + 1
-        yield Mutant(file, line, change.rule, one_line(text[first:last]), one_line(new), text[:first] + new + text[last:])
+        found.append(Mutant(file, line, change.rule, one_line(text[first:last]), one_line(new), text[:first] + new + text[last:]))
+    return list(dict.fromkeys(found))
 
 
 def key(mutant):
@@ -165,29 +232,52 @@ def known():
     return {line.strip() for line in KNOWN.read_text().splitlines() if line.startswith("    clients/")} if KNOWN.is_file() else set()
 
 
-class Lane:
-    """A copy of the tree, in which one wrong body at a time is tried. `limits` has for each test how long it may run, in seconds, and `least` what each may."""
+class Tests:
+    """The tests that are needed: how long each may run, what it costs, and how often it saw a wrong body of a file."""
 
-    def __init__(self, folder, limits, least):
-        self.folder, self.limits, self.least = folder, limits, least
+    def __init__(self, least, record, words):
+        self.least, self.words = least, tuple(words) or ("",)
+        self.limits, self.costs = {}, {}
+        self.seen, self.tried = collections.Counter(), collections.Counter()
+        for file, part in record.parts.items():
+            for test, count in part.by.items():
+                self.seen[file, test], self.tried[file, test] = count, part.by.total()
+
+    def note_time(self, test, seconds):
+        self.limits[test.name] = self.least + TIMES * seconds
+        self.costs[test.name] = seconds + (BUILDS_SANITIZED if test.memory is None else BUILDS)
+
+    def note(self, file, test, has_seen):
+        self.tried[file, test.name] += 1
+        self.seen[file, test.name] += has_seen
+
+    def worth(self, file, test):
+        """What it is likely to see for its time. The test that is called as the file comes first, until others saw more."""
+        seen = self.seen[file, test.name] + (3 if test.name.endswith(pathlib.Path(file).stem) else 0.2)
+        return seen / (self.tried[file, test.name] + 1) / self.costs[test.name]
+
+    def of(self, library, file):
+        return [it for it in library.tests(file) if it.name.startswith(self.words)]
+
+    def ordered(self, library, file):
+        return sorted(self.of(library, file), key=lambda it: -self.worth(file, it))
+
+
+class Lane:
+    """A copy of the tree, in which one wrong body at a time is tried."""
+
+    def __init__(self, folder, tests, other=None):
+        self.folder, self.tests = folder, tests
         self.objects = {}
         for name in COPIED:
-            if (ROOT / name).is_dir():
-                shutil.copytree(ROOT / name, folder / name, symlinks=True, ignore=lambda at, _: ["rust"] if at.endswith("/clients/out") else ["target"])
+            of = other.folder if other else ROOT
+            if (of / name).is_dir():
+                shutil.copytree(of / name, folder / name, symlinks=True, ignore=lambda at, _: ["rust"] if at.endswith("/clients/out") else ["target"])
 
-    def object(self, library, file):
-        """What the compiler makes of the file as it is here."""
-        to = self.folder / "mutant.o"
-        to.unlink(missing_ok=True)
-        run(library.compiled(file, to), self.folder, LONGEST)
-        return to.read_bytes() if to.is_file() else None
-
-    def try_test(self, test):
-        """What a test says of the tree as it is here: nothing where it passes."""
-        if run(test.build, self.folder, LONGEST)[0] != 0:
-            return "not built"
-        status, _ = run(test.run, self.folder, self.limits[test.name], test.memory)
-        return "hung" if status is None else "killed" if status != 0 else ""
+    def as_it_stands(self, test):
+        """Where the program of a test is kept as it is without a wrong body, if it is a program of its own."""
+        program = next((pathlib.Path(it) for it in test.run if it.startswith("clients/")), None)
+        return self.folder / program.with_name(f"{program.name}.stands") if program and program.is_relative_to("clients/out") else None
 
     def measure(self, test):
         """Runs a test on the tree as it stands, where it has to pass, within the same bounds."""
@@ -196,34 +286,90 @@ class Lane:
             status, said = run(words, self.folder, LONGEST, memory)
             if status != 0:
                 sys.exit(f"mutants: {test.name} fails on the tree as it stands: {' '.join(words)}: {said.strip()[-300:]}")
-        self.limits[test.name] = self.least + TIMES * (time.monotonic() - began)
+        self.tests.note_time(test, time.monotonic() - began)
+        if self.as_it_stands(test):
+            shutil.copy2(self.as_it_stands(test).with_suffix(""), self.as_it_stands(test))
 
-    def tests(self, library, file):
-        """The tests of a file: first the one that is called as it, if there is one, and then the quickest first."""
-        own = pathlib.Path(file).stem
-        return sorted(library.tests(file), key=lambda it: (it.name != own, self.limits[it.name]))
+    def object(self, words, made):
+        """What the compiler makes of a file as it is here; None where it makes nothing."""
+        path = self.folder / made
+        path.unlink(missing_ok=True)
+        return path.read_bytes() if run(words, self.folder, LONGEST)[0] == 0 and path.is_file() else None
+
+    def compile(self, library, file):
+        """Compiles a file as it stands, once, to compare with."""
+        if library.compiled and file not in self.objects:
+            self.objects[file] = {begin: self.object(*it) for begin, it in library.compiled(file).items()}
+
+    def differs(self, library, file):
+        """How the names of the tests begin that run other code than on the tree as it stands; None where there are none. Whether it compiles."""
+        for begin, it in library.compiled(file).items() if library.compiled else ():
+            made = self.object(*it)
+            if made is None or made != self.objects[file][begin]:
+                return begin, made is not None
+        return (None if library.compiled else ""), True
+
+    def passes(self, test):
+        """Whether a test passes here; None where it hangs."""
+        status, _ = run(test.run, self.folder, self.tests.limits[test.name], test.memory)
+        return None if status is None else status == 0
+
+    def judge_hang(self, test):
+        """What it means that a test took too long: nothing, where the one as it stands takes too long now, too."""
+        stands = self.as_it_stands(test)
+        program = stands and str(stands.with_suffix("").relative_to(self.folder))
+        return "hung" if program is None or self.passes(test._replace(run=[str(stands) if it == program else it for it in test.run])) else "busy"
+
+    def try_test(self, test):
+        """What a test says of the tree as it is here: nothing where it passes."""
+        if run(test.build, self.folder, LONGEST)[0] != 0:
+            return "not built"
+        for _ in range(2):
+            passes = self.passes(test)
+            if passes is not False:
+                return "" if passes else self.judge_hang(test)
+        return "killed"
+
+    def judge(self, library, mutant):
+        """What came of the wrong body that is here, and by which test."""
+        begin, compiles = self.differs(library, mutant.file)
+        if begin is None or not compiles:
+            return "same code" if compiles else "not built", ""
+        for test in (it for it in self.tests.ordered(library, mutant.file) if it.name.startswith(begin)):
+            outcome = self.try_test(test)
+            self.tests.note(mutant.file, test, outcome != "")
+            if outcome:
+                return outcome, test.name
+        return "survived" if self.tests.words == ("",) else "left", ""
+
+    def built(self, file):
+        """What is built of a file alone, with what it holds."""
+        names = {f"{pathlib.Path(file).stem}.o", f"layer-{pathlib.Path(file).stem}.o"}
+        return {it: it.read_bytes() for it in self.folder.glob("clients/out/**/*.o") if it.name in names}
 
     def try_mutant(self, library, mutant):
-        """What came of a wrong body, and by which test."""
+        """What came of a wrong body, and by which test. The file and what was built of it are put back."""
         path = self.folder / mutant.file
-        before = path.read_text()
+        before, stat = path.read_text(), path.stat()
+        self.compile(library, mutant.file)
+        built = self.built(mutant.file)
         try:
-            if library.compiled and mutant.file not in self.objects:
-                self.objects[mutant.file] = self.object(library, mutant.file)
             path.write_text(mutant.text)
-            if library.compiled and self.object(library, mutant.file) == self.objects[mutant.file]:
-                return "same code", ""
-            return next(((outcome, test.name) for test in self.tests(library, mutant.file) if (outcome := self.try_test(test))), ("survived", ""))
+            return self.judge(library, mutant)
         finally:
             path.write_text(before)
+            os.utime(path, ns=(stat.st_atime_ns, stat.st_mtime_ns))
+            for it, data in built.items():
+                it.write_bytes(data)
 
 
 class Tried:
     """The wrong bodies, and what came of them so far."""
 
-    def __init__(self, bodies, words):
-        self.bodies, self.words = bodies, words
+    def __init__(self, bodies, words, record, tests):
+        self.bodies, self.words, self.record, self.tests = bodies, words, record, tests
         self.came = {}
+        self.by = collections.Counter()
         self.lock = threading.Lock()
         self.known = known()
         self.is_over = False
@@ -234,6 +380,9 @@ class Tried:
             if self.is_over:
                 return
             self.came[mutant] = outcome
+            self.by.update([by] if by else [])
+            self.record.parts[mutant.file].note(mutants_of(mutant.file).index(mutant), outcome, by)
+            self.record.write()
             told = f" by {by}" if by else " (known)" if outcome == "survived" and key(mutant) in self.known else ""
             print(f"{mutant.file}:{mutant.line}: {mutant.rule}: {mutant.new}: {outcome}{told}", flush=True)
 
@@ -244,7 +393,8 @@ class Tried:
         """Writes what came of it."""
         lines = [f"tools/mutants.py {' '.join(self.words)}".rstrip(), f"sum of what was tried: {sum_of_tree()}", ""]
         lines += [f"{sum(it == outcome for it in self.came.values()):5} {outcome}" for outcome in OUTCOMES]
-        lines += [f"{len(self.bodies) - len(self.came):5} not tried"]
+        lines += [f"{len(self.bodies) - len(self.came):5} not tried", ""]
+        lines += [f"{count:5} by {test}" for test, count in self.by.most_common()]
         for is_known in (False, True):
             lines += ["", "Survivors that clients/MUTANTS.md has:" if is_known else "Survivors:", ""]
             lines += [f"line {it.line}, {it.rule}:\n    {key(it)}" for it in self.survivors(is_known)]
@@ -257,24 +407,24 @@ def sum_of_tree():
     found = hashlib.sha256()
     places = [path for name in COPIED for path in sorted((ROOT / name).rglob("*")) if path.is_file() and "out" not in path.relative_to(ROOT).parts]
     for path in [*places, *(it for it in [ROOT / "clients/out/libregistry.a"] if it.is_file())]:
-        found.update(f"{path.relative_to(ROOT)}\n".encode() + hashlib.sha256(path.read_bytes()).digest())
+        if path != RECORD:
+            found.update(f"{path.relative_to(ROOT)}\n".encode() + hashlib.sha256(path.read_bytes()).digest())
     return found.hexdigest()
 
 
-def lanes_for(bodies, jobs, least, room):
+def lanes_for(tried, jobs, room):
     """Copies of the tree, once each test that is needed has passed in the first of them."""
-    limits, of_file = {}, files()
-    lanes = [Lane(room / f"lane{number}", limits, least) for number in range(min(jobs, len(bodies)))]
-    tests = {test.name: test for file in {it.file for it in bodies} for test in of_file[file].tests(file)}
-    for test in tests.values():
-        lanes[0].measure(test)
-    return lanes
+    tests, of_file = tried.tests, files()
+    first = Lane(room / "lane0", tests)
+    for test in {test.name: test for file in {it.file for it in tried.bodies} for test in tests.of(of_file[file], file)}.values():
+        first.measure(test)
+    return [first, *(Lane(room / f"lane{number}", tests, first) for number in range(1, min(jobs, len(tried.bodies))))]
 
 
-def try_all(tried, jobs, least, room):
+def try_all(tried, jobs, room):
     """Tries each wrong body in a lane that no other one has just now."""
     free, of_file = queue.SimpleQueue(), files()
-    for lane in lanes_for(tried.bodies, jobs, least, room):
+    for lane in lanes_for(tried, jobs, room):
         free.put(lane)
 
     def one(mutant):
@@ -307,13 +457,16 @@ def number(word):
 
 
 def arguments():
-    parser = Parser(usage="tools/mutants.py [--only FILE[:LINE]].. [--sample N] [--seed N] [--jobs N] [--least N] [--to FILE] [--list]", allow_abbrev=False)
+    parser = Parser(usage=__doc__.split("\n")[2].strip(), allow_abbrev=False)
     parser.add_argument("--only", action="append", default=[])
     parser.add_argument("--sample", type=number)
     parser.add_argument("--seed", type=number, default=1)
     parser.add_argument("--jobs", type=number, default=2)
     parser.add_argument("--least", type=number, default=10)
     parser.add_argument("--to", type=pathlib.Path, default=ROOT / "tools/out/mutants.txt")
+    parser.add_argument("--record", type=pathlib.Path, default=RECORD)
+    parser.add_argument("--again", action="store_true")
+    parser.add_argument("--tests", action="append", default=[])
     parser.add_argument("--list", action="store_true")
     given = parser.parse_args()
     for word in given.only:
@@ -325,29 +478,56 @@ def arguments():
     return parser, given
 
 
+def sampled(found, count, seed):
+    """So many of them: of each file the same share, by chance. Those that come first are such a sample, too, where a run is cut off."""
+    of_files = collections.defaultdict(list)
+    for it in found:
+        of_files[it.file].append(it)
+    for file, bodies in of_files.items():
+        random.Random(f"{seed} {file}").shuffle(bodies)
+    places = {it: (place + 0.5) / len(bodies) for bodies in of_files.values() for place, it in enumerate(bodies)}
+    return sorted(found, key=places.get)[:count]
+
+
 def chosen(only, sample, seed):
-    """The wrong bodies that the words name, in their order; a sample in any order, so that what was tried before a run is cut off is a sample, too."""
+    """The wrong bodies that the words name, in their order; a sample in any order."""
     places = [word.partition(":")[::2] for word in only] or [(file, "") for file in files()]
     found = list(dict.fromkeys(it for file, line in places for it in mutants_of(file) if not line or it.line == int(line)))
-    return found if sample is None else random.Random(seed).sample(found, min(sample, len(found)))
+    return found if sample is None else sampled(found, sample, seed)
+
+
+def record_at(path):
+    """The record of what was tried, for all files as they are."""
+    sums = {file: (sum_of((ROOT / file).read_text(), [f"{it.line} {key(it)}" for it in mutants_of(file)]), len(mutants_of(file))) for file in files()}
+    return Record(path, sums)
+
+
+def came_before(record, mutant):
+    """What the record has of a wrong body."""
+    return record.parts[mutant.file].outcome(mutants_of(mutant.file).index(mutant))
 
 
 def main():
     parser, given = arguments()
-    tried = Tried(chosen(given.only, given.sample, given.seed), sys.argv[1:])
-    if not tried.bodies:
+    bodies = chosen(given.only, given.sample, given.seed)
+    if not bodies:
         parser.error("no wrong body there")
+    record = record_at(given.record)
     if given.list:
-        print("".join(f"{it.file}:{it.line}: {it.rule}: {it.old} -> {it.new}\n" for it in tried.bodies), end="")
+        print("".join(f"{it.file}:{it.line}: {it.rule}: {it.old} -> {it.new}: {came_before(record, it) or 'not tried'}\n" for it in bodies), end="")
         return 0
+    again = {None, *(["survived"] if given.again else []), *([] if given.tests and not given.again else ["left"])}
+    left = [it for it in bodies if came_before(record, it) in again]
+    tried = Tried(left, sys.argv[1:], record, Tests(given.least, record, given.tests))
     guard()
     try:
-        with tempfile.TemporaryDirectory() as room:
-            try_all(tried, given.jobs, given.least, pathlib.Path(room))
+        if left:
+            with tempfile.TemporaryDirectory() as room:
+                try_all(tried, given.jobs, pathlib.Path(room))
     finally:
         tried.report(given.to)
-    new = len(tried.survivors(is_known=False))
-    print(f"{len(tried.came)} tried, {new} survived that clients/MUTANTS.md doesn't have: {given.to}")
+    new = sum(came_before(record, it) == "survived" and key(it) not in tried.known for it in bodies)
+    print(f"{len(tried.came)} tried, {len(bodies) - len(left)} before; {new} survived that clients/MUTANTS.md doesn't have: {given.to}")
     return int(new > 0)
 
 

@@ -47,10 +47,21 @@ def tree():
 ONLY = "clients/c/waiting.c"
 
 
+# What the record has isn't tried again; what it has of another text of the file is.
+AGAIN = f"""tools/mutants.py --only {ONLY} --to again >said 2>&1 || exit 4
+grep -q '^0 tried, [1-9][0-9]* before; 0 survived' said || {{ cat said; exit 5; }}
+grep -qE '^    [khcbs]*h[khcbs]*$' clients/MUTANTS.txt || {{ cat clients/MUTANTS.txt; exit 6; }}
+sed -i 's/-= 1/-= 2/' {ONLY}
+tools/mutants.py --list --only {ONLY} | grep -vq ': not tried$' && exit 7
+tools/mutants.py --least 1 --only {ONLY} --sample 2 --to again >said 2>&1 && exit 8
+grep -q 'turns fails on the tree as it stands' said || {{ cat said; exit 9; }}
+"""
+
+
 def told(*said):
     """A command that runs the tool, and fails where the report doesn't say each of these."""
     tests = "".join(f'grep -qF -e "{it}" said report || {{ echo "it does not say: {it}"; exit 1; }}\n' for it in said)
-    return f"#!/bin/sh\ntools/mutants.py --least 1 --only {ONLY} --to report >said 2>&1 || exit 3\ncat report\n{tests}"
+    return f"#!/bin/sh\ntools/mutants.py --least 1 --only {ONLY} --to report >said 2>&1 || exit 3\ncat report\n{tests}{AGAIN}"
 
 
 def cases():
@@ -68,5 +79,5 @@ def cases():
         Fault("a number that is none", "mutants: argument --sample: not a number from 1: 0", command=["tools/mutants.py", "--sample", "0"]),
         Fault("a word that it doesn't know", "mutants: unrecognized arguments: more", command=["tools/mutants.py", "more"]),
     )
-    taken = ["mutants.py", "mutations.py", "parts.py", "counts.py"]
+    taken = ["mutants.py", "mutations.py", "tried.py", "parts.py", "counts.py"]
     yield Case("mutants", taken, {**tree(), "good": good}, ["./good"], faults, counts=False)

@@ -156,8 +156,11 @@ static void tell(struct thread *me, struct row *row, const struct registry_stage
 	size_t count = row->count;
 	const char *place = count > 0 ? row->held[count - 1].place : NULL;
 	pthread_mutex_unlock(&row->lock);
-	say(me, count == 1 ? "waits for %zu reference, acquired%s" : "waits for %zu references, one of them acquired%s", count,
-	    at_place(place, where, sizeof(where)));
+	if (count == 0)
+		say(me, "waits for a release that is under way");
+	else
+		say(me, count == 1 ? "waits for %zu reference, acquired%s" : "waits for %zu references, one of them acquired%s", count,
+		    at_place(place, where, sizeof(where)));
 }
 
 /* Lets others run, without the interlock: until the last release wakes it, or for a while where a section is waited for, whose end wakes nobody. Whether it

@@ -1,8 +1,9 @@
 /*
  * drained - how a drain ends: woken by the last release, and not before that has let go of the lock, which is freed with the object at once
  *
- * Over a layer whose drains look again only after ten seconds, a drain that nobody wakes is too late. The linker leads pthread_mutex_lock here (--wrap): some
- * releases lose their processor before each lock of the layer's that they take, so that whatever they touch too late is gone by then.
+ * Over a layer whose drains look again only after ten seconds, a drain that nobody wakes is too late. The linker leads pthread_mutex_lock and
+ * pthread_mutex_unlock here (--wrap): some releases lose their processor before each lock of the layer's that they take, and after each that they give back.
+ * What they touch too late is gone by then.
  */
 #include <sys/condvar.h>
 #include <sys/localcount.h>
@@ -14,7 +15,10 @@
 int __real_pthread_mutex_lock(pthread_mutex_t *mutex);
 int __wrap_pthread_mutex_lock(pthread_mutex_t *mutex);
 
-enum { ROUNDS = 300, HOLDERS = 3 };
+int __real_pthread_mutex_unlock(pthread_mutex_t *mutex);
+int __wrap_pthread_mutex_unlock(pthread_mutex_t *mutex);
+
+enum { ROUNDS = 300, HOLDERS = 3, BESIDE = 8 };
 
 static _Thread_local bool is_slow;
 
@@ -23,6 +27,14 @@ int __wrap_pthread_mutex_lock(pthread_mutex_t *mutex)
 	if (is_slow)
 		sleep_for(3000);
 	return __real_pthread_mutex_lock(mutex);
+}
+
+int __wrap_pthread_mutex_unlock(pthread_mutex_t *mutex)
+{
+	int answer = __real_pthread_mutex_unlock(mutex);
+	if (is_slow)
+		sleep_for(3000);
+	return answer;
 }
 
 /* The lock and the condition variable lie in the object, and go with it. */
@@ -88,6 +100,48 @@ static void replace(void)
 		sleep_for(10);
 }
 
+/* Waits by the same condition variable, for something else, and came first. */
+static void *wait_beside(void *of)
+{
+	struct object *object = of;
+	mutex_enter(&object->lock);
+	atomic_fetch_add(&draining, 1);
+	cv_wait(&object->cv, &object->lock);
+	mutex_exit(&object->lock);
+	return of;
+}
+
+static void *release_last(void *of)
+{
+	struct object *object = of;
+	sleep_for(3000);
+	localcount_release(&object->count, &object->cv, &object->lock);
+	return of;
+}
+
+/* The last release wakes all that wait: the drain is among them. */
+static void drain_beside_others(void)
+{
+	pthread_t waiter, releaser;
+	struct object *object = new_object();
+	localcount_acquire(&object->count);
+	unsigned before = atomic_load(&draining);
+	start_thread(&waiter, wait_beside, object);
+	while (atomic_load(&draining) == before)
+		sleep_for(50);
+	mutex_enter(&object->lock);
+	start_thread(&releaser, release_last, object);
+	localcount_drain(&object->count, &object->cv, &object->lock);
+	cv_broadcast(&object->cv);
+	mutex_exit(&object->lock);
+	end_thread(releaser);
+	end_thread(waiter);
+	localcount_fini(&object->count);
+	cv_destroy(&object->cv);
+	mutex_destroy(&object->lock);
+	free(object);
+}
+
 int main(void)
 {
 	pthread_t holders[HOLDERS];
@@ -101,6 +155,8 @@ int main(void)
 	atomic_store(&over, true);
 	for (unsigned i = 0; i < HOLDERS; i++)
 		end_thread(holders[i]);
+	for (unsigned round = 0; round < BESIDE; round++)
+		drain_beside_others();
 	pserialize_destroy(psz);
 	EXPECT(time(NULL) - begin < 60);
 	printf("%d objects were drained, and freed with their locks at once\n", ROUNDS);

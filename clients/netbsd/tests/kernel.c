@@ -76,6 +76,27 @@ static void test_levels_in_spin_locks(void)
 	mutex_destroy(&highest);
 }
 
+/* A lock spins by its type or by its level, and raises the CPU to that level: one of IPL_NONE to IPL_VM. */
+static void test_levels_of_locks(void)
+{
+	static const struct {
+		kmutex_type_t type;
+		int level, raised;
+	} each[] = {{MUTEX_SPIN, IPL_NONE, IPL_VM}, {MUTEX_SPIN, IPL_SOFTNET, IPL_SOFTNET}, {MUTEX_DEFAULT, IPL_VM, IPL_VM},
+	    {MUTEX_DEFAULT, IPL_SCHED, IPL_SCHED}, {MUTEX_DEFAULT, IPL_HIGH, IPL_HIGH}, {MUTEX_DEFAULT, IPL_SOFTSERIAL, IPL_NONE}};
+	for (unsigned i = 0; i < sizeof(each) / sizeof(each[0]); i++) {
+		kmutex_t of_level;
+		mutex_init(&of_level, each[i].type, each[i].level);
+		EXPECT(mutex_tryenter(&of_level) && kpreempt_disabled() == (each[i].raised != IPL_NONE));
+		int s = splsoftclock();
+		EXPECT(s == each[i].raised);
+		splx(s);
+		mutex_exit(&of_level);
+		EXPECT(!kpreempt_disabled());
+		mutex_destroy(&of_level);
+	}
+}
+
 static void test_mutexes(void)
 {
 	plain = pair[0] = 0;
@@ -86,6 +107,7 @@ static void test_mutexes(void)
 	mutex_spin_exit(&spin);
 	EXPECT(!kpreempt_disabled());
 	test_levels_in_spin_locks();
+	test_levels_of_locks();
 	kmutex_t *counted = mutex_obj_alloc(MUTEX_DEFAULT, IPL_NONE);
 	mutex_obj_hold(counted);
 	EXPECT(!mutex_obj_free(counted));
@@ -134,10 +156,12 @@ static void test_rwlocks(void)
 static void *wait_and_count(void *arg)
 {
 	mutex_enter(&lock);
-	if (waiting++ % 2 == 0)
-		cv_wait(&cv, &lock);
-	else
-		EXPECT(cv_wait_sig(&cv, &lock) == 0);
+	switch (waiting++ % 4) {
+	case 0: cv_wait(&cv, &lock); break;
+	case 1: EXPECT(cv_wait_sig(&cv, &lock) == 0); break;
+	case 2: EXPECT(cv_timedwait(&cv, &lock, 0) == 0); break;	/* for ever */
+	case 3: EXPECT(cv_timedwait_sig(&cv, &lock, 0) == 0); break;
+	}
 	plain++;
 	mutex_exit(&lock);
 	return arg;
@@ -165,6 +189,75 @@ static void test_condvars(void)
 	mutex_exit(&lock);
 	for (unsigned i = 0; i < THREADS; i++)
 		end_thread(threads[i]);
+	mutex_enter(&spin);
+	EXPECT(cv_timedwait(&cv, &spin, 1) == EWOULDBLOCK && mutex_owned(&spin) && kpreempt_disabled());
+	mutex_exit(&spin);
+	EXPECT(!kpreempt_disabled());
+}
+
+/* ---- Many that wait. ---- */
+
+/* More locks and condition variables than the layer has places to wait in: some share one. */
+enum { CROWD = 80 };
+
+static struct member {
+	kmutex_t lock;
+	kcondvar_t cv;
+	bool called;		/* under the lock */
+	atomic_bool gone;
+} crowd[CROWD];
+static atomic_uint came, left;
+
+static void *wait_in_crowd(void *of)
+{
+	struct member *member = of;
+	atomic_fetch_add(&came, 1);
+	mutex_enter(&member->lock);
+	while (!member->called)
+		cv_wait(&member->cv, &member->lock);
+	mutex_exit(&member->lock);
+	atomic_store(&member->gone, true);
+	atomic_fetch_add(&left, 1);
+	return of;
+}
+
+/* One goes, and no other. */
+static void call_member(struct member *member)
+{
+	unsigned before = atomic_load(&left);
+	mutex_enter(&member->lock);
+	member->called = true;
+	cv_signal(&member->cv);
+	mutex_exit(&member->lock);
+	while (!atomic_load(&member->gone))
+		sleep_for(50);
+	while (atomic_load(&left) == before)
+		sleep_for(50);
+	EXPECT(atomic_load(&left) == before + 1);
+}
+
+static void test_crowd(void)
+{
+	pthread_t threads[CROWD];
+	for (unsigned i = 0; i < CROWD; i++) {
+		mutex_init(&crowd[i].lock, MUTEX_DEFAULT, IPL_NONE);
+		cv_init(&crowd[i].cv, "crowd");
+		mutex_enter(&crowd[i].lock);
+		start_thread(&threads[i], wait_in_crowd, &crowd[i]);
+	}
+	while (atomic_load(&came) < CROWD)
+		sleep_for(100);
+	sleep_for(20000);
+	for (unsigned i = 0; i < CROWD; i++)
+		mutex_exit(&crowd[i * 7 % CROWD].lock);
+	sleep_for(20000);
+	for (unsigned i = 0; i < CROWD; i++)
+		call_member(&crowd[i * 3 % CROWD]);
+	for (unsigned i = 0; i < CROWD; i++) {
+		end_thread(threads[i]);
+		cv_destroy(&crowd[i].cv);
+		mutex_destroy(&crowd[i].lock);
+	}
 }
 
 /* ---- Memory. ---- */
@@ -258,6 +351,47 @@ static void test_cpus(void)
 	EXPECT(s == IPL_NONE && t == IPL_VM);
 	splx(t);
 	splx(s);
+}
+
+static atomic_uint step;
+
+/* Keeps one CPU until the last step. */
+static void *keep_cpu(void *of)
+{
+	kupaldiz_bind(*(unsigned *)of);
+	int s = pserialize_read_enter();
+	atomic_store(&step, 1);
+	while (atomic_load(&step) != 3)
+		sleep_for(100);
+	pserialize_read_exit(s);
+	return of;
+}
+
+static void *pass_barrier(void *of)
+{
+	xc_barrier(0);
+	atomic_fetch_add((atomic_uint *)of, 1);
+	return of;
+}
+
+/* A barrier visits each CPU: it ends after the section on any of them. */
+static void test_barrier(void)
+{
+	pthread_t keeper, passer;
+	for (unsigned cpu = 0; cpu < KUPALDIZ_CPUS; cpu++) {
+		atomic_uint passed = 0;
+		atomic_store(&step, 0);
+		start_thread(&keeper, keep_cpu, &cpu);
+		while (atomic_load(&step) == 0)
+			sleep_for(100);
+		start_thread(&passer, pass_barrier, &passed);
+		sleep_for(3000);
+		EXPECT(atomic_load(&passed) == 0);
+		atomic_store(&step, 3);
+		end_thread(keeper);
+		end_thread(passer);
+		EXPECT(atomic_load(&passed) == 1);
+	}
 }
 
 /* Sections nest as deep as anybody likes, and counts and references are acquired in the deepest. */
@@ -471,8 +605,10 @@ int main(void)
 	test_mutexes();
 	test_rwlocks();
 	test_condvars();
+	test_crowd();
 	test_memory();
 	test_cpus();
+	test_barrier();
 	test_depth();
 	test_callouts();
 	test_threads();

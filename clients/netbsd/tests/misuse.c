@@ -90,6 +90,14 @@ static void bind_beyond(void)
 	kupaldiz_bind(KUPALDIZ_CPUS);
 }
 
+/* Inside a section the thread has a CPU, if it isn't bound, too. */
+static void bind_inside(void)
+{
+	kupaldiz_unbind();
+	pserialize_read_enter();
+	kupaldiz_bind(1);
+}
+
 static void unbind_inside(void)
 {
 	pserialize_read_enter();
@@ -294,6 +302,32 @@ static void copy_into_held(void)
 	acquire();
 	psref_copy(&second, &psref, things);
 	psref_copy(&second, &psref, things);
+}
+
+/* The place in the table is used again by another reference. */
+static void release_old_bytes(void)
+{
+	acquire();
+	struct psref bytes = psref;
+	psref_release(&psref, &target, things);
+	acquire();
+	psref_release(&bytes, &target, things);
+}
+
+/* Storage that was never written: its words may be any. */
+static void release_beyond_cpus(void)
+{
+	acquire();
+	psref.psref_cpu = KUPALDIZ_CPUS;
+	psref_release(&psref, &target, things);
+}
+
+/* Whatever place it names, the table isn't read beyond its end. */
+static void release_beyond_table(void)
+{
+	acquire();
+	psref.psref_index = 16;		/* the table's first room */
+	psref_release(&psref, &target, things);
 }
 
 static void release_written_over(void)
@@ -538,6 +572,12 @@ static void fini_undrained(void)
 	localcount_fini(&count);
 }
 
+static void fini_never_live(void)
+{
+	static struct localcount never;
+	localcount_fini(&never);
+}
+
 static void fini_twice(void)
 {
 	drain_it(NULL);
@@ -655,6 +695,7 @@ static const struct stop_case cases[] = {
     {bindx_unbound, "curlwp_bindx: the thread is not bound to a CPU, at PLACE"},
     {bind_twice, "kupaldiz_bind: the thread is bound to CPU 0, at PLACE"},
     {bind_beyond, beyond},
+    {bind_inside, "kupaldiz_bind: inside a read section, entered at PLACE, at PLACE"},
     {unbind_inside, "kupaldiz_unbind: inside a read section, entered at PLACE, at PLACE"},
     {unbind_holding, "kupaldiz_unbind: the thread has passive references, at PLACE"},
     {bindx_holding, "curlwp_bindx: the thread has passive references, at PLACE"},
@@ -676,6 +717,9 @@ static const struct stop_case cases[] = {
     {acquire_into_held, "psref_acquire: the reference is held already, at PLACE"},
     {acquire_into_wiped, "psref_acquire: the reference is held already, at PLACE"},
     {copy_into_held, "psref_copy: the reference is held already, at PLACE"},
+    {release_old_bytes, "psref_release: the reference is not held, at PLACE"},
+    {release_beyond_cpus, "psref_release: the reference is not held, at PLACE"},
+    {release_beyond_table, "psref_release: the reference is not held, at PLACE"},
     {release_written_over, "psref_release: the reference was written over, at PLACE"},
     {release_other_target, "psref_release: the reference is to another target, at PLACE"},
     {copy_never_acquired, "psref_copy: the reference is not held, at PLACE"},
@@ -707,6 +751,7 @@ static const struct stop_case cases[] = {
     {drain_by_other_lock, "localcount_drain: the interlock differs from the one before, at PLACE"},
     {drain_by_other_cv, "localcount_drain: the condition variable differs from the one before, at PLACE"},
     {fini_undrained, "localcount_fini: the count is not drained, at PLACE"},
+    {fini_never_live, "localcount_fini: the count is not drained, at PLACE"},
     {fini_while_drained, "localcount_fini: the count is not drained, at PLACE"},
     {fini_twice, "localcount_fini: the count is not drained, at PLACE"},
     {count_drained, "localcount_acquire: the count is not live, at PLACE"},

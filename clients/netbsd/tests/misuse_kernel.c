@@ -133,6 +133,18 @@ static void spin_enter_adaptive(void)
 	mutex_spin_enter(&lock);
 }
 
+static void spin_exit_adaptive(void)
+{
+	mutex_enter(&lock);
+	mutex_spin_exit(&lock);
+}
+
+static void ownable_held(void)
+{
+	mutex_enter(&lock);
+	mutex_ownable(&lock);
+}
+
 static void splx_with_spin(void)
 {
 	int s = splsoftnet();
@@ -221,6 +233,27 @@ static void wait_with_two_spins(void)
 	kmutex_t second;
 	mutex_init(&second, MUTEX_DEFAULT, IPL_VM);
 	mutex_enter(&second);
+	mutex_enter(&spin);
+	cv_wait(&cv, &spin);
+}
+
+static void wait_spinning_inside(void)
+{
+	mutex_enter(&spin);
+	pserialize_read_enter();
+	cv_wait(&cv, &spin);
+}
+
+static void wait_spinning_raised(void)
+{
+	splsoftnet();
+	mutex_enter(&spin);
+	cv_wait(&cv, &spin);
+}
+
+static void wait_spinning_preempting(void)
+{
+	kpreempt_disable();
 	mutex_enter(&spin);
 	cv_wait(&cv, &spin);
 }
@@ -321,6 +354,28 @@ static void alloc_in_softint(void)
 	as_softint(alloc_softly);
 }
 
+static void zalloc_softly(void *arg)
+{
+	(void)arg;
+	kmem_zalloc(8, KM_NOSLEEP);
+}
+
+static void zalloc_in_softint(void)
+{
+	as_softint(zalloc_softly);
+}
+
+static void free_softly(void *arg)
+{
+	(void)arg;
+	kmem_free(kmem_intr_alloc(8, KM_NOSLEEP), 8);
+}
+
+static void free_in_softint(void)
+{
+	as_softint(free_softly);
+}
+
 static void alloc_sleeping_softly(void *arg)
 {
 	(void)arg;
@@ -408,6 +463,13 @@ static void schedule_ended(void)
 	softint_schedule(cookie);
 }
 
+static void disestablish_ended(void)
+{
+	void *cookie = softint_establish(SOFTINT_NET, nothing, NULL);
+	softint_disestablish(cookie);
+	softint_disestablish(cookie);
+}
+
 static void stay_inside(void *arg)
 {
 	(void)arg;
@@ -428,6 +490,17 @@ static void stay_locked(void *arg)
 static void handler_stays_locked(void)
 {
 	as_softint(stay_locked);
+}
+
+static void stay_spinning(void *arg)
+{
+	(void)arg;
+	mutex_enter(&spin);
+}
+
+static void handler_stays_spinning(void)
+{
+	as_softint(stay_spinning);
 }
 
 static void stay_bound(void *arg)
@@ -533,6 +606,17 @@ static void thread_ends_locked(void)
 	on_thread(end_locked);
 }
 
+static void *end_spinning(void *arg)
+{
+	mutex_enter(&spin);
+	return arg;
+}
+
+static void thread_ends_spinning(void)
+{
+	on_thread(end_spinning);
+}
+
 static void *end_raised(void *arg)
 {
 	splnet();
@@ -561,6 +645,21 @@ static void child_of_fork(void)
 static void exit_of_main(void)
 {
 	kthread_exit(0);
+}
+
+static void *exit_it(void *arg)
+{
+	kthread_exit(0);
+	return arg;
+}
+
+/* The layer keeps of it what it kept of a thread of kthread_create's before. */
+static void exit_of_next(void)
+{
+	lwp_t *worker;
+	EXPECT(kthread_create(PRI_NONE, KTHREAD_MUSTJOIN, NULL, nothing, NULL, &worker, "worker") == 0);
+	EXPECT(kthread_join(worker) == 0);
+	on_thread(exit_it);
 }
 
 static void join_nobody(void)
@@ -620,6 +719,8 @@ static const struct stop_case cases[] = {
     {enter_never_made, "mutex_enter: the lock was never initialised, at PLACE"},
     {enter_destroyed, "mutex_enter: the lock was destroyed, at PLACE"},
     {spin_enter_adaptive, "mutex_spin_enter: the lock does not spin, at PLACE"},
+    {spin_exit_adaptive, "mutex_spin_exit: the lock does not spin, at PLACE"},
+    {ownable_held, "mutex_ownable: the thread has the lock already"},
     {splx_with_spin, "splx: with a spin lock, at PLACE"},
     {enable_preemption, "kpreempt_enable: preemption is not disabled, at PLACE"},
     {wait_inside, "cv_wait: inside a read section, entered at PLACE, at PLACE"},
@@ -630,6 +731,9 @@ static const struct stop_case cases[] = {
     {cv_destroy_waited, "cv_destroy: a thread waits for count, at PLACE"},
     {wait_destroyed, "cv_wait: the condition variable was destroyed, at PLACE"},
     {wait_with_two_spins, "cv_wait: the thread has more than this spin lock, at PLACE"},
+    {wait_spinning_inside, "cv_wait: the thread has more than this spin lock, at PLACE"},
+    {wait_spinning_raised, "cv_wait: the thread has more than this spin lock, at PLACE"},
+    {wait_spinning_preempting, "cv_wait: the thread has more than this spin lock, at PLACE"},
     {cv_never_made, "cv_broadcast: the condition variable was never initialised, at PLACE"},
     {rw_exit_free, "rw_exit: nobody has the lock, at PLACE"},
     {rw_exit_anothers, "rw_exit: another thread has the lock as its writer, at PLACE"},
@@ -642,6 +746,8 @@ static const struct stop_case cases[] = {
     {rw_downgrade_reader, "rw_downgrade: the thread is not the lock's writer"},
     {alloc_inside, "kmem_alloc: inside a read section, entered at PLACE, at PLACE"},
     {alloc_in_softint, "kmem_alloc: in a soft interrupt, at PLACE"},
+    {zalloc_in_softint, "kmem_zalloc: in a soft interrupt, at PLACE"},
+    {free_in_softint, "kmem_free: in a soft interrupt, at PLACE"},
     {intr_alloc_sleeping, "kmem_intr_alloc: in a soft interrupt, at PLACE"},
     {alloc_nothing, "kmem_zalloc: a block of no bytes, at PLACE"},
     {alloc_without_flag, "kmem_alloc: neither KM_SLEEP nor KM_NOSLEEP alone, at PLACE"},
@@ -655,8 +761,10 @@ static const struct stop_case cases[] = {
     {percpu_sleeping, "kmem_alloc: with preemption disabled, at PLACE"},
     {percpu_putref_alone, "percpu_putref: without a percpu_getref, at PLACE"},
     {schedule_ended, "softint_schedule: the soft interrupt is not established, at PLACE"},
+    {disestablish_ended, "softint_disestablish: the soft interrupt is not established, at PLACE"},
     {handler_stays_inside, "softint: the handler returned inside a read section"},
     {handler_stays_locked, "softint: the handler returned with a lock"},
+    {handler_stays_spinning, "softint: the handler returned with a lock"},
     {handler_stays_bound, "softint: the handler returned with preemption disabled"},
     {callout_destroy_running, "callout_destroy: the callout runs, at PLACE"},
     {callout_halt_inside, "callout_halt: inside a read section, entered at PLACE, at PLACE"},
@@ -668,9 +776,11 @@ static const struct stop_case cases[] = {
     {broadcast_with_spin, "xc_broadcast: with a spin lock, at PLACE"},
     {wait_for_no_call, "xc_wait: no such call"},
     {thread_ends_locked, "pthread_exit: with a lock"},
+    {thread_ends_spinning, "pthread_exit: with a lock"},
     {thread_ends_raised, "pthread_exit: with its CPU"},
     {child_of_fork, "pserialize_read_enter: in the child of a fork, at PLACE"},
     {exit_of_main, "kthread_exit: kthread_create did not make this thread, at PLACE"},
+    {exit_of_next, "kthread_exit: kthread_create did not make this thread, at PLACE"},
     {join_nobody, "kthread_join: no thread that was made with KTHREAD_MUSTJOIN, at PLACE"},
     {assertion, "KASSERT: not so: 1 + 1 == 3, at PLACE"},
     {assertion_with_words, "KASSERTMSG: not so: 1 + 1 == 3: of 7, at PLACE"},

@@ -63,6 +63,34 @@ static void test_alone(void)
 	softint_disestablish(cookie);
 }
 
+static atomic_int level_found;
+
+/* A handler is at its own level, and is back at it once a higher one is over. */
+static void note_level(void *arg)
+{
+	int s = splnet();
+	EXPECT(splhigh() == IPL_NET);
+	splx(s);
+	EXPECT(splsoftclock() == s);
+	atomic_store((atomic_int *)arg, s);
+}
+
+static void test_own_level(void)
+{
+	static const struct {
+		unsigned flags;
+		int level;
+	} each[] = {{SOFTINT_CLOCK, IPL_SOFTCLOCK}, {SOFTINT_BIO, IPL_SOFTBIO}, {SOFTINT_NET, IPL_SOFTNET}, {SOFTINT_SERIAL, IPL_SOFTSERIAL}};
+	for (unsigned i = 0; i < 4; i++) {
+		void *cookie = softint_establish(each[i].flags | SOFTINT_MPSAFE, note_level, &level_found);
+		int s = pserialize_read_enter();
+		softint_schedule(cookie);
+		EXPECT(atomic_load(&level_found) == each[i].level);
+		pserialize_read_exit(s);
+		softint_disestablish(cookie);
+	}
+}
+
 static void note(void *arg)
 {
 	order[ordered++] = *(unsigned *)arg;
@@ -134,6 +162,95 @@ static void test_blocked(void)
 			sleep_for(10);
 	}
 	softint_disestablish(cookie);
+}
+
+/* The thread gives the lock back, and keeps its CPU: the handler goes on between two of its calls, once the level is below the handler's. */
+static void test_blocked_inside(void)
+{
+	atomic_uint done = 0;
+	void *cookie = softint_establish(SOFTINT_NET, handle_locked, &done);
+	mutex_enter(&lock);
+	int s = pserialize_read_enter();
+	softint_schedule(cookie);
+	int level = splsoftnet();
+	mutex_exit(&lock);
+	for (unsigned turn = 0; turn < 30; turn++) {
+		sleep_for(100);
+		pserialize_read_exit(pserialize_read_enter());
+		EXPECT(atomic_load(&done) == 0);
+	}
+	splx(level);
+	for (unsigned turn = 0; turn < 20000 && atomic_load(&done) == 0; turn++) {
+		sleep_for(100);
+		pserialize_read_exit(pserialize_read_enter());
+	}
+	EXPECT(atomic_load(&done) == 1 && pserialize_in_read_section());
+	pserialize_read_exit(s);
+	softint_disestablish(cookie);
+}
+
+static atomic_uint counted;
+static atomic_bool entered, let_go;
+
+static void count_and_stay(void *arg)
+{
+	(void)arg;
+	atomic_fetch_add(&counted, 1);
+	while (!atomic_load(&let_go))
+		sleep_for(100);
+}
+
+static void *schedule_elsewhere(void *cookie)
+{
+	kupaldiz_bind(3);
+	softint_schedule(cookie);
+	return cookie;
+}
+
+static void *disestablish(void *cookie)
+{
+	atomic_store(&entered, true);
+	softint_disestablish(cookie);
+	return cookie;
+}
+
+/* It runs on CPU 3 and waits on another one when its end begins: there it doesn't run any more. */
+static void *end_while_waiting(void *of)
+{
+	pthread_t scheduler, ender;
+	kupaldiz_bind(*(unsigned *)of);
+	void *cookie = softint_establish(SOFTINT_NET, count_and_stay, NULL);
+	atomic_store(&counted, 0);
+	atomic_store(&entered, false);
+	atomic_store(&let_go, false);
+	int s = splsoftnet();
+	softint_schedule(cookie);
+	start_thread(&scheduler, schedule_elsewhere, cookie);
+	while (atomic_load(&counted) == 0)
+		sleep_for(100);
+	start_thread(&ender, disestablish, cookie);
+	while (!atomic_load(&entered))
+		sleep_for(100);
+	sleep_for(20000);
+	splx(s);
+	sleep_for(3000);
+	EXPECT(atomic_load(&counted) == 1);
+	atomic_store(&let_go, true);
+	end_thread(ender);
+	end_thread(scheduler);
+	EXPECT(atomic_load(&counted) == 1);
+	return of;
+}
+
+static void test_ended_waiting(void)
+{
+	pthread_t thread;
+	for (unsigned cpu = 0; cpu < KUPALDIZ_CPUS; cpu++) {
+		if (cpu == 3)
+			continue;
+		start_thread(&thread, end_while_waiting, &cpu);
+		end_thread(thread);
+	}
 }
 
 static krwlock_t rw;
@@ -245,9 +362,12 @@ int main(void)
 	kupaldiz_bind(2);
 	test_inside();
 	test_alone();
+	test_own_level();
 	test_levels();
 	test_once();
 	test_blocked();
+	test_blocked_inside();
+	test_ended_waiting();
 	test_raised();
 	test_spin();
 	test_storm();

@@ -1,8 +1,8 @@
 /*
  * tells - a wait that lasts says for whom, once, by one line: over a layer whose patience is short
  *
- * Each case runs in a child, which ends well. What is waited for ends once the line was written: the linker leads write here (--wrap). The last line counts
- * the cases.
+ * Each case runs in a child, which ends well. What is waited for ends once the line was written: the linker leads write here (--wrap), and the archive's
+ * release of a local reference, which may last. The last line counts the cases.
  */
 #include <sys/callout.h>
 #include <sys/condvar.h>
@@ -18,6 +18,8 @@
 #include <sys/xcall.h>
 
 #include "stops.h"
+
+#include "registry.h"
 
 static struct psref_class *things;
 static struct psref_target target;
@@ -36,6 +38,25 @@ ssize_t __wrap_write(int file, const void *bytes, size_t length)
 	ssize_t written = __real_write(file, bytes, length);
 	atomic_store(&told, true);
 	return written;
+}
+
+/* It has it now, and keeps it until the line was written. */
+static void keep(void)
+{
+	atomic_store(&ready, true);
+	for (unsigned turn = 0; turn < 10000 && !atomic_load(&told); turn++)
+		sleep_for(1000);
+}
+
+static atomic_bool lasts;
+uint32_t __real_registry_local_release(struct registry_cpu *cpu, struct registry_local *reference);
+uint32_t __wrap_registry_local_release(struct registry_cpu *cpu, struct registry_local *reference);
+
+uint32_t __wrap_registry_local_release(struct registry_cpu *cpu, struct registry_local *reference)
+{
+	if (atomic_load(&lasts))
+		keep();
+	return __real_registry_local_release(cpu, reference);
 }
 
 static void begin(void)
@@ -67,14 +88,6 @@ static void name_it(void *of)
 {
 	prctl(PR_SET_NAME, *(const char **)of);
 	kupaldiz_bind(3);
-}
-
-/* It has it now, and keeps it until the line was written. */
-static void keep(void)
-{
-	atomic_store(&ready, true);
-	for (unsigned turn = 0; turn < 10000 && !atomic_load(&told); turn++)
-		sleep_for(1000);
 }
 
 static void *read_long(void *of)
@@ -126,6 +139,64 @@ static void destroy_for_one(void)
 	end_thread(holder);
 }
 
+static struct psref_target next;
+static atomic_bool joined;
+
+/* Has a reference to each of two targets, with the first one's CPU. */
+static void *refer_beside(void *of)
+{
+	struct psref first, other;
+	kupaldiz_bind(3);
+	psref_acquire(&first, &target, things);
+	psref_acquire(&other, &next, things);
+	atomic_store(&joined, true);
+	for (unsigned turn = 0; turn < 10000 && !atomic_load(&told); turn++)
+		sleep_for(1000);
+	psref_release(&first, &target, things);
+	psref_release(&other, &next, things);
+	return of;
+}
+
+static void *refer_to_two(void *of)
+{
+	struct psref first, other;
+	pthread_t beside;
+	name_it(of);
+	psref_target_init(&next, things);
+	psref_acquire(&first, &target, things);
+	psref_acquire(&other, &next, things);
+	start_thread(&beside, refer_beside, NULL);
+	while (!atomic_load(&joined))
+		sleep_for(100);
+	keep();
+	psref_release(&first, &target, things);
+	psref_release(&other, &next, things);
+	end_thread(beside);
+	return of;
+}
+
+/* Only what the thread has to this target counts. */
+static void destroy_among_others(void)
+{
+	pthread_t holder = hold("bridge_ioctl", refer_to_two);
+	psref_target_destroy(&target, things);
+	end_thread(holder);
+}
+
+static atomic_bool taken;
+
+/* Has CPU 0, outside any section. */
+static void *keep_first(void *of)
+{
+	kupaldiz_bind(0);
+	kpreempt_disable();
+	atomic_store(&taken, true);
+	for (unsigned turn = 0; turn < 10000 && !atomic_load(&told); turn++)
+		sleep_for(1000);
+	kpreempt_enable();
+	return of;
+}
+
 static void *refer_twice(void *of)
 {
 	struct psref first, second;
@@ -145,6 +216,40 @@ static void destroy_for_two(void)
 	end_thread(holder);
 }
 
+/* One reference more than its CPU counts, and then that one alone, which the writers' CPU counts. */
+static void *refer_elsewhere(void *of)
+{
+	static struct psref counted[KUPALDIZ_REFERENCES], elsewhere;
+	name_it(of);
+	for (unsigned i = 0; i < KUPALDIZ_REFERENCES; i++)
+		psref_acquire(&counted[i], &target, things);
+	psref_acquire(&elsewhere, &target, things);
+	for (unsigned i = 0; i < KUPALDIZ_REFERENCES; i++)
+		psref_release(&counted[i], &target, things);
+	EXPECT(psref_held(&target, things));
+	keep();
+	psref_release(&elsewhere, &target, things);
+	return of;
+}
+
+static void destroy_for_elsewhere(void)
+{
+	pthread_t holder = hold("ifconfig", refer_elsewhere);
+	psref_target_destroy(&target, things);
+	end_thread(holder);
+}
+
+/* The same, where the table of another CPU can't be looked into. */
+static void destroy_past_taken(void)
+{
+	pthread_t keeper;
+	start_thread(&keeper, keep_first, NULL);
+	while (!atomic_load(&taken))
+		sleep_for(100);
+	destroy_for_elsewhere();
+	end_thread(keeper);
+}
+
 static void *count_long(void *of)
 {
 	name_it(of);
@@ -157,6 +262,45 @@ static void *count_long(void *of)
 static void drain_for_one(void)
 {
 	pthread_t holder = hold("open", count_long);
+	mutex_enter(&countlock);
+	localcount_drain(&count, &cv, &countlock);
+	mutex_exit(&countlock);
+	end_thread(holder);
+}
+
+static void *count_twice(void *of)
+{
+	name_it(of);
+	localcount_acquire(&count);
+	localcount_acquire(&count);
+	keep();
+	localcount_release(&count, &cv, &countlock);
+	localcount_release(&count, &cv, &countlock);
+	return of;
+}
+
+static void drain_for_two(void)
+{
+	pthread_t holder = hold("open", count_twice);
+	mutex_enter(&countlock);
+	localcount_drain(&count, &cv, &countlock);
+	mutex_exit(&countlock);
+	end_thread(holder);
+}
+
+static void *release_long(void *of)
+{
+	name_it(of);
+	localcount_acquire(&count);
+	atomic_store(&lasts, true);
+	localcount_release(&count, &cv, &countlock);
+	return of;
+}
+
+/* The reference isn't noted any more, and not released yet. */
+static void drain_for_release(void)
+{
+	pthread_t holder = hold("close", release_long);
 	mutex_enter(&countlock);
 	localcount_drain(&count, &cv, &countlock);
 	mutex_exit(&countlock);
@@ -323,7 +467,12 @@ static const struct stop_case cases[] = {
     {enter_after_reader, "pserialize_read_enter: waits for CPU 3, whose thread \"reader\" is inside a read section, entered at PLACE"},
     {destroy_for_one, "psref_target_destroy: waits for CPU 3, whose thread \"bridge_input\" holds one reference, acquired at PLACE"},
     {destroy_for_two, "psref_target_destroy: waits for CPU 3, whose thread \"bridge_output\" holds 2 references, one of them acquired at PLACE"},
+    {destroy_for_elsewhere, "psref_target_destroy: waits for CPU 3, whose thread \"ifconfig\" holds one reference, acquired at PLACE"},
+    {destroy_among_others, "psref_target_destroy: waits for CPU 3, whose thread \"bridge_ioctl\" holds one reference, acquired at PLACE"},
+    {destroy_past_taken, "psref_target_destroy: waits for CPU 3, whose thread \"ifconfig\" holds one reference, acquired at PLACE"},
     {drain_for_one, "localcount_drain: waits for 1 reference, acquired at PLACE"},
+    {drain_for_two, "localcount_drain: waits for 2 references, one of them acquired at PLACE"},
+    {drain_for_release, "localcount_drain: waits for a release that is under way"},
     {drain_for_reader, "localcount_drain: waits for CPU 3, whose thread \"reader\" is inside a read section, entered at PLACE"},
     {enter_for_owner, "mutex_enter: waits for the lock that thread \"detach\" took at PLACE"},
     {read_for_writer, "rw_enter: waits for the lock that thread \"writer\" took as a writer at PLACE"},

@@ -1,0 +1,161 @@
+/*
+ * offers - each call at whose end a thread that goes on with its CPU offers it to the soft interrupts that wait
+ *
+ * A thread is in a section when its CPU's callout becomes due, and makes one kind of call until the callout has run.
+ */
+#include <sys/callout.h>
+#include <sys/condvar.h>
+#include <sys/intr.h>
+#include <sys/localcount.h>
+#include <sys/mutex.h>
+#include <sys/percpu.h>
+#include <sys/pserialize.h>
+#include <sys/psref.h>
+
+#include "test.h"
+
+enum { MOST = 200 };
+
+static struct psref_class *things;
+static struct psref_target target;
+static struct localcount count;
+static kmutex_t lock, spin;
+static kcondvar_t cv;
+static percpu_t *percpu;
+static callout_t callout;
+static void *other;
+static atomic_uint fired;
+static struct psref held, psrefs[MOST];
+static int sections[MOST];
+static unsigned made;	/* calls so far: so many references or sections are there */
+
+static void fire(void *arg)
+{
+	atomic_store((atomic_uint *)arg, 1);
+}
+
+static void nothing(void *arg)
+{
+	(void)arg;
+}
+
+/* ---- The calls, and what undoes them. ---- */
+
+static void enter_section(void) { sections[made++] = pserialize_read_enter(); }
+static void exit_section(void) { pserialize_read_exit(sections[--made]); }
+static void acquire(void) { psref_acquire(&psrefs[made++], &target, things); }
+static void release(void) { psref_release(&psrefs[--made], &target, things); }
+static void copy(void) { psref_copy(&psrefs[made++], &held, things); }
+static void ask(void) { EXPECT(psref_held(&target, things)); }
+static void count_in(void) { localcount_acquire(&count), made++; }
+static void count_out(void) { localcount_release(&count, &cv, &lock), made--; }
+static void signal_cv(void) { cv_signal(&cv); }
+static void broadcast_cv(void) { cv_broadcast(&cv); }
+static void schedule(void) { softint_schedule(other); }
+
+static void exit_mutex(void)
+{
+	mutex_enter(&spin);
+	mutex_exit(&spin);
+}
+
+static void exit_spin_mutex(void)
+{
+	mutex_spin_enter(&spin);
+	mutex_spin_exit(&spin);
+}
+
+static void lower(void)
+{
+	int s = splsoftserial();
+	splx(s);
+}
+
+static void enable_preemption(void)
+{
+	kpreempt_disable();
+	kpreempt_enable();
+}
+
+static void put_percpu(void)
+{
+	(void)percpu_getref(percpu);
+	percpu_putref(percpu);
+}
+
+/* A call, and what goes before it MOST times, or undoes it afterwards. */
+static const struct offer {
+	const char *name;
+	void (*call)(void);
+	void (*before)(void);
+	void (*undo)(void);
+} offers[] = {
+    {"pserialize_read_enter", enter_section, NULL, exit_section},
+    {"pserialize_read_exit", exit_section, enter_section, exit_section},
+    {"psref_acquire", acquire, NULL, release},
+    {"psref_release", release, acquire, release},
+    {"psref_copy", copy, NULL, release},
+    {"psref_held", ask, NULL, NULL},
+    {"localcount_acquire", count_in, NULL, count_out},
+    {"localcount_release", count_out, count_in, count_out},
+    {"cv_signal", signal_cv, NULL, NULL},
+    {"cv_broadcast", broadcast_cv, NULL, NULL},
+    {"softint_schedule", schedule, NULL, NULL},
+    {"mutex_exit", exit_mutex, NULL, NULL},
+    {"mutex_spin_exit", exit_spin_mutex, NULL, NULL},
+    {"splx", lower, NULL, NULL},
+    {"kpreempt_enable", enable_preemption, NULL, NULL},
+    {"percpu_putref", put_percpu, NULL, NULL},
+};
+
+/* Makes the call until the callout has run. Between two calls the clock has time to find it due. */
+static void test_offer(const struct offer *offer)
+{
+	atomic_store(&fired, 0);
+	int s = pserialize_read_enter();
+	while (offer->before != NULL && made < MOST)
+		offer->before();
+	callout_reset(&callout, 1, fire, &fired);
+	for (unsigned turn = 0; turn < MOST && atomic_load(&fired) == 0; turn++) {
+		sleep_for(5000);
+		offer->call();
+	}
+	if (atomic_load(&fired) == 0)
+		fprintf(stderr, "%s offers the CPU to nobody\n", offer->name);
+	EXPECT(atomic_load(&fired) == 1);
+	while (made > 0)
+		offer->undo();
+	pserialize_read_exit(s);
+}
+
+int main(void)
+{
+	kupaldiz_bind(2);
+	things = psref_class_create("thing", IPL_SOFTNET);
+	psref_target_init(&target, things);
+	localcount_init(&count);
+	mutex_init(&lock, MUTEX_DEFAULT, IPL_NONE);
+	mutex_init(&spin, MUTEX_DEFAULT, IPL_VM);
+	cv_init(&cv, "count");
+	percpu = percpu_alloc(sizeof(int));
+	callout_init(&callout, CALLOUT_MPSAFE);
+	other = softint_establish(SOFTINT_CLOCK, nothing, NULL);
+	psref_acquire(&held, &target, things);
+	for (unsigned place = 0; place < sizeof(offers) / sizeof(offers[0]); place++)
+		test_offer(&offers[place]);
+	psref_release(&held, &target, things);
+	psref_target_destroy(&target, things);
+	psref_class_destroy(things);
+	mutex_enter(&lock);
+	localcount_drain(&count, &cv, &lock);
+	mutex_exit(&lock);
+	localcount_fini(&count);
+	callout_destroy(&callout);
+	softint_disestablish(other);
+	percpu_free(percpu, sizeof(int));
+	cv_destroy(&cv);
+	mutex_destroy(&spin);
+	mutex_destroy(&lock);
+	puts("each call offered the CPU to the soft interrupt that waited");
+	return 0;
+}
