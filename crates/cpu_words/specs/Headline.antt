@@ -37,7 +37,8 @@ pub record RunsLawfully (z : Settings) (s : Table ℕ View) : Type 0 where
   pub good : Good (after (opening z) events)
   -- a run of the model reaches its picture
   pub modelled : IsModelRun empty_model (picture (after (opening z) events))
-  -- the headline, safe reuse, drivers that outlive interfaces, lawful answers, balance at rest and the grace law
+  -- all laws of the protocol hold: the headline, safe reuse, drivers that outlive interfaces, lawful and fresh answers, whole passes, balance at
+  -- rest, the grace law and what is kept
   pub laws : ObeysLaws (after (opening z) events)
 
 -- and what the seats did is that list: each event with its reply and the place of the seat that made it, and each seat's log is its part
