@@ -57,7 +57,7 @@ class Function:
 
     def __init__(self, name, processor):
         self.name, self.processor = name, processor
-        self.frame, self.calls, self.last, self.paged = processor.return_address, set(), None, False
+        self.frame, self.calls, self.last, self.printed, self.paged = processor.return_address, set(), None, None, False
 
     def take(self, found):
         if found["push"]:
@@ -74,12 +74,13 @@ class Function:
                 raise Fault(f"{self.name} calls through a pointer")
         elif is_call or found["to"] != self.name:
             self.calls.add(found["to"])
-        self.last = found["by"]
+        self.last, self.printed = found["by"], found["to"]
 
     def read(self, line):
         if found := self.processor.refers.search(line):
             if self.last:
-                self.calls.discard(self.name)
+                # What was printed is where the bytes lead before they are linked: the function itself, or what lies after its end.
+                self.calls.discard(self.printed)
                 self.calls.add(SECTION.sub("", found[1]))
             self.last = None
             return
