@@ -177,7 +177,7 @@ FAULTS = [
     Fault("ioctl", "ioctl", "a destroy with the lock that a holder waits for", r"deadlock: .*psref_target_destroy|deadlock: .*mutex_enter", [
         (REMOVE, swapped(REMOVE, 2, 3)), (COPYOUT, COPYOUT.replace("	psref_release", "	mutex_enter(&entry_lock);\n	mutex_exit(&entry_lock);\n	psref_release"))]),
     Fault("rxintr", "rxintr", "a perform forgotten", FREED, [(UNLISTEN, without(UNLISTEN, 1))]),
-    Fault("rxintr", "rxintr", "a lock of the wrong level", r"in a soft interrupt, and the lock is of IPL_NONE|at a raised level|with a spin lock", [
+    Fault("rxintr", "rxintr", "a lock of IPL_NONE in a soft interrupt", r"in a soft interrupt, and the lock is of IPL_NONE|at a raised level|with a spin lock", [
         ("	mutex_init(&rxq_lock, MUTEX_DEFAULT, IPL_NET);\n", "	mutex_init(&rxq_lock, MUTEX_DEFAULT, IPL_NONE);\n")]),
     Fault("rxintr", "rxintr", "a packet that is never freed", r"blocks of memory are left at the end, one of them taken by kmem_intr_alloc", [
         ("		rx_deliver(p->p_number);\n		kmem_intr_free(p, sizeof(*p));\n", "		rx_deliver(p->p_number);\n")]),

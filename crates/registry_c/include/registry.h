@@ -645,7 +645,7 @@ registry_answer registry_local_forget(struct registry_local *local) REGISTRY_NON
  * registry_attach - attach a driver
  *
  * The driver gets the next number and the lowest-numbered vacant slot. Lookups that begin after this call has returned find it, until it is detached.
- * The entry is written to `made`, which may be NULL. On failure nothing changes.
+ * The entry is written to `made`, which may be NULL. On failure nothing changes. The call allocates no memory.
  * A registry allows change_limit / 2 attaches in its life, rounded down, of drivers and interfaces together. Each attach reserves the detach of its
  * entry, so a detach never fails for this. A detach gives no room back. After the last attach, this call returns REGISTRY_HISTORY_FULL. A long-lived
  * program counts its attaches, and opens a new registry in time.
