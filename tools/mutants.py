@@ -86,24 +86,24 @@ BENCH = {"counts": [], "drivers": [], "finds": [], "refusals": [], "shortest": [
 Library = collections.namedtuple("Library", "files tests compiled")
 
 
-def waited(leader):
-    """For each thread of a session how long it has waited for a processor, in seconds."""
+def times(leader):
+    """For each thread of a session how long it ran, and how long it waited for a processor, in seconds."""
     found = {}
     for task in (task for pid in of_session(leader) for task in pathlib.Path(f"/proc/{pid}/task").glob("*")):
         with contextlib.suppress(OSError, ValueError, IndexError):
-            found[task.name] = int((task / "schedstat").read_text().split()[1]) / 1e9
+            found[task.name] = [int(it) / 1e9 for it in (task / "schedstat").read_text().split()[:2]]
     return found
 
 
 def wait(process, seconds):
-    """Waits for a process; None where it took so many seconds, without those in which a thread of it waited for a processor."""
+    """Waits for a process; None where it took so many seconds, without those in which a thread of it waited for a processor, or ran so many."""
     began, late, before = time.monotonic(), 0.0, {}
-    while time.monotonic() - began - late < seconds:
+    while time.monotonic() - began - late < seconds and sum(ran for ran, _ in before.values()) < seconds:
         try:
             return process.wait(LOOKS)
         except subprocess.TimeoutExpired:
-            now = waited(process.pid)
-            late += max((it - before.get(task, 0.0) for task, it in now.items()), default=0.0)
+            now = times(process.pid)
+            late += max((waited - before.get(task, (0.0, 0.0))[1] for task, (_, waited) in now.items()), default=0.0)
             before = now
     return None
 

@@ -1,8 +1,8 @@
 /*
  * tells - a wait that lasts says for whom, once, by one line: over a layer whose patience is short
  *
- * Each case runs in a child, which ends well. What is waited for ends once the line was written: the linker leads write here (--wrap), and the archive's
- * release of a local reference, which may last. The last line counts the cases.
+ * Each case runs in a child, which ends well. What is waited for ends once the line was written: the linker leads write here (--wrap), and what
+ * acquires and releases a local reference in the archive, which may last. The last line counts the cases.
  */
 #include <sys/callout.h>
 #include <sys/condvar.h>
@@ -48,9 +48,18 @@ static void keep(void)
 		sleep_for(1000);
 }
 
-static atomic_bool lasts;
+static atomic_bool lasts, lasts_inside;
+uint32_t __real_registry_local_acquire(struct registry_cpu *cpu, struct registry_local *reference);
+uint32_t __wrap_registry_local_acquire(struct registry_cpu *cpu, struct registry_local *reference);
 uint32_t __real_registry_local_release(struct registry_cpu *cpu, struct registry_local *reference);
 uint32_t __wrap_registry_local_release(struct registry_cpu *cpu, struct registry_local *reference);
+
+uint32_t __wrap_registry_local_acquire(struct registry_cpu *cpu, struct registry_local *reference)
+{
+	if (atomic_load(&lasts_inside))
+		keep();
+	return __real_registry_local_acquire(cpu, reference);
+}
 
 uint32_t __wrap_registry_local_release(struct registry_cpu *cpu, struct registry_local *reference)
 {
@@ -104,6 +113,23 @@ static void perform_for_reader(void)
 	pthread_t reader = hold("reader", read_long);
 	pserialize_perform(psz);
 	end_thread(reader);
+}
+
+static void *acquire_long(void *of)
+{
+	name_it(of);
+	atomic_store(&lasts_inside, true);
+	localcount_acquire(&count);
+	localcount_release(&count, &cv, &countlock);
+	return of;
+}
+
+/* The section is a call's own, and nobody has entered it by name. */
+static void perform_for_call(void)
+{
+	pthread_t acquirer = hold("acquirer", acquire_long);
+	pserialize_perform(psz);
+	end_thread(acquirer);
 }
 
 static void destroy_for_reader(void)
@@ -463,6 +489,7 @@ static void spin_for_owner(void)
 
 static const struct stop_case cases[] = {
     {perform_for_reader, "pserialize_perform: waits for CPU 3, whose thread \"reader\" is inside a read section, entered at PLACE"},
+    {perform_for_call, "pserialize_perform: waits for CPU 3"},
     {destroy_for_reader, "psref_target_destroy: waits for CPU 3, whose thread \"reader\" is inside a read section, entered at PLACE"},
     {enter_after_reader, "pserialize_read_enter: waits for CPU 3, whose thread \"reader\" is inside a read section, entered at PLACE"},
     {destroy_for_one, "psref_target_destroy: waits for CPU 3, whose thread \"bridge_input\" holds one reference, acquired at PLACE"},
