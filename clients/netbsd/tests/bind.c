@@ -116,7 +116,7 @@ static void *stay_bound(void *arg)
 	return arg;
 }
 
-/* A thread is bound where it was last, unless fewer are bound elsewhere: to the next one of those then. One that isn't bound any more counts nowhere. */
+/* A thread is bound where it was last. Where fewer are bound elsewhere it is bound to the next such CPU. One that isn't bound any more doesn't count. */
 static void test_least_bound(void)
 {
 	pthread_t other;
