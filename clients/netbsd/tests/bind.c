@@ -116,7 +116,7 @@ static void *stay_bound(void *arg)
 	return arg;
 }
 
-/* A thread is bound where it was last. Where fewer are bound elsewhere it is bound to the next such CPU. One that isn't bound any more doesn't count. */
+/* A thread is bound where it was last. Where fewer are bound elsewhere it is bound to the next such CPU. One that is not bound counts nowhere. */
 static void test_least_bound(void)
 {
 	pthread_t other;
