@@ -46,6 +46,8 @@ from parts import ROOT, guard, of_session, running, stop_running
 from tried import Record, sum_of
 
 COPIED = ("clients", "bench", "crates/registry_c/include")
+# Where a lane keeps the programs of the tests as they are without a wrong body.
+STANDS = "stands"
 KNOWN = ROOT / "clients/MUTANTS.md"
 RECORD = ROOT / "clients/MUTANTS.txt"
 C_FLAGS = "STRICT=-std=c11 -D_POSIX_C_SOURCE=200809L -w"
@@ -269,15 +271,14 @@ class Lane:
     def __init__(self, folder, tests, other=None):
         self.folder, self.tests = folder, tests
         self.objects = {}
-        for name in COPIED:
+        for name in (*COPIED, *([STANDS] if other else [])):
             of = other.folder if other else ROOT
             if (of / name).is_dir():
                 shutil.copytree(of / name, folder / name, symlinks=True, ignore=lambda at, _: ["rust"] if at.endswith("/clients/out") else ["target"])
 
     def as_it_stands(self, test):
-        """Where the program of a test is kept as it is without a wrong body, if it is a program of its own."""
-        program = next((pathlib.Path(it) for it in test.run if it.startswith("clients/")), None)
-        return self.folder / program.with_name(f"{program.name}.stands") if program and program.is_relative_to("clients/out") else None
+        """How the test runs without a wrong body, if it is a program of its own: a copy of that, by the same name."""
+        return test._replace(run=[f"{STANDS}/{it}" if it.startswith("clients/out/") else it for it in test.run])
 
     def measure(self, test):
         """Runs a test on the tree as it stands, where it has to pass, within the same bounds."""
@@ -287,8 +288,10 @@ class Lane:
             if status != 0:
                 sys.exit(f"mutants: {test.name} fails on the tree as it stands: {' '.join(words)}: {said.strip()[-300:]}")
         self.tests.note_time(test, time.monotonic() - began)
-        if self.as_it_stands(test):
-            shutil.copy2(self.as_it_stands(test).with_suffix(""), self.as_it_stands(test))
+        for it in test.run:
+            if it.startswith("clients/out/"):
+                (self.folder / STANDS / it).parent.mkdir(parents=True, exist_ok=True)
+                shutil.copy2(self.folder / it, self.folder / STANDS / it)
 
     def object(self, words, made):
         """What the compiler makes of a file as it is here; None where it makes nothing."""
@@ -317,8 +320,7 @@ class Lane:
     def judge_hang(self, test):
         """What it means that a test took too long: nothing, where the one as it stands takes too long now, too."""
         stands = self.as_it_stands(test)
-        program = stands and str(stands.with_suffix("").relative_to(self.folder))
-        return "hung" if program is None or self.passes(test._replace(run=[str(stands) if it == program else it for it in test.run])) else "busy"
+        return "hung" if stands == test or self.passes(stands) else "busy"
 
     def try_test(self, test):
         """What a test says of the tree as it is here: nothing where it passes."""

@@ -2,8 +2,8 @@
  * drained - how a drain ends: woken by the last release, and not before that has let go of the lock, which is freed with the object at once
  *
  * Over a layer whose drains look again only after ten seconds, a drain that nobody wakes is too late. The linker leads pthread_mutex_lock and
- * pthread_mutex_unlock here (--wrap): some releases lose their processor before each lock of the layer's that they take, and after each that they give back.
- * What they touch too late is gone by then.
+ * pthread_mutex_unlock here (--wrap): some releases lose their processor before each lock of the layer's that they take, and after each that they
+ * give back. What they touch too late is gone by then.
  */
 #include <sys/condvar.h>
 #include <sys/localcount.h>

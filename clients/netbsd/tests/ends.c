@@ -32,10 +32,18 @@ enum { CONDS = 256, WAITS = 70 };
 static pthread_cond_t *_Atomic monotonic[CONDS];
 static atomic_uint conds;
 
+/* So many nanoseconds after the turn of a second it is always, if that isn't negative. */
+static _Thread_local long always = -1;
+
 int __wrap_clock_gettime(clockid_t clock, struct timespec *time)
 {
 	EXPECT(clock == CLOCK_MONOTONIC);
-	return __real_clock_gettime(clock, time);
+	int answer = __real_clock_gettime(clock, time);
+	if (always >= 0) {
+		time->tv_sec -= time->tv_nsec < always;
+		time->tv_nsec = always;
+	}
+	return answer;
 }
 
 int __wrap_pthread_cond_init(pthread_cond_t *cond, const pthread_condattr_t *how)
@@ -74,11 +82,17 @@ static atomic_bool ready, over;
 struct own {
 	struct psref psref;
 	int section;
+	unsigned rounds;	/* of destructors before the one that gives it back */
+	pthread_key_t key;
 };
 
 static void give_back(void *of)
 {
 	struct own *own = of;
+	if (own->rounds-- > 0) {
+		EXPECT(pthread_setspecific(own->key, own) == 0);
+		return;
+	}
 	if (own->section >= 0)
 		pserialize_read_exit(own->section);
 	psref_release(&own->psref, &target, things);
@@ -91,7 +105,10 @@ static void *end_with(void *of)
 {
 	unsigned turn = *(unsigned *)of;
 	struct own *own = calloc(1, sizeof(*own));
-	EXPECT(own != NULL && pthread_setspecific(turn % 2 == 0 ? early : late, own) == 0);
+	EXPECT(own != NULL);
+	own->key = turn % 2 == 0 ? early : late;
+	own->rounds = turn < 8 ? 0 : turn % 2 == 0 ? 2 : 1;
+	EXPECT(pthread_setspecific(own->key, own) == 0);
 	kupaldiz_bind(turn % KUPALDIZ_CPUS);
 	psref_acquire(&own->psref, &target, things);
 	own->section = turn % 4 < 2 ? pserialize_read_enter() : -1;
@@ -350,6 +367,9 @@ static void test_time(void)
 		EXPECT(cv_timedwait(&cv, &lock, 2) == EWOULDBLOCK);
 		EXPECT(milliseconds() - begin >= 19);
 	}
+	for (always = 989999999; always <= 990000001; always++)
+		EXPECT(cv_timedwait(&cv, &lock, 1) == EWOULDBLOCK);
+	always = -1;
 	int64_t begin = milliseconds();
 	EXPECT(kpause("wait", false, 2, &lock) == EWOULDBLOCK && milliseconds() - begin >= 19 && mutex_owned(&lock));
 	mutex_exit(&lock);

@@ -62,6 +62,7 @@ static void test_changes(unsigned changes)
 	for (unsigned i = 0; i < changes; i += 2) {
 		psref_target_init(&goes, things);
 		psref_acquire(&psref, &goes, things);
+		EXPECT(psref.psref_index < 16);		/* places of the table are used again */
 		psref_release(&psref, &goes, things);
 		psref_target_destroy(&goes, things);
 		EXPECT(psref_held(&stays, things));

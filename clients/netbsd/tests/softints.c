@@ -144,11 +144,26 @@ static void handle_locked(void *arg)
 	mutex_exit(&lock);
 }
 
+static atomic_bool blocked_over;
+
+/* Others come and go meanwhile, on another CPU. */
+static void *establish_others(void *arg)
+{
+	kupaldiz_bind(4);
+	while (!atomic_load(&blocked_over)) {
+		softint_disestablish(softint_establish(SOFTINT_BIO, handle, &runs));
+		sleep_for(20);
+	}
+	return arg;
+}
+
 /* The thread that is interrupted has the lock that the handler wants: it goes on, and the handler runs on once it has given the lock back. */
 static void test_blocked(void)
 {
+	pthread_t other;
 	atomic_uint done = 0;
 	void *cookie = softint_establish(SOFTINT_NET, handle_locked, &done);
+	start_thread(&other, establish_others, NULL);
 	for (unsigned round = 0; round < 50; round++) {
 		mutex_enter(&lock);
 		int s = pserialize_read_enter();
@@ -161,6 +176,8 @@ static void test_blocked(void)
 		while (atomic_load(&done) == round)
 			sleep_for(10);
 	}
+	atomic_store(&blocked_over, true);
+	end_thread(other);
 	softint_disestablish(cookie);
 }
 

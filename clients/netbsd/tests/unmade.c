@@ -1,6 +1,6 @@
 /*
- * unmade - each call that is given a lock, a condition variable or a callout, with one that was never initialised and one that was destroyed: it stops with
- * the call's name and what is wrong
+ * unmade - each call that is given a lock, a condition variable or a callout, with one that was never initialised and one that was destroyed: it
+ * stops with the call's name and what is wrong
  *
  * The last line counts the cases. A call that is no macro has no place in its line.
  */
