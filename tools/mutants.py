@@ -16,7 +16,7 @@ if it saw many other wrong bodies of the file, and takes little time. A body tha
 each file. `--jobs` tries so many at a time (2). `--list` only says what they are, and what came of each.
 
 The results go to --to (tools/out/mutants.txt), however the run ends, with the sum of what was tried. --record (clients/MUTANTS.txt) keeps what came
-of each wrong body, and the next run passes over it. `--again` tries survivors another time. With `--tests` only tests run whose names begin with one
+of each wrong body, and the next run passes over it. `--again` tries survivors, and what was killed by time, anew. With `--tests` only tests run whose names begin with one
 of these words. What survives those is left for a run of all tests.
 
 clients/MUTANTS.md lists the survivors that are known, with the reason why each harms nobody. Where there is another one the status is 1.
@@ -518,7 +518,7 @@ def main():
     if given.list:
         print("".join(f"{it.file}:{it.line}: {it.rule}: {it.old} -> {it.new}: {came_before(record, it) or 'not tried'}\n" for it in bodies), end="")
         return 0
-    again = {None, *(["survived"] if given.again else []), *([] if given.tests and not given.again else ["left"])}
+    again = {None, *(["survived", "hung"] if given.again else []), *([] if given.tests and not given.again else ["left"])}
     left = [it for it in bodies if came_before(record, it) in again]
     tried = Tried(left, sys.argv[1:], record, Tests(given.least, record, given.tests))
     guard()
