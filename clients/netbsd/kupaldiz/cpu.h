@@ -76,7 +76,7 @@ void kupaldiz_unbind(void);
 /*
  * curlwp_bind - bind this thread to the CPU that it has
  *
- * Where it has none, it is bound to the one with the fewest bound threads, which may not be the one that curcpu() named. It waits for nobody.
+ * Where it has none, it is bound to the one with the fewest bound threads, which may not be the one that curcpu named. It waits for nobody.
  * Returns what curlwp_bindx takes: 0 where this call bound the thread, 1 where it was bound before.
  */
 int curlwp_bind(void);
