@@ -47,7 +47,7 @@ REFUSED = "refused"
 KINDS = {
     "refused, but a proof file names what the edit took away": "only because a proof",
     "refused, but by a limit of the prover": "only by a limit of the prover",
-    "refused, but for want of a proof": "no proof",
+    "refused, only because no proof was found": "no proof",
     REFUSED: "refused",
     "NOT REFUSED": "NOT REFUSED",
     "not tried": "",

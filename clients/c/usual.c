@@ -4,7 +4,7 @@
  * What a call has left is asked after each: how deep the CPU is inside, what it found last, what holds the entry. Then three threads look drivers
  * up, while a fourth takes one out and puts it in again, without a pause: each answer is what the registry had during the call. Often that fourth
  * one stops one of the others by a signal, in the middle of what it does, and lets it go on after a change. In the end three threads get or find a
- * driver and use its object of the heap, while a fourth takes the driver out, frees the object as soon as nobody holds it, and puts a new one in.
+ * driver and use its object of the heap. A fourth takes the driver out, frees the object as soon as nobody holds it, and puts a new one in.
  */
 #include <pthread.h>
 #include <signal.h>

@@ -322,7 +322,7 @@ static void release_beyond_cpus(void)
 	psref_release(&psref, &target, things);
 }
 
-/* Whatever place it names, the table isn't read beyond its end. */
+/* It may name any place: the table isn't read beyond its end. */
 static void release_beyond_table(void)
 {
 	acquire();

@@ -285,13 +285,19 @@ static void *count_long(void *of)
 	return of;
 }
 
-static void drain_for_one(void)
+/* Drains while a thread holds what the body acquires. */
+static void drain_beside(void *(*body)(void *))
 {
-	pthread_t holder = hold("open", count_long);
+	pthread_t holder = hold("open", body);
 	mutex_enter(&countlock);
 	localcount_drain(&count, &cv, &countlock);
 	mutex_exit(&countlock);
 	end_thread(holder);
+}
+
+static void drain_for_one(void)
+{
+	drain_beside(count_long);
 }
 
 static void *count_twice(void *of)
@@ -307,11 +313,7 @@ static void *count_twice(void *of)
 
 static void drain_for_two(void)
 {
-	pthread_t holder = hold("open", count_twice);
-	mutex_enter(&countlock);
-	localcount_drain(&count, &cv, &countlock);
-	mutex_exit(&countlock);
-	end_thread(holder);
+	drain_beside(count_twice);
 }
 
 static void *release_long(void *of)
