@@ -1,10 +1,10 @@
 #!/usr/bin/env python3
-"""Makes the table of docs/EVENTS.md from the sources: for each event its step, its contract, its lemmas and its wrong bodies.
+"""Makes the two tables of docs/EVENTS.md from the sources: for each event its step, its contract, its lemmas and its wrong bodies.
 
-    tools/event-table.py make     writes the table into docs/EVENTS.md
-    tools/event-table.py check    makes it again and compares
+    tools/event-table.py make     writes the tables into docs/EVENTS.md
+    tools/event-table.py check    makes them again and compares
 
-A row is an event and a step of `cpu_words` that makes it. Every event needs a row; every row needs a definition, a lemma of each kind and an edit.
+A row is an event and a step of `cpu_words` that makes it. The second table has the events that stand apart (APART). Every event needs a row; every row needs a definition, a lemma of each kind and an edit.
 The last line is 'N passed, M failed', and the status is 1 where one failed.
 """
 import collections
@@ -21,6 +21,9 @@ from functions import functions_of
 
 PAGE = ROOT / "docs/EVENTS.md"
 BEGIN, END = "<!-- tools/event-table.py make -->\n\n", "\n<!-- end -->\n"
+TABLE = re.compile(f"{re.escape(BEGIN)}(.*?){re.escape(END)}", re.S)
+# Events of lookups by loads alone: no other event needs them.
+APART = ("Count", "Peek")
 EVENTS = ROOT / "crates/protocol/src/event.rt"
 DEFINITIONS = ROOT / "crates/protocol/specs/Events.antt"
 KEEPING = ROOT / "crates/protocol/proofs/keeps/Keeping.antt"
@@ -45,12 +48,12 @@ def link(name, path):
 def events():
     """Each event with the first sentence of its doc comment."""
     body = re.search(r"pub enum Event \{\n(.*?)\n\}", EVENTS.read_text(), re.S)[1]
-    return {name: text.split(". ")[0].rstrip(".") for text, name in re.findall(r"/// (.*)\n    (\w+)\(", body)}
+    return {name: text.split(". ")[0].rstrip(".") for text, name in re.findall(r"/// (.*)\n    (\w+)[(,]", body)}
 
 
 def line_of(path, function, event):
     """What a function that goes by the event says of this one."""
-    found = re.search(rf"^{function} s \({event}\b[^=]*=(.*)$", path.read_text(), re.M)
+    found = re.search(rf"^{function} s \(?{event}\b[^=]*=(.*)$", path.read_text(), re.M)
     return found[1] if found else ""
 
 
@@ -67,7 +70,7 @@ def keeping(event):
 
 def method(event):
     """The method of the pure machine that makes the event."""
-    return re.findall(rf"Event::{event}\(.*self\.(\w+)\(", MACHINE.read_text())
+    return re.findall(rf"Event::{event}\b.*self\.(\w+)\(", MACHINE.read_text())
 
 
 def steps(known):
@@ -156,6 +159,12 @@ def table(found):
     return "\n".join([HEAD, "|---" * 8 + "|", *("| " + " | ".join(cells) + " |" for cells in found)]) + "\n"
 
 
+def tables(found):
+    """The table of the protocol's events, and that of those that stand apart."""
+    apart = [cells for cells in found if cells[0].strip("`") in APART]
+    return [table([cells for cells in found if cells not in apart]), table(apart)]
+
+
 def faults(found):
     """What the rows lack: a row for each event, and in a row a name for each cell except the contract's."""
     names = {cells[0] for cells in found}
@@ -169,13 +178,13 @@ def faults(found):
 def main():
     if sys.argv[1:] not in (["make"], ["check"]):
         sys.exit(__doc__)
-    before, _, rest = PAGE.read_text().partition(BEGIN)
-    stands, _, after = rest.partition(END)
-    found = list(rows())
+    page, found = PAGE.read_text(), list(rows())
+    made = tables(found)
     if sys.argv[1] == "make":
-        PAGE.write_text(before + BEGIN + table(found) + END + after)
-        stands = table(found)
-    wrong = list(faults(found)) + ([] if stands == table(found) else ["docs/EVENTS.md: not as tools/event-table.py make writes it"])
+        left = iter(made)
+        page = TABLE.sub(lambda _: BEGIN + next(left, "") + END, page)
+        PAGE.write_text(page)
+    wrong = list(faults(found)) + ([] if TABLE.findall(page) == made else ["docs/EVENTS.md: not as tools/event-table.py make writes it"])
     for fault in wrong:
         print(fault)
     sys.exit(ended(max(len(found) + 1 - len(wrong), 0), len(wrong)))

@@ -72,13 +72,9 @@ unwinds_calls() {
     diff <(declared) <(grep -oE 'registry_[a-z_]+\(' clients/c/unwinds.c | tr -d '(' | sort -u)
 }
 
-# No call takes more stack than the page says, or, with other limits, more than a page, except the opening, which makes the keeper's rows there.
+# No call takes more stack than the page says, or, with other limits, more than a page.
 stack_within() {
-    if [ -n "$limits" ]; then
-        tools/frames.py "$out/libregistry.a" 4096 registry_open
-        return
-    fi
-    tools/frames.py "$out/libregistry.a" 1024 registry_open && tools/frames.py "$out/libregistry.a" 4096
+    tools/frames.py "$out/libregistry.a" "$([ -n "$limits" ] && echo 4096 || echo 1024)"
 }
 
 # C takes the header alone, without a warning, and so does C++ where it is there.
@@ -209,6 +205,7 @@ test_c() {
     check "C: entries" "$out/entries" 1000
     check "C: names and answers as text" "$out/names"
     check "C: usual" "$out/usual" 1000
+    check "C: peeks, a lookup stopped after each of its instructions" "$out/peeks"
     check "C: crowd, every CPU and every slot" "$out/crowd" 2000
     check "C: forwarder" "$out/forwarder"
     check "C: device_switch" "$out/device_switch"

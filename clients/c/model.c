@@ -65,11 +65,14 @@ uint32_t model_find(struct model *model, unsigned cpu, uint64_t kind, const stru
 
 uint32_t model_look_up(struct model *model, unsigned cpu, uint64_t kind, const struct registry_name *name, struct registry_entry *found)
 {
+	struct model_cpu *own = &model->cpus[cpu];
+	const uint64_t sections = own->sections;
 	uint32_t answer = model_enter(model, cpu);
 	if (answer != REGISTRY_DONE)
 		return answer;
 	answer = model_find(model, cpu, kind, name, found);
 	model_exit(model, cpu);
+	own->sections = sections; /* outside it is loads alone, as nothing is changed meanwhile */
 	return answer;
 }
 

@@ -28,9 +28,7 @@
 #error "it reads the instructions of aarch64"
 #endif
 
-/* The words of a table, for any settings: `WORDS` of cpu_words. They are one block, and no other block is as long. */
-enum { ROW = 16 + 2 * REGISTRY_MOST_SLOTS, WORDS = 32 + ROW * REGISTRY_MOST_CPUS + 9 * REGISTRY_MOST_SLOTS };
-enum { TABLE_BYTES = 8 * WORDS, MOST_TABLES = 16, MOST_CODE = 1 << 18, ZERO_REGISTER = 31, DEEPEST = 64, LONGEST_PAIR = 12 };
+enum { MOST_TABLES = 16, MOST_CODE = 1 << 18, ZERO_REGISTER = 31, DEEPEST = 64, LONGEST_PAIR = 12 };
 
 /* What an instruction does with a word. */
 enum kind { LOAD, STORE, LOAD_EXCLUSIVE, STORE_EXCLUSIVE, KINDS };

@@ -249,7 +249,7 @@ static void check_holding(struct registry_cpu *cpu)
 	EXPECT(turn(found.number) == REGISTRY_FREED);
 }
 
-/* A section that a call has begun counts, for any result. One that it is nested in doesn't. */
+/* A section that a call has begun counts, for any result. One that it is nested in doesn't. A look-up outside begins none, unless it fails by what it is given. */
 static void check_spent(void)
 {
 	struct registry_cpu *cpu = &cpus[0];
@@ -259,7 +259,9 @@ static void check_spent(void)
 	EXPECT(registry_get(cpu, REGISTRY_DRIVER, &wm, NULL) == REGISTRY_NOT_FOUND);
 	EXPECT(registry_enter_find(cpu, REGISTRY_DRIVER, &wm, NULL) == REGISTRY_NOT_FOUND);
 	DONE(registry_exit(cpu));
-	EXPECT(registry_look_up(cpu, REGISTRY_DRIVER, &wm, NULL) == REGISTRY_NOT_FOUND);
+	for (unsigned i = 0; i < 2 * MOST_SECTIONS; i++)
+		EXPECT(registry_look_up(cpu, REGISTRY_DRIVER, &wm, NULL) == REGISTRY_NOT_FOUND);
+	EXPECT(registry_look_up(cpu, 9, &wm, NULL) == REGISTRY_BAD_KIND);
 	EXPECT(registry_get(cpu, REGISTRY_DRIVER, NULL, NULL) == REGISTRY_NULL);
 	EXPECT(registry_get(cpu, 9, &wm, NULL) == REGISTRY_BAD_KIND);
 	EXPECT(registry_enter_find(cpu, REGISTRY_DRIVER, &wm, NULL) == REGISTRY_NOT_FOUND);

@@ -9,6 +9,15 @@
 
 #include <stddef.h>
 
+#include "registry.h"
+
+/* The words of a registry's table, for any settings: `WORDS` of cpu_words. They are one block, and no other block is as long. */
+enum {
+	TABLE_ROW = 16 + 2 * REGISTRY_MOST_SLOTS,
+	TABLE_WORDS = 32 + TABLE_ROW * REGISTRY_MOST_CPUS + 9 * REGISTRY_MOST_SLOTS,
+	TABLE_BYTES = 8 * TABLE_WORDS
+};
+
 void *__real_malloc(size_t size);
 void *__real_realloc(void *block, size_t size);
 void __real_free(void *block);

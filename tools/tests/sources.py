@@ -106,6 +106,8 @@ def event_table():
         Fault("an event that the machine doesn't make", "no method", (("crates/passive_core/src/machine/run.rt", "self.step_enter(c)", "enter(c)"),)),
         Fault("another name of a step", page, ((STEP, "pub fn exit(", "pub fn leave("),)),
         Fault("another word in the table", page, (("docs/EVENTS.md", "The CPU begins a section", "The CPU ends a section"),)),
+        Fault("another word in the second table", page, (("docs/EVENTS.md", "The keeper stores how many", "The keeper loads how many"),)),
+        Fault("an event in the other table", page, (("tools/event-table.py", '("Count", "Peek")', '("Peek",)'),)),
     )
     tools = ["event-table.py", "contracts.py", "counts.py", "edits.py", "functions.py"]
     return Case("event-table", tools, real(*TABLED), ["tools/event-table.py", "check"], faults)

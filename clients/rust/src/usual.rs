@@ -120,7 +120,8 @@ impl<T> Cpu<T> {
 
     /// The record of the live entry with this kind and name, by one call: what [`enter`](Cpu::enter), [`find`](crate::Section::find) and
     /// [`exit`](crate::Section::exit) give together. The result is what the registry had at one moment during the call. Nothing holds the entry afterwards,
-    /// so the call returns the record alone, and not what the entry carries.
+    /// so the call returns the record alone, and not what the entry carries. Outside a section the call opens none and writes no shared word, unless a
+    /// change is made meanwhile.
     ///
     /// ```
     /// use registry::{Kind, Name, Refusal, Registry, Settings};

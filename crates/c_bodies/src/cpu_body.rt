@@ -1,10 +1,10 @@
 //! The body of a CPU's handle.
 
-ghost use Rattle.std.specs.Prelude.{◌≡◌, ◌≢◌, ◌↔◌, ◌<◌, ◌++◌, IsTrue, None, IfOk, IfErr, IfSome, is_some};
+ghost use Rattle.std.specs.Prelude.{◌≡◌, ◌≢◌, ◌↔◌, ◌<◌, ◌++◌, IsTrue, None, IfErr, IfSome, is_some};
 ghost use Rattle.registry_values.specs.Common.{Answers};
 ghost use Rattle.cpu_words.specs.Common.{AreWordsOf, key_with, references_to};
 ghost use mathlib.Core.List.{IsPrefix};
-ghost use Rattle.passive_list.specs.Common.{HasFound, HasFoundFromOutside, HasHeardOn, WasShown, has_heard, has_told, entry_seen, AnswersEnter, HasExitedOn, may_begin};
+ghost use Rattle.passive_list.specs.Common.{HasFound, HasFoundByLoads, HasFoundFromOutside, HasHeardOn, WasShown, has_heard, has_told, entry_seen, AnswersEnter, HasExitedOn, may_begin};
 ghost use Rattle.passive_ref.specs.Psrefs.{GivesBack, HasOneLess, IsAcquired, IsCopied, IsReadAs, why_not_acquired, why_not_copied, why_unusable};
 
 use crate::acquired::LastAcquired;
@@ -12,7 +12,8 @@ use crate::local_body::LocalBody;
 use cpu_words::{NoteSeat, Words};
 use held::Spare;
 use passive_list::{
-    PlainCpu, Seen, enter_on, exit_on, find_from_outside, find_on, hear_on, may_begin_on, tell_on,
+    PlainCpu, Seen, enter_on, exit_on, find_by_loads, find_from_outside, find_on, hear_on,
+    may_begin_on, tell_on,
 };
 use passive_ref::{Psref, acquire_on, copy_on, held_on, read_entry_on, release_on};
 use registry_values::{Entry, Kind, MOST_SLOTS, Name, Record, Refusal};
@@ -48,18 +49,17 @@ impl Model for CpuBody {
 
 impl CpuBody {
     /// The CPU with a share of its own of the words. Condition: the words are its table's.
-    pub fn share(words: &Arc<Words, Global>, cpu: PlainCpu) -> Result<CpuBody, AllocError>
-        requires words { AreWordsOf words.now.value cpu.words.table cpu.words.settings }
-        ensures { IfOk result (λ body. body ≡ cpu) }
+    pub fn of(words: Arc<Words, Global>, cpu: PlainCpu) -> CpuBody
+        requires words { AreWordsOf words.value cpu.words.table cpu.words.settings }
+        ensures { result ≡ cpu }
     {
-        let words = Arc::try_clone(words)?;
-        Ok(CpuBody {
+        CpuBody {
             words,
             cpu,
             spare: Spare::empty(),
             walked: [no_entry(); MOST_SLOTS],
             acquired: LastAcquired::none(),
-        })
+        }
     }
 
     /// The CPU's number, from 0.
@@ -184,6 +184,15 @@ impl CpuBody {
         ensures words { self.new.words ≡ self.old.words }
     {
         find_from_outside(&self.words, &mut self.cpu, kind, name)
+    }
+
+    /// Looks an entry up by loads alone, and returns its words, or that there is none: `Some(None)`. `None` if the loads tell nothing.
+    #[inline(always)]
+    pub fn find_by_loads(&mut self, kind: Kind, name: Name) -> Option<Option<Seen>>
+        ensures found { HasFoundByLoads (key_with kind name) self.old.cpu self.new.cpu result }
+        ensures words { self.new.words ≡ self.old.words }
+    {
+        find_by_loads(&self.words, &mut self.cpu, kind, name)
     }
 
     /// Acquires a passive reference to the last found entry.

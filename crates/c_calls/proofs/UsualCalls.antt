@@ -1,20 +1,20 @@
 -- A section that a call of the usual path has entered is still open as it exits.
-use Rattle.std.proofs.Common.{◌≡◌, ◌≢◌, ℕ, Bool, IsTrue, Option, Some, None, Result, Ok, Err, IfErr, refl, sym, ap, subst, ◌∙◌}
+use Rattle.std.proofs.Common.{◌≡◌, ◌≢◌, ℕ, Bool, IsTrue, Option, Some, None, Result, Ok, Err, IfErr, inl, inr, refl, sym, ap, subst, ◌∙◌}
 use Rattle.std.specs.Prelude.{◌↔◌, ◌==◌}
 use Rattle.std.specs.Result.{result_err}
 use mathlib.Core.Logic.{dite}
 use native.Mathlib.Decide.{ℕ_discrete}
-use Rattle.c_calls.specs.Types.{Entry, Kind, Name, Refusal, CpuView, Seen}
+use Rattle.c_calls.specs.Types.{Entry, Key, Kind, Name, Refusal, CpuView, Seen}
 use Rattle.registry_values.specs.Common.{enter_answer, Answers}
 use Rattle.cpu_words.specs.Common.{key_with}
-use Rattle.passive_list.specs.Common.{OnCpu, OnPlainCpu, HasFound, HasFoundFromOutside, AnswersEnter, may_begin, entry_seen}
+use Rattle.passive_list.specs.Common.{OnCpu, OnPlainCpu, HasFound, HasFoundByLoads, HasFoundFromOutside, AnswersEnter, may_begin, entry_seen}
 use Rattle.passive_ref.specs.Psrefs.{IsAcquired, OnPsref, why_not_acquired}
 use Rattle.c_values.specs.declared.values.TheConstants.{DONE}
 use Rattle.c_values.specs.declared.values.CEntry.{CEntry}
 use Rattle.c_values.specs.declared.values.CName.{CName}
 use Rattle.c_calls.specs.Calls.{Acquires, Enters, Exits, Finds, FindsNamed, TellsFound, WritesFound}
 use Rattle.c_values.specs.Places.{put}
-use Rattle.c_calls.specs.UsualCalls.{Between, EntersAndFinds, FindsAndAcquires, LooksUp}
+use Rattle.c_calls.specs.UsualCalls.{Between, EntersAndFinds, FindsAndAcquires, LooksUp, LooksUpInSection}
 use Rattle.c_values.specs.Values.{entry_out, kind_in, name_in, number_of}
 use Rattle.c_calls.proofs.Gone.{refused_not}
 
@@ -98,7 +98,7 @@ told m s kind = record { number = s.number; slot = s.slot; kind = kind; name = m
 -- it is an enter, a find and an exit, each done
 pub from_outside : (kind : ℕ) (k : Kind) (m : CName) (name : Name) (a b : OnPlainCpu) (s : Option Seen) (n : ℕ) (old new : Option CEntry)
     → kind_in kind ≡ Some k → name ≡ name_in m → a.cpu.depth ≡ 0 → IsTrue (may_begin a.cpu.view) → b.words ≡ a.words
-    → HasFoundFromOutside (key_with k name) a.cpu b.cpu (entry_seen (key_with k name) s) → writes k m s n old new → LooksUp kind (Some m) a b n old new
+    → HasFoundFromOutside (key_with k name) a.cpu b.cpu (entry_seen (key_with k name) s) → writes k m s n old new → LooksUpInSection kind (Some m) a b n old new
 from_outside kind k m name a b s n old new is named shallow room words seen written =
     let had = subst (λ (i : Name). HasFoundFromOutside (key_with k i) a.cpu b.cpu (entry_seen (key_with k i) s)) named seen in
     let first : OnPlainCpu = record { words = a.words; cpu = had.first } in
@@ -129,6 +129,51 @@ from_outside kind k m name a b s n old new is named shallow room words seen writ
         },
       );
     }
+
+-- the CPU is as deep after loads that told nothing, and a section is left
+pub vain_outside : (key : Key) (a b : OnCpu) → HasFoundByLoads key a b None → a.depth ≡ 0 → b.depth ≡ 0
+vain_outside key a b had shallow = ap (λ (c : OnCpu). c.depth) had.is ∙ shallow
+
+pub vain_room : (key : Key) (a b : OnCpu) → HasFoundByLoads key a b None → IsTrue (may_begin a.view) → IsTrue (may_begin b.view)
+vain_room key a b had room = subst (λ (x : CpuView). IsTrue (may_begin x)) (sym had.looks.is) room
+
+-- the loads told it
+pub by_loads : (kind : ℕ) (k : Kind) (m : CName) (name : Name) (a b : OnPlainCpu) (s : Option Seen) (n : ℕ) (old new : Option CEntry)
+    → kind_in kind ≡ Some k → name ≡ name_in m → a.cpu.depth ≡ 0 → IsTrue (may_begin a.cpu.view) → b.words ≡ a.words
+    → HasFoundByLoads (key_with k name) a.cpu b.cpu (Some s) → writes k m s n old new → LooksUp kind (Some m) a b n old new
+by_loads kind k m name a b s n old new is named shallow room words looked written = inl (record {
+  m = m;
+  named = refl;
+  k = k;
+  is_kind = is;
+  outside = shallow;
+  room = room;
+  seen = s;
+  looks = subst (λ (i : Name). HasFoundByLoads (key_with k i) a.cpu b.cpu (Some s)) named looked;
+  words = words;
+  written = written;
+})
+
+-- the loads told nothing, and a section did
+pub after_vain : (kind : ℕ) (m : CName) (key : Key) (a c b : OnPlainCpu) (n : ℕ) (old new : Option CEntry) → a.cpu.depth ≡ 0 → IsTrue (may_begin a.cpu.view) → c.words ≡ a.words
+    → HasFoundByLoads key a.cpu c.cpu None → LooksUpInSection kind (Some m) c b n old new → LooksUp kind (Some m) a b n old new
+after_vain kind m key a c b n old new shallow room words looked inside =
+    inr (c, inr (record { outside = shallow; room = room; key = key; looks = looked; words = words }), inside)
+
+-- A look-up without loads
+
+pub in_section : (kind : ℕ) (name : Option CName) (a b : OnPlainCpu) (n : ℕ) (old new : Option CEntry) → LooksUpInSection kind name a b n old new → LooksUp kind name a b n old new
+in_section kind name a b n old new inside = inr (a, inl refl, inside)
+
+-- its enter was refused
+pub unentered : (kind : ℕ) (name : Option CName) (a b : OnPlainCpu) (n : ℕ) (old : Option CEntry) → Enters a b n → n ≢ DONE → LooksUp kind name a b n old old
+unentered kind name a b n old enters off = in_section kind name a b n old old (record {
+  first = b;
+  entered = n;
+  enters = enters;
+  refused = λ _. (refl, refl, refl);
+  inside = λ done. absurd (off done);
+})
 
 -- A find and an acquire
 

@@ -12,6 +12,7 @@ pub use Rattle.registry_values.specs.declared.refusal.Refusal.TheVariants.{BadSe
 pub use Rattle.registry_values.specs.declared.refusal.Refusal.TheVariants.{NotRetired, NothingFound, PassiveFull, SectionsSpent, StillHeld, TooDeep, Waiting, WrongCpu}
 pub use Rattle.registry_values.specs.declared.settings.Settings.{Settings}
 pub use Rattle.registry_values.specs.declared.limits.TheConstants.{MOST_CPUS, MOST_SLOTS}
+pub use Rattle.registry_values.specs.declared.slot.Key.{Key}
 pub use Rattle.registry_values.specs.declared.slot.Slot.{Slot}
 pub use Rattle.registry_values.specs.declared.slot.Slot.TheVariants.{Live, Retired, Vacant}
 pub use Rattle.registry_values.specs.declared.stage.Stage.{Stage}

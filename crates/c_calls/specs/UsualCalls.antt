@@ -1,10 +1,13 @@
 -- What the calls of the usual path answer and leave. Each is the calls that it takes the place of, one after the other.
-use Rattle.std.specs.Prelude.{◌≡◌, ◌≢◌, ℕ, Option, None}
-use Rattle.passive_list.specs.Common.{OnPlainCpu}
+use Rattle.std.specs.Prelude.{◌≡◌, ◌≢◌, ◌⊎◌, ℕ, IsTrue, Option, Some, None}
+use Rattle.c_calls.specs.Types.{Key, Kind, Seen}
+use Rattle.cpu_words.specs.Common.{key_with}
+use Rattle.passive_list.specs.Common.{OnPlainCpu, HasFoundByLoads, may_begin, entry_seen}
 use Rattle.c_values.specs.declared.values.TheConstants.{DONE}
 use Rattle.c_values.specs.declared.values.CEntry.{CEntry}
 use Rattle.c_values.specs.declared.values.CName.{CName}
-use Rattle.c_calls.specs.Calls.{Acquires, Enters, Exits, FindsNamed}
+use Rattle.c_values.specs.Values.{kind_in, name_in}
+use Rattle.c_calls.specs.Calls.{Acquires, Enters, Exits, FindsNamed, WritesFound}
 
 -- P between an enter and an exit. An enter that is refused is the answer, and nothing else is done: `Same` says so of what the call writes. Else P
 -- holds of the CPU as it entered and as it exits, and the exit is done.
@@ -24,8 +27,34 @@ pub record FindsAndAcquires (kind : ℕ) (name : Option CName) (a b : OnPlainCpu
   pub refused : answer ≢ DONE → (n ≡ answer) × (b ≡ found) × (new ≡ old)
   pub acquires : answer ≡ DONE → Acquires found b n None None × (n ≡ DONE → new ≡ entry) × (n ≢ DONE → new ≡ old)
 
+-- by an enter, a find and an exit
+abbrev pub LooksUpInSection : ℕ → Option CName → OnPlainCpu → OnPlainCpu → ℕ → Option CEntry → Option CEntry → Type 0
+LooksUpInSection kind name a b n old new = Between a b n (new ≡ old) (λ x y. FindsNamed kind name x y n old new)
+
+-- By loads alone: the CPU is outside and has a section left, and there is a name and a kind. No section begins.
+pub record LooksUpByLoads (kind : ℕ) (name : Option CName) (a b : OnPlainCpu) (n : ℕ) (old new : Option CEntry) : Type 0 where
+  pub m : CName
+  pub named : name ≡ Some m
+  pub k : Kind
+  pub is_kind : kind_in kind ≡ Some k
+  pub outside : a.cpu.depth ≡ 0
+  pub room : IsTrue (may_begin a.cpu.view)
+  pub seen : Option Seen
+  pub looks : HasFoundByLoads (key_with k (name_in m)) a.cpu b.cpu (Some seen)
+  pub words : b.words ≡ a.words
+  pub written : WritesFound (entry_seen (key_with k (name_in m)) seen) n old new
+
+-- Loads that told nothing, of such a CPU: what it has seen may have grown, and its log.
+pub record HasLoadedInVain (a b : OnPlainCpu) : Type 0 where
+  pub outside : a.cpu.depth ≡ 0
+  pub room : IsTrue (may_begin a.cpu.view)
+  pub key : Key
+  pub looks : HasFoundByLoads key a.cpu b.cpu None
+  pub words : b.words ≡ a.words
+
+-- By loads alone. If they tell nothing or there were none, by an enter, a find and an exit.
 abbrev pub LooksUp : ℕ → Option CName → OnPlainCpu → OnPlainCpu → ℕ → Option CEntry → Option CEntry → Type 0
-LooksUp kind name a b n old new = Between a b n (new ≡ old) (λ x y. FindsNamed kind name x y n old new)
+LooksUp kind name a b n old new = LooksUpByLoads kind name a b n old new ⊎ ((c : OnPlainCpu) × ((c ≡ a) ⊎ HasLoadedInVain a c) × LooksUpInSection kind name c b n old new)
 
 abbrev pub Gets : ℕ → Option CName → OnPlainCpu → OnPlainCpu → ℕ → Option CEntry → Option CEntry → Type 0
 Gets kind name a b n old new = Between a b n (new ≡ old) (λ x y. FindsAndAcquires kind name x y n old new)

@@ -263,7 +263,7 @@ fn balance(keeper: &Keeper, cpus: &mut [CpuHandle], t: u8, number: u64) -> CBala
     ensures tally { tally_in keeper.now.words.settings.cpus result ≡ tally_met keeper.now.keeper (cpus_in (bodies_of cpus.old)) number t }
     ensures cut { IsCut keeper.now.words.settings.cpus result }
 {
-    let total = less_bias(keeper.rows()[t as usize].total);
+    let total = less_bias(keeper.rows()[t as usize].total_or_bias());
     let locals = locals(keeper, cpus, t, number);
     let held = sum(&locals[..keeper.settings().cpus as usize]) + total;
     CBalance {

@@ -211,6 +211,7 @@ fn open_on(
     Ok((keeper, cpus))
 }
 
+/// The CPUs, each in a box of its own. A share of the words is taken before the CPU is made: LLVM then writes the CPU's rows straight to its box.
 fn cpus_of(
     alloc: Global,
     words: &Arc<Words, Global>,
@@ -223,8 +224,9 @@ fn cpus_of(
     let mut cpus = Vec::new(alloc);
     while let Some(seat) = seats.pop() {
         let id = seats.len() as u8;
+        let share = Arc::try_clone(words)?;
         let cpu = PlainCpu::of_seat(seat, id);
-        let body = CpuBody::share(words, cpu)?;
+        let body = CpuBody::of(share, cpu);
         cpus.push(Box::new(alloc, body)?)?;
     }
     Ok(cpus)

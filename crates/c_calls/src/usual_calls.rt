@@ -1,23 +1,25 @@
 //! The calls of the usual path, on a CPU's body. Each makes several calls of `cpu_calls`, and opens a section for them. A lookup from
-//! outside is one call of the CPU's, which does the same.
+//! outside is one call of the CPU's, which opens none. If a change is counted meanwhile, it is a second one, which does the same as those.
 //!
 //! Each writes to C's place last: a store before the addition that ends the section would have to be done before it.
 
 ghost use Rattle.std.specs.Prelude.{◌≡◌, ◌≢◌, ℕ, IsTrue, Option, Some, None};
-ghost use Rattle.passive_list.specs.Common.{may_begin};
+ghost use Rattle.cpu_words.specs.Common.{key_with};
+ghost use Rattle.passive_list.specs.Common.{entry_seen, may_begin};
 ghost use Rattle.c_values.specs.declared.values.CEntry.{CEntry};
 ghost use Rattle.c_values.specs.declared.values.TheConstants.{DONE};
-ghost use Rattle.c_calls.specs.Calls.{Enters, TellsFound};
-ghost use Rattle.c_calls.specs.UsualCalls.{EntersAndFinds, FindsAndAcquires, Gets, LooksUp};
-ghost use Rattle.c_values.specs.Values.{kind_in};
+ghost use Rattle.c_calls.specs.Calls.{Enters, TellsFound, WritesFound};
+ghost use Rattle.c_calls.specs.UsualCalls.{EntersAndFinds, FindsAndAcquires, Gets, LooksUp, LooksUpInSection};
+ghost use Rattle.c_values.specs.Values.{kind_in, name_in};
 
 use crate::cpu_calls::{enter, exit, find_named, look, tell};
 use c_bodies::CpuBody;
 use c_values::place::EntryPlace;
 use c_values::values::{CEntry, CName, DONE, name_in, refused};
+use passive_list::Seen;
 use registry_values::{Entry, Kind, Refusal, kind_word};
 
-/// Looks an entry up, in a section of the call's own, as one call of the CPU's. Conditions: outside; a section is left.
+/// Looks an entry up by loads alone. If they tell nothing, looks it up in a section of the call's own. Conditions: outside; a section is left.
 /// A search for each kind, and what is written after it, too, as in `find_inside` of `cpu_calls`.
 #[inline(always)]
 pub fn look_from_outside(cpu: &mut CpuBody, kind: Kind, name: CName, found: &mut EntryPlace) -> u32
@@ -40,7 +42,32 @@ fn look_for(cpu: &mut CpuBody, kind: Kind, name: CName, found: &mut EntryPlace) 
     ensures place { found.new.at ≡ found.old.at }
     ensures call { (word : ℕ) → kind_in word ≡ Some kind → LooksUp word (Some name) cpu.old cpu.new result found.old.value found.new.value }
 {
-    let Some(seen) = cpu.find_from_outside(kind, name_in(&name)) else {
+    let Some(seen) = cpu.find_by_loads(kind, name_in(&name)) else {
+        return look_in_section(cpu, kind, name, found);
+    };
+    put_seen(seen, kind, name, found)
+}
+
+/// Looks an entry up in a section of the call's own, as one call of the CPU's. Conditions: outside; a section is left. It stands apart, so that
+/// a lookup by loads saves no register for it.
+#[inline(never)]
+fn look_in_section(cpu: &mut CpuBody, kind: Kind, name: CName, found: &mut EntryPlace) -> u32
+    requires outside { cpu.old.cpu.depth ≡ 0 }
+    requires room { IsTrue (may_begin cpu.old.cpu.view) }
+    ensures place { found.new.at ≡ found.old.at }
+    ensures call { (word : ℕ) → kind_in word ≡ Some kind → LooksUpInSection word (Some name) cpu.old cpu.new result found.old.value found.new.value }
+{
+    let seen = cpu.find_from_outside(kind, name_in(&name));
+    put_seen(seen, kind, name, found)
+}
+
+/// Writes a lookup's answer, and returns its number.
+#[inline(always)]
+fn put_seen(answer: Option<Seen>, kind: Kind, name: CName, found: &mut EntryPlace) -> u32
+    ensures place { found.new.at ≡ found.old.at }
+    ensures written { WritesFound (entry_seen (key_with kind (name_in name)) answer) result found.old.value found.new.value }
+{
+    let Some(seen) = answer else {
         return refused(Refusal::NotFound);
     };
     found.put(CEntry {

@@ -1,3 +1,4 @@
+pub mod CountingChanges
 pub mod Drained
 pub mod Draining
 pub mod Grace

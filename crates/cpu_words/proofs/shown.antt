@@ -1,5 +1,7 @@
 pub mod Apart
+pub mod Changes
 pub mod Passes
+pub mod Peeks
 pub mod KeepersShown
 pub mod CpusShown
 pub mod Placing

@@ -6,12 +6,16 @@ pub use Rattle.cpu_words.specs.declared.view.InHand.TheVariants.{Back, Empty, Gi
 pub use Rattle.cpu_words.specs.declared.view.KeeperView.{KeeperView}
 pub use Rattle.cpu_words.specs.declared.view.LogItem.{LogItem}
 pub use Rattle.cpu_words.specs.declared.view.Logged.{Logged}
+pub use Rattle.cpu_words.specs.declared.view.PeekPlace.{PeekPlace}
+pub use Rattle.cpu_words.specs.declared.view.PeekPlace.TheVariants.{Finds, Goes, Misses}
+pub use Rattle.cpu_words.specs.declared.view.Peeking.{Peeking}
 pub use Rattle.cpu_words.specs.declared.view.ReferenceView.{ReferenceView}
 pub use Rattle.cpu_words.specs.declared.view.Teller.{Teller}
 pub use Rattle.cpu_words.specs.declared.view.View.{View}
 pub use Rattle.cpu_words.specs.declared.view.View.TheVariants.{Cpu, Keeper, Note, Reference, Spent}
 pub use Rattle.cpu_words.specs.Acts.{HasNone, ListGoesOn, is_border, is_hear, part}
 pub use Rattle.cpu_words.specs.Balance.{HasOneSeat, IsBalanced, SeatsBalance, count_word, hand_to, held_by_seats, in_hand_to, total_word}
+pub use Rattle.cpu_words.specs.Changes.{CountedTold, keeper_after_counting}
 pub use Rattle.cpu_words.specs.Called.{CpuHearsLater, EndsOpenSections, HasLeft, HasLeftSince, HasToldSince, KeeperHearsLater}
 pub use Rattle.cpu_words.specs.Domains.{AreWordsOf}
 pub use Rattle.cpu_words.specs.Draining.{CollectTold, HasAdded, HasCollected, HasKeptSub, HasLookedPassive, IsFoundCollected, KeptSubTold, LookedPassiveTold, MayCollect, MayJoinKeeper, MayKeptSub}
@@ -37,6 +41,7 @@ pub use Rattle.cpu_words.specs.Notes.{CpuHears, HasHeard, KeeperHasHeard, Keeper
 pub use Rattle.cpu_words.specs.Opening.{AreOpening, AreSeats, MaySeat, cpu_seat, keeper_with, next_seat, one_seated, with_cpu_seated}
 pub use Rattle.cpu_words.specs.Ordered.{OrderedInTime, TwoMoments}
 pub use Rattle.cpu_words.specs.Passives.{HasSubtracted, IsAloneAt, IsAt, IsNamed, IsWordOf, MayAdd, MayUse, tells_added, tells_passive, tells_subtracted}
+pub use Rattle.cpu_words.specs.Peeks.{HasBegunPeek, HasEndedPeek, HasPeeked, HasPeekedLink, HasPeekedWord, MayPeek, PeekAnswers, link_place, peek_at, place_after, word_place}
 pub use Rattle.cpu_words.specs.Publishing.{HasPublished, HasUnpublished, IsBefore, IsLinkPlace, LeadsBelow, MayPublish, MayUnpublish, PublishTold, UnpublishTold, head_with, keeper_after_unpublish}
 pub use Rattle.cpu_words.specs.Publishing.{link_index, links_with}
 pub use Rattle.cpu_words.specs.Publishing.LeadsBelow.{To_end, To_slot}
@@ -47,11 +52,11 @@ pub use Rattle.cpu_words.specs.Searching.{Descends, FoundHolds, HasFollowed, Has
 pub use Rattle.cpu_words.specs.Searching.{MayStandOn, PassTells, SkipsNone, cpu_after_link, cpu_after_record_word, cpu_after_seek, every_word, key_with, link_answer, loaded_answer, loaded_of}
 pub use Rattle.cpu_words.specs.Searching.{IsValueThere, search_for, search_with_place, sought, tells_compared}
 pub use Rattle.cpu_words.specs.Sections.{HasEntered, HasExited, HasWholePass, IsIdle, MayEnter, MayExit}
-pub use Rattle.cpu_words.specs.Spots.{AreApart, FirstWordsFree, IsSpot, LinesApart, OnePlace, Spot, count_of, head_word, index, next_of, owner, passive_of, record_of, section_of, total_of, word_at}
+pub use Rattle.cpu_words.specs.Spots.{AreApart, FirstWordsFree, IsSpot, LinesApart, OnePlace, Spot, count_of, head_word, changes_word, index, next_of, owner, passive_of, record_of, section_of, total_of, word_at}
 pub use Rattle.cpu_words.specs.Steps.{CpuMay, JoinsBy, JoinsOn, KeeperMay, KeeperStores, Makes, Moves, OneSeat, ReferenceMay, SeatMakes, SplitsBy, SplitsOn}
 pub use Rattle.cpu_words.specs.Storing.{CountStored, HasCountWord, HasLink, HasRecordWord, LinkStored, RecordStored}
 pub use Rattle.cpu_words.specs.Vacating.{IsDrained, MayVacate, MayWrite, VacateTold, keeper_after_vacate}
-pub use Rattle.cpu_words.specs.Views.{CpuOwn, CpuShown, GivesUp, HandFits, IsCollectedFor, KeeperOwn, KeeperShown, Named, ReferenceShown, SameHand, Seated, Shown, collected_net, collected_one, cpu_of}
+pub use Rattle.cpu_words.specs.Views.{ChangesShow, CpuOwn, CpuShown, PeekHolds, PeekShows, StaysAt, GivesUp, HandFits, IsCollectedFor, KeeperOwn, KeeperShown, Named, ReferenceShown, SameHand, Seated, Shown, collected_net, collected_one, cpu_of}
 pub use Rattle.cpu_words.specs.Views.{cpu_view, depth_of, first_view, is_to, keeper_of, keeper_own, keeper_view, new_cpu, new_keeper, no_settings, note_of, number_at, one_more, own_of, reference_of}
 pub use Rattle.cpu_words.specs.Views.{references_to, with_number, without}
 pub use Rattle.cpu_words.specs.Waiting.{HadHeard, HasEndedOn, HasEndedSince, HaveEnded, IsBeforeTelling, WaitingEnds}

@@ -1,10 +1,11 @@
--- Fresh lookups (pserialize(9)): what a CPU's own log tells of its searches, by where they stand in the one list; and what a CPU has seen as it enters, and as it hears.
+-- Fresh lookups (pserialize(9)): what a CPU's own log tells of its searches, by where they stand in the one list; and what a CPU has seen as it
+-- enters, as it hears, and as its lookup by loads loads a word.
 use Rattle.std.specs.Prelude.{◌≡◌, ℕ, ◌≤◌, List, [], ◌∷◌, ◌++◌, length, take, Option, Some}
 use Rattle.std.specs.List.{AllByRecursion}
 use mathlib.Core.Option.{some}
 use lib.ListN.{get_elem?}
 use Rattle.atomic_table.specs.Table.{State as Table}
-use Rattle.cpu_words.specs.Types.{Key, Entry, Settings, Event, Enter, Hear, Done}
+use Rattle.cpu_words.specs.Types.{Key, Entry, Settings, Event, Enter, Hear, Peek, SharedWord, Done}
 use Rattle.protocol.specs.Common.{opening, seen_at, after, IsLoadOf, answer_of, IsNoSeek, IsFreshAnswer, seek_for}
 use Rattle.cpu_words.specs.declared.view.CpuView.{CpuView}
 use Rattle.cpu_words.specs.declared.view.LogItem.{LogItem}
@@ -63,9 +64,10 @@ abbrev pub history_length : Settings → List Event → ℕ
 history_length z events = length (after (opening z) events).history
 
 pub record PassesAreWhole {z : Settings} {s : Table ℕ Logged} (r : RunsAsLogged z s) : Type 0 where
-  -- as a CPU begins a section, and as it hears a note, its pass becomes the whole history
+  -- as a CPU begins a section, as it hears a note, and as its lookup by loads loads a word, its pass becomes the whole history
   pub entered : (c : ℕ) (first rest : List Event) → r.run.events ≡ first ++ Enter c ∷ rest → seen_at (after (opening z) (first ++ Enter c ∷ [])) c ≡ history_length z first
   pub heard : (c : ℕ) (first rest : List Event) → r.run.events ≡ first ++ Hear (Some c) ∷ rest → seen_at (after (opening z) (first ++ Hear (Some c) ∷ [])) c ≡ history_length z first
+  pub peeked : (c : ℕ) (w : SharedWord) (first rest : List Event) → r.run.events ≡ first ++ Peek c w ∷ rest → seen_at (after (opening z) (first ++ Peek c w ∷ [])) c ≡ history_length z first
   -- the history at any moment before another CPU told the note is in it
   pub told : (c i : ℕ) (h : Teller) (first rest : List (ℕ × LogItem)) (earlier later : List Event) → r.acts ≡ first ++ (i, has_heard_from (Some c) (Some h)) ∷ rest → r.run.events ≡ earlier ++ later
       → IsBeforeTelling r h earlier → history_length z earlier ≤ history_length z (take (length first) r.run.events)

@@ -14,9 +14,11 @@ pub mod Locals
 pub mod Passives
 pub mod Reading
 pub mod Searching
+pub mod Peeks
 pub mod Draining
 pub mod Publishing
 pub mod Keeping
+pub mod Changes
 pub mod Notes
 pub mod Opening
 pub mod Logs

@@ -18,7 +18,7 @@ IsBefore slots n (Some q) = (f : Entry) × (slot_at slots q ≡ Live f) × (n < 
 
 -- Publish
 
--- all is stored in the vacant slot t that the entry e needs: its record, its counts, its total, its link to the newest live entry, and the driver that it keeps
+-- all is stored in the vacant slot t that the entry e needs: its record, its counts, its total, its link to the newest live entry, and the driver that it keeps; and all changes are counted
 pub record MayPublish (k : KeeperView) (t : ℕ) (e : Entry) : Type 0 where
   pub rest : k.due ≡ Rest
   pub slot : t < k.settings.slots
@@ -31,6 +31,7 @@ pub record MayPublish (k : KeeperView) (t : ℕ) (e : Entry) : Type 0 where
   pub counts : (c : ℕ) → c < k.settings.cpus → count_at k.counts c t ≡ bias
   pub total : total_at k.totals t ≡ bias
   pub keeps : keeps_rightly (kept_at k.keeps t) e.rec.kind ≡ true
+  pub counted : k.changes ≡ length k.history
 
 -- the head leads to the slot t, whose entry e is live, and the history ends with its attach
 abbrev pub HasPublished : KeeperView → ℕ → Entry → KeeperView → Type 0
@@ -53,13 +54,14 @@ abbrev pub IsLinkPlace : Option ℕ → Type 0
 IsLinkPlace None = Unit {0}
 IsLinkPlace (Some q) = q < MOST_SLOTS
 
--- the slot t is live, p is the slot before it, and the link v leads to what is below it
+-- the slot t is live, p is the slot before it, and the link v leads to what is below it; and all changes are counted
 pub record MayUnpublish (k : KeeperView) (t : ℕ) (p : Option ℕ) (v : ℕ) : Type 0 where
   pub rest : k.due ≡ Rest
   pub e : Entry
   pub live : slot_at k.slots t ≡ Live e
   pub before : IsBefore k.slots e.number p
   pub link : LeadsBelow k.slots e.number v
+  pub counted : k.changes ≡ length k.history
 
 -- the head and the links, as the link v is stored where the slot before tells
 abbrev pub head_with : ℕ → Option ℕ → ℕ → ℕ

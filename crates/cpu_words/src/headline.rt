@@ -14,7 +14,7 @@ ghost use Rattle.cpu_words.specs.Balance.{SeatsBalance};
 /// - `run`: some list of events leads to a state that the words and all views show. It obeys all laws of the protocol.
 /// - `held`: an entry that a section, a reference or a slot holds has its slot.
 /// - `fresh`: the result of a search was the registry's at some point between its Seek and its last load, however old the CPU's pass was.
-/// - `whole`: as a CPU enters, and as it hears a note, its pass becomes the whole history.
+/// - `whole`: as a CPU enters, as it hears a note, and as its lookup by loads loads a word, its pass becomes the whole history.
 /// - `balance`: the words of a slot, less their biases, are the local references that the seats hold.
 ///
 /// At two moments, the call of a `perform`, a `destroy` or an `audit` and any later one:

@@ -7,6 +7,7 @@
 //! ROWS + ROW * c + PASSIVES + t      passive references of CPU c to slot t's entry     CPU c
 //! ROWS + ROW * c + COUNTS + t        count of CPU c for slot t                         CPU c, the keeper
 //! HEAD                               slot of the newest live entry plus 1, or 0        the keeper
+//! CHANGES                            how many changes are counted                      the keeper
 //! NEXTS + STRIDE * t                 slot of the next older entry plus 1, or 0         the keeper
 //! RECORDS + STRIDE * t + k           word k of the record in slot t                    the keeper
 //! TOTALS + t                         total of slot t                                   the keeper
@@ -38,6 +39,9 @@ const ROW: usize = COUNTS + MOST_SLOTS + 15;
 
 /// The head of the list: a line behind the rows, and a line before the links.
 pub(crate) const HEAD: usize = ROWS + ROW * MOST_CPUS + LINE;
+
+/// The count of changes, on the line of the head.
+pub(crate) const CHANGES: usize = HEAD + 1;
 
 /// The link of slot 0.
 const NEXTS: usize = HEAD + LINE;

@@ -44,8 +44,8 @@ impl Words {
         ensures seats { IfOk result (λ made. AreSeats made.0.table settings settings.cpus made.2.items) }
     {
         let mut seats = Vec::with_capacity(alloc, settings.cpus as usize)?;
-        let row = opening_words();
-        let (table, token) = Table::of_words(alloc, &row, &settings)?;
+        let row = opening_words(alloc)?;
+        let (table, token) = Table::of_words(alloc, row.as_slice(), &settings)?;
         let words = Words { table, settings };
         let mut keeper = KeeperSeat { token };
         seat_all(&words, &mut keeper, &mut seats);
@@ -53,15 +53,15 @@ impl Words {
     }
 }
 
-/// The words at the start: all 0 but the totals.
-fn opening_words() -> [u64; WORDS]
-    ensures { AreOpening result }
+/// The words at the start: all 0 but the totals. They lie on the heap: with many CPUs and slots they are too many for the stack.
+fn opening_words(alloc: Global) -> Result<Vec<u64>, AllocError>
+    ensures { IfOk result (λ words. AreOpening words.items) }
 {
-    let mut words = [0; WORDS];
+    let mut words = vec![in alloc; 0; WORDS]?;
     for t in 0..MOST_SLOTS {
         words[TOTALS + t] = BIAS;
     }
-    words
+    Ok(words)
 }
 
 /// Gives each CPU its seat, CPU 0 first. The list has room for them.

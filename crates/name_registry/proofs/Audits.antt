@@ -19,7 +19,7 @@ use Rattle.protocol.proofs.history.History.{at_within}
 use Rattle.protocol.proofs.slots.Occupied.{attached_in}
 use Rattle.cpu_words.specs.Common.{number_at}
 use Rattle.cpu_words.proofs.by_keeper.KeeperSees.{seen_by_keeper}
-use Rattle.passive_list.specs.Common.{NetAgree, OnCpu, place_at, IsOurKeeper, OnKeeper, row_at, states_of}
+use Rattle.passive_list.specs.Common.{NetAgree, OnCpu, place_at, IsOurKeeper, OnKeeper, row_at, states_of, total_or_bias}
 use Rattle.passive_list.proofs.Rows.{live_in, retired_in}
 use Rattle.local_count.specs.References.{net_by}
 use Rattle.local_count.proofs.Agreeing.{place_count}
@@ -44,7 +44,7 @@ pub record Has (a : Settings) (x : OnKeeper) (rows : List KeptSlot) (t n : ℕ) 
   pub within : t < a.slots
   pub few : t < MOST_SLOTS
   pub begun : 0 < n
-  pub total : (row_at rows t).total ≡ total_at x.view.totals t
+  pub total : total_or_bias (row_at rows t) ≡ total_at x.view.totals t
   pub low : bias ≤ total_at x.view.totals t + MOST_CPUS * greatest_limit
   pub high : total_at x.view.totals t ≤ bias + MOST_CPUS * greatest_limit
 

@@ -71,6 +71,7 @@ detached_told a t e b has = record {
   made = has.made;
   marks = has.marks;
   snapshots = has.snapshots;
+  counted = has.counted;
   view = has.view;
   slots = has.slots;
 }

@@ -139,7 +139,7 @@ fn balance<D: Domain>(
     requires few { length cpus.now ≤ MOST_CPUS }
     ensures { IfOk result (λ b. tally_shown b ≡ tally_met keeper.now.keeper cpus.now number t) }
 {
-    let total = less_bias(keeper.rows()[t as usize].total);
+    let total = less_bias(keeper.rows()[t as usize].total_or_bias());
     let locals = locals(alloc, keeper, cpus, t, number)?;
     let held = sum(&locals) + total;
     Ok(Balance {

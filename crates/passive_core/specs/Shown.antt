@@ -12,6 +12,7 @@ state_shown a = record {
   passive = a.passive.items;
   counts = a.counts.items;
   totals = a.totals.items;
+  changes = a.counted;
   history = a.history.items;
   seated = a.seated;
   begins = a.begins.items;

@@ -6,6 +6,7 @@ mod grace;
 mod list;
 mod local;
 mod passive;
+mod peeks;
 mod reading;
 mod run;
 mod sameness;
@@ -43,6 +44,7 @@ pub struct Core {
     passive: Vec<[u64; MOST_CPUS]>,
     counts: Vec<[u64; MOST_CPUS]>,
     totals: Vec<u64>,
+    counted: u64,
     history: Vec<Change>,
     seated: u8,
     begins: Vec<Option<u64>>,
@@ -104,6 +106,7 @@ impl Core {
             passive: repeated(alloc, [0; MOST_CPUS], slots)?,
             counts: repeated(alloc, [0; MOST_CPUS], slots)?,
             totals: repeated(alloc, BIAS, slots)?,
+            counted: 0,
             history: Vec::new(alloc),
             seated: 0,
             begins: repeated(alloc, None, cpus)?,

@@ -1,10 +1,12 @@
 -- An entry is published: the keeper may do so, and what it has agrees with what its seat knows then.
-use Rattle.std.proofs.Common.{◌≡◌, inl, ℕ, zero, suc, ◌+◌, ◌<◌, ◌≤◌, Bool, true, false, List, [], ◌∷◌, length, get_or, set, Option, Some, IsTrue, refl, sym, ap, ◌∙◌, subst, arith, get_or-set_same}
+use Rattle.std.proofs.Common.{◌≡◌, inl, ℕ, zero, suc, ◌+◌, ◌<◌, ◌≤◌, Bool, true, false, List, [], ◌∷◌, ◌++◌, length, get_or, set, Option, Some, IsTrue, refl, sym, ap, ◌∙◌, subst, arith, get_or-set_same}
 use Rattle.std.proofs.Common.{length-set}
 use Rattle.std.proofs.lemmas.List.Folds.{list_any_at}
 use Rattle.std.proofs.lemmas.List.Sums.{sum_by-cons}
+use Rattle.std.proofs.lemmas.List.{append_assoc}
+use mathlib.Core.List.{IsPrefix}
 use Rattle.atomic_table.specs.Seated.{TableId}
-use Rattle.passive_list.specs.Types.{Change, Attach, Entry, Kind, Iface, Driver, Record, Settings, Key, Slot, Vacant, Live, Retired, KeeperView, LogItem}
+use Rattle.passive_list.specs.Types.{Change, Attach, Publish, Done, Entry, Kind, Iface, Driver, Record, Settings, Key, Slot, Vacant, Live, Retired, KeeperView, LogItem}
 use Rattle.protocol.specs.Common.{with_biases, no_words, kept_at, entry_if, entry_of, keeps_rightly, kind_of, words_of, after_change, one_if}
 use Rattle.protocol.specs.State.{row_at as words_at}
 use Rattle.registry_values.specs.Common.{key_of_record, key_of, is_live, is_live_as, is_taken, kind_word, live_count, same_key, slot_at, is_lawful}
@@ -13,7 +15,7 @@ use Rattle.registry_values.proofs.Fit.{ranges}
 use Rattle.protocol.proofs.history.History.{length-after_change}
 use Rattle.protocol.proofs.keeps.ListKeeps.{live_count_set, rows_put}
 use Rattle.protocol.proofs.slots.Occupied.{in_within}
-use Rattle.cpu_words.specs.Common.{IsAttachedKeeping, LeadsBelow, MayPublish, HasPublished, To_end, To_slot, IsShown, MayWrite}
+use Rattle.cpu_words.specs.Common.{IsAttachedKeeping, LeadsBelow, MayPublish, HasPublished, To_end, To_slot, IsShown, MayWrite, keeper_after_counting, log_item}
 use Rattle.passive_list.specs.Common.{KeptSlot, OnPlainKeeper, on_keeper, row_at, states_of, IsAtRest, RowsAgree, IsOurKeeper, keeper_after_stores, keeper_after_publish, MayAttach}
 use Rattle.passive_list.proofs.Rows.{state_at, live_in, row_stays, rows_set}
 use Rattle.passive_list.proofs.Preparing.{biases_size, bias_stored}
@@ -40,6 +42,11 @@ leads_on xs ys n v on back (To_slot t f live below most) = To_slot t f (on t f l
 -- a live entry of a key takes it
 taken_at : (key : Key) (xs : List Slot) (u : ℕ) (f : Entry) → slot_at xs u ≡ Live f → same_key (key_of f) key ≡ true → is_taken key xs ≡ true
 taken_at key xs u f live same = list_any_at (is_live_as key) xs u Vacant (in_within xs u f (inl live)) (ap (is_live_as key) live ∙ same)
+
+-- a link leads to a slot
+pub leads_within : (slots : List Slot) (n v : ℕ) → LeadsBelow slots n v → v ≤ length slots
+leads_within slots n zero (To_end none) = omega arith
+leads_within slots n _ (To_slot t f live lt most) = let within = in_within slots t f (inl live) in omega (arith, within)
 
 pub free_on : (key : Key) (xs ys : List Slot) → LiveIn ys xs → is_taken key xs ≡ false → is_taken key ys ≡ false
 free_on key xs ys back free = walk ys (λ u f live. off u f (back u f live))
@@ -130,6 +137,7 @@ may_publish a k rows e v asked link =
       counts = λ c cpu. bias_stored k.counts t k.settings.cpus c (get_or k.counts t []) (omega (arith, lt, count_size)) cpu;
       total = sym had.total ∙ had.unused (sym (state_at rows t) ∙ asked.vacant);
       keeps = asked.keeps;
+      counted = at.counted;
     }
 
 -- what publishing leaves, in one view
@@ -149,7 +157,7 @@ published_is k l m e v at told may =
 abbrev pub row_live : KeptSlot → Entry → KeptSlot
 row_live r e = record { state = Live e; marks = r.marks; total = r.total; keeps = r.keeps }
 
-published_at_rest : (a : Settings) (k : KeeperView) (rows : List KeptSlot) (e : Entry) (v : ℕ) → MayAttach a k rows e → IsAtRest a (keeper_after_publish k e v)
+published_at_rest : (a : Settings) (k : KeeperView) (rows : List KeptSlot) (e : Entry) (v : ℕ) → MayAttach a k rows e → IsAtRest a (keeper_after_counting (keeper_after_publish k e v))
 published_at_rest a k rows e v asked =
     let at = asked.at in
     let t = e.slot in
@@ -182,16 +190,17 @@ published_at_rest a k rows e v asked =
           let long = length-after_change k.history (Attach e) in
           let room = asked.room in
           omega (arith, more, count, long, room);
+      counted = refl;
     }
 
 -- what the keeper has agrees with what it publishes, after any step that brought its seat to the view k
-pub published_keeper : (a : Settings) (k l : KeeperView) (rows : List KeptSlot) (n : ℕ) (e : Entry) (v : ℕ) → n ≡ length k.history → MayAttach a k rows e → l ≡ keeper_after_publish k e v → IsShown l
+pub published_keeper : (a : Settings) (k l : KeeperView) (rows : List KeptSlot) (n : ℕ) (e : Entry) (v : ℕ) → n ≡ length k.history → MayAttach a k rows e → l ≡ keeper_after_counting (keeper_after_publish k e v) → IsShown l
     → IsOurKeeper a l (set rows e.slot (row_live (row_at rows e.slot) e)) (n + 1)
 published_keeper a k l rows n e v was asked change is_shown =
     let at = asked.at in
     let t = e.slot in
     let lt = asked.slot in
-    let p = keeper_after_publish k e v in
+    let p = keeper_after_counting (keeper_after_publish k e v) in
     let most = (ranges a at.fit).slots in
     let size = at.sized.slots in
     let had = asked.agree.each t lt in
@@ -227,6 +236,16 @@ ask a k rows n t rec x our is vacant keeps name free room = record {
   free = ap (λ (y : OnPlainKeeper). is_taken (key_of_record rec) y.keeper.slots) is ∙ free;
   room = subst (λ (y : OnPlainKeeper). length y.keeper.view.history + live_count y.keeper.slots + 2 ≤ y.words.settings.change_limit) (sym is) room;
   number = let changes = our.changes in omega (arith, changes);
+}
+
+-- what a log says of the slot's driver, a longer log says, too
+pub keeping_more : (t n d : ℕ) (log later : List LogItem) → IsPrefix log later → IsAttachedKeeping t n d log → IsAttachedKeeping t n d later
+keeping_more t n d log later pre is = record {
+  before = is.before;
+  after = is.after ++ pre.0;
+  are = sym pre.1 ∙ (ap (λ (l : List LogItem). l ++ pre.0) is.are ∙ append_assoc is.before (log_item (Publish t) Done ∷ is.after) pre.0);
+  number = is.number;
+  keeps = is.keeps;
 }
 
 -- what the log says of the slot's driver, of the entry by its number

@@ -1,5 +1,5 @@
 -- Collections: what the rows say where a count word is collected, and where all are.
-use Rattle.std.proofs.Common.{◌≡◌, ℕ, ◌+◌, ◌-◌, ◌^◌, ◌<◌, ◌≤◌, List, [], ◌++◌, length, get_or, set, true, refl, sym, ap, ◌∙◌, subst, arith, length-set, get_or-set_same, get_or-set_other}
+use Rattle.std.proofs.Common.{◌≡◌, ℕ, ◌+◌, ◌-◌, ◌^◌, ◌<◌, ◌≤◌, List, [], ◌++◌, length, get_or, set, Some, true, refl, sym, ap, ◌∙◌, subst, arith, length-set, get_or-set_same, get_or-set_other}
 use Rattle.std.proofs.Math.Seq.{map-set_same}
 use Rattle.atomic_table.specs.Seated.{TableId}
 use Rattle.passive_list.specs.Types.{Entry, Collect, TotalAdd, Done, Word, Settings, Rest, Mark, Vacant, Retired, MOST_CPUS, MOST_SLOTS, KeeperView, LogItem, Keeper}
@@ -10,7 +10,7 @@ use Rattle.registry_values.proofs.Fit.{ranges}
 use Rattle.protocol.proofs.keeps.ListKeeps.{rows_put}
 use Rattle.cpu_words.specs.Common.{row_of, HasCollected, MayTotalAdd, HasAdded, IsShown, did, Makes}
 use Rattle.cpu_words.proofs.shown.KeepersShown.{step_is_shown}
-use Rattle.passive_list.specs.Common.{KeptSlot, OnKeeper, OnPlainKeeper, on_keeper, no_row, row_at, state_of, states_of, IsAtRest, RowsAgree, IsOurKeeper, keeper_after_collect, HasCollectedInto}
+use Rattle.passive_list.specs.Common.{KeptSlot, OnKeeper, OnPlainKeeper, on_keeper, no_row, row_at, state_of, states_of, total_or_bias, IsAtRest, RowsAgree, IsOurKeeper, keeper_after_collect, HasCollectedInto}
 use Rattle.passive_list.specs.Common.{AreHeld}
 use Rattle.passive_list.proofs.Rows.{state_at, not_vacant_within, retired_in, row_stays, rows_set}
 use Rattle.passive_list.proofs.Balanced.{none_at_rest, total_collected, bias_within, adding_fits}
@@ -21,7 +21,7 @@ abbrev pub with_total : KeeperView → ℕ → List Mark → ℕ → List ℕ �
 with_total k t marks total given_up = record k { marks = set k.marks t marks; totals = set k.totals t total; due = Rest; given_up = given_up }
 
 abbrev pub row_with_total : KeptSlot → List Mark → ℕ → KeptSlot
-row_with_total r marks total = record { state = r.state; marks = marks; total = total; keeps = r.keeps }
+row_with_total r marks total = record { state = r.state; marks = marks; total = Some total; keeps = r.keeps }
 
 with_total_at_rest : (a : Settings) (k : KeeperView) (t : ℕ) (marks : List Mark) (total : ℕ) (given_up : List ℕ) → IsAtRest a k → length marks ≡ MOST_CPUS
     → IsAtRest a (with_total k t marks total given_up)
@@ -42,6 +42,7 @@ with_total_at_rest a k t marks total given_up at size = record {
     count_rows = at.sized.count_rows;
   };
   room = at.room;
+  counted = at.counted;
 }
 
 pub with_total_rows : (a : Settings) (k : KeeperView) (rows : List KeptSlot) (t : ℕ) (marks : List Mark) (total : ℕ) (given_up : List ℕ) → IsAtRest a k → RowsAgree a k rows
@@ -76,68 +77,65 @@ with_total_keeper a k l rows n t marks total given_up our some size change is_sh
 
 -- A collection
 
--- the word w was collected for the retired entry of t, and is to be added to the total in the slot's row
-pub record CollectionTells (k : KeeperView) (rows : List KeptSlot) (t w : ℕ) : Type 0 where
+-- the word w was collected for the retired entry of t, and is to be added to v, the total in the slot's row
+pub record CollectionTells (k : KeeperView) (t v w : ℕ) : Type 0 where
   pub place : t < MOST_SLOTS
-  pub floor : bias ≤ (row_at rows t).total + w
-  pub fits : (row_at rows t).total + w < 2 ^ 64
-  pub may : (old : ℕ) × MayTotalAdd k t old ((row_at rows t).total + w - bias)
+  pub floor : bias ≤ v + w
+  pub fits : v + w < 2 ^ 64
+  pub may : (old : ℕ) × MayTotalAdd k t old (v + w - bias)
 
-pub collection_tells : {log : List LogItem} (a : Settings) (k l : KeeperView) (rows : List KeptSlot) (n : ℕ) (x : OnKeeper) (t c w : ℕ) (e : Entry) → IsOurKeeper a k rows n
-    → record { view = k; slots = states_of rows; log = log } ≡ x
-    → slot_at x.slots t ≡ Retired e → HasCollected k t c w l → Makes (Collect t c) (Word w) (Keeper k) (Keeper l) → CollectionTells l rows t w
-collection_tells a k l rows n x t c w e our is retired change made =
+pub collection_tells : {log : List LogItem} (a : Settings) (k l : KeeperView) (rows : List KeptSlot) (n : ℕ) (x : OnKeeper) (t c v w : ℕ) (e : Entry) → IsOurKeeper a k rows n
+    → record { view = k; slots = states_of rows; log = log } ≡ x → v ≡ total_or_bias (row_at rows t)
+    → slot_at x.slots t ≡ Retired e → HasCollected k t c w l → Makes (Collect t c) (Word w) (Keeper k) (Keeper l) → CollectionTells l t v w
+collection_tells a k l rows n x t c v w e our is read retired change made =
     let lt = (retired_in a k rows t e our.rows (ap (λ (y : OnKeeper). slot_at y.slots t) is ∙ retired)).0 in
     let most = (ranges a our.view.fit).slots in
     let due = ap (λ (v : KeeperView). v.due) change in
-    let total : (row_at rows t).total ≡ total_at l.totals t = (our.rows.each t lt).total ∙ sym (ap (λ (v : KeeperView). total_at v.totals t) change) in
+    let total : v ≡ total_at l.totals t = read ∙ (our.rows.each t lt).total ∙ sym (ap (λ (y : KeeperView). total_at y.totals t) change) in
     let range = adding_fits l t w (step_is_shown made) due in
     record {
       place = omega (arith, lt, most);
       floor = omega (arith, range.0, total);
       fits = omega (arith, range.1, total);
-      may = (w, record { due = due; sum = ap (λ (v : ℕ). v + w - bias) total });
+      may = (w, record { due = due; sum = ap (λ (u : ℕ). u + w - bias) total });
     }
 
--- the view after it, and the word is added
-added_is : (k l b : KeeperView) (rows : List KeptSlot) (t c w : ℕ) (m : Mark) → (row_at rows t).marks ≡ row_of k t → HasCollected k t c w l
-    → m ≡ mark_after_collect (get_or (row_at rows t).marks c no_mark) → HasAdded l t ((row_at rows t).total + w - bias) b
-    → b ≡ with_total k t (set (row_at rows t).marks c m) ((row_at rows t).total + w - bias) k.given_up
-added_is k l b rows t c w m row change mark added =
-    let v = (row_at rows t).total + w - bias in
+-- the view after it, with the new total v
+added_is : (k l b : KeeperView) (rows : List KeptSlot) (t c v w : ℕ) (m : Mark) → (row_at rows t).marks ≡ row_of k t → HasCollected k t c w l
+    → m ≡ mark_after_collect (get_or (row_at rows t).marks c no_mark) → HasAdded l t v b → b ≡ with_total k t (set (row_at rows t).marks c m) v k.given_up
+added_is k l b rows t c v w m row change mark added =
     added ∙ ap (λ (x : KeeperView). record x { totals = set x.totals t v; due = Rest }) change
     ∙ sym (ap (λ (x : Mark). with_total k t (set (row_at rows t).marks c x) v k.given_up) mark
     ∙ ap (λ (ms : List Mark). with_total k t (set ms c (mark_after_collect (get_or ms c no_mark))) v k.given_up) row)
 
-pub collected_keeper : {log : List LogItem} (a : Settings) (k l b : KeeperView) (rows : List KeptSlot) (n : ℕ) (x : OnKeeper) (t c w : ℕ) (e : Entry) (m : Mark) → IsOurKeeper a k rows n
+pub collected_keeper : {log : List LogItem} (a : Settings) (k l b : KeeperView) (rows : List KeptSlot) (n : ℕ) (x : OnKeeper) (t c v w : ℕ) (e : Entry) (m : Mark) → IsOurKeeper a k rows n
     → record { view = k; slots = states_of rows; log = log } ≡ x
-    → slot_at x.slots t ≡ Retired e → HasCollected k t c w l → m ≡ mark_after_collect (get_or (row_at rows t).marks c no_mark) → HasAdded l t ((row_at rows t).total + w - bias) b
+    → slot_at x.slots t ≡ Retired e → HasCollected k t c w l → m ≡ mark_after_collect (get_or (row_at rows t).marks c no_mark) → HasAdded l t v b
     → Makes (TotalAdd t) Done (Keeper l) (Keeper b)
-    → IsOurKeeper a b (set rows t (row_with_total (row_at rows t) (set (row_at rows t).marks c m) ((row_at rows t).total + w - bias))) n
-collected_keeper a k l b rows n x t c w e m our is retired change mark added made =
+    → IsOurKeeper a b (set rows t (row_with_total (row_at rows t) (set (row_at rows t).marks c m) v)) n
+collected_keeper a k l b rows n x t c v w e m our is retired change mark added made =
     let here = ap (λ (y : OnKeeper). slot_at y.slots t) is ∙ retired in
     let lt = (retired_in a k rows t e our.rows here).0 in
     let row = (our.rows.each t lt).marks in
     let size = our.view.sized.marks in
     let long : length (set (row_at rows t).marks c m) ≡ MOST_CPUS =
     length-set (row_at rows t).marks c m ∙ (ap (λ (ms : List Mark). length ms) row ∙ our.view.sized.mark_rows t (omega (arith, lt, size))) in
-    with_total_keeper a k b rows n t (set (row_at rows t).marks c m) ((row_at rows t).total + w - bias) k.given_up our (λ v. let q : Retired e ≡ Vacant = sym here ∙ v in cc) long
-    (added_is k l b rows t c w m row change mark added) (step_is_shown made)
+    with_total_keeper a k b rows n t (set (row_at rows t).marks c m) v k.given_up our (λ vacant. let q : Retired e ≡ Vacant = sym here ∙ vacant in cc) long
+    (added_is k l b rows t c v w m row change mark added) (step_is_shown made)
 
-pub collected_into : {log between later : List LogItem} (a : Settings) (k l b : KeeperView) (rows : List KeptSlot) (n : ℕ) (x : OnKeeper) (t c w : ℕ) (e : Entry) (r : KeptSlot)
-    → IsOurKeeper a k rows n → record { view = k; slots = states_of rows; log = log } ≡ x
-    → slot_at x.slots t ≡ Retired e → HasCollected k t c w l → Makes (Collect t c) (Word w) (Keeper k) (Keeper l) → HasAdded l t ((row_at rows t).total + w - bias) b
+pub collected_into : {log between later : List LogItem} (a : Settings) (k l b : KeeperView) (rows : List KeptSlot) (n : ℕ) (x : OnKeeper) (t c v w : ℕ) (e : Entry) (r : KeptSlot)
+    → IsOurKeeper a k rows n → record { view = k; slots = states_of rows; log = log } ≡ x → v ≡ total_or_bias (row_at rows t)
+    → slot_at x.slots t ≡ Retired e → HasCollected k t c w l → Makes (Collect t c) (Word w) (Keeper k) (Keeper l) → HasAdded l t (v + w - bias) b
     → Makes (TotalAdd t) Done (Keeper l) (Keeper b) → r.state ≡ (row_at rows t).state
     → between ≡ log ++ did (Collect t c) (Word w) → later ≡ between ++ did (TotalAdd t) Done → HasCollectedInto x t c (record { view = b; slots = states_of (set rows t r); log = later })
-collected_into {log} {later} a k l b rows n x t c w e r our is retired change made added made_too state first then =
+collected_into {log} {later} a k l b rows n x t c v w e r our is read retired change made added made_too state first then =
     let lt = (retired_in a k rows t e our.rows (ap (λ (y : OnKeeper). slot_at y.slots t) is ∙ retired)).0 in
-    let v = (row_at rows t).total + w - bias in
-    let total : v ≡ total_at k.totals t + w - bias = ap (λ (u : ℕ). u + w - bias) (our.rows.each t lt).total in
+    let total : v + w - bias ≡ total_at k.totals t + w - bias = ap (λ (u : ℕ). u + w - bias) (read ∙ (our.rows.each t lt).total) in
     subst (λ (y : OnKeeper). HasCollectedInto y t c (record { view = b; slots = states_of (set rows t r); log = later })) is record {
       word = w;
       collected = subst (λ (y : KeeperView). Makes (Collect t c) (Word w) (Keeper k) (Keeper y)) change made;
       added = subst (λ (y : KeeperView). Makes (TotalAdd t) Done (Keeper y) (Keeper b)) change made_too;
-      view = added ∙ ap (λ (y : KeeperView). record y { totals = set y.totals t v; due = Rest }) change
+      view = added ∙ ap (λ (y : KeeperView). record y { totals = set y.totals t (v + w - bias); due = Rest }) change
           ∙ (λ i. record (keeper_after_collect k t c w) { totals = set k.totals t (total i); due = sym our.view.rest i });
       slots = map-set_same state_of rows t r no_row state;
       log = then ∙ ap (λ (ds : List LogItem). ds ++ did (TotalAdd t) Done) first;
@@ -150,17 +148,17 @@ pub record TotalTells (k : KeeperView) (t total : ℕ) : Type 0 where
   pub is : total - bias + bias ≡ total_at k.totals t
   pub held : AreHeld k t (total - bias)
 
--- the row of a retired slot has the total, which is the bias and what is held
-pub total_tells : {table : TableId} {log : List LogItem} (a : Settings) (k : KeeperView) (rows : List KeptSlot) (n : ℕ) (x : OnPlainKeeper) (t : ℕ) (e : Entry) → IsOurKeeper a k rows n
-    → on_keeper table a k rows log ≡ x
-    → slot_at x.keeper.slots t ≡ Retired e → are_collected x.words.settings.cpus (row_of x.keeper.view t) ≡ true → TotalTells x.keeper.view t (row_at rows t).total
-total_tells a k rows n x t e our is retired all =
+-- the row of a retired slot has the total v, which is the bias and what is held
+pub total_tells : {table : TableId} {log : List LogItem} (a : Settings) (k : KeeperView) (rows : List KeptSlot) (n : ℕ) (x : OnPlainKeeper) (t v : ℕ) (e : Entry) → IsOurKeeper a k rows n
+    → on_keeper table a k rows log ≡ x → v ≡ total_or_bias (row_at rows t)
+    → slot_at x.keeper.slots t ≡ Retired e → are_collected x.words.settings.cpus (row_of x.keeper.view t) ≡ true → TotalTells x.keeper.view t v
+total_tells a k rows n x t v e our is read retired all =
     let here = retired_in a k rows t e our.rows (ap (λ (y : OnPlainKeeper). slot_at y.keeper.slots t) is ∙ retired) in
-    let total : (row_at rows t).total ≡ total_at k.totals t = (our.rows.each t here.0).total in
+    let total : v ≡ total_at k.totals t = read ∙ (our.rows.each t here.0).total in
     let told : are_collected k.settings.cpus (row_of k t) ≡ true =
     ap (λ (z : Settings). are_collected z.cpus (row_of k t)) our.view.settings ∙ (ap (λ (y : OnPlainKeeper). are_collected y.words.settings.cpus (row_of y.keeper.view t)) is ∙ all) in
     let floor = bias_within k t e our.is_shown our.view.rest here.1 told in
-    subst (λ (y : OnPlainKeeper). TotalTells y.keeper.view t (row_at rows t).total) is record {
+    subst (λ (y : OnPlainKeeper). TotalTells y.keeper.view t v) is record {
       floor = omega (arith, floor, total);
       is = omega (arith, floor, total);
       held = record {

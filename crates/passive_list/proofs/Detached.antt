@@ -6,7 +6,7 @@ use Rattle.protocol.proofs.slots.Cells.{slot_here, slot_other}
 use Rattle.registry_values.proofs.Fit.{ranges}
 use Rattle.protocol.proofs.history.History.{length-after_change}
 use Rattle.protocol.proofs.keeps.ListKeeps.{live_count_put, rows_put}
-use Rattle.cpu_words.specs.Common.{LeadsBelow, IsBefore, MayUnpublish, HasUnpublished, keeper_after_unpublish, links_with, IsShown}
+use Rattle.cpu_words.specs.Common.{LeadsBelow, IsBefore, MayUnpublish, HasUnpublished, keeper_after_unpublish, keeper_after_counting, links_with, IsShown}
 use Rattle.passive_list.specs.Common.{KeptSlot, row_at, states_of, IsAtRest, RowsAgree, IsOurKeeper, with_snapshots}
 use Rattle.passive_list.proofs.Rows.{state_at, live_in, row_stays, rows_set}
 use Rattle.passive_list.proofs.Attached.{LiveIn, rows_live, live_rows, leads_on}
@@ -29,11 +29,15 @@ may_unpublish a k rows t e p v at agree is before link = record {
   live = (live_in a k rows t e agree (state_at rows t ∙ is)).1;
   before = before_in a k rows e.number p at agree before;
   link = leads_in a k rows e.number v at agree link;
+  counted = at.counted;
 }
 
--- what retiring leaves, in one view
+-- what retiring leaves, in one view, before the changes are counted and after
+abbrev pub snapped : KeeperView → ℕ → Entry → Option ℕ → ℕ → List Mark → KeeperView
+snapped k t e p v marks = with_snapshots (keeper_after_unpublish k t e p v) t marks
+
 abbrev pub detached : KeeperView → ℕ → Entry → Option ℕ → ℕ → List Mark → KeeperView
-detached k t e p v marks = with_snapshots (keeper_after_unpublish k t e p v) t marks
+detached k t e p v marks = keeper_after_counting (snapped k t e p v marks)
 
 pub unpublished_is : (k l : KeeperView) (t : ℕ) (e : Entry) (p : Option ℕ) (v : ℕ) → slot_at k.slots t ≡ Live e → HasUnpublished k t p v l → l ≡ keeper_after_unpublish k t e p v
 unpublished_is k l t e p v live told = told.2 ∙ ap (λ (x : Entry). keeper_after_unpublish k t x p v) (one told.0 e (sym told.1 ∙ live))
@@ -41,9 +45,21 @@ unpublished_is k l t e p v live told = told.2 ∙ ap (λ (x : Entry). keeper_aft
     one : (x y : Entry) → Live x ≡ Live y → x ≡ y
     one x y q = cc
 
-pub detached_is : (k l m : KeeperView) (t : ℕ) (e : Entry) (p : Option ℕ) (v : ℕ) (marks : List Mark) → slot_at k.slots t ≡ Live e → HasUnpublished k t p v l → m ≡ with_snapshots l t marks
-    → m ≡ detached k t e p v marks
-detached_is k l m t e p v marks live told taken = taken ∙ ap (λ (x : KeeperView). with_snapshots x t marks) (unpublished_is k l t e p v live told)
+pub snapped_is : (k l m : KeeperView) (t : ℕ) (e : Entry) (p : Option ℕ) (v : ℕ) (marks : List Mark) → slot_at k.slots t ≡ Live e → HasUnpublished k t p v l → m ≡ with_snapshots l t marks
+    → m ≡ snapped k t e p v marks
+snapped_is k l m t e p v marks live told taken = taken ∙ ap (λ (x : KeeperView). with_snapshots x t marks) (unpublished_is k l t e p v live told)
+
+pub detached_is : (k l m n : KeeperView) (t : ℕ) (e : Entry) (p : Option ℕ) (v : ℕ) (marks : List Mark) → slot_at k.slots t ≡ Live e → HasUnpublished k t p v l → m ≡ with_snapshots l t marks
+    → n ≡ keeper_after_counting m → n ≡ detached k t e p v marks
+detached_is k l m n t e p v marks live told taken counted = counted ∙ ap keeper_after_counting (snapped_is k l m t e p v marks live told taken)
+
+-- the changes that are to be counted
+pub snapped_changes : (k l m : KeeperView) (c t : ℕ) (e : Entry) (p : Option ℕ) (v : ℕ) (marks : List Mark) → c ≡ length k.history → slot_at k.slots t ≡ Live e → HasUnpublished k t p v l
+    → m ≡ with_snapshots l t marks → c + 1 ≡ length m.history
+snapped_changes k l m c t e p v marks was live told taken =
+    let more = length-after_change k.history (Detach e.number) in
+    let now = ap (λ (x : KeeperView). length x.history) (snapped_is k l m t e p v marks live told taken) in
+    omega (arith, was, more, now)
 
 links_size : (next : List ℕ) (p : Option ℕ) (v : ℕ) → length (links_with next p v) ≡ length next
 links_size next None v = refl
@@ -75,6 +91,7 @@ detached_at_rest a k t e p v marks at lt live size =
           let long = length-after_change k.history (Detach e.number) in
           let room = at.room in
           omega (arith, less, long, room);
+      counted = refl;
     }
 
 abbrev pub row_retired : KeptSlot → Entry → List Mark → KeptSlot

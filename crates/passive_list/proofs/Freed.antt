@@ -13,7 +13,7 @@ use Rattle.protocol.proofs.keeps.ListKeeps.{live_count_put, rows_put}
 use Rattle.protocol.proofs.slots.Occupied.{has_it, not_vacant, number_in, one_number, position_found, slot_found, slot_has}
 use Rattle.cpu_words.specs.Common.{IsFreedFrom, MayKeptSub, HasKeptSub, IsShown, did, Makes, one_more}
 use Rattle.cpu_words.proofs.by_keeper.KeeperSees.{seen_by_keeper}
-use Rattle.passive_list.specs.Common.{KeptSlot, OnKeeper, no_row, row_at, state_of, states_of, IsAtRest, RowsAgree, IsOurKeeper, IsDrainedOn, HasFreed, kept_slot}
+use Rattle.passive_list.specs.Common.{KeptSlot, OnKeeper, no_row, row_at, state_of, states_of, total_or_bias, IsAtRest, RowsAgree, IsOurKeeper, IsDrainedOn, HasFreed, kept_slot}
 use Rattle.passive_list.proofs.Rows.{state_at, taken_in, retired_in, row_stays, rows_set}
 use Rattle.passive_list.specs.Draining.{place_of}
 use Rattle.passive_list.proofs.Balanced.{IsHeldIn, held_by_slot}
@@ -160,23 +160,24 @@ freed_at_rest a k t d u e at lt retired = record {
       let same : live_count (set k.slots t Vacant) + 0 ≡ live_count k.slots + 0 = live_count_put k.slots t (Retired e) Vacant (omega (arith, lt, size)) retired in
       let room = at.room in
       omega (arith, same, room);
+  counted = at.counted;
 }
 
 abbrev pub row_freed : KeptSlot → KeptSlot
 row_freed r = record { state = Vacant; marks = r.marks; total = r.total; keeps = None }
 
 -- the total of the driver is one less, and then the slot is vacant
-freed_rows : (a : Settings) (k : KeeperView) (rows : List KeptSlot) (t d u : ℕ) → IsAtRest a k → RowsAgree a k rows → IsHeldIn k u → u ≢ t → t < a.slots → total_at k.totals t ≡ bias
-    → RowsAgree a (freed k t d u) (set (set rows u (row_less (row_at rows u))) t (row_freed (row_at rows t)))
-freed_rows a k rows t d u at agree held off lt total =
+freed_rows : (a : Settings) (k : KeeperView) (rows : List KeptSlot) (t d u v : ℕ) → IsAtRest a k → RowsAgree a k rows → IsHeldIn k u → u ≢ t → t < a.slots → total_at k.totals t ≡ bias → v ≡ total_or_bias (row_at rows u)
+    → RowsAgree a (freed k t d u) (set (set rows u (row_less (row_at rows u) v)) t (row_freed (row_at rows t)))
+freed_rows a k rows t d u v at agree held off lt total read =
     let m = less k u k.given_up in
-    let rows' = set rows u (row_less (row_at rows u)) in
+    let rows' = set rows u (row_less (row_at rows u) v) in
     let most = (ranges a at.fit).slots in
     let slot_size = at.sized.slots in
     let keep_size = at.sized.keeps in
     let had = agree.each t lt in
     let stays : total_at m.totals t ≡ total_at k.totals t = total_other k.totals u _ t (λ same. off (sym same)) in
-    rows_set a m (freed k t d u) rows' t (row_freed (row_at rows t)) lt (omega (arith, lt, most)) (less_rows a k rows u k.given_up at agree (held_row a k rows u at agree held))
+    rows_set a m (freed k t d u) rows' t (row_freed (row_at rows t)) lt (omega (arith, lt, most)) (less_rows a k rows u v k.given_up at agree (held_row a k rows u at agree held) read)
     record {
       state = slot_here k.slots t Vacant (omega (arith, lt, slot_size));
       marks = had.marks;
@@ -184,35 +185,35 @@ freed_rows a k rows t d u at agree held off lt total =
       keeps = sym (get_or-set_same k.keeps t None None (omega (arith, lt, keep_size)));
       unused = λ vacant. had.total ∙ total;
     }
-    (λ v other was. row_stays m (freed k t d u) v (row_at rows' v) (slot_other k.slots t Vacant v other) refl refl (get_or-set_other k.keeps t v None None other) was)
+    (λ w other was. row_stays m (freed k t d u) w (row_at rows' w) (slot_other k.slots t Vacant w other) refl refl (get_or-set_other k.keeps t w None None other) was)
 
-pub freed_keeper : {log : List LogItem} (a : Settings) (k l : KeeperView) (rows : List KeptSlot) (n t u : ℕ) (x : OnKeeper) → IsOurKeeper a k rows n
+pub freed_keeper : {log : List LogItem} (a : Settings) (k l : KeeperView) (rows : List KeptSlot) (n t u v : ℕ) (x : OnKeeper) → IsOurKeeper a k rows n
     → record { view = k; slots = states_of rows; log = log } ≡ x → IsDrainedOn x t → KeepsHeld k t u
-    → HasKeptSub k t u l → IsShown l → IsOurKeeper a l (set (set rows u (row_less (row_at rows u))) t (row_freed (row_at rows t))) n
-freed_keeper a k l rows n t u x our is drained keeps told is_shown =
+    → HasKeptSub k t u l → IsShown l → v ≡ total_or_bias (row_at rows u) → IsOurKeeper a l (set (set rows u (row_less (row_at rows u) v)) t (row_freed (row_at rows t))) n
+freed_keeper a k l rows n t u v x our is drained keeps told is_shown read =
     let d = subst (λ (y : OnKeeper). IsDrainedOn y t) (sym is) drained in
     let here = retired_in a k rows t d.retired.0 our.rows d.retired.1 in
     let change = freed_is k l t keeps.d u keeps.kept told in
-    let after = set (set rows u (row_less (row_at rows u))) t (row_freed (row_at rows t)) in
+    let after = set (set rows u (row_less (row_at rows u) v)) t (row_freed (row_at rows t)) in
     record {
       view = subst (IsAtRest a) (sym change) (freed_at_rest a k t keeps.d u d.retired.0 our.view here.0 here.1);
       is_shown = is_shown;
       changes = our.changes ∙ sym (ap (λ (y : KeeperView). length y.history) change);
-      rows = subst (λ (y : KeeperView). RowsAgree a y after) (sym change) (freed_rows a k rows t keeps.d u our.view our.rows keeps.held keeps.other here.0 d.drained.total);
+      rows = subst (λ (y : KeeperView). RowsAgree a y after) (sym change) (freed_rows a k rows t keeps.d u v our.view our.rows keeps.held keeps.other here.0 d.drained.total read);
     }
 
 -- what it leaves of the keeper
-pub has_freed : {log later : List LogItem} (a : Settings) (k l : KeeperView) (rows : List KeptSlot) (t u : ℕ) (r : KeptSlot) (x : OnKeeper) → record { view = k; slots = states_of rows; log = log } ≡ x
+pub has_freed : {log later : List LogItem} (a : Settings) (k l : KeeperView) (rows : List KeptSlot) (t u v : ℕ) (r : KeptSlot) (x : OnKeeper) → record { view = k; slots = states_of rows; log = log } ≡ x
     → RowsAgree a k rows → Makes (KeptSub t) Done (Keeper k) (Keeper l) → HasKeptSub k t u l → later ≡ log ++ did (KeptSub t) Done
     → ((e : Entry) → slot_at k.slots t ≡ Retired e → IsFreedFrom t e.number later)
-    → HasFreed x t (record { view = l; slots = states_of (set (set rows u (row_less (row_at rows u))) t (row_freed r)); log = later })
-has_freed {later} a k l rows t u r x is agree made told goes_on freed =
-    let after = set (set rows u (row_less (row_at rows u))) t (row_freed r) in
+    → HasFreed x t (record { view = l; slots = states_of (set (set rows u (row_less (row_at rows u) v)) t (row_freed r)); log = later })
+has_freed {later} a k l rows t u v r x is agree made told goes_on freed =
+    let after = set (set rows u (row_less (row_at rows u) v)) t (row_freed r) in
     subst (λ (y : OnKeeper). HasFreed y t (record { view = l; slots = states_of after; log = later })) is record {
       u = u;
       made = made;
       view = told;
-      slots = map-set state_of (set rows u (row_less (row_at rows u))) t (row_freed r) ∙ ap (λ (xs : List Slot). set xs t Vacant) (map-set_same state_of rows u (row_less (row_at rows u)) no_row refl);
+      slots = map-set state_of (set rows u (row_less (row_at rows u) v)) t (row_freed r) ∙ ap (λ (xs : List Slot). set xs t Vacant) (map-set_same state_of rows u (row_less (row_at rows u) v) no_row refl);
       log = goes_on;
       freed = λ e at. freed e (retired_in a k rows t e agree at).1;
     }

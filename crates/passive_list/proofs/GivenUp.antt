@@ -7,7 +7,7 @@ use Rattle.protocol.specs.Common.{mark_at, total_at}
 use Rattle.cpu_words.specs.Common.{IsFoundCollected, MayJoinKeeper, keeper_after_join, did, Makes, JoinsBy, one_more}
 use Rattle.cpu_words.specs.Draining.{HasSubtracted}
 use Rattle.cpu_words.proofs.shown.KeepersShown.{step_is_shown}
-use Rattle.passive_list.specs.Common.{KeptSlot, OnKeeper, no_row, row_at, state_of, states_of, IsOurKeeper, HasGivenUp}
+use Rattle.passive_list.specs.Common.{KeptSlot, OnKeeper, no_row, row_at, state_of, states_of, total_or_bias, IsOurKeeper, HasGivenUp}
 use Rattle.passive_list.proofs.Rows.{retired_in}
 use Rattle.passive_list.proofs.Balanced.{IsHeldIn, held_given_up}
 use Rattle.passive_list.proofs.Collections.{with_total_keeper}
@@ -52,22 +52,23 @@ given_is : (k j l : KeeperView) (t : ℕ) (v : ReferenceView) → k.due ≡ Rest
 given_is k j l t v rest joined told = told.2 ∙ ap (λ (x : KeeperView). record x { totals = set x.totals t (total_at x.totals t - 1); due = Rest }) joined
     ∙ ap (λ (d : Due). record (less k t (one_more k.given_up v.entry.number)) { due = d }) (sym rest)
 
-pub given_keeper : (a : Settings) (k j l : KeeperView) (rows : List KeptSlot) (n t : ℕ) (v : ReferenceView) → IsOurKeeper a k rows n → v.entry.slot ≡ t → j ≡ keeper_after_join k v
-    → Makes (TotalSub t) Done (Keeper j) (Keeper l) → HasSubtracted j t l → IsOurKeeper a l (set rows t (row_less (row_at rows t))) n
-given_keeper a k j l rows n t v our slot joined made told =
+pub given_keeper : (a : Settings) (k j l : KeeperView) (rows : List KeptSlot) (n t u : ℕ) (v : ReferenceView) → IsOurKeeper a k rows n → v.entry.slot ≡ t → j ≡ keeper_after_join k v
+    → Makes (TotalSub t) Done (Keeper j) (Keeper l) → HasSubtracted j t l → u ≡ total_or_bias (row_at rows t)
+    → IsOurKeeper a l (set rows t (row_less (row_at rows t) u)) n
+given_keeper a k j l rows n t u v our slot joined made told read =
     let row = given_row a k j l rows n t v our slot joined made in
     let given_up = one_more k.given_up v.entry.number in
-    with_total_keeper a k l rows n t (row_at rows t).marks ((row_at rows t).total - 1) given_up our row.some row.size
-    (given_is k j l t v our.view.rest joined told ∙ less_is k rows t given_up our.view.rest row) (step_is_shown made)
+    with_total_keeper a k l rows n t (row_at rows t).marks (u - 1) given_up our row.some row.size
+    (given_is k j l t v our.view.rest joined told ∙ less_is k rows t u given_up our.view.rest row read) (step_is_shown made)
 
 -- what is left of the keeper
-pub has_given_up : {log between later : List LogItem} (k j l : KeeperView) (rows : List KeptSlot) (t : ℕ) (v w : ReferenceView) (x : OnKeeper)
+pub has_given_up : {log between later : List LogItem} (k j l : KeeperView) (rows : List KeptSlot) (t n : ℕ) (v w : ReferenceView) (x : OnKeeper)
     → record { view = k; slots = states_of rows; log = log } ≡ x → v ≡ w → k.due ≡ Rest → v.entry.slot ≡ t → j ≡ keeper_after_join k v
     → JoinsBy JoinKeeper (Keeper k) (Reference v) (Keeper j) → Makes (TotalSub t) Done (Keeper j) (Keeper l) → HasSubtracted j t l
     → between ≡ log ++ did (JoinKeeper v.entry.number) Done → later ≡ between ++ did (TotalSub t) Done
-    → HasGivenUp x w (record { view = l; slots = states_of (set rows t (row_less (row_at rows t))); log = later })
-has_given_up {log} {later} k j l rows t v w x is is_too rest slot joined joins made told first then =
-    let after = states_of (set rows t (row_less (row_at rows t))) in
+    → HasGivenUp x w (record { view = l; slots = states_of (set rows t (row_less (row_at rows t) n)); log = later })
+has_given_up {log} {later} k j l rows t n v w x is is_too rest slot joined joins made told first then =
+    let after = states_of (set rows t (row_less (row_at rows t) n)) in
     let s = v.entry.slot in
     let made_there : Makes (TotalSub s) Done (Keeper j) (Keeper l) = subst (λ (u : ℕ). Makes (TotalSub u) Done (Keeper j) (Keeper l)) (sym slot) made in
     let told_there : HasSubtracted j s l = subst (λ (u : ℕ). HasSubtracted j u l) (sym slot) told in
@@ -78,6 +79,6 @@ has_given_up {log} {later} k j l rows t v w x is is_too rest slot joined joins m
       joined = subst (λ (y : KeeperView). JoinsBy JoinKeeper (Keeper k) (Reference v) (Keeper y)) joined joins;
       subtracted = subst (λ (y : KeeperView). Makes (TotalSub s) Done (Keeper y) (Keeper l)) joined made_there;
       view = given_is k j l s v rest joined told_there;
-      slots = map-set_same state_of rows t (row_less (row_at rows t)) no_row refl;
+      slots = map-set_same state_of rows t (row_less (row_at rows t) n) no_row refl;
       log = both;
     })

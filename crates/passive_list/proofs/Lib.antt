@@ -20,3 +20,4 @@ pub mod Subtracting
 pub mod Freed
 pub mod GivenUp
 pub mod Kept
+pub mod ByLoads

@@ -12,7 +12,7 @@ use Rattle.protocol.proofs.keeps.ListKeeps.{live_count_put, rows_cell, rows_put}
 use Rattle.protocol.proofs.slots.Occupied.{is_retired_tells}
 use Rattle.cpu_words.specs.Common.{MayLook, keeper_after_look, IsFreedFrom, IsShown, did, Makes, keeper_after_vacate}
 use Rattle.cpu_words.proofs.shown.KeepersShown.{step_is_shown}
-use Rattle.passive_list.specs.Common.{KeptSlot, OnKeeper, no_row, row_at, state_of, states_of, IsAtRest, RowsAgree, IsOurKeeper, HasVacated, IsDrainedOn, is_drained_row}
+use Rattle.passive_list.specs.Common.{KeptSlot, OnKeeper, no_row, row_at, state_of, states_of, total_or_bias, IsAtRest, RowsAgree, IsOurKeeper, HasVacated, IsDrainedOn, is_drained_row}
 use Rattle.passive_list.proofs.Rows.{state_at, retired_in, row_stays, rows_set}
 
 -- Looks
@@ -48,6 +48,7 @@ marked_at_rest a k ev r t c m at = record {
     count_rows = at.sized.count_rows;
   };
   room = at.room;
+  counted = at.counted;
 }
 
 marked_rows : (a : Settings) (k : KeeperView) (rows : List KeptSlot) (ev : Event) (r : Reply) (t c : ℕ) (m : Mark) (e : Entry) → IsAtRest a k → RowsAgree a k rows
@@ -133,6 +134,7 @@ vacated_at_rest a k t e at lt retired = record {
       let same : live_count (set k.slots t Vacant) + 0 ≡ live_count k.slots + 0 = live_count_put k.slots t (Retired e) Vacant (omega (arith, lt, size)) retired in
       let room = at.room in
       omega (arith, same, room);
+  counted = at.counted;
 }
 
 pub vacated_keeper : {log : List LogItem} (a : Settings) (k l : KeeperView) (rows : List KeptSlot) (n t : ℕ) → IsOurKeeper a k rows n
@@ -182,10 +184,10 @@ pub drained_tells : {log : List LogItem} (a : Settings) (k : KeeperView) (rows :
 drained_tells a k rows t cpus at agree lt same is =
     let r = row_at rows t in
     let had = agree.each t lt in
-    let p = and_parts (is_retired r.state) (have_passed cpus r.marks && (are_clear cpus r.marks && (are_collected cpus r.marks && r.total == bias))) is in
-    let q = and_parts (have_passed cpus r.marks) (are_clear cpus r.marks && (are_collected cpus r.marks && r.total == bias)) p.1 in
-    let s = and_parts (are_clear cpus r.marks) (are_collected cpus r.marks && r.total == bias) q.1 in
-    let v = and_parts (are_collected cpus r.marks) (r.total == bias) s.1 in
+    let p = and_parts (is_retired r.state) (have_passed cpus r.marks && (are_clear cpus r.marks && (are_collected cpus r.marks && total_or_bias r == bias))) is in
+    let q = and_parts (have_passed cpus r.marks) (are_clear cpus r.marks && (are_collected cpus r.marks && total_or_bias r == bias)) p.1 in
+    let s = and_parts (are_clear cpus r.marks) (are_collected cpus r.marks && total_or_bias r == bias) q.1 in
+    let v = and_parts (are_collected cpus r.marks) (total_or_bias r == bias) s.1 in
     let retired = is_retired_tells r.state p.0 in
     let here = state_at rows t ∙ retired.1 in
     let cpus_are : cpus ≡ k.settings.cpus = same ∙ sym (ap (λ (z : Settings). z.cpus) at.settings) in
@@ -197,7 +199,7 @@ drained_tells a k rows t cpus at agree lt same is =
         passed = rw (← cpus_are, ← had.marks) q.0;
         clear = rw (← cpus_are, ← had.marks) s.0;
         collected = rw (← cpus_are, ← had.marks) v.0;
-        total = sym had.total ∙ eqb-true r.total bias v.1;
+        total = sym had.total ∙ eqb-true (total_or_bias r) bias v.1;
       };
     }
 
@@ -208,5 +210,5 @@ drained_from a k rows t cpus at agree lt same is =
     let d = is.drained in
     let cpus_are : cpus ≡ k.settings.cpus = same ∙ sym (ap (λ (z : Settings). z.cpus) at.settings) in
     let state : (row_at rows t).state ≡ Retired is.retired.0 = sym (state_at rows t) ∙ is.retired.1 in
-    let total : (row_at rows t).total ≡ bias = had.total ∙ d.total in
+    let total : total_or_bias (row_at rows t) ≡ bias = had.total ∙ d.total in
     rw (state, cpus_are, had.marks, d.passed, d.clear, d.collected, total) refl

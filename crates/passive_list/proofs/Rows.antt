@@ -34,10 +34,11 @@ new_at_rest a fit = record {
     count_rows = let none : ℕ = 0 in rows_all a.slots (replicate MOST_CPUS none) refl;
   };
   room = let none = none_live a.slots in omega (arith, none);
+  counted = refl;
 }
 
 abbrev pub first_row : KeptSlot
-first_row = record { state = Vacant; marks = replicate MOST_CPUS no_mark; total = bias; keeps = None }
+first_row = record { state = Vacant; marks = replicate MOST_CPUS no_mark; total = None; keeps = None }
 
 -- the state of a slot, by its row
 pub state_at : (rows : List KeptSlot) (t : ℕ) → slot_at (states_of rows) t ≡ (row_at rows t).state

@@ -6,7 +6,7 @@ use Rattle.registry_values.specs.Common.{slot_at}
 use Rattle.protocol.specs.Common.{total_at}
 use Rattle.registry_values.proofs.Fit.{ranges}
 use Rattle.protocol.proofs.slots.Occupied.{not_vacant}
-use Rattle.passive_list.specs.Common.{KeptSlot, row_at, states_of, RowAgrees, IsAtRest, RowsAgree}
+use Rattle.passive_list.specs.Common.{KeptSlot, row_at, states_of, total_or_bias, RowAgrees, IsAtRest, RowsAgree}
 use Rattle.passive_list.proofs.Rows.{state_at}
 use Rattle.passive_list.proofs.Balanced.{IsHeldIn}
 use Rattle.passive_list.proofs.Collections.{with_total, row_with_total, with_total_rows}
@@ -19,7 +19,7 @@ pub record HeldRow (k : KeeperView) (rows : List KeptSlot) (t : ℕ) : Type 0 wh
   pub slot : t < MOST_SLOTS
   pub shown : (row_at rows t).state ≡ slot_at k.slots t
   pub some : slot_at (states_of rows) t ≡ Vacant → ⊥
-  pub positive : 1 ≤ (row_at rows t).total
+  pub positive : 1 ≤ total_or_bias (row_at rows t)
   pub size : length (row_at rows t).marks ≡ MOST_CPUS
 
 pub held_row : (a : Settings) (k : KeeperView) (rows : List KeptSlot) (t : ℕ) → IsAtRest a k → RowsAgree a k rows → IsHeldIn k t → HeldRow k rows t
@@ -44,16 +44,18 @@ held_row a k rows t at agree held =
 abbrev pub less : KeeperView → ℕ → List ℕ → KeeperView
 less k t given_up = record k { totals = set k.totals t (total_at k.totals t - 1); given_up = given_up }
 
-abbrev pub row_less : KeptSlot → KeptSlot
-row_less r = row_with_total r r.marks (r.total - 1)
+-- the row, whose total was v
+abbrev pub row_less : KeptSlot → ℕ → KeptSlot
+row_less r v = row_with_total r r.marks (v - 1)
 
-pub less_is : (k : KeeperView) (rows : List KeptSlot) (t : ℕ) (given_up : List ℕ) → k.due ≡ Rest → HeldRow k rows t
-    → less k t given_up ≡ with_total k t (row_at rows t).marks ((row_at rows t).total - 1) given_up
-less_is k rows t given_up rest row =
+pub less_is : (k : KeeperView) (rows : List KeptSlot) (t v : ℕ) (given_up : List ℕ) → k.due ≡ Rest → HeldRow k rows t → v ≡ total_or_bias (row_at rows t)
+    → less k t given_up ≡ with_total k t (row_at rows t).marks (v - 1) given_up
+less_is k rows t v given_up rest row read =
     let marks : k.marks ≡ set k.marks t (row_at rows t).marks = sym (set-get_or k.marks t []) ∙ ap (set k.marks t) (sym row.agrees.marks) in
-    λ i. record k { marks = marks i; totals = set k.totals t (sym row.agrees.total i - 1); due = rest i; given_up = given_up }
+    λ i. record k { marks = marks i; totals = set k.totals t (sym (read ∙ row.agrees.total) i - 1); due = rest i; given_up = given_up }
 
-pub less_rows : (a : Settings) (k : KeeperView) (rows : List KeptSlot) (t : ℕ) (given_up : List ℕ) → IsAtRest a k → RowsAgree a k rows → HeldRow k rows t
-    → RowsAgree a (less k t given_up) (set rows t (row_less (row_at rows t)))
-less_rows a k rows t given_up at agree row = subst (λ (x : KeeperView). RowsAgree a x (set rows t (row_less (row_at rows t)))) (sym (less_is k rows t given_up at.rest row))
-    (with_total_rows a k rows t (row_at rows t).marks ((row_at rows t).total - 1) given_up at agree row.some)
+pub less_rows : (a : Settings) (k : KeeperView) (rows : List KeptSlot) (t v : ℕ) (given_up : List ℕ) → IsAtRest a k → RowsAgree a k rows → HeldRow k rows t
+    → v ≡ total_or_bias (row_at rows t) → RowsAgree a (less k t given_up) (set rows t (row_less (row_at rows t) v))
+less_rows a k rows t v given_up at agree row read =
+    subst (λ (x : KeeperView). RowsAgree a x (set rows t (row_less (row_at rows t) v))) (sym (less_is k rows t v given_up at.rest row read))
+    (with_total_rows a k rows t (row_at rows t).marks (v - 1) given_up at agree row.some)

@@ -4,10 +4,11 @@ pub use Rattle.passive_list.specs.declared.links.At.{At}
 pub use Rattle.passive_list.specs.declared.lookup.Seen.{Seen}
 pub use Rattle.passive_list.specs.declared.place.Found.{Found}
 pub use Rattle.passive_list.specs.declared.place.NumberedCount.{NumberedCount}
+pub use Rattle.passive_list.specs.ByLoads.{ComesTo, GoesBy, HasBegunByLoads, HasComeTo, HasFoundByLoads, HasLookedByLoads, HasVisitedByLoads, IsAtEntry, IsPeek, IsPeekingAt, IsPeekingLink, LoadsBetweenCounts}
 pub use Rattle.passive_list.specs.Cpus.{DepthAgrees, HoldsFound, IsKept, IsOurCpu, IsPlaceOf, NetAgree, OnCpu, OnPlainCpu, PassiveAgree, SectionAgrees, no_found, no_place, place_at}
 pub use Rattle.passive_list.specs.Draining.{AreHeld, HasAttachedKeeping, HasCollectedInto, HasFreed, HasGivenUp, keeper_after_collect, kept_slot}
 pub use Rattle.passive_list.specs.GoingOver.{AreStoodOn, GoesOnAt, HasGoneByFrom, HasGoneByOne, HasGoneOver, IsGoingOver, IsLiveSince, MayGoBy, view_at_link}
-pub use Rattle.passive_list.specs.Keepers.{AreSized, HasRows, IsAtRest, IsOurKeeper, OnKeeper, OnPlainKeeper, RowAgrees, RowsAgree, no_row, on_keeper, row_at, state_of, states_of}
+pub use Rattle.passive_list.specs.Keepers.{AreSized, HasRows, IsAtRest, IsOurKeeper, OnKeeper, OnPlainKeeper, RowAgrees, RowsAgree, no_row, on_keeper, row_at, state_of, states_of, total_or_bias}
 pub use Rattle.passive_list.specs.Links.{link_to, newer_of, older_of, place_of}
 pub use Rattle.passive_list.specs.Logs.{GoesOnBy, HasOwnLog}
 pub use Rattle.passive_list.specs.Lookups.{HasFound, HasFoundFromOutside}

@@ -1,5 +1,5 @@
 -- The keeper: how its plain data agree with what its seat knows.
-use Rattle.std.specs.Prelude.{◌≡◌, ℕ, ◌+◌, ◌<◌, ◌≤◌, List, [], length, map, slice_index_or, None, IsTrue}
+use Rattle.std.specs.Prelude.{◌≡◌, ℕ, ◌+◌, ◌<◌, ◌≤◌, List, [], length, map, slice_index_or, None, IsTrue, unwrap_or}
 use Rattle.atomic_table.specs.Seated.{TableId}
 use Rattle.passive_list.specs.Types.{Settings, Slot, Vacant, Rest, MOST_SLOTS, KeeperView, LogItem}
 use Rattle.protocol.specs.Common.{AreRows, total_at, kept_at}
@@ -20,7 +20,7 @@ pub record OnPlainKeeper : Type 0 where
 
 -- what is past the rows
 abbrev pub no_row : KeptSlot
-no_row = record { state = Vacant; marks = []; total = 0; keeps = None }
+no_row = record { state = Vacant; marks = []; total = None; keeps = None }
 
 abbrev pub row_at : List KeptSlot → ℕ → KeptSlot
 row_at rows t = slice_index_or rows t no_row
@@ -31,13 +31,17 @@ state_of r = r.state
 abbrev pub states_of : List KeptSlot → List Slot
 states_of rows = map state_of rows
 
+-- the total of a slot, by its row: None is the bias
+abbrev pub total_or_bias : KeptSlot → ℕ
+total_or_bias r = unwrap_or r.total bias
+
 pub record RowAgrees (k : KeeperView) (t : ℕ) (r : KeptSlot) : Type 0 where
   pub state : slot_at k.slots t ≡ r.state
   pub marks : r.marks ≡ slice_index_or k.marks t []
-  pub total : r.total ≡ total_at k.totals t
+  pub total : total_or_bias r ≡ total_at k.totals t
   pub keeps : r.keeps ≡ kept_at k.keeps t
   -- nothing is counted in a vacant slot's total
-  pub unused : r.state ≡ Vacant → r.total ≡ bias
+  pub unused : r.state ≡ Vacant → total_or_bias r ≡ bias
 
 -- each slot has its place in each list
 pub record AreSized (n : ℕ) (k : KeeperView) : Type 0 where
@@ -51,7 +55,7 @@ pub record AreSized (n : ℕ) (k : KeeperView) : Type 0 where
   pub counts : length k.counts ≡ n
   pub count_rows : AreRows k.counts
 
--- of the view alone: it is at rest, and its history has room for the detach of each live entry
+-- of the view alone: it is at rest, its history has room for the detach of each live entry, and all changes are counted
 pub record IsAtRest (a : Settings) (k : KeeperView) : Type 0 where
   pub settings : k.settings ≡ a
   pub fit : IsTrue (are_fit a)
@@ -59,6 +63,7 @@ pub record IsAtRest (a : Settings) (k : KeeperView) : Type 0 where
   pub seated : k.seated ≡ a.cpus
   pub sized : AreSized a.slots k
   pub room : length k.history + live_count k.slots ≤ a.change_limit
+  pub counted : k.changes ≡ length k.history
 
 -- of the rows: each says what the view says of its slot
 pub record RowsAgree (a : Settings) (k : KeeperView) (rows : List KeptSlot) : Type 0 where

@@ -14,4 +14,5 @@ pub mod Logs
 pub mod Walks
 pub mod GoingOver
 pub mod Searches
+pub mod ByLoads
 pub mod Draining

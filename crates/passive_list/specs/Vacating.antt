@@ -4,7 +4,7 @@ use Rattle.passive_list.specs.Types.{Entry, Vacant, Retired, Hear, Vacate, Done,
 use Rattle.registry_values.specs.Common.{bias, slot_at, is_retired, have_passed, are_clear, are_collected}
 use Rattle.cpu_words.specs.Common.{IsFreedFrom, did, Makes, IsDrained, keeper_after_vacate}
 use Rattle.passive_list.specs.declared.keeper.KeptSlot.{KeptSlot}
-use Rattle.passive_list.specs.Keepers.{OnKeeper}
+use Rattle.passive_list.specs.Keepers.{OnKeeper, total_or_bias}
 
 -- it is retired in the keeper's slots, so it wasn't vacated yet, and all marks and the total are those of a drained slot
 pub record IsDrainedOn (x : OnKeeper) (t : ℕ) : Type 0 where
@@ -13,7 +13,7 @@ pub record IsDrainedOn (x : OnKeeper) (t : ℕ) : Type 0 where
 
 -- the row of a slot says so
 abbrev pub is_drained_row : ℕ → KeptSlot → Bool
-is_drained_row cpus r = is_retired r.state && (have_passed cpus r.marks && (are_clear cpus r.marks && (are_collected cpus r.marks && r.total == bias)))
+is_drained_row cpus r = is_retired r.state && (have_passed cpus r.marks && (are_clear cpus r.marks && (are_collected cpus r.marks && total_or_bias r == bias)))
 
 -- the slot is vacant: Vacate, and a Hear; the entry that it had is gone from there, by the log
 pub record HasVacated (a : OnKeeper) (t : ℕ) (b : OnKeeper) : Type 0 where

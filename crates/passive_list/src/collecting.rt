@@ -27,8 +27,9 @@ pub fn collect(words: &Words, keeper: &mut Keeper, slot: u8, cpu: u8)
 {
     let word = steps::collect(words, &mut keeper.seat, slot, cpu);
     let mut row = keeper.rows[slot as usize];
-    row.total = row.total + word - BIAS;
-    steps::total_add(words, &mut keeper.seat, slot, row.total);
+    let total = row.total_or_bias() + word - BIAS;
+    steps::total_add(words, &mut keeper.seat, slot, total);
+    row.total = Some(total);
     row.marks[cpu as usize] = collected_mark(row.marks[cpu as usize]);
     keeper.rows[slot as usize] = row;
 }
@@ -58,5 +59,5 @@ pub fn total(words: &Words, keeper: &mut Keeper, slot: u8) -> u64
 {
     // The contract alone speaks of the words.
     let _words = words;
-    keeper.rows[slot as usize].total - BIAS
+    keeper.rows[slot as usize].total_or_bias() - BIAS
 }

@@ -25,7 +25,8 @@ pub fn free_iface(words: &Words, keeper: &mut Keeper, slot: u8)
         unreachable!()
     };
     steps::kept_sub(words, &mut keeper.seat, slot, driver_slot as u8);
-    keeper.rows[driver_slot].total -= 1;
+    let total = keeper.rows[driver_slot].total_or_bias() - 1;
+    keeper.rows[driver_slot].total = Some(total);
     keeper.rows[slot as usize] = KeptSlot {
         state: SlotState::Vacant,
         keeps: None,

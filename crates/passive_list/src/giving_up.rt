@@ -22,5 +22,6 @@ pub fn give_up(words: &Words, keeper: &mut Keeper, reference: ReferenceSeat, slo
 {
     steps::join_keeper(words, &mut keeper.seat, reference);
     steps::total_sub(words, &mut keeper.seat, slot);
-    keeper.rows[slot as usize].total -= 1;
+    let total = keeper.rows[slot as usize].total_or_bias() - 1;
+    keeper.rows[slot as usize].total = Some(total);
 }

@@ -5,6 +5,7 @@ ghost use Rattle.passive_list.specs.Types.{Vacant};
 ghost use Rattle.registry_values.specs.Common.{are_fit, slot_at};
 ghost use Rattle.protocol.specs.Common.{kept_at};
 ghost use Rattle.cpu_words.specs.Common.{keeper_with};
+ghost use Rattle.passive_list.specs.Keepers.{total_or_bias};
 
 use cpu_words::KeeperSeat;
 use registry_values::{BIAS, MOST_CPUS, MOST_SLOTS, Mark, NO_MARK, Settings};
@@ -20,8 +21,9 @@ pub struct KeptSlot {
     pub state: SlotState,
     /// What was noted of each CPU for a retired entry.
     pub marks: [Mark; MOST_CPUS],
-    /// The slot's total: the bias, what was collected, less the references given up under the interlock.
-    pub total: u64,
+    /// The slot's total: the bias, what was collected, less the references given up under the interlock. `None` is the bias. So a row
+    /// is all zeros until something is attached there, and LLVM writes the rows of a new keeper straight to their block.
+    pub total: Option<u64>,
     /// The number of the driver that the slot keeps a reference to.
     pub keeps: Option<u64>,
 }
@@ -35,10 +37,10 @@ pub struct Keeper {
     pub(crate) seat: KeeperSeat,
     /// What the table was made for.
     pub(crate) settings: Settings,
-    /// By slot.
-    pub(crate) rows: [KeptSlot; MOST_SLOTS],
     /// How many changes there were: attaches and detaches.
     pub(crate) changes: u64,
+    /// By slot.
+    pub(crate) rows: [KeptSlot; MOST_SLOTS],
 }
 
 impl Model for Keeper {
@@ -55,9 +57,18 @@ impl Model for Keeper {
 const VACANT_SLOT: KeptSlot = KeptSlot {
     state: SlotState::Vacant,
     marks: [NO_MARK; MOST_CPUS],
-    total: BIAS,
+    total: None,
     keeps: None,
 };
+
+impl KeptSlot {
+    /// The slot's total, and the bias where nothing was collected or given up yet.
+    pub fn total_or_bias(&self) -> u64
+        ensures { result ≡ total_or_bias self.now }
+    {
+        self.total.unwrap_or(BIAS)
+    }
+}
 
 impl Keeper {
     /// The keeper of a new seat: all slots are vacant, and there was no change.
@@ -71,8 +82,8 @@ impl Keeper {
         Keeper {
             seat,
             settings,
-            rows: [VACANT_SLOT; MOST_SLOTS],
             changes: 0,
+            rows: [VACANT_SLOT; MOST_SLOTS],
         }
     }
 

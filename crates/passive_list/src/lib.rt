@@ -8,6 +8,7 @@
 //! collections into totals, references given up, interfaces and the drivers that they keep.
 #![tactic(auto)]
 
+mod by_loads;
 mod collecting;
 mod cpu;
 mod freeing;
@@ -31,6 +32,7 @@ mod shown;
 mod vacating;
 mod walks;
 
+pub use by_loads::find_by_loads;
 pub use collecting::{collect, collected, total};
 pub use cpu::Cpu;
 pub use freeing::free_iface;

@@ -1,4 +1,4 @@
-//! An entry is published: all words of its slot are stored, and then the head, so that searches find it.
+//! An entry is published: all words of its slot are stored, and then the head, so that searches find it. Then the changes are counted.
 
 ghost use Rattle.std.specs.Prelude.{◌≡◌, ℕ, ◌<◌, ◌≤◌, ◌+◌, suc, Some, IsTrue, false, length};
 ghost use Rattle.passive_list.specs.Types.{Vacant};
@@ -61,6 +61,7 @@ pub(crate) fn publish_entry(
     let link = link_below(rows, entry.number);
     prepare(words, seat, entry, words.settings().cpus, link);
     steps::publish(words, seat, entry.slot);
+    steps::count_changes(words, seat, entry.number);
 }
 
 /// Stores all words of the entry's slot: its record, its counts and its link.
@@ -69,6 +70,7 @@ fn prepare(words: &Words, seat: &mut KeeperSeat, entry: &Entry, cpus: u8, link: 
     requires may { MayWrite seat.old.view entry.now.slot }
     requires sized { AreSized seat.old.view.settings.slots seat.old.view }
     requires fit { (seat.old.view.settings.slots ≤ MOST_SLOTS) × (cpus ≡ seat.old.view.settings.cpus) × (cpus ≤ MOST_CPUS) }
+    requires link { link ≤ seat.old.view.settings.slots }
     ensures table { seat.new.table ≡ seat.old.table }
     ensures prepared { seat.new.view ≡ keeper_after_stores seat.old.view entry.now link }
 {

@@ -1,4 +1,4 @@
-//! An entry is retired: it is unlinked, and the section word of each CPU is taken as its snapshot.
+//! An entry is retired: it is unlinked, and the section word of each CPU is taken as its snapshot. Then the changes are counted.
 
 ghost use Rattle.std.specs.Prelude.{◌≡◌, ◌<◌, ◌≤◌, None};
 ghost use Rattle.passive_list.specs.Types.{Entry, Live, Snapshots};
@@ -35,6 +35,7 @@ pub fn retire(words: &Words, keeper: &mut Keeper, slot: u8) -> Entry
         ..row
     };
     keeper.changes += 1;
+    steps::count_changes(words, &mut keeper.seat, keeper.changes);
     entry
 }
 

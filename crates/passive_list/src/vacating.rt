@@ -41,5 +41,5 @@ fn is_drained_row(cpus: u8, row: &KeptSlot) -> bool
         && have_passed(cpus, &row.marks)
         && are_clear(cpus, &row.marks)
         && are_collected(cpus, &row.marks)
-        && row.total == BIAS
+        && row.total_or_bias() == BIAS
 }

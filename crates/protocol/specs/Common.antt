@@ -3,8 +3,9 @@ pub use Rattle.protocol.specs.declared.event.Counted.{Counted}
 pub use Rattle.protocol.specs.declared.event.Event.{Event}
 pub use Rattle.protocol.specs.declared.event.Event.TheVariants.{Collect, CountAdd, CountDown, Enter, Exit, Hear, JoinKeeper, JoinRef, Keep, KeptSub, LoadLink, LoadRecord, Look, PassiveAdd}
 pub use Rattle.protocol.specs.declared.event.Event.TheVariants.{PassiveLook, PassiveSub, Publish, Seat, Seek, Snapshot, SplitBack, SplitRef, StoreNext, StoreSlot, Tell, TotalAdd, TotalSub, Unpublish}
-pub use Rattle.protocol.specs.declared.event.Event.TheVariants.{Vacate}
+pub use Rattle.protocol.specs.declared.event.Event.TheVariants.{Count, Peek, Vacate}
 pub use Rattle.protocol.specs.declared.event.RecordOf.{RecordOf}
+pub use Rattle.protocol.specs.declared.event.SharedWord.{SharedWord}
 pub use Rattle.protocol.specs.declared.event.Reply.{Reply}
 pub use Rattle.protocol.specs.declared.event.Reply.TheVariants.{Collected, Done, Found, Missed, Ref, Word}
 pub use Rattle.protocol.specs.declared.state.Due.{Due}
@@ -27,7 +28,7 @@ pub use Rattle.protocol.specs.Events.{is_prepared, is_snapshot_due, keeps_rightl
 pub use Rattle.protocol.specs.Events.{look, may_add, may_collect, may_count, may_enter, may_examine, may_exit, may_glance, may_join, may_join_keeper, may_keep, may_look_passive, may_publish, may_seat}
 pub use Rattle.protocol.specs.Events.{may_seek, may_sub, may_vacate, may_write, number_standing, outcome_of, room_of, search_over, snapshot, snapshot_mark, some_outcome, split_back, split_ref}
 pub use Rattle.protocol.specs.Events.{state_after, step, store_slot, tell, total_add, total_sub, unpublish, with_link_past, with_local, with_retired, with_search_at, with_some, with_word, word}
-pub use Rattle.protocol.specs.Events.{compared_slot, words_of}
+pub use Rattle.protocol.specs.Events.{after_counting, compared_slot, may_peek, peek, shared_word, words_of}
 pub use Rattle.protocol.specs.History.{EndsAt, IsAttached, IsLawful, IsLegal, IsLiveAt, IsLookup, MayHold, after_change}
 pub use Rattle.protocol.specs.Invariant.{AllBelow, AreRows, Balances, CountsHold, DriversKept, DueHolds, FoundHold, HandHolds, HasShape, HeldStay, Holds, IsCounting, IsIn, IsSnapshotDue, Leads}
 pub use Rattle.protocol.specs.Invariant.{LinksStay, ListShows, MarksHold, Occupies, PassiveShow, PlaceHolds, ReferencesHold, RowsShow, SearchHolds, SearchesHold, SeatsShow, SectionsShow, SlotsShow}

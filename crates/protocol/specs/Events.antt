@@ -5,9 +5,11 @@ use Rattle.std.specs.List.{list_all}
 use Rattle.protocol.specs.Types.{MOST_CPUS, Room, Kind, Iface, Driver, Entry, Attach, Detach, Key, Slot, Vacant, Live, Retired, Mark}
 use Rattle.protocol.specs.declared.event.Event.{Event}
 use Rattle.protocol.specs.declared.event.Event.TheVariants.{Seat, Enter, Exit, Seek, LoadLink, LoadRecord, StoreSlot, StoreNext, Publish, Unpublish, Tell, Hear, Snapshot, Look, PassiveAdd, PassiveSub}
-use Rattle.protocol.specs.declared.event.Event.TheVariants.{PassiveLook, CountAdd, SplitRef, JoinRef, CountDown, SplitBack, Collect, TotalAdd, JoinKeeper, TotalSub, Keep, KeptSub, Vacate}
+use Rattle.protocol.specs.declared.event.Event.TheVariants.{PassiveLook, CountAdd, SplitRef, JoinRef, CountDown, SplitBack, Collect, TotalAdd, JoinKeeper, TotalSub, Keep, KeptSub, Vacate, Count, Peek}
 use Rattle.protocol.specs.declared.event.RecordOf.{RecordOf}
 use Rattle.protocol.specs.declared.event.RecordOf.TheVariants.{Search as OfSearch, Passive as OfPassive, Local as OfLocal, Compared as OfCompared}
+use Rattle.protocol.specs.declared.event.SharedWord.{SharedWord}
+use Rattle.protocol.specs.declared.event.SharedWord.TheVariants.{Changes, Head, Link, Field}
 use Rattle.protocol.specs.declared.event.Reply.{Reply}
 use Rattle.protocol.specs.declared.event.Reply.TheVariants.{Done, Word, Found, Missed, Ref, Collected}
 use Rattle.protocol.specs.declared.state.RecordWords.{RecordWords}
@@ -490,6 +492,25 @@ may_vacate s t = is_none (kept_at s.keeps t) && is_drained s t
 abbrev pub after_vacate : State → ℕ → State
 after_vacate s t = record s { slots = slice_set s.slots t Vacant }
 
+-- How many changes there are, and loads outside sections
+
+abbrev pub after_counting : State → State
+after_counting s = record s { changes = length s.history }
+
+-- the shared word of this name, if the settings have it
+abbrev pub shared_word : State → SharedWord → Option ℕ
+shared_word s Changes = Some s.changes
+shared_word s Head = Some s.head
+shared_word s (Link t) = if nat_lt t s.settings.slots then Some (slice_index_or s.next t 0) else None
+shared_word s (Field t k) = if nat_lt t s.settings.slots && nat_lt k 5 then Some (word (row_at s.rows t) k) else None
+
+abbrev pub may_peek : State → ℕ → Bool
+may_peek s c = nat_lt c s.seated && is_none (search_at s c)
+
+-- a load outside a section sees all of the history, as the load of a link does
+abbrev pub peek : State → ℕ → SharedWord → Option Outcome
+peek s c w = with_some (shared_word s w) (λ v. guard (may_peek s c) (some_outcome (after_seeing s c) (Word v)))
+
 abbrev pub load_record : State → RecordOf → Option Outcome
 load_record s (OfSearch c) = with_some (search_at s c) (λ q. load_searched s c q q.place)
 load_record s (OfPassive c n k) = load_passive s c n k
@@ -527,6 +548,8 @@ step s (TotalSub t) = total_sub s t s.due
 step s (Keep t id) = keep s t id
 step s (KeptSub t) = kept_sub s t
 step s (Vacate t) = guard (may_vacate s t) (some_outcome (after_vacate s t) Done)
+step s Count = guard (at_rest s.due) (some_outcome (after_counting s) Done)
+step s (Peek c w) = peek s c w
 
 -- the state after an event, which is as it was where the event isn't allowed
 abbrev pub state_after : State → Option Outcome → State

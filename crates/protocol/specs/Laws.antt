@@ -3,10 +3,11 @@ use Rattle.std.specs.List.{AllByRecursion}
 use Rattle.std.specs.Prelude.{◌≡◌, ℕ, suc, ◌+◌, ◌*◌, ◌%◌, ◌<◌, ◌≤◌, ◌⊎◌, IsTrue, IsSome, List, [], ◌∷◌, ◌++◌, length, sum_by, Option, Some, None, true, slice_index_or}
 use Rattle.protocol.specs.Types.{Iface, Driver, Entry, Change, Settings, Key}
 use Rattle.protocol.specs.declared.event.Event.{Event}
-use Rattle.protocol.specs.declared.event.Event.TheVariants.{Enter, Exit, Hear, Seek, LoadLink, LoadRecord, StoreSlot, StoreNext, Publish, Keep, KeptSub, Vacate}
+use Rattle.protocol.specs.declared.event.Event.TheVariants.{Enter, Exit, Hear, Seek, LoadLink, LoadRecord, StoreSlot, StoreNext, Publish, Keep, KeptSub, Vacate, Peek}
 use Rattle.protocol.specs.declared.event.RecordOf.TheVariants.{Search as OfSearch}
 use Rattle.protocol.specs.declared.event.Reply.{Reply}
 use Rattle.protocol.specs.declared.event.Reply.TheVariants.{Done, Word, Found, Missed, Ref, Collected}
+use Rattle.protocol.specs.declared.event.SharedWord.{SharedWord}
 use Rattle.protocol.specs.declared.state.Search.{Search}
 use Rattle.registry_values.specs.Common.{are_fit, bias, key_of, slot_at}
 use Rattle.protocol.specs.History.{IsAttached, EndsAt, IsLiveAt, IsLawful}
@@ -158,16 +159,17 @@ abbrev pub AnswersFreshly : State → Type 0
 AnswersFreshly s = (c : ℕ) (key : Key) (since : List Event) (event : Event) (o : Outcome) (answer : Option Entry) → IsAllowed s (seek_for c key) → SeeksNone c since → IsLoadOf c event
     → step (after (after_event s (seek_for c key)) since) event ≡ Some o → answer_of o.reply ≡ Some answer → IsFreshAnswer s.history o.state.history (seen_at o.state c) key answer
 
--- a CPU that has just entered a section, or heard a note, has seen the whole history
+-- a CPU that has just entered a section, heard a note, or made a load of a lookup by loads, has seen the whole history
 pub record SeesAll (s : State) : Type 0 where
   pub entered : (c : ℕ) → IsAllowed s (Enter c) → seen_at (after_event s (Enter c)) c ≡ length s.history
   pub heard : (c : ℕ) → IsAllowed s (Hear (Some c)) → seen_at (after_event s (Hear (Some c))) c ≡ length s.history
+  pub peeked : (c : ℕ) (w : SharedWord) → IsAllowed s (Peek c w) → seen_at (after_event s (Peek c w)) c ≡ length s.history
 
 -- each answer of a lookup is fresh
 abbrev pub FreshAnswers : Type 0
 FreshAnswers = Always AnswersFreshly
 
--- and a pass is whole as a section begins, and as a note is heard
+-- and a pass is whole as a section begins, as a note is heard, and as a lookup by loads loads a word
 abbrev pub WholePasses : Type 0
 WholePasses = Always SeesAll
 

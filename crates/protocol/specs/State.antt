@@ -21,6 +21,8 @@ pub record State : Type 0 where
   pub passive : List (List ℕ)
   pub counts : List (List ℕ)
   pub totals : List ℕ
+  -- how many changes the keeper has counted
+  pub changes : ℕ
   -- beside them
   pub history : List Change
   pub seated : ℕ
@@ -101,6 +103,7 @@ opening z = record {
   passive = replicate z.slots (replicate MOST_CPUS 0);
   counts = replicate z.slots (replicate MOST_CPUS 0);
   totals = replicate z.slots bias;
+  changes = 0;
   history = [];
   seated = 0;
   begins = replicate z.cpus None;

@@ -16,6 +16,19 @@ pub enum RecordOf {
     Compared(u8),
 }
 
+/// A shared word that a CPU may load outside a section, too.
+#[derive(Clone, Copy, Debug, PartialEq, Eq)]
+pub enum SharedWord {
+    /// How many changes the keeper has counted.
+    Changes,
+    /// The head of the list.
+    Head,
+    /// The link of this slot.
+    Link(u8),
+    /// Of the record of this slot word k, from 0 to 4.
+    Field(u8, u8),
+}
+
 /// One atomic step. CPUs and slots count from 0, entries' numbers from 1, local references' ids from 0.
 #[derive(Clone, Copy, Debug, PartialEq, Eq)]
 pub enum Event {
@@ -77,6 +90,10 @@ pub enum Event {
     KeptSub(u8),
     /// A retired entry's slot is vacant.
     Vacate(u8),
+    /// The keeper stores how many changes there are.
+    Count,
+    /// The CPU, which has no search under way, loads a shared word, inside a section or outside, and sees the whole history.
+    Peek(u8, SharedWord),
 }
 
 /// The reply of an event.

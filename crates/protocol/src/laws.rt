@@ -43,7 +43,7 @@ pub fn lawful_answers()
 ///
 /// - `fresh`: it is the registry's at some point from the search's Seek on, to the CPU's new pass, even if the CPU's pass was older. So an
 ///   entry that was live at the Seek and isn't detached yet is found, and one that was detached before the Seek isn't.
-/// - `whole`: a CPU that has just entered a section, or heard a note, has seen the whole history.
+/// - `whole`: a CPU that has just entered a section, heard a note, or made a load of a lookup by loads, has seen the whole history.
 pub fn fresh_answers()
     ensures fresh { FreshAnswers }
     ensures whole { WholePasses }

@@ -538,8 +538,10 @@ registry_answer registry_release(struct registry_cpu *cpu, uint64_t number) REGI
 /* ---- The usual path in one call. Each is the calls that it names, in their order. The caller runs on the CPU. ---- */
 
 /*
- * registry_look_up - enter, find and exit: a copy of the live entry with this kind and name
+ * registry_look_up - enter, find and exit, or loads alone: a copy of the live entry with this kind and name
  *
+ * Outside any section the call first searches by loads alone: no section begins, and no shared word is written. It makes an enter, a find and an exit if
+ * an attach or a detach is made meanwhile, if `name` is NULL or `kind` is no kind, and inside an open section.
  * The result is what the registry had at one moment during the call, as with registry_find: it finds an entry whose attach returned before the call
  * began, unless that entry is detached before the call returns. It doesn't find an entry whose detach returned before the call began.
  * Outside any section nothing holds the entry afterwards. `found` is a copy. When the call returns, the entry may be freed, and so may the memory that
@@ -548,8 +550,8 @@ registry_answer registry_release(struct registry_cpu *cpu, uint64_t number) REGI
  * last found entry.
  * `found` may be NULL: the result says whether there is such an entry.
  * Returns REGISTRY_EMPTY_HANDLE, REGISTRY_TOO_DEEP, REGISTRY_SECTIONS_SPENT, REGISTRY_NULL if `name` is NULL, REGISTRY_BAD_KIND, REGISTRY_NOT_FOUND.
- * REGISTRY_NOT_FOUND clears the last found entry. After any result the CPU is as deep inside as before. Outside, the call's section counts like one of
- * registry_enter, unless the call fails with one of the first three errors.
+ * REGISTRY_NOT_FOUND clears the last found entry. After any result the CPU is as deep inside as before. Outside, the call's section, if one begins, counts
+ * like one of registry_enter. REGISTRY_SECTIONS_SPENT is returned even if none would begin.
  */
 registry_answer registry_look_up(struct registry_cpu *cpu, uint64_t kind, const struct registry_name *name, struct registry_entry *found)
     REGISTRY_NONNULL(1) REGISTRY_CHECKED;
@@ -562,8 +564,8 @@ registry_answer registry_look_up(struct registry_cpu *cpu, uint64_t kind, const 
  * `found` may be NULL, for a caller that knows the number already, such as the one that attached the entry. The reference is acquired all the same.
  * Inside an open section the call is nested in it, as registry_look_up is.
  * Returns the errors of registry_look_up in their order, then REGISTRY_PASSIVE_FULL. With REGISTRY_PASSIVE_FULL nothing is acquired, but inside an open
- * section the entry is the last found one. After any result the CPU is as deep inside as before. Outside, the call's section counts as with
- * registry_look_up.
+ * section the entry is the last found one. After any result the CPU is as deep inside as before. Outside, the call's section counts like one of
+ * registry_enter, unless the call fails with one of the first three errors.
  */
 registry_answer registry_get(struct registry_cpu *cpu, uint64_t kind, const struct registry_name *name, struct registry_entry *found)
     REGISTRY_NONNULL(1) REGISTRY_CHECKED;
@@ -575,7 +577,7 @@ registry_answer registry_get(struct registry_cpu *cpu, uint64_t kind, const stru
  * its slot until the section ends. Until then the memory that its `value` points to may be used. It finds what registry_look_up finds.
  * `found` may be NULL: the entry is found all the same, for registry_acquire or registry_local_acquire.
  * Returns the errors of registry_look_up in their order. A call that fails leaves the CPU as deep inside as before, and has no exit. Outside, its section
- * counts then as with registry_look_up.
+ * counts then as with registry_get.
  */
 registry_answer registry_enter_find(struct registry_cpu *cpu, uint64_t kind, const struct registry_name *name, struct registry_entry *found)
     REGISTRY_NONNULL(1) REGISTRY_CHECKED;

@@ -1,4 +1,4 @@
-//! The limits of a build. This file alone says them; everything else, in code, definitions, proofs, tests and texts, speaks by these names.
+//! The limits of a build. Code, definitions and proofs speak by these names; so do tests and texts, but for those that docs/CONTRIBUTING.md lists.
 //! A build with other numbers has to be proved like this one. `limits_law` says that they leave room for each other.
 
 ghost use Rattle.registry_values.specs.Limits.{LimitsLeaveRoom};

@@ -10,6 +10,8 @@ pub(crate) enum Answer {
     Refused(Refusal),
     /// Nothing was found.
     Nothing,
+    /// Loads alone told nothing, as a change was counted meanwhile.
+    Vain,
     /// The entry with this number, in this slot.
     At(u64, u8),
     /// How the destruction of an entry has come on.

@@ -3,6 +3,7 @@
 
 mod answers;
 mod bench;
+mod by_loads;
 mod keepers;
 mod memory_tests;
 mod readers;

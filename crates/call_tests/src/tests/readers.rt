@@ -6,7 +6,7 @@ use super::answers::{Answer, at, done};
 use super::records::{WM, Wanted, record};
 use cpu_words::{Domain, Words};
 use local_count::{LocalRef, acquire_local};
-use passive_list::{Cpu, enter, exit, find, walk};
+use passive_list::{Cpu, enter, exit, find, find_by_loads, walk};
 use passive_ref::{Psref, acquire, copy, held, read, release};
 use registry_values::{Entry, Record, Refusal};
 use std::process::Abort;
@@ -17,6 +17,8 @@ pub(crate) enum Reader {
     Enter,
     Exit,
     Find(Wanted),
+    /// It looks up by loads alone.
+    Loads(Wanted),
     /// It walks over all entries, and meets these numbers with their records. The last found entry is then none.
     Walk(&'static [(u64, Wanted)]),
     /// It acquires a local reference to what it found last.
@@ -123,6 +125,7 @@ pub(crate) fn by_reader<D: Domain, R: Abort>(
         Reader::Enter => done(enter(words, cpu)),
         Reader::Exit => exited(rt, words, cpu),
         Reader::Find(wanted) => found(rt, words, cpu, record(rt, wanted)),
+        Reader::Loads(wanted) => found_by_loads(rt, words, cpu, record(rt, wanted)),
         Reader::Walk(met) => meets(rt, words, cpu, met),
         Reader::Count => kept(rt, &mut refs.local, acquire_local(words, cpu)),
         Reader::Acquire => kept(rt, &mut refs.passive, acquire(words, cpu)),
@@ -158,6 +161,25 @@ fn found<D: Domain, R: Abort>(rt: &R, words: &Words, cpu: &mut Cpu<D>, rec: Reco
     match find(words, cpu, rec.kind, &rec.name) {
         Some(entry) => at(rt, entry, rec),
         None => Answer::Nothing,
+    }
+}
+
+/// The CPU looks the record's kind and name up by loads alone.
+pub(crate) fn found_by_loads<D: Domain, R: Abort>(
+    rt: &R,
+    words: &Words,
+    cpu: &mut Cpu<D>,
+    rec: Record,
+) -> Answer
+    requires words { AreWordsOf words.now D.table D.settings }
+{
+    match find_by_loads(words, &mut cpu.plain, rec.kind, rec.name) {
+        Some(Some(seen)) => {
+            assert_eq!(rt; seen.value, rec.value);
+            Answer::At(seen.number, seen.slot as u8)
+        }
+        Some(None) => Answer::Nothing,
+        None => Answer::Vain,
     }
 }
 

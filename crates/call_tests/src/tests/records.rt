@@ -33,6 +33,12 @@ pub(crate) const DRIVER_WM0: Wanted = Wanted {
     value: 1500,
 };
 
+/// The interface with that name.
+pub(crate) const WM0: Wanted = Wanted {
+    kind: Kind::Iface,
+    ..DRIVER_WM0
+};
+
 /// A driver that nobody attaches.
 pub(crate) const DRIVER_WM1: Wanted = Wanted {
     kind: Kind::Driver,

@@ -147,7 +147,7 @@ fn meets_another<D: Domain, R: Abort>(rt: &R, words: &Words, cpu: &mut Cpu<D>) -
 
 /// Attaches vga, detaches and destroys it, until it was missed after it was met. At the latest the last attach, which waits for that, makes
 /// it met, and the last detach missed. So it doesn't matter when a thread has a processor. Returns how often.
-fn change_until<D: Domain, R: Wait + Abort>(
+pub(crate) fn change_until<D: Domain, R: Wait + Abort>(
     rt: &R,
     registry: &Registry<D>,
     mut cpu: Cpu<D>,

@@ -7,4 +7,5 @@ mod data;
 mod event_rows;
 mod give;
 mod memory_tests;
+mod peek_rows;
 mod values;

@@ -79,6 +79,7 @@ other_view g l c d own leaves ne n = record {
   begin = sym (leaves.begins d ne) n;
   pass = take (sym (leaves.seen d ne) n) g.history;
   search = sym (leaves.searches d ne) n;
+  peek = own.peek;
   found = sym (leaves.found d ne) n;
   hand = own.hand;
   references = own.references;
@@ -98,6 +99,7 @@ cpu_stays g l c seat i leaves mine j (Keeper k) ne sits shown backed = record {
   gives_up = λ t e here. leaves.gives_up k.given_up t e here (shown.gives_up t e here);
   later = shown.later;
   beyond = shown.beyond;
+  counted = shown.counted;
   noted_pass = shown.noted_pass;
 }
 cpu_stays g l c seat i leaves mine j (Cpu y) ne sits shown backed =
@@ -115,6 +117,7 @@ cpu_stays g l c seat i leaves mine j (Cpu y) ne sits shown backed =
       there = shown.there;
       found = shown.found;
       references = shown.references;
+      peek = shown.peek;
       noted_pass = shown.noted_pass;
     }
 cpu_stays g l c seat i leaves mine j (Reference v) ne sits shown backed = record { attached = shown.attached; collected = shown.collected }
@@ -207,6 +210,7 @@ shown_on g x l had hands passive nets depth more within found = record {
   found = found;
   references = λ e among. attached_longer g.history (seen_at g x.id) (get_or l.seen x.id 0) e more within
       (subst (λ (p : List Change). IsAttached p e) (ap (λ (v : CpuView). v.pass) had.is) (had.references e among));
+  peek = had.peek;
   noted_pass = had.noted_pass;
 }
 

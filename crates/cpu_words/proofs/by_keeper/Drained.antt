@@ -3,9 +3,10 @@ use Rattle.std.proofs.Common.{◌≡◌, ◌≢◌, ◌⊎◌, inl, inr, ⊎_eli
 use Rattle.std.proofs.lemmas.Bool.{cases_eq, cases_lt}
 use Rattle.std.proofs.lemmas.List.{append-nil, get_or_past}
 use Rattle.cpu_words.specs.Types.{MOST_CPUS, Entry, Slot, Vacant, Retired, Mark, Rest}
-use Rattle.protocol.specs.Common.{State, passive_at, count_at, total_at, is_drained, IsIn, Occupies}
+use Rattle.protocol.specs.Common.{State, mark_at, passive_at, count_at, total_at, is_drained, IsIn, Occupies}
 use Rattle.registry_values.specs.Common.{bias, slot_at, have_passed, are_clear, are_collected}
 use Rattle.protocol.proofs.keeps.MarkKeeps.{is_drained_tells}
+use Rattle.registry_values.proofs.Fit.{ranges}
 use Rattle.protocol.proofs.slots.Occupied.{written_cases, in_other, in_vacated, one_number, retired_other}
 use Rattle.protocol.proofs.slots.Cells.{get_or_all, cell_in_old, slot_other}
 use Rattle.cpu_words.specs.Common.{KeeperView, KeeperShown, Good, IsDrained}
@@ -17,6 +18,8 @@ pub record Drained (g : State) (t : ℕ) (e : Entry) : Type 0 where
   pub rest : g.due ≡ Rest
   pub retired : slot_at g.slots t ≡ Retired e
   pub is : is_drained g t ≡ true
+  -- the first CPU is clear, as all are
+  pub clear : (mark_at g.marks t 0).clear ≡ true
   -- no CPU has a passive reference, and all count words are 0
   pub passive : (c : ℕ) → passive_at g.passive c t ≡ 0
   pub counts : (c : ℕ) → count_at g.counts c t ≡ 0
@@ -38,6 +41,7 @@ drained_of g k t good had drained =
       rest = rest;
       retired = retired;
       is = is;
+      clear = told.3 0 (ranges g.settings good.holds.fit).some_cpu;
       passive = λ c. ⊎_elim
           (λ (lt : c < g.settings.cpus). (good.holds.passive.clear c t e retired (told.3 c lt)).1)
           (λ (past : g.settings.cpus ≤ c). good.holds.passive.beyond c t past)
@@ -56,6 +60,7 @@ vacating g t totals keeps = record (keeper_lists g) { totals = totals; slots = s
 pub vacated_leaves : (g : State) (t : ℕ) (e : Entry) (totals : List ℕ) (keeps : List (Option ℕ)) → Good g → Drained g t e → LeavesCpus g (vacating g t totals keeps)
 vacated_leaves g t e totals keeps good drained = record {
   seated = omega arith;
+  grow = omega arith;
   more = ([], sym (append-nil g.history));
   stay = λ u f here. inl ((in_vacated g.slots t u e f drained.retired here).1, (λ c. refl));
   go = λ u f here. ⊎_elim

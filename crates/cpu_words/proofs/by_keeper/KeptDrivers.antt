@@ -8,6 +8,7 @@ use Rattle.protocol.proofs.slots.Occupied.{slot_has}
 use Rattle.protocol.proofs.counts.Bounds.{driver_positive}
 use Rattle.cpu_words.specs.Common.{KeeperView, Keeper, total_of, index, KeeperOwn, keeper_own, keeper_view, one_more, KeeperShown, GivesUp, Agrees, Good, did, Makes, KeeperMay, MayKeptSub, HasKeptSub}
 use Rattle.cpu_words.specs.Common.{KeptSubTold}
+use Rattle.cpu_words.proofs.shown.Changes.{counted_vacated}
 use Rattle.cpu_words.proofs.by_keeper.KeeperSteps.{KeeperLists, with_keeper, keeper_makes}
 use Rattle.cpu_words.proofs.by_keeper.KeeperSees.{seen_by_keeper}
 use Rattle.cpu_words.proofs.by_keeper.Drained.{Drained, drained_of, vacating, vacated_leaves, vacated_counts, stood}
@@ -68,6 +69,7 @@ shown_kept_sub g k t d u e good had x = record {
       omega (arith, was, less);
   later = later_less g k u x.driver good had x.here;
   beyond = had.beyond;
+  counted = counted_vacated g.settings.slots g.history g.slots g.marks g.next g.changes t 0 x.drained.clear had.counted;
   noted_pass = had.noted_pass;
 }
 
@@ -89,7 +91,7 @@ kept_sub_may z k t u may s r i at fits =
     let kind : is_iface e.rec.kind ≡ true = ap is_iface may.kind in
     let made : step g (KeptSub t) ≡ Some (record { state = with_keeper g l; reply = Done }) = rw (x.kept, x.of, x.drained.is, x.drained.retired, kind) refl in
     let words : Agrees (set s.words (index (total_of u)) ((w + (2 ^ 64 - 1)) % 2 ^ 64)) (with_keeper g l) =
-    subst (λ m. Agrees (set s.words (index (total_of u)) m) (with_keeper g l)) (sym next) (total_words s.words g l u v r.good x.slot r.words refl refl refl refl refl) in
+    subst (λ m. Agrees (set s.words (index (total_of u)) m) (with_keeper g l)) (sym next) (total_words s.words g l u v r.good x.slot r.words refl refl refl refl refl refl) in
     let done = keeper_makes z s r i k (index (total_of u)) ((w + (2 ^ 64 - 1)) % 2 ^ 64) l (KeptSub t) Done own at made (vacated_leaves g t e (set g.totals u v) (set g.keeps t None) r.good x.drained)
     (λ m. refl) refl (shown_kept_sub g k t d u e r.good had x) words in
     let change : keeper_view (with_keeper g l) own ≡ record k {

@@ -1,5 +1,5 @@
 -- The stores of the keeper into a vacant slot.
-use Rattle.std.proofs.Common.{◌≡◌, ◌≢◌, ⊎_elim, ℕ, zero, suc, ◌+◌, ◌-◌, ◌<◌, List, [], length, get_or, set, Some, false, nat_lt, refl, sym, ap, ◌∙◌, subst, arith, length-set, get_or-set_same}
+use Rattle.std.proofs.Common.{◌≡◌, ◌≢◌, ⊎_elim, ℕ, zero, suc, ◌+◌, ◌-◌, ◌<◌, ◌≤◌, List, [], length, get_or, set, Some, false, nat_lt, refl, sym, ap, ◌∙◌, subst, arith, length-set, get_or-set_same}
 use Rattle.std.proofs.Common.{get_or-set_other}
 use Rattle.std.proofs.lemmas.Bool.{cases_eq, lt-ltb, le-ltb}
 use Rattle.cpu_words.specs.Types.{Settings, StoreSlot, StoreNext, Done, RecordWords, Slot, Vacant, Rest}
@@ -8,8 +8,9 @@ use Rattle.registry_values.specs.Common.{slot_at}
 use Rattle.protocol.proofs.slots.Cells.{by_cell, cell_here, cell_other}
 use Rattle.protocol.proofs.keeps.ListKeeps.{rows_cell}
 use Rattle.registry_values.proofs.Fit.{ranges}
-use Rattle.cpu_words.specs.Common.{KeeperView, Keeper, Spot, section_of, passive_of, count_of, head_word, next_of, record_of, total_of, IsSpot, word_at, index, KeeperOwn, keeper_own, keeper_view}
+use Rattle.cpu_words.specs.Common.{KeeperView, Keeper, Spot, section_of, passive_of, count_of, head_word, changes_word, next_of, record_of, total_of, IsSpot, word_at, index, KeeperOwn, keeper_own, keeper_view}
 use Rattle.cpu_words.specs.Common.{KeeperShown, Agrees, Good, did, Makes, KeeperStores, MayWrite, HasRecordWord, HasCountWord, HasLink}
+use Rattle.cpu_words.proofs.shown.Changes.{counted_linked}
 use Rattle.cpu_words.proofs.shown.Placing.{agrees_set}
 use Rattle.cpu_words.proofs.by_keeper.KeeperSteps.{KeeperLists, keeper_lists, with_keeper, leaves_all, keeper_makes}
 use Rattle.cpu_words.proofs.by_keeper.KeeperSees.{SeenByKeeper, seen_by_keeper}
@@ -42,16 +43,18 @@ link_words words g t v good slot agrees = agrees_set words g (with_keeper g (rec
     other (passive_of c u) here ne = refl
     other (count_of c u) here ne = refl
     other head_word here ne = refl
+    other changes_word here ne = refl
     other (next_of u) here ne = get_or-set_other g.next t u v 0 (λ is. ne (ap next_of is))
     other (record_of u j) here ne = refl
     other (total_of u) here ne = refl
 
-pub store_next_may : (z : Settings) (k : KeeperView) (t v : ℕ) → MayWrite k t
+pub store_next_may : (z : Settings) (k : KeeperView) (t v : ℕ) → v ≤ k.settings.slots → MayWrite k t
     → KeeperStores z k (index (next_of t)) v (λ _. did (StoreNext t v) Done) (λ x n y. Makes (StoreNext t v) Done (Keeper x) (Keeper y) × HasLink x t v y)
-store_next_may z k t v may s r i at fits =
+store_next_may z k t v leads may s r i at fits =
     let g = r.g in
     let had : KeeperShown g k = (r.shows.fits i (Keeper k) at).1 in
     let on = stores_of g k t r.good had may in
+    let few : v ≤ g.settings.slots = subst (λ (a : Settings). v ≤ a.slots) on.seen.settings leads in
     let l : KeeperLists = record (keeper_lists g) { next = set g.next t v } in
     let own = keeper_own k in
     let made : step g (StoreNext t v) ≡ Some (record { state = with_keeper g l; reply = Done }) = rw (on.rest, lt-ltb t g.settings.slots on.slot, on.vacant) refl in
@@ -65,9 +68,10 @@ store_next_may z k t v may s r i at fits =
       gives_up = had.gives_up;
       later = had.later;
       beyond = had.beyond;
+      counted = counted_linked g.settings.slots g.history g.slots g.marks g.next g.changes t v few on.vacant had.counted;
       noted_pass = had.noted_pass;
     } in
-    let done = keeper_makes z s r i k (index (next_of t)) v l (StoreNext t v) Done own at made (leaves_all g l refl refl refl refl (λ u d is. is)) (λ n. refl) refl shown
+    let done = keeper_makes z s r i k (index (next_of t)) v l (StoreNext t v) Done own at made (leaves_all g l (omega arith) refl refl refl refl (λ u d is. is)) (λ n. refl) refl shown
     (link_words s.words g t v r.good on.slot r.words) in
     (Keeper (keeper_view (with_keeper g l) own), done.0, (refl, (done.1, ap (λ (x : KeeperView). record x { next = set x.next t v }) (sym had.is))))
 
@@ -123,6 +127,7 @@ record_words words g t j v good slot lt agrees = agrees_set words g (with_keeper
     other (passive_of c u) there ne = refl
     other (count_of c u) there ne = refl
     other head_word there ne = refl
+    other changes_word there ne = refl
     other (next_of u) there ne = refl
     other (record_of u i) there ne = ⊎_elim
         (λ (is : u ≡ t). subst (λ w. word (row_at (set g.rows t (with_word (row_at g.rows t) j v)) w) i ≡ word (row_at g.rows w) i) (sym is)
@@ -150,9 +155,10 @@ store_record_may z k t j v lt may s r i at fits =
       gives_up = had.gives_up;
       later = had.later;
       beyond = had.beyond;
+      counted = had.counted;
       noted_pass = had.noted_pass;
     } in
-    let done = keeper_makes z s r i k (index (record_of t j)) v l (StoreSlot t j v) Done own at made (leaves_all g l refl refl refl refl (λ u d is. is)) (λ n. refl) refl shown
+    let done = keeper_makes z s r i k (index (record_of t j)) v l (StoreSlot t j v) Done own at made (leaves_all g l (omega arith) refl refl refl refl (λ u d is. is)) (λ n. refl) refl shown
     (record_words s.words g t j v r.good on.slot lt r.words) in
     (Keeper (keeper_view (with_keeper g l) own), done.0, (refl, (done.1, ap (λ (x : KeeperView). record x { rows = set x.rows t (with_word (row_at x.rows t) j v) }) (sym had.is))))
 
@@ -177,6 +183,7 @@ count_words words g t c v good slot lt agrees =
     other (passive_of d u) there ne = refl
     other (count_of d u) there ne = cell_other 0 g.counts t c v u d (λ at_slot at_cpu. ne ((λ k. count_of (at_cpu k) u) ∙ ap (count_of c) at_slot))
     other head_word there ne = refl
+    other changes_word there ne = refl
     other (next_of u) there ne = refl
     other (record_of u i) there ne = refl
     other (total_of u) there ne = refl
@@ -217,9 +224,10 @@ store_count_may z k t c v within may s r i at fits =
       gives_up = had.gives_up;
       later = had.later;
       beyond = had.beyond;
+      counted = had.counted;
       noted_pass = had.noted_pass;
     } in
-    let done = keeper_makes z s r i k (index (count_of c t)) v l (StoreSlot t (5 + c) v) Done own at made (leaves_all g l refl refl refl refl (λ u d is. is)) (λ n. refl) refl shown
+    let done = keeper_makes z s r i k (index (count_of c t)) v l (StoreSlot t (5 + c) v) Done own at made (leaves_all g l (omega arith) refl refl refl refl (λ u d is. is)) (λ n. refl) refl shown
     (count_words s.words g t c v r.good on.slot lt r.words) in (
       Keeper (keeper_view (with_keeper g l) own),
       done.0,

@@ -7,7 +7,7 @@ use Rattle.std.proofs.lemmas.List.{append-nil, take_at}
 use Rattle.std.proofs.Math.Seq.{take-append-add}
 use Rattle.atomic_table.specs.Table.{State as Table}
 use Rattle.atomic_table.proofs.Lists.{at_map}
-use Rattle.cpu_words.specs.Types.{Key, Entry, Change, Settings, Event, Enter, Hear, LoadLink, LoadRecord, RecordOf, Passive, Local, Compared, Reply, Ref}
+use Rattle.cpu_words.specs.Types.{Key, Entry, Change, Settings, Event, Enter, Hear, Peek, LoadLink, LoadRecord, RecordOf, Passive, Local, Compared, Reply, Ref}
 use Rattle.registry_values.specs.Common.{are_fit}
 use Rattle.protocol.specs.declared.event.RecordOf.TheVariants.{Search as OfSearch}
 use Rattle.protocol.specs.Common.{State, opening, Outcome, step, state_after, Holds, seen_at, after, after_event, IsAllowed, IsLoadOf, answer_of, IsNoSeek, SeeksNone, IsFreshAnswer, seek_for}
@@ -221,6 +221,10 @@ passes_are_whole z s r = record {
       let m = at_moment z s r first (Hear (Some c) ∷ rest) are in
       ap (λ (n : State). seen_at n c) (after_append (opening z) first (Hear (Some c) ∷ []) ∙ one_after (after (opening z) first) (Hear (Some c)))
       ∙ (sees_all (after (opening z) first) m.on).heard c (first_made (after (opening z) first) m.acts (Hear (Some c)) rest m.t m.run);
+  peeked = λ c w first rest are.
+      let m = at_moment z s r first (Peek c w ∷ rest) are in
+      ap (λ (n : State). seen_at n c) (after_append (opening z) first (Peek c w ∷ []) ∙ one_after (after (opening z) first) (Peek c w))
+      ∙ (sees_all (after (opening z) first) m.on).peeked c w (first_made (after (opening z) first) m.acts (Peek c w) rest m.t m.run);
   told = λ c i h first rest earlier later are cut_is few.
       let item = has_heard_from (Some c) (Some h) in
       let come : h.events ≤ length (part (r.run.seat h.cpu) first) = (r.told i item first rest are).before.events in

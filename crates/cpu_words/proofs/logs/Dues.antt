@@ -2,7 +2,7 @@
 use Rattle.std.proofs.Common.{◌≡◌, ℕ, zero, suc, nat_lt, ◌+◌, ◌==◌, ◌&&◌, ◌-◌, Bool, true, false, if◌then◌else◌, set, Option, Some, None, refl, ap, ◌∙◌}
 use Rattle.std.proofs.lemmas.Bool.{and_parts, eqb-true}
 use Rattle.cpu_words.specs.Types.{Entry, Slot, Vacant, Live, Retired, Event, Seat, Enter, Exit, Seek, LoadLink, LoadRecord, StoreSlot, StoreNext, Publish, Unpublish, Tell, Hear, Snapshot, Look}
-use Rattle.cpu_words.specs.Types.{PassiveAdd, PassiveSub, PassiveLook, CountAdd, SplitRef, JoinRef, CountDown, SplitBack, Collect, TotalAdd, JoinKeeper, TotalSub, Keep, KeptSub, Vacate, RecordOf}
+use Rattle.cpu_words.specs.Types.{PassiveAdd, PassiveSub, PassiveLook, CountAdd, SplitRef, JoinRef, CountDown, SplitBack, Collect, TotalAdd, JoinKeeper, TotalSub, Keep, KeptSub, Vacate, Count, Peek, RecordOf}
 use Rattle.cpu_words.specs.Types.{Passive, Local, Compared, Reply, Done, Word, Due, Rest, Snapshots, Adding, Subtracting, Hand, Empty, Taking, Giving, Back, Search, Loaded, On, Over}
 use Rattle.registry_values.specs.Common.{bias, slot_at, slot_of, slot_before}
 use Rattle.protocol.specs.declared.event.RecordOf.TheVariants.{Search as OfSearch}
@@ -183,3 +183,5 @@ step_dues s (KeptSub t) = on_some s (KeptSub t) (kept_at s.keeps t) _
     (λ d keeps. on_some s (KeptSub t) (slot_of s.slots d) _ (λ u of. on_made s (KeptSub t) (Events.is_iface_slot (slot_at s.slots t) && is_drained s t) _ _ refl (λ may v c is. is)
     (λ may. (d, u, keeps, of, (and_parts (Events.is_iface_slot (slot_at s.slots t)) (is_drained s t) may).1, refl, refl))))
 step_dues s (Vacate t) = on_made s (Vacate t) _ _ _ refl (λ may u d is. is) (λ may. (refl, refl))
+step_dues s Count = on_made s Count _ _ _ refl (λ may u d is. is) (λ may. (refl, refl))
+step_dues s (Peek c w) = on_some s (Peek c w) (Events.shared_word s w) _ (λ v of. on_made s (Peek c w) _ _ _ refl (λ may u d is. is) (λ may. (refl, refl)))

@@ -6,7 +6,7 @@ use Rattle.std.proofs.lemmas.List.{get_or_past, set_past}
 use Rattle.std.proofs.lemmas.Option.{none-some, same_Some}
 use Rattle.cpu_words.specs.Types.{Mark, Slot, Vacant, Live, Retired, Settings, MOST_CPUS, Event, Seat, Enter, Exit, Seek, LoadLink, LoadRecord, StoreSlot, StoreNext, Publish, Unpublish, Tell, Hear}
 use Rattle.cpu_words.specs.Types.{Snapshot, Look, PassiveAdd, PassiveSub, PassiveLook, CountAdd, SplitRef, JoinRef, CountDown, SplitBack, Collect, TotalAdd, JoinKeeper, TotalSub, Keep, KeptSub}
-use Rattle.cpu_words.specs.Types.{Vacate, RecordOf, Passive, Local, Compared, Reply, Done, Word, Due, Rest, Snapshots, Adding, Subtracting, Hand, Empty, Taking, Giving, Back, Search, Loaded, On, Over}
+use Rattle.cpu_words.specs.Types.{Vacate, Count, Peek, RecordOf, Passive, Local, Compared, Reply, Done, Word, Due, Rest, Snapshots, Adding, Subtracting, Hand, Empty, Taking, Giving, Back, Search, Loaded, On, Over}
 use Rattle.registry_values.specs.Common.{no_mark, is_even, has_changed, mark_after_look, mark_after_passive_look, mark_after_collect, slot_at, slot_of, slot_before}
 use Rattle.protocol.specs.declared.event.RecordOf.TheVariants.{Search as OfSearch}
 use Rattle.protocol.specs.Common.{State, with_cell, section_at, search_at, found_at, hand_at, row_at, mark_at, kept_at, local_at, opening, loaded_at, row_of_place, Outcome, guard, some_outcome}
@@ -164,6 +164,8 @@ step_marks s (TotalSub t) = subtracted_marks s t s.due
 step_marks s (Keep t id) = on_some s (Keep t id) (Events.number_standing (local_at s.locals id)) _ (λ n. on_some s (Keep t id) (slot_of s.slots n) _ (λ u. on_made s (Keep t id) _ _ _ refl tt))
 step_marks s (KeptSub t) = on_some s (KeptSub t) (kept_at s.keeps t) _ (λ d. on_some s (KeptSub t) (slot_of s.slots d) _ (λ u. on_made s (KeptSub t) _ _ _ refl tt))
 step_marks s (Vacate t) = on_made s (Vacate t) _ _ _ refl tt
+step_marks s Count = on_made s Count _ _ _ refl tt
+step_marks s (Peek c w) = on_some s (Peek c w) (Events.shared_word s w) _ (λ v. on_made s (Peek c w) _ _ _ refl tt)
 
 -- the events of CPUs and of references leave them
 pub marks_off : (seat : ℕ → ℕ) (n i : ℕ) (s : State) (e : Event) → IsSeatOf seat n i (maker (by_number s e)) → i ≢ 0 → marks_after s e ≡ s.marks

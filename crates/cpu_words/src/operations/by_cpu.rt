@@ -11,6 +11,7 @@ use crate::law::{CpuPlay, CpuTale, Words};
 use crate::layout::WORDS;
 use crate::seat::CpuSeat;
 use protocol::Event;
+use registry_values::Key;
 
 /// Adds to a word. Returns the word as it was.
 pub(crate) fn add<T: CpuTale>(
@@ -73,6 +74,27 @@ pub(crate) fn load<T: CpuTale>(words: &Words, seat: &mut CpuSeat, word: usize, e
     // The contract alone speaks of the event.
     let _event = event;
     words.table.shared.load::<CpuPlay<T>>(&mut seat.token, word)
+}
+
+/// Loads a word for a lookup of this key.
+pub(crate) fn load_for<T: CpuTale>(
+    words: &Words,
+    seat: &mut CpuSeat,
+    word: usize,
+    event: Event,
+    key: Key,
+) -> u64
+    requires table { seat.old.table ≡ words.now.table }
+    requires place { word < WORDS }
+    requires own { (n : ℕ) → AreBy (the_cpu seat.old.view.id) (T.does seat.old.view n) }
+    requires quiet { (n : ℕ) → HasNone is_hear (T.does seat.old.view n) }
+    requires may { CpuMay words.now.settings seat.old.view word (λ n. n) (T.does seat.old.view) T.tells }
+    ensures step { SeatGoesOn (T.does seat.old.view result) seat.old seat.new }
+    ensures told { T.tells seat.old.view result seat.new.view }
+{
+    // The contract alone speaks of the key.
+    let _key = key;
+    load::<T>(words, seat, word, event)
 }
 
 /// Writes `new` if the word is `old`. Returns the word as it was.

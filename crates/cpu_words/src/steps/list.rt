@@ -1,6 +1,6 @@
 //! The words of a slot that the keeper's seat stores before it links an entry: StoreSlot and StoreNext, a store each.
 
-ghost use Rattle.std.specs.Prelude.{◌≡◌, ◌<◌, ◌+◌};
+ghost use Rattle.std.specs.Prelude.{◌≡◌, ◌<◌, ◌≤◌, ◌+◌};
 ghost use Rattle.cpu_words.specs.Types.{StoreSlot, StoreNext, Done};
 ghost use Rattle.cpu_words.specs.declared.view.View.TheVariants.{Keeper};
 ghost use Rattle.cpu_words.specs.Steps.{SeatMakes};
@@ -42,10 +42,11 @@ pub fn store_count(words: &Words, keeper: &mut KeeperSeat, slot: u8, cpu: u8, va
     by_keeper::store::<Brand>(words, keeper, place, value, event);
 }
 
-/// Stores the link of `slot`: 0 for the end, else a slot plus 1. Condition: as for `store_record`.
+/// Stores the link of `slot`: 0 for the end, else a slot plus 1. Condition: as for `store_record`, and the link is to a slot of the table.
 pub fn store_next(words: &Words, keeper: &mut KeeperSeat, slot: u8, link: u64)
     requires table { keeper.old.table ≡ words.now.table }
     requires place { slot < MOST_SLOTS }
+    requires link { link ≤ keeper.old.view.settings.slots }
     requires may { MayWrite keeper.old.view slot }
     ensures step { SeatMakes Keeper (StoreNext slot link) Done keeper.old keeper.new }
     ensures change { HasLink keeper.old.view slot link keeper.new.view }

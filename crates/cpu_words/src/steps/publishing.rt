@@ -1,16 +1,17 @@
 //! The list of live entries, newest first: an entry is published by one store to the head, and unpublished by one store to the link
-//! that leads to it.
+//! that leads to it. After each of the two all changes are counted, by one store.
 
 ghost use Rattle.std.specs.Prelude.{◌≡◌, ℕ, ◌<◌, Some, None, suc, length};
-ghost use Rattle.cpu_words.specs.Types.{Entry, Publish, Unpublish, Done};
+ghost use Rattle.cpu_words.specs.Types.{Entry, Publish, Unpublish, Count, Done, Rest};
 ghost use Rattle.cpu_words.specs.declared.view.View.TheVariants.{Keeper};
 ghost use Rattle.protocol.specs.Common.{kept_at};
 ghost use Rattle.cpu_words.specs.KeeperLog.{IsAttachedKeeping};
 ghost use Rattle.cpu_words.specs.Steps.{SeatMakes};
+ghost use Rattle.cpu_words.specs.Changes.{keeper_after_counting};
 ghost use Rattle.cpu_words.specs.Publishing.{MayPublish, HasPublished, MayUnpublish, HasUnpublished, IsLinkPlace, link_index};
 
 use crate::law::Words;
-use crate::layout::{HEAD, next_place};
+use crate::layout::{CHANGES, HEAD, next_place};
 use crate::operations::by_keeper;
 use crate::seat::KeeperSeat;
 use protocol::Event;
@@ -25,7 +26,8 @@ use std::marker::Brand;
 /// - the slot's record has the next number (from 1), and a kind and name that no live entry has;
 /// - its link leads to the newest live entry, and its count words and its total count no reference;
 /// - it keeps a driver exactly if the entry is an interface;
-/// - the history has room for this change and for the detaches of all live entries, the new one too.
+/// - the history has room for this change and for the detaches of all live entries, the new one too;
+/// - all changes before are counted.
 pub fn publish(words: &Words, keeper: &mut KeeperSeat, slot: u8)
     requires table { keeper.old.table ≡ words.now.table }
     requires may { (e : Entry) × MayPublish keeper.old.view slot e }
@@ -41,7 +43,7 @@ pub fn publish(words: &Words, keeper: &mut KeeperSeat, slot: u8)
 /// stays as it is, and the snapshots of all CPUs are due.
 /// `before` is the slot of the live entry with the least greater number, or none where the entry is the newest; `link` is the slot (from
 /// 0) plus 1 of the live entry with the greatest smaller number, or 0 where there is none.
-/// Condition: the keeper is at rest, and the slot's entry is live.
+/// Condition: the keeper is at rest, the slot's entry is live, and all changes before are counted.
 pub fn unpublish(words: &Words, keeper: &mut KeeperSeat, slot: u8, before: Option<u8>, link: u64)
     requires table { keeper.old.table ≡ words.now.table }
     requires place { IsLinkPlace before }
@@ -56,6 +58,19 @@ pub fn unpublish(words: &Words, keeper: &mut KeeperSeat, slot: u8, before: Optio
         link,
         Event::Unpublish(slot),
     );
+}
+
+/// Counts the changes: stores `changes`, how many there are. A CPU that loads this number twice, and finds the same, knows that no slot that
+/// it went by meanwhile was vacated.
+/// Condition: the keeper is at rest.
+pub fn count_changes(words: &Words, keeper: &mut KeeperSeat, changes: u64)
+    requires table { keeper.old.table ≡ words.now.table }
+    requires rest { keeper.old.view.due ≡ Rest }
+    requires all { changes ≡ length keeper.old.view.history }
+    ensures step { SeatMakes Keeper Count Done keeper.old keeper.new }
+    ensures change { keeper.new.view ≡ keeper_after_counting keeper.old.view }
+{
+    by_keeper::store::<Brand>(words, keeper, CHANGES, changes, Event::Count);
 }
 
 /// The place of the link of the slot before, or of the head.

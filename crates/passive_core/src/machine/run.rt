@@ -43,6 +43,8 @@ impl Core {
             Event::Keep(t, id) => self.step_keep(t, id),
             Event::KeptSub(t) => self.step_kept_sub(t),
             Event::Vacate(t) => self.step_vacate(t),
+            Event::Count => self.step_count(),
+            Event::Peek(c, word) => self.step_peek(c, word),
         }
     }
 

@@ -19,7 +19,7 @@ impl Core {
             && self.has_same_cpus(other)
     }
 
-    /// Whether the list, the slots, their marks and the history are the same.
+    /// Whether the list, the slots, their marks, the history and the count of changes are the same.
     fn has_same_slots(&self, other: &Core) -> bool
         ensures { Decides result (HaveSameSlots self.now other.now) }
     {
@@ -29,6 +29,7 @@ impl Core {
             && are_same(&self.slots, &other.slots)
             && are_same(&self.marks, &other.marks)
             && are_same(&self.history, &other.history)
+            && self.counted == other.counted
     }
 
     /// Whether what counts references, and the local references, are the same.

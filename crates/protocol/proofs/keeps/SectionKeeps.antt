@@ -2,7 +2,7 @@
 use Rattle.std.proofs.Common.{◌≡◌, ℕ, ◌+◌, ◌*◌, ◌<◌, length, Option, Some, None, Bool, true, false, ◌&&◌, is_none, is_some, nat_eq, nat_lt, refl, sym, subst, ◌∙◌, arith, length-set, ltb-true}
 use Rattle.std.proofs.Common.{eqb-true}
 use Rattle.std.proofs.lemmas.Bool.{and_parts}
-use Rattle.protocol.specs.Common.{Hand, Empty, State, section_at, begin_at, depth_at, search_at, hand_at, at_rest, is_empty, is_idle, is_outside, is_inside, may_seat, after_seat, may_enter}
+use Rattle.protocol.specs.Common.{Hand, Empty, State, section_at, begin_at, depth_at, search_at, hand_at, at_rest, is_empty, is_idle, is_outside, is_inside, may_peek, may_seat, after_seat, may_enter}
 use Rattle.protocol.specs.Common.{after_enter, may_exit, after_exit, after_seeing, SeatsShow, Holds}
 use Rattle.protocol.proofs.keeps.Sections.{seats_seat, seats_begin, sections_enter, held_enter, links_enter, marks_enter, searches_enter, found_enter, sections_exit, held_exit, links_exit, marks_exit}
 use Rattle.protocol.proofs.keeps.Sections.{searches_exit, found_exit, sections_see, searches_see}
@@ -101,6 +101,11 @@ see_keeps s c on lt =
       sections_see s.settings s.history s.section s.begins s.depths s.seen c cw on.sections,
       searches_see s.settings s.history s.section s.begins s.depths s.seen s.searches c cw on.sections on.searches,
     )
+
+pub peek_keeps : (s : State) (c : ℕ) → Holds s → may_peek s c ≡ true → Holds (after_seeing s c)
+peek_keeps s c on ok =
+    let seated = ltb-true c s.seated (and_parts (nat_lt c s.seated) (is_none (search_at s c)) ok).0 in
+    see_keeps s c on (omega (arith, seated, on.seats.within))
 
 pub hear_keeps : (s : State) (c : ℕ) → Holds s → is_idle s c ≡ true → Holds (after_seeing s c)
 hear_keeps s c on ok = see_keeps s c on (idle_tells s c on ok).0

@@ -3,7 +3,7 @@ use Rattle.std.proofs.Common.{◌≡◌, ℕ, ◌+◌, ◌-◌, List, [], ◌∷
 use Rattle.std.proofs.lemmas.Bool.{and_parts}
 use Rattle.protocol.specs.Types.{Entry, Settings, MOST_CPUS, Slot, Vacant, Live}
 use Rattle.protocol.specs.Common.{Event, Seat, Enter, Exit, Seek, LoadLink, LoadRecord, StoreSlot, StoreNext, Publish, Unpublish, Tell, Hear, Snapshot, Look, PassiveAdd, PassiveSub, PassiveLook}
-use Rattle.protocol.specs.Common.{CountAdd, SplitRef, JoinRef, CountDown, SplitBack, Collect, TotalAdd, JoinKeeper, TotalSub, Keep, KeptSub, Vacate, RecordOf, Reply, Done, Word, Collected, Hand}
+use Rattle.protocol.specs.Common.{CountAdd, SplitRef, JoinRef, CountDown, SplitBack, Collect, TotalAdd, JoinKeeper, TotalSub, Keep, KeptSub, Vacate, Count, Peek, RecordOf, Reply, Done, Word, Collected, Hand}
 use Rattle.protocol.specs.Common.{Empty, Taking, Giving, Back, Lifted, Due, Adding, Subtracting, State, opening, section_at, search_at, found_at, row_at, passive_at, count_at, total_at, hand_at}
 use Rattle.protocol.specs.Common.{kept_at, local_at, at_rest, Outcome, guard, some_outcome, step, Run, run_with_event, run_of_events, empty_run, Holds, Model, empty_model, IsModelRun, Stays}
 use Rattle.protocol.specs.Common.{passive_in, lookup_of, number_in, picture, EveryRunIsModelRun}
@@ -17,7 +17,7 @@ use Rattle.protocol.proofs.keeps.MarkKeeps.{cell_all}
 use Rattle.protocol.proofs.slots.Cells.{get_or_all}
 use Rattle.protocol.proofs.counts.HeldSums.{number_of, no_hand}
 use Rattle.protocol.proofs.model.Picturing.{Makes, makes_guard, makes_some, same_model, join_runs}
-use Rattle.protocol.proofs.model.RefiningSections.{seat_refines, enter_refines, exit_refines, hear_refines, seek_refines, link_makes, record_makes}
+use Rattle.protocol.proofs.model.RefiningSections.{seat_refines, enter_refines, exit_refines, hear_refines, peek_refines, seek_refines, link_makes, record_makes}
 use Rattle.protocol.proofs.model.RefiningReferences.{add_refines, sub_refines, count_add_refines, split_refines, join_refines, count_down_refines, collected_refines, split_back_refines}
 use Rattle.protocol.proofs.model.RefiningReferences.{snapshot_refines, look_refines, look_passive_refines, collect_refines, total_add_refines, total_sub_refines, join_keeper_refines}
 use Rattle.protocol.proofs.model.RefiningEntries.{row_store_refines, count_store_refines, link_store_refines, publish_refines, unpublish_refines, keep_refines, vacate_refines, kept_sub_refines}
@@ -171,6 +171,10 @@ step_makes s (TotalSub t) on = total_sub_makes s t s.due on refl
 step_makes s (Keep t id) on = keep_makes s t id on
 step_makes s (KeptSub t) on = kept_sub_makes s t on
 step_makes s (Vacate t) on = makes_guard (picture s) (Events.may_vacate s t) (some_outcome (Events.after_vacate s t) Done) (λ ok now. vacate_refines s t on now ok)
+step_makes s Count on = stays_make s (Events.after_counting s) (at_rest s.due) Done Stays
+step_makes s (Peek c w) on =
+    makes_some (picture s) (Events.shared_word s w) (λ v. guard (Events.may_peek s c) (some_outcome (Events.after_seeing s c) (Word v)))
+    (λ v is. makes_guard (picture s) (Events.may_peek s c) (some_outcome (Events.after_seeing s c) (Word v)) (λ ok now. peek_refines s c on ok))
 
 -- nothing has happened
 pub opening_pictured : (z : Settings) → picture (opening z) ≡ empty_model

@@ -1,10 +1,10 @@
 -- Seats, sections, notes and lookups make steps of the model.
-use Rattle.std.proofs.Common.{◌≡◌, ℕ, zero, suc, ◌*◌, ◌<◌, length, Option, Some, None, true, ◌&&◌, nat_eq, nat_lt, ap, subst, arith}
+use Rattle.std.proofs.Common.{◌≡◌, ℕ, zero, suc, ◌*◌, ◌<◌, length, Option, Some, None, true, ◌&&◌, is_none, nat_eq, nat_lt, ltb-true, ap, subst, arith}
 use Rattle.std.proofs.lemmas.Bool.{and_parts}
 use Rattle.protocol.specs.Types.{Entry, Key}
 use Rattle.protocol.specs.Common.{Loaded, On, Over, SearchPlace, AtHead, AtNumber, Search, IsLawful, State, section_at, begin_at, depth_at, seen_at, search_at, loaded_at, row_of_place, is_idle}
-use Rattle.protocol.specs.Common.{is_outside, is_inside, after_seat, may_enter, after_enter, may_exit, after_exit, after_seeing, may_seek, after_seek, with_search_at, search_over, with_some, link_at}
-use Rattle.protocol.specs.Common.{link_loaded, load_link, load_searched, outcome_of, Holds, Model, IsModelStep, IsModelRun, Stays, Goes_on, lookup_of, picture}
+use Rattle.protocol.specs.Common.{is_outside, is_inside, may_peek, after_seat, may_enter, after_enter, may_exit, after_exit, after_seeing, may_seek, after_seek, with_search_at, search_over, with_some, link_at}
+use Rattle.protocol.specs.Common.{link_loaded, load_link, load_searched, outcome_of, Holds, IsModelStep, IsModelRun, Stays, Goes_on, lookup_of, picture}
 use Rattle.protocol.specs.Model
 use Rattle.protocol.proofs.keeps.Searching.{within_some}
 use Rattle.protocol.proofs.keeps.SectionKeeps.{none_from, some_from, idle_parts, idle_tells}
@@ -44,6 +44,11 @@ see_step s c on lt = subst (IsModelStep (picture s))
 
 pub seeing_refines : (s : State) (c : ℕ) → Holds s → c < s.settings.cpus → IsModelRun (picture s) (picture (after_seeing s c))
 seeing_refines s c on lt = Goes_on _ _ Stays (see_step s c on lt)
+
+pub peek_refines : (s : State) (c : ℕ) → Holds s → may_peek s c ≡ true → IsModelRun (picture s) (picture (after_seeing s c))
+peek_refines s c on ok =
+    let seated = ltb-true c s.seated (and_parts (nat_lt c s.seated) (is_none (search_at s c)) ok).0 in
+    seeing_refines s c on (omega (arith, seated, on.seats.within))
 
 pub hear_refines : (s : State) (c : ℕ) → Holds s → is_idle s c ≡ true → IsModelRun (picture s) (picture (after_seeing s c))
 hear_refines s c on ok = seeing_refines s c on (idle_tells s c on ok).0

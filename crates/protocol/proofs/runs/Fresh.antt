@@ -1,26 +1,24 @@
 -- Fresh lookups: a search goes on from the history as it was at its Seek, whatever other events come between.
-use Rattle.std.proofs.Common.{◌≡◌, ℕ, zero, suc, ◌<◌, ◌≤◌, ◌⊎◌, inl, inr, List, [], ◌∷◌, ◌++◌, length, get_or, set, Option, Some, None, Bool, true, false, refl, sym, ap, subst, ◌∙◌, arith, get_or-set_other}
-use Rattle.std.proofs.Common.{get_or-set_same, IsSome, append_assoc, length-append}
-use Rattle.std.proofs.lemmas.Bool.{and_parts, cases_eq}
+use Rattle.std.proofs.Common.{◌≡◌, ℕ, zero, suc, ◌<◌, ◌≤◌, ◌⊎◌, inl, inr, List, [], ◌∷◌, ◌++◌, length, get_or, set, Option, Some, None, Bool, true, false, refl, sym, ap, subst, ◌∙◌, arith, get_or-set_other, nat_lt}
+use Rattle.std.proofs.Common.{get_or-set_same, IsSome, append_assoc}
+use Rattle.std.proofs.lemmas.Bool.{and_parts, cases_eq, ltb-true}
 use Rattle.std.proofs.lemmas.List.{append-nil}
 use Rattle.std.proofs.lemmas.Option.{none-some, same_Some}
 use Rattle.protocol.specs.Types.{Entry, Change, Attach, Detach, Key}
-use Rattle.protocol.specs.Common.{Event, Enter, Hear, Seek, LoadLink, LoadRecord, Reply, Done, Word, Found, Missed, Ref, Collected, Search, SearchPlace, AtHead, AtNumber, Loaded, On, Over}
-use Rattle.protocol.specs.Common.{IsAttached, EndsAt, IsLiveAt, IsLawful, IsLegal, IsLookup, State, opening, seen_at, search_at, begin_at, Outcome, step, state_after, guard, is_idle, is_inside, is_outside}
-use Rattle.protocol.specs.Common.{may_enter, may_seek, after_seek, after_enter, after_seeing, after_change, with_some, link_at, link_loaded, load_link, load_searched, outcome_of, some_outcome}
+use Rattle.protocol.specs.Common.{Event, Seek, Reply, Done, Word, Found, Missed, Search, SearchPlace, AtHead, AtNumber, Loaded, On, Over}
+use Rattle.protocol.specs.Common.{EndsAt, IsLiveAt, IsLawful, IsLegal, IsLookup, State, opening, seen_at, search_at, begin_at, Outcome, step, state_after, guard, is_idle, is_inside}
+use Rattle.protocol.specs.Common.{may_enter, may_seek, may_peek, shared_word, after_seek, after_enter, after_seeing, after_change, with_some, link_at, link_loaded, load_link, load_searched, outcome_of, some_outcome}
 use Rattle.protocol.specs.Common.{Holds, PlaceHolds, after, after_event, IsAllowed, IsLoadOf, answer_of, loaded_at, row_of_place}
 use Rattle.protocol.specs.History.{change_at}
-use Rattle.protocol.specs.declared.event.RecordOf.TheVariants.{Search as OfSearch}
 use Rattle.registry_values.specs.Common.{key_of}
-use Rattle.protocol.specs.Common.{seek_for, IsNoSeek, SeeksNone, IsFreshAnswer, AnswersFreshly, SeesAll, FreshAnswers, WholePasses}
+use Rattle.protocol.specs.Common.{seek_for, IsNoSeek, SeeksNone, AnswersFreshly, SeesAll, FreshAnswers, WholePasses}
 use Rattle.protocol.proofs.history.History.{at_within, at_prefix, one_live, length-after_change}
 use Rattle.protocol.proofs.history.Growing.{place_old}
-use Rattle.protocol.proofs.slots.Occupied.{written_cases}
 use Rattle.protocol.proofs.keeps.Keeping.{step_keeps, after_keeps}
 use Rattle.protocol.proofs.keeps.SectionKeeps.{idle_parts, none_from, some_from}
 use Rattle.protocol.proofs.keeps.Searching.{Walks, Steps, IsStep, load_link_steps, load_searched_steps, weight, placed, within_some, seen_now, searching_within}
 use Rattle.protocol.proofs.runs.Answers.{history_grows}
-use Rattle.protocol.proofs.runs.Steps.{Sort, Refused, Left, Entered, Exited, Sought, Heard, Searched, Published, Unpublished, IsOn, step_sort, after_more}
+use Rattle.protocol.proofs.runs.Steps.{Sort, Refused, Left, Entered, Exited, Sought, Heard, Peeked, Searched, Published, Unpublished, IsOn, step_sort, after_more}
 use Rattle.protocol.proofs.runs.Reuse.{every_run_keeps}
 use Rattle.protocol.proofs.Either.{either}
 
@@ -156,6 +154,9 @@ goes_on s c from key _ _ on off_seek going (Sought j kind name may) made = eithe
 goes_on s c from key _ _ on off_seek going (Heard j may) made = either (cases_eq c j)
     (λ same. going_none _ c from key (ap (search_at s) same ∙ (idle_parts s j may).1))
     (λ off. going_same s _ c from key refl refl (get_or-set_other s.seen j c _ 0 off) refl going)
+goes_on s c from key _ _ on off_seek going (Peeked j v w may) made = either (cases_eq c j)
+    (λ same. going_none _ c from key (ap (search_at s) same ∙ none_from (search_at s j) (and_parts (nat_lt j s.seated) _ may).1))
+    (λ off. going_same s _ c from key refl refl (get_or-set_other s.seen j c _ 0 off) refl going)
 goes_on s c from key _ _ on off_seek going (Searched e j q o of under loads answers) made = either (cases_eq c j)
     (λ same.
     let is : search_at s c ≡ Some q = ap (search_at s) same ∙ under in
@@ -279,6 +280,12 @@ answers_freshly s on c key since event o answer allowed none of made reply =
       left = λ e p end found. left_as s.history o.state.history more (seen_at o.state c) key answer e p grown lawful lawful.answered end found;
     }
 
+-- a load of a lookup by loads
+peeked_state : (s n : State) (o : Option ℕ) (b : Bool) → IsSome (with_some o (λ v. guard b (some_outcome n (Word v)))) → (b ≡ true) × (state_after s (with_some o (λ v. guard b (some_outcome n (Word v)))) ≡ n)
+peeked_state s n None b is = absurd (let q : ◌≡◌ {A = Bool} false true = is in cc)
+peeked_state s n (Some v) true is = (refl, refl)
+peeked_state s n (Some v) false is = absurd (let q : ◌≡◌ {A = Bool} false true = is in cc)
+
 pub sees_all : (s : State) → Holds s → SeesAll s
 sees_all s on = record {
   entered = λ c allowed.
@@ -291,6 +298,10 @@ sees_all s on = record {
       let seated = (idle_parts s c may).0 in
       ap (λ (n : State). seen_at n c) (guarded s (after_seeing s c) (is_idle s c) Done may)
       ∙ get_or-set_same s.seen c (length s.history) 0 (omega (arith, seated, on.shape.seen, on.seats.within));
+  peeked = λ c w allowed.
+      let made = peeked_state s (after_seeing s c) (shared_word s w) (may_peek s c) allowed in
+      let seated : c < s.seated = ltb-true c s.seated (and_parts (nat_lt c s.seated) _ made.0).0 in
+      ap (λ (n : State). seen_at n c) made.1 ∙ get_or-set_same s.seen c (length s.history) 0 (omega (arith, seated, on.shape.seen, on.seats.within));
 }
 
 pub fresh_answers : FreshAnswers

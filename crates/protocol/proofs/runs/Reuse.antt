@@ -5,7 +5,7 @@ use Rattle.std.proofs.lemmas.Bool.{and_parts, cases_eq, eqb-true}
 use Rattle.std.proofs.lemmas.Option.{none-some, same_Some}
 use Rattle.protocol.specs.Types.{Entry, Slot, Vacant, Live, Retired}
 use Rattle.protocol.specs.Common.{Event, StoreSlot, StoreNext, Publish, Keep, KeptSub, Vacate, EndsAt, State, opening, row_at, kept_at, local_at, Outcome, guard, with_some, step, state_after}
-use Rattle.protocol.specs.Common.{may_write, may_publish, is_drained, may_vacate, entry_of, has_room, is_prepared, Holds, IsIn, IsUnheld, number_in, picture, empty_run, after, IsAllowed, occupant_of}
+use Rattle.protocol.specs.Common.{may_write, may_publish, is_drained, may_vacate, entry_of, has_room, is_prepared, Holds, IsIn, IsUnheld, number_in, picture, empty_run, IsAllowed, occupant_of}
 use Rattle.protocol.specs.Common.{destroyed_slot, given_slot, EveryRunKeeps}
 use Rattle.registry_values.specs.Common.{key_of, slot_at, slot_of, is_taken}
 use Rattle.protocol.specs.Events

@@ -3,11 +3,11 @@ use Rattle.std.proofs.Common.{◌≡◌, ℕ, zero, suc, ◌⊎◌, inl, inr, Li
 use Rattle.std.proofs.lemmas.Bool.{and_parts}
 use Rattle.protocol.specs.Types.{Kind, Entry, Detach, Name, Slot, Live, Retired}
 use Rattle.protocol.specs.Common.{Event, Seat, Enter, Exit, Seek, LoadLink, LoadRecord, StoreSlot, StoreNext, Publish, Unpublish, Tell, Hear, Snapshot, Look, PassiveAdd, PassiveSub, PassiveLook}
-use Rattle.protocol.specs.Common.{CountAdd, SplitRef, JoinRef, CountDown, SplitBack, Collect, TotalAdd, JoinKeeper, TotalSub, Keep, KeptSub, Vacate, RecordOf, Reply, Done, Hand, Taking, Giving, Back}
+use Rattle.protocol.specs.Common.{CountAdd, SplitRef, JoinRef, CountDown, SplitBack, Collect, TotalAdd, JoinKeeper, TotalSub, Keep, KeptSub, Vacate, Count, Peek, RecordOf, SharedWord, Reply, Done, Word, Hand, Taking, Giving, Back}
 use Rattle.protocol.specs.Common.{Due, Adding, Subtracting, Loaded, On, Over, SearchPlace, AtNumber, Search, after_change, State, search_at, found_at, hand_at, row_at, count_at, kept_at, local_at}
 use Rattle.protocol.specs.Common.{loaded_at, row_of_place, Outcome, guard, some_outcome, with_some, step, state_after, is_idle, may_enter, after_enter, may_exit, after_exit, may_seek, after_seek}
 use Rattle.protocol.specs.Common.{after_seeing, link_loaded, entry_of, may_publish, after_publish, with_link_past, with_retired, after_unpublish, may_keep, after_keep, is_drained, after_kept_sub}
-use Rattle.protocol.specs.Common.{may_vacate, after_vacate, Holds, Run, run_of_events, empty_run, run_with_event, after, after_event, answer_of, IsLoadOf}
+use Rattle.protocol.specs.Common.{may_peek, may_vacate, after_vacate, Holds, Run, run_of_events, empty_run, run_with_event, after, after_event, answer_of, IsLoadOf}
 use Rattle.protocol.specs.declared.event.RecordOf.TheVariants.{Search as OfSearch, Passive as OfPassive, Local as OfLocal, Compared as OfCompared}
 use Rattle.registry_values.specs.Common.{slot_at, slot_of, slot_before}
 use Rattle.protocol.specs.Events
@@ -56,6 +56,7 @@ pub data Sort (s : State) : Event → Option Outcome → Type 0 where
   Exited : (c : ℕ) → may_exit s c ≡ true → Sort s (Exit c) (some_outcome (after_exit s c) Done)
   Sought : (c : ℕ) (kind : Kind) (name : Name) → may_seek s c ≡ true → Sort s (Seek c kind name) (some_outcome (after_seek s c (record { kind = kind; name = name })) Done)
   Heard : (c : ℕ) → is_idle s c ≡ true → Sort s (Hear (Some c)) (some_outcome (after_seeing s c) Done)
+  Peeked : (c v : ℕ) (w : SharedWord) → may_peek s c ≡ true → Sort s (Peek c w) (some_outcome (after_seeing s c) (Word v))
   Searched : (e : Event) (c : ℕ) (q : Search) (o : Outcome) → IsLoadOf c e → search_at s c ≡ Some q → Loads s c q o.state → AnswersLookup c q (Some o) → Sort s e (Some o)
   Published : (t : ℕ) (e : Entry) → entry_of t (row_at s.rows t) ≡ Some e → may_publish s t e ≡ true → Sort s (Publish t) (some_outcome (after_publish s t e) Done)
   Unpublished : (t : ℕ) (e : Entry) (n : State) → slot_at s.slots t ≡ Live e → Retires s t e n → Sort s (Unpublish t) (some_outcome n Done)
@@ -233,6 +234,9 @@ step_sort s (Keep t id) on =
 step_sort s (KeptSub t) on = sort_some s (KeptSub t) (kept_at s.keeps t) _
     (λ d is. sort_some s (KeptSub t) (slot_of s.slots d) _ (λ u of. sort_guard s (KeptSub t) _ _ (λ may. Gave_up t d u is of (and_parts _ (is_drained s t) may).1)))
 step_sort s (Vacate t) on = sort_guard s (Vacate t) _ _ (λ may. Vacated t may)
+step_sort s Count on =
+    sort_guard s Count _ _ (λ may. left s _ Count Done (record { history = refl; slots = refl; keeps = refl; section = refl; begins = refl; seen = refl; searches = refl; reply = refl }))
+step_sort s (Peek c w) on = sort_some s (Peek c w) (Events.shared_word s w) _ (λ v is. sort_guard s (Peek c w) _ _ (λ may. Peeked c v w may))
 
 -- Runs
 

@@ -13,7 +13,8 @@ use Rattle.c_calls.proofs.audit.balance.Goals as goal
 pub less_bias-total-requires : goal.less_bias-total-requires
 less_bias-total-requires c =
     let had = has _ _ _ _ _ _ _ c.rows.ensures.agree (keeper_is c.rows.ensures.are) c.requires.entry in
-    omega (arith, had.total, had.high)
+    let total = c.total_or_bias.ensures ∙ had.total in
+    omega (arith, total, had.high)
 
 pub locals-locals-requires-clause-entry : goal.locals-locals-requires-clause-entry
 locals-locals-requires-clause-entry c =
@@ -23,14 +24,16 @@ locals-locals-requires-clause-entry c =
 pub overflow_add-held : goal.overflow_add-held
 overflow_add-held c =
     let had = has _ _ _ _ _ _ _ c.rows.ensures.agree (keeper_is c.rows.ensures.are) c.requires.entry in
-    omega (arith, ints, had.total, had.low, had.high, c.less_bias-total.ensures, c.sum.ensures.least, c.sum.ensures.most)
+    let read = c.total_or_bias.ensures ∙ had.total in
+    omega (arith, ints, read, had.low, had.high, c.less_bias-total.ensures, c.sum.ensures.least, c.sum.ensures.most)
 
 pub returns-clause-tally : goal.returns-clause-tally
 returns-clause-tally c =
     let had = has _ _ _ _ _ _ _ c.rows.ensures.agree (keeper_is c.rows.ensures.are) c.requires.entry in
-    let total = c.less_bias-total.ensures ∙ ap less_bias had.total in
+    let read = c.total_or_bias.ensures ∙ had.total in
+    let total = c.less_bias-total.ensures ∙ ap less_bias read in
     let its = ap (λ (z : Settings). sum_of (take z.cpus c.locals-locals.result)) c.settings.ensures.value in
     let sum = c.sum.ensures.value ∙ its in
     tally_told c.args.keeper.now.keeper (cpus_in (bodies_of c.args.cpus.now)) c.args.keeper.now.words.settings.cpus c.args.number c.args.t c.from.result _ _ _ c.from.ensures
     c.locals-locals.ensures.value
-    (omega (arith, ints, total, c.less_bias-total.type_inv)) (omega (arith, ints, sum, had.total, had.low, had.high, c.less_bias-total.ensures, c.sum.ensures.least, c.sum.ensures.most))
+    (omega (arith, ints, total, c.less_bias-total.type_inv)) (omega (arith, ints, sum, read, had.low, had.high, c.less_bias-total.ensures, c.sum.ensures.least, c.sum.ensures.most))

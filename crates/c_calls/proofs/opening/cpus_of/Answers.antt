@@ -34,13 +34,14 @@ of_seat-cpu-requires-clause-new c =
     let id = sym (c.len-id.ensures ∙ c.pop.new.self.ok.0) in
     ap (λ (s : Seated CpuView). s.view) taken.last ∙ (λ i. new_cpu (its i) (id i))
 
-pub share-requires : goal.share-requires
-share-requires c =
+pub of-body-requires : goal.of-body-requires
+of-body-requires c =
     let taken = take_last _ _ _ _ _ c.in-Some.ensures.items c.loop-seat.invariant.0 in
     let table = ap (λ (s : Seated CpuView). s.table) taken.last in
     let settings = ap (λ (s : Seated CpuView). s.view.settings) taken.last in
     let its = c.of_seat-cpu.ensures.words in
-    record { words = (sym table ∙ sym (ap (λ (n : Named). n.table) its), sym settings ∙ sym (ap (λ (n : Named). n.settings) its)) }
+    let shared = c.in_ok-share.ensures in
+    record { words = (ap (λ (n : Named). n.table) shared ∙ sym table ∙ sym (ap (λ (n : Named). n.table) its), ap (λ (n : Named). n.settings) shared ∙ sym settings ∙ sym (ap (λ (n : Named). n.settings) its)) }
 
 pub loop-seat-preserved : goal.loop-seat-preserved
 loop-seat-preserved c =
@@ -63,7 +64,7 @@ loop-seat-preserved c =
       log = ap (λ (s : Seated CpuView). s.log) taken.last i;
     }) in
     let pushed = ap boxed c.in_ok-push.ensures.items ∙ boxed_last c.loop-seat.cpus.items _ in
-    (taken.left, pushed ∙ down_more w n left (boxed c.loop-seat.cpus.items) _ taken.few so_far (c.in_ok-new.ensures.ok ∙ (c.in_ok-body.ensures ∙ (λ i. record { words = named i; cpu = fresh i }))))
+    (taken.left, pushed ∙ down_more w n left (boxed c.loop-seat.cpus.items) _ taken.few so_far (c.in_ok-new.ensures.ok ∙ (c.of-body.ensures ∙ (λ i. record { words = named i; cpu = fresh i }))))
 
 pub returns : goal.returns
 returns c =

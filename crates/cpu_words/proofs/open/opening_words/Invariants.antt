@@ -5,4 +5,4 @@ use Rattle.cpu_words.proofs.open.opening_words.Given as goal
 
 -- all words are 0 but the totals so far
 abbrev pub invariant-loop-t : goal.invariant-loop-t
-invariant-loop-t l = (length l.words ≡ WORDS) × ((i : ℕ) → i < TOTALS → get_or l.words i 0 ≡ 0) × ((t : ℕ) → t < l.t → get_or l.words (index (total_of t)) 0 ≡ bias)
+invariant-loop-t l = (length l.words.items ≡ WORDS) × ((i : ℕ) → i < TOTALS → get_or l.words.items i 0 ≡ 0) × ((t : ℕ) → t < l.t → get_or l.words.items (index (total_of t)) 0 ≡ bias)

@@ -3,26 +3,26 @@ use Rattle.passive_list.proofs.Rows.{keeper_is}
 use Rattle.passive_list.proofs.Collections.{collection_tells, collected_keeper, collected_into}
 use Rattle.passive_list.proofs.collecting.collect.Goals as goal
 
-pub overflow_add-row : goal.overflow_add-row
-overflow_add-row c = let tells = collection_tells _ _ _ _ _ _ _ _ _ _ c.keeper.invariant
-    (keeper_is c.keeper.view_is) c.requires.retired.1 c.collect-word.ensures.change c.collect-word.ensures.step.event in omega (arith, tells.fits)
+pub overflow_add-total : goal.overflow_add-total
+overflow_add-total c = let tells = collection_tells _ _ _ _ _ _ _ _ _ _ _ c.keeper.invariant
+    (keeper_is c.keeper.view_is) c.total_or_bias.ensures c.requires.retired.1 c.collect-word.ensures.change c.collect-word.ensures.step.event in omega (arith, tells.fits)
 
-pub overflow_sub-row : goal.overflow_sub-row
-overflow_sub-row c = (collection_tells _ _ _ _ _ _ _ _ _ _ c.keeper.invariant (keeper_is c.keeper.view_is) c.requires.retired.1 c.collect-word.ensures.change c.collect-word.ensures.step.event).floor
+pub overflow_sub-total : goal.overflow_sub-total
+overflow_sub-total c = (collection_tells _ _ _ _ _ _ _ _ _ _ _ c.keeper.invariant (keeper_is c.keeper.view_is) c.total_or_bias.ensures c.requires.retired.1 c.collect-word.ensures.change c.collect-word.ensures.step.event).floor
 
 pub total_add-requires-clause-may : goal.total_add-requires-clause-may
 total_add-requires-clause-may c =
-    (collection_tells _ _ _ _ _ _ _ _ _ _ c.keeper.invariant (keeper_is c.keeper.view_is) c.requires.retired.1 c.collect-word.ensures.change c.collect-word.ensures.step.event).may
+    (collection_tells _ _ _ _ _ _ _ _ _ _ _ c.keeper.invariant (keeper_is c.keeper.view_is) c.total_or_bias.ensures c.requires.retired.1 c.collect-word.ensures.change c.collect-word.ensures.step.event).may
 
 pub bounds-keeper-inside-slot-2 : goal.bounds-keeper-inside-slot-2
 bounds-keeper-inside-slot-2 c =
-    (collection_tells _ _ _ _ _ _ _ _ _ _ c.keeper.invariant (keeper_is c.keeper.view_is) c.requires.retired.1 c.collect-word.ensures.change c.collect-word.ensures.step.event).place
+    (collection_tells _ _ _ _ _ _ _ _ _ _ _ c.keeper.invariant (keeper_is c.keeper.view_is) c.total_or_bias.ensures c.requires.retired.1 c.collect-word.ensures.change c.collect-word.ensures.step.event).place
 
 pub invariant_of-keeper : goal.invariant_of-keeper
-invariant_of-keeper c = collected_keeper _ _ _ _ _ _ _ _ _ _ _ _ c.keeper.invariant
+invariant_of-keeper c = collected_keeper _ _ _ _ _ _ _ _ _ _ _ _ _ c.keeper.invariant
     (keeper_is c.keeper.view_is) c.requires.retired.1 c.collect-word.ensures.change c.collected.ensures c.total_add.ensures.change c.total_add.ensures.step.event
 
 pub returns-clause-change : goal.returns-clause-change
-returns-clause-change c = collected_into _ _ _ _ _ _ _ _ _ _ _ _ c.keeper.invariant
-    (keeper_is c.keeper.view_is) c.requires.retired.1 c.collect-word.ensures.change c.collect-word.ensures.step.event c.total_add.ensures.change c.total_add.ensures.step.event refl
+returns-clause-change c = collected_into _ _ _ _ _ _ _ _ _ _ _ _ _ c.keeper.invariant
+    (keeper_is c.keeper.view_is) c.total_or_bias.ensures c.requires.retired.1 c.collect-word.ensures.change c.collect-word.ensures.step.event c.total_add.ensures.change c.total_add.ensures.step.event refl
     c.collect-word.ensures.step.log c.total_add.ensures.step.log

@@ -1,4 +1,4 @@
-use Rattle.std.proofs.Common.{sym, ◌∙◌}
+use Rattle.std.proofs.Common.{sym, ◌∙◌, arith}
 use Rattle.cpu_words.proofs.shown.KeepersShown.{step_is_shown}
 use Rattle.passive_list.specs.Common.{row_at}
 use Rattle.passive_list.proofs.Rows.{keeper_is}
@@ -21,14 +21,15 @@ kept_sub-requires-clause-may c =
     (sym c.kept_slot.ensures ∙ c.in-Some.is) in
     may_free inside.settings k inside.rows inside.changes c.args.slot u c.args.keeper.now.keeper c.keeper.invariant (keeper_is c.keeper.view_is) c.requires.iface c.requires.drained keeps
 
-pub overflow_sub-keeper : goal.overflow_sub-keeper
-overflow_sub-keeper c =
+pub overflow_sub-total : goal.overflow_sub-total
+overflow_sub-total c =
     let inside = c.keeper.inside in
     let k = inside.seat.view in
     let u = c.in-Some.driver_slot in
     let keeps = keeps_at inside.settings k inside.rows inside.changes c.args.slot u c.args.keeper.now.keeper c.keeper.invariant (keeper_is c.keeper.view_is) c.requires.iface
     (sym c.kept_slot.ensures ∙ c.in-Some.is) in
-    (held_row inside.settings k inside.rows u c.keeper.invariant.view c.keeper.invariant.rows keeps.held).positive
+    let some = (held_row inside.settings k inside.rows u c.keeper.invariant.view c.keeper.invariant.rows keeps.held).positive in
+    omega (arith, some, c.total_or_bias-total.ensures)
 
 pub invariant_of-keeper : goal.invariant_of-keeper
 invariant_of-keeper c =
@@ -39,11 +40,11 @@ invariant_of-keeper c =
     let u = c.in-Some.driver_slot in
     let keeps = keeps_at inside.settings k inside.rows inside.changes t u c.args.keeper.now.keeper c.keeper.invariant (keeper_is c.keeper.view_is) c.requires.iface
     (sym c.kept_slot.ensures ∙ c.in-Some.is) in
-    freed_keeper inside.settings k l inside.rows inside.changes t u c.args.keeper.now.keeper c.keeper.invariant (keeper_is c.keeper.view_is) c.requires.drained keeps
-    c.kept_sub.ensures.change (step_is_shown c.kept_sub.ensures.step.event)
+    freed_keeper inside.settings k l inside.rows inside.changes t u c.total_or_bias-total.result c.args.keeper.now.keeper c.keeper.invariant (keeper_is c.keeper.view_is) c.requires.drained keeps
+    c.kept_sub.ensures.change (step_is_shown c.kept_sub.ensures.step.event) c.total_or_bias-total.ensures
 
 pub returns-clause-change : goal.returns-clause-change
 returns-clause-change c =
     let inside = c.keeper.inside in
-    has_freed inside.settings inside.seat.view c.kept_sub.new.keeper.view inside.rows c.args.slot c.in-Some.driver_slot (row_at inside.rows c.args.slot) c.args.keeper.now.keeper
+    has_freed inside.settings inside.seat.view c.kept_sub.new.keeper.view inside.rows c.args.slot c.in-Some.driver_slot c.total_or_bias-total.result (row_at inside.rows c.args.slot) c.args.keeper.now.keeper
     (keeper_is c.keeper.view_is) c.keeper.invariant.rows c.kept_sub.ensures.step.event c.kept_sub.ensures.change c.kept_sub.ensures.step.log c.kept_sub.ensures.freed

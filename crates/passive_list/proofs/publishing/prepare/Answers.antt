@@ -1,5 +1,5 @@
 use Rattle.std.proofs.Common.{◌∙◌, ◌≤◌, sym, ap, subst}
-use Rattle.passive_list.specs.Types.{Settings, MOST_SLOTS}
+use Rattle.passive_list.specs.Types.{Settings, KeeperView, MOST_SLOTS}
 use Rattle.protocol.specs.Common.{words_of}
 use Rattle.passive_list.proofs.Preparing.{row_may, row_settings, sized_after, counts_may, prepared_from}
 use Rattle.passive_list.proofs.publishing.prepare.Goals as goal
@@ -22,6 +22,14 @@ store_next-requires-clause-may c =
     let t = c.args.entry.now.slot in
     let w = words_of c.args.entry.now in
     counts_may l c.store_counts.new.seat.view t c.args.cpus (row_may k l t w c.requires.may c.store_row.ensures.row) c.store_counts.ensures.counts
+
+pub store_next-requires-clause-link : goal.store_next-requires-clause-link
+store_next-requires-clause-link c =
+    let k = c.args.seat.now.view in
+    let l = c.store_row.new.seat.view in
+    let row = row_settings k l c.args.entry.now.slot (words_of c.args.entry.now) c.store_row.ensures.row in
+    let counts = ap (λ (x : KeeperView). x.settings) c.store_counts.ensures.counts in
+    subst (λ (z : Settings). c.args.link ≤ z.slots) (sym (counts ∙ row)) c.requires.link
 
 pub returns-clause-prepared : goal.returns-clause-prepared
 returns-clause-prepared c = prepared_from c.args.seat.now.view c.store_row.new.seat.view c.store_counts.new.seat.view c.store_next.new.keeper.view c.args.entry.now c.args.cpus c.args.link

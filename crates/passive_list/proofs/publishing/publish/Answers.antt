@@ -22,7 +22,7 @@ invariant_of-keeper c =
     let asked = ask _ _ _ _ c.args.slot c.args.rec _ c.keeper.invariant c.keeper.view_is c.requires.vacant c.requires.keeps c.requires.name c.requires.free c.requires.room in
     let has = c.publish_entry.ensures.change in
     published_keeper inside.settings k c.publish_entry.new.seat.view inside.rows inside.changes e has.link
-    c.keeper.invariant.changes asked has.view (step_is_shown has.made)
+    c.keeper.invariant.changes asked has.view (step_is_shown has.counted)
 
 pub returns-clause-change : goal.returns-clause-change
 returns-clause-change c =
