@@ -10,7 +10,7 @@
 
 enum { THREADS = BENCH_THREADS, POINTS = BENCH_POINTS, ACCESSES = 12, ANY = 0xffff, NOBODY = 0xff };
 
-/* A routine's stack. Where a registry is opened, the keeper's rows of all CPUs and slots lie there: with other limits they may be large. */
+/* A routine's stack. With more CPUs and slots some calls need more of it. */
 enum { CELLS = REGISTRY_MOST_CPUS * REGISTRY_MOST_SLOTS, STACK = (64 + (CELLS > 256 ? CELLS / 32 : 0)) * 4096 };
 enum { TARGETS = REGISTRY_MOST_SLOTS, LOCKS = 64 };
 
