@@ -140,6 +140,9 @@
 //! | [`Freed`]`<X>`, [`Refused`]`<X>` | if `X` is `Send` | if `X` is `Sync` |
 //! | all others | yes | yes |
 //!
+//! `Sync`, since all CPUs share a `&T`. `Send`, since another thread than the one that attached the `T` may get or drop it. If all handles stay on one
+//! thread, `T` needs neither.
+//!
 //! # More than the limits
 //!
 //! No call moves an entry or a reference from one registry to another. Before a call returns [`Refusal::HistoryFull`] or [`Refusal::SectionsSpent`],
