@@ -1,6 +1,7 @@
 #!/usr/bin/env python3
 """The manual pages kupaldiz_NAME(3), made from the headers in kupaldiz/ beside this file: `pages.py write` writes them to ../man, `pages.py check` compares
-them with what stands there, and looks for the entry of each call and of each macro with parameters."""
+them with what is there, and looks for the entry of each call and of each macro with parameters. Both do the same with the program that kupaldiz_netbsd(7)
+shows: after a line that names its file, without its first comment."""
 import re
 import sys
 import textwrap
@@ -23,6 +24,9 @@ HEADERS = {
 }
 # Headers without a page: what each of the others includes.
 UNPAGED = {"names", "registry_limits", "sys_types"}
+# The page that isn't made from a header, and where it shows a program.
+OVERVIEW = PAGES / "kupaldiz_netbsd.7"
+SHOWN = re.compile(r'(?<=^\.\\" clients/netbsd/)(\S+)(\n\.Bd -literal\n).*?(?=^\.Ed$)', re.M | re.S)
 COMMENT = re.compile(r"/\*(.*?)\*/", re.S)
 PROTOTYPE = re.compile(r"^(?:static inline )?((?:[a-z_0-9]+ )+\**)([a-z_0-9]+)\((.*?)\)(?: __attribute__.*)?;?$")
 MACRO = re.compile(r"^#define ([A-Za-z_0-9]+)(?:\((.*?)\))?")
@@ -158,8 +162,20 @@ def page_of(name):
     return "\n".join(lines)
 
 
+def with_program(text):
+    """The overview with its program as it is in the program's file, and how many programs it shows."""
+    def lines_of(found):
+        program = COMMENT.sub("", (HERE / found[1]).read_text(), count=1).strip("\n")
+        return found[1] + found[2] + "".join(f"{escaped(line)}\n" for line in program.split("\n"))
+    return SHOWN.subn(lines_of, text)
+
+
 def check():
     wrong = 0
+    text = OVERVIEW.read_text()
+    if with_program(text) != (text, 1):
+        print(f"{OVERVIEW.name}: doesn't show one program as it is in its file; run clients/netbsd/pages.py write")
+        wrong += 1
     for name in HEADERS:
         page = PAGES / f"kupaldiz_{name}.3"
         if not page.exists() or page.read_text() != page_of(name):
@@ -180,6 +196,7 @@ def main():
     if sys.argv[1:] == ["write"]:
         for name in HEADERS:
             (PAGES / f"kupaldiz_{name}.3").write_text(page_of(name))
+        OVERVIEW.write_text(with_program(OVERVIEW.read_text())[0])
     elif sys.argv[1:] == ["check"]:
         sys.exit(check() != 0)
     else:

@@ -64,11 +64,14 @@ def symbols():
 PAGED = "clients/netbsd/kupaldiz/psref.h"
 PAGE = "clients/man/kupaldiz_psref.3"
 PAGER = "clients/netbsd/pages.py"
+OVERVIEW = "clients/man/kupaldiz_netbsd.7"
+SMALLEST = "clients/netbsd/tests/smallest.c"
 
 
 def pages():
     told = "kupaldiz_psref.3: not what psref.h says"
-    tree = real(PAGER, "clients/netbsd/kupaldiz/*.h", "clients/man/kupaldiz_*.3")
+    shows = "kupaldiz_netbsd.7: doesn't show one program as it is"
+    tree = real(PAGER, "clients/netbsd/kupaldiz/*.h", "clients/man/kupaldiz_*.3", OVERVIEW, SMALLEST)
     faults = (
         Fault("another word in a page", told, ((PAGE, ".Nd psref(9)", ".Nd psref(8)"),)),
         Fault("a line less in a page", told, ((PAGE, ".Sh LIBRARY\n", ""),)),
@@ -86,6 +89,9 @@ def pages():
         Fault("a header without a page", "lists.h: no page is made of it", (("clients/netbsd/kupaldiz/lists.h", None, "void lists_more(void);\n"),)),
         Fault("a call more in a header", told, ((PAGED, "void psref_release(", "void psref_more(void);\nvoid psref_release("),)),
         Fault("a header that is gone", "No such file", ((PAGED, "psref", None),)),
+        Fault("another call in the program that is shown", shows, ((OVERVIEW, "\tpserialize_perform(psz);\n", ""),)),
+        Fault("another call in the program's file", shows, ((SMALLEST, "\tpserialize_perform(psz);\n", ""),)),
+        Fault("a page that names no program", shows, ((OVERVIEW, f'.\\" {SMALLEST}\n', ""),)),
         Fault("no words", "usage: pages.py", command=[PAGER]),
     )
     return Case("pages", [], tree, [PAGER, "check"], faults, counts=False)

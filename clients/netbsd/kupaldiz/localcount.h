@@ -51,7 +51,8 @@ void localcount_drain(struct localcount *lc, kcondvar_t *cv, kmutex_t *interlock
 /*
  * localcount_acquire - acquire a reference
  *
- * The caller is inside a read section in which it found the object, or keeps it by a lock or a reference.
+ * The caller is inside a read section in which it found the object, or keeps it by a lock or a reference. It never sleeps, and may be called in a soft
+ * interrupt, with a spin lock, at a raised level and with preemption disabled.
  * Stops where the count isn't live or is being drained, and where memory runs out.
  */
 void localcount_acquire(struct localcount *lc);
@@ -59,8 +60,12 @@ void localcount_acquire(struct localcount *lc);
 /*
  * localcount_release - release a reference, on any CPU
  *
- * It takes the interlock where a drain waits for this reference, and wakes the drain by `cv`.
- * Stops where the caller has the interlock; where the count isn't live; where no reference to it is held; and where `cv` or `interlock` are
+ * It sleeps only if a drain waits for this reference: it then takes the interlock as mutex_enter does, and wakes the drain by `cv`. So it may be called:
+ * - in a thread, and at a raised level;
+ * - in a soft interrupt, if the interlock was made with a level above IPL_NONE. With IPL_NONE it stops if a drain waits;
+ * - inside a read section, with a spin lock and with preemption disabled only if no drain can wait. It stops if one waits.
+ *
+ * Stops also where the caller has the interlock; where the count isn't live; where no reference to it is held; and where `cv` or `interlock` are
  * others than those of a release or a drain before.
  */
 void localcount_release(struct localcount *lc, kcondvar_t *cv, kmutex_t *interlock);

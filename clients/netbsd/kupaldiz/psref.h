@@ -76,18 +76,24 @@ void psref_acquire(struct psref *psref, const struct psref_target *target, struc
  * psref_release - release a passive reference
  *
  * Stops where the reference isn't held, is to another target, was moved by its bytes, or was acquired by another thread; and where the target
- * is of another class.
+ * is of another class. What is printed if it is never released: kupaldiz_netbsd(7), "A passive reference that is not released".
  */
 void psref_release(struct psref *psref, const struct psref_target *target, struct psref_class *psref_class);
 
 /*
  * psref_copy - acquire one more reference to what `from` is to; each of the two is released by itself
  *
- * It needs no read section, and the target may be being destroyed. Stops as psref_release does of `from`, and where `to` is held.
+ * It needs no read section, and the target may be being destroyed.
+ * Stops where `from` isn't held, was moved by its bytes, or was acquired by another thread; where the target is of another class; and where `to` is held.
  */
 void psref_copy(struct psref *to, const struct psref *from, struct psref_class *psref_class);
 
-/* psref_held - whether this CPU has a reference to the target, for assertions. Stops where psref_acquire does for its thread. */
+/*
+ * psref_held - whether a reference to the target is held that any thread acquired on this thread's CPU, for assertions
+ *
+ * The target may be being destroyed. Stops where this thread is neither bound nor a soft interrupt and has preemption enabled; and where the target
+ * isn't live or is of another class.
+ */
 bool psref_held(const struct psref_target *target, struct psref_class *psref_class);
 
 #ifndef KUPALDIZ_WITHOUT_PLACES

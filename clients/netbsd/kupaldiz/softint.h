@@ -2,7 +2,7 @@
  * softint.h - softint(9), spl(9), xcall(9) and callout(9), for threads of user space
  *
  * Each CPU has a thread for its soft interrupts. It runs a handler on the CPU where the handler was scheduled:
- * - At once, where no thread has that CPU.
+ * - At once, where no thread of that CPU is in a read section, has a spin lock, is at a raised level or has preemption disabled.
  * - Else as the thread that has the CPU ends one of these calls, inside its section too: pserialize_read_enter, pserialize_read_exit, psref_acquire,
  *   psref_copy, psref_held, psref_release, localcount_acquire, localcount_release, mutex_exit, mutex_spin_exit, cv_signal, cv_broadcast, splx,
  *   kpreempt_enable, percpu_putref, softint_schedule. The call returns when the handlers have ended, or when one of them waits for a lock.
