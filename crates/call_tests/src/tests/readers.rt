@@ -8,7 +8,7 @@ use cpu_words::{Domain, Words};
 use local_count::{LocalRef, acquire_local};
 use passive_list::{Cpu, enter, exit, find, find_by_loads, walk};
 use passive_ref::{Psref, acquire, copy, held, read, release};
-use registry_values::{Entry, Record, Refusal};
+use registry_values::{Entry, MOST_SLOTS, Record, Refusal};
 use std::process::Abort;
 
 /// A call on the words by a CPU.
@@ -176,6 +176,7 @@ pub(crate) fn found_by_loads<D: Domain, R: Abort>(
     match find_by_loads(words, &mut cpu.plain, rec.kind, rec.name) {
         Some(Some(seen)) => {
             assert_eq!(rt; seen.value, rec.value);
+            assert!(rt; seen.slot < MOST_SLOTS as u64);
             Answer::At(seen.number, seen.slot as u8)
         }
         Some(None) => Answer::Nothing,
