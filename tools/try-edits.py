@@ -43,14 +43,14 @@ LINE = re.compile(r"([0-9a-f]{16}) (\S+\.edit): (.+)")
 IN_ONE_CALL = 12
 
 # What an edit came to, by the words that say it; the first that fits. Only the first kind says that a contract or a test has refused it.
-REFUSED = "refused"
+REFUSED, NOT_TRIED = "refused", "not tried"
 KINDS = {
     "refused, but a proof file names what the edit took away": "only because a proof",
     "refused, but by a limit of the prover": "only by a limit of the prover",
     "refused, only because no proof was found": "no proof",
     REFUSED: "refused",
     "NOT REFUSED": "NOT REFUSED",
-    "not tried": "",
+    NOT_TRIED: "",
 }
 
 
@@ -152,7 +152,8 @@ class Night:
         self.lock = threading.Lock()
         self.edits = {it: self.sum_of(it) for crate in listed() for folder in (*OF_PROVER, FOLDERS["tests"]) for it in edits_of(crate, folder)}
         self.crates = crates
-        self.known = {found[1]: found[3] for found in map(LINE.fullmatch, REPORT.read_text().splitlines()) if found} if REPORT.exists() else {}
+        found = map(LINE.fullmatch, REPORT.read_text().splitlines() if REPORT.exists() else [])
+        self.known = {it[1]: it[3] for it in found if it and kind_of(it[3]) != NOT_TRIED}
 
     def sum_of(self, edit):
         """The sum of all that the edit is tried on."""
@@ -166,7 +167,7 @@ class Night:
         """Notes what an edit came to: what wasn't tried is left for the next run."""
         with self.lock:
             print(f"{crate_of(edit)}/{edit.stem}: {said}", flush=True)
-            if kind_of(said) != "not tried":
+            if kind_of(said) != NOT_TRIED:
                 self.known[self.edits[edit]] = said.splitlines()[0]
                 self.write()
 
@@ -192,7 +193,7 @@ class Night:
                     self.note(edit, said)
 
     def said(self):
-        return {edit: self.known.get(name, "not tried") for edit, name in self.edits.items()}
+        return {edit: self.known.get(name, NOT_TRIED) for edit, name in self.edits.items()}
 
     def write(self):
         """Writes docs/edits-tried.txt."""

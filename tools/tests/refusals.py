@@ -73,9 +73,12 @@ def after_a_run(name, said, *lines):
 
 def night_faults():
     again = ["sh", "-c", "./night >/dev/null 2>&1; exec ./night"]
+    not_tried = f"sed -i 's/nothing.edit: .*/nothing.edit: not tried/' docs/edits-tried.txt; echo strong >{LOW}"
+    later = ["sh", "-c", f"./night >/dev/null 2>&1; {not_tried}; exec ./night"]
     return (
         Fault("a wrong body by hand that is proved", "    1 NOT REFUSED", ((HAND, "new:     0", "new:     x + 1 - 0"),)),
         Fault("a wrong body by hand that is proved, again", "    1 NOT REFUSED", ((HAND, "new:     0", "new:     x + 1 - 0"),), command=again),
+        Fault("a wrong body by hand that the last run didn't try", "    1 NOT REFUSED", command=later),
         Fault("a wrong body that no test refuses", "NOT REFUSED: all tests pass", ((TESTED, "new:     x + x", "new:     x + 1 + 0"),)),
         Fault("a library that isn't built", "isn't built: run rt ci first", ((LOW, "low", None),)),
     )
