@@ -78,7 +78,7 @@ registry_answer registry_perform_wait(const struct registry_lock *lock, struct r
  * works on its entries: nothing else advances or destroys one. It has room for all entries that a registry can have, and allocates no memory.
  */
 struct registry_deferred {
-	/* Called under the interlock for each entry once it is gone permanently. It makes no call with the keeper, and throws no exception. May be NULL. */
+	/* Called under the interlock for each entry once it is gone permanently. It makes no call with the keeper and throws no exception. May be NULL. */
 	void (*freed)(void *of, const struct registry_entry *gone);
 	void *of;
 	size_t count;
