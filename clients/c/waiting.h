@@ -16,8 +16,8 @@ extern "C" {
 #endif
 
 /*
- * The interlock: `take` acquires it and `give` releases it. Each is called with `of`. If threads share the waiting CPU by a mutex, `take` locks that mutex
- * and then the interlock, and `give` unlocks both.
+ * The interlock: `take` acquires it and `give` releases it. Each is called with `of`, and throws no C++ exception. If threads share the waiting CPU
+ * by a mutex, `take` locks that mutex and then the interlock, and `give` unlocks both.
  */
 struct registry_lock {
 	void (*take)(void *of);
@@ -78,7 +78,7 @@ registry_answer registry_perform_wait(const struct registry_lock *lock, struct r
  * works on its entries: nothing else advances or destroys one. It has room for all entries that a registry can have, and allocates no memory.
  */
 struct registry_deferred {
-	/* Called under the interlock for each entry once it is gone permanently. It makes no call with the keeper. May be NULL. */
+	/* Called under the interlock for each entry once it is gone permanently. It makes no call with the keeper and throws no exception. May be NULL. */
 	void (*freed)(void *of, const struct registry_entry *gone);
 	void *of;
 	size_t count;

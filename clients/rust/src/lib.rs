@@ -85,9 +85,10 @@
 //!
 //! # What is dropped
 //!
-//! Dropping a section exits it, dropping a reference releases it, and dropping a CPU returns it to its registry. `T` is any sized type, and may borrow
-//! what outlives the registry. A `T` is dropped or returned once, on the thread that makes the call of this table. Dropping a section, a guard or a
-//! reference drops no `T`, unless it drops the registry's last handle: a [`Registry`], a [`Cpu`], a [`LocalRef`] or a [`Retired`].
+//! Dropping a section exits it, dropping a CPU returns it to its registry, and dropping a reference releases it: a [`LocalRef`] [by a later
+//! call](LocalRef#dropped-without-a-cpu). `T` is any sized type, and may borrow what outlives the registry. A `T` is dropped or returned once, on the
+//! thread that makes the call of this table. Dropping a section, a guard or a reference drops no `T`, unless it drops the registry's last handle: a
+//! [`Registry`], a [`Cpu`], a [`LocalRef`] or a [`Retired`].
 //!
 //! | You call | Who gets or drops the `T` |
 //! |---|---|
@@ -99,8 +100,8 @@
 //! In the third row, if no later change or collect is made, the `T` stays until the registry closes. The same is true after a destroy that gave up, if `?`
 //! turns its error into a [`Refusal`]: that drops the [`Retired`].
 //!
-//! A [`LocalRef`] may be dropped on any thread. The drop takes a short lock, and the entry stays held until a later call releases the reference. If
-//! memory runs out in that drop, the entry is never freed: [the rules](LocalRef#dropped-without-a-cpu).
+//! A [`LocalRef`] may be dropped on any thread. The drop takes a short lock, and the entry stays held until a later call releases the reference, such
+//! as a destroy of the entry. If memory runs out in that drop, the entry is never freed.
 //!
 //! No lock of the registry is held while a `T` is dropped, so its drop may call the registry.
 //!

@@ -87,8 +87,8 @@
  * the entry. A CPU's last use, before the exit that ends its section or before its release, comes before registry_advance writes REGISTRY_FREED, and
  * before registry_destroy returns REGISTRY_DONE. The memory may be freed after either.
  *
- * Memory that is in no entry may be freed likewise. The caller unlinks it, begins a perform after that, and frees it once that perform is done. The
- * unlinking store, and the loads that lead sections to the memory, must be sequentially consistent atomics of the caller's.
+ * Memory that is in no entry may be freed likewise. The caller unlinks it, then makes a registry_perform_begin, and frees it once registry_perform_turn
+ * returns REGISTRY_DONE. The unlinking store, and the loads that lead sections to the memory, must be sequentially consistent atomics of the caller's.
  *
  * The reason: all steps on the registry's shared words are sequentially consistent atomics.
  *
@@ -106,6 +106,9 @@
  * the missing symbol, such as registry_for_8_cpus_32_slots. If only other limits differ, registry_open returns REGISTRY_OTHER_LIMITS.
  *
  * THE PLATFORM
+ *
+ * This header is for C from C99 on and for C++ from C++11 on. No call throws an exception or calls back into the program. A function
+ * that registry_waiting(3) calls back may throw none, either.
  *
  * The library is built for Linux with glibc, on x86-64 (level x86-64-v2) and aarch64 (ARMv8.0). For aarch64 it is proved as well, and tested under
  * qemu on x86-64, which shows no memory order weaker than that processor's. Each access of those tests to the shared words is one of aarch64's
@@ -357,6 +360,8 @@ registry_answer REGISTRY_BUILT_FOR(const struct registry_limits *limits) REGISTR
  * registry_open - make a registry: its keeper, and its CPUs in order
  *
  * `count` is settings->cpus. All handles are empty before the call. Afterwards no entry is attached yet, and all CPUs are outside any section.
+ * All memory of the registry is allocated here, except the blocks of local references. How much depends on the build's limits and on `count` alone:
+ * VERSIONS.md has it for all CPUs.
  * In C the name is a macro for a function of this header, which first compares the program's limits with the library's. The library's symbol doesn't
  * compare them: a program that calls it without this header calls the comparison first.
  * Returns REGISTRY_OTHER_LIMITS, REGISTRY_NULL if `settings` is NULL, or if `cpus` is NULL and `count` isn't 0, REGISTRY_BAD_SETTINGS,
@@ -529,8 +534,8 @@ registry_answer registry_read(const struct registry_cpu *cpu, uint64_t number, s
 /*
  * registry_release - release a passive reference, on the CPU that acquired it
  *
- * It needs no section. The CPU then has one reference less to the entry with that number, whichever of its references that was. So threads that share a
- * CPU release only what they acquired.
+ * It needs no section. The CPU then has one reference less to the entry with that number, whichever of its references that was. If threads share the
+ * CPU, any of them may release what another one acquired there. Each reference is released once.
  * Returns REGISTRY_EMPTY_HANDLE, REGISTRY_NOT_HELD.
  */
 registry_answer registry_release(struct registry_cpu *cpu, uint64_t number) REGISTRY_NONNULL(1);
@@ -588,15 +593,15 @@ registry_answer registry_enter_find(struct registry_cpu *cpu, uint64_t kind, con
  * registry_local_acquire - acquire a local reference to the last found entry
  *
  * The local handle is empty before the call. The reference outlives the section and may go to another thread.
- * Each reference has a block of memory. Each CPU caches at most one such block:
+ * Each reference has a block of 64 bytes, in any build. Each CPU caches at most one such block:
  *
  * - It caches the block of a reference that was released on it, or that registry_attach_iface took on it, or the block that a failed acquire took.
  * - If it has one already, the second one is freed at once.
  * - If it has one, this call doesn't fail for memory. If it has none, the call allocates one.
  * - The cached block is freed when the CPU is closed.
  *
- * A call that fails may allocate, too. If the CPU caches no block, REGISTRY_NOTHING_FOUND or REGISTRY_LOCAL_FULL may leave it with one of 64 bytes. The
- * next acquire on that CPU uses that block. If memory runs out, these two results are the same, and no block is cached.
+ * A call that fails may allocate, too. If the CPU caches no block, a call that returns REGISTRY_NOTHING_FOUND or REGISTRY_LOCAL_FULL may leave one cached.
+ * The next acquire on that CPU uses it. If memory runs out, these two results are the same, and no block is cached.
  * A CPU's count of an entry is what it acquired less what it released. Releases on other CPUs don't lower it, and neither do references that interfaces
  * give up. If references are acquired here and always released elsewhere, the count reaches count_limit with nothing held.
  * Returns REGISTRY_EMPTY_HANDLE for the CPU's handle, REGISTRY_FULL_HANDLE for the local one, REGISTRY_NOTHING_FOUND, REGISTRY_LOCAL_FULL,
@@ -713,6 +718,8 @@ registry_answer registry_destroy(struct registry_keeper *keeper, struct registry
 /*
  * registry_perform_begin - begin to wait until each section that is open now has ended
  *
+ * It is for memory that sections use and that is in no entry. An entry needs no such wait: registry_advance and registry_destroy check the sections
+ * that were open at its detach.
  * The call only begins the wait: no section has ended by it, so a caller that frees something after it frees too early. For pserialize_perform, which
  * waits, the caller then repeats registry_perform_turn with the same wait, without the interlock in between, until that returns REGISTRY_DONE. A wait may
  * be begun again, done or not.
@@ -726,8 +733,9 @@ registry_answer registry_perform_begin(struct registry_keeper *keeper, struct re
  *
  * It is done, and returns REGISTRY_DONE, exactly when all those sections were seen to have ended. Then:
  *
- * - Each section that was open on any CPU when the wait began has ended, whether or not the caller knew of it.
- * - So no section may hold an entry that had been detached by then.
+ * - Each section that was open on any CPU when the wait began has ended, whether or not the caller knew of it. So the caller may free memory that is in
+ *   no entry, if it had unlinked it by then. That is why a program makes this wait.
+ * - No section may hold an entry that had been detached by then. References may still hold it.
  * - For each entry that was retired when the wait began, the sections of all CPUs count as ended, except if its slot was reused since. A later
  *   registry_advance or registry_destroy needn't look at sections for it.
  *
