@@ -35,14 +35,20 @@ struct localcount {
 /* localcount_init - make a count live, with no reference. Stops where the thread mustn't sleep, and where the count is live already. */
 void localcount_init(struct localcount *lc);
 
-/* localcount_fini - end a count. Stops where it isn't drained. */
+/*
+ * localcount_fini - end a count, after localcount_drain
+ *
+ * It may be called anywhere, also where the thread mustn't sleep. The kernel's frees memory of percpu(9), so a driver calls it where it may sleep.
+ * Stops where the count isn't drained.
+ */
 void localcount_fini(struct localcount *lc);
 
 /*
  * localcount_drain - wait until no reference is held, whoever has it
  *
  * The caller has the interlock, which is given up while the call waits, and taken again; `cv` and `interlock` are those of each release.
- * Afterwards only localcount_fini is called with the count.
+ * The interlock is an adaptive mutex: not of type MUTEX_SPIN, and made with a level below IPL_VM. With a spin mutex the call stops, even if no
+ * reference is held. Afterwards only localcount_fini is called with the count.
  * Stops where the thread mustn't sleep; where it doesn't have the interlock; where `cv` or `interlock` are others than those of a release
  * before; and where the count isn't live, or is being drained already.
  */
