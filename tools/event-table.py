@@ -4,7 +4,7 @@
     tools/event-table.py make     writes the tables into docs/EVENTS.md
     tools/event-table.py check    makes them again and compares
 
-A row is an event and a step of `cpu_words` that makes it. The second table has the events that stand apart (APART). Every event needs a row; every row needs a definition, a lemma of each kind and an edit.
+A row is an event and a step of `cpu_words` that makes it. The second table has the events that stand apart (APART). Before each is how many kinds of events it has. Every event needs a row; every row needs a definition, a lemma of each kind and an edit.
 The last line is 'N passed, M failed', and the status is 1 where one failed.
 """
 import collections
@@ -160,9 +160,10 @@ def table(found):
 
 
 def tables(found):
-    """The table of the protocol's events, and that of those that stand apart."""
+    """The table of the protocol's events, and that of those that stand apart; before each, how many kinds of events it has."""
     apart = [cells for cells in found if cells[0].strip("`") in APART]
-    return [table([cells for cells in found if cells not in apart]), table(apart)]
+    parts = [cells for cells in found if cells not in apart], apart
+    return [f"{len({cells[0] for cells in part})} of the {len(events())} kinds of events.\n\n{table(part)}" for part in parts]
 
 
 def faults(found):
