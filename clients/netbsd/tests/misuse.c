@@ -140,6 +140,20 @@ static void thread_ends_holding(void)
 	on_thread(end_holding);
 }
 
+/* The thread isn't bound: it acquires while it has its CPU. */
+static void *end_holding_unbound(void *arg)
+{
+	kpreempt_disable();
+	psref_acquire(&psref, &target, things);
+	kpreempt_enable();
+	return arg;
+}
+
+static void thread_ends_holding_unbound(void)
+{
+	on_thread(end_holding_unbound);
+}
+
 /* ---- pserialize(9). ---- */
 
 static void exit_outside(void)
@@ -478,11 +492,51 @@ static void destroy_softly(void *arg)
 	psref_target_destroy(arg, things);
 }
 
+/* Runs a handler as a soft interrupt, which stops. */
+static void as_softint(void (*handler)(void *))
+{
+	softint_schedule(softint_establish(SOFTINT_NET, handler, &target));
+	sleep_for(20000000);
+}
+
 static void destroy_in_softint(void)
 {
-	void *cookie = softint_establish(SOFTINT_NET, destroy_softly, &target);
-	softint_schedule(cookie);
-	sleep_for(20000000);
+	as_softint(destroy_softly);
+}
+
+static void acquire_softly(void *arg)
+{
+	psref_acquire(&psref, arg, things);
+}
+
+static void handler_stays_holding(void)
+{
+	as_softint(acquire_softly);
+}
+
+static void acquire_here(void *arg, void *nothing)
+{
+	(void)nothing;
+	psref_acquire(&psref, arg, things);
+}
+
+static void function_stays_holding(void)
+{
+	xc_broadcast(0, acquire_here, &target, NULL);
+}
+
+/* It releases one reference of two. */
+static void copy_softly(void *arg)
+{
+	static struct psref copy;
+	psref_acquire(&psref, arg, things);
+	psref_copy(&copy, &psref, things);
+	psref_release(&psref, arg, things);
+}
+
+static void handler_stays_copied(void)
+{
+	as_softint(copy_softly);
 }
 
 static void destroy_with_spin(void)
@@ -701,6 +755,10 @@ static const struct stop_case cases[] = {
     {bindx_holding, "curlwp_bindx: the thread has passive references, at PLACE"},
     {thread_ends_inside, "pthread_exit: inside a read section"},
     {thread_ends_holding, "pthread_exit: the thread has passive references"},
+    {thread_ends_holding_unbound, "pthread_exit: the thread has passive references"},
+    {handler_stays_holding, "softint: the handler returned with a passive reference"},
+    {handler_stays_copied, "softint: the handler returned with a passive reference"},
+    {function_stays_holding, "xc_broadcast: the function returned with a passive reference, at PLACE"},
     {exit_outside, "pserialize_read_exit: outside any read section, at PLACE"},
     {exit_out_of_order, "pserialize_read_exit: not the section that was entered last, at PLACE"},
     {perform_inside, "pserialize_perform: inside a read section, entered at PLACE, at PLACE"},
