@@ -741,7 +741,40 @@ static void init_count_twice(void)
 	localcount_init(&count);
 }
 
+/* ---- Places, which hide_places leaves as they are: each is that of its call. ---- */
+
+static void acquire_at(const char *place, struct psref *into, const struct psref_target *of)
+{
+	kupaldiz_at(place);
+	(psref_acquire)(into, of, things);
+}
+
+/* Of three references the second and the third are to the target. The second was released. */
+static void destroy_at(void)
+{
+	static struct psref first, second, third;
+	psref_target_init(&other, things);
+	acquire_at("the first call", &first, &other);
+	acquire_at("the second call", &second, &target);
+	acquire_at("the third call", &third, &target);
+	psref_release(&second, &target, things);
+	kupaldiz_at("the last call");
+	(psref_target_destroy)(&target, things);
+}
+
+static void release_moved_at(void)
+{
+	static struct psref first, second;
+	acquire_at("the first call", &first, &target);
+	acquire_at("the second call", &second, &target);
+	struct psref bytes = second;
+	kupaldiz_at("the last call");
+	(psref_release)(&bytes, &target, things);
+}
+
 static const struct stop_case cases[] = {
+    {destroy_at, "psref_target_destroy: this thread has a reference to the target, acquired at the third call, at the last call"},
+    {release_moved_at, "psref_release: the reference was moved by its bytes: it was acquired elsewhere at the second call, at the last call"},
     {exit_unbound, "pserialize_read_exit: outside any read section, at PLACE"},
     {acquire_unbound, "psref_acquire: the thread is not bound to a CPU, at PLACE"},
     {held_unbound, "psref_held: the thread is not bound to a CPU, at PLACE"},

@@ -857,7 +857,58 @@ static void pause_for_nothing(void)
 	kpause("wait", false, 0, NULL);
 }
 
+/* ---- Places, which hide_places leaves as they are: each is that of its call. ---- */
+
+static void enter_at(const char *place)
+{
+	kupaldiz_at(place);
+	(mutex_enter)(&lock);
+}
+
+static void read_at(const char *place)
+{
+	kupaldiz_at(place);
+	(void)(pserialize_read_enter)();
+}
+
+static void taken_last(void)
+{
+	enter_at("the first call");
+	mutex_exit(&lock);
+	enter_at("the second call");
+	enter_at("the third call");
+}
+
+static void taken_by_try(void)
+{
+	enter_at("the first call");
+	mutex_exit(&lock);
+	kupaldiz_at("the second call");
+	EXPECT((mutex_tryenter)(&lock));
+	enter_at("the third call");
+}
+
+static void entered_outside(void)
+{
+	read_at("the first call");
+	read_at("the second call");
+	enter_at("the third call");
+}
+
+static void entered_last(void)
+{
+	read_at("the first call");
+	pserialize_read_exit(0);
+	read_at("the second call");
+	kupaldiz_at("the third call");
+	(xc_barrier)(0);
+}
+
 static const struct stop_case cases[] = {
+    {taken_last, "mutex_enter: the thread has the lock already, taken at the second call, at the third call"},
+    {taken_by_try, "mutex_enter: the thread has the lock already, taken at the second call, at the third call"},
+    {entered_outside, "mutex_enter: inside a read section, entered at the first call, at the third call"},
+    {entered_last, "xc_barrier: inside a read section, entered at the second call, at the third call"},
     {enter_twice, "mutex_enter: the thread has the lock already, taken at PLACE, at PLACE"},
     {spin_enter_twice, "mutex_enter: the thread has the lock already, taken at PLACE, at PLACE"},
     {exit_free, "mutex_exit: the thread does not have the lock, at PLACE"},

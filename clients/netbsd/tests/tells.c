@@ -397,6 +397,28 @@ static void *share_long(void *of)
 	return of;
 }
 
+/* Takes the lock twice, at two places that hide_places leaves as they are. */
+static void *share_twice(void *of)
+{
+	name_it(of);
+	kupaldiz_at("the first call");
+	(rw_enter)(&rw, RW_READER);
+	kupaldiz_at("the second call");
+	EXPECT((rw_tryenter)(&rw, RW_READER));
+	keep();
+	rw_exit(&rw);
+	rw_exit(&rw);
+	return of;
+}
+
+static void write_for_two(void)
+{
+	pthread_t sharer = hold("sharer", share_twice);
+	rw_enter(&rw, RW_WRITER);
+	rw_exit(&rw);
+	end_thread(sharer);
+}
+
 static void write_for_reader(void)
 {
 	pthread_t sharer = hold("sharer", share_long);
@@ -529,6 +551,7 @@ static const struct stop_case cases[] = {
     {enter_for_owner, "mutex_enter: waits for the lock that thread \"detach\" took at PLACE"},
     {read_for_writer, "rw_enter: waits for the lock that thread \"writer\" took as a writer at PLACE"},
     {write_for_reader, "rw_enter: waits for 1 readers, the last of which took the lock at PLACE"},
+    {write_for_two, "rw_enter: waits for 2 readers, the last of which took the lock at the second call"},
     {disestablish_running, "softint_disestablish: waits for its handler"},
     {halt_running, "callout_halt: waits for CPU 4, which runs it"},
     {join_running, "kthread_join: waits for thread \"worker\" to end"},
