@@ -1,5 +1,6 @@
 /*
- * lacks - memory, threads and keys that run out: a call that can say so does, and any other ends its process with its line
+ * lacks - memory, threads and keys that run out: a call that can say so does, and any other ends its process with its line. What a line has no room for
+ * is cut off.
  *
  * The linker leads what the layer asks the C library for here (--wrap). Each case runs in a child. The last line counts the cases.
  */

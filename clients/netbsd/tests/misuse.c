@@ -741,6 +741,35 @@ static void init_count_twice(void)
 	localcount_init(&count);
 }
 
+/* ---- What a target's bytes say of it. ---- */
+
+static void acquire_copied(void)
+{
+	struct psref_target copied = target;
+	psref_acquire(&psref, &copied, things);
+}
+
+/* Those of its life before. */
+static void acquire_by_old_bytes(void)
+{
+	struct psref_target before = target;
+	psref_target_destroy(&target, things);
+	psref_target_init(&target, things);
+	target = before;
+	psref_acquire(&psref, &target, things);
+}
+
+/* More are live than a registry takes. The last one's bytes are gone. */
+static void init_last_twice(void)
+{
+	static struct psref_target many[REGISTRY_MOST_SLOTS + 8];
+	const unsigned last = sizeof(many) / sizeof(many[0]) - 1;
+	for (unsigned at = 0; at <= last; at++)
+		psref_target_init(&many[at], things);
+	memset(&many[last], 0, sizeof(many[last]));
+	psref_target_init(&many[last], things);
+}
+
 /* ---- Places, which hide_places leaves as they are: each is that of its call. ---- */
 
 static void acquire_at(const char *place, struct psref *into, const struct psref_target *of)
@@ -819,6 +848,9 @@ static const struct stop_case cases[] = {
     {copy_released_bytes, "psref_copy: the reference is not held, at PLACE"},
     {acquire_never_live, "psref_acquire: the target is not live, at PLACE"},
     {acquire_destroyed, "psref_acquire: the target is not live, at PLACE"},
+    {acquire_copied, "psref_acquire: the target is not live, at PLACE"},
+    {acquire_by_old_bytes, "psref_acquire: the target is not live, at PLACE"},
+    {init_last_twice, "psref_target_init: it is live already, at PLACE"},
     {acquire_while_destroyed, "psref_acquire: the target is being destroyed, at PLACE"},
     {destroy_twice_at_once, "psref_target_destroy: another thread waits for it already, at PLACE"},
     {destroy_twice, "psref_target_destroy: the target is not live, at PLACE"},
