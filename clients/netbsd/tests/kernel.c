@@ -176,11 +176,11 @@ static void test_waiting_writer(void)
 	unsigned turn = 0;
 	rw_enter(&rw, RW_READER);
 	start_thread(&thread, take_once, &writer);
-	for (; turn < 20000 && rw_tryenter(&rw, RW_READER); turn++) {
+	for (; turn < 100000 && rw_tryenter(&rw, RW_READER); turn++) {
 		rw_exit(&rw);
 		sleep_for(100);
 	}
-	EXPECT(turn < 20000 && atomic_load(&writer.turns) == 0 && rw_read_held(&rw) && !rw_write_held(&rw));
+	EXPECT(turn < 100000 && atomic_load(&writer.turns) == 0 && rw_read_held(&rw) && !rw_write_held(&rw));
 	rw_exit(&rw);
 	end_thread(thread);
 	EXPECT(atomic_load(&writer.turns) == 1 && rw_tryenter(&rw, RW_READER) && rw_tryenter(&rw, RW_READER));
@@ -198,7 +198,7 @@ static void test_downgrade(void)
 	sleep_for(20000);
 	EXPECT(atomic_load(&reader.turns) == 0);
 	rw_downgrade(&rw);
-	for (unsigned turn = 0; turn < 20000 && atomic_load(&reader.turns) == 0; turn++)
+	for (unsigned turn = 0; turn < 100000 && atomic_load(&reader.turns) == 0; turn++)
 		sleep_for(100);
 	EXPECT(atomic_load(&reader.turns) == 1 && rw_read_held(&rw) && !rw_write_held(&rw) && !rw_tryenter(&rw, RW_WRITER));
 	rw_exit(&rw);
@@ -627,10 +627,10 @@ static void reset_on(unsigned cpu, struct timer *timer, int ticks)
 	kupaldiz_unbind();
 }
 
-/* Waits until it ran, for two seconds at most. */
+/* Waits until it ran, for some ten seconds at most. */
 static void await_run(struct timer *timer)
 {
-	for (unsigned turn = 0; turn < 20000 && atomic_load(&timer->runs) == 0; turn++)
+	for (unsigned turn = 0; turn < 100000 && atomic_load(&timer->runs) == 0; turn++)
 		sleep_for(100);
 }
 
