@@ -693,6 +693,13 @@ static void function_stays_inside(void)
 	broadcast(0, stay_inside);
 }
 
+/* On one CPU. */
+static void function_stays_there(void)
+{
+	void (*stay)(void *) = stay_inside;
+	xc_unicast(XC_HIGHPRI, leave, &stay, NULL, kupaldiz_cpu(3));
+}
+
 static void function_stays_locked(void)
 {
 	broadcast(0, stay_locked);
@@ -988,6 +995,7 @@ static const struct stop_case cases[] = {
     {wait_for_no_call, "xc_wait: no such call"},
     {wait_for_nothing, "xc_wait: no such call"},
     {function_stays_inside, "xc_broadcast: the function returned inside a read section, at PLACE"},
+    {function_stays_there, "xc_unicast: the function returned inside a read section"},
     {function_stays_locked, "xc_broadcast: the function returned with a lock, at PLACE"},
     {function_stays_spinning, "xc_broadcast: the function returned with a lock, at PLACE"},
     {function_stays_bound, "xc_broadcast: the function returned with preemption disabled, at PLACE"},
