@@ -677,6 +677,26 @@ static void wait_for_nothing(void)
 	xc_wait(0);
 }
 
+static void run_nothing(void *arg, void *other)
+{
+	(void)arg;
+	(void)other;
+}
+
+/* The first call of all was there, and the next one wasn't. */
+static void wait_for_first(void)
+{
+	xc_wait(xc_unicast(0, run_nothing, NULL, NULL, kupaldiz_cpu(1)));
+	panic("it has run");
+}
+
+static void wait_for_third(void)
+{
+	xc_wait(xc_broadcast(0, run_nothing, NULL, NULL));
+	xc_wait(xc_unicast(0, run_nothing, NULL, NULL, kupaldiz_cpu(1)));
+	xc_wait(3);
+}
+
 /* What a function of xcall(9) leaves behind: that of the handler. */
 static void leave(void *stay, void *arg)
 {
@@ -994,6 +1014,8 @@ static const struct stop_case cases[] = {
     {broadcast_with_spin, "xc_broadcast: with a spin lock, at PLACE"},
     {wait_for_no_call, "xc_wait: no such call"},
     {wait_for_nothing, "xc_wait: no such call"},
+    {wait_for_first, "panic: it has run, at PLACE"},
+    {wait_for_third, "xc_wait: no such call"},
     {function_stays_inside, "xc_broadcast: the function returned inside a read section, at PLACE"},
     {function_stays_there, "xc_unicast: the function returned inside a read section"},
     {function_stays_locked, "xc_broadcast: the function returned with a lock, at PLACE"},
