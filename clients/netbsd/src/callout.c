@@ -33,14 +33,15 @@ static void unlink_callout(callout_t *callout)
 	callout->c_state &= ~(uint32_t)(PENDING | TOLD);
 }
 
-/* One that is due on a CPU; NULL where there is none. The caller has the lock. */
+/* Of those that are due on a CPU the one whose time came first; NULL where there is none. The caller has the lock. */
 static callout_t *due_on(unsigned cpu)
 {
 	int64_t time = now();
+	callout_t *first = NULL;
 	for (callout_t *at = callouts; at != NULL; at = at->c_next)
-		if (at->c_cpu == cpu && at->c_due <= time)
-			return at;
-	return NULL;
+		if (at->c_cpu == cpu && at->c_due <= time && (first == NULL || at->c_due < first->c_due))
+			first = at;
+	return first;
 }
 
 /* The soft interrupt: runs what is due on this CPU. A callout isn't touched once its body runs, which may have freed it. */

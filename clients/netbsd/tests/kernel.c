@@ -692,6 +692,57 @@ static void test_kept_callout(void)
 	callout_destroy(&other.callout);
 }
 
+enum { ORDERED = 4 };
+
+static unsigned run_order[ORDERED];	/* written by one CPU's soft interrupts, and read once all have run */
+static atomic_uint run_count;
+
+static void note_order(void *ticks)
+{
+	run_order[atomic_load(&run_count)] = *(unsigned *)ticks;
+	atomic_fetch_add(&run_count, 1);
+}
+
+/* Those that get due while this thread keeps their CPU run in the order of their times, whatever order they were set in. */
+static void test_callout_order(void)
+{
+	static unsigned ticks[ORDERED] = {2, 1, 4, 3};
+	callout_t ordered[ORDERED];
+	kupaldiz_bind(5);
+	kpreempt_disable();
+	for (unsigned i = 0; i < ORDERED; i++) {
+		callout_init(&ordered[i], CALLOUT_MPSAFE);
+		callout_reset(&ordered[i], (int)ticks[i], note_order, &ticks[i]);
+	}
+	sleep_for(80000);
+	EXPECT(atomic_load(&run_count) == 0);
+	kpreempt_enable();
+	while (atomic_load(&run_count) < ORDERED)
+		sleep_for(100);
+	for (unsigned i = 0; i < ORDERED; i++) {
+		callout_halt(&ordered[i], NULL);
+		callout_destroy(&ordered[i]);
+		EXPECT(run_order[i] == i + 1);
+	}
+	kupaldiz_unbind();
+}
+
+/* Twenty that last two ticks each, one after another, are over long before each has waited for a second. */
+static void test_callouts_in_time(void)
+{
+	static struct timer timer;
+	int64_t began = nanoseconds();
+	callout_init(&timer.callout, CALLOUT_MPSAFE);
+	for (unsigned turn = 0; turn < 20; turn++) {
+		atomic_store(&timer.runs, 0);
+		callout_reset(&timer.callout, 2, note_run, &timer);
+		await_run(&timer);
+	}
+	EXPECT(nanoseconds() - began < INT64_C(10000000000));
+	callout_halt(&timer.callout, NULL);
+	callout_destroy(&timer.callout);
+}
+
 /* It runs what was set last. Without ticks that is after one. Set once more it is pending, and neither expired nor invoked. */
 static void test_set_callout(void)
 {
@@ -938,6 +989,8 @@ int main(void)
 	test_callouts();
 	test_many_callouts();
 	test_kept_callout();
+	test_callout_order();
+	test_callouts_in_time();
 	test_set_callout();
 	test_callout_ends_itself();
 	test_halted_again();
