@@ -116,8 +116,8 @@ void callout_destroy(callout_t *callout);
 /* callout_setfunc - set what it runs. */
 void callout_setfunc(callout_t *callout, void (*body)(void *), void *arg);
 
-/* callout_reset - run `body(arg)` after so many ticks, as a soft interrupt of IPL_SOFTCLOCK of this CPU, instead of what was pending. Of those that are
- * due on a CPU the one whose time came first runs first. */
+/* callout_reset - run `body(arg)` after so many ticks, as a soft interrupt of IPL_SOFTCLOCK of this CPU, instead of what was pending. Callouts that
+ * are due on one CPU run in the order of their times. */
 void callout_reset(callout_t *callout, int ticks, void (*body)(void *), void *arg);
 
 /* callout_schedule - the same, with the body and the argument that it has. */
