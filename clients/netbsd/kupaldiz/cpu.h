@@ -69,7 +69,7 @@ void kupaldiz_bind(unsigned cpu);
  * kupaldiz_unbind - the thread isn't bound any more
  *
  * Stops where this thread isn't bound, mustn't sleep, or has passive references. The end of a bound thread does the same, once the destructors of its
- * keys have run.
+ * keys have run. The end of any thread stops where it has passive references.
  */
 void kupaldiz_unbind(void);
 

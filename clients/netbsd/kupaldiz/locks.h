@@ -142,7 +142,8 @@ int rw_tryenter(krwlock_t *rw, const krw_t how);
 /* rw_exit - give it back. Stops where nobody has it, where another thread is its writer, and where this thread has no lock at all. */
 void rw_exit(krwlock_t *rw);
 
-/* rw_tryupgrade - from reader to writer, if there is no other reader. Returns whether it is now the writer. */
+/* rw_tryupgrade - from reader to writer, if there is no other reader. Returns whether it is now the writer. Stops where nobody has the lock, and where
+ * this thread has no lock at all. */
 int rw_tryupgrade(krwlock_t *rw);
 
 /* rw_downgrade - from writer to reader. Stops where this thread isn't the writer. */

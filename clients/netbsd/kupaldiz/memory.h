@@ -79,7 +79,7 @@ void pool_cache_destroy(pool_cache_t cache);
 /* pool_cache_get - an object that is initialised. NULL where memory runs out, or `make` fails. */
 void *pool_cache_get(pool_cache_t cache, int flags);
 
-/* pool_cache_put - give an object back, which is ended. */
+/* pool_cache_put - give an object back, which is ended. Stops where it is none of the cache's. */
 void pool_cache_put(pool_cache_t cache, void *object);
 
 /* ---- percpu(9): memory that each CPU has a part of. ---- */

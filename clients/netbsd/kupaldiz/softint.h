@@ -7,7 +7,8 @@
  *   psref_copy, psref_held, psref_release, localcount_acquire, localcount_release, mutex_exit, mutex_spin_exit, cv_signal, cv_broadcast, splx,
  *   kpreempt_enable, percpu_putref, softint_schedule. The call returns when the handlers have ended, or when one of them waits for a lock.
  *
- * Handlers of one CPU run one after another, those of the highest level first. kupaldiz_netbsd(7) lists what differs from the kernel.
+ * Handlers of one CPU run one after another, those of the highest level first. A handler stops where it returns in a read section, with a lock, with
+ * preemption disabled, with a passive reference, or at a higher level than its own. kupaldiz_netbsd(7) lists what differs from the kernel.
  */
 #ifndef KUPALDIZ_NETBSD_SOFTINT_H
 #define KUPALDIZ_NETBSD_SOFTINT_H
@@ -76,7 +77,8 @@ typedef void (*xcfunc_t)(void *, void *);
  * xc_broadcast - have each CPU run `body(arg_a, arg_b)` once
  *
  * This thread runs it, on each CPU in turn, once no other thread of that CPU is inside a section; it has ended when the call returns. With
- * XC_HIGHPRI it mustn't sleep. Returns what xc_wait takes. Stops where the thread mustn't sleep.
+ * XC_HIGHPRI it mustn't sleep. Returns what xc_wait takes. Stops where the thread mustn't sleep, and where the function returns with what a handler
+ * mustn't return with.
  */
 uint64_t xc_broadcast(unsigned flags, xcfunc_t body, void *arg_a, void *arg_b);
 
@@ -114,7 +116,8 @@ void callout_destroy(callout_t *callout);
 /* callout_setfunc - set what it runs. */
 void callout_setfunc(callout_t *callout, void (*body)(void *), void *arg);
 
-/* callout_reset - run `body(arg)` after so many ticks, as a soft interrupt of IPL_SOFTCLOCK of this CPU, instead of what was pending. */
+/* callout_reset - run `body(arg)` after so many ticks, as a soft interrupt of IPL_SOFTCLOCK of this CPU, instead of what was pending. Callouts that
+ * are due on one CPU run in the order of their times. */
 void callout_reset(callout_t *callout, int ticks, void (*body)(void *), void *arg);
 
 /* callout_schedule - the same, with the body and the argument that it has. */
@@ -123,12 +126,12 @@ void callout_schedule(callout_t *callout, int ticks);
 /* callout_stop - end its wait, without waiting for its body, which may run. Returns whether it had expired. */
 bool callout_stop(callout_t *callout);
 
-/* callout_halt - the same, and wait for its body to end, without the lock meanwhile, which may be NULL. Stops where it has to wait and the thread
- * mustn't sleep. */
+/* callout_halt - the same, and wait for its body to end, without the lock meanwhile, which may be NULL. What its body sets meanwhile ends, too. Stops
+ * where this thread doesn't have the lock, and where it has to wait and mustn't sleep. */
 bool callout_halt(callout_t *callout, void *interlock);
 
 /* callout_pending, callout_expired, callout_active, callout_invoking - whether it waits for its time; whether its time came; whether one of the two holds;
- * whether its body runs, until callout_ack. */
+ * whether its body was called, until callout_ack or until it is set again. */
 bool callout_pending(callout_t *callout);
 bool callout_expired(callout_t *callout);
 bool callout_active(callout_t *callout);

@@ -33,14 +33,15 @@ static void unlink_callout(callout_t *callout)
 	callout->c_state &= ~(uint32_t)(PENDING | TOLD);
 }
 
-/* One that is due on a CPU; NULL where there is none. The caller has the lock. */
+/* Of those that are due on a CPU the one whose time came first; NULL where there is none. The caller has the lock. */
 static callout_t *due_on(unsigned cpu)
 {
 	int64_t time = now();
+	callout_t *first = NULL;
 	for (callout_t *at = callouts; at != NULL; at = at->c_next)
-		if (at->c_cpu == cpu && at->c_due <= time)
-			return at;
-	return NULL;
+		if (at->c_cpu == cpu && at->c_due <= time && (first == NULL || at->c_due < first->c_due))
+			first = at;
+	return first;
 }
 
 /* The soft interrupt: runs what is due on this CPU. A callout isn't touched once its body runs, which may have freed it. */
@@ -168,7 +169,7 @@ static void make_pending(struct thread *me, callout_t *callout, int ticks)
 		stop(me, "the callout has no function");
 	if ((callout->c_state & PENDING) != 0)
 		unlink_callout(callout);
-	callout->c_state = (callout->c_state & ~(uint32_t)FIRED) | PENDING;
+	callout->c_state = (callout->c_state & ~(uint32_t)(FIRED | INVOKING)) | PENDING;
 	callout->c_due = now() + (int64_t)(ticks > 0 ? ticks : 1) * TICK;
 	callout->c_cpu = cpu_of(me)->info.ci_index;
 	callout->c_next = callouts;
@@ -235,6 +236,8 @@ bool callout_halt(callout_t *callout, void *interlock)
 {
 	struct thread *me = begin_call(__func__);
 	want_callout(me, callout);
+	if (interlock != NULL && !has_mutex(me, interlock))
+		stop(me, "the thread does not have the lock");
 	pthread_mutex_lock(&lock);
 	bool expired = cancel(callout);
 	unsigned cpu = runs_on(callout);
@@ -248,6 +251,8 @@ bool callout_halt(callout_t *callout, void *interlock)
 	want_sleepable(me);
 	pthread_mutex_lock(&lock);
 	await_end(me, callout);
+	/* Its body may have set it again. */
+	cancel(callout);
 	pthread_mutex_unlock(&lock);
 	if (interlock != NULL)
 		take_mutex(me, interlock);

@@ -272,6 +272,7 @@ void note_pending(struct cpu *cpu);
 bool run_softint(struct thread *me);
 void want_softint_thread(struct thread *me, struct cpu *cpu);
 
+void judge_return(const struct thread *me, const char *what, int level, unsigned locks, unsigned references);
 void offer_cpu(struct thread *me);
 void step_off(struct thread *me);
 void step_on(struct thread *me);

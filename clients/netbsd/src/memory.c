@@ -7,10 +7,8 @@
 /* What stands before each block. */
 struct head {
 	size_t size;
-	uint64_t mark;
+	uint64_t mark;		/* whose it is, while it is in use */
 };
-
-static const uint64_t LIVE = 0x6b6d656d2d6c6976;
 
 struct pool_cache {
 	struct pool pool;
@@ -26,9 +24,16 @@ struct percpu {
 	char *blocks;	/* of all CPUs, each on lines of its own */
 };
 
+/* What marks the objects of a pool; with NULL, the blocks of kmem. */
+static uint64_t mark_of(const struct pool *pool)
+{
+	return 0x6b6d656d2d6c6976 ^ (uint64_t)(uintptr_t)pool;
+}
+
 /* ---- kmem(9) ---- */
 
-static void *take_block(struct thread *me, size_t size, bool sleeps)
+/* A block of kmem's, or an object of a pool's. */
+static void *take_block(struct thread *me, size_t size, bool sleeps, const struct pool *pool)
 {
 	if (size == 0)
 		stop(me, "a block of no bytes");
@@ -39,7 +44,7 @@ static void *take_block(struct thread *me, size_t size, bool sleeps)
 		stop(me, "out of memory");
 	if (head == NULL)
 		return NULL;
-	*head = (struct head){size, LIVE};
+	*head = (struct head){size, mark_of(pool)};
 	return head + 1;
 }
 
@@ -48,13 +53,22 @@ static void *zeroed(void *block, size_t size)
 	return block == NULL ? NULL : memset(block, 0, size);
 }
 
-static void give_block(struct thread *me, void *block, size_t size)
+/* What stands before a block that is in use. Stops where it isn't. */
+static struct head *head_of(struct thread *me, void *block, const struct pool *pool)
 {
 	if (block == NULL)
 		stop(me, "no block");
 	struct head *head = (struct head *)block - 1;
-	if (head->mark != LIVE)
-		stop(me, "no block of kmem's, or one that was given back");
+	if (head->mark == mark_of(pool))
+		return head;
+	if (pool != NULL)
+		stop(me, "no object of %s, or one that was given back", pool->pr_name);
+	stop(me, "no block of kmem's, or one that was given back");
+}
+
+static void give_block(struct thread *me, void *block, size_t size)
+{
+	struct head *head = head_of(me, block, NULL);
 	if (head->size != size)
 		stop(me, "%zu bytes are given back of a block of %zu", size, head->size);
 	head->mark = 0;
@@ -79,14 +93,14 @@ void *kmem_alloc(size_t size, km_flag_t flags)
 {
 	struct thread *me = begin_call(__func__);
 	want_no_interrupt(me);
-	return take_block(me, size, sleeps(me, flags));
+	return take_block(me, size, sleeps(me, flags), NULL);
 }
 
 void *kmem_zalloc(size_t size, km_flag_t flags)
 {
 	struct thread *me = begin_call(__func__);
 	want_no_interrupt(me);
-	return zeroed(take_block(me, size, sleeps(me, flags)), size);
+	return zeroed(take_block(me, size, sleeps(me, flags), NULL), size);
 }
 
 void kmem_free(void *block, size_t size)
@@ -99,13 +113,13 @@ void kmem_free(void *block, size_t size)
 void *kmem_intr_alloc(size_t size, km_flag_t flags)
 {
 	struct thread *me = begin_call(__func__);
-	return take_block(me, size, sleeps(me, flags));
+	return take_block(me, size, sleeps(me, flags), NULL);
 }
 
 void *kmem_intr_zalloc(size_t size, km_flag_t flags)
 {
 	struct thread *me = begin_call(__func__);
-	return zeroed(take_block(me, size, sleeps(me, flags)), size);
+	return zeroed(take_block(me, size, sleeps(me, flags), NULL), size);
 }
 
 void kmem_intr_free(void *block, size_t size)
@@ -117,7 +131,7 @@ char *kmem_strdupsize(const char *text, size_t *size, km_flag_t flags)
 {
 	struct thread *me = begin_plain(__func__);
 	size_t length = strlen(text) + 1;
-	char *copy = take_block(me, length, sleeps(me, flags));
+	char *copy = take_block(me, length, sleeps(me, flags), NULL);
 	if (copy != NULL)
 		memcpy(copy, text, length);
 	if (size != NULL)
@@ -153,7 +167,7 @@ static void want_unused(struct thread *me, struct pool *pool)
 
 static void *get(struct thread *me, struct pool *pool, int flags)
 {
-	void *object = take_block(me, pool->pr_size, (flags & PR_WAITOK) != 0);
+	void *object = take_block(me, pool->pr_size, (flags & PR_WAITOK) != 0, pool);
 	if (object == NULL)
 		return NULL;
 	__atomic_fetch_add(&pool->pr_out, 1, __ATOMIC_RELAXED);
@@ -162,7 +176,9 @@ static void *get(struct thread *me, struct pool *pool, int flags)
 
 static void put(struct thread *me, struct pool *pool, void *object)
 {
-	give_block(me, object, pool->pr_size);
+	struct head *head = head_of(me, object, pool);
+	head->mark = 0;
+	free(head);
 	__atomic_fetch_sub(&pool->pr_out, 1, __ATOMIC_RELEASE);
 }
 
@@ -215,6 +231,7 @@ void *pool_cache_get(pool_cache_t cache, int flags)
 void pool_cache_put(pool_cache_t cache, void *object)
 {
 	struct thread *me = begin_call(__func__);
+	(void)head_of(me, object, &cache->pool);
 	if (cache->end != NULL)
 		cache->end(cache->arg, object);
 	put(me, &cache->pool, object);

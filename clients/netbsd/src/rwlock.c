@@ -108,6 +108,15 @@ int rw_tryenter(krwlock_t *rw, const krw_t how)
 	return taken;
 }
 
+/* Stops where the thread can't have the lock. The caller has the bucket's lock. */
+static void want_held(const struct thread *me, const krwlock_t *rw)
+{
+	if (rw->rw_writer == 0 && rw->rw_readers == 0)
+		stop(me, "nobody has the lock");
+	if (me->locks == 0)
+		stop(me, "the thread does not have the lock");
+}
+
 void rw_exit(krwlock_t *rw)
 {
 	struct thread *me = begin_call(__func__);
@@ -116,10 +125,7 @@ void rw_exit(krwlock_t *rw)
 	bucket_lock(bucket);
 	if (rw->rw_writer != 0 && rw->rw_writer != (uintptr_t)me)
 		stop(me, "another thread has the lock as its writer");
-	if (rw->rw_writer == 0 && rw->rw_readers == 0)
-		stop(me, "nobody has the lock");
-	if (me->locks == 0)
-		stop(me, "the thread does not have the lock");
+	want_held(me, rw);
 	if (rw->rw_writer != 0)
 		rw->rw_writer = 0;
 	else
@@ -134,6 +140,7 @@ int rw_tryupgrade(krwlock_t *rw)
 	struct thread *me = begin_plain(__func__);
 	want_rw(me, rw);
 	bucket_lock(bucket_of(rw));
+	want_held(me, rw);
 	bool alone = rw->rw_writer == 0 && rw->rw_readers == 1;
 	if (alone) {
 		rw->rw_readers = 0;

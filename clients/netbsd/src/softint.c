@@ -85,15 +85,19 @@ static struct softint *next_of(const struct cpu *cpu, int above)
 	return next;
 }
 
-/* Stops where a handler left something behind. */
-static void judge_handler(const struct thread *me)
+/* Stops where a handler, or a function of xcall(9), left something behind. It began at this level, with so many locks and references. */
+void judge_return(const struct thread *me, const char *what, int level, unsigned locks, unsigned references)
 {
 	if (me->depth > 0)
-		stop(me, "the handler returned inside a read section");
-	if (me->spins > 0 || me->locks > 0)
-		stop(me, "the handler returned with a lock");
+		stop(me, "%s returned inside a read section", what);
+	if (me->spins > 0 || me->locks > locks)
+		stop(me, "%s returned with a lock", what);
 	if (me->preemptions > 0)
-		stop(me, "the handler returned with preemption disabled");
+		stop(me, "%s returned with preemption disabled", what);
+	if (me->references > references)
+		stop(me, "%s returned with a passive reference", what);
+	if (me->level > level)
+		stop(me, "%s returned at a raised level", what);
 }
 
 /* Runs the next handler. Whether there was one. */
@@ -114,10 +118,9 @@ bool run_softint(struct thread *me)
 	next->handler(next->arg);
 	me->call = "softint";
 	me->place = NULL;
-	judge_handler(me);
+	judge_return(me, "the handler", next->level, 0, 0);
 	pthread_mutex_lock(&pending_list);
-	if (--next->running == 0)
-		pthread_cond_broadcast(&pending_changed);
+	next->running--;
 	pthread_mutex_unlock(&pending_list);
 	return true;
 }

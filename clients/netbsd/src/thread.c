@@ -89,6 +89,9 @@ struct thread *named_thread(const char *call, const char *name)
 		stop_at(call, take_place(), "out of memory");
 	snprintf(me->name, sizeof(me->name), "%s", name);
 	me->lwp.l_name = me->name;
+	me->lwp.l_cpu = NULL;
+	me->cpu = NULL;
+	me->call = call;
 	me->rounds = 0;
 	me->kthread = false;
 	__atomic_store_n(&me->id, gettid(), __ATOMIC_RELAXED);
@@ -101,11 +104,17 @@ struct thread *new_thread(const char *call)
 	return named_thread(call, "");
 }
 
-/* The thread isn't bound any more. */
-static void unbind(struct thread *me)
+/* Stops where the thread has passive references. */
+static void want_unreferring(const struct thread *me)
 {
 	if (me->references != 0)
 		stop(me, "the thread has passive references");
+}
+
+/* The thread isn't bound any more. */
+static void unbind(struct thread *me)
+{
+	want_unreferring(me);
 	me->lwp.l_pflag &= ~LP_BOUND;
 	__atomic_fetch_sub(&me->cpu->bound, 1, __ATOMIC_RELAXED);
 }
@@ -131,6 +140,7 @@ void end_of_thread(struct thread *me)
 		stop(me, "with a lock");
 	if (me->holds > 0)
 		stop(me, "with its CPU");
+	want_unreferring(me);
 	if (is_bound(me))
 		unbind(me);
 	kupaldiz_self = NULL;

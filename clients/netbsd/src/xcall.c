@@ -7,20 +7,20 @@ static uint64_t tickets;	/* an atomic */
 static void run_on(struct thread *me, struct cpu *cpu, unsigned flags, xcfunc_t body, void *arg_a, void *arg_b)
 {
 	struct cpu *before = me->cpu;
-	int flag = me->lwp.l_pflag & LP_BOUND;
+	const char *call = me->call, *place = me->place;
+	unsigned locks = me->locks, references = me->references;
+	int flag = me->lwp.l_pflag & LP_BOUND, level = (flags & XC_HIGHPRI) != 0 ? IPL_SOFTSERIAL : IPL_NONE;
 	me->cpu = cpu;
 	me->lwp.l_cpu = &cpu->info;
 	me->lwp.l_pflag |= LP_BOUND;
 	hold_cpu(me);
-	if ((flags & XC_HIGHPRI) != 0) {
-		int level = raise_level(me, IPL_SOFTSERIAL);
-		body(arg_a, arg_b);
-		lower_level(me, level);
-		unhold_cpu(me);
-	} else {
-		unhold_cpu(me);
-		body(arg_a, arg_b);
-	}
+	raise_level(me, level);
+	unhold_cpu(me);
+	body(arg_a, arg_b);
+	me->call = call;
+	me->place = place;
+	judge_return(me, "the function", level, locks, references);
+	lower_level(me, IPL_NONE);
 	me->lwp.l_pflag = (me->lwp.l_pflag & ~LP_BOUND) | flag;
 	me->cpu = before;
 	me->lwp.l_cpu = before == NULL ? NULL : &before->info;

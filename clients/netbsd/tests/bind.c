@@ -189,6 +189,14 @@ static void *end_bound(void *arg)
 	return arg;
 }
 
+/* A thread that has just begun ran nowhere, and isn't bound: what the layer keeps of one that has ended is used again for it. */
+static void *begin_anew(void *arg)
+{
+	EXPECT(curlwp->l_cpu == NULL && curlwp->l_pflag == 0 && curlwp->l_name[0] == '\0');
+	EXPECT(cpu_number() < KUPALDIZ_CPUS && curlwp->l_cpu == curcpu());
+	return arg;
+}
+
 int main(void)
 {
 	pthread_t threads[THREADS + 4];
@@ -208,6 +216,8 @@ int main(void)
 		end_thread(threads[i]);
 	for (int life = 0; life < LIVES; life++) {
 		start_thread(&threads[0], end_bound, NULL);
+		end_thread(threads[0]);
+		start_thread(&threads[0], begin_anew, NULL);
 		end_thread(threads[0]);
 	}
 	test_locked();

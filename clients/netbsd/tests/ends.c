@@ -375,6 +375,17 @@ static void test_time(void)
 	mutex_exit(&lock);
 }
 
+/* The turn of a second lies within a delay: the clock stands before it, and then after the delay's end. */
+static void test_delay(void)
+{
+	struct timespec before, after;
+	always = 990000000;
+	EXPECT(clock_gettime(CLOCK_MONOTONIC, &before) == 0);
+	delay(20000);
+	EXPECT(clock_gettime(CLOCK_MONOTONIC, &after) == 0 && after.tv_sec > before.tv_sec);
+	always = -1;
+}
+
 int main(void)
 {
 	EXPECT(pthread_key_create(&early, give_back) == 0);
@@ -393,6 +404,7 @@ int main(void)
 	for (unsigned at = 0; at < sizeof(waits) / sizeof(waits[0]); at++)
 		test_cancelled(&waits[at]);
 	test_time();
+	test_delay();
 	psref_target_destroy(&target, things);
 	puts("threads ended, cancelled or not, and gave everything back");
 	return 0;

@@ -149,8 +149,60 @@ static void test_rwlocks(void)
 	rw_enter(&rw, RW_READER);
 	EXPECT(!rw_tryenter(&rw, RW_WRITER) && rw_tryenter(&rw, RW_READER) && !rw_tryupgrade(&rw));
 	rw_exit(&rw);
-	EXPECT(rw_tryupgrade(&rw) && rw_write_held(&rw));
+	EXPECT(rw_tryupgrade(&rw) && rw_write_held(&rw) && !rw_tryenter(&rw, RW_READER));
 	rw_exit(&rw);
+}
+
+/* Takes the lock once, to read or to write. */
+struct taker {
+	krw_t how;
+	atomic_uint turns;
+};
+
+static void *take_once(void *of)
+{
+	struct taker *taker = of;
+	rw_enter(&rw, taker->how);
+	atomic_fetch_add(&taker->turns, 1);
+	rw_exit(&rw);
+	return of;
+}
+
+/* A writer that waits goes before the readers that come after it. */
+static void test_waiting_writer(void)
+{
+	pthread_t thread;
+	struct taker writer = {RW_WRITER, 0};
+	unsigned turn = 0;
+	rw_enter(&rw, RW_READER);
+	start_thread(&thread, take_once, &writer);
+	for (; turn < 100000 && rw_tryenter(&rw, RW_READER); turn++) {
+		rw_exit(&rw);
+		sleep_for(100);
+	}
+	EXPECT(turn < 100000 && atomic_load(&writer.turns) == 0 && rw_read_held(&rw) && !rw_write_held(&rw));
+	rw_exit(&rw);
+	end_thread(thread);
+	EXPECT(atomic_load(&writer.turns) == 1 && rw_tryenter(&rw, RW_READER) && rw_tryenter(&rw, RW_READER));
+	rw_exit(&rw);
+	rw_exit(&rw);
+}
+
+/* Who waits to read goes on beside the writer that becomes a reader. */
+static void test_downgrade(void)
+{
+	pthread_t thread;
+	struct taker reader = {RW_READER, 0};
+	rw_enter(&rw, RW_WRITER);
+	start_thread(&thread, take_once, &reader);
+	sleep_for(20000);
+	EXPECT(atomic_load(&reader.turns) == 0);
+	rw_downgrade(&rw);
+	for (unsigned turn = 0; turn < 100000 && atomic_load(&reader.turns) == 0; turn++)
+		sleep_for(100);
+	EXPECT(atomic_load(&reader.turns) == 1 && rw_read_held(&rw) && !rw_write_held(&rw) && !rw_tryenter(&rw, RW_WRITER));
+	rw_exit(&rw);
+	end_thread(thread);
 }
 
 static void *wait_and_count(void *arg)
@@ -304,7 +356,64 @@ static void test_memory(void)
 	pool_cache_destroy(cache);
 }
 
+/* Zeros are asked for where others left something. */
+static void test_zeros(void)
+{
+	enum { SIZE = 100, BLOCKS = 8 };
+	static const unsigned char zeros[SIZE];
+	struct pool pool;
+	unsigned char *blocks[BLOCKS];
+	pool_init(&pool, SIZE, 0, 0, 0, "zeropl", NULL, IPL_NONE);
+	for (unsigned turn = 0; turn < BLOCKS; turn++) {
+		blocks[turn] = turn % 2 == 0 ? kmem_zalloc(SIZE, KM_SLEEP) : pool_get(&pool, PR_WAITOK | PR_ZERO);
+		EXPECT(memcmp(blocks[turn], zeros, SIZE) == 0);
+		memset(blocks[turn], 0xff, SIZE);
+		if (turn % 2 == 0)
+			kmem_free(blocks[turn], SIZE);
+		else
+			pool_put(&pool, blocks[turn]);
+	}
+	unsigned char *block = kmem_intr_zalloc(SIZE, KM_NOSLEEP);
+	EXPECT(memcmp(block, zeros, SIZE) == 0);
+	kmem_intr_free(block, SIZE);
+	pool_destroy(&pool);
+}
+
 /* ---- CPUs. ---- */
+
+static void want_zeros(void *own, void *size, struct cpu_info *cpu)
+{
+	EXPECT(cpu_index(cpu) < KUPALDIZ_CPUS);
+	for (size_t at = 0; at < *(size_t *)size; at++)
+		EXPECT(((unsigned char *)own)[at] == 0);
+}
+
+static void write_number(void *own, void *size, struct cpu_info *cpu)
+{
+	memset(own, (int)cpu_index(cpu) + 1, *(size_t *)size);
+}
+
+static unsigned seen;
+
+static void want_number(void *own, void *size, struct cpu_info *cpu)
+{
+	for (size_t at = 0; at < *(size_t *)size; at++)
+		EXPECT(((unsigned char *)own)[at] == cpu_index(cpu) + 1);
+	seen |= 1u << cpu_index(cpu);
+}
+
+/* Of any size each CPU has its own, of zeros at first. At the end each is seen once more. */
+static void test_percpu_sizes(void)
+{
+	static size_t sizes[] = {1, 63, 64, 65, 65, 200, 200};
+	for (unsigned i = 0; i < sizeof(sizes) / sizeof(sizes[0]); i++) {
+		percpu_t *percpu = percpu_create(sizes[i], want_zeros, want_number, &sizes[i]);
+		percpu_foreach(percpu, write_number, &sizes[i]);
+		seen = 0;
+		percpu_free(percpu, sizes[i]);
+		EXPECT(seen == (1u << KUPALDIZ_CPUS) - 1);
+	}
+}
 
 static void add_one(void *own, void *arg, struct cpu_info *cpu)
 {
@@ -350,6 +459,34 @@ static void test_cpus(void)
 	int s = splnet(), t = splsoftnet();
 	EXPECT(s == IPL_NONE && t == IPL_VM);
 	splx(t);
+	splx(s);
+}
+
+/* With high priority the function has its CPU, at a level; without it may sleep. */
+static void look_around(void *high, void *other)
+{
+	EXPECT(other == NULL && curlwp->l_cpu == curcpu() && kpreempt_disabled() == (high != NULL));
+	if (high == NULL)
+		kmem_free(kmem_alloc(8, KM_SLEEP), 8);
+	int s = splsoftclock();
+	EXPECT(s == (high != NULL ? IPL_SOFTSERIAL : IPL_NONE));
+	splx(s);
+}
+
+/* The thread is where it was when the function has run everywhere, bound or not. */
+static void test_back_from_calls(void)
+{
+	kupaldiz_bind(3);
+	xc_wait(xc_broadcast(0, look_around, NULL, NULL));
+	EXPECT(cpu_number() == 3 && curlwp->l_cpu == kupaldiz_cpu(3) && (curlwp->l_pflag & LP_BOUND) != 0 && !kpreempt_disabled());
+	xc_wait(xc_broadcast(XC_HIGHPRI, look_around, &pair, NULL));
+	EXPECT(cpu_number() == 3 && curlwp->l_cpu == kupaldiz_cpu(3) && (curlwp->l_pflag & LP_BOUND) != 0 && !kpreempt_disabled());
+	kupaldiz_unbind();
+	xc_wait(xc_unicast(XC_HIGHPRI, look_around, &pair, NULL, kupaldiz_cpu(5)));
+	xc_wait(xc_unicast(0, look_around, NULL, NULL, kupaldiz_cpu(0)));
+	EXPECT(cpu_number() == 3 && (curlwp->l_pflag & LP_BOUND) == 0 && !kpreempt_disabled());
+	int s = splsoftclock();
+	EXPECT(s == IPL_NONE);
 	splx(s);
 }
 
@@ -466,6 +603,213 @@ static void test_callouts(void)
 	callout_destroy(&callout);
 }
 
+/* A callout with what it did: how often it ran, and where last. */
+struct timer {
+	callout_t callout;
+	atomic_uint runs, cpu;
+};
+
+enum { TIMERS = 3 * KUPALDIZ_CPUS };
+
+static struct timer timers[TIMERS];
+
+static void note_run(void *of)
+{
+	struct timer *timer = of;
+	atomic_store(&timer->cpu, cpu_number());
+	atomic_fetch_add(&timer->runs, 1);
+}
+
+static void reset_on(unsigned cpu, struct timer *timer, int ticks)
+{
+	kupaldiz_bind(cpu);
+	callout_reset(&timer->callout, ticks, note_run, timer);
+	kupaldiz_unbind();
+}
+
+/* Waits until it ran, for some ten seconds at most. */
+static void await_run(struct timer *timer)
+{
+	for (unsigned turn = 0; turn < 100000 && atomic_load(&timer->runs) == 0; turn++)
+		sleep_for(100);
+}
+
+static bool is_stopped(unsigned timer)
+{
+	return timer % 3 == 1;
+}
+
+/* Of those that are pending some are stopped, among others, and others are set anew, on another CPU. */
+static void set_timers(void)
+{
+	for (unsigned i = 0; i < TIMERS; i++) {
+		callout_init(&timers[i].callout, CALLOUT_MPSAFE);
+		reset_on(0, &timers[i], 100000);
+	}
+	for (unsigned i = 0; i < TIMERS; i++) {
+		if (is_stopped(i))
+			EXPECT(!callout_stop(&timers[i].callout) && !callout_active(&timers[i].callout));
+		else
+			reset_on(i % KUPALDIZ_CPUS, &timers[i], 2);
+	}
+}
+
+/* What was stopped doesn't run. The others run once each, on the CPU that set them last. */
+static void test_many_callouts(void)
+{
+	set_timers();
+	for (unsigned i = 0; i < TIMERS; i++)
+		if (!is_stopped(i))
+			await_run(&timers[i]);
+	sleep_for(30000);
+	for (unsigned i = 0; i < TIMERS; i++) {
+		EXPECT(atomic_load(&timers[i].runs) == !is_stopped(i));
+		EXPECT(is_stopped(i) || atomic_load(&timers[i].cpu) == i % KUPALDIZ_CPUS);
+		EXPECT(callout_halt(&timers[i].callout, NULL) == !is_stopped(i));
+		callout_destroy(&timers[i].callout);
+	}
+}
+
+/* One that is due on a CPU that this thread keeps waits there. Another one fires meanwhile. */
+static void test_kept_callout(void)
+{
+	static struct timer kept, other;
+	callout_init(&kept.callout, CALLOUT_MPSAFE);
+	callout_init(&other.callout, CALLOUT_MPSAFE);
+	reset_on(3, &other, 5);
+	kupaldiz_bind(2);
+	kpreempt_disable();
+	callout_reset(&kept.callout, 1, note_run, &kept);
+	await_run(&other);
+	EXPECT(atomic_load(&other.runs) == 1 && atomic_load(&kept.runs) == 0 && callout_pending(&kept.callout));
+	kpreempt_enable();
+	await_run(&kept);
+	EXPECT(atomic_load(&kept.runs) == 1 && atomic_load(&kept.cpu) == 2);
+	kupaldiz_unbind();
+	callout_halt(&kept.callout, NULL);
+	callout_halt(&other.callout, NULL);
+	callout_destroy(&kept.callout);
+	callout_destroy(&other.callout);
+}
+
+enum { ORDERED = 4 };
+
+static unsigned run_order[ORDERED];	/* written by one CPU's soft interrupts, and read once all have run */
+static atomic_uint run_count;
+
+static void note_order(void *ticks)
+{
+	run_order[atomic_load(&run_count)] = *(unsigned *)ticks;
+	atomic_fetch_add(&run_count, 1);
+}
+
+/* Those that get due while this thread keeps their CPU run in the order of their times, whatever order they were set in. */
+static void test_callout_order(void)
+{
+	static unsigned ticks[ORDERED] = {2, 1, 4, 3};
+	callout_t ordered[ORDERED];
+	kupaldiz_bind(5);
+	kpreempt_disable();
+	for (unsigned i = 0; i < ORDERED; i++) {
+		callout_init(&ordered[i], CALLOUT_MPSAFE);
+		callout_reset(&ordered[i], (int)ticks[i], note_order, &ticks[i]);
+	}
+	sleep_for(80000);
+	EXPECT(atomic_load(&run_count) == 0);
+	kpreempt_enable();
+	while (atomic_load(&run_count) < ORDERED)
+		sleep_for(100);
+	for (unsigned i = 0; i < ORDERED; i++) {
+		callout_halt(&ordered[i], NULL);
+		callout_destroy(&ordered[i]);
+		EXPECT(run_order[i] == i + 1);
+	}
+	kupaldiz_unbind();
+}
+
+/* Twenty that last two ticks each, one after another, are over long before each has waited for a second. */
+static void test_callouts_in_time(void)
+{
+	static struct timer timer;
+	int64_t began = nanoseconds();
+	callout_init(&timer.callout, CALLOUT_MPSAFE);
+	for (unsigned turn = 0; turn < 20; turn++) {
+		atomic_store(&timer.runs, 0);
+		callout_reset(&timer.callout, 2, note_run, &timer);
+		await_run(&timer);
+	}
+	EXPECT(nanoseconds() - began < INT64_C(10000000000));
+	callout_halt(&timer.callout, NULL);
+	callout_destroy(&timer.callout);
+}
+
+/* It runs what was set last. Without ticks that is after one. Set once more it is pending, and neither expired nor invoked. */
+static void test_set_callout(void)
+{
+	static struct timer set, other;
+	callout_init(&set.callout, CALLOUT_MPSAFE);
+	callout_setfunc(&set.callout, note_run, &other);
+	callout_setfunc(&set.callout, note_run, &set);
+	int64_t began = nanoseconds();
+	callout_schedule(&set.callout, 0);
+	await_run(&set);
+	EXPECT(atomic_load(&set.runs) == 1 && atomic_load(&other.runs) == 0 && nanoseconds() - began >= INT64_C(1000000000) / hz);
+	EXPECT(callout_expired(&set.callout) && callout_invoking(&set.callout) && callout_active(&set.callout));
+	callout_schedule(&set.callout, 100000);
+	EXPECT(callout_pending(&set.callout) && !callout_expired(&set.callout) && !callout_invoking(&set.callout));
+	EXPECT(!callout_halt(&set.callout, NULL) && !callout_active(&set.callout));
+	callout_destroy(&set.callout);
+}
+
+/* Halts its own callout without a wait, ends it, and frees it. */
+static void end_itself(void *of)
+{
+	struct timer *timer = of;
+	EXPECT(callout_halt(&timer->callout, NULL));
+	callout_destroy(&timer->callout);
+	memset(timer, 0xdb, sizeof(*timer));
+	free(timer);
+	atomic_fetch_add(&fired, 1);
+}
+
+static void test_callout_ends_itself(void)
+{
+	struct timer *timer = calloc(1, sizeof(*timer));
+	unsigned before = atomic_load(&fired);
+	EXPECT(timer != NULL);
+	callout_init(&timer->callout, CALLOUT_MPSAFE);
+	callout_reset(&timer->callout, 1, end_itself, timer);
+	while (atomic_load(&fired) == before)
+		sleep_for(100);
+}
+
+/* Sets itself again, as it has run for a while. */
+static void set_again(void *of)
+{
+	struct timer *timer = of;
+	note_run(timer);
+	sleep_for(20000);
+	callout_schedule(&timer->callout, atomic_load(&timer->runs) < 3 ? 1 : 100000);
+}
+
+/* It runs again and again on its CPU. A halt that waits for its body ends what that has set, too. */
+static void test_halted_again(void)
+{
+	static struct timer again;
+	callout_init(&again.callout, CALLOUT_MPSAFE);
+	kupaldiz_bind(4);
+	callout_reset(&again.callout, 1, set_again, &again);
+	kupaldiz_unbind();
+	kupaldiz_bind(1);
+	while (atomic_load(&again.runs) < 3)
+		sleep_for(100);
+	EXPECT(atomic_load(&again.cpu) == 4);
+	callout_halt(&again.callout, NULL);
+	EXPECT(!callout_active(&again.callout) && atomic_load(&again.runs) == 3);
+	callout_destroy(&again.callout);
+	kupaldiz_unbind();
+}
+
 static void exit_at_once(void *arg)
 {
 	EXPECT(curlwp->l_name != NULL && strcmp(curlwp->l_name, "worker7") == 0 && cpu_number() == 4);
@@ -494,6 +838,31 @@ static void test_joins(void)
 	}
 	for (unsigned i = 0; i < 4; i++)
 		EXPECT(kthread_join(workers[i]) == 0);
+}
+
+/* Nobody joins it, and nobody asks for it. */
+static void test_unjoined(void)
+{
+	static atomic_uint ran;
+	for (unsigned turn = 0; turn < 4; turn++) {
+		EXPECT(kthread_create(PRI_NONE, KTHREAD_MPSAFE, NULL, end_as, &ran, NULL, "free") == 0);
+		while (atomic_load(&ran) == turn)
+			sleep_for(100);
+	}
+}
+
+/* The ticks are those of the clock that nobody sets, and a delay is never shorter than it says. */
+static void test_clock(void)
+{
+	enum { TURNS_OF_CLOCK = 60, DELAY_FOR = 20000 };
+	for (unsigned turn = 0; turn < TURNS_OF_CLOCK; turn++) {
+		int64_t began = nanoseconds();
+		unsigned ticks = (unsigned)getticks() - (unsigned)(began / (1000000000 / hz));
+		EXPECT(ticks <= (unsigned)(nanoseconds() / (1000000000 / hz) - began / (1000000000 / hz)));
+		began = nanoseconds();
+		delay(DELAY_FOR);
+		EXPECT(nanoseconds() - began >= DELAY_FOR * INT64_C(1000));
+	}
 }
 
 static void test_threads(void)
@@ -581,8 +950,10 @@ static void test_copies(void)
 	char user[8] = "abcdefg", there[8] = "";
 	size_t copied = 0;
 	EXPECT(copyin(user, there, sizeof(there)) == 0 && strcmp(there, "abcdefg") == 0);
+	EXPECT(copyout("ABCDEFG", user, 3) == 0 && strcmp(user, "ABCdefg") == 0 && copyout("a", user, 1) == 0);
+	EXPECT(copyin((void *)4095, there, 1) == EFAULT && strcmp(there, "abcdefg") == 0);
 	EXPECT(copyin(NULL, there, 1) == EFAULT && copyout(there, (void *)8, 1) == EFAULT && copyout(there, NULL, 0) == 0);
-	EXPECT(copyinstr(user, there, sizeof(there), &copied) == 0 && copied == 8);
+	EXPECT(copyinstr(user, there, sizeof(there), &copied) == 0 && copied == 8 && strcmp(there, "aBCdefg") == 0);
 	EXPECT(copyinstr(user, there, 3, &copied) == ENAMETOOLONG && copied == 3);
 	EXPECT(copyoutstr("xy", user, sizeof(user), NULL) == 0 && strcmp(user, "xy") == 0 && copyoutstr("xy", NULL, 3, NULL) == EFAULT);
 }
@@ -604,14 +975,28 @@ int main(void)
 	rw_init(&rw);
 	test_mutexes();
 	test_rwlocks();
+	test_waiting_writer();
+	test_downgrade();
 	test_condvars();
 	test_crowd();
 	test_memory();
+	test_zeros();
+	test_percpu_sizes();
 	test_cpus();
+	test_back_from_calls();
 	test_barrier();
 	test_depth();
 	test_callouts();
+	test_many_callouts();
+	test_kept_callout();
+	test_callout_order();
+	test_callouts_in_time();
+	test_set_callout();
+	test_callout_ends_itself();
+	test_halted_again();
 	test_threads();
+	test_unjoined();
+	test_clock();
 	test_joins();
 	test_lists();
 	test_atomics();

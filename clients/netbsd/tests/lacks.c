@@ -1,5 +1,6 @@
 /*
- * lacks - memory, threads and keys that run out: a call that can say so does, and any other ends its process with its line
+ * lacks - memory, threads and keys that run out: a call that can say so does, and any other ends its process with its line. What a line has no room for
+ * is cut off.
  *
  * The linker leads what the layer asks the C library for here (--wrap). Each case runs in a child. The last line counts the cases.
  */
@@ -209,6 +210,32 @@ static void no_clock_softint(void)
 	callout_init(&callout, CALLOUT_MPSAFE);
 }
 
+/* The clock's thread begins the soft interrupts of a CPU, for a callout that is due there. */
+static void no_thread_for_callout(void)
+{
+	static callout_t callout;
+	open_it();
+	callout_init(&callout, CALLOUT_MPSAFE);
+	lacks = THREAD;
+	callout_reset(&callout, 1, nothing, NULL);
+	sleep_for(20000000);
+}
+
+/* A line has no room for all that it is to say: it ends where the room does. */
+static char long_text[500], long_place[400], cut_line[511];
+
+static void no_room(void)
+{
+	kupaldiz_failed("KASSERT", long_text, long_place);
+}
+
+static void write_long(void)
+{
+	memset(long_text, 'a', sizeof(long_text) - 1);
+	memset(long_place, 'b', sizeof(long_place) - 1);
+	snprintf(cut_line, sizeof(cut_line), "KASSERT: not so: %.311s, at %.177s", long_text, long_place);
+}
+
 /* ---- Calls that say it. ---- */
 
 static void test_memory(void)
@@ -256,11 +283,14 @@ static const struct stop_case cases[] = {
     {no_softint_thread, "softint_schedule: no thread is left, at PLACE"},
     {no_clock, "callout_init: out of memory"},
     {no_clock_softint, "callout_init: out of memory"},
+    {no_thread_for_callout, "callout: no thread is left"},
+    {no_room, cut_line},
     {test_memory, "panic: memory was told to be out, at PLACE"},
     {test_threads, "panic: threads were told to be out, at PLACE"},
 };
 
 int main(void)
 {
+	write_long();
 	return run_cases(begin, cases, sizeof(cases) / sizeof(cases[0]));
 }

@@ -25,7 +25,7 @@ static struct psref_target targets[MOST_LIVE];
 static struct localcount counts[MOST_LIVE];
 static atomic_bool over;
 static _Atomic(int *) shown;
-static atomic_uint sections;
+static atomic_uint sections, step, performed;
 
 /* Many are live at once. Each can be referred to, and each ends. */
 static void test_live(unsigned live)
@@ -154,6 +154,42 @@ static void test_sections(unsigned rounds)
 	free(atomic_load(&shown));
 }
 
+static void *read_moved(void *arg)
+{
+	kupaldiz_bind(3);
+	for (unsigned turn = 0; turn < MANY; turn++)
+		pserialize_read_exit(pserialize_read_enter());
+	int s = pserialize_read_enter();
+	atomic_store(&step, 1);
+	while (atomic_load(&step) == 1)
+		sleep_for(100);
+	pserialize_read_exit(s);
+	return arg;
+}
+
+static void *perform_it(void *arg)
+{
+	pserialize_perform(psz);
+	atomic_fetch_add(&performed, 1);
+	return arg;
+}
+
+/* A reader whose CPU takes another registry for its sections than the others: a perform waits for it. */
+static void test_moved(void)
+{
+	pthread_t reader, performer;
+	start_thread(&reader, read_moved, NULL);
+	while (atomic_load(&step) == 0)
+		sleep_for(100);
+	start_thread(&performer, perform_it, NULL);
+	sleep_for(20000);
+	EXPECT(atomic_load(&performed) == 0);
+	atomic_store(&step, 2);
+	end_thread(reader);
+	end_thread(performer);
+	EXPECT(atomic_load(&performed) == 1);
+}
+
 int main(int argc, char **argv)
 {
 	bool full = argc == 2 && strcmp(argv[1], "full") == 0;
@@ -165,6 +201,8 @@ int main(int argc, char **argv)
 	test_live(full ? MOST_LIVE : 40);
 	test_changes(full ? MANY_CHANGES : 2000);
 	test_references(REFERENCES);
+	if (!full)
+		test_moved();
 	if (!full)
 		test_one_way(3000);
 	test_sections(full ? 2000 : 150);

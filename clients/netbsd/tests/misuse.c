@@ -140,6 +140,20 @@ static void thread_ends_holding(void)
 	on_thread(end_holding);
 }
 
+/* The thread isn't bound: it acquires while it has its CPU. */
+static void *end_holding_unbound(void *arg)
+{
+	kpreempt_disable();
+	psref_acquire(&psref, &target, things);
+	kpreempt_enable();
+	return arg;
+}
+
+static void thread_ends_holding_unbound(void)
+{
+	on_thread(end_holding_unbound);
+}
+
 /* ---- pserialize(9). ---- */
 
 static void exit_outside(void)
@@ -478,11 +492,51 @@ static void destroy_softly(void *arg)
 	psref_target_destroy(arg, things);
 }
 
+/* Runs a handler as a soft interrupt, which stops. */
+static void as_softint(void (*handler)(void *))
+{
+	softint_schedule(softint_establish(SOFTINT_NET, handler, &target));
+	sleep_for(20000000);
+}
+
 static void destroy_in_softint(void)
 {
-	void *cookie = softint_establish(SOFTINT_NET, destroy_softly, &target);
-	softint_schedule(cookie);
-	sleep_for(20000000);
+	as_softint(destroy_softly);
+}
+
+static void acquire_softly(void *arg)
+{
+	psref_acquire(&psref, arg, things);
+}
+
+static void handler_stays_holding(void)
+{
+	as_softint(acquire_softly);
+}
+
+static void acquire_here(void *arg, void *nothing)
+{
+	(void)nothing;
+	psref_acquire(&psref, arg, things);
+}
+
+static void function_stays_holding(void)
+{
+	xc_broadcast(0, acquire_here, &target, NULL);
+}
+
+/* It releases one reference of two. */
+static void copy_softly(void *arg)
+{
+	static struct psref copy;
+	psref_acquire(&psref, arg, things);
+	psref_copy(&copy, &psref, things);
+	psref_release(&psref, arg, things);
+}
+
+static void handler_stays_copied(void)
+{
+	as_softint(copy_softly);
 }
 
 static void destroy_with_spin(void)
@@ -687,7 +741,69 @@ static void init_count_twice(void)
 	localcount_init(&count);
 }
 
+/* ---- What a target's bytes say of it. ---- */
+
+static void acquire_copied(void)
+{
+	struct psref_target copied = target;
+	psref_acquire(&psref, &copied, things);
+}
+
+/* Those of its life before. */
+static void acquire_by_old_bytes(void)
+{
+	struct psref_target before = target;
+	psref_target_destroy(&target, things);
+	psref_target_init(&target, things);
+	target = before;
+	psref_acquire(&psref, &target, things);
+}
+
+/* More are live than a registry takes. The last one's bytes are gone. */
+static void init_last_twice(void)
+{
+	static struct psref_target many[REGISTRY_MOST_SLOTS + 8];
+	const unsigned last = sizeof(many) / sizeof(many[0]) - 1;
+	for (unsigned at = 0; at <= last; at++)
+		psref_target_init(&many[at], things);
+	memset(&many[last], 0, sizeof(many[last]));
+	psref_target_init(&many[last], things);
+}
+
+/* ---- Places, which hide_places leaves as they are: each is that of its call. ---- */
+
+static void acquire_at(const char *place, struct psref *into, const struct psref_target *of)
+{
+	kupaldiz_at(place);
+	(psref_acquire)(into, of, things);
+}
+
+/* Of three references the second and the third are to the target. The second was released. */
+static void destroy_at(void)
+{
+	static struct psref first, second, third;
+	psref_target_init(&other, things);
+	acquire_at("the first call", &first, &other);
+	acquire_at("the second call", &second, &target);
+	acquire_at("the third call", &third, &target);
+	psref_release(&second, &target, things);
+	kupaldiz_at("the last call");
+	(psref_target_destroy)(&target, things);
+}
+
+static void release_moved_at(void)
+{
+	static struct psref first, second;
+	acquire_at("the first call", &first, &target);
+	acquire_at("the second call", &second, &target);
+	struct psref bytes = second;
+	kupaldiz_at("the last call");
+	(psref_release)(&bytes, &target, things);
+}
+
 static const struct stop_case cases[] = {
+    {destroy_at, "psref_target_destroy: this thread has a reference to the target, acquired at the third call, at the last call"},
+    {release_moved_at, "psref_release: the reference was moved by its bytes: it was acquired elsewhere at the second call, at the last call"},
     {exit_unbound, "pserialize_read_exit: outside any read section, at PLACE"},
     {acquire_unbound, "psref_acquire: the thread is not bound to a CPU, at PLACE"},
     {held_unbound, "psref_held: the thread is not bound to a CPU, at PLACE"},
@@ -701,6 +817,10 @@ static const struct stop_case cases[] = {
     {bindx_holding, "curlwp_bindx: the thread has passive references, at PLACE"},
     {thread_ends_inside, "pthread_exit: inside a read section"},
     {thread_ends_holding, "pthread_exit: the thread has passive references"},
+    {thread_ends_holding_unbound, "pthread_exit: the thread has passive references"},
+    {handler_stays_holding, "softint: the handler returned with a passive reference"},
+    {handler_stays_copied, "softint: the handler returned with a passive reference"},
+    {function_stays_holding, "xc_broadcast: the function returned with a passive reference, at PLACE"},
     {exit_outside, "pserialize_read_exit: outside any read section, at PLACE"},
     {exit_out_of_order, "pserialize_read_exit: not the section that was entered last, at PLACE"},
     {perform_inside, "pserialize_perform: inside a read section, entered at PLACE, at PLACE"},
@@ -728,6 +848,9 @@ static const struct stop_case cases[] = {
     {copy_released_bytes, "psref_copy: the reference is not held, at PLACE"},
     {acquire_never_live, "psref_acquire: the target is not live, at PLACE"},
     {acquire_destroyed, "psref_acquire: the target is not live, at PLACE"},
+    {acquire_copied, "psref_acquire: the target is not live, at PLACE"},
+    {acquire_by_old_bytes, "psref_acquire: the target is not live, at PLACE"},
+    {init_last_twice, "psref_target_init: it is live already, at PLACE"},
     {acquire_while_destroyed, "psref_acquire: the target is being destroyed, at PLACE"},
     {destroy_twice_at_once, "psref_target_destroy: another thread waits for it already, at PLACE"},
     {destroy_twice, "psref_target_destroy: the target is not live, at PLACE"},

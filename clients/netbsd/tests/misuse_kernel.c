@@ -329,6 +329,20 @@ static void rw_destroy_held(void)
 	rw_destroy(&rw);
 }
 
+static void rw_upgrade_free(void)
+{
+	rw_tryupgrade(&rw);
+}
+
+static void rw_upgrade_anothers(void)
+{
+	pthread_t reader;
+	start_thread(&reader, read_it, NULL);
+	while (!atomic_load(&ready))
+		sleep_for(100);
+	rw_tryupgrade(&rw);
+}
+
 static void rw_downgrade_reader(void)
 {
 	rw_enter(&rw, RW_READER);
@@ -433,6 +447,44 @@ static void cache_in_use(void)
 	pool_cache_destroy(cache);
 }
 
+/* Of the same size, and of another one. */
+static void put_into_other(void)
+{
+	struct pool pool, other;
+	pool_init(&pool, 24, 0, 0, 0, "thingpl", NULL, IPL_NONE);
+	pool_init(&other, 24, 0, 0, 0, "otherpl", NULL, IPL_NONE);
+	pool_put(&other, pool_get(&pool, PR_WAITOK));
+}
+
+static void put_block(void)
+{
+	struct pool pool;
+	pool_init(&pool, 24, 0, 0, 0, "thingpl", NULL, IPL_NONE);
+	pool_put(&pool, kmem_alloc(24, KM_SLEEP));
+}
+
+static void free_object(void)
+{
+	struct pool pool;
+	pool_init(&pool, 24, 0, 0, 0, "thingpl", NULL, IPL_NONE);
+	kmem_free(pool_get(&pool, PR_WAITOK), 24);
+}
+
+static void end_object(void *arg, void *object)
+{
+	(void)arg;
+	(void)object;
+	panic("of another cache");
+}
+
+/* What isn't of the cache isn't ended either. */
+static void put_into_other_cache(void)
+{
+	pool_cache_t cache = pool_cache_init(24, 0, 0, 0, "thingpl", NULL, IPL_NONE, NULL, NULL, NULL);
+	pool_cache_t other = pool_cache_init(24, 0, 0, 0, "otherpl", NULL, IPL_NONE, NULL, end_object, NULL);
+	pool_cache_put(other, pool_cache_get(cache, PR_WAITOK));
+}
+
 static void percpu_other_size(void)
 {
 	percpu_free(percpu_alloc(8), 16);
@@ -514,6 +566,25 @@ static void handler_stays_bound(void)
 	as_softint(stay_bound);
 }
 
+static void stay_raised(void *arg)
+{
+	(void)arg;
+	splnet();
+}
+
+static void handler_stays_raised(void)
+{
+	as_softint(stay_raised);
+}
+
+static void callout_stays_raised(void)
+{
+	static callout_t callout;
+	callout_init(&callout, CALLOUT_MPSAFE);
+	callout_reset(&callout, 1, stay_raised, NULL);
+	sleep_for(20000000);
+}
+
 static void tick_long(void *arg)
 {
 	(void)arg;
@@ -545,6 +616,14 @@ static void callout_halt_inside(void)
 	run_callout(&callout);
 	pserialize_read_enter();
 	callout_halt(&callout, NULL);
+}
+
+/* It has no need to wait. */
+static void callout_halt_unlocked(void)
+{
+	static callout_t callout;
+	callout_init(&callout, CALLOUT_MPSAFE);
+	callout_halt(&callout, &lock);
 }
 
 static void callout_never_made(void)
@@ -591,6 +670,90 @@ static void broadcast_with_spin(void)
 static void wait_for_no_call(void)
 {
 	xc_wait(77);
+}
+
+static void wait_for_nothing(void)
+{
+	xc_wait(0);
+}
+
+static void run_nothing(void *arg, void *other)
+{
+	(void)arg;
+	(void)other;
+}
+
+/* The first call of all was there, and the next one wasn't. */
+static void wait_for_first(void)
+{
+	xc_wait(xc_unicast(0, run_nothing, NULL, NULL, kupaldiz_cpu(1)));
+	panic("it has run");
+}
+
+static void wait_for_third(void)
+{
+	xc_wait(xc_broadcast(0, run_nothing, NULL, NULL));
+	xc_wait(xc_unicast(0, run_nothing, NULL, NULL, kupaldiz_cpu(1)));
+	xc_wait(3);
+}
+
+/* What a function of xcall(9) leaves behind: that of the handler. */
+static void leave(void *stay, void *arg)
+{
+	(*(void (**)(void *))stay)(arg);
+}
+
+static void broadcast(unsigned flags, void (*stay)(void *))
+{
+	xc_broadcast(flags, leave, &stay, NULL);
+}
+
+static void function_stays_inside(void)
+{
+	broadcast(0, stay_inside);
+}
+
+/* On one CPU. */
+static void function_stays_there(void)
+{
+	void (*stay)(void *) = stay_inside;
+	xc_unicast(XC_HIGHPRI, leave, &stay, NULL, kupaldiz_cpu(3));
+}
+
+static void function_stays_locked(void)
+{
+	broadcast(0, stay_locked);
+}
+
+static void function_stays_spinning(void)
+{
+	broadcast(XC_HIGHPRI, stay_spinning);
+}
+
+static void function_stays_bound(void)
+{
+	broadcast(0, stay_bound);
+}
+
+static void function_stays_raised(void)
+{
+	broadcast(0, stay_raised);
+}
+
+static void function_stays_higher(void)
+{
+	broadcast(XC_HIGHPRI, stay_raised);
+}
+
+static void alloc_asleep(void *arg)
+{
+	(void)arg;
+	kmem_alloc(8, KM_SLEEP);
+}
+
+static void function_sleeps(void)
+{
+	broadcast(XC_HIGHPRI, alloc_asleep);
 }
 
 /* ---- threads, assertions, copies ---- */
@@ -667,6 +830,21 @@ static void join_nobody(void)
 	kthread_join(curlwp);
 }
 
+static void join_twice(void)
+{
+	lwp_t *worker;
+	EXPECT(kthread_create(PRI_NONE, KTHREAD_MUSTJOIN, NULL, nothing, NULL, &worker, "worker") == 0);
+	EXPECT(kthread_join(worker) == 0);
+	kthread_join(worker);
+}
+
+static void join_unjoinable(void)
+{
+	lwp_t *worker;
+	EXPECT(kthread_create(PRI_NONE, 0, NULL, tick_long, NULL, &worker, "worker") == 0);
+	kthread_join(worker);
+}
+
 static void assertion(void)
 {
 	KASSERT(1 + 1 == 3);
@@ -706,7 +884,58 @@ static void pause_for_nothing(void)
 	kpause("wait", false, 0, NULL);
 }
 
+/* ---- Places, which hide_places leaves as they are: each is that of its call. ---- */
+
+static void enter_at(const char *place)
+{
+	kupaldiz_at(place);
+	(mutex_enter)(&lock);
+}
+
+static void read_at(const char *place)
+{
+	kupaldiz_at(place);
+	(void)(pserialize_read_enter)();
+}
+
+static void taken_last(void)
+{
+	enter_at("the first call");
+	mutex_exit(&lock);
+	enter_at("the second call");
+	enter_at("the third call");
+}
+
+static void taken_by_try(void)
+{
+	enter_at("the first call");
+	mutex_exit(&lock);
+	kupaldiz_at("the second call");
+	EXPECT((mutex_tryenter)(&lock));
+	enter_at("the third call");
+}
+
+static void entered_outside(void)
+{
+	read_at("the first call");
+	read_at("the second call");
+	enter_at("the third call");
+}
+
+static void entered_last(void)
+{
+	read_at("the first call");
+	pserialize_read_exit(0);
+	read_at("the second call");
+	kupaldiz_at("the third call");
+	(xc_barrier)(0);
+}
+
 static const struct stop_case cases[] = {
+    {taken_last, "mutex_enter: the thread has the lock already, taken at the second call, at the third call"},
+    {taken_by_try, "mutex_enter: the thread has the lock already, taken at the second call, at the third call"},
+    {entered_outside, "mutex_enter: inside a read section, entered at the first call, at the third call"},
+    {entered_last, "xc_barrier: inside a read section, entered at the second call, at the third call"},
     {enter_twice, "mutex_enter: the thread has the lock already, taken at PLACE, at PLACE"},
     {spin_enter_twice, "mutex_enter: the thread has the lock already, taken at PLACE, at PLACE"},
     {exit_free, "mutex_exit: the thread does not have the lock, at PLACE"},
@@ -743,6 +972,8 @@ static const struct stop_case cases[] = {
     {rw_destroy_held, "rw_destroy: the lock is held, at PLACE"},
     {rw_enter_never_made, "rw_enter: the lock was never initialised, at PLACE"},
     {rw_enter_destroyed, "rw_enter: the lock was destroyed, at PLACE"},
+    {rw_upgrade_free, "rw_tryupgrade: nobody has the lock"},
+    {rw_upgrade_anothers, "rw_tryupgrade: the thread does not have the lock"},
     {rw_downgrade_reader, "rw_downgrade: the thread is not the lock's writer"},
     {alloc_inside, "kmem_alloc: inside a read section, entered at PLACE, at PLACE"},
     {alloc_in_softint, "kmem_alloc: in a soft interrupt, at PLACE"},
@@ -757,6 +988,10 @@ static const struct stop_case cases[] = {
     {free_foreign, "kmem_free: no block of kmem's, or one that was given back, at PLACE"},
     {pool_in_use, "pool_destroy: 1 objects of thingpl are in use, at PLACE"},
     {cache_in_use, "pool_cache_destroy: 1 objects of thingpl are in use, at PLACE"},
+    {put_into_other, "pool_put: no object of otherpl, or one that was given back, at PLACE"},
+    {put_block, "pool_put: no object of thingpl, or one that was given back, at PLACE"},
+    {free_object, "kmem_free: no block of kmem's, or one that was given back, at PLACE"},
+    {put_into_other_cache, "pool_cache_put: no object of otherpl, or one that was given back, at PLACE"},
     {percpu_other_size, "percpu_free: 16 bytes are given back of 8, at PLACE"},
     {percpu_sleeping, "kmem_alloc: with preemption disabled, at PLACE"},
     {percpu_putref_alone, "percpu_putref: without a percpu_getref, at PLACE"},
@@ -766,8 +1001,11 @@ static const struct stop_case cases[] = {
     {handler_stays_locked, "softint: the handler returned with a lock"},
     {handler_stays_spinning, "softint: the handler returned with a lock"},
     {handler_stays_bound, "softint: the handler returned with preemption disabled"},
+    {handler_stays_raised, "softint: the handler returned at a raised level"},
+    {callout_stays_raised, "softint: the handler returned at a raised level"},
     {callout_destroy_running, "callout_destroy: the callout runs, at PLACE"},
     {callout_halt_inside, "callout_halt: inside a read section, entered at PLACE, at PLACE"},
+    {callout_halt_unlocked, "callout_halt: the thread does not have the lock, at PLACE"},
     {callout_never_made, "callout_halt: the callout was never initialised, at PLACE"},
     {callout_destroyed, "callout_destroy: the callout was destroyed, at PLACE"},
     {callout_destroy_pending, "callout_destroy: the callout is pending, at PLACE"},
@@ -775,6 +1013,17 @@ static const struct stop_case cases[] = {
     {barrier_inside, "xc_barrier: inside a read section, entered at PLACE, at PLACE"},
     {broadcast_with_spin, "xc_broadcast: with a spin lock, at PLACE"},
     {wait_for_no_call, "xc_wait: no such call"},
+    {wait_for_nothing, "xc_wait: no such call"},
+    {wait_for_first, "panic: it has run, at PLACE"},
+    {wait_for_third, "xc_wait: no such call"},
+    {function_stays_inside, "xc_broadcast: the function returned inside a read section, at PLACE"},
+    {function_stays_there, "xc_unicast: the function returned inside a read section"},
+    {function_stays_locked, "xc_broadcast: the function returned with a lock, at PLACE"},
+    {function_stays_spinning, "xc_broadcast: the function returned with a lock, at PLACE"},
+    {function_stays_bound, "xc_broadcast: the function returned with preemption disabled, at PLACE"},
+    {function_stays_raised, "xc_broadcast: the function returned at a raised level, at PLACE"},
+    {function_stays_higher, "xc_broadcast: the function returned at a raised level, at PLACE"},
+    {function_sleeps, "kmem_alloc: at a raised level, at PLACE"},
     {thread_ends_locked, "pthread_exit: with a lock"},
     {thread_ends_spinning, "pthread_exit: with a lock"},
     {thread_ends_raised, "pthread_exit: with its CPU"},
@@ -782,6 +1031,8 @@ static const struct stop_case cases[] = {
     {exit_of_main, "kthread_exit: kthread_create did not make this thread, at PLACE"},
     {exit_of_next, "kthread_exit: kthread_create did not make this thread, at PLACE"},
     {join_nobody, "kthread_join: no thread that was made with KTHREAD_MUSTJOIN, at PLACE"},
+    {join_twice, "kthread_join: no thread that was made with KTHREAD_MUSTJOIN, at PLACE"},
+    {join_unjoinable, "kthread_join: no thread that was made with KTHREAD_MUSTJOIN, at PLACE"},
     {assertion, "KASSERT: not so: 1 + 1 == 3, at PLACE"},
     {assertion_with_words, "KASSERTMSG: not so: 1 + 1 == 3: of 7, at PLACE"},
     {end_by_panic, "panic: no way, at PLACE"},

@@ -40,12 +40,22 @@ ssize_t __wrap_write(int file, const void *bytes, size_t length)
 	return written;
 }
 
-/* It has it now, and keeps it until the line was written. */
+static int64_t milliseconds(void)
+{
+	struct timespec now;
+	EXPECT(clock_gettime(CLOCK_MONOTONIC, &now) == 0);
+	return (int64_t)now.tv_sec * 1000 + now.tv_nsec / 1000000;
+}
+
+/* It has it now, and keeps it until the line was written, which isn't soon, and somewhat longer: no second line follows. */
 static void keep(void)
 {
+	int64_t began = milliseconds();
 	atomic_store(&ready, true);
 	for (unsigned turn = 0; turn < 10000 && !atomic_load(&told); turn++)
 		sleep_for(1000);
+	EXPECT(milliseconds() - began > KUPALDIZ_PATIENCE / 2);
+	sleep_for(20000);
 }
 
 static atomic_bool lasts, lasts_inside;
@@ -387,6 +397,28 @@ static void *share_long(void *of)
 	return of;
 }
 
+/* Takes the lock twice, at two places that hide_places leaves as they are. */
+static void *share_twice(void *of)
+{
+	name_it(of);
+	kupaldiz_at("the first call");
+	(rw_enter)(&rw, RW_READER);
+	kupaldiz_at("the second call");
+	EXPECT((rw_tryenter)(&rw, RW_READER));
+	keep();
+	rw_exit(&rw);
+	rw_exit(&rw);
+	return of;
+}
+
+static void write_for_two(void)
+{
+	pthread_t sharer = hold("sharer", share_twice);
+	rw_enter(&rw, RW_WRITER);
+	rw_exit(&rw);
+	end_thread(sharer);
+}
+
 static void write_for_reader(void)
 {
 	pthread_t sharer = hold("sharer", share_long);
@@ -449,6 +481,19 @@ static void broadcast_for_reader(void)
 	end_thread(reader);
 }
 
+static void look_where(void *arg, void *other)
+{
+	EXPECT(arg == NULL && other == NULL && cpu_number() < KUPALDIZ_CPUS);
+}
+
+/* What the function calls isn't what waits. */
+static void broadcast_after_calls(void)
+{
+	pthread_t reader = hold("reader", read_long);
+	xc_wait(xc_broadcast(0, look_where, NULL, NULL));
+	end_thread(reader);
+}
+
 static void *raise_long(void *of)
 {
 	name_it(of);
@@ -506,11 +551,13 @@ static const struct stop_case cases[] = {
     {enter_for_owner, "mutex_enter: waits for the lock that thread \"detach\" took at PLACE"},
     {read_for_writer, "rw_enter: waits for the lock that thread \"writer\" took as a writer at PLACE"},
     {write_for_reader, "rw_enter: waits for 1 readers, the last of which took the lock at PLACE"},
+    {write_for_two, "rw_enter: waits for 2 readers, the last of which took the lock at the second call"},
     {disestablish_running, "softint_disestablish: waits for its handler"},
     {halt_running, "callout_halt: waits for CPU 4, which runs it"},
     {join_running, "kthread_join: waits for thread \"worker\" to end"},
     {barrier_for_reader, "xc_barrier: waits for CPU 3, whose thread \"reader\" is inside a read section, entered at PLACE"},
     {broadcast_for_reader, "xc_broadcast: waits for CPU 3, whose thread \"reader\" is inside a read section, entered at PLACE"},
+    {broadcast_after_calls, "xc_broadcast: waits for CPU 3, whose thread \"reader\" is inside a read section, entered at PLACE"},
     {getref_for_level, "percpu_getref: waits for CPU 3, whose thread \"raised\" keeps it"},
     {spin_for_owner, "mutex_spin_enter: waits for the lock that thread \"spinner\" took at PLACE"},
 };
