@@ -3,7 +3,7 @@
  *
  * Each CPU has a thread for its soft interrupts. It runs a handler on the CPU where the handler was scheduled:
  * - At once, where no thread of that CPU is in a read section, has a spin lock, is at a raised level or has preemption disabled.
- * - Else when the thread that has the CPU gives it up. Or before that, when this thread ends one of these calls, inside its section too, at a level below
+ * - Else once the thread that has the CPU gives it up. Or before that, when this thread ends one of these calls, inside its section too, at a level below
  *   the handler's: pserialize_read_enter, pserialize_read_exit, psref_acquire, psref_copy, psref_held, psref_release, localcount_acquire,
  *   localcount_release, mutex_exit, mutex_spin_exit, cv_signal, cv_broadcast, splx, kpreempt_enable, percpu_putref, softint_schedule. The call then waits
  *   for the CPU. It returns when the handlers have ended, or when one of them waits for a lock.
@@ -120,10 +120,10 @@ void callout_setfunc(callout_t *callout, void (*body)(void *), void *arg);
 /*
  * callout_reset - run `body(arg)` after so many ticks, instead of what was pending
  *
- * A tick lasts 10 milliseconds (hz is 100), and fewer than one count as one. The body begins no earlier than so long after this call; nothing bounds
+ * A tick lasts 10 milliseconds (hz is 100), and a number below 1 counts as 1. The body begins no earlier than that time after this call; nothing bounds
  * how late. It runs on the thread of this CPU's soft interrupts, at IPL_SOFTCLOCK, when such a handler can. Callouts that are due on one CPU run in
- * the order of their times. This CPU is curcpu's: of a thread that isn't bound the one that it had last, and one in turn for a thread that
- * never had any. In the bench the clock is virtual (kupaldiz_bench(7)).
+ * the order of their times. This CPU is the one that curcpu returns: for a thread that isn't bound, the CPU that it had last, or the next one in turn
+ * if it never had any. In the bench the clock is virtual (kupaldiz_bench(7)).
  */
 void callout_reset(callout_t *callout, int ticks, void (*body)(void *), void *arg);
 
