@@ -80,8 +80,8 @@ struct bench_options {
  * bench_explore - run what `setup` prepares in one order after another
  *
  * `setup` runs in the first thread and makes the others by bench_thread or kthread_create; they begin when it has returned. `options` may be NULL.
- * Returns 0 where no run went wrong, 1 where one did. Without a thread, or with a schedule that doesn't fit, it ends the process with
- * status 2 after one line on standard error.
+ * Returns 1 where a run went wrong, else 0, also where orders were left out: `exhausted` tells. Without a thread, or with a schedule that doesn't fit,
+ * it ends the process with status 2 after one line on standard error.
  */
 int bench_explore(void (*setup)(void), const struct bench_options *options);
 

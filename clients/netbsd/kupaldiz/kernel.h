@@ -6,6 +6,7 @@
  * - KTHREAD_MPSAFE changes nothing: there is no kernel lock. KTHREAD_IDLE, KTHREAD_INTR, KTHREAD_TS and the priority change nothing either.
  * - The calls of copy(9) copy within the one memory that there is. They fail with EFAULT where the user's address is NULL or below 4096.
  * - Nobody loads a module: the program calls its command, kupaldiz_NAME_modcmd.
+ * - A tick lasts 10 milliseconds: hz is 100.
  */
 #ifndef KUPALDIZ_NETBSD_KERNEL_H
 #define KUPALDIZ_NETBSD_KERNEL_H

@@ -3,9 +3,10 @@
  *
  * Each CPU has a thread for its soft interrupts. It runs a handler on the CPU where the handler was scheduled:
  * - At once, where no thread of that CPU is in a read section, has a spin lock, is at a raised level or has preemption disabled.
- * - Else as the thread that has the CPU ends one of these calls, inside its section too: pserialize_read_enter, pserialize_read_exit, psref_acquire,
- *   psref_copy, psref_held, psref_release, localcount_acquire, localcount_release, mutex_exit, mutex_spin_exit, cv_signal, cv_broadcast, splx,
- *   kpreempt_enable, percpu_putref, softint_schedule. The call returns when the handlers have ended, or when one of them waits for a lock.
+ * - Else once the thread that has the CPU gives it up. Or before that, when this thread ends one of these calls, inside its section too, at a level below
+ *   the handler's: pserialize_read_enter, pserialize_read_exit, psref_acquire, psref_copy, psref_held, psref_release, localcount_acquire,
+ *   localcount_release, mutex_exit, mutex_spin_exit, cv_signal, cv_broadcast, splx, kpreempt_enable, percpu_putref, softint_schedule. The call then waits
+ *   for the CPU. It returns when the handlers have ended, or when one of them waits for a lock.
  *
  * Handlers of one CPU run one after another, those of the highest level first. A handler stops where it returns in a read section, with a lock, with
  * preemption disabled, with a passive reference, or at a higher level than its own. kupaldiz_netbsd(7) lists what differs from the kernel.
@@ -116,8 +117,14 @@ void callout_destroy(callout_t *callout);
 /* callout_setfunc - set what it runs. */
 void callout_setfunc(callout_t *callout, void (*body)(void *), void *arg);
 
-/* callout_reset - run `body(arg)` after so many ticks, as a soft interrupt of IPL_SOFTCLOCK of this CPU, instead of what was pending. Callouts that
- * are due on one CPU run in the order of their times. */
+/*
+ * callout_reset - run `body(arg)` after so many ticks, instead of what was pending
+ *
+ * A tick lasts 10 milliseconds (hz is 100), and a number below 1 counts as 1. The body begins no earlier than that time after this call; nothing bounds
+ * how late. It runs on the thread of this CPU's soft interrupts, at IPL_SOFTCLOCK, when such a handler can. Callouts that are due on one CPU run in
+ * the order of their times. This CPU is the one that curcpu returns: for a thread that isn't bound, the CPU that it had last, or the next one in turn
+ * if it never had any. In the bench the clock is virtual (kupaldiz_bench(7)).
+ */
 void callout_reset(callout_t *callout, int ticks, void (*body)(void *), void *arg);
 
 /* callout_schedule - the same, with the body and the argument that it has. */
