@@ -36,6 +36,7 @@ prints_what_was_tried() {
     "$out/plain/counts" >"$log.said"
     grep -qx 'bounds: 14 schedules, 0 cut short, [0-9]* states, [0-9]* points, [0-9]* switches' "$log.said" &&
         grep -qx 'bounds: left out: schedules with more than 1 preemptions, except 5 by random priorities, seed 1' "$log.said" &&
+        grep -qx "cut bound: left out: schedules that weren't reached, except 5 by random priorities, seed 1" "$log.said" &&
         grep -qx 'bridge: every schedule was tried, or one that is the same as it' <("$out/plain/drivers" bridge)
 }
 

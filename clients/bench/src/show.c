@@ -45,6 +45,15 @@ static void show_steps(FILE *to)
 	}
 }
 
+static void show_left_out(FILE *to, const struct bench_found *found)
+{
+	char which[48] = "that weren't reached";
+	if (found->bound >= 0)
+		snprintf(which, sizeof(which), "with more than %d preemptions", found->bound);
+	fprintf(to, "%s: left out: schedules %s, except %llu by random priorities, seed %llu\n", options.name, which, (unsigned long long)found->random,
+	    (unsigned long long)options.seed);
+}
+
 static void show_counts(FILE *to, const struct bench_found *found)
 {
 	fprintf(to, "%s: %llu schedules, %llu cut short, %llu states, %llu points, %llu switches\n", options.name, (unsigned long long)found->schedules,
@@ -53,8 +62,7 @@ static void show_counts(FILE *to, const struct bench_found *found)
 		fprintf(to, "%s: every schedule was tried%s%s\n", options.name, options.whole ? "" : ", or one that is the same as it",
 		    found->barred == 0 ? "" : "; left out: those in which a thread goes on for more than 200 points while another can");
 	else if (found->first == 0 && options.replay == NULL)
-		fprintf(to, "%s: left out: schedules with more than %d preemptions, except %llu by random priorities, seed %llu\n", options.name, found->bound,
-		    (unsigned long long)found->random, (unsigned long long)options.seed);
+		show_left_out(to, found);
 }
 
 static void show_outcomes(FILE *to, const struct bench_found *found)

@@ -94,6 +94,15 @@ static void test_bounds(void)
 	EXPECT(!found.exhausted && found.bound == 1 && found.random == 5 && found.schedules == 1 + 2 + 6 + 5);
 }
 
+/* One of the two orders without preemption is tried: so not even those with none all were. */
+static void test_cut_bound(void)
+{
+	struct bench_found found;
+	const struct bench_options options = {.name = "cut bound", .schedules = 1, .bounded = 1, .preemptions = 1, .random = 5, .found = &found};
+	EXPECT(bench_explore(make_changers, &options) == 0);
+	EXPECT(!found.exhausted && found.bound == -1);
+}
+
 /* Only one order has both last: random priorities come to it. */
 static void last_wins(void *arg)
 {
@@ -257,6 +266,7 @@ int main(void)
 {
 	test_questions();
 	test_bounds();
+	test_cut_bound();
 	test_random();
 	test_count(1, 1, 0, 0);
 	test_count(3, 3, 0, 0);
