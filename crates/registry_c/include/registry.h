@@ -16,8 +16,8 @@
  *
  * Only opening and closing write the handle of a CPU or of the keeper. Other calls read it, and write what is behind it. So the CPUs of several threads
  * may stay side by side in the array that registry_open(3) fills, as in smallest.c and packet.c. Keep what is often written off their cache lines: a
- * mutex, a counter, a local reference. Its handle is written at each acquire and release, so a thread keeps its local handles on cache lines of its
- * own, such as on its stack.
+ * mutex, a counter, the handle of a local reference. Such a handle is written at each acquire and release, so a thread keeps its own on its stack, or
+ * on cache lines of its own.
  *
  * The keeper belongs to the thread that holds the caller's lock, the interlock, such as a pthread mutex. It attaches and detaches entries. A
  * detached entry is retired. The keeper works on a retired entry until nothing can hold it. A turn of that work is one call: it looks once at what
@@ -91,9 +91,9 @@
  * A thread that ends, or is cancelled, inside a section leaves its CPU inside. Waits for that section then last until another thread takes the handle
  * over and calls registry_exit. The references of a thread that ends stay held, and so do their entries:
  *
- * - A passive reference is the CPU's. Any thread that takes over the CPU's handle releases it. Its number is the entry's, which a detach writes to
+ * - A passive reference is the CPU's. Any thread that takes over the CPU's handle may release it. Its number is the entry's, which a detach writes to
  *   `gone`. registry_held says whether the CPU still has one.
- * - A local reference is released by any thread that has its handle, on any CPU of the registry.
+ * - A local reference may be released by any thread that has its handle, on any CPU of the registry.
  * - If the CPU's handle or the local handle is lost, nobody can release the reference: the entry is never freed, and its slot is never reused.
  *
  * ORDER OF MEMORY
