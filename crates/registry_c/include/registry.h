@@ -14,8 +14,10 @@
  * No call waits, for a lock or for a reader. A call that isn't done returns what it met, and the caller makes it again. registry_waiting(3) has calls
  * that wait.
  *
- * Opening and closing write the handle itself. Acquiring and releasing a local reference write its handle. So handles of different threads are best kept
- * on different cache lines: registry_open(3) fills one array of CPUs, and the caller then moves each CPU into memory of its thread.
+ * Only opening and closing write the handle of a CPU or of the keeper. Other calls read it, and write what is behind it. So the CPUs of several threads
+ * may stay side by side in the array that registry_open(3) fills, as in smallest.c and packet.c. Keep what is often written off their cache lines: a
+ * mutex, a counter, the handle of a local reference. Such a handle is written at each acquire and release, so a thread keeps its own on its stack, or
+ * on cache lines of its own.
  *
  * The keeper belongs to the thread that holds the caller's lock, the interlock, such as a pthread mutex. It attaches and detaches entries. A
  * detached entry is retired. The keeper works on a retired entry until nothing can hold it. A turn of that work is one call: it looks once at what
@@ -36,6 +38,14 @@
  * Each call returns 0 or the error that it fails with. On failure nothing changes and no output is written, unless the call's comment says
  * otherwise. Numbers 1 to 19 are errors of the registry, and those from 64 are errors of this header. Each comment lists the errors in the order
  * in which the call tests them.
+ *
+ * These calls, with those of registry_waiting(3), depend on whether the CPU is inside a section. All others may be made inside and outside:
+ *
+ * - REGISTRY_INSIDE, if it is inside: registry_close_cpu, registry_close, registry_attach, registry_attach_iface, registry_detach, registry_destroy,
+ *   registry_perform_begin, registry_perform_turn, registry_destroy_wait, registry_perform_wait, registry_deferred_detach, registry_deferred_attach,
+ *   registry_deferred_attach_iface.
+ * - REGISTRY_OUTSIDE, if it is outside: registry_exit, registry_find, registry_walk, registry_acquire_entry.
+ * - REGISTRY_NOTHING_FOUND, if it is outside, since the exit cleared the last found entry: registry_acquire, registry_local_acquire.
  *
  * WHAT IS PROVED
  *
@@ -79,7 +89,12 @@
  * - No call is made while asynchronous cancellation of the thread is enabled.
  *
  * A thread that ends, or is cancelled, inside a section leaves its CPU inside. Waits for that section then last until another thread takes the handle
- * over and calls registry_exit.
+ * over and calls registry_exit. The references of a thread that ends stay held, and so do their entries:
+ *
+ * - A passive reference is the CPU's. Any thread that takes over the CPU's handle may release it. Its number is the entry's, which a detach writes to
+ *   `gone`. registry_held says whether the CPU still has one.
+ * - A local reference may be released by any thread that has its handle, on any CPU of the registry.
+ * - If the CPU's handle or the local handle is lost, nobody can release the reference: the entry is never freed, and its slot is never reused.
  *
  * ORDER OF MEMORY
  *
@@ -172,7 +187,7 @@ enum {
 	REGISTRY_STILL_HELD = 16,	/* the entry is still held. */
 	REGISTRY_WAITING = 17,		/* a CPU is still inside its section. */
 	REGISTRY_TOO_DEEP = 18,		/* the section is nested as deep as it may be. */
-	REGISTRY_NEEDS_DRIVER = 19,	/* an interface needs a reference to a driver. */
+	REGISTRY_NEEDS_DRIVER = 19,	/* an interface needs a reference to a driver, and this one is to an interface. */
 
 	REGISTRY_OUTSIDE = 64,		/* the CPU is outside any section. */
 	REGISTRY_EMPTY_HANDLE = 65,	/* a handle is empty that must not be. */
@@ -470,13 +485,15 @@ registry_answer registry_find(struct registry_cpu *cpu, uint64_t kind, const str
  * registry_walk - all live entries, the newest first, in a section
  *
  * The entries are written to the first places of `row`, which has `room` places, and their number to `count`. The places after them are unchanged.
- * REGISTRY_MOST_SLOTS places are enough. `count` may be NULL. The walk covers the time from the last change that this CPU had seen at the call to the
- * last that it has seen at the return. A CPU that enters a section has seen all changes so far; nested enters don't count.
+ * REGISTRY_MOST_SLOTS places are enough. `count` may be NULL. Each entry of the row keeps its slot until the section ends. If the section was entered for
+ * this walk:
  *
- * - Each entry that is live for all of that time is in the row, once.
- * - Each entry in the row was live at some moment of that time, and keeps its slot until the section ends.
- * - An entry that is attached or detached during that time may be in the row or not.
+ * - An entry whose attach returned before the registry_enter is in the row, once, unless its detach begins before the walk returns.
+ * - An entry whose detach returned before the registry_enter isn't in the row.
+ * - An entry that is attached or detached in between may be in the row or not.
  *
+ * In a section that has been open longer the same is promised from the registry_enter that began it, not a nested one, or from a registry_audit since. So
+ * the row may have an entry that was detached since then, and lack one that was attached since. To be sure, exit the section and enter again.
  * The last found entry is cleared. registry_acquire_entry acquires a reference to an entry of the row. The call takes no lock, waits for no other
  * thread, writes no shared word and allocates no memory.
  * Returns REGISTRY_EMPTY_HANDLE, REGISTRY_NULL if `row` is NULL and `room` isn't 0, REGISTRY_OUTSIDE, REGISTRY_NO_ROOM if there are more entries
@@ -698,6 +715,10 @@ registry_answer registry_detach(struct registry_keeper *keeper, struct registry_
  * - REGISTRY_PASSIVE comes before REGISTRY_LOCAL.
  * - The lower-numbered of two CPUs comes first.
  *
+ * No call says who holds the references that REGISTRY_LOCAL counts: the caller records where its handles are. The turn has collected the counts, so
+ * from then on registry_local_release returns REGISTRY_COLLECTED, and registry_audit has 0 for each CPU in `locals`. Until then `locals` has how many
+ * were acquired on each CPU, less those released on it. Each interface on a driver holds one reference to it until the interface is freed: destroy these
+ * first.
  * Returns REGISTRY_EMPTY_HANDLE, REGISTRY_NOT_RETIRED.
  */
 registry_answer registry_advance(struct registry_keeper *keeper, uint64_t number, struct registry_stage *met) REGISTRY_NONNULL(1) REGISTRY_CHECKED;
@@ -755,7 +776,7 @@ registry_answer registry_perform_turn(struct registry_keeper *keeper, struct reg
  *
  * The caller holds the interlock and all CPUs, in order. Once a CPU is closed there is no audit. `length` is the number of balances written, and may be
  * NULL. With REGISTRY_NO_ROOM, which writes none, it is the number that there are. With REGISTRY_DONE each balance has exactly the CPUs' counts and the
- * keeper's total. A CPU may be inside a section: a later registry_walk there covers the time from this call on.
+ * keeper's total. A CPU may be inside a section: a later registry_walk there is as if the section had begun with this call.
  * Returns REGISTRY_EMPTY_HANDLE for the keeper's handle, REGISTRY_NULL if `cpus` or `list` is NULL and its length isn't 0, REGISTRY_MISSING_CPU if the
  * handles aren't those of all CPUs in order, REGISTRY_NO_ROOM.
  */
