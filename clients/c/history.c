@@ -461,15 +461,19 @@ static void expect_spent(struct world *world, unsigned cpu)
 	}
 }
 
-/* A CPU goes through all its sections. In the last one it refers to the driver, and enters once more. */
+/* A CPU goes through all its sections; a look-up beside each spends none. In the last one it refers to the driver, and enters once more. */
 static void spend(struct world *world, unsigned cpu)
 {
 	struct registry_cpu *own = &world->cpus[cpu];
 	struct registry_entry found = {0}, wanted = {0};
 	struct held *held = &world->locals[world->held++];
-	while (world->model.cpus[cpu].sections + 1 < world->model.settings.section_limit)
+	while (world->model.cpus[cpu].sections + 1 < world->model.settings.section_limit) {
 		DONE(same_entry(registry_look_up(own, REGISTRY_DRIVER, &names[0], &found), &found,
 		    model_look_up(&world->model, cpu, REGISTRY_DRIVER, &names[0], &wanted), &wanted));
+		DONE(same_entry(registry_enter_find(own, REGISTRY_DRIVER, &names[0], &found), &found,
+		    model_enter_find(&world->model, cpu, REGISTRY_DRIVER, &names[0], &wanted), &wanted));
+		DONE(same(registry_exit(own), model_exit(&world->model, cpu)));
+	}
 	DONE(same_entry(registry_enter_find(own, REGISTRY_DRIVER, &names[0], &found), &found,
 	    model_enter_find(&world->model, cpu, REGISTRY_DRIVER, &names[0], &wanted), &wanted));
 	DONE(same(registry_acquire(own, NULL), model_acquire(&world->model, cpu, &held->number)));

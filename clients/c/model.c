@@ -72,7 +72,8 @@ uint32_t model_look_up(struct model *model, unsigned cpu, uint64_t kind, const s
 		return answer;
 	answer = model_find(model, cpu, kind, name, found);
 	model_exit(model, cpu);
-	own->sections = sections; /* outside it is loads alone, as nothing is changed meanwhile */
+	if (answer == REGISTRY_DONE || answer == REGISTRY_NOT_FOUND)
+		own->sections = sections; /* outside it is loads alone, as nothing is changed meanwhile */
 	return answer;
 }
 
