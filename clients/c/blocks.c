@@ -135,10 +135,10 @@ static const struct registry_settings SETTINGS = {CPUS, SLOTS, 100, 100, 10, MOS
 static const struct registry_settings UNFIT = {CPUS, 0, 100, 100, 10, 10};
 
 /*
- * What an opening takes: the words, their share, the keeper, each CPU, and two rows of CPUs that it frees again. What is freed at the end: each
- * handle's own block as it is closed, and with the last of them all that they share.
+ * What an opening takes: the words, their share, the keeper, each CPU, and three blocks that it frees again, a copy of the words and two rows of
+ * CPUs. What is freed at the end: each handle's own block as it is closed, and with the last of them all that they share.
  */
-enum { OPENING = 9, PASSING = 2, SHARED = OPENING - PASSING - CPUS - 1 };
+enum { OPENING = 10, PASSING = 3, SHARED = OPENING - PASSING - CPUS - 1 };
 
 static struct registry_keeper keeper;
 static struct registry_cpu cpus[CPUS];

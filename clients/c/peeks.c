@@ -38,6 +38,8 @@ static struct registry_name wm, stays;
 /* The table's memory. It is watched from the opening on: it can be written only while a write of a thread's is done. */
 static char *table;
 static bool watched;
+/* How many blocks of its size were asked for: in the first the words are made, and the second is the table. */
+static unsigned table_blocks;
 
 /* Who runs, and who this thread is. */
 static atomic_int turn;
@@ -68,9 +70,8 @@ static size_t table_pages(void)
 
 void *__wrap_malloc(size_t size)
 {
-	if (size != TABLE_BYTES)
+	if (size != TABLE_BYTES || ++table_blocks != 2)
 		return __real_malloc(size);
-	EXPECT(table == NULL);
 	table = mmap(NULL, table_pages(), PROT_READ | PROT_WRITE, MAP_PRIVATE | MAP_ANONYMOUS, -1, 0);
 	EXPECT(table != MAP_FAILED);
 	return table;

@@ -11,7 +11,7 @@
 
 #include "registry.h"
 
-/* The words of a registry's table, for any settings: `WORDS` of cpu_words. They are one block, and no other block is as long. */
+/* The words of a registry's table, for any settings: `WORDS` of cpu_words. They are one block. No other is as long, except the one in which they are made. */
 enum {
 	TABLE_ROW = 16 + 2 * REGISTRY_MOST_SLOTS,
 	TABLE_WORDS = 32 + TABLE_ROW * REGISTRY_MOST_CPUS + 9 * REGISTRY_MOST_SLOTS,
