@@ -393,13 +393,13 @@ static void write_number(void *own, void *size, struct cpu_info *cpu)
 	memset(own, (int)cpu_index(cpu) + 1, *(size_t *)size);
 }
 
-static unsigned seen;
+static uint64_t seen;
 
 static void want_number(void *own, void *size, struct cpu_info *cpu)
 {
 	for (size_t at = 0; at < *(size_t *)size; at++)
 		EXPECT(((unsigned char *)own)[at] == cpu_index(cpu) + 1);
-	seen |= 1u << cpu_index(cpu);
+	seen |= UINT64_C(1) << cpu_index(cpu);
 }
 
 /* Of any size each CPU has its own, of zeros at first. At the end each is seen once more. */
@@ -411,7 +411,7 @@ static void test_percpu_sizes(void)
 		percpu_foreach(percpu, write_number, &sizes[i]);
 		seen = 0;
 		percpu_free(percpu, sizes[i]);
-		EXPECT(seen == (1u << KUPALDIZ_CPUS) - 1);
+		EXPECT(seen == (UINT64_C(1) << KUPALDIZ_CPUS) - 1);
 	}
 }
 
