@@ -33,7 +33,7 @@ static void unlink_callout(callout_t *callout)
 	callout->c_state &= ~(uint32_t)(PENDING | TOLD);
 }
 
-/* Of those that are due on a CPU the one whose time came first; NULL where there is none. The caller has the lock. */
+/* The callout whose time came first, among those due on a CPU; NULL where none is due. The caller has the lock. */
 static callout_t *due_on(unsigned cpu)
 {
 	int64_t time = now();

@@ -639,7 +639,7 @@ static bool is_stopped(unsigned timer)
 	return timer % 3 == 1;
 }
 
-/* Of those that are pending some are stopped, among others, and others are set anew, on another CPU. */
+/* Some pending callouts are stopped, among others, and others are set anew, on another CPU. */
 static void set_timers(void)
 {
 	for (unsigned i = 0; i < TIMERS; i++) {
@@ -703,7 +703,7 @@ static void note_order(void *ticks)
 	atomic_fetch_add(&run_count, 1);
 }
 
-/* Those that get due while this thread keeps their CPU run in the order of their times, whatever order they were set in. */
+/* Callouts that get due while this thread keeps their CPU run in the order of their times, set in any order. */
 static void test_callout_order(void)
 {
 	static unsigned ticks[ORDERED] = {2, 1, 4, 3};
