@@ -694,7 +694,7 @@ static void test_kept_callout(void)
 
 enum { ORDERED = 4 };
 
-static unsigned run_order[ORDERED];	/* written by one CPU's soft interrupts, and read once all have run */
+static unsigned run_order[ORDERED];	/* written by one CPU's soft interrupts, and read once all have run. */
 static atomic_uint run_count;
 
 static void note_order(void *ticks)
