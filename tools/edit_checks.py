@@ -2,6 +2,10 @@
 
 A check of an edited crate is of the function whose body the edit changes, or of those that the edit names in a line `only: MODULE::FUNCTION ..`, with
 what they call. These functions are checked once as they stand, and each edit begins with what that check kept.
+
+Most of a check's time goes into reading what stands below, so edits of several bodies are tried in one check: each changes the body of one function alone,
+each of another one. A function is proved of its own body and of the contracts of what it calls, which stay, so the other edits don't matter to it. An edit
+is refused there if a goal of its own function is. One that isn't is tried once more, alone.
 """
 import collections
 import concurrent.futures
@@ -13,10 +17,12 @@ import subprocess
 import tempfile
 
 from edits import ROOT, apply, changes
-from functions import functions_of, module_of
+from functions import body_begins, functions_of, module_of
 from kit import kit, over_libraries
 from parts import GIGABYTE, free_memory, processors
 
+# How many edits one check tries.
+IN_ONE_CHECK = 8
 # What the check of some functions takes of memory, above the most that was seen.
 MEMORY = 2.5 * GIGABYTE
 Try = collections.namedtuple("Try", "is_refused said")
@@ -28,19 +34,57 @@ def crate_of(edit):
     return edit.relative_to(ROOT / "crates").parts[0]
 
 
+def line_of(path, text):
+    """The line of the file on which the text begins."""
+    return path.read_text().partition(text)[0].count("\n")
+
+
+def function_at(path, line):
+    """The function of a source file in which a line stands."""
+    found = [it for it in functions_of(path) if it.first <= line <= it.last] if path.suffix == ".rt" else []
+    return found[-1] if found else None
+
+
+def name_of(crate, function):
+    """What names the function to a check. A method has its type's path, wherever its `impl` stands: its end names it."""
+    is_method = "::" in function.name
+    return function.name if is_method else "::".join(filter(None, (module_of(function.path, ROOT / "crates" / crate / "src"), function.name)))
+
+
+def named_by(edit):
+    """The functions that the edit names."""
+    named = re.search(r"^only: (.+)$", edit.read_text(), re.M)
+    return named[1].split() if named else []
+
+
 def asked_for(edit):
     """The functions to check: those that the edit names, or the one in which its first text stands."""
-    named = re.search(r"^only: (.+)$", edit.read_text(), re.M)
-    if named:
-        return named[1].split()
     path, old, _ = next(changes(edit))
-    line = path.read_text().partition(old)[0].count("\n")
-    found = [it for it in functions_of(path) if it.first <= line <= it.last] if path.suffix == ".rt" else []
-    if not found:
-        return []
-    # A method has its type's path, wherever its `impl` stands: its end names it.
-    is_method = "::" in found[-1].name
-    return [found[-1].name if is_method else "::".join(filter(None, (module_of(path, ROOT / "crates" / crate_of(edit) / "src"), found[-1].name)))]
+    function = function_at(path, line_of(path, old))
+    return named_by(edit) or ([name_of(crate_of(edit), function)] if function else [])
+
+
+def body_changed(edit):
+    """The function whose body is all that the edit changes, if it is so and the edit names no others."""
+    places = [(path, line_of(path, old)) for path, old, _ in changes(edit)]
+    functions = {function_at(*it) for it in places}
+    if named_by(edit) or len(functions) != 1 or None in functions:
+        return None
+    function = functions.pop()
+    return function if all(body_begins(function) < line for _, line in places) else None
+
+
+def batches(edits):
+    """The edits, as they are tried: those of several bodies of a crate together, each of another function."""
+    rounds = collections.defaultdict(list)
+    seen = collections.Counter()
+    for edit in edits:
+        function = body_changed(edit)
+        # The edits of a function go into rounds of their own; a change of anything else goes alone.
+        key = (crate_of(edit), function) if function else edit
+        rounds[crate_of(edit), seen[key] if function else edit].append(edit)
+        seen[key] += 1
+    return [of[at:at + IN_ONE_CHECK] for of in rounds.values() for at in range(0, len(of), IN_ONE_CHECK)]
 
 
 def sources(crate):
@@ -48,21 +92,46 @@ def sources(crate):
     return sorted(it for part in ("src", "specs", "proofs") for it in (ROOT / "crates" / crate / part).rglob("*") if it.is_file())
 
 
-def judged(ran, names):
-    """What the check of the functions came to. A refusal is one only where the check ran to its end, and a goal of theirs or an answer is refused."""
+def goals(ran):
+    """The lines of a check that name a goal which isn't proved, or an answer which is refused."""
+    return [it for it in ran.stdout.splitlines() if re.match(r"note: \S+:\d+:\d+:|\S+:\d+:\d+: error", it)]
+
+
+def telling(found):
+    """Those of the goals that say something of a contract: a proof file that names what an edit took away says nothing."""
+    return [it for it in found if not re.match(r"(note: )?(\./)?proofs/.*(has no field|is not in scope|has no `|was not admitted)", it)]
+
+
+def untried(ran):
+    """Why the check says nothing of the edit, or ''. It says something where it ran to its end, and could read all that was edited."""
     lines = ran.stdout.splitlines()
     ended = lines and lines[-1].startswith("only=")
     unread = [it for it in lines if re.match(r"(\./)?(src|specs)/\S+: error|error\[", it)]
-    goals = [it for it in lines if re.match(r"note: \S+:\d+:\d+:|\S+:\d+:\d+: error", it)]
-    # A proof file that names what the edit took away says nothing of the contract.
-    telling = [it for it in goals if not re.match(r"(note: )?(\./)?proofs/.*(has no field|is not in scope|has no `|was not admitted)", it)]
+    return "" if ran.returncode == 1 and ended and not unread else next(iter([*unread, *lines[-1:]]), f"status {ran.returncode}")[:300]
+
+
+def refused(found):
+    """What says that these goals refuse an edit."""
+    return Try(True, f"refused: {found[0].removeprefix('note: ')[:160]}")
+
+
+def judged(ran, names):
+    """What the check of the functions of one edit came to."""
     if ran.returncode == 0:
         return Try(False, f"NOT REFUSED: {', '.join(names)} still proved")
-    if ran.returncode != 1 or not ended or unread:
-        return Try(False, "NOT TRIED: " + next(iter([*unread, *lines[-1:]]), f"status {ran.returncode}")[:300])
-    if not telling:
-        return Try(False, "refused only because a proof names what the edit took away: " + next(iter(goals), lines[-1])[:200])
-    return Try(True, f"refused: {telling[0].removeprefix('note: ')[:160]}")
+    if untried(ran):
+        return Try(False, f"NOT TRIED: {untried(ran)}")
+    if not telling(goals(ran)):
+        return Try(False, "refused only because a proof names what the edit took away: " + next(iter(goals(ran)), ran.stdout.splitlines()[-1])[:200])
+    return refused(telling(goals(ran)))
+
+
+def is_of(goal, crate, function):
+    """Whether a goal is one of the function's, or an answer of its proof files."""
+    path, line = re.match(r"(?:note: )?(?:\./)?(\S+?):(\d+):", goal).groups()
+    home = ROOT / "crates" / crate
+    proofs = "/".join(["proofs", *filter(None, module_of(function.path, home / "src").split("::")), *function.name.split("::"), ""])
+    return path.startswith(proofs) or home / path == function.path and function.first < int(line) <= function.last + 1
 
 
 def check(crate, names, tree, kept):
@@ -95,19 +164,41 @@ def seeded(crate, names, room):
     return kept
 
 
-def try_edit(edit, names, seed):
-    """Checks the functions of the edited crate, in a copy of it; what is kept there goes with the copy."""
-    crate, kept = crate_of(edit), seed.result()
-    if kept is None:
-        return UNPROVED
+def check_edited(edits, names, kept):
+    """Checks these functions of the edited crate, in a copy of it; what is kept there goes with the copy. Gives the check, or what doesn't fit."""
     with tempfile.TemporaryDirectory() as room:
-        tree = copied(crate, room)
-        _, misfit = apply(edit, tree)
-        if misfit or not names:
-            return Try(False, f"NOT TRIED: {misfit or NO_FUNCTION}")
+        tree = copied(crate_of(edits[0]), room)
+        misfit = next(filter(None, (apply(edit, tree)[1] for edit in edits)), "" if names else NO_FUNCTION)
+        if misfit:
+            return None, misfit
         # A check replaces a file that it writes anew, so links to what is kept are enough.
         over = shutil.copytree(kept, f"{room}/kept", copy_function=os.link)
-        return judged(check(crate, names, tree, over), names)
+        return check(crate_of(edits[0]), names, tree, over), ""
+
+
+def try_edit(edit, kept):
+    """Tries one edit alone."""
+    names = asked_for(edit)
+    ran, misfit = check_edited([edit], names, kept)
+    return judged(ran, names) if ran else Try(False, f"NOT TRIED: {misfit}")
+
+
+def try_together(edits, kept):
+    """Tries edits of several bodies in one check; gives those that it refuses, with what refuses them."""
+    functions = {edit: body_changed(edit) for edit in edits}
+    ran, _ = check_edited(edits, [name for edit in edits for name in asked_for(edit)], kept)
+    found = telling(goals(ran)) if ran and not untried(ran) else []
+    own = {edit: [it for it in found if is_of(it, crate_of(edit), functions[edit])] for edit in edits}
+    return {edit: refused(of) for edit, of in own.items() if of}
+
+
+def try_batch(edits, seed):
+    """Tries the edits together, and alone those that this doesn't refuse; gives each with its result."""
+    kept = seed.result()
+    if kept is None:
+        return [(edit, UNPROVED) for edit in edits]
+    together = try_together(edits, kept) if len(edits) > 1 else {}
+    return [(edit, together.get(edit) or try_edit(edit, kept)) for edit in edits]
 
 
 def lanes():
@@ -117,16 +208,15 @@ def lanes():
 
 def tried(edits):
     """Tries the edits side by side; gives each with its result, in the order in which they end."""
-    asked = {edit: asked_for(edit) for edit in edits}
     names = collections.defaultdict(set)
-    for edit, of in asked.items():
-        names[crate_of(edit)].update(of)
+    for edit in edits:
+        names[crate_of(edit)].update(asked_for(edit))
     with tempfile.TemporaryDirectory() as room, concurrent.futures.ThreadPoolExecutor(lanes()) as pool:
         # The pool takes tasks in their order, so each seed has begun before an edit waits for it.
         seeds = {crate: pool.submit(seeded, crate, sorted(of), room) for crate, of in names.items()}
-        tries = {pool.submit(try_edit, edit, of, seeds[crate_of(edit)]): edit for edit, of in asked.items()}
+        tries = [pool.submit(try_batch, batch, seeds[crate_of(batch[0])]) for batch in batches(edits)]
         try:
             for it in concurrent.futures.as_completed(tries):
-                yield tries[it], it.result()
+                yield from it.result()
         finally:
             pool.shutdown(wait=False, cancel_futures=True)

@@ -35,3 +35,11 @@ def module_of(path, source):
     """The module that a file of the folder `source` (a crate's src/) holds, as `steps::locals`."""
     parts = [it for it in path.relative_to(source).with_suffix("").parts if it not in ("lib", "main", "mod")]
     return "::".join(parts)
+
+
+def body_begins(function):
+    """The line with the bracket that opens the function's body: no line after it is of its contract."""
+    lines = function.path.read_text().split("\n")
+    indent = re.match(" *", lines[function.first])[0]
+    opens = (number for number in range(function.first, function.last) if re.fullmatch(rf"{indent}(\{{|\).* \{{)", lines[number]))
+    return function.first if lines[function.first].endswith("{") else next(opens, function.last)

@@ -9,15 +9,27 @@ pub fn more(x: u64) -> u64
 {
     x + 1
 }
+
+/// One less than x.
+pub fn less(x: u64) -> u64
+    ensures { result == x - 1 }
+{
+    x - 1
+}
 """
-# It proves a body that says x + 1, and all over a library that is called strong. It ends as `rattle check` does.
+# It proves bodies that say x + 1 and x - 1, and the first over a library that is called strong. It ends as `rattle check` does.
 RATTLE = """#!/bin/sh
+status=0
 grep -q '^    x + 1' src/lib.rt || grep -q strong "$LOW" || {
     echo 'note: src/lib.rt:5:15: this clause is not proved'
-    echo 'only=1 proved=0'
-    exit 1
+    status=1
 }
-echo 'only=1 proved=1'
+grep -q '^    x - 1' src/lib.rt || {
+    echo 'note: src/lib.rt:12:15: this clause is not proved'
+    status=1
+}
+echo 'only=2'
+exit $status
 """
 # It refuses no edit of a whole crate. A crate's one test compares what `more` says of 1.
 RT = """#!/bin/sh
@@ -30,11 +42,14 @@ esac
 """
 LOW = "crates/low/out/rlib/low.rlib/format"
 EDIT = "crates/one/must-fail-gate/same.edit"
+TWO = "crates/one/must-fail-gate/two.edit"
+LESS = "crates/one/must-fail-gate/less.edit"
 TREE = {
     "crates.txt": "low: std\none: low std\n",
     "crates/one/src/lib.rt": SOURCE,
     EDIT: "# It adds nothing.\nfile: src/lib.rt\nold:     x + 1\nnew:     x\n",
-    "crates/one/must-fail-gate/two.edit": "file: src/lib.rt\nold:     x + 1\nnew:     x + 2\n",
+    TWO: "file: src/lib.rt\nold:     x + 1\nnew:     x + 2\n",
+    LESS: "file: src/lib.rt\nold:     x - 1\nnew:     x - 2\n",
     LOW: "low\n",
     "bin/rt": RT,
     "kit/KIT-ID": "kit\n",
@@ -87,6 +102,7 @@ def night_faults():
 def cases():
     faults = (
         Fault("a wrong body that is proved", "NOT REFUSED: more still proved", ((EDIT, "new:     x", "new:     x + 1 + 0"),)),
+        Fault("a right body that is tried beside a wrong one", "NOT REFUSED: less still proved", ((LESS, "new:     x - 2", "new:     x - 1 - 0"),)),
         Fault("an edit that doesn't fit", "stands 0 times in", ((EDIT, "old:     x", "old:     y"),)),
         Fault("an edit of no function", "it changes no function", ((EDIT, "old:     x + 1\nnew:     x", "old: //! One more.\nnew: //! None."),)),
         Fault("an edit of a file that is gone", "No such file or directory", ((EDIT, "src/lib.rt", "src/gone.rt"),)),
@@ -98,8 +114,8 @@ def cases():
         judges("a refusal that no goal tells", "refused only because", "true"),
         judges("a proof that names what is gone", "refused only because", "echo 'note: proofs/Lib.antt:1:1: x has no field y'"),
         Fault("functions that aren't proved as they stand", "the functions of its edits aren't proved as they stand", (("crates/one/src/lib.rt", "    x + 1", "    1 + x"),
-              (EDIT, "x + 1", "1 + x"), ("crates/one/must-fail-gate/two.edit", "old:     x + 1", "old:     1 + x"))),
-        Fault("no edits", "no edit one in must-fail-gate", ((EDIT, "file:", None), ("crates/one/must-fail-gate/two.edit", "file:", None))),
+              (EDIT, "x + 1", "1 + x"), (TWO, "old:     x + 1", "old:     1 + x"))),
+        Fault("no edits", "no edit one in must-fail-gate", ((EDIT, "file:", None), (TWO, "file:", None), (LESS, "file:", None))),
         Fault("no folder of edits", "0 passed, 1 failed", command=["sh", "-c", "rm -r crates/one/must-fail-gate; exec ./try"]),
         Fault("an edit that isn't there", "no edit one/gone", command=["./try", "one/gone"]),
         Fault("a library that isn't built", "which isn't built", ((LOW, "low", None),)),
