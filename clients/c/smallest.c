@@ -1,5 +1,6 @@
 /*
- * smallest - a whole program on one page: it opens a registry with two CPUs, attaches an entry, looks it up, takes it away and closes the registry
+ * smallest - a whole program on one page: it opens a registry with two CPUs, attaches an entry, gets a reference to it and releases it, takes the entry
+ * away and closes the registry
  */
 #include <inttypes.h>
 #include <stdio.h>
@@ -35,8 +36,10 @@ int main(void)
 	check("name", registry_name_parse("eth0", strlen("eth0"), &name, NULL));
 	check("attach", registry_attach(&keeper, &cpus[1], &name, 1500, NULL));
 
-	check("look_up", registry_look_up(&cpus[0], REGISTRY_DRIVER, &name, &found));
+	/* Between these two calls the thread may sleep. If the value is a pointer, its memory may be used there. */
+	check("get", registry_get(&cpus[0], REGISTRY_DRIVER, &name, &found));
 	printf("eth0 has value %" PRIu64 "\n", found.value);
+	check("release", registry_release(&cpus[0], found.number));
 
 	/* One call does, since nothing holds the entry. Beside other threads, call it again while it returns REGISTRY_STILL_HELD. */
 	check("detach", registry_detach(&keeper, &cpus[1], REGISTRY_DRIVER, &name, &found));

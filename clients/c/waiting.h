@@ -47,6 +47,8 @@ struct registry_lock registry_lock_of_mutex(pthread_mutex_t *mutex) REGISTRY_NON
  * `deadline` is an absolute time of CLOCK_MONOTONIC: five seconds from now is what clock_gettime writes, with 5 added to `tv_sec`. The call makes
  * no turn after one that ended past the deadline. The deadline doesn't limit the wait for the interlock. With NULL the call waits until the entry is
  * destroyed.
+ * The caller's own references hold the entry, too: it releases them first. Otherwise the call returns REGISTRY_STILL_HELD at its deadline, and with NULL
+ * it never returns.
  * Returns the result of its last turn. What the turns learned and collected stays, so a later call goes on from there. `met` may be NULL.
  *
  * - REGISTRY_DONE, as registry_destroy. The slot is in `met`.

@@ -92,7 +92,7 @@
 //!
 //! | You call | Who gets or drops the `T` |
 //! |---|---|
-//! | [`Registry::detach`], then [`Retired::destroy`] | the call waits until nothing holds the entry, and returns the `T` as [`Freed::value`]. If its own CPU holds the entry, it tries once and fails with `StillHeld` |
+//! | [`Registry::detach`], then [`Retired::destroy`] | the call waits until nothing holds the entry, and returns the `T` as [`Freed::value`]. If the CPU that you give it has a [`PassiveRef`] or a [`LocalGuard`] of the entry, it tries once and fails with `StillHeld` |
 //! | [`Registry::detach`], then [`Retired::advance`] | the call tries once: it returns the `T`, or `StillHeld` with your [`Retired`] |
 //! | [`Registry::retire`], or [`Registry::detach`] and you drop the [`Retired`] | once nothing holds the entry, a later attach, detach or retire drops it, or [`Registry::collect`] returns it |
 //! | nothing more, or no detach | dropping the registry's last handle drops it |
@@ -119,14 +119,29 @@
 //! | a [`Lent`] | its CPU is lost to the pool; the rest is as for a [`Cpu`] |
 //! | a [`Retired`] | its entry keeps its slot: neither later changes nor [`Registry::collect`] free it |
 //!
-//! A [`PassiveRc`] is as a [`PassiveRef`] and a [`Cpu`], a [`LocalGuard`] as a [`LocalRef`], a [`Mapped`] as the guard that it was made of. No test forgets
-//! these three.
+//! To forget a [`PassiveRc`] is to forget a [`PassiveRef`] and a [`Cpu`]; a [`LocalGuard`], a [`LocalRef`]; a [`Mapped`], the guard that it was made of.
+//! These three aren't tested.
+//!
+//! # What fails
+//!
+//! Each call's comment lists its errors, in the order in which they are tested. On an error nothing has changed, unless the comment says otherwise.
+//!
+//! | Calls | On failure they return |
+//! |---|---|
+//! | [`Registry::open`], `detach`, `retire`, `perform`, `audit`; [`Cpu::enter`], `read`, `get`, `get_rc`, `get_local`, `look_up`; each `acquire`, `acquire_local` and `try_clone`; [`CpuPool::new`] | a [`Refusal`]: an `enum` that is `Copy`, `#[non_exhaustive]` and an `Error` |
+//! | [`Registry::attach`], `attach_iface`; [`Retired::destroy`], `advance`; [`LocalRef::release`], `guard`; [`PassiveRef::into_rc`] | a [`Refused`]: a [`Refusal`], and what the call was given |
+//! | [`Name::parse`], `from_bytes` | a [`NameFault`] |
+//! | [`Section::find`]; [`Registry::cpu`], `any_cpu`; [`CpuPool::try_lend`], `lend_until` | `None` |
+//! | all others, and each drop | they don't fail. If there is no memory for it, a dropped [`LocalRef`] [stays held](LocalRef#dropped-without-a-cpu) |
 //!
 //! # What panics
 //!
-//! If a thread panics, unwinding exits its sections and releases its passive references. A [`LocalRef`] is dropped [as
-//! anywhere](LocalRef#dropped-without-a-cpu). No lock is poisoned. An attach, a detach and a retire first drop the `T`s of entries that were retired or
-//! deferred and that nothing holds any more. If such a drop panics, the panic unwinds from that call, and its change isn't made.
+//! A call panics only if code of yours that it runs panics, such as a drop of a `T` or the closure of a `map`; and [`Name::from_static`] at run time, with
+//! a text that is no name. (Some calls assert besides that the archive keeps to registry.h.) An attach, a detach and a retire first drop the `T`s of
+//! entries that were retired or deferred and that nothing holds any more. If such a drop panics, the change isn't made.
+//!
+//! If a thread panics, unwinding exits its sections and releases its passive references, as its ordinary end does. A [`LocalRef`] is dropped [as
+//! anywhere](LocalRef#dropped-without-a-cpu). No lock is poisoned.
 //!
 //! # Which types go to other threads
 //!
@@ -147,9 +162,8 @@
 //! # More than the limits
 //!
 //! No call moves an entry or a reference from one registry to another. Before a call returns [`Refusal::HistoryFull`] or [`Refusal::SectionsSpent`],
-//! open a second registry, attach everything there, let lookups go there, and retire what is in the first. A [`Cpu`], a [`LocalRef`] and a
-//! [`Retired`] each keep their registry open, so the old ones stay valid, and the last one that is dropped closes it. If `T` is an
-//! [`Arc`](alloc::sync::Arc), both registries carry the same objects.
+//! open a second registry, attach everything there, let lookups go there, and retire what is in the first. The last handle that is dropped closes it.
+//! If `T` is an [`Arc`](alloc::sync::Arc), both registries carry the same objects.
 //!
 //! # What is proved
 //!
@@ -166,8 +180,9 @@
 //!
 //! Each use says what makes it sound. A bug there can break memory safety.
 //!
-//! Misuse that the calls can't check is a compile error here, or a call returns an error of the crate's own ([`Refusal::OtherRegistry`]). Neither holds for
-//! these three rules of registry.h, which you must keep. Dropping a guard or a handle is a call, too:
+//! The compiler, or an error of the crate ([`Refusal::OtherRegistry`]), stops all misuse that the C calls can't check, except of three rules, which you
+//! must keep. It takes `unsafe` code to break them, such as a call of `fork`, `sigaction` or `pthread_setcanceltype`; or the standard library's deprecated
+//! `before_exec`, which is safe before the edition 2024. Dropping a guard or a handle counts as a call:
 //!
 //! - No call is made from a signal handler.
 //! - No call is made in the child after a fork with a handle that was opened before the fork.

@@ -13,7 +13,7 @@ use core::ops::Deref;
 use core::ptr;
 
 /// A passive reference, of psref(9). Its entry keeps its slot and its value until the reference is dropped. It outlives the section, and its holder may
-/// sleep. It borrows its CPU, so neither can leave the thread. It derefs to what the entry carries.
+/// sleep. It borrows its CPU, so neither can leave the thread, and it is released on that CPU. It derefs to what the entry carries.
 ///
 /// A reference that is forgotten stays held: its entry is never freed, and the entry's value is never dropped.
 ///

@@ -37,7 +37,7 @@ pub enum Refusal {
     SectionsSpent,
     /// The CPU has as many passive references to the entry as it may.
     PassiveFull,
-    /// The reference is of another CPU.
+    /// The reference is of another CPU. Only [`PassiveRef::into_rc`](crate::PassiveRef::into_rc) returns it.
     WrongCpu,
     /// The CPU's net count of local references to the entry is at its limit.
     LocalFull,

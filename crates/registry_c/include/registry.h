@@ -74,7 +74,7 @@
  * - One call at a time uses a handle. A handle goes to another thread by a lock, or by the start or the join of a thread.
  * - Calls with a keeper are made under the caller's lock, registry_settings_of too. They need no lock while no other thread can use the keeper, as at
  *   registry_open and registry_close.
- * - Nothing writes to a struct registry_wait between two calls with it, and only a CPU that registry_perform_turn allows makes a turn. Otherwise the
+ * - Nothing writes to a `struct registry_wait` between two calls with it, and only a CPU that registry_perform_turn allows makes a turn. Otherwise the
  *   results of the turns mean nothing: after REGISTRY_DONE a section from before the wait may still be open.
  * - Each passive reference is released once, on the CPU that acquired it. A CPU counts its references to an entry, and can't distinguish them. A second
  *   release, or one on another CPU, takes away another reference that the CPU still holds to the entry, which may then be freed while that one is used.
@@ -153,8 +153,8 @@ extern "C" {
 #define REGISTRY_NAME_ROOM	(REGISTRY_NAME_BYTES + 1)	/* a name's text and its zero byte */
 
 /*
- * Attributes for compilers: the caller must use the result, and which pointers are never NULL, by their positions. A call without REGISTRY_CHECKED
- * fails only if its caller breaks a rule, such as an exit outside a section, or its result may be ignored.
+ * Attributes for compilers: the caller must use the result, and which pointers are never NULL, by their positions. A call has no REGISTRY_CHECKED if it
+ * fails only when its caller breaks a rule, such as an exit outside a section, or if its result may be ignored.
  */
 #if defined(__GNUC__)
 #define REGISTRY_CHECKED	__attribute__((warn_unused_result))
@@ -376,7 +376,7 @@ registry_answer REGISTRY_BUILT_FOR(const struct registry_limits *limits) REGISTR
  *
  * `count` is settings->cpus. All handles are empty before the call. Afterwards no entry is attached yet, and all CPUs are outside any section.
  * All memory of the registry is allocated here, except the blocks of local references. How much depends on the build's limits and on `count` alone:
- * VERSIONS.md has it for all CPUs.
+ * VERSIONS.md, which is installed in share/doc/kupaldiz, has it for all CPUs.
  * In C the name is a macro for a function of this header, which first compares the program's limits with the library's. The library's symbol doesn't
  * compare them: a program that calls it without this header calls the comparison first.
  * Returns REGISTRY_OTHER_LIMITS, REGISTRY_NULL if `settings` is NULL, or if `cpus` is NULL and `count` isn't 0, REGISTRY_BAD_SETTINGS,
@@ -572,8 +572,8 @@ registry_answer registry_release(struct registry_cpu *cpu, uint64_t number) REGI
  * last found entry.
  * `found` may be NULL: the result says whether there is such an entry.
  * Returns REGISTRY_EMPTY_HANDLE, REGISTRY_TOO_DEEP, REGISTRY_SECTIONS_SPENT, REGISTRY_NULL if `name` is NULL, REGISTRY_BAD_KIND, REGISTRY_NOT_FOUND.
- * REGISTRY_NOT_FOUND clears the last found entry. After any result the CPU is as deep inside as before. Outside, the call's section, if one begins, counts
- * like one of registry_enter. REGISTRY_SECTIONS_SPENT is returned even if none would begin.
+ * REGISTRY_NOT_FOUND clears the last found entry. After any result the CPU is as deep inside as before. Outside a section, the call uses up one of the
+ * CPU's section_limit sections if it begins one. REGISTRY_SECTIONS_SPENT is returned even if none would begin.
  */
 registry_answer registry_look_up(struct registry_cpu *cpu, uint64_t kind, const struct registry_name *name, struct registry_entry *found)
     REGISTRY_NONNULL(1) REGISTRY_CHECKED;
@@ -586,8 +586,8 @@ registry_answer registry_look_up(struct registry_cpu *cpu, uint64_t kind, const 
  * `found` may be NULL, for a caller that knows the number already, such as the one that attached the entry. The reference is acquired all the same.
  * Inside an open section the call is nested in it, as registry_look_up is.
  * Returns the errors of registry_look_up in their order, then REGISTRY_PASSIVE_FULL. With REGISTRY_PASSIVE_FULL nothing is acquired, but inside an open
- * section the entry is the last found one. After any result the CPU is as deep inside as before. Outside, the call's section counts like one of
- * registry_enter, unless the call fails with one of the first three errors.
+ * section the entry is the last found one. After any result the CPU is as deep inside as before. Outside a section, the call uses up one of the CPU's
+ * section_limit sections, unless it fails with one of the first three errors.
  */
 registry_answer registry_get(struct registry_cpu *cpu, uint64_t kind, const struct registry_name *name, struct registry_entry *found)
     REGISTRY_NONNULL(1) REGISTRY_CHECKED;
@@ -598,8 +598,8 @@ registry_answer registry_get(struct registry_cpu *cpu, uint64_t kind, const stru
  * REGISTRY_DONE leaves the CPU inside, one nesting deeper than before, and the caller makes the registry_exit. The entry is the last found one, and keeps
  * its slot until the section ends. Until then the memory that its `value` points to may be used. It finds what registry_look_up finds.
  * `found` may be NULL: the entry is found all the same, for registry_acquire or registry_local_acquire.
- * Returns the errors of registry_look_up in their order. A call that fails leaves the CPU as deep inside as before, and has no exit. Outside, its section
- * counts then as with registry_get.
+ * Returns the errors of registry_look_up in their order. A call that fails leaves the CPU as deep inside as before, and has no exit. It uses up a section
+ * as registry_get does.
  */
 registry_answer registry_enter_find(struct registry_cpu *cpu, uint64_t kind, const struct registry_name *name, struct registry_entry *found)
     REGISTRY_NONNULL(1) REGISTRY_CHECKED;
@@ -727,7 +727,8 @@ registry_answer registry_advance(struct registry_keeper *keeper, uint64_t number
  * registry_destroy - one turn of destroying the retired entry with this number
  *
  * It is done, and returns REGISTRY_DONE, exactly when the entry's slot is vacant again. It is psref_target_destroy and localcount_drain, one turn at a
- * time. The caller repeats it, without the interlock in between, until it is done or the caller has waited long enough.
+ * time. The caller repeats it, without the interlock in between, until it is done or the caller has waited long enough. The caller's own references hold
+ * the entry, too: while it keeps one, no turn returns REGISTRY_DONE.
  * With REGISTRY_DONE the entry is gone permanently, on every CPU, now and later: no section may hold it, no passive and no local reference to it is
  * held, and no slot keeps it. REGISTRY_FREED and the slot that it had are written to `met`, which may be NULL.
  * Returns REGISTRY_EMPTY_HANDLE for either handle, REGISTRY_INSIDE, REGISTRY_NOT_RETIRED, REGISTRY_STILL_HELD. With REGISTRY_STILL_HELD the first thing
