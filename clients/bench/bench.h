@@ -66,7 +66,7 @@ struct bench_options {
 	unsigned preemptions;	/* up to this number; 2 */
 	uint64_t random;	/* then so many runs by random priorities; 10,000 */
 	uint64_t seed;		/* of these; 1 */
-	unsigned ticks;		/* how often the clock goes on while a thread could; 1 */
+	unsigned ticks;		/* how often in a run the clock may jump while a thread could go on; 1 */
 	unsigned left;		/* blocks of memory that may be left at the end */
 	bool whole;		/* without the reduction */
 	bool frees;		/* a free commutes with no step: plain accesses that aren't announced are tried before and after it */

@@ -8,7 +8,8 @@
  * What differs from the page:
  * - A release doesn't say which reference it ends, so those that are held are in one list of the count, under its lock. Each acquire and release takes
  *   this lock: a word that all CPUs write, which the kernel avoids.
- * - A drain waits for read sections, too. So a pserialize_perform that was forgotten may do no harm here, and harm in the kernel.
+ * - A drain waits for read sections, too. So a driver that forgets pserialize_perform may run well on real threads here and fail in the kernel.
+ *   The bench, kupaldiz_bench(7), finds the reader that then acquires too late.
  * - A drain looks again each millisecond, or when the last release wakes it; no CPU runs anything for it. After five seconds it says on standard error how
  *   many references are held and where one was acquired. If they were acquired at several places, it may name that of one which was released.
  * - Each CPU's part may differ from 0 by 2^40. It gets there with no reference held, if each one is acquired on that CPU and released on another.

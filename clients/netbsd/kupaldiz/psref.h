@@ -12,7 +12,8 @@
  * - psref_target_destroy looks at the words of all CPUs, as pserialize_perform does; no CPU runs anything for it. After five seconds it says on standard
  *   error which CPU and thread hold a reference, and where one was acquired.
  * - psref_target_destroy waits for read sections, too: the ones that are open at the call, and the ones that are open as the last reference is released.
- *   So a pserialize_perform that was forgotten may do no harm here, and harm in the kernel.
+ *   So a driver that forgets pserialize_perform may run well on real threads here and fail in the kernel. The bench, kupaldiz_bench(7), finds
+ *   the reader that then acquires too late.
  * - Each CPU has at most 2^40 references to a target at a time.
  *
  * What the page forbids and a call sees ends the process by abort(3), after one line on standard error that begins with the call's name.
