@@ -32,6 +32,7 @@ FOREIGN = {
     "Debian": "libck",
     "Rust": "HashMap RwLock",
     "libc and os of the kit": "chdir getcwd lseek rattle_arg rattle_env rattle_env_at rattle_errno rattle_set_errno",
+    "other provers": "admit assume axiom sorry",
     "x86-64": "cmpxchg xadd",
     "rt": "RT_JOBS axioms logbook logic plant trusted unsupported dac8208d650f15bf",
 }
