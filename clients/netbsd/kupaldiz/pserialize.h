@@ -50,7 +50,8 @@ void pserialize_read_exit(int s);
 /*
  * pserialize_perform - wait for every read section that is open on any CPU as the call begins, with any `psz`
  *
- * It may sleep. An adaptive mutex may be held. It need not wait for sections that begin later, and doesn't wait for passive references, local references
+ * It may sleep. Any number of threads may call it at once, also with one `psz`. The lock that the page asks for is for the list; no call looks for it,
+ * and an adaptive mutex may be held. It need not wait for sections that begin later, and doesn't wait for passive references, local references
  * or callouts.
  * Stops where the thread mustn't sleep: inside a read section, in a soft interrupt, with a spin lock, at a raised level, and with preemption
  * disabled.

@@ -7,8 +7,8 @@
  *
  * What differs from the page:
  * - A class's level changes nothing: a soft interrupt runs at the end of a call, never within one (kupaldiz_softint(3)).
- * - psref_acquire finds its target by a name, in a list of at most as many entries as a registry has (32 in the default build). It notes the reference
- *   in a table of its CPU, where psref_release and psref_copy look it up. In the kernel a reference lies in a list of its CPU, and nothing is looked up.
+ * - psref_acquire searches a list of at most 32 entries (the size of a registry of the default build) for its target. It notes the reference in a table
+ *   of its CPU, where psref_release and psref_copy look it up. In the kernel a reference lies in a list of its CPU, and nothing is looked up.
  * - psref_target_destroy looks at the words of all CPUs, as pserialize_perform does; no CPU runs anything for it. After five seconds it says on standard
  *   error which CPU and thread hold a reference, and where one was acquired.
  * - psref_target_destroy waits for read sections, too: the ones that are open at the call, and the ones that are open as the last reference is released.

@@ -87,8 +87,8 @@
 //!
 //! Dropping a section exits it, dropping a CPU returns it to its registry, and dropping a reference releases it: a [`LocalRef`] [by a later
 //! call](LocalRef#dropped-without-a-cpu). `T` is any sized type, and may borrow what outlives the registry. A `T` is dropped or returned once, on the
-//! thread that makes the call of this table. Dropping a section, a guard or a reference drops no `T`, unless it drops the registry's last handle: a
-//! [`Registry`], a [`Cpu`], a [`LocalRef`] or a [`Retired`].
+//! thread that makes the call of this table. Four types are handles of a registry: [`Registry`], [`Cpu`], [`LocalRef`] and [`Retired`]. Dropping the last
+//! handle closes the registry, and drops the `T`s that are left. Dropping anything else drops no `T`.
 //!
 //! | You call | Who gets or drops the `T` |
 //! |---|---|

@@ -35,8 +35,8 @@
  *
  * RESULTS
  *
- * Each call returns 0 or the error that it fails with. On failure nothing changes and no output is written, unless the call's comment says
- * otherwise. Numbers 1 to 19 are errors of the registry, and those from 64 are errors of this header. Each comment lists the errors in the order
+ * Each call returns 0 or the error that it fails with. Compilers warn of a result that isn't looked at, except where only a mistake of the program makes
+ * the call fail. On failure nothing changes and no output is written, unless the call's comment says otherwise. Numbers 1 to 19 are errors of the registry, and those from 64 are errors of this header. Each comment lists the errors in the order
  * in which the call tests them.
  *
  * These calls, with those of registry_waiting(3), depend on whether the CPU is inside a section. All others may be made inside and outside:
@@ -61,7 +61,7 @@
  *   as with no room.
  * - Any other output may be NULL if the caller doesn't need it. The call then does and returns the same, and writes nothing there.
  * - If an input is NULL (a name, a wait, an entry to acquire, the settings of registry_open), the call returns REGISTRY_NULL and nothing changes.
- *   The exceptions are registry_look_up, registry_get and registry_enter_find: their section has then begun and ended.
+ *   registry_look_up, registry_get and registry_enter_find return it too, but have then used up one of the CPU's sections.
  *
  * WHAT THE CALLER MUST ENSURE
  *
@@ -153,8 +153,8 @@ extern "C" {
 #define REGISTRY_NAME_ROOM	(REGISTRY_NAME_BYTES + 1)	/* a name's text and its zero byte */
 
 /*
- * Attributes for compilers: the caller must use the result, and which pointers are never NULL, by their positions. A call has no REGISTRY_CHECKED if it
- * fails only when its caller breaks a rule, such as an exit outside a section, or if its result may be ignored.
+ * Attributes for compilers: the caller must use the result, and which pointers are never NULL, by their positions. A call lacks REGISTRY_CHECKED if only
+ * a mistake of the program makes it fail, such as an exit outside a section, or if its result may be ignored.
  */
 #if defined(__GNUC__)
 #define REGISTRY_CHECKED	__attribute__((warn_unused_result))
@@ -400,7 +400,8 @@ static inline registry_answer registry_open_compared(const struct registry_setti
 /*
  * registry_close_cpu - close a CPU
  *
- * Its passive references stay held: their entries are never freed. The handles of a registry may be closed in any order.
+ * Passive references on it can't be released any more: as long as the registry has another open handle, their entries keep their slots. The handles of a
+ * registry may be closed in any order.
  * Returns REGISTRY_EMPTY_HANDLE, REGISTRY_INSIDE.
  */
 registry_answer registry_close_cpu(struct registry_cpu *cpu) REGISTRY_NONNULL(1);
@@ -417,7 +418,8 @@ registry_answer registry_close_keeper(struct registry_keeper *keeper) REGISTRY_N
  *
  * No other thread uses the registry. CPUs that were moved out of the array are moved back first, or closed by registry_close_cpu.
  * The call skips handles that are empty already. It may therefore follow an opening that failed, and may be made
- * twice. Passive references of a CPU stay held, as with registry_close_cpu. Entries needn't be detached before.
+ * twice. Entries needn't be detached before, nor passive references released: they go with the registry's memory. Each local reference has a block of its
+ * own, which stays allocated: release it before, or free it by registry_local_forget.
  * The call doesn't touch the memory that an entry's `value` points to. Once it has returned REGISTRY_DONE, the caller may free that memory, unless a
  * thread still uses it, such as by a local reference. It is C over these calls: tested, not proved.
  * Returns REGISTRY_NULL if `cpus` is NULL and `count` isn't 0, REGISTRY_INSIDE if a CPU is inside a section. Nothing is closed then.
@@ -492,8 +494,8 @@ registry_answer registry_find(struct registry_cpu *cpu, uint64_t kind, const str
  * - An entry whose detach returned before the registry_enter isn't in the row.
  * - An entry that is attached or detached in between may be in the row or not.
  *
- * In a section that has been open longer the same is promised from the registry_enter that began it, not a nested one, or from a registry_audit since. So
- * the row may have an entry that was detached since then, and lack one that was attached since. To be sure, exit the section and enter again.
+ * In a section that was open already, the registry_enter of these lines is the outermost one, or a registry_audit since. So the row may have an entry that
+ * was detached since then, and lack one that was attached since. To be sure, exit the section and enter again.
  * The last found entry is cleared. registry_acquire_entry acquires a reference to an entry of the row. The call takes no lock, waits for no other
  * thread, writes no shared word and allocates no memory.
  * Returns REGISTRY_EMPTY_HANDLE, REGISTRY_NULL if `row` is NULL and `room` isn't 0, REGISTRY_OUTSIDE, REGISTRY_NO_ROOM if there are more entries
