@@ -9,8 +9,8 @@ Without names it goes over all of them. It works on a copy of the tree, says of 
 'N passed, M failed'. The prover begins with what earlier checks have kept of the crates below (their folders out/); without that it proves those
 first. What it says of a crate's edits it says when all of them were tried.
 
-`all` needs what `rt ci` builds. It first checks the functions that an edit changes alone (tools/edit_checks.py), as many edits side by side as there
-are processors and memory, and the crate as a whole where that refuses nothing. Tests run beside. docs/edits-tried.txt has what each edit came to, and
+`all` needs what `rt ci` builds. It first checks only the functions that edits change (tools/edit_checks.py), as many checks side by side as there are
+processors and memory, and the crate as a whole where that refuses nothing. Tests run beside. docs/edits-tried.txt has what each edit came to, and
 the sum of all that it was tried on: the edit, the sources of its crate and of those beneath, and the kit. So a run that was cut off continues, and
 after a change only what it reaches is tried again.
 """
@@ -31,7 +31,7 @@ from concurrent.futures import ThreadPoolExecutor
 sys.dont_write_bytecode = True
 
 from counts import ended
-from edit_checks import crate_of, tried as tried_alone
+from edit_checks import crate_of, tried as tried_by_function
 from edits import ROOT, apply, edits_of, restore
 from kit import below, built, listed
 
@@ -178,7 +178,7 @@ class Night:
             tests.result()
 
     def run_prover(self):
-        for edit, result in tried_alone(self.left(*OF_PROVER)):
+        for edit, result in tried_by_function(self.left(*OF_PROVER)):
             if result.is_refused:
                 self.note(edit, result.said)
         with a_copy() as tree:
