@@ -41,6 +41,8 @@ REPORT = ROOT / "docs/edits-tried.txt"
 LINE = re.compile(r"([0-9a-f]{16}) (\S+\.edit): (.+)")
 # `all` asks rt for so many edits of a crate in one call. A run that is cut off loses the results of that call.
 IN_ONE_CALL = 12
+# So many runs of tests are made side by side, beside the prover's checks.
+TESTED_AT_ONCE = 2
 
 # What an edit came to, by the words that say it; the first that fits. Only the first kind says that a contract or a test has refused it.
 REFUSED, NOT_TRIED = "refused", "not tried"
@@ -187,10 +189,14 @@ class Night:
                     self.note(edit, said)
 
     def run_tests(self):
+        with ThreadPoolExecutor(TESTED_AT_ONCE) as pool:
+            for ran in [pool.submit(self.run_test, edit) for edit in self.left(FOLDERS["tests"])]:
+                ran.result()
+
+    def run_test(self, edit):
         with a_copy("out") as tree:
-            for edit in self.left(FOLDERS["tests"]):
-                for _, _, _, said in by_tests(tree, {crate_of(edit): [edit]}):
-                    self.note(edit, said)
+            for _, _, _, said in by_tests(tree, {crate_of(edit): [edit]}):
+                self.note(edit, said)
 
     def said(self):
         return {edit: self.known.get(name, NOT_TRIED) for edit, name in self.edits.items()}
