@@ -17,7 +17,8 @@ extern "C" {
 
 /*
  * The interlock: `take` acquires it and `give` releases it. Each is called with `of`, and throws no C++ exception. If threads share the waiting CPU
- * by a mutex, `take` locks that mutex and then the interlock, and `give` unlocks both.
+ * by a mutex, `take` locks that mutex and then the interlock, and `give` unlocks both. NULL for `lock`, `take` or `give`, or a struct that was never set,
+ * is undefined behaviour.
  */
 struct registry_lock {
 	void (*take)(void *of);
@@ -41,8 +42,7 @@ struct registry_lock registry_lock_of_mutex(pthread_mutex_t *mutex) REGISTRY_NON
  * least one turn. Between two turns:
  *
  * - It spins at first: 16 times, for at most 256 pause instructions each time and 2,303 in all.
- * - Then it yields 8 times.
- * - Then it sleeps, for 16 microseconds at first, twice as long each time, 8 milliseconds at most.
+ * - Then it yields 8 times, and then sleeps, for 16 microseconds at first, twice as long each time, 8 milliseconds at most.
  *
  * `deadline` is an absolute time of CLOCK_MONOTONIC: five seconds from now is what clock_gettime writes, with 5 added to `tv_sec`. The call makes
  * no turn after one that ended past the deadline. The deadline doesn't limit the wait for the interlock. With NULL the call waits until the entry is
@@ -76,8 +76,9 @@ registry_answer registry_perform_wait(const struct registry_lock *lock, struct r
     const struct timespec *deadline, uint64_t *waited) REGISTRY_NONNULL(1, 2, 3) REGISTRY_CHECKED;
 
 /*
- * The entries that were detached and aren't freed yet, oldest first. {0} is the empty list. The caller then sets `freed` and `of`. Only the list
- * works on its entries: nothing else advances or destroys one. It has room for all entries that a registry can have, and allocates no memory.
+ * The entries that were detached and aren't freed yet, oldest first. {0} is the empty list. The caller then sets `freed` and `of`. NULL for `deferred`,
+ * or a list that was never set, is undefined behaviour. Only the list works on its entries: nothing else advances or destroys one. It has room for all
+ * entries that a registry can have, and allocates no memory.
  */
 struct registry_deferred {
 	/* Called under the interlock for each entry once it is gone permanently. It makes no call with the keeper and throws no exception. May be NULL. */

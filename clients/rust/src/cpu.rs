@@ -192,8 +192,9 @@ impl<T> Cpu<T> {
 
 /// Local references that were dropped without a CPU.
 impl<T> Cpu<T> {
-    /// Releases all local references that were dropped without a CPU before the call, on any thread. If a drain has collected this CPU's count, it
-    /// waits for the interlock. No program needs this call: each of [other calls](crate::LocalRef#dropped-without-a-cpu) releases some.
+    /// Releases all local references that were dropped without a CPU before the call, on any thread. It may wait for the interlock,
+    /// as [`LocalRef::release`](crate::LocalRef::release) does. No program needs this call: each of [other
+    /// calls](crate::LocalRef#dropped-without-a-cpu) releases some.
     pub fn release_dropped(&self) {
         for of in self.shared().baskets().filled_from(self.id) {
             self.release_of(of, self.shared().baskets().count(of));

@@ -15,9 +15,9 @@
 //!
 //! # The terms
 //!
-//! - An [`Entry`] is a driver or an interface that was attached. It is live until it is detached, and then retired until it is freed. It carries a
-//!   `T`, and everything that holds the entry derefs to it. `T` is one type for all entries of a registry: an `enum` if drivers and interfaces carry
-//!   different things, `()` if they carry nothing.
+//! - An [`Entry`] is a driver or an interface that was attached: the attach returns it. It is live until it is detached, and then retired until it is
+//!   freed. It carries a `T`, and everything that holds the entry derefs to it. `T` is one type for all entries of a registry: an `enum` if drivers and
+//!   interfaces carry different things, `()` if they carry nothing.
 //! - A [`Cpu`] is a handle, not a processor. One thread at a time uses it. A registry has at least one and at most [`LIMITS`]`.cpus`. A [`CpuPool`]
 //!   lends CPUs to more threads.
 //! - A [`Section`] is open on a CPU while it looks entries up. A [`Found`] borrows its section. While the section is open, the entry isn't freed and its
@@ -36,6 +36,7 @@
 //! | look up | [`Cpu::enter`], [`Section::find`], and drop the section |
 //! | go over all | [`Section::entries`] in a section |
 //! | hold longer | [`Found::acquire`] on this CPU, [`Found::acquire_local`] for any thread |
+//! | hold once more | [`PassiveRef::try_clone`], without a lookup; [`LocalRef::try_clone`], by a lookup, which fails once the entry is detached. No call makes a [`LocalRef`] of a [`PassiveRef`]: [`Cpu::get_local`] looks the name up, and may find a newer entry |
 //! | look up by one call | [`Cpu::read`] returns the entry with its section, [`Cpu::get`], [`Cpu::get_rc`] and [`Cpu::get_local`] a reference, [`Cpu::look_up`] the record alone |
 //! | use a part | [`ReadGuard::map`], [`PassiveRef::map`], [`LocalRef::map`] |
 //! | change | [`Registry::attach`], [`Registry::attach_iface`], [`Registry::detach`] |
@@ -137,8 +138,8 @@
 //! # What panics
 //!
 //! A call panics only if code of yours that it runs panics, such as a drop of a `T` or the closure of a `map`; and [`Name::from_static`] at run time, with
-//! a text that is no name. (Some calls assert besides that the archive keeps to registry.h.) An attach, a detach and a retire first drop the `T`s of
-//! entries that were retired or deferred and that nothing holds any more. If such a drop panics, the change isn't made.
+//! a text that is no name. (Some calls also assert, some only in a debug build, that the archive keeps to registry.h.) An attach, a detach and a retire
+//! first drop the `T`s of entries that were retired or deferred and that nothing holds any more. If such a drop panics, the change isn't made.
 //!
 //! If a thread panics, unwinding exits its sections and releases its passive references, as its ordinary end does. A [`LocalRef`] is dropped [as
 //! anywhere](LocalRef#dropped-without-a-cpu). No lock is poisoned.

@@ -52,9 +52,9 @@ use core::ops::Deref;
 /// | a CPU that is dropped | 64, from its own basket |
 /// | a try to free a retired entry that only local references hold | 256, of those to this entry |
 ///
-/// So a basket never has more references in it than were held at once of its CPU. Only references that are held, or were released elsewhere, bring a
-/// CPU's net count to `LocalFull`. [`Registry::dropped`](crate::Registry::dropped) returns how many dropped ones there are. A reference that is
-/// forgotten stays held, and keeps its registry open.
+/// So a basket never has more references in it than the most that were held at one time, of those that its CPU acquired. Only references that are
+/// held, or were released elsewhere, bring a CPU's net count to `LocalFull`. [`Registry::dropped`](crate::Registry::dropped) returns how many dropped
+/// ones there are. A reference that is forgotten stays held, and keeps its registry open.
 ///
 /// If there is no memory for the basket to grow, the dropped reference stays held for good. Its entry is never freed then, and
 /// [`Retired::destroy`](crate::Retired::destroy) with [`Patience::Forever`](crate::Patience::Forever) never returns.
@@ -95,8 +95,8 @@ impl<T> LocalRef<T> {
         reference.record.entry()
     }
 
-    /// Releases it on this CPU, which needn't be the one that acquired it: `localcount_release`. If a drain has collected this CPU's count, the call
-    /// waits for the interlock. Some references that were dropped are released with it.
+    /// Releases it on this CPU, which needn't be the one that acquired it: `localcount_release`. If the entry is being destroyed, and this CPU's count of
+    /// it was already collected, the call waits for the interlock. Some references that were dropped are released with it.
     ///
     /// # Errors
     ///

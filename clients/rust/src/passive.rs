@@ -72,7 +72,7 @@ impl<'cpu, T> PassiveRef<'cpu, T> {
         reference.cpu
     }
 
-    /// Acquires one more, to the same entry: `psref_copy`.
+    /// Acquires one more, to the same entry, also once it is detached: `psref_copy`.
     ///
     /// # Errors
     ///
@@ -178,7 +178,7 @@ impl<T> PassiveRc<T> {
         &reference.cpu
     }
 
-    /// Acquires one more, to the same entry: `psref_copy`.
+    /// Acquires one more, to the same entry, also once it is detached: `psref_copy`.
     ///
     /// # Errors
     ///

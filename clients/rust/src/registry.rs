@@ -71,7 +71,8 @@ impl<T> Registry<T> {
         self.shared.settings()
     }
 
-    /// The CPU with this number, if no handle of it exists. A CPU that was dropped may be taken again, with the references that it still holds.
+    /// The CPU with this number, if no handle of it exists. One that was dropped may be taken again. It still holds the passive
+    /// references that were forgotten on it.
     #[must_use]
     pub fn cpu(&self, id: u8) -> Option<Cpu<T>> {
         let handle = self.shared.take_cpu(id)?;

@@ -89,8 +89,8 @@ impl<T> Retired<T> {
     /// later. The call tries again and again to free it, as long as the [`Patience`] says. After each try the CPU has seen every change so far.
     ///
     /// If this CPU itself holds the entry, nothing can release it while this thread waits. The call then tries only once, with any patience. It can't see
-    /// a local reference that this thread keeps without a guard, or a section of this thread on another CPU. With [`Patience::Forever`] it waits for
-    /// these for ever.
+    /// what this thread holds otherwise: a local reference without a guard; on another CPU a section, a passive reference or a guard. With
+    /// [`Patience::Forever`] it waits for these for ever.
     ///
     /// ```
     /// use registry::{Holder, Kind, Name, Patience, PassiveRef, Refusal, Registry, Settings};

@@ -58,7 +58,7 @@ impl fmt::Display for Kind {
 #[derive(Clone, Copy, Debug, PartialEq, Eq, Hash)]
 #[non_exhaustive]
 pub struct Entry {
-    /// From 1, and never reused in its registry.
+    /// From 1, and never reused in its registry: how many attaches and detaches there were by then, this attach included.
     pub number: u64,
     /// From 0, and reused once the entry is freed.
     pub slot: u8,

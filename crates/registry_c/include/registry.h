@@ -9,10 +9,12 @@
  *
  * A CPU is a handle, not a processor. Any thread may run on it, one thread at a time: one call at a time uses its handle. More threads than CPUs share
  * them, such as by a mutex for each handle. A CPU enters a section, finds entries in it, and exits. No entry that it found loses its slot before that
- * exit. Only registry_open(3) and registry_local_acquire(3) allocate memory.
+ * exit.
  *
- * No call waits, for a lock or for a reader. A call that isn't done returns what it met, and the caller makes it again. registry_waiting(3) has calls
- * that wait.
+ * No call takes a lock, or waits for a reader or another thread. The one exception is what malloc and free of the C library do. Only registry_open(3) and
+ * registry_local_acquire(3) allocate memory. These free some: registry_open(3), registry_close(3), registry_close_cpu(3), registry_close_keeper(3),
+ * registry_local_release(3), registry_local_give_up(3), registry_local_forget(3) and registry_attach_iface(3). A call that isn't done returns what it
+ * met, and the caller makes it again. registry_waiting(3) has calls that wait.
  *
  * Only opening and closing write the handle of a CPU or of the keeper. Other calls read it, and write what is behind it. So the CPUs of several threads
  * may stay side by side in the array that registry_open(3) fills, as in smallest.c and packet.c. Keep what is often written off their cache lines: a
@@ -36,8 +38,8 @@
  * RESULTS
  *
  * Each call returns 0 or the error that it fails with. Compilers warn of a result that isn't looked at, except where only a mistake of the program makes
- * the call fail. On failure nothing changes and no output is written, unless the call's comment says otherwise. Numbers 1 to 19 are errors of the registry, and those from 64 are errors of this header. Each comment lists the errors in the order
- * in which the call tests them.
+ * the call fail. On failure nothing changes and no output is written, unless the call's comment says otherwise. Numbers 1 to 19 are errors of the
+ * registry, and those from 64 are errors of this header. Each comment lists the errors in the order in which the call tests them.
  *
  * These calls, with those of registry_waiting(3), depend on whether the CPU is inside a section. All others may be made inside and outside:
  *
@@ -68,8 +70,9 @@
  * No call can check these rules. Breaking one is undefined behaviour:
  *
  * - A pointer to a handle is never NULL.
- * - A handle is {0} before its first use. It may be moved while no call uses it, by a plain copy. From then on only the copy is used. The old place may
- *   be set to {0} and used again.
+ * - A handle is set to {0} before its first use. A call that needs what is behind a handle returns REGISTRY_EMPTY_HANDLE for {0}. With a handle that was
+ *   never set, the behaviour of any call is undefined.
+ * - A handle may be moved while no call uses it, by a plain copy. From then on only the copy is used. The old place may be set to {0} and used again.
  * - The caller may compare `at` with NULL: it is NULL exactly if the handle is empty. The caller reads and writes nothing else in a handle.
  * - One call at a time uses a handle. A handle goes to another thread by a lock, or by the start or the join of a thread.
  * - Calls with a keeper are made under the caller's lock, registry_settings_of too. They need no lock while no other thread can use the keeper, as at
@@ -127,8 +130,7 @@
  *
  * The library is built for Linux with glibc, on x86-64 (level x86-64-v2) and aarch64 (ARMv8.0). For aarch64 it is proved as well, and tested under
  * qemu on x86-64, which shows no memory order weaker than that processor's. Each access of those tests to the shared words is one of aarch64's
- * sequentially consistent instructions, and the library has no other atomic instruction. A clean build takes about half an hour, nearly all of it
- * proofs.
+ * sequentially consistent instructions, and the library has no other atomic instruction.
  */
 #ifndef REGISTRY_H
 #define REGISTRY_H
@@ -377,8 +379,8 @@ registry_answer REGISTRY_BUILT_FOR(const struct registry_limits *limits) REGISTR
  * `count` is settings->cpus. All handles are empty before the call. Afterwards no entry is attached yet, and all CPUs are outside any section.
  * All memory of the registry is allocated here, except the blocks of local references. How much depends on the build's limits and on `count` alone:
  * VERSIONS.md, which is installed in share/doc/kupaldiz, has it for all CPUs.
- * In C the name is a macro for a function of this header, which first compares the program's limits with the library's. The library's symbol doesn't
- * compare them: a program that calls it without this header calls the comparison first.
+ * For a program that includes this header, in C or C++, the name is a macro for a function of the header. That first compares the program's limits with
+ * the library's. The library's symbol doesn't compare them: a program that calls it without this header calls the comparison first.
  * Returns REGISTRY_OTHER_LIMITS, REGISTRY_NULL if `settings` is NULL, or if `cpus` is NULL and `count` isn't 0, REGISTRY_BAD_SETTINGS,
  * REGISTRY_MISSING_CPU if `count` is another number, REGISTRY_FULL_HANDLE, REGISTRY_NO_MEMORY.
  */
@@ -429,7 +431,6 @@ registry_answer registry_close(struct registry_cpu *cpus, size_t count, struct r
 /*
  * registry_settings_of - the settings that the registry was opened with
  *
- * `settings` may be NULL.
  * Returns REGISTRY_EMPTY_HANDLE.
  */
 registry_answer registry_settings_of(const struct registry_keeper *keeper, struct registry_settings *settings) REGISTRY_NONNULL(1);
@@ -454,7 +455,6 @@ registry_answer registry_exit(struct registry_cpu *cpu) REGISTRY_NONNULL(1);
 /*
  * registry_inside - whether the CPU is inside a section
  *
- * `inside` may be NULL.
  * Returns REGISTRY_EMPTY_HANDLE.
  */
 registry_answer registry_inside(const struct registry_cpu *cpu, bool *inside) REGISTRY_NONNULL(1);
@@ -462,7 +462,6 @@ registry_answer registry_inside(const struct registry_cpu *cpu, bool *inside) RE
 /*
  * registry_depth - the number of open enters, 0 to REGISTRY_MOST_DEPTH
  *
- * `depth` may be NULL.
  * Returns REGISTRY_EMPTY_HANDLE.
  */
 registry_answer registry_depth(const struct registry_cpu *cpu, uint64_t *depth) REGISTRY_NONNULL(1);
@@ -515,11 +514,11 @@ registry_answer registry_walk(struct registry_cpu *cpu, struct registry_entry *r
 registry_answer registry_acquire(struct registry_cpu *cpu, uint64_t *number) REGISTRY_NONNULL(1) REGISTRY_CHECKED;
 
 /*
- * registry_acquire_entry - acquire a passive reference to an entry that a walk or a find has written, in the open section
+ * registry_acquire_entry - inside a section, acquire a passive reference to an entry that a walk or a find has written
  *
- * The reference is the number in `entry`, as with registry_acquire. If this CPU refers to the entry already, one more reference is acquired, even if the
- * entry is retired. The last found entry then stays as it was. Otherwise the entry is looked up by its kind and name. If the entry found has the same
- * number, it is the last found one. The entry needn't have been found in this section. It is C over these calls: tested, not proved.
+ * The entry was written in this section or in an earlier one. The reference is the number in `entry`, as with registry_acquire. If this CPU refers to the
+ * entry already, one more reference is acquired, even if the entry is retired. The last found entry then stays as it was. Otherwise the entry is looked up
+ * by its kind and name. If the entry found has the same number, it is the last found one. It is C over these calls: tested, not proved.
  * Returns REGISTRY_EMPTY_HANDLE, REGISTRY_NULL if `entry` is NULL, REGISTRY_OUTSIDE, REGISTRY_PASSIVE_FULL, REGISTRY_BAD_KIND, REGISTRY_NOT_FOUND if
  * the entry isn't live any more, whether or not another entry has its kind and name. REGISTRY_NOT_FOUND clears the last found entry. A call that
  * fails acquires nothing, and leaves the CPU as deep inside as before.
@@ -537,7 +536,6 @@ registry_answer registry_copy(struct registry_cpu *cpu, uint64_t number) REGISTR
 /*
  * registry_held - whether this CPU holds a passive reference to the entry with that number
  *
- * `held` may be NULL.
  * Returns REGISTRY_EMPTY_HANDLE.
  */
 registry_answer registry_held(const struct registry_cpu *cpu, uint64_t number, bool *held) REGISTRY_NONNULL(1);
@@ -631,7 +629,6 @@ registry_answer registry_local_acquire(struct registry_cpu *cpu, struct registry
 /*
  * registry_local_read - the entry that the reference is to, exactly as it was attached
  *
- * `entry` may be NULL.
  * Returns REGISTRY_EMPTY_HANDLE.
  */
 registry_answer registry_local_read(const struct registry_local *local, struct registry_entry *entry) REGISTRY_NONNULL(1);
@@ -764,8 +761,9 @@ registry_answer registry_perform_begin(struct registry_keeper *keeper, struct re
  *   registry_advance or registry_destroy needn't look at sections for it.
  *
  * The caller leaves the wait alone: only these calls write it, and each turn gets it exactly as the call before left it, with the keeper of the same
- * registry. Between the calls the CPU may do anything else. Another CPU may make a turn only if it has made a registry_perform_begin,
- * registry_perform_turn or registry_destroy since the last call with this wait. A wait may be abandoned after any of these calls: it holds nothing.
+ * registry. Between the calls the CPU may do anything else. For another CPU to make the next turn, it first makes a registry_destroy, or a
+ * registry_perform_begin or registry_perform_turn with another wait. It makes that call after the last call with this wait, and the call returns
+ * REGISTRY_DONE, REGISTRY_STILL_HELD or REGISTRY_WAITING. A wait may be abandoned after any of these calls: it holds nothing.
  * The CPUs whose sections the turn saw ended are written to the wait, for any result except the first four errors.
  * Returns REGISTRY_EMPTY_HANDLE for either handle, REGISTRY_NULL if `wait` is NULL, REGISTRY_NOT_BEGUN, REGISTRY_INSIDE, REGISTRY_WAITING.
  * REGISTRY_NOT_BEGUN is for a wait that is {0} or was never begun, whether or not the CPU is inside. With REGISTRY_WAITING the lowest-numbered CPU whose
