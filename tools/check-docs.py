@@ -22,7 +22,7 @@ ROOT = pathlib.Path(__file__).resolve().parent.parent
 
 # Words in backquotes that no file of this repository has, by where they come from.
 FOREIGN = {
-    "NetBSD": "PSLIST_READER_FOREACH PSLIST_WRITER_INSERT_HEAD PSLIST_WRITER_REMOVE",
+    "NetBSD": "PSLIST_READER_FOREACH PSLIST_WRITER_INSERT_HEAD PSLIST_WRITER_REMOVE if_acquire",
     "Linux": """PERCPU_COUNT_BIAS kfree list_add_rcu list_del_rcu list_for_each_entry_rcu migrate_disable percpu_ref percpu_ref_exit
         percpu_ref_get percpu_ref_kill percpu_ref_put poll_state_synchronize_rcu srcu_read_lock start_poll_synchronize_rcu
         synchronize_srcu""",

@@ -70,7 +70,7 @@ struct bench_options {
 	unsigned left;		/* blocks of memory that may be left at the end */
 	bool whole;		/* without the reduction */
 	bool frees;		/* a free commutes with no step: plain accesses that aren't announced are tried before and after it */
-	bool quiet;		/* prints nothing */
+	bool quiet;		/* prints nothing; else the counts and the fault are printed on standard output */
 	const char *replay;	/* a schedule: this one alone is run */
 	const char *picture;	/* the name of a file that gets the picture of the fault */
 	struct bench_found *found;	/* gets what was found, unless NULL */
@@ -80,8 +80,8 @@ struct bench_options {
  * bench_explore - run what `setup` prepares in one order after another
  *
  * `setup` runs in the first thread and makes the others by bench_thread or kthread_create; they begin when it has returned. `options` may be NULL.
- * Returns 1 where a run went wrong, else 0, also where orders were left out: `exhausted` tells. Without a thread, or with a schedule that doesn't fit,
- * it ends the process with status 2 after one line on standard error.
+ * Returns 1 where a run went wrong, else 0, also where orders were left out: `exhausted` tells. The program goes on, so let main return this. Without a
+ * thread, or with a schedule that doesn't fit, it ends the process with status 2 after one line on standard error.
  */
 int bench_explore(void (*setup)(void), const struct bench_options *options);
 

@@ -1,12 +1,8 @@
 /*
  * cpu.h - threads, and the CPUs that they run on
  *
- * A CPU is virtual, one of KUPALDIZ_CPUS. Any number of threads use them. A thread has its CPU in a read section, with a spin lock, at a raised level,
- * with preemption disabled, and for a moment in each call of psref(9) and localcount(9). Another thread that needs that CPU for one of these waits
- * meanwhile. Outside of these places all threads run at the same time, also those of one CPU.
- *
- * A thread that isn't bound gets a CPU that is free whenever it needs one, and may get another the next time. One that is bound keeps its CPU.
- * Whoever acquires a passive reference is bound, is a soft interrupt, or has preemption disabled.
+ * A CPU is virtual, one of KUPALDIZ_CPUS. Any number of threads use them. kupaldiz_netbsd(7) says under Threads and CPUs when a thread has one, and under
+ * Where a call is right who may acquire a passive reference.
  */
 #ifndef KUPALDIZ_NETBSD_CPU_H
 #define KUPALDIZ_NETBSD_CPU_H

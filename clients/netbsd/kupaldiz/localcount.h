@@ -10,12 +10,11 @@
  *   this lock: a word that all CPUs write, which the kernel avoids.
  * - A drain waits for read sections, too. So a driver that forgets pserialize_perform may run well on real threads here and fail in the kernel.
  *   The bench, kupaldiz_bench(7), finds the reader that then acquires too late.
- * - A drain looks again each millisecond, or when the last release wakes it; no CPU runs anything for it. After five seconds it says on standard error how
- *   many references are held and where one was acquired. If they were acquired at several places, it may name that of one which was released.
+ * - A drain looks again each millisecond, or when the last release wakes it; no CPU runs anything for it.
  * - Each CPU's part may differ from 0 by 2^40. It gets there with no reference held, if each one is acquired on that CPU and released on another.
  *   Acquires on that CPU then count on the writers' CPU, under the layer's lock, up to 2^40 more.
  *
- * What the page forbids and a call sees ends the process by abort(3), after one line on standard error that begins with the call's name.
+ * A call stops if it sees what the page forbids, and a long wait prints what it waits for: Lines in kupaldiz_netbsd(7).
  */
 #ifndef KUPALDIZ_NETBSD_LOCALCOUNT_H
 #define KUPALDIZ_NETBSD_LOCALCOUNT_H

@@ -9,13 +9,12 @@
  * - A section raises no level: soft interrupts run inside it too (kupaldiz_softint(3) says when). In the kernel it keeps them off.
  * - A call of this layer that sleeps stops inside a section. A call of the C library that blocks there isn't seen.
  * - pserialize_perform looks at the section word of each CPU until the CPU is in no section, or the word has changed since the first look. So sections
- *   that begin later can't hold it up. Between looks it pauses, ever longer, up to a millisecond; no CPU runs anything for it. After five seconds it says
- *   on standard error which thread it waits for.
+ *   that begin later can't hold it up. Between looks it pauses, ever longer, up to a millisecond; no CPU runs anything for it.
  * - The links of the list are the caller's: a writer stores them with atomic_store_release, and a reader loads them with atomic_load_consume or
  *   atomic_load_acquire, as in the kernel. No other barrier is needed: each outermost enter ends with a full fence, and pserialize_perform begins with
  *   one.
  *
- * What the page forbids and a call sees ends the process by abort(3), after one line on standard error that begins with the call's name.
+ * A call stops if it sees what the page forbids, and a long wait prints what it waits for: Lines in kupaldiz_netbsd(7).
  */
 #ifndef KUPALDIZ_NETBSD_PSERIALIZE_H
 #define KUPALDIZ_NETBSD_PSERIALIZE_H

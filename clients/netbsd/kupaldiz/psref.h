@@ -9,14 +9,13 @@
  * - A class's level changes nothing: a soft interrupt runs at the end of a call, never within one (kupaldiz_softint(3)).
  * - psref_acquire searches a list of at most 32 entries (the size of a registry of the default build) for its target. It notes the reference in a table
  *   of its CPU, where psref_release and psref_copy look it up. In the kernel a reference lies in a list of its CPU, and nothing is looked up.
- * - psref_target_destroy looks at the words of all CPUs, as pserialize_perform does; no CPU runs anything for it. After five seconds it says on standard
- *   error which CPU and thread hold a reference, and where one was acquired.
+ * - psref_target_destroy looks at the words of all CPUs, as pserialize_perform does; no CPU runs anything for it.
  * - psref_target_destroy waits for read sections, too: the ones that are open at the call, and the ones that are open as the last reference is released.
  *   So a driver that forgets pserialize_perform may run well on real threads here and fail in the kernel. The bench, kupaldiz_bench(7), finds
  *   the reader that then acquires too late.
  * - Each CPU has at most 2^40 references to a target at a time.
  *
- * What the page forbids and a call sees ends the process by abort(3), after one line on standard error that begins with the call's name.
+ * A call stops if it sees what the page forbids, and a long wait prints what it waits for: Lines in kupaldiz_netbsd(7).
  */
 #ifndef KUPALDIZ_NETBSD_PSREF_H
 #define KUPALDIZ_NETBSD_PSREF_H
