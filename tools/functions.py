@@ -4,6 +4,8 @@ import re
 
 from contracts import FUNCTION, heads
 
+# The head of a trait's methods for a type. The checker's name of such a method begins with both names in one, first the type's.
+METHODS = re.compile(r"impl\b(?:<[^{]*?>)?\s*(\w+)(?:<.*>)? for ")
 PRIVATE = re.compile(r"( *)(?:pub\(crate\) )?(?:const )?fn (\w+)")
 Function = collections.namedtuple("Function", "path name is_public first last text")
 
@@ -18,15 +20,24 @@ def end_of(lines, first, indent):
     return len(lines) - 1
 
 
+def traits(lines):
+    """For each line the trait whose methods for a type it stands in, or ''."""
+    trait = ""
+    for line in lines:
+        found = METHODS.match(line)
+        trait = found[1] if found else "" if line == "}" else trait
+        yield trait
+
+
 def functions_of(path):
     """The functions of a file, public and private."""
     lines = path.read_text().split("\n")
-    for number, line, owner, is_trait in heads(lines):
+    for (number, line, owner, is_trait), trait in zip(heads(lines), traits(lines)):
         public = FUNCTION.match(line)
         head = public or PRIVATE.match(line)
         if head:
             last = end_of(lines, number, head[1])
-            name = owner + (public[3] if public else head[2])
+            name = owner.replace("::", f"{trait}::") + (public[3] if public else head[2])
             is_public = bool(public and (public[2] or is_trait))
             yield Function(path, name, is_public, number, last, "\n".join(lines[number + 1:last]))
 
