@@ -22,7 +22,7 @@ sys.exit(gate(
         Part("table of the events", "tools/event-table.py check"),
         Part("pages of the headers", "tools/header-pages.py check"),
     ],
-    # Every proof and test of the crates, from nothing.
+    # Every proof of the crates, except what an earlier run on this machine proved of the same files, and every test.
     [Part("rt ci, and the archive", "tools/archive-beside.py rt ci")],
     # Wrong bodies, over the libraries that were proved.
     [Part("edits", "tools/gate-edits.py")],
