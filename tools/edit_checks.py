@@ -192,9 +192,8 @@ def try_together(edits, kept):
     return {edit: refused(of) for edit, of in own.items() if of}
 
 
-def try_batch(edits, seed):
+def try_batch(edits, kept):
     """Tries the edits together, and alone those that this doesn't refuse; gives each with its result."""
-    kept = seed.result()
     if kept is None:
         return [(edit, UNPROVED) for edit in edits]
     together = try_together(edits, kept) if len(edits) > 1 else {}
@@ -208,15 +207,19 @@ def lanes():
 
 def tried(edits):
     """Tries the edits side by side; gives each with its result, in the order in which they end."""
-    names = collections.defaultdict(set)
+    of = collections.defaultdict(list)
     for edit in edits:
-        names[crate_of(edit)].update(asked_for(edit))
+        of[crate_of(edit)].append(edit)
     with tempfile.TemporaryDirectory() as room, concurrent.futures.ThreadPoolExecutor(lanes()) as pool:
-        # The pool takes tasks in their order, so each seed has begun before an edit waits for it.
-        seeds = {crate: pool.submit(seeded, crate, sorted(of), room) for crate, of in names.items()}
-        tries = [pool.submit(try_batch, batch, seeds[crate_of(batch[0])]) for batch in batches(edits)]
+        seeds = {pool.submit(seeded, crate, sorted({name for edit in found for name in asked_for(edit)}), room): found for crate, found in of.items()}
+        tries = set()
         try:
-            for it in concurrent.futures.as_completed(tries):
-                yield from it.result()
+            while seeds or tries:
+                for it in concurrent.futures.wait([*seeds, *tries], return_when=concurrent.futures.FIRST_COMPLETED).done:
+                    if it in seeds:
+                        tries |= {pool.submit(try_batch, batch, it.result()) for batch in batches(seeds.pop(it))}
+                    else:
+                        tries.remove(it)
+                        yield from it.result()
         finally:
             pool.shutdown(wait=False, cancel_futures=True)
