@@ -97,8 +97,8 @@ void bench_outcome(const char *format, ...) __attribute__((format(printf, 1, 2))
 /*
  * bench_reads, bench_writes - the caller reads or writes this memory by plain accesses
  *
- * The run is wrong where another thread accesses it without an order, and one of the two writes. Locks, waits, and atomics with acquire and release
- * make an order. It is wrong, too, where the memory was given back by kmem_free.
+ * The run is wrong where another thread accesses it without an order, and one of the two writes. Locks, waits, atomics with acquire and release,
+ * and membar calls beside relaxed atomics make an order. It is wrong, too, where the memory was given back by kmem_free.
  */
 void bench_reads(const volatile void *at, size_t size, const char *place);
 void bench_writes(const volatile void *at, size_t size, const char *place);

@@ -162,7 +162,8 @@
 //!
 //! # More than the limits
 //!
-//! No call moves an entry or a reference from one registry to another. Before a call returns [`Refusal::HistoryFull`] or [`Refusal::SectionsSpent`],
+//! Only an attach takes room from [`Settings::changes`]: for itself and for its detach. Lookups and references don't, and no call returns what is left: count
+//! attaches. No call moves an entry or a reference from one registry to another. Before a call returns [`Refusal::HistoryFull`] or [`Refusal::SectionsSpent`],
 //! open a second registry, attach everything there, let lookups go there, and retire what is in the first. The last handle that is dropped closes it.
 //! If `T` is an [`Arc`](alloc::sync::Arc), both registries carry the same objects.
 //!

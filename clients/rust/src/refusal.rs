@@ -27,7 +27,7 @@ pub enum Refusal {
     NameTaken,
     /// No slot is vacant.
     NoSlot,
-    /// The history has no room for this attach and the detaches to come.
+    /// No more attaches: each takes room for itself and its detach, of [`Settings::changes`](crate::Settings::changes). All other calls go on.
     HistoryFull,
     /// No live entry has this kind and name, or the one that has isn't the entry that is meant.
     NotFound,
