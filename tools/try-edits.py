@@ -11,8 +11,8 @@ first. What it says of a crate's edits it says when all of them were tried.
 
 `all` needs what `rt ci` builds. It first checks only the functions that edits change (tools/edit_checks.py), as many checks side by side as there are
 processors and memory, and the crate as a whole where that refuses nothing. Tests run beside. docs/edits-tried.txt has what each edit came to, and
-the sum of all that it was tried on: the edit, the sources of its crate and of those beneath, and the kit. So a run that was cut off continues, and
-after a change only what it reaches is tried again.
+the sum of all that it was tried on: the edit, the sources of its crate and of those beneath, without comments, and the kit. So a run that was cut off
+continues, and after a change only what it reaches is tried again.
 """
 import contextlib
 import datetime
@@ -39,6 +39,8 @@ FOLDERS = {"prover": "must-fail-by-hand", "tests": "must-fail-tests"}
 OF_PROVER = ("must-fail-gate", FOLDERS["prover"])
 REPORT = ROOT / "docs/edits-tried.txt"
 LINE = re.compile(r"([0-9a-f]{16}) (\S+\.edit): (.+)")
+# What a line begins with that is a comment alone.
+COMMENTS = {".rt": b"//", ".antt": b"--"}
 # `all` asks rt for so many edits of a crate in one call. A run that is cut off loses the results of that call.
 IN_ONE_CALL = 12
 # So many runs of tests are made side by side, beside the prover's checks.
@@ -124,17 +126,28 @@ def files_of(*folders):
     return sorted(it for folder in folders for it in folder.rglob("*") if it.is_file() and "out" not in it.relative_to(ROOT).parts)
 
 
-def sum_of(files, *more):
+def bytes_of(path):
+    return path.read_bytes()
+
+
+def without_comments(path):
+    """The lines of a source that are neither empty nor a comment alone: no others make a difference to a proof or to a test."""
+    lines = [line.strip() for line in path.read_bytes().split(b"\n")]
+    return b"\n".join(line for line in lines if line and not line.startswith(COMMENTS.get(path.suffix, b"\n")))
+
+
+def sum_of(files, *more, read=bytes_of):
     found = hashlib.sha256(repr(more).encode())
     for it in files:
-        found.update(f"{it.relative_to(ROOT)}\n".encode() + hashlib.sha256(it.read_bytes()).digest())
+        found.update(f"{it.relative_to(ROOT)}\n".encode() + hashlib.sha256(read(it)).digest())
     return found.hexdigest()
 
 
 @functools.cache
 def sum_of_crate(crate):
-    """The sum of the sources of a crate and of those beneath it."""
-    return sum_of(files_of(*(ROOT / "crates" / it / part for it in [*below(crate), crate] for part in ("src", "specs", "proofs"))))
+    """The sum of the sources of a crate and of those beneath it, without their comments."""
+    files = files_of(*(ROOT / "crates" / it / part for it in [*below(crate), crate] for part in ("src", "specs", "proofs")))
+    return sum_of(files, read=without_comments)
 
 
 @functools.cache

@@ -90,10 +90,12 @@ def night_faults():
     again = ["sh", "-c", "./night >/dev/null 2>&1; exec ./night"]
     not_tried = f"sed -i 's/nothing.edit: .*/nothing.edit: not tried/' docs/edits-tried.txt; echo strong >{LOW}"
     later = ["sh", "-c", f"./night >/dev/null 2>&1; {not_tried}; exec ./night"]
+    recoded = ["sh", "-c", "./night >/dev/null 2>&1; echo '    x + 1' >>crates/one/src/lib.rt; exec ./night"]
     return (
         Fault("a wrong body by hand that is proved", "    1 NOT REFUSED", ((HAND, "new:     0", "new:     x + 1 - 0"),)),
         Fault("a wrong body by hand that is proved, again", "    1 NOT REFUSED", ((HAND, "new:     0", "new:     x + 1 - 0"),), command=again),
         Fault("a wrong body by hand that the last run didn't try", "    1 NOT REFUSED", command=later),
+        Fault("an edit that fitted the last run's source", "stands 2 times in", command=recoded),
         Fault("a wrong body that no test refuses", "NOT REFUSED: all tests pass", ((TESTED, "new:     x + x", "new:     x + 1 + 0"),)),
         Fault("a library that isn't built", "isn't built: run rt ci first", ((LOW, "low", None),)),
     )
