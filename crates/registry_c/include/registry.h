@@ -562,8 +562,8 @@ registry_answer registry_release(struct registry_cpu *cpu, uint64_t number) REGI
 /*
  * registry_look_up - enter, find and exit, or loads alone: a copy of the live entry with this kind and name
  *
- * Outside any section the call first searches by loads alone: no section begins, and no shared word is written. It makes an enter, a find and an exit
- * only if an attach or a detach is made meanwhile, if `name` is NULL or `kind` is no kind, and inside an open section.
+ * Outside any section the call first searches by loads alone: no section begins, and no shared word is written. If an attach or a detach is made
+ * meanwhile, if `name` is NULL or `kind` is no kind, and inside an open section, it makes an enter, a find and an exit.
  * The result is what the registry had at one moment during the call, as with registry_find: it finds an entry whose attach returned before the call
  * began, unless that entry is detached before the call returns. It doesn't find an entry whose detach returned before the call began.
  * Outside any section nothing holds the entry afterwards. `found` is a copy. When the call returns, the entry may be freed, and so may the memory that
