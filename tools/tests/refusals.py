@@ -16,9 +16,18 @@ pub fn less(x: u64) -> u64
 {
     x - 1
 }
+
+impl Up for Plain {
+    fn up(x: u64) -> u64
+    {
+        x + 7
+    }
+}
 """
-# It proves bodies that say x + 1 and x - 1, and the first over a library that is called strong. It ends as `rattle check` does.
+# It proves bodies that say x + 1, x - 1 and x + 7, and the first over a library that is called strong. It ends as `rattle check` does, and calls a
+# trait's method by the type and the trait.
 RATTLE = """#!/bin/sh
+case $* in *"--only Plain::"*) echo "rattle: error: there is no such function"; exit 2 ;; esac
 status=0
 grep -q '^    x + 1' src/lib.rt || grep -q strong "$LOW" || {
     echo 'note: src/lib.rt:5:15: this clause is not proved'
@@ -28,7 +37,11 @@ grep -q '^    x - 1' src/lib.rt || {
     echo 'note: src/lib.rt:12:15: this clause is not proved'
     status=1
 }
-echo 'only=2'
+grep -q '^        x + 7' src/lib.rt || {
+    echo 'note: src/lib.rt:18:5: this clause is not proved'
+    status=1
+}
+echo 'only=3'
 exit $status
 """
 # It refuses no edit of a whole crate. A crate's one test compares what `more` says of 1.
@@ -44,12 +57,14 @@ LOW = "crates/low/out/rlib/low.rlib/format"
 EDIT = "crates/one/must-fail-gate/same.edit"
 TWO = "crates/one/must-fail-gate/two.edit"
 LESS = "crates/one/must-fail-gate/less.edit"
+UP = "crates/one/must-fail-gate/up.edit"
 TREE = {
     "crates.txt": "low: std\none: low std\n",
     "crates/one/src/lib.rt": SOURCE,
     EDIT: "# It adds nothing.\nfile: src/lib.rt\nold:     x + 1\nnew:     x\n",
     TWO: "file: src/lib.rt\nold:     x + 1\nnew:     x + 2\n",
     LESS: "file: src/lib.rt\nold:     x - 1\nnew:     x - 2\n",
+    UP: "file: src/lib.rt\nold:         x + 7\nnew:         x\n",
     LOW: "low\n",
     "bin/rt": RT,
     "kit/KIT-ID": "kit\n",
@@ -117,7 +132,7 @@ def cases():
         judges("a proof that names what is gone", "refused only because", "echo 'note: proofs/Lib.antt:1:1: x has no field y'"),
         Fault("functions that aren't proved as they stand", "the functions of its edits aren't proved as they stand", (("crates/one/src/lib.rt", "    x + 1", "    1 + x"),
               (EDIT, "x + 1", "1 + x"), (TWO, "old:     x + 1", "old:     1 + x"))),
-        Fault("no edits", "no edit one in must-fail-gate", ((EDIT, "file:", None), (TWO, "file:", None), (LESS, "file:", None))),
+        Fault("no edits", "no edit one in must-fail-gate", ((EDIT, "file:", None), (TWO, "file:", None), (LESS, "file:", None), (UP, "file:", None))),
         Fault("no folder of edits", "0 passed, 1 failed", command=["sh", "-c", "rm -r crates/one/must-fail-gate; exec ./try"]),
         Fault("an edit that isn't there", "no edit one/gone", command=["./try", "one/gone"]),
         Fault("a library that isn't built", "which isn't built", ((LOW, "low", None),)),
