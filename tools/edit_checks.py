@@ -1,7 +1,8 @@
 """Tries wrong bodies that the prover must refuse, by a check of the functions that they change (docs/EDITS.md).
 
 A check of an edited crate is of the function whose body the edit changes, or of those that the edit names in a line `only: MODULE::FUNCTION ..`, with
-what they call. These functions are checked once as they stand, and each edit begins with what that check kept.
+what they call; or it is of the whole crate, as an edit of a definition needs. What it checks is checked once as it stands, and each edit begins with what
+that check kept.
 
 Most of a check's time goes into reading what stands below, so edits of several bodies are tried in one check: each changes the body of one function alone,
 each of another one. A function is proved of its own body and of the contracts of what it calls, which stay, so the other edits don't matter to it. An edit
@@ -26,7 +27,9 @@ IN_ONE_CHECK = 8
 # What the check of some functions takes of memory, above the most that was seen.
 MEMORY = 2.5 * GIGABYTE
 Try = collections.namedtuple("Try", "is_refused said")
-UNPROVED = Try(False, "NOT TRIED: the functions of this crate's edits aren't proved as they stand")
+UNPROVED = Try(False, "NOT TRIED: what this crate's edits change isn't proved as it stands")
+# In place of functions to check: all of the crate.
+WHOLE = ["the whole crate"]
 NO_FUNCTION = "it changes no function: name those to check in a line only: MODULE::FUNCTION"
 
 
@@ -57,8 +60,10 @@ def named_by(edit):
     return named[1].split() if named else []
 
 
-def asked_for(edit):
-    """The functions to check: those that the edit names, or the one in which its first text stands."""
+def asked_for(edit, whole):
+    """The functions to check: those that the edit names, or the one in which its first text stands; or else WHOLE."""
+    if whole:
+        return WHOLE
     path, old, _ = next(changes(edit))
     function = function_at(path, line_of(path, old))
     return named_by(edit) or ([name_of(crate_of(edit), function)] if function else [])
@@ -74,8 +79,15 @@ def body_changed(edit):
     return function if all(body_begins(function) < line for _, line in places) else None
 
 
-def batches(edits):
+def asked_for_all(edits, whole):
+    """What to check of the crate of these edits, for all of them."""
+    return WHOLE if whole else sorted({name for edit in edits for name in asked_for(edit, whole)})
+
+
+def batches(edits, whole):
     """The edits, as they are tried: those of several bodies of a crate together, each of another function."""
+    if whole:
+        return [[edit] for edit in edits]
     rounds = collections.defaultdict(list)
     seen = collections.Counter()
     for edit in edits:
@@ -105,7 +117,7 @@ def telling(found):
 def untried(ran):
     """Why the check says nothing of the edit, or ''. It says something where it ran to its end, and could read all that was edited."""
     lines = ran.stdout.splitlines()
-    ended = lines and lines[-1].startswith("only=")
+    ended = lines and lines[-1].startswith(("only=", "logic="))
     unread = [it for it in lines if re.match(r"(\./)?(src|specs)/\S+: error|error\[", it)]
     return "" if ran.returncode == 1 and ended and not unread else next(iter([*unread, *lines[-1:]]), f"status {ran.returncode}")[:300]
 
@@ -135,8 +147,8 @@ def is_of(goal, crate, function):
 
 
 def check(crate, names, tree, kept):
-    """Checks the functions of the crate as it stands in `tree`, over what is kept in the folder `kept`, and keeps what it proves there."""
-    only = [word for it in names for word in ("--only", it)]
+    """Checks the functions of the crate as it stands in `tree`, or WHOLE, over what is kept in the folder `kept`, and keeps what it proves there."""
+    only = [] if names == WHOLE else [word for it in names for word in ("--only", it)]
     words = [kit() / "bin/rattle", "check", *over_libraries(crate), "--jobs", "1", *only, "--incremental", kept]
     said = {"stdin": subprocess.DEVNULL, "stdout": subprocess.PIPE, "stderr": subprocess.STDOUT, "text": True, "errors": "replace"}
     return subprocess.run(words, cwd=tree / "crates" / crate, **said)
@@ -153,19 +165,19 @@ def copied(crate, room):
 
 
 def seeded(crate, names, room):
-    """A folder with what is proved of these functions as they stand, or None where they aren't: then a refusal would say nothing of an edit."""
+    """A folder with what is proved of these functions, or of WHOLE, as they stand, or None where they aren't: a refusal would say nothing of an edit then."""
     kept = pathlib.Path(room) / crate
     kept.mkdir()
     with tempfile.TemporaryDirectory() as scratch:
         ran = check(crate, names, copied(crate, scratch), kept)
     if ran.returncode:
-        print(f"{crate}: the functions of its edits aren't proved as they stand: {ran.stdout[-600:]}", flush=True)
+        print(f"{crate}: what its edits change isn't proved as it stands: {ran.stdout[-600:]}", flush=True)
         return None
     return kept
 
 
 def check_edited(edits, names, kept):
-    """Checks these functions of the edited crate, in a copy of it; what is kept there goes with the copy. Gives the check, or what doesn't fit."""
+    """Checks these functions of the edited crate, or WHOLE, in a copy of it; what is kept there goes with the copy. Gives the check, or what doesn't fit."""
     with tempfile.TemporaryDirectory() as room:
         tree = copied(crate_of(edits[0]), room)
         misfit = next(filter(None, (apply(edit, tree)[1] for edit in edits)), "" if names else NO_FUNCTION)
@@ -176,9 +188,9 @@ def check_edited(edits, names, kept):
         return check(crate_of(edits[0]), names, tree, over), ""
 
 
-def try_edit(edit, kept):
+def try_edit(edit, kept, whole):
     """Tries one edit alone."""
-    names = asked_for(edit)
+    names = asked_for(edit, whole)
     ran, misfit = check_edited([edit], names, kept)
     return judged(ran, names) if ran else Try(False, f"NOT TRIED: {misfit}")
 
@@ -186,18 +198,18 @@ def try_edit(edit, kept):
 def try_together(edits, kept):
     """Tries edits of several bodies in one check; gives those that it refuses, with what refuses them."""
     functions = {edit: body_changed(edit) for edit in edits}
-    ran, _ = check_edited(edits, [name for edit in edits for name in asked_for(edit)], kept)
+    ran, _ = check_edited(edits, asked_for_all(edits, whole=False), kept)
     found = telling(goals(ran)) if ran and not untried(ran) else []
     own = {edit: [it for it in found if is_of(it, crate_of(edit), functions[edit])] for edit in edits}
     return {edit: refused(of) for edit, of in own.items() if of}
 
 
-def try_batch(edits, kept):
+def try_batch(edits, kept, whole):
     """Tries the edits together, and alone those that this doesn't refuse; gives each with its result."""
     if kept is None:
         return [(edit, UNPROVED) for edit in edits]
     together = try_together(edits, kept) if len(edits) > 1 else {}
-    return [(edit, together.get(edit) or try_edit(edit, kept)) for edit in edits]
+    return [(edit, together.get(edit) or try_edit(edit, kept, whole)) for edit in edits]
 
 
 def lanes():
@@ -205,19 +217,19 @@ def lanes():
     return max(1, min(processors(), int(free_memory() // MEMORY)))
 
 
-def tried(edits):
-    """Tries the edits side by side; gives each with its result, in the order in which they end."""
+def tried(edits, whole=False):
+    """Tries the edits side by side, by their functions or by the whole crate; gives each with its result, in the order in which they end."""
     of = collections.defaultdict(list)
     for edit in edits:
         of[crate_of(edit)].append(edit)
     with tempfile.TemporaryDirectory() as room, concurrent.futures.ThreadPoolExecutor(lanes()) as pool:
-        seeds = {pool.submit(seeded, crate, sorted({name for edit in found for name in asked_for(edit)}), room): found for crate, found in of.items()}
+        seeds = {pool.submit(seeded, crate, asked_for_all(found, whole), room): found for crate, found in of.items()}
         tries = set()
         try:
             while seeds or tries:
                 for it in concurrent.futures.wait([*seeds, *tries], return_when=concurrent.futures.FIRST_COMPLETED).done:
                     if it in seeds:
-                        tries |= {pool.submit(try_batch, batch, it.result()) for batch in batches(seeds.pop(it))}
+                        tries |= {pool.submit(try_batch, batch, it.result(), whole) for batch in batches(seeds.pop(it), whole)}
                     else:
                         tries.remove(it)
                         yield from it.result()

@@ -10,7 +10,7 @@ Without names it goes over all of them. It works on a copy of the tree, says of 
 first. What it says of a crate's edits it says when all of them were tried.
 
 `all` needs what `rt ci` builds. It first checks only the functions that edits change (tools/edit_checks.py), as many checks side by side as there are
-processors and memory, and the crate as a whole where that refuses nothing. Tests run beside. docs/edits-tried.txt has what each edit came to, and
+processors and memory, and then the whole crate where that refused nothing. Tests run beside. docs/edits-tried.txt has what each edit came to, and
 the sum of all that it was tried on: the edit, the sources of its crate and of those beneath, without comments, and the kit. So a run that was cut off
 continues, and after a change only what it reaches is tried again.
 """
@@ -31,7 +31,7 @@ from concurrent.futures import ThreadPoolExecutor
 sys.dont_write_bytecode = True
 
 from counts import ended
-from edit_checks import crate_of, tried as tried_by_function
+from edit_checks import crate_of, tried as tried_by_check
 from edits import ROOT, apply, edits_of, restore
 from kit import below, built, listed
 
@@ -41,8 +41,6 @@ REPORT = ROOT / "docs/edits-tried.txt"
 LINE = re.compile(r"([0-9a-f]{16}) (\S+\.edit): (.+)")
 # What a line begins with that is a comment alone.
 COMMENTS = {".rt": b"//", ".antt": b"--"}
-# `all` asks rt for so many edits of a crate in one call. A run that is cut off loses the results of that call.
-IN_ONE_CALL = 12
 # So many runs of tests are made side by side, beside the prover's checks.
 TESTED_AT_ONCE = 2
 
@@ -193,13 +191,10 @@ class Night:
             tests.result()
 
     def run_prover(self):
-        for edit, result in tried_by_function(self.left(*OF_PROVER)):
-            if result.is_refused:
-                self.note(edit, result.said)
-        with a_copy() as tree:
-            for group in groups(self.left(*OF_PROVER)):
-                for _, edit, _, said in by_prover(tree, group):
-                    self.note(edit, said)
+        for whole in (False, True):
+            for edit, result in tried_by_check(self.left(*OF_PROVER), whole):
+                if result.is_refused or whole:
+                    self.note(edit, result.said)
 
     def run_tests(self):
         with ThreadPoolExecutor(TESTED_AT_ONCE) as pool:
@@ -234,14 +229,6 @@ class Night:
 
 def in_folder(edit):
     return edit.relative_to(ROOT / "crates").parts[1]
-
-
-def groups(edits):
-    """The edits by crate and folder, some at a time."""
-    found = {}
-    for edit in edits:
-        found.setdefault((crate_of(edit), in_folder(edit)), []).append(edit)
-    return [{crate: of[at:at + IN_ONE_CALL]} for (crate, _), of in found.items() for at in range(0, len(of), IN_ONE_CALL)]
 
 
 def kind_of(said):

@@ -24,11 +24,22 @@ impl Up for Plain {
     }
 }
 """
-# It proves bodies that say x + 1, x - 1 and x + 7, and the first over a library that is called strong. It ends as `rattle check` does, and calls a
-# trait's method by the type and the trait.
+# It proves bodies that say x + 1, x - 1 and x + 7, and the first over a library that is called strong; a whole crate it proves only below the first
+# line. It ends as `rattle check` does, and calls a trait's method by the type and the trait.
 RATTLE = """#!/bin/sh
 case $* in *"--only Plain::"*) echo "rattle: error: there is no such function"; exit 2 ;; esac
 status=0
+ended=only=3
+case $* in
+    *--only*) ;;
+    *)
+        ended=logic=proved
+        grep -q '^//! One more' src/lib.rt || {
+            echo 'note: src/lib.rt:1:1: this line is not proved'
+            status=1
+        }
+        ;;
+esac
 grep -q '^    x + 1' src/lib.rt || grep -q strong "$LOW" || {
     echo 'note: src/lib.rt:5:15: this clause is not proved'
     status=1
@@ -41,15 +52,14 @@ grep -q '^        x + 7' src/lib.rt || {
     echo 'note: src/lib.rt:18:5: this clause is not proved'
     status=1
 }
-echo 'only=3'
+echo $ended
 exit $status
 """
-# It refuses no edit of a whole crate. A crate's one test compares what `more` says of 1.
+# A crate's one test compares what `more` says of 1.
 RT = """#!/bin/sh
 case $1 in
     doc) echo "${TOP:-$PWD}/kit/START-HERE.md" ;;
     version) echo "kit 1" ;;
-    must-fail) for it in crates/$2/must-fail/*; do echo "must-fail $2/${it##*/}: NOT REFUSED"; done ;;
     try) echo "tests: 1"; grep -q "^    x + 1" src/lib.rt || { echo "test more FAILED"; exit 1; } ;;
 esac
 """
@@ -81,10 +91,12 @@ echo "$said"
 exit $status
 """
 HAND = "crates/one/must-fail-by-hand/kept/nothing.edit"
+HEADING = "crates/one/must-fail-by-hand/heading.edit"
 TESTED = "crates/one/must-fail-tests/twice.edit"
 NIGHT = {
     **TREE,
     HAND: "# It adds nothing.\nfile: src/lib.rt\nold:     x + 1\nnew:     0\n",
+    HEADING: "# It is of no function.\nfile: src/lib.rt\nold: //! One more.\nnew: //! None.\n",
     TESTED: "# It doubles.\nfile: crates/one/src/lib.rt\nold:     x + 1\nnew:     x + x\n",
     "docs/README.md": "",
     "night": NIGHTLY,
@@ -108,6 +120,7 @@ def night_faults():
     recoded = ["sh", "-c", "./night >/dev/null 2>&1; echo '    x + 1' >>crates/one/src/lib.rt; exec ./night"]
     return (
         Fault("a wrong body by hand that is proved", "    1 NOT REFUSED", ((HAND, "new:     0", "new:     x + 1 - 0"),)),
+        Fault("a wrong heading that the crate is proved under", "heading.edit: NOT REFUSED: the whole crate still proved", ((HEADING, "new: //! None", "new: //! One more than"),)),
         Fault("a wrong body by hand that is proved, again", "    1 NOT REFUSED", ((HAND, "new:     0", "new:     x + 1 - 0"),), command=again),
         Fault("a wrong body by hand that the last run didn't try", "    1 NOT REFUSED", command=later),
         Fault("an edit that fitted the last run's source", "stands 2 times in", command=recoded),
@@ -130,7 +143,7 @@ def cases():
         judges("another status of the checker", "NOT TRIED", "echo 'only=1'; exit 2"),
         judges("a refusal that no goal tells", "refused only because", "true"),
         judges("a proof that names what is gone", "refused only because", "echo 'note: proofs/Lib.antt:1:1: x has no field y'"),
-        Fault("functions that aren't proved as they stand", "the functions of its edits aren't proved as they stand", (("crates/one/src/lib.rt", "    x + 1", "    1 + x"),
+        Fault("functions that aren't proved as they stand", "what its edits change isn't proved as it stands", (("crates/one/src/lib.rt", "    x + 1", "    1 + x"),
               (EDIT, "x + 1", "1 + x"), (TWO, "old:     x + 1", "old:     1 + x"))),
         Fault("no edits", "no edit one in must-fail-gate", ((EDIT, "file:", None), (TWO, "file:", None), (LESS, "file:", None), (UP, "file:", None))),
         Fault("no folder of edits", "0 passed, 1 failed", command=["sh", "-c", "rm -r crates/one/must-fail-gate; exec ./try"]),
