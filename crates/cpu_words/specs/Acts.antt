@@ -21,7 +21,7 @@ is_border (Enter c) = true
 is_border (Exit c) = true
 is_border e = false
 
--- one by which a CPU hears
+-- an event in which a CPU hears the keeper
 abbrev pub is_hear : Event → Bool
 is_hear (Hear (Some c)) = true
 is_hear e = false

@@ -23,7 +23,7 @@ pub record HasToldSince {z : Settings} {s t : Table ℕ Logged} {i j : ℕ} (m :
   pub teller : h.cpu ≡ cpu.id
   pub since : length m.doer.log < h.events
 
--- The keeper heard the note that h told: by then it had done `before`. This stands in the list past all that i knew at the first moment, and so does what the keeper has done since it heard.
+-- The keeper heard the note that h told: by then it had done `before`. This is in the list past all that i knew at the first moment, and so is what the keeper has done since it heard.
 pub record IsHeardPast {z : Settings} {s t : Table ℕ Logged} {i j : ℕ} (m : TwoMoments z s t i j) (r : RunsAsLogged z t) (h : Teller) (before : List LogItem) : Type 0 where
   pub first : List (ℕ × LogItem)
   pub rest : List (ℕ × LogItem)

@@ -1,4 +1,4 @@
--- Fresh lookups (pserialize(9)): what a CPU's own log tells of its searches, by where they stand in the one list; and what a CPU has seen as it
+-- Fresh lookups (pserialize(9)): what a CPU's own log says of its searches, by their places in the one list; and what a CPU has seen as it
 -- enters, as it hears, and as its lookup by loads loads a word.
 use Rattle.std.specs.Prelude.{◌≡◌, ℕ, ◌≤◌, List, [], ◌∷◌, ◌++◌, length, take, Option, Some}
 use Rattle.std.specs.List.{AllByRecursion}
@@ -40,7 +40,7 @@ until_reply first c key since = first ++ seek_for c key ∷ since
 abbrev pub with_reply : List Event → ℕ → Key → List Event → Event → List Event
 with_reply first c key since load = first ++ seek_for c key ∷ (since ++ load ∷ [])
 
--- Where this search stands in the list of all events, and what its answer is by that list.
+-- This search's place in the list of all events, and its result by that list.
 pub record IsAnsweredFreshly {z : Settings} {s : Table ℕ Logged} (r : RunsAsLogged z s) (c : ℕ) (key : Key) (answer : Option Entry) {log : List LogItem} (a : HasAnswered c key answer log) : Type 0 where
   pub first : List Event
   pub since : List Event
@@ -53,7 +53,7 @@ pub record IsAnsweredFreshly {z : Settings} {s : Table ℕ Logged} (r : RunsAsLo
   -- the answer is the registry's at some point from the history's length at the Seek to that at the reply; what was live at both is found, and what was detached before isn't
   pub fresh : IsFreshAnswer (after (opening z) first).history (after (opening z) (with_reply first c key since load)).history (seen_at (after (opening z) (with_reply first c key since load)) c) key answer
 
--- whatever list explains the table, each search in the log of a CPU's seat was answered so
+-- for any list that explains the table: each search in the log of a CPU's seat returned so
 abbrev pub LookupsAreFresh : Type 0
 LookupsAreFresh = (z : Settings) (s : Table ℕ Logged) (r : RunsAsLogged z s) (i : ℕ) (l : Logged) (x : CpuView) (key : Key) (answer : Option Entry) → get_elem? s.views i ≡ some l → l.view ≡ Cpu x
     → (a : HasAnswered x.id key answer l.log) → IsAnsweredFreshly r x.id key answer a

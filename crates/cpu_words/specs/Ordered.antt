@@ -31,7 +31,7 @@ pub record TwoMoments (z : Settings) (s t : Table ℕ Logged) (i j : ℕ) : Type
   pub since : List LogItem
   pub goes_on : does.log ≡ doer.log ++ since
 
--- The item of j's stands in the list past all that i knew at s.
+-- The item of j's is in the list past all that i knew at s.
 pub record StandsPast {z : Settings} {s t : Table ℕ Logged} {i j : ℕ} (m : TwoMoments z s t i j) (r : RunsAsLogged z t) (before : List LogItem) (d : LogItem) : Type 0 where
   pub first : List (ℕ × LogItem)
   pub rest : List (ℕ × LogItem)
@@ -39,7 +39,7 @@ pub record StandsPast {z : Settings} {s t : Table ℕ Logged} {i j : ℕ} (m : T
   pub own : part j first ≡ m.doer.log ++ before
   pub past : IsPrefix m.knower.list first
 
--- so does each item of `since`, in whatever list explains the table at t
+-- so is each item of `since`, in any list that explains the table at t
 abbrev pub OrderedInTime : Type 0
 OrderedInTime = (z : Settings) (s t : Table ℕ Logged) (i j : ℕ) (m : TwoMoments z s t i j) (r : RunsAsLogged z t) (before after : List LogItem) (d : LogItem) → m.since ≡ before ++ d ∷ after
     → StandsPast m r before d

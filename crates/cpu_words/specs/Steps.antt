@@ -102,7 +102,7 @@ abbrev pub JoinsOn : Settings → ℕ → View → ℕ → View → View → Vie
 JoinsOn z i v o w both spent ds = (s : Table ℕ View) (r : Ruled z s) → get_elem? s.views i ≡ some v → ¬ (o ≡ i) → get_elem? (slice_set s.views i both) o ≡ some w
     → GoesOn z s r ds (record { words = s.words; homes = s.homes; views = slice_set (slice_set s.views i both) o spent })
 
--- In any table in which the word becomes f of what it was, the seat has a view after, the rule holds with it, and so does the tale of the
+-- In any table in which the word becomes f of what it was, the seat has a view after. The rule holds with it, and so does the tale of the
 -- word found. For a load or an exchange n is the word found, for a store the word stored. The run goes on with exactly the events of the
 -- word found.
 

@@ -62,8 +62,8 @@ pub record HaveEnded (z : Settings) (s : Table ℕ Logged) (before looks : List 
   pub exits : (c b : ℕ) → c < z.cpus → begin_at (after (opening z) earlier) c ≡ Some b → HasExit (after (opening z) earlier) c since
   -- and so has the section that was open on a CPU as the keeper took this CPU's word
   pub each : (c : ℕ) → c < z.cpus → HasEndedOn z s run before looks c
-  -- and where the keeper had heard a note by then, so has each section that was open at any moment before the note was told, such as the
-  -- begin of a call that told it
+  -- if the keeper had heard a note by then, so has each section that was open at a moment before the note was told. The begin of the call
+  -- that told it is such a moment
   pub told : (h : Teller) (first rest : List Event) → HasHeardFrom None h before → run.run.events ≡ first ++ rest → IsBeforeTelling run h first → HasEndedSince z first rest (changes_in before)
   -- and before any note was told that the teller had heard by then: so what the teller knew of by notes is among it
   pub heard : (h k : Teller) (first rest : List Event) → HasHeardFrom None h before → HadHeard run h k → run.run.events ≡ first ++ rest → IsBeforeTelling run k first

@@ -9,28 +9,17 @@ ghost use Rattle.cpu_words.specs.Kept.{AttachedKeeps};
 ghost use Rattle.cpu_words.specs.Ordered.{OrderedInTime};
 ghost use Rattle.cpu_words.specs.Balance.{SeatsBalance};
 
-/// Theorem, no effect at run time: in every state of the table that is under the rule (`LoggedRuled`):
+/// The main theorem, no effect at run time: what holds in every table under the rule (`LoggedRuled`). GUARANTEES.md explains each clause.
 ///
-/// - `run`: some list of events leads to a state that the words and all views show. It obeys all laws of the protocol.
-/// - `held`: an entry that a section, a reference or a slot holds has its slot.
-/// - `fresh`: the result of a search was the registry's at some point between its Seek and its last load, however old the CPU's pass was.
-/// - `whole`: as a CPU enters, as it hears a note, and as its lookup by loads loads a word, its pass becomes the whole history.
-/// - `balance`: the words of a slot, less their biases, are the local references that the seats hold.
-///
-/// At two moments, the call of a `perform`, a `destroy` or an `audit` and any later one:
-///
-/// - `grows`: what a seat knew of the list of events at the first moment begins that list, and what any seat did since stands past it.
-/// - `told`: the keeper heard what a CPU told since, so what the keeper did after that stands past it, too.
-/// - `heard`: a CPU that heard since knows all that the keeper had done by the first moment.
-/// - `ended`: the keeper was told since, and then found each CPU's section word even or changed, so each section that was open at the first
-///   moment has had its exit.
-///
-/// By what a seat has heard of the keeper's log:
-///
-/// - `waiting`: the keeper found each CPU's section word even or changed, so earlier sections have ended.
-/// - `freed`: the keeper vacated a detached entry's slot, so nothing holds the entry.
-/// - `freed_by`: so it is where the keeper's own log has this.
-/// - `kept`: an interface was attached to a driver, so its slot keeps that driver.
+/// - `run`: some list of events leads to what the words and views show, and obeys the protocol's laws.
+/// - `held`: an entry that anything holds has its slot.
+/// - `fresh`: a search's result was the registry's between its Seek and its last load.
+/// - `whole`: Enter, Hear and a lookup by loads see the whole history.
+/// - `balance`: a slot's words, less biases, are its local references.
+/// - `grows`, `told`, `heard`, `ended`: what a call does comes past what was known before it.
+/// - `waiting`: earlier sections have ended.
+/// - `freed`, `freed_by`: nothing holds a detached entry whose slot was vacated.
+/// - `kept`: an interface's slot keeps its driver.
 pub fn running_headline()
     ensures run { RunningHeadline }
     ensures held { HeldHaveSlots }

@@ -1,4 +1,4 @@
--- Fresh lookups: a CPU's search stands in the list where its log has it, and the protocol's law holds of it there.
+-- Fresh lookups: a CPU's search is in the list where its log has it, and the protocol's law holds of it there.
 use Rattle.std.proofs.Common.{◌≡◌, ◌≢◌, inl, inr, ⊎_elim, ℕ, ◌+◌, ◌-◌, ◌≤◌, IsTrue, IsSome, List, [], ◌∷◌, ◌++◌, length, take, Option, Some, true, false, Bool, refl, sym, ap, ◌∙◌, subst, length-append}
 use Rattle.std.proofs.Common.{append_assoc, arith}
 use Rattle.std.specs.List.{AllByRecursion}

@@ -124,7 +124,7 @@ abbrev IsAsMuch : List LogItem → State → Event → State → ℕ → ℕ →
 IsAsMuch log s e o t n = total_at o.totals t + addition_due_at t o.due + given_by log n (by_number s e) + bias * is_adding_at t s.due + subtraction_due_at t s.due
     ≡ total_at s.totals t + addition_due_at t s.due + bias * is_adding_at t o.due + subtraction_due_at t o.due
 
--- The sums as plain numbers: so the arithmetic takes as long whatever the limits are
+-- The sums as plain numbers: so the limits don't change how long the arithmetic takes
 
 as_much_sum : (total add given words due sub sum now new by words_now due_now sub_now sum_now given_now : ℕ) → words_now ≡ words → sum_now ≡ sum → given_now ≡ given + by
     → now + new + by + bias * due + sub ≡ total + add + bias * due_now + sub_now → total + add + given + bias * words ≡ bias * (1 + due) + sum + sub

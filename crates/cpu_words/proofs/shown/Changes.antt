@@ -20,7 +20,7 @@ all_counted size h slots marks next changes all links = record {
   links = links;
 }
 
--- a mark more, by which no CPU comes to be clear
+-- one more mark, which makes no CPU clear
 pub counted_marked : (size : ℕ) (h : List Change) (slots : List Slot) (marks : List (List Mark)) (next : List ℕ) (changes t c : ℕ) (m : Mark)
     → ((mark_at marks t c).clear ≡ false → m.clear ≡ false) → ChangesShow size h slots marks next changes → ChangesShow size h slots (with_cell marks t c m) next changes
 counted_marked size h slots marks next changes t c m still on = record {
@@ -40,7 +40,7 @@ counted_marked size h slots marks next changes t c m still on = record {
   links = on.links;
 }
 
--- a slot for which some CPU is clear becomes vacant: its end is counted
+-- a slot becomes vacant, and some CPU is clear for it: its end is counted
 pub counted_vacated : (size : ℕ) (h : List Change) (slots : List Slot) (marks : List (List Mark)) (next : List ℕ) (changes t c : ℕ) → (mark_at marks t c).clear ≡ true
     → ChangesShow size h slots marks next changes → ChangesShow size h (set slots t Vacant) marks next changes
 counted_vacated size h slots marks next changes t c clear on = record {

@@ -8,7 +8,7 @@ use Rattle.protocol.proofs.history.Growing.{place_old, stands_old}
 use Rattle.protocol.proofs.keeps.Sections.{place_later, stands_later}
 use Rattle.cpu_words.specs.Common.{PeekHolds, PeekPlace, Goes, Finds, Misses, Peeking, PeekShows}
 
--- an answer that was lawful is so on
+-- a lawful result stays lawful
 missed_on : (h : List Change) (c : Change) (from : ℕ) (key : Key) → IsLawful h from (length h) key None → IsLawful (after_change h c) from (length (after_change h c)) key None
 missed_on h c from key was =
     let longer = length-after_change h c in
