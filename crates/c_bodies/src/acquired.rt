@@ -20,8 +20,8 @@ impl Drop for Place {
     }
 }
 
-/// A place for each remainder of a number, as many as there are slots. What stands there is a guess: the CPU judges each reference by what it holds,
-/// and one that stands nowhere is sought.
+/// A place for each remainder of a number, as many as there are slots. What is there is a guess: the CPU judges each reference by what it holds,
+/// and seeks one that isn't there.
 #[derive(Drop)]
 pub struct LastAcquired {
     places: [Place; MOST_SLOTS],
@@ -47,7 +47,7 @@ impl LastAcquired {
         other.forget();
     }
 
-    /// The CPU's reference to that number, if it stands there.
+    /// The CPU's reference to that number, if it is there.
     pub fn at(&self, cpu: u8, number: u64) -> Option<&Psref>
         ensures { IfSome result (λ psref. psref.now ≡ record { cpu = cpu; number = number }) }
     {
@@ -59,7 +59,7 @@ impl LastAcquired {
         }
     }
 
-    /// The CPU's reference to that number: what stands there, which is taken out, or one whose slot has to be sought.
+    /// The CPU's reference to that number: the one that is there, which is taken out, or one whose slot has to be sought.
     pub fn take(&mut self, cpu: u8, number: u64) -> Psref
         ensures { result ≡ record { cpu = cpu; number = number } }
     {

@@ -9,7 +9,7 @@ ghost use Rattle.cpu_words.specs.Kept.{AttachedKeeps};
 ghost use Rattle.cpu_words.specs.Ordered.{OrderedInTime};
 ghost use Rattle.cpu_words.specs.Balance.{SeatsBalance};
 
-/// The main theorem, no effect at run time: what holds in every table under the rule (`LoggedRuled`). GUARANTEES.md explains each clause.
+/// The main theorem, no effect at run time: what holds in every table under the rule (`LoggedRuled`); see GUARANTEES.md.
 ///
 /// - `run`: some list of events leads to what the words and views show, and obeys the protocol's laws.
 /// - `held`: an entry that anything holds has its slot.

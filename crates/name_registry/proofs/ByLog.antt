@@ -18,7 +18,7 @@ unless_if : (b : Bool) (w : ℕ) (net : ℤ) → net_unless (word_if b w) net �
 unless_if true w net = refl
 unless_if false w net = refl
 
--- the total as plain numbers: so the arithmetic takes as long whatever the limits are
+-- the total as plain numbers: so the limits don't change how long the arithmetic takes
 total_sum : (total add given words due sum sub seen : ℕ) → total + add + given + bias * words ≡ bias * (1 + due) + sum + sub → seen ≡ total → add ≡ 0 → due ≡ 0 → sub ≡ 0
     → pos sum -ℤ pos (bias * words + given) ≡ less_bias seen
 total_sum total add given words due sum sub seen even same no_add no_due no_sub = omega (arith, ints, even, same, no_add, no_due, no_sub)

@@ -230,7 +230,7 @@ tallies_learned a b xs ys slots heard learned =
     ∙ each_same (tally_met a ys) (tally_met a xs) a.slots slots (λ t e there. ap (λ locals. tally_by a locals e.number t)
     (map_learned (local_met a t e.number) xs ys learned.size (λ c x y was now. ap (local_met a t e.number) (learned.each c x y was now).0.is)))
 
--- What it answers is by the keeper's log, as it told: that is what each CPU knows, and there is one
+-- Its list is by the keeper's log, as it told: each CPU knows that log, and there is a CPU
 
 pub same_log : (a b : OnKeeper) (ys : List OnCpu) (log : List LogItem) → 0 < length ys → KnowAll log ys → HasToldAll a ys b → log ≡ (keeper_after_tell a).log
 same_log a b ys log lt known told = let one = there ys 0 lt in sym (known 0 one.0 one.1) ∙ told.known 0 one.0 one.1

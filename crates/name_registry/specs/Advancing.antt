@@ -84,7 +84,7 @@ pub record HasLookedLast (a b : KeeperView) (e : Event) (w : ℕ) : Type 0 where
 abbrev pub EndsIn : List LogItem → LogItem → List LogItem → Type 0
 EndsIn old d new = (between : List LogItem) × (new ≡ old ++ between ++ d ∷ [])
 
--- it saw the section word of c odd and as in the snapshot: the section that was open then is open, and may hold the entry
+-- it saw the section word of c odd and as in the snapshot: the section that was open at the snapshot is still open
 pub record SeesSection (a : OnKeeper) (t c : ℕ) (b : OnKeeper) : Type 0 where
   pub word : ℕ
   pub look : HasLookedLast a.view b.view (Look (Some t) c) word
@@ -103,7 +103,7 @@ pub record SeesPassive (a : OnKeeper) (t c : ℕ) (b : OnKeeper) : Type 0 where
 
 -- The stages, of the slot t
 
--- it saw a section of c that may hold the entry; all CPUs before c have passed
+-- it saw that c's section from the snapshot is still open; all CPUs before c have passed
 pub record MeetsGrace (a : OnKeeper) (t c : ℕ) (b : OnKeeper) : Type 0 where
   pub cpu : c < a.view.settings.cpus
   pub sees : SeesSection a t c b
@@ -156,7 +156,7 @@ Meets a t (Freed u) b = (u ≡ t) × MeetsNone a t b
 abbrev pub is_retired_row : ℕ → KeptSlot → Bool
 is_retired_row n r = is_retired_as n r.state
 
--- What advance answers and leaves.
+-- What advance returns and leaves.
 abbrev pub HasAdvanced : OnKeeper → ℕ → Result Stage Refusal → OnKeeper → Type 0
 HasAdvanced a n (Ok stage) b = (t : ℕ) × (retired_slot a.slots n ≡ Some t) × Meets a t stage b
 HasAdvanced a n (Err refusal) b = (refusal ≡ NotRetired) × (retired_slot a.slots n ≡ None) × (b ≡ a)

@@ -135,7 +135,7 @@ IsShownOn log x = (h : List Change) × IsShownAfter log (Cpu (with_note x.view h
 abbrev pub KnowAll : List LogItem → List OnCpu → Type 0
 KnowAll log ys = (c : ℕ) (y : OnCpu) → get_elem? ys c ≡ some y → y.known_log ≡ log
 
--- each of the CPUs has just this pass
+-- each of the CPUs has exactly this pass
 abbrev pub HavePass : List Change → List OnCpu → Type 0
 HavePass h ys = (c : ℕ) (y : OnCpu) → get_elem? ys c ≡ some y → y.view.pass ≡ h
 

@@ -50,8 +50,7 @@ pub record HasSeenAttach (x y : OnCpu) (e : Entry) : Type 0 where
   pub attached : IsAttached y.view.pass e
   pub log : y.log ≡ x.log ++ tells_and_hears x
 
--- the detach of e comes after all that the CPU had seen, and the CPU has seen it, and the attach of e, by one note to the keeper and one
--- from it
+-- The detach of e comes after all that the CPU had seen. The CPU has seen it, and the attach of e, by one note to the keeper and one from it.
 pub record HasSeenDetach (x y : OnCpu) (e : Entry) : Type 0 where
   pub end : ℕ
   pub later : length x.view.pass < end

@@ -15,7 +15,7 @@ abbrev pub IsNotRetired : ℕ → List LogItem → Type 0
 IsNotRetired n log = (t : ℕ) → IsRetiredIn t n log → ⊥
 
 -- The last thing that the keeper did, and in this turn, which began after `begin`, was to load the section word of c. The word was odd and
--- as at the snapshot: the section from then was still open, and may hold the entry. The CPUs before c have passed.
+-- as at the snapshot: the section from then was still open. The CPUs before c have passed.
 pub record MetSection (t c : ℕ) (begin log : List LogItem) : Type 0 where
   pub word : ℕ
   pub before : List LogItem
@@ -53,8 +53,8 @@ abbrev pub AnswersBy : ℕ → ℕ → Result Stage Refusal → List LogItem →
 AnswersBy cpus n (Ok stage) begin log = (t : ℕ) × IsRetiredIn t n begin × HasMet cpus t n stage begin log
 AnswersBy cpus n (Err refusal) begin log = (refusal ≡ NotRetired) × IsNotRetired n begin
 
--- Once it had done `begin` the keeper heard the CPU x, which told that note after the call. So by the law `running_headline` (`told`) what the keeper did since stands in the list of events past all
--- that anyone knew at the call.
+-- Once it had done `begin` the keeper heard the CPU x, which told that note after the call. So by the law `running_headline` (`told`) what the keeper
+-- did since is in the list of events past all that anyone knew at the call.
 pub record HasHeardCaller (x : OnCpu) (begin log : List LogItem) : Type 0 where
   pub teller : Teller
   pub cpu : teller.cpu ≡ x.view.id

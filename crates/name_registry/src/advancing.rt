@@ -15,14 +15,17 @@ use passive_list::{Keeper, KeptSlot, look, vacate};
 use passive_ref::look_passive;
 use registry_values::{Refusal, Stage, is_retired_as, settled};
 
-/// One turn of the work on the retired entry `number`, up to the first obstacle, which is the answer, the least CPU first: `Grace` of a
-/// CPU with a section that may hold the entry (pserialize(9)), `Passive` of a CPU with a passive reference to it (psref(9)), or `Local`
-/// with the number of local references to it (localcount(9)), never 0, of which the count words are then collected. Where there is none,
-/// its slot becomes vacant, and the answer is `Freed` with the slot, from 0. It takes no memory.
-/// `Freed` says in the keeper's own log (`gone`): the entry was attached in that slot and detached, and then the keeper made the slot vacant. By
-/// the law `running_headline` (`freed`) it has no slot, and no section, passive reference or local reference holds it: whatever the table is, now
-/// or later. So what its value points to may be freed.
-/// Refused: `NotRetired` where no slot has the retired entry `number`; nothing has changed then.
+/// Makes one turn of the work on the retired entry `number`, up to the first obstacle, lowest-numbered CPU first. Returns what it met:
+///
+/// - `Grace`: the CPU's section from the keeper's first look is still open (pserialize(9)).
+/// - `Passive`: the CPU has a passive reference to the entry (psref(9)).
+/// - `Local`: so many local references to it are left, at least 1 (localcount(9)). All count words are collected then.
+/// - `Freed`: nothing; the slot, from 0, is vacant now.
+///
+/// After `Freed` nothing holds the entry, now or later, by the keeper's log (`gone`) and the law `running_headline` (`freed`). So what its value
+/// points to may be freed.
+///
+/// Refused: `NotRetired` if no slot has the retired entry `number`; nothing has changed then.
 pub fn advance_in(words: &Words, keeper: &mut Keeper, number: u64) -> Result<Stage, Refusal>
     requires words { AreWordsOf words.now keeper.old.words.table keeper.old.words.settings }
     ensures answer { HasAdvanced keeper.old.keeper number result keeper.new.keeper }
@@ -71,8 +74,8 @@ fn advance_slot(words: &Words, keeper: &mut Keeper, slot: u8) -> Stage
     settle(words, keeper, slot)
 }
 
-/// Looks at the section word of each CPU that hasn't passed for the slot's retired entry, once each, up to the first that doesn't pass: it is
-/// the answer. The keeper's log goes on by these looks alone.
+/// Looks once at the section word of each CPU that hasn't passed for the slot's retired entry, up to the first that doesn't pass, and returns that
+/// CPU. The keeper's log goes on by these looks alone.
 pub(crate) fn look_at_all(words: &Words, keeper: &mut Keeper, slot: u8) -> Option<u8>
     requires words { AreWordsOf words.now keeper.old.words.table keeper.old.words.settings }
     requires retired { (e : Entry) × (slot_at keeper.old.keeper.slots slot ≡ Retired e) }

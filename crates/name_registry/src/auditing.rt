@@ -14,15 +14,16 @@ use passive_list::{Cpu, Keeper, PlainCpu, hear_keeper, hear_on, tell_keeper, tel
 use registry_values::{Balance, MOST_CPUS, MOST_SLOTS, Refusal, Slot, less_bias, sum};
 use std::alloc::{AllocError, Global};
 
-/// What the counts say of each live or retired entry, least slot first: of each CPU its own net count, 0 where the keeper has collected its
-/// count word, and as total what was collected, less what was given up. So what it says is held is the tally (`answer`). It makes three loads
-/// for each CPU and three by the keeper (no contract counts them), so that all know the same of the keeper's log: the keeper's log has each collected word, and a CPU
-/// that has heard it all knows that this word was its net count. So the whole list is said by that log and the CPUs alone (`known`), and that log
-/// is the keeper's (`log`). Also where memory runs out each CPU's pass is the keeper's history then, and what each knows is the keeper's log as it
-/// told (`told`); for the keeper that is one event, and one more as it hears. Each CPU hears once and tells once, and its own log says no more
-/// (`notes`).
-/// Refused, in this order: `MissingCpu` where the slice isn't CPU 0, 1, .. of this registry in this order, and nothing has changed then;
-/// `NoMemory`, and not where there is no such entry.
+/// Audits the local references (localcount(9)): returns a `Balance` for each live or retired entry, lowest slot first. It has each CPU's net count,
+/// or 0 if collected; as total what was collected, less what was given up; as `held` their sum.
+///
+/// - Ok: `held` is the tally (`answer`). The list follows from the CPUs and what they know (`known`), and from the keeper's log (`log`).
+/// - Ok or `NoMemory`: all CPUs know the keeper's log and have its history as their pass (`told`). Each heard and told once (`notes`).
+///
+/// Refused, in this order:
+///
+/// - `MissingCpu` if the slice isn't CPU 0, 1, .. of this registry in this order; nothing has changed then;
+/// - `NoMemory`, but not if there is no such entry.
 pub fn audit_in<D: Domain>(
     alloc: Global,
     words: &Words,

@@ -8,7 +8,7 @@ use passive_list::{Cpu, Keeper};
 
 /// Theorem, no effect at run time: the balance of each slot is the local references held to its entry (localcount(9)).
 ///
-/// Hypotheses: the caller holds the keeper, and has made no step yet.
+/// Hypotheses: the caller holds the keeper, and since then no step was made.
 ///
 /// Conclusion, for the words and seats of all threads at that time: a list of events leads to a state that they all show, and in that state
 /// each slot is balanced. The result says nothing.
@@ -22,7 +22,7 @@ pub fn free_interlock(keeper: &Keeper) -> u64
 
 /// Theorem, no effect at run time: an audit lists the right numbers (localcount(9)).
 ///
-/// Hypotheses: the caller holds the keeper and some CPUs, and has made no step yet.
+/// Hypotheses: the caller holds the keeper and some CPUs, and since then no step was made.
 ///
 /// Conclusions, for the words and seats of all threads at that time:
 ///

@@ -96,12 +96,13 @@ impl<D: Domain> Registry<D> {
         self.interlock.lock(rt).detach(&self.words, cpu, kind, name)
     }
 
-    /// One turn of the work on the retired entry `number` under the interlock, as `advance_in` does: the answer is the first obstacle, or
-    /// `Freed` with the slot that is vacant again. It is given no CPU, so there is nobody who could know what the keeper did: its contract says what
-    /// some keeper would answer, and no more; where that is `Freed` the entry is gone by that keeper's log, as `advance_in` has it. `destroy` with
-    /// one turn makes the same turn for a CPU, which knows then what was met: by the law `running_headline` (`freed`) it knows so of `Freed` that
-    /// nothing holds the entry.
-    /// Refused: `NotRetired` where no slot has the retired entry `number`; nothing has changed then.
+    /// Makes one turn of the work on the retired entry `number` under the interlock, as `advance_in` does. It returns the first obstacle, or
+    /// `Freed` with the slot that is vacant again.
+    ///
+    /// It has no CPU that could learn what the keeper did. So its contract says what some keeper would return (`made`), and no more. `destroy` with
+    /// one turn makes the same turn for a CPU, whose contract says that nothing holds the entry after `Freed`.
+    ///
+    /// Refused: `NotRetired` if no slot has the retired entry `number`; nothing has changed then.
     pub fn advance<R: Wait>(&self, rt: &R, number: u64) -> Result<Stage, Refusal>
         ensures ok { IfOk result (λ stage. IsStageOf D.settings stage) }
         ensures refused { IfErr result (λ refusal. refusal ≡ Refusal.NotRetired) }
@@ -110,15 +111,16 @@ impl<D: Domain> Registry<D> {
         advance_in(&self.words, &mut self.interlock.lock(rt).keeper, number)
     }
 
-    /// The audit of local references (localcount(9)) under the interlock, as `audit_in` does: of each live or retired slot, least first,
-    /// each CPU's own net count, by its place, or 0 where the keeper has collected it, the keeper's total, and their sum, which is held.
-    /// What is held is the tally: what the CPUs acquired, less what they released, less what was given up. Each CPU hears once, as by `hear`,
-    /// and tells once, and nothing else of it changes: all of them know the keeper's log then, and the whole list is said by that log and the
-    /// CPUs (`tally`): which slots have entries, which of the CPUs' counts were collected, and what was given up. So no keeper can be made up
-    /// for it, and a list that leaves an entry out is refused. All CPUs know the same then, also where memory runs out: one history is the pass
-    /// of each, and one log, with as many changes, is what each knows (`alike`); they are the keeper's, as `audit_in` has it (`told`).
-    /// Refused, in this order: `MissingCpu` where the slice isn't CPU 0, 1, .. of this registry in this order, and nothing has changed of the CPUs
-    /// then; `NoMemory`.
+    /// Audits the local references under the interlock (localcount(9)), as `audit_in` does. Returns a `Balance` for each live or retired slot,
+    /// lowest first: each CPU's net count, or 0 if the keeper has collected it; the keeper's total; and `held`, their sum.
+    ///
+    /// - Ok (`tally`): `held` is what the CPUs acquired, less what they released, less what was given up. No entry is left out.
+    /// - Ok or `NoMemory`: all CPUs know the same log and have the same history as their pass (`alike`). Each heard once and told once (`notes`).
+    ///
+    /// Refused, in this order:
+    ///
+    /// - `MissingCpu` if the slice isn't CPU 0, 1, .. of this registry in this order; the CPUs haven't changed then;
+    /// - `NoMemory`.
     pub fn audit<R: Wait>(
         &self,
         rt: &R,

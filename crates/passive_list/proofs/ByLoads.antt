@@ -244,7 +244,7 @@ before_one link some = omega (arith, some)
 pub going_id : (key : Key) (x y : CpuView) (link : ℕ) → IsGoing key x link y → y.id ≡ x.id
 going_id key x y link going = same_id x y (Some (peek_at going.peeks.peek (link_place link))) going.at.come
 
--- the slot to which the link leads is to be visited
+-- the slot of the link is to be visited
 pub going_to : (key : Key) (x y : CpuView) (link : ℕ) → (link ≡ 0 → ⊥) → IsGoing key x link y → IsPeekingAt y key (AtNumber (link - 1))
 going_to key x y link some going = at_slot key x y AtHead link (link - 1) going.peeks (before_one link some) going.at
 
@@ -273,7 +273,7 @@ pub both_gone : (key : Key) (x y w : CpuView) (link : ℕ) (r : Result ℕ Seen)
 both_gone key x y w link r first then q is =
     let at = first q is in linked_on key x y w q link r at (then (peek_at q (link_place link)) (under_way x y (Some (peek_at q (link_place link))) at.come))
 
--- the entry to which the next link leads
+-- the entry of the next link
 pub next_entry : (key : Key) (x y : CpuView) (link next : ℕ) → IsAtEntry x key link → GoesOnFrom key x (Ok next) y → (next ≡ 0 → ⊥) → IsAtEntry y key next
 next_entry key x y link next may gone some =
     let at = gone may.peeking.peek may.peeking.under_way in record {

@@ -57,9 +57,9 @@ fn run_on_blank<D: Domain, R: Wait, W: Write>(
 
 /// Runs a script over a registry that others may use too, and writes the text of each command, in order.
 ///
-/// At the end, and after a fault, it releases all references that the run still holds, and prints nothing for them. An open section stays
-/// open. Each CPU then holds the passive references that it held before. A local reference that a label still named is released on CPU 0, or
-/// the keeper gives it up; `give_back` of the session says which, and tests say of the whole run that it is gone.
+/// At the end, and after a fault, it releases all references that the run still holds, and prints nothing for them. Each CPU then holds the
+/// passive references that it held before. A local reference of a label is released on CPU 0, or the keeper gives it up; the session's
+/// `give_back` says which. An open section stays open.
 ///
 /// Refused: `Memory` or `Write`, and a front of the report was written.
 /// Condition: the registry has the script's settings, and the slice is all its CPUs in order; so it is afterwards.

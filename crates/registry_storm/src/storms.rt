@@ -31,15 +31,14 @@ pub struct StormRun {
     pub deeds: StormDeeds,
 }
 
-/// A storm over a registry of its own: one driver, `drv`, and one worker for each CPU, all at once. In each turn a worker
+/// Runs a storm over a registry of its own: one driver, `drv`, and one worker a CPU, all at once. In each turn a worker
 ///
 /// 1. enters, passes the gate, looks up the interface `wm0` and the driver, and acquires both references to the driver;
-/// 2. exits, and reads the record by both;
+/// 2. exits, and reads by both;
 /// 3. releases the passive one, and exchanges the local one with what is in the next CPU's basket;
-/// 4. releases what it got, and what is in its own basket.
+/// 4. releases what it got and what is in its basket.
 ///
-/// CPU 0 also attaches or detaches the interface, and works on what it has detached. At the end everything is released, audited and
-/// destroyed.
+/// CPU 0 also attaches or detaches the interface, and works on detached ones. In the end all is released and destroyed.
 ///
 /// Condition: 1 to `MOST_CPUS` CPUs, and 1 to 100,000 turns.
 /// Refused: `Memory`; `NoThread` if a worker couldn't be started.

@@ -1,5 +1,5 @@
 //! Makes scripts from a seed, runs both engines on each, and compares. The outcome: whether they differ, the shortest script on which they
-//! do, how far the scripts got, and the answers that were met.
+//! do, how far the scripts got, and the results that were met.
 #![tactic(auto)]
 
 mod comparing;

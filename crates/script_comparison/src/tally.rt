@@ -9,7 +9,7 @@ use std::io::Write;
 /// A command, and the beginning of a line that is one of its answers.
 type Answer = (&'static [u8], &'static [u8]);
 
-/// Each answer that a script can meet. A script can't meet `NotHeld`: a label names only a reference that its CPU holds. Nor `NoMemory`,
+/// Each result that a script can meet. A script can't meet `NotHeld`: a label names only a reference that its CPU holds. Nor `NoMemory`,
 /// which ends a run without a line.
 const ANSWERS: [Answer; 88] = [
     (b"domain", b"domain"),

@@ -3,7 +3,7 @@
 use registry_values::{Balance, Entry, Record, Refusal, Stage};
 use std::process::Abort;
 
-/// The answer of a call.
+/// What a call returns.
 #[derive(Clone, Copy, Debug, PartialEq)]
 pub(crate) enum Answer {
     Done,

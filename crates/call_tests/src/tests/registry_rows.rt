@@ -21,7 +21,7 @@ use std::process::Abort;
 use std::sync::Wait;
 use std::test::*;
 
-/// CPU 0 walks several times in one section, while CPU 1 changes the list: the walk is over what stands there now. What comes back under its name
+/// CPU 0 walks several times in one section, while CPU 1 changes the list: the walk is over what is there now. What comes back under its name
 /// is another entry, and after a walk no entry is the last that was found.
 const WALKS: &[(Step, Answer)] = &[
     (Reads(0, Enter), Done),

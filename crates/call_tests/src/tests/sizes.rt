@@ -1,4 +1,4 @@
-//! Sizes that no row has: references by the ten thousand, thirty-two slots of which all but one are retired, eight CPUs, and very many turns of a wait.
+//! Sizes that no row has: references by the ten thousand, thirty-two slots (all but one retired), eight CPUs, and very many turns of a wait.
 
 ghost use Rattle.cpu_words.specs.Common.{AreWordsOf};
 ghost use Rattle.name_registry.specs.Common.{IsBlankOf};
@@ -164,7 +164,7 @@ fn audit_held<D: Domain, R: Wait + Abort>(
     Ok(())
 }
 
-/// CPU 2 releases the passive references, just as many as were left.
+/// CPU 2 releases the passive references, exactly as many as were left.
 fn release_all<D: Domain, R: Abort>(rt: &R, bench: &mut Bench<D>) {
     let Some(cpu) = bench.cpus.get_mut(2) else {
         panic!(rt; "three CPUs");

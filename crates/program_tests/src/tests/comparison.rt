@@ -278,7 +278,7 @@ fn engines_write_the_same(rt: HostRuntime) {
     assert!(rt; agreed(&mut engines, script).is_some());
 }
 
-/// A script and its report without any answer of that command.
+/// A script and its report, in which that command returns nothing.
 const STRANGE: [(&[u8], &[u8]); 8] = [
     (b"enter 0\n", b"outside\n"),
     (b"exit 0\n", b"none\n"),

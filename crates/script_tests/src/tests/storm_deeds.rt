@@ -6,7 +6,7 @@ use std::test::*;
 /// The value of the driver that workers expect.
 const EXPECTED: u64 = 7;
 
-/// Storms of one CPU, for which each number is exact. The interface is live in every second turn, and is freed as soon as it is detached,
+/// Storms of one CPU, where each number is exact. The interface is live in every second turn, and is freed as soon as it is detached,
 /// and at the end with the driver. Each turn reads by two references, and no other CPU puts anything down. By turns: what is found,
 /// attached, freed, read and handed over.
 const ALONE: [(u32, [u64; 5]); 5] = [
