@@ -11,7 +11,7 @@ first. What it says of a crate's edits it says when all of them were tried.
 
 `all` needs what `rt ci` builds. It first checks only the functions that edits change (tools/edit_checks.py), as many checks side by side as there are
 processors and memory, and then the whole crate where that refused nothing. Tests run beside. docs/edits-tried.txt has what each edit came to, and
-the sum of all that it was tried on: the edit, the sources of its crate and of those beneath, without comments, and the kit. So a run that was cut off
+the sum of all that it was tried on: the edit, the sources of its crate and of those beneath, all without comments, and the kit. So a run that was cut off
 continues, and after a change only what it reaches is tried again.
 """
 import contextlib
@@ -40,7 +40,7 @@ OF_PROVER = ("must-fail-gate", FOLDERS["prover"])
 REPORT = ROOT / "docs/edits-tried.txt"
 LINE = re.compile(r"([0-9a-f]{16}) (\S+\.edit): (.+)")
 # What a line begins with that is a comment alone.
-COMMENTS = {".rt": b"//", ".antt": b"--"}
+COMMENTS = {".rt": b"//", ".antt": b"--", ".edit": b"#"}
 # So many runs of tests are made side by side, beside the prover's checks.
 TESTED_AT_ONCE = 2
 
@@ -170,7 +170,7 @@ class Night:
 
     def sum_of(self, edit):
         """The sum of all that the edit is tried on."""
-        return sum_of([edit], sum_of_crate(crate_of(edit)), self.kit)[:16]
+        return sum_of([edit], sum_of_crate(crate_of(edit)), self.kit, read=without_comments)[:16]
 
     def left(self, *folders):
         """The edits of these folders of which nothing is known."""

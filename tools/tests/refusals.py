@@ -118,12 +118,14 @@ def night_faults():
     not_tried = f"sed -i 's/nothing.edit: .*/nothing.edit: not tried/' docs/edits-tried.txt; echo strong >{LOW}"
     later = ["sh", "-c", f"./night >/dev/null 2>&1; {not_tried}; exec ./night"]
     recoded = ["sh", "-c", "./night >/dev/null 2>&1; echo '    x + 1' >>crates/one/src/lib.rt; exec ./night"]
+    changed = ["sh", "-c", f"./night >/dev/null 2>&1; sed -i 's/^new:     0/new:     x + 1 - 0/' {HAND}; exec ./night"]
     return (
         Fault("a wrong body by hand that is proved", "    1 NOT REFUSED", ((HAND, "new:     0", "new:     x + 1 - 0"),)),
         Fault("a wrong heading that the crate is proved under", "heading.edit: NOT REFUSED: the whole crate still proved", ((HEADING, "new: //! None", "new: //! One more than"),)),
         Fault("a wrong body by hand that is proved, again", "    1 NOT REFUSED", ((HAND, "new:     0", "new:     x + 1 - 0"),), command=again),
         Fault("a wrong body by hand that the last run didn't try", "    1 NOT REFUSED", command=later),
         Fault("an edit that fitted the last run's source", "stands 2 times in", command=recoded),
+        Fault("an edit whose text changed after the last run", "    1 NOT REFUSED", command=changed),
         Fault("a wrong body that no test refuses", "NOT REFUSED: all tests pass", ((TESTED, "new:     x + x", "new:     x + 1 + 0"),)),
         Fault("a library that isn't built", "isn't built: run rt ci first", ((LOW, "low", None),)),
     )
