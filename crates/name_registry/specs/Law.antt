@@ -32,7 +32,7 @@ pub record IsBalancedRun (a : Settings) (s : Table ℕ View) (k : KeeperView) : 
 abbrev pub FreeInterlock : Settings → OnKeeper → Type 0
 FreeInterlock a k = (s : Table ℕ View) (i : ℕ) → Ruled a s → get_elem? s.views i ≡ some (Keeper k.view) → IsBalancedRun a s k.view
 
--- The exact audit: whoever holds the keeper and all CPUs, and has made no step yet, has the views of one state.
+-- The exact audit: in any table where the keeper's seat and those of the CPUs have these views, one state shows all of them.
 
 -- seats of the table have these views
 pub record AreSeated (s : Table ℕ View) (k : OnKeeper) (xs : List OnCpu) : Type 0 where

@@ -8,9 +8,9 @@ use passive_list::{Cpu, Keeper};
 
 /// Theorem, no effect at run time: the balance of each slot is the local references held to its entry (localcount(9)).
 ///
-/// Hypotheses: the caller holds the keeper, and since then no step was made.
+/// Hypotheses: any table under the rule, in which the keeper's seat has this keeper's view. It is so between two steps of the keeper.
 ///
-/// Conclusion, for the words and seats of all threads at that time: a list of events leads to a state that they all show, and in that state
+/// Conclusion, for the words and seats of all threads: a list of events leads to a state that they all show, and in that state
 /// each slot is balanced. The result says nothing.
 pub fn free_interlock(keeper: &Keeper) -> u64
     ensures law { FreeInterlock keeper.now.words.settings keeper.now.keeper }
@@ -22,9 +22,9 @@ pub fn free_interlock(keeper: &Keeper) -> u64
 
 /// Theorem, no effect at run time: an audit lists the right numbers (localcount(9)).
 ///
-/// Hypotheses: the caller holds the keeper and some CPUs, and since then no step was made.
+/// Hypotheses: any table under the rule, in which the seats of the keeper and of these CPUs have their views. It is so between two steps of them.
 ///
-/// Conclusions, for the words and seats of all threads at that time:
+/// Conclusions, for the words and seats of all threads:
 ///
 /// 1. a list of events leads to one state that the words, this keeper and these CPUs show;
 /// 2. what an audit of them lists is the CPUs' net counts, and what it says is held is the tally;
