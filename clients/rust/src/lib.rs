@@ -17,7 +17,7 @@
 //!
 //! - An [`Entry`] is a driver or an interface that was attached: the attach returns it. It is live until it is detached, and then retired until it is
 //!   freed. It carries a `T`, and everything that holds the entry derefs to it. `T` is one type for all entries of a registry: an `enum` if drivers and
-//!   interfaces carry different things, `()` if they carry nothing.
+//!   interfaces carry different things, a `Box<dyn ..>` for [plug-ins](#plug-ins), `()` if they carry nothing.
 //! - A [`Cpu`] is a handle, not a processor. One thread at a time uses it. A registry has at least one and at most [`LIMITS`]`.cpus`. A [`CpuPool`]
 //!   lends CPUs to more threads.
 //! - A [`Section`] is open on a CPU while it looks entries up. A [`Found`] borrows its section. While the section is open, the entry isn't freed and its
@@ -76,6 +76,45 @@
 //! drop(reference);
 //! let driver: Driver = held.given.advance().unwrap().value;
 //! assert_eq!(driver.speed, 1000);
+//! ```
+//!
+//! # Plug-ins
+//!
+//! Entries of different types are trait objects. `Send` and `Sync` let the handles go to other threads. Readers get a `&T`, so the trait's methods take
+//! `&self`.
+//!
+//! ```
+//! use registry::{Kind, Name, Patience, Registry, Settings};
+//!
+//! trait Driver: Send + Sync {
+//!     fn speed(&self) -> u32;
+//! }
+//!
+//! struct Wired;
+//! struct Wireless {
+//!     channels: u32,
+//! }
+//!
+//! impl Driver for Wired {
+//!     fn speed(&self) -> u32 {
+//!         1000
+//!     }
+//! }
+//!
+//! impl Driver for Wireless {
+//!     fn speed(&self) -> u32 {
+//!         54 * self.channels
+//!     }
+//! }
+//!
+//! let (registry, cpus) = Registry::<Box<dyn Driver>>::open(Settings::new(2, 4)).unwrap();
+//! let (wm, iwm) = (Name::parse("wm").unwrap(), Name::parse("iwm").unwrap());
+//! registry.attach(&cpus[0], &wm, Box::new(Wired)).unwrap();
+//! registry.attach(&cpus[0], &iwm, Box::new(Wireless { channels: 2 })).unwrap();
+//! assert_eq!(cpus[1].read(Kind::Driver, &iwm).unwrap().speed(), 108);
+//! let retired = registry.detach(&cpus[0], Kind::Driver, &wm).unwrap();
+//! let driver: Box<dyn Driver> = retired.destroy(&cpus[0], Patience::Forever).unwrap().value;
+//! assert_eq!(driver.speed(), 1000);
 //! ```
 //!
 //! # The order of memory
@@ -142,7 +181,8 @@
 //! first drop the `T`s of entries that were retired or deferred and that nothing holds any more. If such a drop panics, the change isn't made.
 //!
 //! If a thread panics, unwinding exits its sections and releases its passive references, as its ordinary end does. A [`LocalRef`] is dropped [as
-//! anywhere](LocalRef#dropped-without-a-cpu). No lock is poisoned.
+//! anywhere](LocalRef#dropped-without-a-cpu). No lock is poisoned. To call a plug-in under `catch_unwind`, wrap the closure in `AssertUnwindSafe`: a [`Cpu`],
+//! a section and most guards aren't `RefUnwindSafe`.
 //!
 //! # Which types go to other threads
 //!
@@ -162,8 +202,8 @@
 //!
 //! # More than the limits
 //!
-//! Only an attach takes room from [`Settings::changes`]: for itself and for its detach. Lookups and references don't, and no call returns what is left: count
-//! attaches. No call moves an entry or a reference from one registry to another. Before a call returns [`Refusal::HistoryFull`] or [`Refusal::SectionsSpent`],
+//! Only an attach takes room from [`Settings::changes`]: for itself and for its detach. Lookups and references don't. What is left just after an attach is
+//! `changes`, less the new entry's [`number`](Entry::number), less the number of live entries, the new one among them. No call moves an entry or a reference from one registry to another. Before a call returns [`Refusal::HistoryFull`] or [`Refusal::SectionsSpent`],
 //! open a second registry, attach everything there, let lookups go there, and retire what is in the first. The last handle that is dropped closes it.
 //! If `T` is an [`Arc`](alloc::sync::Arc), both registries carry the same objects.
 //!

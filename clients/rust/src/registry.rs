@@ -332,6 +332,9 @@ impl<T> Registry<T> {
     /// What the counts say of each live or retired entry, the lowest-numbered slot first. It needs all CPUs, in any order: a `Cpu`, a [`Lent`](crate::Lent)
     /// or a reference to either of each. All local references that were dropped are released first.
     ///
+    /// To see on which CPU references were acquired, call it before the first turn on the retired entry that gets as far as its local references. That turn
+    /// collects the counts, and `locals` is 0 from then on.
+    ///
     /// ```
     /// use registry::{CpuPool, Name, Registry, Settings};
     ///

@@ -83,7 +83,8 @@ pub enum Holder {
     Grace(u8),
     /// This CPU has a passive reference to it.
     Passive(u8),
-    /// This many local references to it are held. It includes those that interfaces keep, and those that were dropped and aren't released yet.
+    /// This many local references to it are held. It includes those that interfaces keep, and those that were dropped and aren't released yet. No call says
+    /// who has them: whoever must know records it, such as in the `T`.
     Local(u64),
 }
 

@@ -67,14 +67,15 @@
  *
  * WHAT THE CALLER MUST ENSURE
  *
- * No call can check these rules. Breaking one is undefined behaviour:
+ * No call can check these rules. Breaking one is undefined behaviour, except where the rule says what happens:
  *
  * - A pointer to a handle is never NULL.
  * - A handle is set to {0} before its first use. A call that needs what is behind a handle returns REGISTRY_EMPTY_HANDLE for {0}. With a handle that was
  *   never set, the behaviour of any call is undefined.
  * - A handle may be moved while no call uses it, by a plain copy. From then on only the copy is used. The old place may be set to {0} and used again.
  * - The caller may compare `at` with NULL: it is NULL exactly if the handle is empty. The caller reads and writes nothing else in a handle.
- * - One call at a time uses a handle. A handle goes to another thread by a lock, or by the start or the join of a thread.
+ * - One call at a time uses a handle. It goes to another thread by what orders their accesses: a lock, the start or the join of a thread, or a
+ *   release store that the other thread's acquire load reads, as of an atomic pointer or a ring.
  * - Calls with a keeper are made under the caller's lock, registry_settings_of too. They need no lock while no other thread can use the keeper, as at
  *   registry_open and registry_close.
  * - Nothing writes to a `struct registry_wait` between two calls with it, and only a CPU that registry_perform_turn allows makes a turn. Otherwise the
