@@ -1,6 +1,6 @@
 //! What the types of the crate rule out.
 //!
-//! Each file of `compile_fail/` is a small library. As it stands the compiler takes it; with `--cfg fails`, which adds or changes a line, the
+//! Each file in the folders of `compile_fail/` is a small library. As it stands the compiler takes it; with `--cfg fails`, which adds or changes a line, the
 //! compiler refuses it, with no other error than the one that the head of the file names: `// error:` and its code, or its text where it has
 //! no code. `// says:` is a text that the message of a newer compiler has too. The crate is compiled for it as metadata alone, so no archive is needed.
 #![cfg(feature = "std")]
@@ -110,13 +110,17 @@ fn errors_in(message: &str) -> Vec<String> {
     coded.chain(plain.map(str::to_string)).collect()
 }
 
+fn paths_in(folder: &Path) -> Vec<PathBuf> {
+    fs::read_dir(folder).unwrap().map(|entry| entry.unwrap().path()).collect()
+}
+
 #[test]
 fn what_is_wrong_is_refused_for_just_that_reason() {
     let out = Path::new(env!("CARGO_TARGET_TMPDIR")).join("compile_fail");
     fs::create_dir_all(&out).unwrap();
     let crate_at = crate_in(&out);
     let folder = Path::new(env!("CARGO_MANIFEST_DIR")).join("tests/compile_fail");
-    let mut paths: Vec<PathBuf> = fs::read_dir(folder).unwrap().map(|entry| entry.unwrap().path()).collect();
+    let mut paths: Vec<PathBuf> = paths_in(&folder).into_iter().flat_map(|group| paths_in(&group)).collect();
     paths.sort();
     assert_eq!(paths.len(), FILES, "a file was added or taken away: say how many there are");
     let faults: Vec<String> = paths

@@ -3,7 +3,7 @@
 
     clients/rust/tests/planted/run.py [--whole] [NAME..]
 
-A fault is a file NAME.edit beside this one. Its lines `#` say what is wrong; `by:` names the program of the tests, and one that fails by it;
+A fault is a file NAME.edit, in the folder of the file that it changes. Its lines `#` say what is wrong; `by:` names the program of the tests, and one that fails by it;
 `file:`, `old:` and `new:` say what is changed, as docs/EDITS.md has it: each old text stands once in its file, a text of several lines goes on in
 lines that begin with `|`, and further pairs apply to what the earlier ones made. `new:` without a text takes the old one away.
 
@@ -112,13 +112,18 @@ def judge(path, scratch, whole):
     return None
 
 
+def named(name):
+    """The faults that the name fits."""
+    return sorted(HERE.rglob(f"{name}.edit")) or sys.exit(f"no fault {name}")
+
+
 def main():
     """Tries the edits that are named, or all. The last line counts them."""
     parser = argparse.ArgumentParser(description=__doc__.splitlines()[0])
     parser.add_argument("--whole", action="store_true", help="run all programs of the tests")
     parser.add_argument("names", nargs="*", metavar="NAME")
     given = parser.parse_args()
-    paths = [HERE / f"{name}.edit" for name in given.names] or sorted(HERE.glob("*.edit"))
+    paths = [path for name in given.names or ["*"] for path in named(name)]
     scratch = pathlib.Path(os.environ.get("CARGO_TARGET_DIR", CRATE / "target")).resolve() / "planted"
     shutil.rmtree(scratch / "src", ignore_errors=True)
     failed = 0
