@@ -73,6 +73,7 @@
  * - A handle is set to {0} before its first use. A call that needs what is behind a handle returns REGISTRY_EMPTY_HANDLE for {0}. With a handle that was
  *   never set, the behaviour of any call is undefined.
  * - A handle may be moved while no call uses it, by a plain copy. From then on only the copy is used. The old place may be set to {0} and used again.
+ *   A call that closes or releases empties the handle that it is given. No older copy of that one is used any more.
  * - The caller may compare `at` with NULL: it is NULL exactly if the handle is empty. The caller reads and writes nothing else in a handle.
  * - One call at a time uses a handle. It goes to another thread by what orders their accesses: a lock, the start or the join of a thread, or a
  *   release store that the other thread's acquire load reads, as of an atomic pointer or a ring.
