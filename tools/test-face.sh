@@ -142,6 +142,11 @@ ends_without_yields() {
 }
 
 # A program over the crate ends with 'wrong 0', and has made so many changes.
+threads_say() {
+    echo 'wm is gone, its speed was 1000' >"$log.wanted"
+    says "$log.wanted" "$@"
+}
+
 changes_say() {
     local changes=$1
     shift
@@ -341,6 +346,8 @@ test_rust() {
     check "Rust: device_switch" changes_say 600 "$examples/device_switch"
     check "Rust: routing" changes_say 100 "$examples/routing"
     check "Rust: handles" changes_say 200 "$examples/handles"
+    check "Rust: changeover" changes_say 50 "$examples/changeover"
+    check "Rust: threads" threads_say "$examples/threads"
     check "Rust: speed, briefly" "$examples/speed" 2 8 1000
     check "Rust: changes, briefly" "$examples/changes" 20
     check "Rust: drops, briefly" "$examples/drops" 2000

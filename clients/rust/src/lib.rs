@@ -157,7 +157,7 @@
 //! | a [`LocalRef`] | its entry is never freed, its `T` is never dropped, and the registry never closes |
 //! | a [`Cpu`] or a [`Registry`] | the registry never closes |
 //! | a [`Lent`] | its CPU is lost to the pool; the rest is as for a [`Cpu`] |
-//! | a [`Retired`] | its entry keeps its slot: neither later changes nor [`Registry::collect`] free it |
+//! | a [`Retired`] | its entry keeps its slot: neither later changes nor [`Registry::collect`] free it. The registry never closes |
 //!
 //! To forget a [`PassiveRc`] is to forget a [`PassiveRef`] and a [`Cpu`]; a [`LocalGuard`], a [`LocalRef`]; a [`Mapped`], the guard that it was made of.
 //! These three aren't tested.
@@ -204,8 +204,9 @@
 //!
 //! Only an attach takes room from [`Settings::changes`]: for itself and for its detach. Lookups and references don't. What is left just after an attach is
 //! `changes`, less the new entry's [`number`](Entry::number), less the number of live entries, the new one among them. No call moves an entry or a reference from one registry to another. Before a call returns [`Refusal::HistoryFull`] or [`Refusal::SectionsSpent`],
-//! open a second registry, attach everything there, let lookups go there, and retire what is in the first. The last handle that is dropped closes it.
-//! If `T` is an [`Arc`](alloc::sync::Arc), both registries carry the same objects.
+//! open a second registry, attach everything there, publish it in a lock, and retire what is in the first. A thread that sees the new one takes a CPU there
+//! by [`Registry::any_cpu`], and drops its old one. The last handle that is dropped closes the first registry. If `T` is an [`Arc`](alloc::sync::Arc), both
+//! carry the same objects. `examples/changeover.rs` does this.
 //!
 //! # What is proved
 //!
