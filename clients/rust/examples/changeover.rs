@@ -77,26 +77,32 @@ fn leave(table: &Table, mine: &Cpu<Object>) -> Result<(), Box<dyn Error>> {
     Ok(())
 }
 
+/// Moves to a new registry so often.
+fn move_on(newest: &Newest, objects: &[Object], (mut table, mut mine): (Table, Cpu<Object>), count: u64) -> Result<(), Box<dyn Error>> {
+    for _ in 0..count {
+        let (next, of_next) = open(objects)?;
+        newest.replace(&next);
+        leave(&table, &mine)?;
+        (table, mine) = (next, of_next);
+    }
+    Ok(())
+}
+
 fn main() -> Result<(), Box<dyn Error>> {
     let count = env::args().nth(1).map_or(Ok(20), |word| word.parse())?;
     let objects: Vec<Object> = (0..).take(NAMES.len()).map(Arc::new).collect();
-    let (mut table, mut mine) = open(&objects)?;
+    let first = open(&objects)?;
     let newest = Newest {
-        registry: Mutex::new(table.clone()),
+        registry: Mutex::new(first.0.clone()),
         moves: AtomicU64::new(0),
     };
     let stop = AtomicBool::new(false);
     thread::scope(|threads| {
         let readers: Vec<_> = (0..READERS).map(|_| threads.spawn(|| serve(&newest, &stop))).collect();
-        for _ in 0..count {
-            let (next, of_next) = open(&objects)?;
-            newest.replace(&next);
-            leave(&table, &mine)?;
-            (table, mine) = (next, of_next);
-        }
+        let moved = move_on(&newest, &objects, first, count);
         stop.store(true, Ordering::SeqCst);
         let wrong: u64 = readers.into_iter().map(|reader| reader.join().unwrap()).sum::<Result<_, _>>()?;
         println!("changes {count}\nwrong {wrong}");
-        Ok(())
+        moved
     })
 }
