@@ -82,8 +82,8 @@
  * - Nothing writes to a `struct registry_wait` between two calls with it, and only a CPU that registry_perform_turn allows makes a turn. Otherwise the
  *   results of the turns mean nothing: after REGISTRY_DONE a section from before the wait may still be open.
  * - Each passive reference is released once, on the CPU that acquired it. A CPU counts its references to an entry, and can't distinguish them. A second
- *   release, or one on another CPU, takes away another reference that the CPU still holds to the entry, which may then be freed while that one is used.
- *   It fails with REGISTRY_NOT_HELD only if there is no other.
+ *   release, or one on another CPU, takes away another reference that the releasing CPU still holds to the entry, which may then be freed while that one is
+ *   used. It fails with REGISTRY_NOT_HELD only if there is no other.
  * - The handles of one call are of one registry. Nothing at run time distinguishes two registries. With handles of two, a call may write to a
  *   wrong place, or end the process by an illegal instruction with no message.
  * - Memory that an entry's `value` points to is used only in the section that found the entry, or while a reference to it is held: not after a
