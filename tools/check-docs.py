@@ -24,7 +24,7 @@ ROOT = pathlib.Path(__file__).resolve().parent.parent
 FOREIGN = {
     "NetBSD": "PSLIST_READER_FOREACH PSLIST_WRITER_INSERT_HEAD PSLIST_WRITER_REMOVE if_acquire",
     "Linux": """PERCPU_COUNT_BIAS kfree list_add_rcu list_del_rcu list_for_each_entry_rcu migrate_disable percpu_ref percpu_ref_exit
-        percpu_ref_get percpu_ref_kill percpu_ref_put poll_state_synchronize_rcu srcu_read_lock start_poll_synchronize_rcu
+        kfree_rcu percpu_ref_get percpu_ref_kill percpu_ref_put poll_state_synchronize_rcu rcu_barrier srcu_read_lock start_poll_synchronize_rcu
         synchronize_srcu""",
     "liburcu": "cds_list_add_rcu cds_list_del_rcu cds_list_for_each_entry_rcu defer_destroy urcu_ref",
     "ck": "ck_epoch_section_2",
