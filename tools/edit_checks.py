@@ -122,6 +122,12 @@ def untried(ran):
     return "" if ran.returncode == 1 and ended and not unread else next(iter([*unread, *lines[-1:]]), f"status {ran.returncode}")[:300]
 
 
+def unproved(ran):
+    """What the check says where no goal of it is open: of which function it has no proof, or what it wants to be written."""
+    lines = ran.stdout.splitlines()
+    return next((it for it in lines if ": no proof: " in it or it.startswith("help: write ")), lines[-1])
+
+
 def refused(found):
     """What says that these goals refuse an edit."""
     return Try(True, f"refused: {found[0].removeprefix('note: ')[:160]}")
@@ -133,9 +139,12 @@ def judged(ran, names):
         return Try(False, f"NOT REFUSED: {', '.join(names)} still proved")
     if untried(ran):
         return Try(False, f"NOT TRIED: {untried(ran)}")
-    if not telling(goals(ran)):
-        return Try(False, "refused only because a proof names what the edit took away: " + next(iter(goals(ran)), ran.stdout.splitlines()[-1])[:200])
-    return refused(telling(goals(ran)))
+    found = goals(ran)
+    if not found:
+        return Try(False, f"refused, only because no proof was found: {unproved(ran)[:200]}")
+    if not telling(found):
+        return Try(False, f"refused only because a proof names what the edit took away: {found[0][:200]}")
+    return refused(telling(found))
 
 
 def is_of(goal, crate, function):

@@ -143,7 +143,7 @@ def cases():
         judges("a check that is killed", "NOT TRIED", "kill -KILL $$"),
         judges("a check that ends in its middle", "NOT TRIED", "echo 'note: src/lib.rt:5:15: this clause is not proved'; exit 1"),
         judges("another status of the checker", "NOT TRIED", "echo 'only=1'; exit 2"),
-        judges("a refusal that no goal tells", "refused only because", "true"),
+        judges("a refusal that no goal tells", "refused, only because no proof was found", "true"),
         judges("a proof that names what is gone", "refused only because", "echo 'note: proofs/Lib.antt:1:1: x has no field y'"),
         Fault("functions that aren't proved as they stand", "what its edits change isn't proved as it stands", (("crates/one/src/lib.rt", "    x + 1", "    1 + x"),
               (EDIT, "x + 1", "1 + x"), (TWO, "old:     x + 1", "old:     1 + x"))),
