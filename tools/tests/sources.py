@@ -89,8 +89,8 @@ STEP = "crates/cpu_words/src/steps/sections.rt"
 EDIT = "crates/cpu_words/must-fail-gate/enter_adds_two.edit"
 KEEPING = "crates/protocol/proofs/keeps/Keeping.antt"
 TABLED = ("crates/protocol/src/event.rt", "crates/protocol/specs/Events.antt", KEEPING, "crates/passive_core/src/machine/run.rt", "docs/EVENTS.md",
-          "crates/passive_list/src/*.rt", "crates/passive_list/must-fail-*/*.edit", "crates/cpu_words/src/steps/*.rt", "crates/cpu_words/src/operations/*.rt",
-          "crates/cpu_words/proofs/steps/**/*.antt", "crates/cpu_words/proofs/operations/**/*.antt", "crates/cpu_words/must-fail-*/*.edit")
+          "crates/passive_list/src/*.rt", "crates/passive_list/must-fail-*/**/*.edit", "crates/cpu_words/src/steps/*.rt", "crates/cpu_words/src/operations/*.rt",
+          "crates/cpu_words/proofs/steps/**/*.antt", "crates/cpu_words/proofs/operations/**/*.antt", "crates/cpu_words/must-fail-*/**/*.edit")
 
 
 def event_table():
