@@ -90,6 +90,8 @@ uint32_t model_enter_find(struct model *model, unsigned cpu, uint64_t kind, cons
 
 uint32_t model_get(struct model *model, unsigned cpu, uint64_t kind, const struct registry_name *name, struct registry_entry *found)
 {
+	struct model_cpu *own = &model->cpus[cpu];
+	const uint64_t sections = own->sections;
 	struct registry_entry seen;
 	uint64_t number;
 	uint32_t answer = model_enter(model, cpu);
@@ -101,6 +103,8 @@ uint32_t model_get(struct model *model, unsigned cpu, uint64_t kind, const struc
 	if (answer == REGISTRY_DONE)
 		*found = seen;
 	model_exit(model, cpu);
+	if (answer != REGISTRY_PASSIVE_FULL)
+		own->sections = sections; /* as for a look-up */
 	return answer;
 }
 

@@ -1,19 +1,23 @@
 /*
- * peeks - registry_look_up by loads alone, stopped after each of its instructions, while a change goes on from each of its writes to each later one
+ * peeks - registry_look_up and registry_get by loads, stopped after each of their instructions, while a change goes on from each of its writes to each
+ * later one
  *
  * One thread changes the registry, round after round: it detaches a driver, destroys it, and attaches another one by the same name in the same slot.
- * The other thread looks up that driver, or an older one that stays. One of the two runs at a time. In a round the changer stops twice, each time
- * before a write to the registry's table or at the round's end. At the first stop a lookup begins, and goes on for some instructions. At the second
- * one it goes on to its end, and another lookup is made. A fifth of all such rounds are made. So a lookup begins anywhere in a round, and between
- * any two of its instructions some parts of a round are made, and any part between some two instructions near these.
+ * The other thread looks up that driver, or an older one that stays. First each lookup is a registry_look_up, then a registry_get, whose reference is
+ * released at once. One of the two threads runs at a time. In a round the changer stops twice, each time before a write to the registry's table or at
+ * the round's end. At the first stop a lookup begins, and goes on for some instructions. At the second one it goes on to its end, and another lookup is
+ * made. A fifth of all such rounds are made. So a lookup begins anywhere in a round, and between any two of its instructions some parts of a round are
+ * made, and any part between some two instructions near these. If a get that is stopped keeps the driver from being destroyed, it goes on to its end
+ * before the second stop.
  *
  * The table can't be written, so each write ends in a signal. There the changer stops, and then the write is done by one instruction while the table
  * is open. The looker stops by a trap after an instruction. The program is linked with --wrap for malloc and free, so that the table has pages of
  * its own.
  *
- * Each result must be what the registry had at a moment during the call, and never from before the last result. Only a lookup that a change overlaps
- * may write to the table: that is the section which it enters if a change was counted meanwhile. Lookups with and without one must be met. For
- * x86-64.
+ * Each result must be what the registry had at a moment during the call, and never from before the last result. A get has one reference then, to an
+ * entry that isn't destroyed, or none if it finds nothing. Only a lookup that a change overlaps may write to the table, except for the one addition of a
+ * get: that is the section which it enters if a change was counted meanwhile. Lookups with and without one must be met, and gets that keep a driver from
+ * being destroyed. For x86-64.
  */
 #include <inttypes.h>
 #include <pthread.h>
@@ -47,20 +51,23 @@ static _Thread_local int self;
 /* The table is open for one instruction of this thread. */
 static _Thread_local bool writes_now;
 
-/* What the changer has done in all, and in this round: changes begun and returned; writes, and before which of them it stops. */
-static uint64_t begun, returned;
+/* What the changer has done in all, and in this round: changes begun and returned, the last driver destroyed; writes, and before which of them it stops. */
+static uint64_t begun, returned, destroyed;
 static unsigned writes, first_stop = NEVER, second_stop = NEVER;
 /* The second stop is past: no write is looked at until the round ends. */
 static bool is_past;
 
-/* What the looker looks up, and after how many instructions it stops. How far it is: instructions, writes to the table, and whether it returned. */
+/* The call that the looker makes. What it looks up, and after how many instructions it stops. How far it is: instructions, writes to the table, and whether
+   it returned. */
+static registry_answer (*call)(struct registry_cpu *cpu, uint64_t kind, const struct registry_name *name, struct registry_entry *found) = registry_look_up;
 static const struct registry_name *sought;
 static unsigned stop_after = NEVER, steps, own_writes;
 static bool has_ended, over;
 /* How many instructions the last lookup had that went on to its end with a trap after each. */
 static unsigned longest;
-/* The registry as the last lookup saw it, as how many changes had been made; and all lookups, and those that entered a section. */
-static uint64_t last_seen, lookups, in_sections;
+/* The registry as the last lookup saw it, as how many changes had been made; and by this call all lookups, those that entered a section, and those that
+   kept a driver from being destroyed. */
+static uint64_t last_seen, lookups, in_sections, holds;
 
 static size_t table_pages(void)
 {
@@ -118,14 +125,19 @@ static void end_lookup(void)
 	stop_after = after;
 }
 
+static void stop_again(void)
+{
+	end_lookup();
+	second_stop = NEVER;
+	is_past = true;
+}
+
 static void stop_at(unsigned place)
 {
 	if (place == first_stop)
 		begin_lookup();
-	if (place != second_stop)
-		return;
-	end_lookup();
-	is_past = true;
+	if (place == second_stop)
+		stop_again();
 }
 
 static void set_trap(void *context, bool on)
@@ -153,18 +165,18 @@ static void on_write(int number, siginfo_t *info, void *context)
 /* An instruction was done: a write to the table, or one of the looker's. */
 static void on_step(int number, siginfo_t *info, void *context)
 {
+	bool is_counted = self == LOOKER && stop_after != NEVER && steps < stop_after;
 	(void)number;
 	(void)info;
 	if (writes_now) {
 		writes_now = false;
 		EXPECT(mprotect(table, table_pages(), PROT_READ) == 0);
-		set_trap(context, self == LOOKER && steps < stop_after && stop_after != NEVER);
-		return;
 	}
-	if (++steps < stop_after)
-		return;
-	hand_over();
-	set_trap(context, false);
+	if (is_counted && ++steps == stop_after) {
+		hand_over();
+		is_counted = false;
+	}
+	set_trap(context, is_counted);
 }
 
 /* The number of the driver that comes and goes, after so many changes, or 0. The first change has attached the one that stays. */
@@ -193,15 +205,23 @@ static void judge(uint64_t from, uint64_t to, registry_answer answer, const stru
 	EXPECT(answer == REGISTRY_DONE || answer == REGISTRY_NOT_FOUND);
 	EXPECT(number == 0 || (found->kind == REGISTRY_DRIVER && found->name.high == sought->high && found->name.low == sought->low));
 	EXPECT(number == 0 || (found->value == value_of(number) && found->slot == (number == 1 ? 0 : 1)));
-	EXPECT(own_writes == 0 || from != to);
+	EXPECT(own_writes == (call == registry_get && answer == REGISTRY_DONE) || from != to);
+	EXPECT(call != registry_get || number == 0 || number == 1 || number > destroyed);
 	lookups++;
-	in_sections += own_writes != 0;
+	in_sections += own_writes > 1;
 	if (sought == &stays) {
 		EXPECT(number == 1);
 		return;
 	}
 	last_seen = moment_of(number, from > last_seen ? from : last_seen, to);
 	EXPECT(last_seen <= to);
+}
+
+/* Releases what a get has acquired: exactly one reference. */
+static void let_go(uint64_t number)
+{
+	DONE(registry_release(&cpus[LOOKER], number));
+	EXPECT(registry_release(&cpus[LOOKER], number) == REGISTRY_NOT_HELD);
 }
 
 static void look_up(void)
@@ -211,11 +231,14 @@ static void look_up(void)
 	steps = own_writes = 0;
 	if (stop_after != NEVER)
 		__asm__ volatile("pushfq; orq $0x100, (%%rsp); popfq" ::: "cc", "memory");
-	registry_answer answer = registry_look_up(&cpus[LOOKER], REGISTRY_DRIVER, sought, &found);
+	registry_answer answer = call(&cpus[LOOKER], REGISTRY_DRIVER, sought, &found);
 	__asm__ volatile("pushfq; andq $~0x100, (%%rsp); popfq" ::: "cc", "memory");
 	if (stop_after != NEVER && steps < stop_after)
 		longest = steps;
+	steps = NEVER;
 	judge(from, begun, answer, &found);
+	if (call == registry_get && answer == REGISTRY_DONE)
+		let_go(found.number);
 	has_ended = true;
 }
 
@@ -240,7 +263,22 @@ static void attach(const struct registry_name *name)
 	returned++;
 }
 
-/* A round: how many writes it has, if there is no second stop. No lookup that is stopped keeps the driver from being destroyed. */
+/* One turn destroys the driver, unless a get that is stopped holds it, or is about to. Then that get goes on to its end, and the next turn does. */
+static void destroy(uint64_t number)
+{
+	struct registry_stage met;
+	registry_answer answer = registry_destroy(&keeper, &cpus[CHANGER], number, &met);
+	if (answer == REGISTRY_STILL_HELD) {
+		EXPECT(call == registry_get && !has_ended && met.stage == REGISTRY_PASSIVE && met.what == LOOKER);
+		holds++;
+		stop_again();
+		answer = registry_destroy(&keeper, &cpus[CHANGER], number, &met);
+	}
+	DONE(answer);
+	destroyed = number;
+}
+
+/* A round: how many writes it has, if there is no second stop. */
 static unsigned change(const struct registry_name *name, unsigned first, unsigned second, unsigned after)
 {
 	struct registry_entry gone;
@@ -252,7 +290,7 @@ static unsigned change(const struct registry_name *name, unsigned first, unsigne
 	begun++;
 	DONE(registry_detach(&keeper, &cpus[CHANGER], REGISTRY_DRIVER, &wm, &gone));
 	returned++;
-	DONE(registry_destroy(&keeper, &cpus[CHANGER], gone.number, NULL));
+	destroy(gone.number);
 	attach(&wm);
 	stop_at(writes);
 	is_past = false;
@@ -278,6 +316,17 @@ static void stop_everywhere(const struct registry_name *name)
 	printf("%u writes, %u instructions: ", last, longest);
 }
 
+/* All rounds with lookups by this call, of both drivers. */
+static void stop_in(registry_answer (*made)(struct registry_cpu *, uint64_t, const struct registry_name *, struct registry_entry *))
+{
+	call = made;
+	lookups = in_sections = holds = 0;
+	stop_everywhere(&wm);
+	stop_everywhere(&stays);
+	EXPECT(in_sections > 0 && in_sections < lookups && (holds > 0) == (made == registry_get));
+	printf("%" PRIu64 " lookups, %" PRIu64 " of them in a section, %" PRIu64 " kept the driver\n", lookups, in_sections, holds);
+}
+
 static void watch(void)
 {
 	struct sigaction write = {.sa_sigaction = on_write, .sa_flags = SA_SIGINFO}, step = {.sa_sigaction = on_step, .sa_flags = SA_SIGINFO};
@@ -297,15 +346,13 @@ int main(void)
 	EXPECT(pthread_create(&looker, NULL, look_all, NULL) == 0);
 	attach(&stays);
 	attach(&wm);
-	stop_everywhere(&wm);
-	stop_everywhere(&stays);
+	stop_in(registry_look_up);
+	stop_in(registry_get);
 	over = true;
 	hand_over();
 	EXPECT(pthread_join(looker, NULL) == 0);
 	watched = false;
 	EXPECT(mprotect(table, table_pages(), PROT_READ | PROT_WRITE) == 0);
 	DONE(registry_close(cpus, CPUS, &keeper));
-	EXPECT(in_sections > 0 && in_sections < lookups);
-	printf("%" PRIu64 " lookups, %" PRIu64 " of them in a section\n", lookups, in_sections);
 	return 0;
 }

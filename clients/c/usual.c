@@ -249,7 +249,10 @@ static void check_holding(struct registry_cpu *cpu)
 	EXPECT(turn(found.number) == REGISTRY_FREED);
 }
 
-/* A section that a call has begun counts, for any result. One that it is nested in doesn't. A look-up outside begins none, unless it fails by what it is given. */
+/*
+ * A section that a call has begun counts, for any result. One that it is nested in doesn't. A look-up or a get outside begins none, unless it fails by what it
+ * is given, or the get by its limit.
+ */
 static void check_spent(void)
 {
 	struct registry_cpu *cpu = &cpus[0];
@@ -259,8 +262,10 @@ static void check_spent(void)
 	EXPECT(registry_get(cpu, REGISTRY_DRIVER, &wm, NULL) == REGISTRY_NOT_FOUND);
 	EXPECT(registry_enter_find(cpu, REGISTRY_DRIVER, &wm, NULL) == REGISTRY_NOT_FOUND);
 	DONE(registry_exit(cpu));
-	for (unsigned i = 0; i < 2 * MOST_SECTIONS; i++)
+	for (unsigned i = 0; i < 2 * MOST_SECTIONS; i++) {
 		EXPECT(registry_look_up(cpu, REGISTRY_DRIVER, &wm, NULL) == REGISTRY_NOT_FOUND);
+		EXPECT(registry_get(cpu, REGISTRY_DRIVER, &wm, NULL) == REGISTRY_NOT_FOUND);
+	}
 	EXPECT(registry_look_up(cpu, 9, &wm, NULL) == REGISTRY_BAD_KIND);
 	EXPECT(registry_get(cpu, REGISTRY_DRIVER, NULL, NULL) == REGISTRY_NULL);
 	EXPECT(registry_get(cpu, 9, &wm, NULL) == REGISTRY_BAD_KIND);
@@ -270,8 +275,28 @@ static void check_spent(void)
 	EXPECT(attach(7) == 1);
 	expect_refused(registry_look_up, cpu, REGISTRY_DRIVER, &wm, REGISTRY_SECTIONS_SPENT);
 	expect_refused(registry_get, cpu, 9, NULL, REGISTRY_SECTIONS_SPENT);
+	expect_refused(registry_get, cpu, REGISTRY_DRIVER, &wm, REGISTRY_SECTIONS_SPENT);
 	expect_refused(registry_enter_find, cpu, 9, NULL, REGISTRY_SECTIONS_SPENT);
 	EXPECT(registry_enter(cpu) == REGISTRY_SECTIONS_SPENT);
+	close_registry();
+}
+
+/* Gets outside that have their reference begin no section. Those above the limit begin one each. The references are released without a section. */
+static void check_spent_by_gets(void)
+{
+	struct registry_cpu *cpu = &cpus[0];
+	open_registry(MOST_SECTIONS, 1);
+	EXPECT(attach(7) == 1);
+	for (unsigned i = 0; i < 2 * MOST_SECTIONS; i++) {
+		DONE(registry_get(cpu, REGISTRY_DRIVER, &wm, NULL));
+		DONE(registry_release(cpu, 1));
+	}
+	DONE(registry_get(cpu, REGISTRY_DRIVER, &wm, NULL));
+	for (unsigned i = 0; i < MOST_SECTIONS; i++)
+		EXPECT(registry_get(cpu, REGISTRY_DRIVER, &wm, NULL) == REGISTRY_PASSIVE_FULL);
+	EXPECT(registry_get(cpu, REGISTRY_DRIVER, &wm, NULL) == REGISTRY_SECTIONS_SPENT && holds(cpu, 1));
+	DONE(registry_release(cpu, 1));
+	EXPECT(registry_get(cpu, REGISTRY_DRIVER, &wm, NULL) == REGISTRY_SECTIONS_SPENT && !holds(cpu, 1));
 	close_registry();
 }
 
@@ -587,6 +612,7 @@ int main(int argc, char **argv)
 	wm0 = name_of("wm0");
 	check_answers();
 	check_spent();
+	check_spent_by_gets();
 	check_numbers();
 	run_lookers(800 * (uint64_t)changes);
 	run_threads(changes);

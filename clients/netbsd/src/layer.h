@@ -20,7 +20,8 @@
  * value. The slot that the registry gives it is also its row in the bank; the owner notes row and serial, and the row notes the owner. A call
  * is right in what it is given where both notes agree.
  *
- * psref_acquire is registry_get: a section of its own, nested in the open one if that is of the same bank, finds the entry by its name and acquires it.
+ * psref_acquire is registry_get: it finds the entry by its name and acquires it, by loads and one addition, or in a section of its own, nested in the open
+ * one if that is of the same bank.
  * What isn't found is being destroyed. That a reader who met a target in the caller's list finds its entry, too, lies in the
  * order of the atomic steps: the attach came before the list had the target. No contract says it, since the reader's CPU hasn't heard of the
  * attach. Each reference is noted in a table of its CPU: whose it is, where it lies, and from which place it was acquired.

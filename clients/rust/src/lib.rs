@@ -8,8 +8,8 @@
 //!
 //! # The mechanism
 //!
-//! A lookup writes one word of its own CPU when it begins and when it ends. ([`Cpu::look_up`], which returns a copy, writes none unless a change is
-//! made meanwhile.) The thread that removes an entry unlinks it and records the word of each CPU. It reads the words again until each has changed or
+//! A lookup writes one word of its own CPU when it begins and when it ends. (Unless a change is made meanwhile, [`Cpu::look_up`], which returns a copy,
+//! writes none, and [`Cpu::get`] only the word that counts its reference.) The thread that removes an entry unlinks it and records the word of each CPU. It reads the words again until each has changed or
 //! says that its CPU is outside. No lookup that began afterwards can have found the entry. References are counted on the CPU that acquires them. The
 //! counts are read, or collected, after that. Only then is the entry freed: its slot is reused, and its `T` is returned.
 //!

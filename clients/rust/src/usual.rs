@@ -17,7 +17,8 @@ use core::ops::Deref;
 impl<T> Cpu<T> {
     /// A passive reference to the live entry with this kind and name, by one call: what [`enter`](Cpu::enter),
     /// [`find`](crate::Section::find), [`acquire`](crate::Found::acquire) and [`exit`](crate::Section::exit) give together. In an open
-    /// section the call is nested in it.
+    /// section the call is nested in it. Outside it opens none and writes only the word that counts the reference, unless a change is made
+    /// meanwhile.
     ///
     /// ```
     /// use registry::{Kind, Name, PassiveRef, Refusal, Registry, Settings};

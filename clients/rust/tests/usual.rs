@@ -209,7 +209,7 @@ fn a_call_is_nested_as_deep_as_a_section() {
 }
 
 #[test]
-fn a_call_outside_counts_as_a_section_except_a_look_up() {
+fn a_call_outside_counts_as_a_section_except_a_look_up_and_a_get() {
     let (registry, cpus) = Registry::open(Settings::new(1, 1).sections(3)).unwrap();
     let (cpu, wm) = (&cpus[0], name("wm"));
     registry.attach(cpu, &wm, 7).unwrap();
@@ -223,6 +223,8 @@ fn a_call_outside_counts_as_a_section_except_a_look_up() {
     for _ in 0..9 {
         assert_eq!(cpu.look_up(Kind::Driver, &wm).unwrap().number, 1);
         assert_eq!(cpu.look_up(Kind::Iface, &wm), Err(Refusal::NotFound));
+        assert_eq!(*cpu.get(Kind::Driver, &wm).unwrap(), 7);
+        assert_eq!(cpu.get(Kind::Iface, &wm).unwrap_err(), Refusal::NotFound);
     }
     assert_eq!(cpu.read(Kind::Iface, &wm).unwrap_err(), Refusal::NotFound);
     assert_eq!(*cpu.read(Kind::Driver, &wm).unwrap(), 7);

@@ -5,6 +5,7 @@ ghost use Rattle.registry_values.specs.Common.{Answers};
 ghost use Rattle.cpu_words.specs.Common.{AreWordsOf, key_with, references_to};
 ghost use mathlib.Core.List.{IsPrefix};
 ghost use Rattle.passive_list.specs.Common.{HasFound, HasFoundByLoads, HasFoundFromOutside, HasHeardOn, WasShown, has_heard, has_told, entry_seen, AnswersEnter, HasExitedOn, may_begin};
+ghost use Rattle.passive_ref.specs.Gets.{HasGotByLoads};
 ghost use Rattle.passive_ref.specs.Psrefs.{GivesBack, HasOneLess, IsAcquired, IsCopied, IsReadAs, why_not_acquired, why_not_copied, why_unusable};
 
 use crate::acquired::LastAcquired;
@@ -15,7 +16,7 @@ use passive_list::{
     PlainCpu, Seen, enter_on, exit_on, find_by_loads, find_from_outside, find_on, hear_on,
     may_begin_on, tell_on,
 };
-use passive_ref::{Psref, acquire_on, copy_on, held_on, read_entry_on, release_on};
+use passive_ref::{Psref, acquire_on, copy_on, get_by_loads, held_on, read_entry_on, release_on};
 use registry_values::{Entry, Kind, MOST_SLOTS, Name, Record, Refusal};
 use std::alloc::{AllocError, Global};
 use std::marker::Model;
@@ -193,6 +194,16 @@ impl CpuBody {
         ensures words { self.new.words ≡ self.old.words }
     {
         find_by_loads(&self.words, &mut self.cpu, kind, name)
+    }
+
+    /// Looks an entry up by loads alone and acquires a passive reference to it, by one addition. Returns the entry's words and the reference,
+    /// or that there is none: `Some(None)`. `None` if the loads tell nothing, and nothing is acquired then.
+    #[inline(always)]
+    pub fn get_by_loads(&mut self, kind: Kind, name: Name) -> Option<Option<(Seen, Psref)>>
+        ensures got { HasGotByLoads (key_with kind name) self.old.cpu self.new.cpu result }
+        ensures words { self.new.words ≡ self.old.words }
+    {
+        get_by_loads(&self.words, &mut self.cpu, kind, name)
     }
 
     /// Acquires a passive reference to the last found entry.

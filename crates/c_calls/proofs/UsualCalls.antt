@@ -1,20 +1,23 @@
 -- A section that a call of the usual path has entered is still open as it exits.
-use Rattle.std.proofs.Common.{◌≡◌, ◌≢◌, ℕ, Bool, IsTrue, Option, Some, None, Result, Ok, Err, IfErr, inl, inr, refl, sym, ap, subst, ◌∙◌}
+use Rattle.std.proofs.Common.{◌≡◌, ◌≢◌, ℕ, Bool, true, false, if◌then◌else◌, IsTrue, Option, Some, None, Result, Ok, Err, IfErr, inl, inr, refl, sym, ap, subst, ◌∙◌}
 use Rattle.std.specs.Prelude.{◌↔◌, ◌==◌}
+use Rattle.std.proofs.lemmas.Bool.{eqb-true}
+use Rattle.std.proofs.lemmas.Option.{same_Some}
 use Rattle.std.specs.Result.{result_err}
 use mathlib.Core.Logic.{dite}
 use native.Mathlib.Decide.{ℕ_discrete}
-use Rattle.c_calls.specs.Types.{Entry, Key, Kind, Name, Refusal, CpuView, Seen}
-use Rattle.registry_values.specs.Common.{enter_answer, Answers}
+use Rattle.c_calls.specs.Types.{Entry, Key, Kind, Iface, Driver, Name, Refusal, CpuView, Seen}
+use Rattle.registry_values.specs.Common.{enter_answer, kind_word, Answers}
 use Rattle.cpu_words.specs.Common.{key_with}
 use Rattle.passive_list.specs.Common.{OnCpu, OnPlainCpu, HasFound, HasFoundByLoads, HasFoundFromOutside, AnswersEnter, may_begin, entry_seen}
+use Rattle.passive_ref.specs.Gets.{HasGotByLoads}
 use Rattle.passive_ref.specs.Psrefs.{IsAcquired, OnPsref, why_not_acquired}
 use Rattle.c_values.specs.declared.values.TheConstants.{DONE}
 use Rattle.c_values.specs.declared.values.CEntry.{CEntry}
 use Rattle.c_values.specs.declared.values.CName.{CName}
 use Rattle.c_calls.specs.Calls.{Acquires, Enters, Exits, Finds, FindsNamed, TellsFound, WritesFound}
 use Rattle.c_values.specs.Places.{put}
-use Rattle.c_calls.specs.UsualCalls.{Between, EntersAndFinds, FindsAndAcquires, LooksUp, LooksUpInSection}
+use Rattle.c_calls.specs.UsualCalls.{Between, EntersAndFinds, FindsAndAcquires, Gets, GetsInSection, LooksUp, LooksUpInSection, seen_in}
 use Rattle.c_values.specs.Values.{entry_out, kind_in, name_in, number_of}
 use Rattle.c_calls.proofs.Gone.{refused_not}
 
@@ -174,6 +177,48 @@ unentered kind name a b n old enters off = in_section kind name a b n old old (r
   refused = λ _. (refl, refl, refl);
   inside = λ done. absurd (off done);
 })
+
+-- A get from outside
+
+-- the loads got an entry, or told that there is none; that the reference was kept changes nothing of the CPU
+pub got_by_loads : (kind : ℕ) (k : Kind) (m : CName) (name : Name) (a c b : OnPlainCpu) (g : Option (Seen × OnPsref)) (s : Option Seen) (n : ℕ) (old new : Option CEntry)
+    → kind_in kind ≡ Some k → name ≡ name_in m → a.cpu.depth ≡ 0 → IsTrue (may_begin a.cpu.view) → c.words ≡ a.words
+    → HasGotByLoads (key_with k name) a.cpu c.cpu (Some g) → b ≡ c → s ≡ seen_in g → writes k m s n old new → Gets kind (Some m) a b n old new
+got_by_loads kind k m name a c b g s n old new is named shallow room words got kept seen written = subst (λ (x : OnPlainCpu). Gets kind (Some m) a x n old new) (sym kept) (inl (record {
+  m = m;
+  named = refl;
+  k = k;
+  is_kind = is;
+  outside = shallow;
+  room = room;
+  got = g;
+  gets = subst (λ (i : Name). HasGotByLoads (key_with k i) a.cpu c.cpu (Some g)) named got;
+  words = words;
+  written = subst (λ (o : Option Seen). writes k m o n old new) seen written;
+}))
+
+-- the loads told nothing, and a section did
+pub got_after_vain : (kind : ℕ) (m : CName) (key : Key) (a c b : OnPlainCpu) (n : ℕ) (old new : Option CEntry) → a.cpu.depth ≡ 0 → IsTrue (may_begin a.cpu.view) → c.words ≡ a.words
+    → HasGotByLoads key a.cpu c.cpu None → GetsInSection kind (Some m) c b n old new → Gets kind (Some m) a b n old new
+got_after_vain kind m key a c b n old new shallow room words got inside = inr (c, inr (record { outside = shallow; room = room; key = key; gets = got; words = words }), inside)
+
+-- a kind has one word
+word_by : (w : ℕ) (k : Kind) (one two : Bool) → w == 1 ≡ one → w == 2 ≡ two → (if one then Some Iface else (if two then Some Driver else None)) ≡ Some k → kind_word k ≡ w
+word_by w k true two first second is = ap kind_word (sym (same_Some Iface k is)) ∙ sym (eqb-true w 1 first)
+word_by w k false true first second is = ap kind_word (sym (same_Some Driver k is)) ∙ sym (eqb-true w 2 second)
+word_by w k false false first second is = let clash : ◌≡◌ {A = Option Kind} None (Some k) = is in cc
+
+word_of : (w : ℕ) (k : Kind) → kind_in w ≡ Some k → kind_word k ≡ w
+word_of w k is = word_by w k (w == 1) (w == 2) refl refl is
+
+pub of_word : (w v : ℕ) (k : Kind) (m : CName) (a b : OnPlainCpu) (n : ℕ) (old new : Option CEntry) → kind_in w ≡ Some k → v ≡ kind_word k → GetsInSection v (Some m) a b n old new
+    → GetsInSection w (Some m) a b n old new
+of_word w v k m a b n old new is from got = subst (λ (u : ℕ). GetsInSection u (Some m) a b n old new) (from ∙ word_of w k is) got
+
+-- A get without loads
+
+pub got_in_section : (kind : ℕ) (name : Option CName) (a b : OnPlainCpu) (n : ℕ) (old new : Option CEntry) → GetsInSection kind name a b n old new → Gets kind name a b n old new
+got_in_section kind name a b n old new inside = inr (a, inl refl, inside)
 
 -- A find and an acquire
 

@@ -66,7 +66,28 @@ pub fn get(
     let Some(body) = cpu.body_mut() else {
         return found.answer(EMPTY_HANDLE).with_name(name);
     };
-    let answer = usual_calls::get(body, kind, name.name(), &mut found);
+    match (name.name(), kind_in(kind)) {
+        (Some(sought), Some(kind)) if body.may_begin() => {
+            let answer = usual_calls::get_from_outside(body, kind, sought, &mut found);
+            found.answer(answer).with_name(name)
+        }
+        _ => get_by_calls(body, kind, name, found),
+    }
+}
+
+/// What `registry_get` does in an open section, or where it is refused: an enter, a find, an acquire and an exit. It stands apart, so that a get
+/// from outside saves no register for it.
+#[inline(never)]
+fn get_by_calls(
+    cpu: &mut CpuBody,
+    kind: u64,
+    mut name: GivenName,
+    mut found: EntryPlace,
+) -> NamedAnswer
+    ensures places { (result.name ≡ name) × (result.place.at ≡ found.at) }
+    ensures call { Gets kind name.name cpu.old cpu.new result.number found.value result.place.value }
+{
+    let answer = usual_calls::get(cpu, kind, name.name(), &mut found);
     found.answer(answer).with_name(name)
 }
 

@@ -7,3 +7,4 @@ pub mod Peeking
 pub mod Reading
 pub mod Searching
 pub mod Sections
+pub mod Trying

@@ -7,7 +7,7 @@ use Rattle.cpu_words.specs.Types.{Entry, Settings, Rest}
 use Rattle.registry_values.specs.Common.{bias, slot_at}
 use Rattle.protocol.specs.Common.{IsIn, one_if, one_if_used, kept_of, addition_due_at, is_adding_at, subtraction_due_at}
 use Rattle.cpu_words.specs.declared.view.InHand.{InHand}
-use Rattle.cpu_words.specs.declared.view.InHand.TheVariants.{Empty, Taking, Giving, Back}
+use Rattle.cpu_words.specs.declared.view.InHand.TheVariants.{Empty, Taking, Giving, Back, Trying}
 use Rattle.cpu_words.specs.declared.view.CpuView.{CpuView}
 use Rattle.cpu_words.specs.declared.view.KeeperView.{KeeperView}
 use Rattle.cpu_words.specs.declared.view.View.{View}
@@ -25,12 +25,13 @@ count_word words t c = slice_index words (index (count_of c t))
 abbrev pub total_word : List ℕ → ℕ → ℕ
 total_word words t = slice_index words (index (total_of t))
 
--- 1 where a reference to n is in the hand
+-- 1 where a local reference to n is in the hand
 abbrev pub in_hand_to : ℕ → InHand → ℕ
 in_hand_to n Empty = 0
 in_hand_to n (Taking e) = one_if (is_to n e)
 in_hand_to n (Giving e) = one_if (is_to n e)
 in_hand_to n (Back e) = one_if (is_to n e)
+in_hand_to n (Trying e) = 0
 
 -- 1 for the seat of a CPU that has a reference to n in its hand
 abbrev pub hand_to : ℕ → View → ℕ

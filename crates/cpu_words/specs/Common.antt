@@ -2,7 +2,7 @@
 pub use Rattle.cpu_words.specs.declared.layout.TheConstants.{TOTALS, WORDS}
 pub use Rattle.cpu_words.specs.declared.view.CpuView.{CpuView}
 pub use Rattle.cpu_words.specs.declared.view.InHand.{InHand}
-pub use Rattle.cpu_words.specs.declared.view.InHand.TheVariants.{Back, Empty, Giving, Taking}
+pub use Rattle.cpu_words.specs.declared.view.InHand.TheVariants.{Back, Empty, Giving, Taking, Trying}
 pub use Rattle.cpu_words.specs.declared.view.KeeperView.{KeeperView}
 pub use Rattle.cpu_words.specs.declared.view.LogItem.{LogItem}
 pub use Rattle.cpu_words.specs.declared.view.Logged.{Logged}
@@ -55,8 +55,9 @@ pub use Rattle.cpu_words.specs.Sections.{HasEntered, HasExited, HasWholePass, Is
 pub use Rattle.cpu_words.specs.Spots.{AreApart, FirstWordsFree, IsSpot, LinesApart, OnePlace, Spot, count_of, head_word, changes_word, index, next_of, owner, passive_of, record_of, section_of, total_of, word_at}
 pub use Rattle.cpu_words.specs.Steps.{CpuMay, JoinsBy, JoinsOn, KeeperMay, KeeperStores, Makes, Moves, OneSeat, ReferenceMay, SeatMakes, SplitsBy, SplitsOn}
 pub use Rattle.cpu_words.specs.Storing.{CountStored, HasCountWord, HasLink, HasRecordWord, LinkStored, RecordStored}
+pub use Rattle.cpu_words.specs.Tries.{EndTold, HasConfirmed, HasTakenBack, HasTried, IsTrying, MayEndTry, MayTakeBack, MayTry, event_by}
 pub use Rattle.cpu_words.specs.Vacating.{IsDrained, MayVacate, MayWrite, VacateTold, keeper_after_vacate}
 pub use Rattle.cpu_words.specs.Views.{ChangesShow, CpuOwn, CpuShown, PeekHolds, PeekShows, StaysAt, GivesUp, HandFits, IsCollectedFor, KeeperOwn, KeeperShown, Named, ReferenceShown, SameHand, Seated, Shown, collected_net, collected_one, cpu_of}
 pub use Rattle.cpu_words.specs.Views.{cpu_view, depth_of, first_view, is_to, keeper_of, keeper_own, keeper_view, new_cpu, new_keeper, no_settings, note_of, number_at, one_more, own_of, reference_of}
-pub use Rattle.cpu_words.specs.Views.{references_to, with_number, without}
+pub use Rattle.cpu_words.specs.Views.{references_to, trying_in, with_number, without}
 pub use Rattle.cpu_words.specs.Waiting.{HadHeard, HasEndedOn, HasEndedSince, HaveEnded, IsBeforeTelling, WaitingEnds}

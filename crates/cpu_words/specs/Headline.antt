@@ -7,9 +7,9 @@ use lib.ListN.{get_elem?}
 use Rattle.atomic_table.specs.Table.{State as Table}
 use Rattle.cpu_words.specs.Types.{Entry, Change, Mark, Settings, Retired, Event}
 use Rattle.registry_values.specs.Common.{slot_at}
-use Rattle.protocol.specs.Common.{IsAttached, MayHold, opening, mark_at, kept_at, IsIn, empty_model, IsUnheld, IsModelRun, picture, after, ObeysLaws}
+use Rattle.protocol.specs.Common.{IsAttached, MayHold, opening, mark_at, kept_at, IsIn, empty_model, IsUnheld, IsModelRun, HasConfirm, picture, after, ObeysLaws}
 use Rattle.cpu_words.specs.declared.view.InHand.{InHand}
-use Rattle.cpu_words.specs.declared.view.InHand.TheVariants.{Empty, Taking, Giving, Back}
+use Rattle.cpu_words.specs.declared.view.InHand.TheVariants.{Empty, Taking, Giving, Back, Trying}
 use Rattle.cpu_words.specs.declared.view.CpuView.{CpuView}
 use Rattle.cpu_words.specs.declared.view.KeeperView.{KeeperView}
 use Rattle.cpu_words.specs.declared.view.LogItem.{LogItem}
@@ -17,7 +17,7 @@ use Rattle.cpu_words.specs.declared.view.Logged.{Logged}
 use Rattle.cpu_words.specs.declared.view.View.{View}
 use Rattle.cpu_words.specs.declared.view.View.TheVariants.{Keeper, Cpu, Reference, Note, Spent}
 use Rattle.cpu_words.specs.Spots.{passive_of, count_of, index}
-use Rattle.cpu_words.specs.Views.{references_to}
+use Rattle.cpu_words.specs.Views.{references_to, trying_in}
 use Rattle.cpu_words.specs.Rule.{Agrees, ShowsViews, Good, Ruled, log_of_events}
 use Rattle.cpu_words.specs.Acts.{part}
 use Rattle.cpu_words.specs.Logs.{without_logs, events_of, IsStanding, AreByOwn, AreToldBefore, HasHeardAll, Knows, LoggedRuled}
@@ -35,8 +35,8 @@ pub record RunsLawfully (z : Settings) (s : Table ℕ View) : Type 0 where
   pub shows : ShowsViews (after (opening z) events) seat s.views
   -- it has the core invariant, and a CPU without a seat has made no step
   pub good : Good (after (opening z) events)
-  -- a run of the model reaches its picture
-  pub modelled : IsModelRun empty_model (picture (after (opening z) events))
+  -- a run of the model reaches its picture; where no event is a Confirm, it takes no reference without a section
+  pub modelled : IsModelRun (HasConfirm events) empty_model (picture (after (opening z) events))
   -- all laws of the protocol hold: the headline, safe reuse, drivers that outlive interfaces, lawful and fresh answers, whole passes, balance at
   -- rest, the grace law and what is kept
   pub laws : ObeysLaws (after (opening z) events)
@@ -68,12 +68,13 @@ RunningHeadline = (z : Settings) (s : Table ℕ Logged) → LoggedRuled z s → 
 abbrev pub SectionMayHold : List Change → Entry → CpuView → Type 0
 SectionMayHold h e x = (b : ℕ) × (x.begin ≡ Some b) × MayHold h b e
 
--- a reference to n is in the hand
+-- a local reference to n is in the hand; what a CPU is trying is no reference
 abbrev pub IsInHand : ℕ → InHand → Type 0
 IsInHand n Empty = ⊥
 IsInHand n (Taking e) = e.number ≡ n
 IsInHand n (Giving e) = e.number ≡ n
 IsInHand n (Back e) = e.number ≡ n
+IsInHand n (Trying e) = ⊥
 
 -- a CPU's open section may hold e, or it has a passive reference to e, or a local one in its hand
 abbrev pub CpuHolds : List Change → Entry → CpuView → Type 0
@@ -108,7 +109,8 @@ DrainedIsFree = (z : Settings) (s : Table ℕ View) (i t : ℕ) (k : KeeperView)
 -- what the mark m of one CPU at the slot t of e tells: of its view, and of its own words for the slot
 pub record MarkTells (words : List ℕ) (h : List Change) (t : ℕ) (e : Entry) (m : Mark) (x : CpuView) : Type 0 where
   pub passed : m.passed ≡ true → SectionMayHold h e x → ⊥
-  pub clear : m.clear ≡ true → (m.passed ≡ true) × (references_to e.number x.references ≡ 0) × (slice_index words (index (passive_of x.id t)) ≡ 0)
+  -- the passive word counts what the CPU is trying there, and no reference
+  pub clear : m.clear ≡ true → (m.passed ≡ true) × (references_to e.number x.references ≡ 0) × (slice_index words (index (passive_of x.id t)) ≡ trying_in t x.hand)
   pub collected : m.collected ≡ true → (m.clear ≡ true) × (slice_index words (index (count_of x.id t)) ≡ 0)
 
 -- each mark of a retired entry's slot is so of its CPU

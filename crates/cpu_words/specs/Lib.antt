@@ -15,6 +15,7 @@ pub mod Passives
 pub mod Reading
 pub mod Searching
 pub mod Peeks
+pub mod Tries
 pub mod Draining
 pub mod Publishing
 pub mod Keeping

@@ -3,7 +3,7 @@ use Rattle.std.specs.Prelude.{◌≡◌, ℕ, ◌+◌, ◌<◌, ◌==◌, if◌t
 use Rattle.cpu_words.specs.Types.{Entry, Event, Reply, Word, Collected}
 use Rattle.registry_values.specs.Common.{bias}
 use Rattle.cpu_words.specs.declared.view.InHand.{InHand}
-use Rattle.cpu_words.specs.declared.view.InHand.TheVariants.{Empty as NoEntry, Taking as TakingEntry, Giving as GivingEntry, Back as BackEntry}
+use Rattle.cpu_words.specs.declared.view.InHand.TheVariants.{Empty as NoEntry, Taking as TakingEntry, Giving as GivingEntry, Back as BackEntry, Trying as TryingEntry}
 use Rattle.cpu_words.specs.declared.view.CpuView.{CpuView}
 use Rattle.cpu_words.specs.declared.view.ReferenceView.{ReferenceView}
 use Rattle.cpu_words.specs.declared.view.View.{View}
@@ -18,12 +18,13 @@ use Rattle.cpu_words.specs.Sections.{IsIdle}
 abbrev pub with_hand : CpuView → InHand → CpuView
 with_hand x h = record x { hand = h }
 
--- the reference that the CPU c has in its hand, as the view of a seat; one that goes back was found collected by c
+-- the local reference that the CPU c has in its hand, as the view of a seat; one that goes back was found collected by c
 abbrev pub reference_in : ℕ → InHand → ReferenceView
 reference_in c NoEntry = record { entry = no_entry; collected = None }
 reference_in c (TakingEntry e) = record { entry = e; collected = None }
 reference_in c (GivingEntry e) = record { entry = e; collected = None }
 reference_in c (BackEntry e) = record { entry = e; collected = Some c }
+reference_in c (TryingEntry e) = record { entry = no_entry; collected = None }
 
 -- a CPU's seat with its hand empty, and the seat of what was in it
 abbrev pub with_empty_hand : View → View

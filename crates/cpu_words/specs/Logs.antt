@@ -5,10 +5,10 @@ use mathlib.Core.List.{IsPrefix}
 use lib.ListN.{get_elem?}
 use Rattle.atomic_table.specs.Table.{State as Table, Step, Me}
 use Rattle.cpu_words.specs.Types.{Settings, Event, Seat, Enter, Exit, Seek, LoadLink, LoadRecord, StoreSlot, StoreNext, Publish, Unpublish, Tell, Hear, Snapshot, Look, PassiveAdd, PassiveSub}
-use Rattle.cpu_words.specs.Types.{PassiveLook, CountAdd, SplitRef, JoinRef, CountDown, SplitBack, Collect, TotalAdd, JoinKeeper, TotalSub, Keep, KeptSub, Vacate, Count, Peek, Passive, Local, Compared, Done, Ref}
+use Rattle.cpu_words.specs.Types.{PassiveLook, CountAdd, SplitRef, JoinRef, CountDown, SplitBack, Collect, TotalAdd, JoinKeeper, TotalSub, Keep, KeptSub, Vacate, Count, Peek, Try, Confirm, TakeBack, Passive, Local, Compared, Done, Ref}
 use Rattle.protocol.specs.declared.event.RecordOf.TheVariants.{Search as OfSearch}
 use Rattle.cpu_words.specs.declared.view.InHand.{InHand}
-use Rattle.cpu_words.specs.declared.view.InHand.TheVariants.{Empty as NoEntry, Taking as TakingEntry, Giving as GivingEntry, Back as BackEntry}
+use Rattle.cpu_words.specs.declared.view.InHand.TheVariants.{Empty as NoEntry, Taking as TakingEntry, Giving as GivingEntry, Back as BackEntry, Trying as TryingEntry}
 use Rattle.cpu_words.specs.declared.view.CpuView.{CpuView}
 use Rattle.cpu_words.specs.declared.view.KeeperView.{KeeperView}
 use Rattle.cpu_words.specs.declared.view.ReferenceView.{ReferenceView}
@@ -111,6 +111,9 @@ maker (KeptSub t) = the_keeper
 maker (Vacate t) = the_keeper
 maker Count = the_keeper
 maker (Peek c w) = the_cpu c
+maker (Try c t n) = the_cpu c
+maker (Confirm c) = the_cpu c
+maker (TakeBack c) = the_cpu c
 
 abbrev pub who : View → Maker
 who (Keeper k) = the_keeper
@@ -266,6 +269,7 @@ leaves_hand c NoEntry = []
 leaves_hand c (TakingEntry e) = did (SplitRef c) (Ref 0)
 leaves_hand c (GivingEntry e) = []
 leaves_hand c (BackEntry e) = did (SplitBack c) (Ref 0)
+leaves_hand c (TryingEntry e) = []
 
 abbrev pub cuts_off : View → List LogItem
 cuts_off v = leaves_hand (cpu_of v).id (cpu_of v).hand

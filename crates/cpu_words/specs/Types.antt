@@ -7,14 +7,14 @@ pub use Rattle.registry_values.specs.declared.entry.Kind.TheVariants.{Driver, If
 pub use Rattle.registry_values.specs.declared.mark.Mark.{Mark}
 pub use Rattle.registry_values.specs.declared.name.Name.{Name}
 pub use Rattle.registry_values.specs.declared.settings.Settings.{Settings}
-pub use Rattle.registry_values.specs.declared.limits.TheConstants.{MOST_COUNT, MOST_CPUS, MOST_SLOTS}
+pub use Rattle.registry_values.specs.declared.limits.TheConstants.{MOST_COUNT, MOST_CPUS, MOST_SECTIONS, MOST_SLOTS}
 pub use Rattle.registry_values.specs.declared.slot.Key.{Key}
 pub use Rattle.registry_values.specs.declared.slot.Slot.{Slot}
 pub use Rattle.registry_values.specs.declared.slot.Slot.TheVariants.{Live, Retired, Vacant}
 pub use Rattle.protocol.specs.declared.event.Event.{Event}
 pub use Rattle.protocol.specs.declared.event.Event.TheVariants.{Collect, CountAdd, CountDown, Enter, Exit, Hear, JoinKeeper, JoinRef, Keep, KeptSub, LoadLink, LoadRecord, Look, PassiveAdd}
 pub use Rattle.protocol.specs.declared.event.Event.TheVariants.{PassiveLook, PassiveSub, Publish, Seat, Seek, Snapshot, SplitBack, SplitRef, StoreNext, StoreSlot, Tell, TotalAdd, TotalSub, Unpublish}
-pub use Rattle.protocol.specs.declared.event.Event.TheVariants.{Count, Peek, Vacate}
+pub use Rattle.protocol.specs.declared.event.Event.TheVariants.{Confirm, Count, Peek, TakeBack, Try, Vacate}
 pub use Rattle.protocol.specs.declared.event.RecordOf.{RecordOf}
 pub use Rattle.protocol.specs.declared.event.RecordOf.TheVariants.{Compared, Local, Passive}
 pub use Rattle.protocol.specs.declared.event.SharedWord.{SharedWord}
@@ -24,7 +24,7 @@ pub use Rattle.protocol.specs.declared.event.Reply.TheVariants.{Collected, Done,
 pub use Rattle.protocol.specs.declared.state.Due.{Due}
 pub use Rattle.protocol.specs.declared.state.Due.TheVariants.{Adding, Rest, Snapshots, Subtracting}
 pub use Rattle.protocol.specs.declared.state.Hand.{Hand}
-pub use Rattle.protocol.specs.declared.state.Hand.TheVariants.{Back, Empty, Giving, Taking}
+pub use Rattle.protocol.specs.declared.state.Hand.TheVariants.{Back, Empty, Giving, Taking, Trying}
 pub use Rattle.protocol.specs.declared.state.Loaded.{Loaded}
 pub use Rattle.protocol.specs.declared.state.Loaded.TheVariants.{On, Over}
 pub use Rattle.protocol.specs.declared.state.LocalPlace.{LocalPlace}

@@ -4,12 +4,12 @@ use Rattle.std.specs.Prelude.{Option, Some, None}
 use Rattle.std.specs.List.{Contains, zip}
 use mathlib.Core.List.{IsPrefix}
 use Rattle.atomic_table.specs.Seated.{TableId}
-use Rattle.cpu_words.specs.Types.{Entry, Driver, Key, Change, Settings, MOST_CPUS, Slot, Vacant, Live, Retired, Mark, Hand, Empty, Taking, Giving, Back, Rest}
+use Rattle.cpu_words.specs.Types.{Entry, Driver, Key, Change, Settings, MOST_CPUS, Slot, Vacant, Live, Retired, Mark, Hand, Empty, Taking, Giving, Back, Trying, Rest}
 use Rattle.protocol.specs.Common.{IsAttached, EndsAt, IsLawful, Leads, StandsOn, PlaceHolds, State, no_words, section_at, begin_at, depth_at, seen_at, search_at, found_at, hand_at, mark_at, passive_at, count_at, total_at, AreRows, IsIn, Occupies}
 use Rattle.protocol.specs.Common.{subtraction_due_at, addition_due_at, is_adding_at}
 use Rattle.registry_values.specs.Common.{bias, key_of, no_mark, slot_at}
 use Rattle.cpu_words.specs.declared.view.InHand.{InHand}
-use Rattle.cpu_words.specs.declared.view.InHand.TheVariants.{Empty as NoEntry, Taking as TakingEntry, Giving as GivingEntry, Back as BackEntry}
+use Rattle.cpu_words.specs.declared.view.InHand.TheVariants.{Empty as NoEntry, Taking as TakingEntry, Giving as GivingEntry, Back as BackEntry, Trying as TryingEntry}
 use Rattle.cpu_words.specs.declared.view.Looked.{Looked}
 use Rattle.cpu_words.specs.declared.view.LogItem.{LogItem}
 use Rattle.cpu_words.specs.declared.view.Teller.{Teller}
@@ -137,31 +137,41 @@ SameHand Empty NoEntry = Unit {0}
 SameHand (Taking n) (TakingEntry e) = n ≡ e.number
 SameHand (Giving n id) (GivingEntry e) = n ≡ e.number
 SameHand (Back n id) (BackEntry e) = n ≡ e.number
+SameHand (Trying t n) (TryingEntry e) = (t ≡ e.slot) × (n ≡ e.number)
 SameHand h k = ⊥
 
 -- the CPU's count word for e was collected, and e still has its slot
 abbrev pub IsCollectedFor : List Slot → List (List Mark) → Entry → ℕ → Type 0
 IsCollectedFor slots marks e c = (slot_at slots e.slot ≡ Retired e) × ((mark_at marks e.slot c).collected ≡ true)
 
--- what is in a hand is an entry of the history; a hand that gives back was found collected
+-- a local reference in a hand is to an entry of the history; one that goes back was found collected
 abbrev pub HandFits : List Change → List Slot → List (List Mark) → ℕ → InHand → Type 0
 HandFits h slots marks c NoEntry = Unit {0}
 HandFits h slots marks c (TakingEntry e) = IsAttached h e
 HandFits h slots marks c (GivingEntry e) = IsAttached h e
 HandFits h slots marks c (BackEntry e) = IsAttached h e × IsCollectedFor slots marks e c
+HandFits h slots marks c (TryingEntry e) = Unit {0}
+
+-- 1 if the CPU is trying to get a passive reference in the slot t
+abbrev pub trying_in : ℕ → InHand → ℕ
+trying_in t NoEntry = 0
+trying_in t (TakingEntry e) = 0
+trying_in t (GivingEntry e) = 0
+trying_in t (BackEntry e) = 0
+trying_in t (TryingEntry e) = if e.slot == t then 1 else 0
 
 -- inner enters and exits are no events
 abbrev pub depth_of : Option ℕ → ℕ
 depth_of None = 0
 depth_of (Some b) = 1
 
--- what a lookup by loads alone has come to is right, of the history h, from its first `from` changes on
+-- what a lookup by loads alone has come to is right, of the history or the pass h, from its first `from` changes on
 abbrev pub PeekHolds : List Change → ℕ → Key → PeekPlace → Type 0
 PeekHolds h from key (Goes p) = PlaceHolds h from (length h) key p
 PeekHolds h from key (Finds e) = StandsOn h from (length h) e.slot e × (key_of e ≡ key)
 PeekHolds h from key Misses = IsLawful h from (length h) key None
 
--- it is right if all changes that it can have met are counted in the number that it began with
+-- it is right if all changes that it can have met are counted in the number that it began with, which is still the count
 abbrev pub PeekShows : List Change → ℕ → Option Peeking → Type 0
 PeekShows h changes None = Unit {0}
 PeekShows h changes (Some q) = (q.number ≤ changes) × (q.from ≤ length h) × (q.number ≡ changes → (q.number ≤ q.from) × PeekHolds h q.from q.key q.place)
@@ -172,8 +182,8 @@ pub record CpuShown (g : State) (x : CpuView) : Type 0 where
   pub hand : SameHand (hand_at g x.id) x.hand
   pub in_hand : HandFits g.history g.slots g.marks x.id x.hand
   pub depth : depth_at g x.id ≡ depth_of x.begin
-  -- its passive words count its references to the occupants, and it has none to another entry
-  pub passive : (t : ℕ) (e : Entry) → IsIn e (slot_at g.slots t) → passive_at g.passive x.id t ≡ references_to e.number x.references
+  -- its passive words count its references to the occupants, and beside them what it is trying; and it has none to another entry
+  pub passive : (t : ℕ) (e : Entry) → IsIn e (slot_at g.slots t) → passive_at g.passive x.id t ≡ references_to e.number x.references + trying_in t x.hand
   pub gone : (n : ℕ) → (Occupies g.slots n → ⊥) → references_to n x.references ≡ 0
   -- its net count for an occupant is what it acquired less what it released
   pub nets : (t : ℕ) (e : Entry) → IsIn e (slot_at g.slots t) → count_at g.nets x.id t + number_at x.released e.number ≡ bias + number_at x.acquired e.number
@@ -185,7 +195,8 @@ pub record CpuShown (g : State) (x : CpuView) : Type 0 where
   -- what it found and refers to is in its pass
   pub found : (e : Entry) → x.found ≡ Some e → IsAttached x.pass e
   pub references : (e : Entry) → Contains x.references e → IsAttached x.pass e
-  pub peek : PeekShows g.history g.changes x.peek
+  -- its lookup by loads alone is right of its pass, for each of its loads has seen the whole history
+  pub peek : PeekShows x.pass g.changes x.peek
   pub noted_pass : IsPrefix x.noted_pass g.history
 
 -- of one CPU: its net count where its word was collected

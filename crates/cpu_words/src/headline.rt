@@ -41,7 +41,7 @@ pub fn running_headline()
 /// - `drained`: if all marks of a retired slot are set and its total is its bias, nothing holds its entry: no section, passive reference,
 ///   hand, local reference or slot.
 /// - `marked`, for one CPU. Passed: no open section of it may hold the entry. Clear: it has no passive reference to the entry, and its
-///   passive word is 0. Collected: its count word is 0.
+///   passive word is 0, or 1 while the CPU is trying to get a reference in that slot. Collected: its count word is 0.
 /// - `found`: a CPU's open section may hold the CPU's last found entry.
 pub fn honest_marks()
     ensures drained { DrainedIsFree }

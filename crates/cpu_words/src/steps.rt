@@ -19,6 +19,7 @@ pub mod reading;
 pub mod search;
 pub mod seats;
 pub mod sections;
+pub mod tries;
 pub mod vacating;
 
 pub use drain::{collect, join_keeper, kept_sub, passive_look, total_add, total_sub};
@@ -34,4 +35,5 @@ pub use reading::load_local;
 pub use search::{load_compared, load_link, load_searched, seek};
 pub use seats::seat;
 pub use sections::{enter, exit};
+pub use tries::{begin_try, end_try, take_back};
 pub use vacating::vacate;

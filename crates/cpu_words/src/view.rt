@@ -14,6 +14,9 @@ pub enum InHand {
     Giving(Entry),
     /// The count word was found collected, so the reference gets its seat again.
     Back(Entry),
+    /// The CPU's passive word of this entry's slot was counted up, and it's no reference yet. The entry is what the CPU's lookup by loads made
+    /// of the words that it loaded: if a change was counted meanwhile, there need not be such an entry.
+    Trying(Entry),
 }
 
 /// A look of the keeper at a CPU's word, and what it found.

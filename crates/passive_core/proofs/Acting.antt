@@ -1,10 +1,10 @@
--- Seating all CPUs: who may act before is idle then, and stays so.
+-- Seating all CPUs: who may act before is idle then, and stays so. An idle CPU is trying nothing.
 use Rattle.std.proofs.Common.{◌≡◌, ℕ, ◌<◌, ◌≤◌, Option, Some, None, Bool, true, false, not, ◌&&◌, ◌||◌, nat_lt, refl, sym, ap, ◌∙◌}
 use Rattle.std.specs.Prelude.{is_none}
 use Rattle.std.proofs.lemmas.Bool.{and_parts, cases_lt, lt-ltb, le-ltb}
 use Rattle.passive_core.specs.Common.{all_seated, may_act}
-use Rattle.protocol.specs.Common.{Outcome, guard, is_idle, some_outcome, Holds, is_empty, State, search_at, hand_at}
-use Rattle.passive_core.specs.Types.{Reply}
+use Rattle.protocol.specs.Common.{Outcome, guard, is_idle, some_outcome, Holds, is_empty, State, search_at, hand_at, trying_at, trying_of}
+use Rattle.passive_core.specs.Types.{Reply, Hand, Empty}
 use Rattle.protocol.proofs.keeps.SectionKeeps.{none_from}
 use Rattle.protocol.proofs.Either.{either}
 
@@ -25,6 +25,20 @@ pub acting_idle : (s : State) (c : ℕ) → Holds s → c < s.settings.cpus → 
 acting_idle s c on lt may =
     let free = acting_free s c (nat_lt c s.seated) refl on may in
     rw (lt-ltb c s.settings.cpus lt) free
+
+-- what an idle CPU is trying
+empty_untried : (t : ℕ) (h : Hand) → is_empty h ≡ true → trying_of t h ≡ 0
+empty_untried t Empty is = refl
+empty_untried t _ is = absurd (let q : ◌≡◌ {A = Bool} false true = is in cc)
+
+pub idle_untried : (s : State) (c t : ℕ) → is_idle s c ≡ true → trying_at s.hands c t ≡ 0
+idle_untried s c t idle =
+    let p = and_parts (nat_lt c s.seated) (is_none (search_at s c) && is_empty (hand_at s c)) idle in
+    empty_untried t (hand_at s c) (and_parts (is_none (search_at s c)) (is_empty (hand_at s c)) p.1).1
+
+pub acting_untried : (s : State) (c t : ℕ) → Holds s → may_act s c ≡ true → trying_at s.hands c t ≡ 0
+acting_untried s c t on may =
+    empty_untried t (hand_at s c) (and_parts (is_none (search_at s c)) (is_empty (hand_at s c)) (acting_free s c (nat_lt c s.seated) refl on may)).1
 
 -- seating the CPUs keeps nobody from acting
 pub acting_on : (s : State) (c : ℕ) → Holds s → may_act s c ≡ true → may_act (all_seated s) c ≡ true

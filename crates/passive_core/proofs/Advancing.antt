@@ -1,16 +1,16 @@
 -- What looks, collections and the end of a slot's use tell and leave.
-use Rattle.std.proofs.Common.{◌≡◌, ℕ, zero, suc, ◌+◌, ◌-◌, ◌%◌, ◌<◌, inr, List, [], length, get_or, set, Option, Some, None, Bool, true, false, not, ◌&&◌, ◌||◌, ◌==◌, Result, Ok, refl, sym, ap, subst}
+use Rattle.std.proofs.Common.{◌≡◌, ℕ, zero, suc, ◌+◌, ◌-◌, ◌%◌, ◌<◌, ◌⊎◌, inl, inr, List, [], length, get_or, set, Option, Some, None, Bool, true, false, not, ◌&&◌, ◌||◌, ◌==◌, Result, Ok, refl, sym, ap, subst}
 use Rattle.std.proofs.Common.{◌∙◌, arith, nat_lt, get_or-set_same, get_or-set_other, add-zero, IsSome}
 use Rattle.std.specs.Prelude.{is_some, is_none}
 use Rattle.std.proofs.lemmas.Bool.{cases_lt, cases_eq, eqb-true, eq-eqb, lt-ltb, ne_eqb, cases_Bool, and_from}
-use Rattle.std.proofs.lemmas.Option.{same_Some}
+use Rattle.std.proofs.lemmas.Option.{none-some, same_Some}
 use Rattle.passive_core.specs.Types.{Entry, Look, PassiveLook, Collect, TotalAdd, KeptSub, Reply, Done, Mark, Slot, Retired, Refusal, Stage, Grace, Passive, Local, Freed}
-use Rattle.passive_core.specs.Common.{AdvanceLeaves, Settles, Empties, Gathers, HoldersAreOpen, LeavesMarks, MarksPass, Passes, Clears, MarksClear, SameBut, StageMarks, AdvanceMarks, StageLeaves}
-use Rattle.passive_core.specs.Common.{advance_answer, count_given_up, has_passive, is_open_since, is_snapshot, first_obstacle, may_act}
+use Rattle.passive_core.specs.Common.{AdvanceLeaves, Settles, Empties, Gathers, HoldersAreOpen, LeavesMarks, MarksPass, Passes, ClearBelow, Clears, MarksClear, SameBut, StageMarks, AdvanceMarks, StageLeaves}
+use Rattle.passive_core.specs.Common.{advance_answer, count_given_up, has_passive, is_open_since, is_snapshot, first_obstacle, stage_in, may_act}
 use Rattle.protocol.specs.Common.{AllClear, AllCollected, AllPassed, MarksGrow, Outcome, guard, some_outcome, step, after_look, after_look_passive, after_collect, after_total, after_kept_sub}
 use Rattle.protocol.specs.Common.{after_vacate, may_collect, may_examine, may_look_passive, may_vacate, is_drainable, is_drained, is_iface_slot, keeps_rightly, Holds, one_if, held_at, at_rest, State}
 use Rattle.protocol.specs.Common.{section_at, begin_at, count_at, kept_at, mark_at, passive_at, total_at, with_cell}
-use Rattle.registry_values.specs.Common.{no_mark, least_below, mark_after_look, mark_after_passive_look, mark_after_collect, are_collected, has_changed, have_passed, is_even, stage_of, retired_slot}
+use Rattle.registry_values.specs.Common.{no_mark, least_below, or_next, mark_after_look, mark_after_passive_look, mark_after_collect, are_collected, has_changed, have_passed, is_even, stage_of, retired_slot}
 use Rattle.registry_values.specs.Common.{has_number, is_retired, slot_of, slot_at, bias}
 use Rattle.protocol.proofs.slots.Occupied.{at_rest_tells, in_within, is_retired_tells, number_in, has_it, one_number, slot_found}
 use Rattle.protocol.proofs.counts.Bounds.{driver_positive}
@@ -20,6 +20,7 @@ use Rattle.protocol.proofs.keeps.MarkKeeps.{is_drained_tells}
 use Rattle.protocol.proofs.slots.Cells.{cell_other}
 use Rattle.protocol.proofs.keeps.Searching.{within_some}
 use Rattle.std.proofs.lemmas.List.{set-get_or}
+use Rattle.registry_values.proofs.Least.{least_agrees, least_is, none_below}
 use Rattle.passive_core.proofs.Acting.{made_is}
 use Rattle.protocol.proofs.slots.MarkRows.{clear_from, collected_from, mark_grows, mark_there, mark_written, marks_grow_more, marks_grow_none, passed_from, row_elsewhere, snapshot_stands}
 use Rattle.protocol.proofs.Either.{either}
@@ -59,6 +60,18 @@ not_true false r is at = refl
 not_true true r is at = absurd (let q : ◌≡◌ {A = Bool} false true = sym is ∙ at in cc)
 
 -- The least number that passes.
+
+next_some : (o : Option ℕ) (b : Bool) (n c : ℕ) → or_next o b n ≡ Some c → (o ≡ Some c) ⊎ ((c ≡ n) × (b ≡ true))
+next_some (Some x) b n c is = inl is
+next_some None true n c is = inr (sym (same_Some n c is), refl)
+next_some None false n c is = absurd (none-some c is)
+
+-- the least number that passes does
+pub least_some : (p : ℕ → Bool) (n c : ℕ) → least_below p n ≡ Some c → (c < n) × (p c ≡ true)
+least_some p zero c is = absurd (none-some c is)
+least_some p (suc n) c is = either (next_some (least_below p n) (p n) n c is)
+    (λ low. let was = least_some p n c low in (omega (arith, was.0), was.1))
+    (λ here. (omega (arith, here.0), ap p here.0 ∙ here.1))
 
 -- Looks
 
@@ -167,22 +180,38 @@ mark_beside marks t c m j off = cell_other no_mark marks t c m t j (λ _ same. o
 
 -- Looks at passive words
 
-shows_clear : (m : Mark) (w : ℕ) → (m.clear ≡ true → w ≡ 0) → (m.clear || (w == 0)) ≡ not (nat_lt 0 w)
-shows_clear m zero zero_if = or_last m.clear (zero == 0) refl
-shows_clear m (suc w) zero_if = either (cases_Bool m.clear)
-    (λ clear. absurd (omega (arith, zero_if clear)))
-    (λ not_yet. rw (not_yet, ne_eqb (suc w) 0 (λ same. omega arith), lt-ltb 0 (suc w) (omega arith)) refl)
+is_none_counted : (w : ℕ) → (w == 0) ≡ not (nat_lt 0 w)
+is_none_counted zero = refl
+is_none_counted (suc w) = rw (ne_eqb (suc w) 0 (λ same. omega arith), lt-ltb 0 (suc w) (omega arith)) refl
 
-pub passive_clears : (s : State) (t c : ℕ) → Holds s → is_retired (slot_at s.slots t) ≡ true
-    → (mark_after_passive_look (mark_at s.marks t c) (passive_at s.passive c t)).clear ≡ not (has_passive s t c)
-passive_clears s t c on gone =
-    let e = is_retired_tells (slot_at s.slots t) gone in
-    shows_clear (mark_at s.marks t c) (passive_at s.passive c t) (λ clear. (on.passive.clear c t e.0 e.1 clear).1)
+shows_clear : (clear none some : Bool) → none ≡ not some → (clear || none) ≡ not (some && not clear)
+shows_clear true none true is = refl
+shows_clear true none false is = refl
+shows_clear false none true is = is
+shows_clear false none false is = is
 
-pub clear_left : (s : State) (t c : ℕ) → Holds s → is_retired (slot_at s.slots t) ≡ true → (mark_at s.marks t c).clear ≡ true → true ≡ not (has_passive s t c)
-clear_left s t c on gone clear =
-    let e = is_retired_tells (slot_at s.slots t) gone in
-    sym (ap (λ (w : ℕ). not (nat_lt 0 w)) (on.passive.clear c t e.0 e.1 clear).1)
+pub passive_clears : (s : State) (t c : ℕ) → (mark_after_passive_look (mark_at s.marks t c) (passive_at s.passive c t)).clear ≡ not (has_passive s t c)
+passive_clears s t c = shows_clear (mark_at s.marks t c).clear (passive_at s.passive c t == 0) (nat_lt 0 (passive_at s.passive c t)) (is_none_counted (passive_at s.passive c t))
+
+-- a CPU that is clear has none
+pub clear_none : (some clear : Bool) → clear ≡ true → (some && not clear) ≡ false
+clear_none true true is = refl
+clear_none false true is = refl
+clear_none some false is = absurd (let q : ◌≡◌ {A = Bool} false true = is in cc)
+
+-- one that isn't clear has what its word counts
+pub unclear_some : (some clear : Bool) → clear ≡ false → (some && not clear) ≡ some
+unclear_some true false is = refl
+unclear_some false false is = refl
+unclear_some some true is = absurd (let q : ◌≡◌ {A = Bool} true false = is in cc)
+
+-- and if it has some, the word counts some
+some_counted : (some clear : Bool) → (some && not clear) ≡ true → some ≡ true
+some_counted true clear is = refl
+some_counted false clear is = absurd (let q : ◌≡◌ {A = Bool} false true = is in cc)
+
+pub clear_left : (s : State) (t c : ℕ) → (mark_at s.marks t c).clear ≡ true → true ≡ not (has_passive s t c)
+clear_left s t c clear = sym (ap not (clear_none (nat_lt 0 (passive_at s.passive c t)) (mark_at s.marks t c).clear clear))
 
 pub examines_passive : (s : State) (t c : ℕ) → at_rest s.due ≡ true → is_retired (slot_at s.slots t) ≡ true → AllPassed s t → c < s.settings.cpus → may_look_passive s t c ≡ true
 examines_passive s t c rest gone passed lt = and_from (may_examine s t c) _ (examines s t c rest gone lt) (passed_from s t passed)
@@ -325,9 +354,44 @@ holders_are_open s on rest t c b e gone in_ may =
     (λ off. absurd (omega (arith, on.grace.changed t was.2.0 c b w.0 e gone was.2.1 in_ w.1 off, may.unended was.2.0 was.2.1))) in
     still_open (begin_at s c) (mark_at s.marks t c).snapshot b w.0 (section_at s c) in_ w.1 same
 
--- passive references stay while only marks change
-pub passive_same : (s n : State) (t c : ℕ) → n ≡ record s { marks = n.marks } → has_passive n t c ≡ has_passive s t c
-passive_same s n t c only = ap (λ (x : State). has_passive x t c) only
+-- a CPU with the same word, that is as clear as it was, has what it had
+passive_kept : (s n : State) (t c : ℕ) → n.passive ≡ s.passive → (mark_at n.marks t c).clear ≡ (mark_at s.marks t c).clear → has_passive n t c ≡ has_passive s t c
+passive_kept s n t c words clear = ap (λ (p : List (List ℕ)). nat_lt 0 (passive_at p c t) && not (mark_at n.marks t c).clear) words ∙ ap (λ (b : Bool). nat_lt 0 (passive_at s.passive c t) && not b) clear
+
+-- passive references stay while only marks change, and the CPU is as clear as it was
+pub passive_same : (s n : State) (t c : ℕ) → n ≡ record s { marks = n.marks } → (mark_at n.marks t c).clear ≡ (mark_at s.marks t c).clear → has_passive n t c ≡ has_passive s t c
+passive_same s n t c only clear = passive_kept s n t c (ap (λ (x : State). x.passive) only) clear
+
+-- The stage that one turn meets
+
+no_number : (o : Option ℕ) → ((c : ℕ) → o ≡ Some c → ⊥) → o ≡ None
+no_number None off = refl
+no_number (Some c) off = absurd (off c refl)
+
+-- looks at section words leave the first CPU with a passive reference
+passive_past : (s m : State) (t : ℕ) → m ≡ record s { marks = m.marks } → MarksPass s.marks m.marks t
+    → least_below (has_passive m t) m.settings.cpus ≡ least_below (has_passive s t) s.settings.cpus
+passive_past s m t only marks =
+    let cpus : m.settings.cpus ≡ s.settings.cpus = ap (λ (x : State). x.settings.cpus) only in
+    ap (least_below (has_passive m t)) cpus ∙ least_agrees (has_passive m t) (has_passive s t) s.settings.cpus (λ c lt. passive_same s m t c only (marks.here c).clear)
+
+-- no section is in the way, and a passive reference is
+pub passive_stage : (s m : State) (t n c : ℕ) (open_ passive : Option ℕ) → open_ ≡ least_below (is_open_since s t) s.settings.cpus → ((d : ℕ) → open_ ≡ Some d → ⊥)
+    → m ≡ record s { marks = m.marks } → MarksPass s.marks m.marks t → passive ≡ least_below (has_passive m t) m.settings.cpus → passive ≡ Some c
+    → Passive c ≡ first_obstacle s t n
+passive_stage s m t n c open_ passive first none only marks second some =
+    let outside : least_below (is_open_since s t) s.settings.cpus ≡ None = sym first ∙ no_number open_ none in
+    let met : least_below (has_passive s t) s.settings.cpus ≡ Some c = sym (passive_past s m t only marks) ∙ (sym second ∙ some) in
+    rw (outside, met) refl
+
+-- neither is: what the total says is the stage
+pub settled_stage : (s m : State) (t n : ℕ) (open_ passive : Option ℕ) (stage : Stage) → open_ ≡ least_below (is_open_since s t) s.settings.cpus → ((d : ℕ) → open_ ≡ Some d → ⊥)
+    → m ≡ record s { marks = m.marks } → MarksPass s.marks m.marks t → passive ≡ least_below (has_passive m t) m.settings.cpus → ((d : ℕ) → passive ≡ Some d → ⊥)
+    → stage ≡ stage_of t None None (held_at s.locals s.hands s.keeps s.due n t) → stage ≡ first_obstacle s t n
+settled_stage s m t n open_ passive stage first none only marks second clear is =
+    let outside : least_below (is_open_since s t) s.settings.cpus ≡ None = sym first ∙ no_number open_ none in
+    let unmet : least_below (has_passive s t) s.settings.cpus ≡ None = sym (passive_past s m t only marks) ∙ (sym second ∙ no_number passive clear) in
+    rw (outside, unmet) is
 
 -- a word that was collected is marked so
 pub collected_there : (s n : State) (t c : ℕ) → Holds s → t < s.settings.slots → c < s.settings.cpus → n ≡ after_total (after_collect s t c) t (total_at s.totals t + count_at s.counts c t - bias)
@@ -354,18 +418,17 @@ stage_acts s n t d (Freed u) seated left acts = ap (λ (x : State). may_act x d)
 
 -- Advances one after the other
 
-least_same : (p q : ℕ → Bool) (n : ℕ) → ((c : ℕ) → p c ≡ q c) → least_below p n ≡ least_below q n
-least_same p q zero same = refl
-least_same p q (suc n) same = rw (least_same p q n same, same n) refl
-
--- a stage stays while only seats, marks, counts and totals change
+-- a stage stays while only seats, marks, counts and totals change, and the first passive reference in its way is the same
 stage_kept : (s m : State) (t n : ℕ) → m ≡ record s { seated = s.settings.cpus; marks = m.marks; counts = m.counts; totals = m.totals } → MarksGrow s.marks m.marks t
+    → least_below (has_passive m t) s.settings.cpus ≡ least_below (has_passive s t) s.settings.cpus
     → first_obstacle m t n ≡ first_obstacle s t n
-stage_kept s m t n only marks =
+stage_kept s m t n only marks passive =
+    let cpus : m.settings.cpus ≡ s.settings.cpus = ap (λ (x : State). x.settings.cpus) only in
     let open_ : (c : ℕ) → is_open_since m t c ≡ is_open_since s t c = λ c. rw (ap (λ (x : State). x.begins) only, ap (λ (x : State). x.section) only, (marks.here c).snapshot) refl in
     let first : least_below (is_open_since m t) m.settings.cpus ≡ least_below (is_open_since s t) s.settings.cpus =
-    least_same (is_open_since m t) (is_open_since s t) m.settings.cpus open_ ∙ ap (λ (x : State). least_below (is_open_since s t) x.settings.cpus) only in
-    let second : least_below (has_passive m t) m.settings.cpus ≡ least_below (has_passive s t) s.settings.cpus = ap (λ (x : State). least_below (has_passive x t) x.settings.cpus) only in
+    ap (least_below (is_open_since m t)) cpus ∙ least_agrees (is_open_since m t) (is_open_since s t) s.settings.cpus (λ c lt. open_ c) in
+    let second : least_below (has_passive m t) m.settings.cpus ≡ least_below (has_passive s t) s.settings.cpus =
+    ap (least_below (has_passive m t)) cpus ∙ passive in
     let third : held_at m.locals m.hands m.keeps m.due n t ≡ held_at s.locals s.hands s.keeps s.due n t = ap (λ (x : State). held_at x.locals x.hands x.keeps x.due n t) only in
     rw (first, second, third) refl
 
@@ -375,11 +438,46 @@ is_freed (Passive c) = false
 is_freed (Local k) = false
 is_freed (Freed t) = true
 
-pub stage_again : (s m : State) (t n : ℕ) (stage : Stage) → is_freed stage ≡ false → StageLeaves s m t stage → first_obstacle m t n ≡ first_obstacle s t n
-stage_again s m t n (Local k) held left = stage_kept s m t n left.only left.marks
-stage_again s m t n (Freed u) held left = absurd (let q : ◌≡◌ {A = Bool} true false = held in cc)
-stage_again s m t n _ held left =
-    stage_kept s m t n (subst (λ (x : State). x ≡ record s { seated = s.settings.cpus; marks = x.marks; counts = x.counts; totals = x.totals }) (sym left.only) refl) left.marks
+-- what a stage says of the CPUs that have passive references
+some_met : (t k c : ℕ) (open_ passive : Option ℕ) → stage_of t open_ passive k ≡ Passive c → passive ≡ Some c
+some_met t k c (Some d) passive is = absurd (let q : Grace d ≡ Passive c = is in cc)
+some_met t k c None (Some d) is = let q : Passive d ≡ Passive c = is in cc
+some_met t zero c None None is = absurd (let q : Freed t ≡ Passive c = is in cc)
+some_met t (suc k) c None None is = absurd (let q : Local (suc k) ≡ Passive c = is in cc)
+
+none_met : (t k j : ℕ) (open_ passive : Option ℕ) → stage_of t open_ passive k ≡ Local j → passive ≡ None
+none_met t k j (Some d) passive is = absurd (let q : Grace d ≡ Local j = is in cc)
+none_met t k j None (Some d) is = absurd (let q : Passive d ≡ Local j = is in cc)
+none_met t k j None None is = refl
+
+-- the first with a passive reference is the first that isn't clear after the looks
+passive_below : (s m : State) (t c : ℕ) → m.passive ≡ s.passive → ClearBelow s m t c → least_below (has_passive s t) s.settings.cpus ≡ Some c
+    → least_below (has_passive m t) s.settings.cpus ≡ Some c
+passive_below s m t c words noted least =
+    let met = least_some (has_passive s t) s.settings.cpus c least in
+    let counts : nat_lt 0 (passive_at m.passive c t) ≡ true =
+    ap (λ (p : List (List ℕ)). nat_lt 0 (passive_at p c t)) words ∙ some_counted (nat_lt 0 (passive_at s.passive c t)) (mark_at s.marks t c).clear met.1 in
+    least_is (has_passive m t) c s.settings.cpus met.0
+    (unclear_some (nat_lt 0 (passive_at m.passive c t)) (mark_at m.marks t c).clear noted.here ∙ counts)
+    (λ d lt. clear_none (nat_lt 0 (passive_at m.passive d t)) (mark_at m.marks t d).clear (noted.below d lt))
+
+-- what else stays while only seats and marks change
+marks_only : (s m : State) → m ≡ record s { seated = s.settings.cpus; marks = m.marks } → m ≡ record s { seated = s.settings.cpus; marks = m.marks; counts = m.counts; totals = m.totals }
+marks_only s m only = subst (λ (x : State). x ≡ record s { seated = s.settings.cpus; marks = x.marks; counts = x.counts; totals = x.totals }) (sym only) refl
+
+pub stage_again : (s m : State) (t n : ℕ) (stage : Stage) → is_freed stage ≡ false → first_obstacle s t n ≡ stage → StageLeaves s m t stage → StageMarks s m t stage
+    → first_obstacle m t n ≡ first_obstacle s t n
+stage_again s m t n (Grace c) held met left noted = stage_kept s m t n (marks_only s m left.only) left.marks
+    (least_agrees (has_passive m t) (has_passive s t) s.settings.cpus (λ d lt. passive_kept s m t d (ap (λ (x : State). x.passive) left.only) (noted.marks.here d).clear))
+stage_again s m t n (Passive c) held met left noted =
+    let least = some_met t _ c _ _ met in
+    stage_kept s m t n (marks_only s m left.only) left.marks (passive_below s m t c (ap (λ (x : State). x.passive) left.only) noted least ∙ sym least)
+stage_again s m t n (Local k) held met left noted =
+    let cpus : m.settings.cpus ≡ s.settings.cpus = ap (λ (x : State). x.settings.cpus) left.only in
+    stage_kept s m t n left.only left.marks
+    (none_below (has_passive m t) s.settings.cpus (λ d lt. clear_none (nat_lt 0 (passive_at m.passive d t)) (mark_at m.marks t d).clear (noted.clear d (omega (arith, lt, cpus))))
+    ∙ sym (none_met t _ k _ _ met))
+stage_again s m t n (Freed u) held met left noted = absurd (let q : ◌≡◌ {A = Bool} true false = held in cc)
 
 pub slots_again : (s m : State) (t : ℕ) (stage : Stage) → is_freed stage ≡ false → StageLeaves s m t stage → m.slots ≡ s.slots
 slots_again s m t (Freed u) held left = absurd (let q : ◌≡◌ {A = Bool} true false = held in cc)
@@ -418,12 +516,18 @@ marks_of_turns s m n t (Passive c) x y = record {
 }
 marks_of_turns s m n t _ x y = y
 
+pub same_Ok : (a b : Stage) → ◌≡◌ {A = Result Stage Refusal} (Ok a) (Ok b) → a ≡ b
+same_Ok a b is = cc
+
 -- the answer is the same the next time, where nothing was freed
-pub answer_again : (s m : State) (number : ℕ) (stage : Stage) → is_freed stage ≡ false → AdvanceLeaves s m number (Ok stage) → advance_answer m number ≡ advance_answer s number
-answer_again s m number stage held left =
+pub answer_again : (s m : State) (number : ℕ) (stage : Stage) → is_freed stage ≡ false → Ok stage ≡ advance_answer s number → AdvanceLeaves s m number (Ok stage)
+    → AdvanceMarks s m number (Ok stage) → advance_answer m number ≡ advance_answer s number
+answer_again s m number stage held is left noted =
     let slots = slots_again s m left.0 stage held left.2 in
     let place : retired_slot m.slots number ≡ Some left.0 = ap (λ (x : List Slot). retired_slot x number) slots ∙ left.1 in
-    rw (place, left.1) (ap (λ (x : Stage). Ok x) (stage_again s m left.0 number stage held left.2))
+    let one : noted.0 ≡ left.0 = same_Some noted.0 left.0 (sym noted.1 ∙ left.1) in
+    let met : first_obstacle s left.0 number ≡ stage = sym (same_Ok stage (first_obstacle s left.0 number) (is ∙ ap (stage_in s number) left.1)) in
+    rw (place, left.1) (ap (λ (x : Stage). Ok x) (stage_again s m left.0 number stage held met left.2 (subst (λ (k : ℕ). StageMarks s m k stage) one noted.2)))
 
 pub advance_again : (s m n : State) (number : ℕ) (stage next : Stage) → is_freed stage ≡ false → AdvanceLeaves s m number (Ok stage) → AdvanceLeaves m n number (Ok next) → next ≡ stage
     → AdvanceLeaves s n number (Ok next)
@@ -446,6 +550,3 @@ marks_again s m n number stage next held left x y same =
 pub not_freed : (stage : Stage) → ((t : ℕ) → stage ≡ Freed t → ⊥) → is_freed stage ≡ false
 not_freed (Freed t) off = absurd (off t refl)
 not_freed _ off = refl
-
-pub same_Ok : (a b : Stage) → ◌≡◌ {A = Result Stage Refusal} (Ok a) (Ok b) → a ≡ b
-same_Ok a b is = cc

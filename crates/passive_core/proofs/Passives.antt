@@ -1,9 +1,9 @@
 -- What the commands on passive references rest on.
-use Rattle.std.proofs.Common.{◌≡◌, ℕ, ◌+◌, ◌-◌, ◌<◌, Option, Some, None, IsSome, Bool, true, false, not, ◌&&◌, ◌||◌, nat_lt, refl, sym, ap, subst, ◌∙◌}
+use Rattle.std.proofs.Common.{◌≡◌, ℕ, ◌+◌, ◌-◌, ◌<◌, Option, Some, None, IsSome, Bool, true, false, not, ◌&&◌, ◌||◌, nat_lt, refl, sym, ap, subst, ◌∙◌, arith}
 use Rattle.std.proofs.lemmas.Bool.{or_cases, or_right, cases_lt, le-ltb}
 use Rattle.passive_core.specs.Types.{Entry, PassiveAdd, PassiveSub, Reply, Word}
 use Rattle.protocol.specs.Common.{State, found_at, passive_at, row_at, with_cell, IsAttached, Outcome, is_idle, is_number, after_add, after_sub, load_passive, state_after, step, some_outcome, word}
-use Rattle.protocol.specs.Common.{words_of, Holds, passive_in}
+use Rattle.protocol.specs.Common.{words_of, Holds, passive_in, trying_at}
 use Rattle.registry_values.specs.Names.{are_name_words}
 use Rattle.registry_values.specs.Common.{slot_of}
 use Rattle.passive_core.specs.Common.{all_seated, may_act, IsOneLess, IsOneMore, passive_of, with_one_more, with_one_less}
@@ -11,7 +11,7 @@ use Rattle.protocol.proofs.slots.Numbers.{entry_attached, occupied_slot}
 use Rattle.protocol.proofs.keeps.Passive.{found_number}
 use Rattle.protocol.proofs.model.RefiningReferences.{passive_put}
 use Rattle.protocol.proofs.slots.Occupied.{slot_has}
-use Rattle.passive_core.proofs.Acting.{acting_idle}
+use Rattle.passive_core.proofs.Acting.{acting_idle, idle_untried}
 use Rattle.protocol.proofs.Either.{either}
 
 -- A CPU that may act is idle once all have their seats.
@@ -33,9 +33,9 @@ found_slot s c e on found =
     let open_ = on.last_found c e found in
     occupied_slot s.history s.slots e.number on.slots (e.slot, e, on.held c open_.0 e open_.1 open_.2, refl)
 
-held_slot : (passive : _) (c : ℕ) (o : Option ℕ) → nat_lt 0 (passive_in passive c o) ≡ true → (t : ℕ) × (o ≡ Some t)
-held_slot passive c None held = absurd (let q : ◌≡◌ {A = Bool} false true = held in cc)
-held_slot passive c (Some t) held = (t, refl)
+held_slot : (passive : _) (hands : _) (c : ℕ) (o : Option ℕ) → nat_lt 0 (passive_in passive hands c o) ≡ true → (t : ℕ) × (o ≡ Some t)
+held_slot passive hands c None held = absurd (let q : ◌≡◌ {A = Bool} false true = held in cc)
+held_slot passive hands c (Some t) held = (t, refl)
 
 pub has_slot : (s : State) (c n : ℕ) → Holds s → (is_number n (found_at s c) || nat_lt 0 (passive_of s c n)) ≡ true → (t : ℕ) × (slot_of s.slots n ≡ Some t)
 has_slot s c n on has = either (or_cases (is_number n (found_at s c)) (nat_lt 0 (passive_of s c n)) has)
@@ -43,7 +43,13 @@ has_slot s c n on has = either (or_cases (is_number n (found_at s c)) (nat_lt 0 
     let found = found_number n (found_at s c) is in
     let at = found_slot s c found.0 on found.1 in
     (at.0, ap (slot_of s.slots) (sym found.2) ∙ at.1))
-    (λ held. held_slot s.passive c (slot_of s.slots n) held)
+    (λ held. held_slot s.passive s.hands c (slot_of s.slots n) held)
+
+-- what the word of a CPU that is trying nothing counts are references
+pub counted_is : (s : State) (c n t : ℕ) → slot_of s.slots n ≡ Some t → trying_at s.hands c t ≡ 0 → passive_of s c n ≡ passive_at s.passive c t
+counted_is s c n t of untried =
+    let word : passive_at s.passive c t - trying_at s.hands c t ≡ passive_at s.passive c t = omega (arith, untried) in
+    ap (passive_in s.passive s.hands c) of ∙ word
 
 -- The addition and the subtraction that a command makes, once all CPUs have their seats.
 
@@ -51,15 +57,15 @@ adds : (s : State) (c n t : ℕ) → slot_of s.slots n ≡ Some t → is_idle s 
     → nat_lt (passive_of s c n) s.settings.passive_limit ≡ true
     → step s (PassiveAdd c n) ≡ Some (record { state = after_add s c t; reply = Word (passive_at s.passive c t) })
 adds s c n t of idle has room =
-    let has_at : (is_number n (found_at s c) || nat_lt 0 (passive_at s.passive c t)) ≡ true =
-    subst (λ (o : Option ℕ). (is_number n (found_at s c) || nat_lt 0 (passive_in s.passive c o)) ≡ true) of has in
-    let room_at : nat_lt (passive_at s.passive c t) s.settings.passive_limit ≡ true = subst (λ (o : Option ℕ). nat_lt (passive_in s.passive c o) s.settings.passive_limit ≡ true) of room in
+    let word = counted_is s c n t of (idle_untried s c t idle) in
+    let has_at : (is_number n (found_at s c) || nat_lt 0 (passive_at s.passive c t)) ≡ true = subst (λ (k : ℕ). (is_number n (found_at s c) || nat_lt 0 k) ≡ true) word has in
+    let room_at : nat_lt (passive_at s.passive c t) s.settings.passive_limit ≡ true = subst (λ (k : ℕ). nat_lt k s.settings.passive_limit ≡ true) word room in
     rw (of, idle, has_at, room_at) refl
 
 subs : (s : State) (c n t : ℕ) → slot_of s.slots n ≡ Some t → is_idle s c ≡ true → nat_lt 0 (passive_of s c n) ≡ true
     → step s (PassiveSub c n) ≡ Some (record { state = after_sub s c t; reply = Word (passive_at s.passive c t) })
 subs s c n t of idle held =
-    let held_at : nat_lt 0 (passive_at s.passive c t) ≡ true = subst (λ (o : Option ℕ). nat_lt 0 (passive_in s.passive c o) ≡ true) of held in
+    let held_at : nat_lt 0 (passive_at s.passive c t) ≡ true = subst (λ (k : ℕ). nat_lt 0 k ≡ true) (counted_is s c n t of (idle_untried s c t idle)) held in
     rw (of, idle, held_at) refl
 
 pub made : (s : State) (o p : Option Outcome) (v : State) (r : Reply) → o ≡ p → o ≡ Some (record { state = v; reply = r }) → v ≡ state_after s p
@@ -87,32 +93,34 @@ added s u v c n r on seated idle has room was =
 
 pub sub_allowed : (s u : State) (c n : ℕ) → u ≡ all_seated s → is_idle u c ≡ true → nat_lt 0 (passive_of s c n) ≡ true → IsSome (step u (PassiveSub c n))
 sub_allowed s u c n seated idle held =
-    let t = held_slot s.passive c (slot_of s.slots n) held in
+    let t = held_slot s.passive s.hands c (slot_of s.slots n) held in
     subst (λ (x : State). IsSome (step x (PassiveSub c n))) (sym seated)
     (is_some (step (all_seated s) (PassiveSub c n)) _ (subs (all_seated s) c n t.0 t.1 (subst (λ (x : State). is_idle x c ≡ true) seated idle) held) refl)
 
 pub subbed : (s u v : State) (c n : ℕ) (r : Reply) → u ≡ all_seated s → is_idle u c ≡ true → nat_lt 0 (passive_of s c n) ≡ true
     → step u (PassiveSub c n) ≡ Some (record { state = v; reply = r }) → v ≡ with_one_less s c (slot_of s.slots n)
 subbed s u v c n r seated idle held was =
-    let t = held_slot s.passive c (slot_of s.slots n) held in
+    let t = held_slot s.passive s.hands c (slot_of s.slots n) held in
     made s (step (all_seated s) (PassiveSub c n)) _ v r (subs (all_seated s) c n t.0 t.1 (subst (λ (x : State). is_idle x c ≡ true) seated idle) held)
     (subst (λ (x : State). step x (PassiveSub c n) ≡ Some (record { state = v; reply = r })) seated was)
     ∙ ap (with_one_less s c) (sym t.1)
 
 -- The multiset of the passive references after one more, or one less.
-pub counted_more : (s : State) (c n : ℕ) → Holds s → c < s.settings.cpus → (is_number n (found_at s c) || nat_lt 0 (passive_of s c n)) ≡ true → IsOneMore s (with_one_more s c (slot_of s.slots n)) c n
-counted_more s c n on low has d m =
+pub counted_more : (s : State) (c n : ℕ) → Holds s → c < s.settings.cpus → ((t : ℕ) → trying_at s.hands c t ≡ 0)
+    → (is_number n (found_at s c) || nat_lt 0 (passive_of s c n)) ≡ true → IsOneMore s (with_one_more s c (slot_of s.slots n)) c n
+counted_more s c n on low untried has d m =
     let t = has_slot s c n on has in
-    let put_it = passive_put s c n t.0 (passive_of s c n + 1) on low t.1 d m in
+    let put_it = passive_put s c n t.0 (passive_of s c n + 1) on low t.1 (untried t.0) d m in
     ap (λ (o : Option ℕ). passive_of (with_one_more s c o) d m) t.1
-    ∙ (ap (λ (o : Option ℕ). passive_in (with_cell s.passive t.0 c (passive_in s.passive c o + 1)) d (slot_of s.slots m)) (sym t.1) ∙ sym put_it)
+    ∙ (ap (λ (k : ℕ). passive_in (with_cell s.passive t.0 c (k + 1)) s.hands d (slot_of s.slots m)) (sym (counted_is s c n t.0 t.1 (untried t.0))) ∙ sym put_it)
 
-pub counted_less : (s : State) (c n : ℕ) → Holds s → c < s.settings.cpus → nat_lt 0 (passive_of s c n) ≡ true → IsOneLess s (with_one_less s c (slot_of s.slots n)) c n
-counted_less s c n on low held d m =
-    let t = held_slot s.passive c (slot_of s.slots n) held in
-    let put_it = passive_put s c n t.0 (passive_of s c n - 1) on low t.1 d m in
+pub counted_less : (s : State) (c n : ℕ) → Holds s → c < s.settings.cpus → ((t : ℕ) → trying_at s.hands c t ≡ 0) → nat_lt 0 (passive_of s c n) ≡ true
+    → IsOneLess s (with_one_less s c (slot_of s.slots n)) c n
+counted_less s c n on low untried held d m =
+    let t = held_slot s.passive s.hands c (slot_of s.slots n) held in
+    let put_it = passive_put s c n t.0 (passive_of s c n - 1) on low t.1 (untried t.0) d m in
     ap (λ (o : Option ℕ). passive_of (with_one_less s c o) d m) t.1
-    ∙ (ap (λ (o : Option ℕ). passive_in (with_cell s.passive t.0 c (passive_in s.passive c o - 1)) d (slot_of s.slots m)) (sym t.1) ∙ sym put_it)
+    ∙ (ap (λ (k : ℕ). passive_in (with_cell s.passive t.0 c (k - 1)) s.hands d (slot_of s.slots m)) (sym (counted_is s c n t.0 t.1 (untried t.0))) ∙ sym put_it)
 
 -- What the loads by a passive reference show: the words of the entry that has the number.
 
@@ -129,11 +137,11 @@ loads_at s c n t k e of idle some few row = rw (of, idle, some, few, row) refl
 
 pub passive_shows : (s : State) (c n : ℕ) → Holds s → is_idle s c ≡ true → nat_lt 0 (passive_of s c n) ≡ true → ShowsRecord s n (load_passive s c n)
 passive_shows s c n on idle held =
-    let t = held_slot s.passive c (slot_of s.slots n) held in
+    let t = held_slot s.passive s.hands c (slot_of s.slots n) held in
     let has = slot_has s.slots n t.0 t.1 in
     let e = has.1.0 in
     let row = on.rows t.0 e has.1.1 in
-    let some : nat_lt 0 (passive_at s.passive c t.0) ≡ true = subst (λ (o : Option ℕ). nat_lt 0 (passive_in s.passive c o) ≡ true) t.1 held in
+    let some : nat_lt 0 (passive_at s.passive c t.0) ≡ true = subst (λ (k : ℕ). nat_lt 0 k ≡ true) (counted_is s c n t.0 t.1 (idle_untried s c t.0 idle)) held in
     record {
       entry = e;
       attached = (entry_attached s.history s.slots e t.0 on.slots has.1.1).0;

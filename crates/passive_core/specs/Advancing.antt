@@ -1,5 +1,5 @@
 -- How far the destruction of a retired entry has come, in plain terms, and what the keeper's work on it leaves.
-use Rattle.std.specs.Prelude.{◌≡◌, ◌<◌, ℕ, ◌+◌, ◌==◌, nat_lt, List, Option, Some, None, Bool, true, false, ◌&&◌, Result, Ok, Err, slice_set}
+use Rattle.std.specs.Prelude.{◌≡◌, ◌<◌, ℕ, ◌+◌, ◌==◌, nat_lt, List, Option, Some, None, Bool, true, false, not, ◌&&◌, Result, Ok, Err, slice_set}
 use Rattle.passive_core.specs.Types.{Entry, Refusal, StillHeld, Stage, Grace, Passive, Local, Freed, Mark, Slot, Vacant, Retired}
 use Rattle.protocol.specs.Common.{MayHold, State, section_at, begin_at, mark_at, passive_at, count_at, total_at, kept_at, is_inside, held_at, one_if, AllClear, AllCollected, AllPassed, MarksGrow}
 use Rattle.protocol.specs.Common.{SameElsewhere}
@@ -15,9 +15,9 @@ is_snapshot (Some x) w = x == w
 abbrev pub is_open_since : State → ℕ → ℕ → Bool
 is_open_since s t c = is_inside s c && is_snapshot (mark_at s.marks t c).snapshot (section_at s c)
 
--- c has a passive reference to the entry in t
+-- the passive word of c for t isn't 0, and c isn't clear: c has a passive reference to the entry in t, or is trying to get one in t
 abbrev pub has_passive : State → ℕ → ℕ → Bool
-has_passive s t c = nat_lt 0 (passive_at s.passive c t)
+has_passive s t c = nat_lt 0 (passive_at s.passive c t) && not (mark_at s.marks t c).clear
 
 -- what stands between the retired entry n in the slot t and the freeing of t
 abbrev pub first_obstacle : State → ℕ → ℕ → Stage

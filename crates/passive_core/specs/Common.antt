@@ -1,6 +1,6 @@
 -- The definitions of this crate that proofs and the crates above cite, and for its own proofs its types, passed on from one place. Declares nothing.
 pub use Rattle.passive_core.specs.declared.machine.commands.attach.Before.{Before}
-pub use Rattle.passive_core.specs.Advancing.{AdvanceLeaves, AdvanceMarks, Clears, DestroyLeaves, Empties, Gathers, HoldersAreOpen, LeavesFree, LeavesMarks, LeavesTotal, MarksClear, MarksPass, Passes}
+pub use Rattle.passive_core.specs.Advancing.{AdvanceLeaves, AdvanceMarks, ClearBelow, Clears, DestroyLeaves, Empties, Gathers, HoldersAreOpen, LeavesFree, LeavesMarks, LeavesTotal, MarksClear, MarksPass, Passes}
 pub use Rattle.passive_core.specs.Advancing.{SameBut, Settles, StageLeaves, StageMarks, advance_answer, count_given_up, destroy_answer, first_obstacle, has_passive, is_open_since, is_snapshot}
 pub use Rattle.passive_core.specs.Advancing.{stage_in}
 pub use Rattle.passive_core.specs.Attaching.{IsAnswer, after_attach, after_attach_iface, attach_answer, attach_iface_answer, first_fit, given_entry, is_driver_in, is_driver_number, is_to_driver}

@@ -6,9 +6,9 @@ use Rattle.protocol.specs.Common.{IsAttached, State, after_add, after_sub, load_
 use Rattle.registry_values.specs.Common.{unless, why_full, why_unusable, slot_of}
 use Rattle.passive_core.specs.Commands.{all_seated}
 
--- how many passive references the CPU c has to the entry n
+-- how many passive references the CPU c has to the entry n; what it is trying is none
 abbrev pub passive_of : State → ℕ → ℕ → ℕ
-passive_of s c n = passive_in s.passive c (slot_of s.slots n)
+passive_of s c n = passive_in s.passive s.hands c (slot_of s.slots n)
 
 -- the multiset of all CPUs' passive references has one of c to n more, or less, and is else as it was
 abbrev pub IsOneMore : State → State → ℕ → ℕ → Type 0

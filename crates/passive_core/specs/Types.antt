@@ -18,7 +18,7 @@ pub use Rattle.registry_values.specs.declared.stage.Stage.TheVariants.{Freed, Gr
 pub use Rattle.protocol.specs.declared.event.Event.{Event}
 pub use Rattle.protocol.specs.declared.event.Event.TheVariants.{Collect, CountAdd, CountDown, Enter, Exit, Hear, JoinKeeper, JoinRef, Keep, KeptSub, LoadLink, LoadRecord, Look, PassiveAdd}
 pub use Rattle.protocol.specs.declared.event.Event.TheVariants.{PassiveLook, PassiveSub, Publish, Seat, Seek, Snapshot, SplitBack, SplitRef, StoreNext, StoreSlot, Tell, TotalAdd, TotalSub, Unpublish}
-pub use Rattle.protocol.specs.declared.event.Event.TheVariants.{Count, Peek, Vacate}
+pub use Rattle.protocol.specs.declared.event.Event.TheVariants.{Confirm, Count, Peek, TakeBack, Try, Vacate}
 pub use Rattle.protocol.specs.declared.event.RecordOf.{RecordOf}
 pub use Rattle.protocol.specs.declared.event.Reply.{Reply}
 pub use Rattle.protocol.specs.declared.event.Reply.TheVariants.{Collected, Done, Found, Missed, Ref, Word}
@@ -26,7 +26,7 @@ pub use Rattle.protocol.specs.declared.event.StepFault.{StepFault}
 pub use Rattle.protocol.specs.declared.state.Due.{Due}
 pub use Rattle.protocol.specs.declared.state.Due.TheVariants.{Adding, Rest, Snapshots, Subtracting}
 pub use Rattle.protocol.specs.declared.state.Hand.{Hand}
-pub use Rattle.protocol.specs.declared.state.Hand.TheVariants.{Back, Empty, Giving, Taking}
+pub use Rattle.protocol.specs.declared.state.Hand.TheVariants.{Back, Empty, Giving, Taking, Trying}
 pub use Rattle.protocol.specs.declared.state.Loaded.TheVariants.{On, Over}
 pub use Rattle.protocol.specs.declared.state.LocalPlace.{LocalPlace}
 pub use Rattle.protocol.specs.declared.state.LocalPlace.TheVariants.{Free, Lifted, Standing}

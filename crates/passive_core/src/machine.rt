@@ -12,6 +12,7 @@ mod run;
 mod sameness;
 mod search;
 mod sections;
+mod tries;
 
 ghost use Rattle.std.specs.Prelude.{◌≡◌, ◌↔◌, ◌++◌, ◌∷◌, ◌<◌, ◌≤◌, [], IfOk, IfErr, IsErrOf, IsTrue, OnErr, OnOk, false, replicate, vec_capacity, vec_len};
 ghost use Rattle.registry_values.specs.Common.{are_fit, IsRefusalOfNew};

@@ -8,6 +8,7 @@ use Rattle.registry_values.specs.Common.{are_words_of}
 use Rattle.protocol.specs.Common.{IsAttached, IsLawful, entry_with, loaded_of_name}
 use Rattle.cpu_words.specs.Common.{MayPeek, HasPeeked, HasPeekedLink, HasPeekedWord, HasBegunPeek, HasEndedPeek, SeatMakes, Seated, peek_at, link_place, place_after, word_place, IsShownCpu, did, log_item}
 use Rattle.passive_list.specs.Common.{Found, NumberedCount, Seen, IsOurCpu, after_visit, entry_seen, ComesTo, HasBegunByLoads, HasComeTo, HasLookedByLoads, HasVisitedByLoads, GoesBy, GoesOnBy, IsAtEntry, IsPeek, IsPeekingAt, IsPeekingLink, LoadsBetweenCounts}
+use Rattle.passive_list.specs.Common.{HasGoneByLoads, LoadsFromCount, begun_peek}
 use Rattle.cpu_words.proofs.shown.CpusShown.{begun_whole}
 use Rattle.passive_list.proofs.Logs.{goes_on, one_more}
 use Rattle.passive_list.proofs.Agreeing.{passive_longer, net_same, own_agrees}
@@ -194,13 +195,12 @@ looked_by_loads key x v y z first last old new came result begins loads came_to 
           record { lawful = right.0; seen = right.1 };
     }
 
--- the data agree with the view
-pub looked_agrees : (z : TableId) (a : Settings) (t u : TableId) (x y : CpuView) (c w d : ℕ) (e : Found) (ps ns : List NumberedCount) (key : Key) (old new : List LogItem) (result : Option (Option Seen))
-    → IsOurCpu z a t x c w d e ps ns → IsShownCpu y → u ≡ t → HasLookedByLoads key x y old new result → IsOurCpu u y.settings u y c w d e ps ns
-looked_agrees z a t u x y c w d e ps ns key old new result our is_shown same had =
+-- the data agree with the view as its pass grows, and its peek is another
+pub peeked_agrees : (z : TableId) (a : Settings) (t u : TableId) (x y : CpuView) (c w d : ℕ) (e : Found) (ps ns : List NumberedCount) (o : Option Peeking)
+    → IsOurCpu z a t x c w d e ps ns → IsShownCpu y → u ≡ t → IsPrefix x.pass y.pass → y ≡ record x { pass = y.pass; peek = o } → IsOurCpu u y.settings u y c w d e ps ns
+peeked_agrees z a t u x y c w d e ps ns o our is_shown same longer is =
     let p = y.pass in
-    let z0 : CpuView = record x { pass = p; peek = None } in
-    let longer : IsPrefix x.pass p = prefix_trans x.pass had.first.pass p had.begins.begun.0 had.until in
+    let z0 : CpuView = record x { pass = p; peek = o } in
     let there : IsOurCpu z a u z0 c w d e ps ns = record {
       table = same ∙ our.table;
       settings = our.settings;
@@ -213,9 +213,15 @@ looked_agrees z a t u x y c w d e ps ns key old new result our is_shown same had
       found = our.found;
       passive = passive_longer x z0 ps refl longer our.passive;
       net = net_same x z0 ns refl refl refl our.net;
-      is_shown = subst IsShownCpu had.is is_shown;
+      is_shown = subst IsShownCpu is is_shown;
     } in
-    own_agrees z a u y c w d e ps ns (subst (λ (v : CpuView). IsOurCpu z a u v c w d e ps ns) (sym had.is) there)
+    own_agrees z a u y c w d e ps ns (subst (λ (v : CpuView). IsOurCpu z a u v c w d e ps ns) (sym is) there)
+
+-- the data agree with the view
+pub looked_agrees : (z : TableId) (a : Settings) (t u : TableId) (x y : CpuView) (c w d : ℕ) (e : Found) (ps ns : List NumberedCount) (key : Key) (old new : List LogItem) (result : Option (Option Seen))
+    → IsOurCpu z a t x c w d e ps ns → IsShownCpu y → u ≡ t → HasLookedByLoads key x y old new result → IsOurCpu u y.settings u y c w d e ps ns
+looked_agrees z a t u x y c w d e ps ns key old new result our is_shown same had =
+    peeked_agrees z a t u x y c w d e ps ns None our is_shown same (prefix_trans x.pass had.first.pass y.pass had.begins.begun.0 had.until) had.is
 
 -- The log
 
@@ -263,7 +269,11 @@ linked_on key x y w q link (Ok next) at gone = record {
   slots = subst (λ (a : Settings). next ≤ a.slots) (same_settings x y (Some (peek_at q (link_place link))) at.come) gone.slots;
   most = gone.most;
 }
-linked_on key x y w q link (Err s) at gone = (come_on x y w q (link_place link) (Finds (entry_with key s.slot s.number s.value)) at.come gone.0, gone.1)
+linked_on key x y w q link (Err s) at gone = (
+  come_on x y w q (link_place link) (Finds (entry_with key s.slot s.number s.value)) at.come gone.0,
+  gone.1,
+  subst (λ (a : Settings). s.slot < a.slots) (same_settings x y (Some (peek_at q (link_place link))) at.come) gone.2,
+)
 
 -- of each peek of the view before
 abbrev pub GoesOnFrom : Key → CpuView → Result ℕ Seen → CpuView → Type 0
@@ -314,7 +324,7 @@ gone_by_one key x v w link n next visited told q is = next_linked key x v w q (l
 pub found_by_one : (key : Key) (x v w : CpuView) (link n value : ℕ) → IsAtEntry x key link → HasVisitedByLoads x (link - 1) n true v → HasPeekedWord v value w
     → GoesOnFrom key x (Err (record { number = n; slot = link - 1; value = value })) w
 found_by_one key x v w link n value may visited told q is =
-    (taken key x v w (AtNumber (link - 1)) q (link - 1) n value may.peeking is (visited q is) told, (entry_within key x link may).0)
+    (taken key x v w (AtNumber (link - 1)) q (link - 1) n value may.peeking is (visited q is) told, (entry_within key x link may).0, (entry_within key x link may).1)
 
 -- From the head on
 
@@ -344,10 +354,6 @@ come_upon key x y w link s going gone = came_for key x w (Some (Some s)) going.p
 
 -- Before the end
 
--- the peek that has just begun
-abbrev begun_peek : Key → CpuView → ℕ → Peeking
-begun_peek key v n = record { key = key; number = n; from = length v.pass; place = Goes AtHead }
-
 pub ends_unsearching : (key : Key) (x v y : CpuView) (n : ℕ) (came : Option (Option Seen)) → x.search ≡ None → HasBegunPeek key x n v → ((q : Peeking) → v.peek ≡ Some q → ComesTo key v q came y) → y.search ≡ None
 ends_unsearching key x v y n came idle begun came_to =
     let q = begun_peek key v n in
@@ -360,3 +366,44 @@ ends_id key x v y n came begun came_to =
 
 pub disturbed : (s : Option Seen) → ◌≡◌ {A = Option (Option Seen)} None (Some s) → (A : Type 0) → A
 disturbed s is A = absurd (let a : ◌≡◌ {A = Option (Option Seen)} None (Some s) = is in cc)
+
+-- A lookup that isn't over
+
+pub gone_by_loads : (key : Key) (c n : ℕ) (x v y : CpuView) (l0 l1 l2 : List LogItem) (came : Option (Option Seen)) → x.id ≡ c → HasBegunByLoads key x n v → l1 ≡ l0 ++ did (Peek c Changes) (Word n)
+    → GoesOnBy (IsPeek c) l1 l2 → ((q : Peeking) → v.peek ≡ Some q → ComesTo key v q came y) → HasGoneByLoads key x y l0 l2 n came
+gone_by_loads key c n x v y l0 l1 l2 came id begins first between came_to =
+    let ds = between.since in
+    let start = did (Peek c Changes) (Word n) in
+    let are : l2 ≡ l0 ++ (start ++ ds) = between.are ∙ (ap (λ (l : List LogItem). l ++ ds) first ∙ append_assoc l0 start ds) in record {
+      first = v;
+      begins = begins;
+      loads = subst (λ (d : ℕ). LoadsFromCount d n l0 l2) (sym id) (record { between = ds; are = are; only = between.only });
+      comes = came_to (begun_peek key v n) (ap (λ (i : CpuView). i.peek) begins.begun.1);
+    }
+
+-- a lookup changes the pass and the peek alone
+pub record Reaches (key : Key) (x y : CpuView) (n : ℕ) (came : Option (Option Seen)) (first : CpuView) : Type 0 where
+  pub place : PeekPlace
+  pub peek : y.peek ≡ Some (peek_at (begun_peek key first n) place)
+  pub longer : IsPrefix x.pass y.pass
+  pub until : IsPrefix first.pass y.pass
+  pub is : y ≡ record x { pass = y.pass; peek = Some (peek_at (begun_peek key first n) place) }
+
+pub reaches : (key : Key) (x y : CpuView) (old new : List LogItem) (n : ℕ) (came : Option (Option Seen)) → (gone : HasGoneByLoads key x y old new n came) → Reaches key x y n came gone.first
+reaches key x y old new n came gone =
+    let begun = gone.begins.begun in
+    let at = came_place key gone.first y (begun_peek key gone.first n) came gone.comes in
+    let q = peek_at (begun_peek key gone.first n) at.0 in record {
+      place = at.0;
+      peek = ap (λ (v : CpuView). v.peek) at.1.1;
+      longer = prefix_trans x.pass gone.first.pass y.pass begun.0 at.1.0;
+      until = at.1.0;
+      is = at.1.1 ∙ ap (λ (i : CpuView). record i { pass = y.pass; peek = Some q }) begun.1;
+    }
+
+-- the data agree with the view after it
+pub reached_agrees : (z : TableId) (a : Settings) (t u : TableId) (x y : CpuView) (c w d : ℕ) (e : Found) (ps ns : List NumberedCount) (key : Key) (old new : List LogItem) (n : ℕ) (came : Option (Option Seen))
+    → IsOurCpu z a t x c w d e ps ns → IsShownCpu y → u ≡ t → HasGoneByLoads key x y old new n came → IsOurCpu u y.settings u y c w d e ps ns
+reached_agrees z a t u x y c w d e ps ns key old new n came our is_shown same gone =
+    let r = reaches key x y old new n came gone in
+    peeked_agrees z a t u x y c w d e ps ns (Some (peek_at (begun_peek key gone.first n) r.place)) our is_shown same r.longer r.is

@@ -2,9 +2,9 @@
 use Rattle.std.specs.Prelude.{◌≡◌, ◌≢◌, ℕ, ◌-◌, ◌<◌, ◌≤◌, Bool, List, ◌∷◌, ◌++◌, length, Option, Some, None, Result, Ok, Err}
 use Rattle.std.specs.List.{All}
 use mathlib.Core.List.{IsPrefix}
-use Rattle.passive_list.specs.Types.{Change, Entry, Key, MOST_SLOTS, Peek, SharedWord, Changes, Word, SearchPlace, AtNumber, CpuView, LogItem, Peeking, PeekPlace, Goes, Finds, Misses}
+use Rattle.passive_list.specs.Types.{Change, Entry, Key, MOST_SLOTS, Peek, SharedWord, Changes, Word, SearchPlace, AtHead, AtNumber, CpuView, LogItem, Peeking, PeekPlace, Goes, Finds, Misses}
 use Rattle.protocol.specs.Common.{IsAttached, IsLawful, entry_with}
-use Rattle.cpu_words.specs.Common.{HasBegunPeek, HasPeeked, HasWholePass, did, link_place, log_item, peek_at}
+use Rattle.cpu_words.specs.Common.{HasBegunPeek, HasEndedPeek, HasPeeked, HasWholePass, did, link_place, log_item, peek_at}
 use Rattle.passive_list.specs.declared.lookup.Seen.{Seen}
 use Rattle.passive_list.specs.Cpus.{OnCpu}
 use Rattle.passive_list.specs.Walking.{after_visit, entry_seen}
@@ -45,13 +45,13 @@ pub record IsAtEntry (x : CpuView) (key : Key) (link : ℕ) : Type 0 where
 -- it has gone by some entries to a link, or has come to the entry sought
 abbrev pub GoesBy : Key → CpuView → Peeking → Result ℕ Seen → CpuView → Type 0
 GoesBy key x q (Ok link) y = IsPeekingLink key x q link y
-GoesBy key x q (Err s) y = HasComeTo x q (Finds (entry_with key s.slot s.number s.value)) y × (s.slot < MOST_SLOTS)
+GoesBy key x q (Err s) y = HasComeTo x q (Finds (entry_with key s.slot s.number s.value)) y × (s.slot < MOST_SLOTS) × (s.slot < x.settings.slots)
 
 -- it has come to its end, or has gone by too many entries
 abbrev pub ComesTo : Key → CpuView → Peeking → Option (Option Seen) → CpuView → Type 0
 ComesTo key x q None y = (p : PeekPlace) × HasComeTo x q p y
 ComesTo key x q (Some None) y = HasComeTo x q Misses y
-ComesTo key x q (Some (Some s)) y = HasComeTo x q (Finds (entry_with key s.slot s.number s.value)) y × (s.slot < MOST_SLOTS)
+ComesTo key x q (Some (Some s)) y = HasComeTo x q (Finds (entry_with key s.slot s.number s.value)) y × (s.slot < MOST_SLOTS) × (s.slot < x.settings.slots)
 
 -- the answer is the registry's at some point from the pass `begun` to the end of the pass p
 pub record AnswersByLoads (key : Key) (begun p : List Change) (answer : Option Entry) : Type 0 where
@@ -88,3 +88,33 @@ pub record HasLookedByLoads (key : Key) (x y : CpuView) (old new : List LogItem)
 pub record HasFoundByLoads (key : Key) (a b : OnCpu) (result : Option (Option Seen)) : Type 0 where
   pub looks : HasLookedByLoads key a.view b.view a.log b.log result
   pub is : b ≡ record a { view = b.view; log = b.log }
+
+-- A lookup that isn't over
+
+-- the peek that began with the count n, as the CPU's view was v then
+abbrev pub begun_peek : Key → CpuView → ℕ → Peeking
+begun_peek key v n = record { key = key; number = n; from = length v.pass; place = Goes AtHead }
+
+-- The log of the CPU c grew by loads: of the count of changes, which was n, and then of any shared words.
+pub record LoadsFromCount (c n : ℕ) (old new : List LogItem) : Type 0 where
+  pub between : List LogItem
+  pub are : new ≡ old ++ log_item (Peek c Changes) (Word n) ∷ between
+  pub only : All (IsPeek c) between
+
+-- A lookup without its last load, by the view and the log before and after: it began with the count n, and has come to its end, or has gone by too many entries.
+pub record HasGoneByLoads (key : Key) (x y : CpuView) (old new : List LogItem) (n : ℕ) (came : Option (Option Seen)) : Type 0 where
+  -- the CPU just after the first load
+  pub first : CpuView
+  pub begins : HasBegunByLoads key x n first
+  pub loads : LoadsFromCount x.id n old new
+  pub comes : ComesTo key first (begun_peek key first n) came y
+
+-- The same of a CPU.
+pub record HasReachedByLoads (key : Key) (a b : OnCpu) (n : ℕ) (came : Option (Option Seen)) : Type 0 where
+  pub gone : HasGoneByLoads key a.view b.view a.log b.log n came
+  pub is : b ≡ record a { view = b.view; log = b.log }
+
+-- The last load of a lookup found the count m.
+pub record HasEndedByLoads (a b : OnCpu) (m : ℕ) : Type 0 where
+  pub ended : HasEndedPeek a.view m b.view
+  pub is : b ≡ record a { view = b.view; log = a.log ++ did (Peek a.view.id Changes) (Word m) }

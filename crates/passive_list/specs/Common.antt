@@ -4,7 +4,8 @@ pub use Rattle.passive_list.specs.declared.links.At.{At}
 pub use Rattle.passive_list.specs.declared.lookup.Seen.{Seen}
 pub use Rattle.passive_list.specs.declared.place.Found.{Found}
 pub use Rattle.passive_list.specs.declared.place.NumberedCount.{NumberedCount}
-pub use Rattle.passive_list.specs.ByLoads.{ComesTo, GoesBy, HasBegunByLoads, HasComeTo, HasFoundByLoads, HasLookedByLoads, HasVisitedByLoads, IsAtEntry, IsPeek, IsPeekingAt, IsPeekingLink, LoadsBetweenCounts}
+pub use Rattle.passive_list.specs.ByLoads.{AnswersByLoads, ComesTo, GoesBy, HasBegunByLoads, HasComeTo, HasEndedByLoads, HasFoundByLoads, HasGoneByLoads, HasLookedByLoads, HasReachedByLoads, HasVisitedByLoads, IsAtEntry, IsPeek, IsPeekingAt, IsPeekingLink}
+pub use Rattle.passive_list.specs.ByLoads.{LoadsBetweenCounts, LoadsFromCount, begun_peek}
 pub use Rattle.passive_list.specs.Cpus.{DepthAgrees, HoldsFound, IsKept, IsOurCpu, IsPlaceOf, NetAgree, OnCpu, OnPlainCpu, PassiveAgree, SectionAgrees, no_found, no_place, place_at}
 pub use Rattle.passive_list.specs.Draining.{AreHeld, HasAttachedKeeping, HasCollectedInto, HasFreed, HasGivenUp, keeper_after_collect, kept_slot}
 pub use Rattle.passive_list.specs.GoingOver.{AreStoodOn, GoesOnAt, HasGoneByFrom, HasGoneByOne, HasGoneOver, IsGoingOver, IsLiveSince, MayGoBy, view_at_link}

@@ -16,7 +16,7 @@ pub use Rattle.registry_values.specs.declared.slot.Slot.{Slot}
 pub use Rattle.registry_values.specs.declared.slot.Slot.TheVariants.{Live, Retired, Vacant}
 pub use Rattle.protocol.specs.declared.event.Event.{Event}
 pub use Rattle.protocol.specs.declared.event.Event.TheVariants.{Collect, CountAdd, CountDown, Enter, Exit, Hear, JoinKeeper, JoinRef, Keep, KeptSub, LoadLink, LoadRecord, Look, PassiveAdd}
-pub use Rattle.protocol.specs.declared.event.Event.TheVariants.{PassiveLook, PassiveSub, Publish, Seek, Snapshot, SplitBack, SplitRef, Tell, TotalAdd, TotalSub, Unpublish, Count, Peek, Vacate}
+pub use Rattle.protocol.specs.declared.event.Event.TheVariants.{PassiveLook, PassiveSub, Publish, Seek, Snapshot, SplitBack, SplitRef, Tell, TotalAdd, TotalSub, Unpublish, Confirm, Count, Peek, TakeBack, Try, Vacate}
 pub use Rattle.protocol.specs.declared.event.RecordOf.TheVariants.{Compared, Passive}
 pub use Rattle.protocol.specs.declared.event.SharedWord.{SharedWord}
 pub use Rattle.protocol.specs.declared.event.SharedWord.TheVariants.{Changes, Field, Head, Link}

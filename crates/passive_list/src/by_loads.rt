@@ -5,7 +5,7 @@ ghost use Rattle.std.specs.Prelude.{◌≡◌, ◌<◌, None, Some};
 ghost use Rattle.passive_list.specs.Types.{AtHead, AtNumber, Peeking};
 ghost use Rattle.cpu_words.specs.Common.{AreWordsOf, IsShownCpu, key_with};
 ghost use Rattle.passive_list.specs.Logs.{GoesOnBy};
-ghost use Rattle.passive_list.specs.ByLoads.{ComesTo, GoesBy, HasFoundByLoads, HasLookedByLoads, HasVisitedByLoads, IsAtEntry, IsPeek, IsPeekingAt};
+ghost use Rattle.passive_list.specs.ByLoads.{ComesTo, GoesBy, HasEndedByLoads, HasFoundByLoads, HasGoneByLoads, HasLookedByLoads, HasReachedByLoads, HasVisitedByLoads, IsAtEntry, IsPeek, IsPeekingAt};
 
 use crate::lookup::Seen;
 use crate::plain_cpu::PlainCpu;
@@ -27,6 +27,53 @@ pub fn find_by_loads(
     ensures words { cpu.new.words ≡ cpu.old.words }
 {
     look_by_loads(words, &mut cpu.seat, cpu.id, kind, name)
+}
+
+/// A lookup by loads alone without its last load. Returns the count of changes that it loaded first, and what it came to: as `find_by_loads`
+/// returns it, but for what no last load compares.
+/// Condition: the words are the CPU's table's.
+pub fn begin_by_loads(
+    words: &Words,
+    cpu: &mut PlainCpu,
+    kind: Kind,
+    name: Name,
+) -> (u64, Option<Option<Seen>>)
+    requires words { AreWordsOf words.now cpu.old.words.table cpu.old.words.settings }
+    ensures gone { HasReachedByLoads (key_with kind name) cpu.old.cpu cpu.new.cpu result.0 result.1 }
+    ensures words { cpu.new.words ≡ cpu.old.words }
+{
+    reach_by_loads(words, &mut cpu.seat, cpu.id, kind, name)
+}
+
+/// The last load of a lookup by loads: the count of changes. Returns it: if it is what `begin_by_loads` returned, the lookup's answer is right.
+/// Condition: the words are the CPU's table's.
+pub fn end_by_loads(words: &Words, cpu: &mut PlainCpu) -> u64
+    requires words { AreWordsOf words.now cpu.old.words.table cpu.old.words.settings }
+    ensures ended { HasEndedByLoads cpu.old.cpu cpu.new.cpu result }
+    ensures words { cpu.new.words ≡ cpu.old.words }
+{
+    steps::end_peek(words, &mut cpu.seat, cpu.id)
+}
+
+/// `begin_by_loads`, by the CPU's seat.
+fn reach_by_loads(
+    words: &Words,
+    seat: &mut CpuSeat,
+    cpu: u8,
+    kind: Kind,
+    name: Name,
+) -> (u64, Option<Option<Seen>>)
+    requires table { seat.old.table ≡ words.now.table }
+    requires cpu { (cpu < MOST_CPUS) × (seat.old.view.id ≡ cpu) }
+    requires may { seat.old.view.search ≡ None }
+    ensures table { seat.new.table ≡ seat.old.table }
+    ensures change { HasGoneByLoads (key_with kind name) seat.old.view seat.new.view seat.old.log seat.new.log result.0 result.1 }
+    ensures is_shown { IsShownCpu seat.new.view }
+    ensures known_log { seat.new.known_log ≡ seat.old.known_log }
+{
+    let first = steps::begin_peek(words, seat, cpu, kind, name);
+    let found = go_by_loads(words, seat, cpu, kind, name);
+    (first, found)
 }
 
 /// The whole lookup, by the CPU's seat.
@@ -64,6 +111,7 @@ fn go_by_loads(
     requires may { IsPeekingAt seat.old.view (key_with kind name) AtHead }
     ensures table { seat.new.table ≡ seat.old.table }
     ensures change { (q : Peeking) → seat.old.view.peek ≡ Some q → ComesTo (key_with kind name) seat.old.view q result seat.new.view }
+    ensures is_shown { IsShownCpu seat.new.view }
     ensures known_log { seat.new.known_log ≡ seat.old.known_log }
     ensures log { GoesOnBy (IsPeek cpu) seat.old.log seat.new.log }
 {
@@ -98,6 +146,7 @@ fn go_by_four(
     ensures table { seat.new.table ≡ seat.old.table }
     ensures id { seat.new.view.id ≡ seat.old.view.id }
     ensures change { (q : Peeking) → seat.old.view.peek ≡ Some q → GoesBy (key_with kind name) seat.old.view q result seat.new.view }
+    ensures is_shown { IsShownCpu seat.new.view }
     ensures known_log { seat.new.known_log ≡ seat.old.known_log }
     ensures log { GoesOnBy (IsPeek cpu) seat.old.log seat.new.log }
 {
@@ -127,6 +176,7 @@ fn go_by_two(
     ensures table { seat.new.table ≡ seat.old.table }
     ensures id { seat.new.view.id ≡ seat.old.view.id }
     ensures change { (q : Peeking) → seat.old.view.peek ≡ Some q → GoesBy (key_with kind name) seat.old.view q result seat.new.view }
+    ensures is_shown { IsShownCpu seat.new.view }
     ensures known_log { seat.new.known_log ≡ seat.old.known_log }
     ensures log { GoesOnBy (IsPeek cpu) seat.old.log seat.new.log }
 {
@@ -156,6 +206,7 @@ fn go_by_one(
     ensures table { seat.new.table ≡ seat.old.table }
     ensures id { seat.new.view.id ≡ seat.old.view.id }
     ensures change { (q : Peeking) → seat.old.view.peek ≡ Some q → GoesBy (key_with kind name) seat.old.view q result seat.new.view }
+    ensures is_shown { IsShownCpu seat.new.view }
     ensures known_log { seat.new.known_log ≡ seat.old.known_log }
     ensures log { GoesOnBy (IsPeek cpu) seat.old.log seat.new.log }
 {

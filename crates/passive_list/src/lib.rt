@@ -32,7 +32,7 @@ mod shown;
 mod vacating;
 mod walks;
 
-pub use by_loads::find_by_loads;
+pub use by_loads::{begin_by_loads, end_by_loads, find_by_loads};
 pub use collecting::{collect, collected, total};
 pub use cpu::Cpu;
 pub use freeing::free_iface;

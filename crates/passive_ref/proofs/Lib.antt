@@ -2,3 +2,4 @@ pub mod Places
 pub mod Changing
 pub mod Copying
 pub mod Records
+pub mod GetsByLoads

@@ -1,5 +1,5 @@
 -- What a CPU's places say of its references: where the entry of a number is, and how many references are to it.
-use Rattle.std.proofs.Common.{◌≡◌, ◌≢◌, ◌⊎◌, ⊎_elim, ℕ, ◌<◌, List, [], ◌∷◌, true, false, Some, None, nat_lt, ◌==◌, refl, sym, ap, ◌∙◌, arith}
+use Rattle.std.proofs.Common.{◌≡◌, ◌≢◌, ◌⊎◌, ⊎_elim, ℕ, ◌<◌, List, true, false, Some, None, nat_lt, ◌==◌, refl, sym, ap, ◌∙◌, arith}
 use Rattle.std.proofs.lemmas.Bool.{eq-eqb, eqb-true, lt-ltb, ltb-true, ltb-false, cases_Bool, and_parts}
 use Rattle.std.proofs.lemmas.Option.{none-some}
 use Rattle.std.proofs.lemmas.List.Quantifiers.{position-Some}
@@ -9,28 +9,11 @@ use Rattle.passive_list.specs.Types.{Entry, MOST_SLOTS, CpuView}
 use Rattle.protocol.specs.Common.{IsAttached}
 use Rattle.protocol.proofs.history.History.{one_entry, at_within}
 use Rattle.protocol.proofs.slots.Numbers.{position_passes}
-use Rattle.cpu_words.specs.Common.{is_to, references_to, IsAt}
-use Rattle.cpu_words.proofs.shown.ReferenceLists.{to_other, in_rest}
+use Rattle.cpu_words.specs.Common.{references_to, IsAt}
+use Rattle.cpu_words.proofs.shown.ReferenceLists.{some_of}
 use Rattle.passive_list.specs.declared.place.NumberedCount.{NumberedCount}
 use Rattle.passive_list.specs.Common.{no_place, place_at, PassiveAgree}
 use Rattle.passive_ref.specs.Psrefs.{IsHeldAt, counts_for}
-
--- an entry of the list
-pub record Among (n : ℕ) (es : List Entry) : Type 0 where
-  pub entry : Entry
-  pub among : Contains es entry
-  pub number : entry.number ≡ n
-
--- where there are references to n, one is in the list
-pub some_of : (n : ℕ) (es : List Entry) → 0 < references_to n es → Among n es
-some_of n [] some = absurd (omega (arith, some))
-some_of n (e ∷ es) some = ⊎_elim
-    (λ (test : is_to n e ≡ true). record { entry = e; among = (0, omega arith, refl); number = eqb-true e.number n test })
-    (λ (test : is_to n e ≡ false).
-    let less = to_other n e es (λ (same : e.number ≡ n). let is : is_to n e ≡ true = eq-eqb e.number n same in cc) in
-    let rest = some_of n es (omega (arith, some, less)) in
-    record { entry = rest.entry; among = in_rest e rest.entry es rest.among; number = rest.number })
-    (cases_Bool (is_to n e))
 
 -- an entry of the pass with the number of a place was attached in its slot
 pub place_of : (x : CpuView) (ps : List NumberedCount) (t : ℕ) (e : Entry) → PassiveAgree x ps → IsAttached x.pass e → (place_at ps t).number ≡ e.number → e.slot ≡ t

@@ -1,1 +1,2 @@
 pub mod Psrefs
+pub mod Gets

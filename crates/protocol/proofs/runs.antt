@@ -9,3 +9,4 @@ pub mod Rows
 pub mod Runs
 pub mod State
 pub mod Steps
+pub mod Untried

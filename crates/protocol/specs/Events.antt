@@ -2,10 +2,10 @@
 use Rattle.std.specs.Prelude.{ℕ, zero, suc, ◌+◌, ◌-◌, ◌*◌, ◌==◌, nat_lt, List, ◌∷◌, [], ◌++◌, length, replicate, position, Option, Some, None, is_none, is_some, Bool, true, false, not, ◌&&◌, ◌||◌}
 use Rattle.std.specs.Prelude.{if◌then◌else◌, slice_index_or, slice_set, take}
 use Rattle.std.specs.List.{list_all}
-use Rattle.protocol.specs.Types.{MOST_CPUS, Room, Kind, Iface, Driver, Entry, Attach, Detach, Key, Slot, Vacant, Live, Retired, Mark}
+use Rattle.protocol.specs.Types.{MOST_CPUS, Room, Kind, Iface, Driver, Entry, Change, Attach, Detach, Key, Slot, Vacant, Live, Retired, Mark}
 use Rattle.protocol.specs.declared.event.Event.{Event}
 use Rattle.protocol.specs.declared.event.Event.TheVariants.{Seat, Enter, Exit, Seek, LoadLink, LoadRecord, StoreSlot, StoreNext, Publish, Unpublish, Tell, Hear, Snapshot, Look, PassiveAdd, PassiveSub}
-use Rattle.protocol.specs.declared.event.Event.TheVariants.{PassiveLook, CountAdd, SplitRef, JoinRef, CountDown, SplitBack, Collect, TotalAdd, JoinKeeper, TotalSub, Keep, KeptSub, Vacate, Count, Peek}
+use Rattle.protocol.specs.declared.event.Event.TheVariants.{PassiveLook, CountAdd, SplitRef, JoinRef, CountDown, SplitBack, Collect, TotalAdd, JoinKeeper, TotalSub, Keep, KeptSub, Vacate, Count, Peek, Try, Confirm, TakeBack}
 use Rattle.protocol.specs.declared.event.RecordOf.{RecordOf}
 use Rattle.protocol.specs.declared.event.RecordOf.TheVariants.{Search as OfSearch, Passive as OfPassive, Local as OfLocal, Compared as OfCompared}
 use Rattle.protocol.specs.declared.event.SharedWord.{SharedWord}
@@ -19,12 +19,12 @@ use Rattle.protocol.specs.declared.state.Search.{Search}
 use Rattle.protocol.specs.declared.state.Loaded.{Loaded}
 use Rattle.protocol.specs.declared.state.Loaded.TheVariants.{On, Over}
 use Rattle.protocol.specs.declared.state.Hand.{Hand}
-use Rattle.protocol.specs.declared.state.Hand.TheVariants.{Empty, Taking, Giving, Back}
+use Rattle.protocol.specs.declared.state.Hand.TheVariants.{Empty, Taking, Giving, Back, Trying}
 use Rattle.protocol.specs.declared.state.LocalPlace.{LocalPlace}
 use Rattle.protocol.specs.declared.state.LocalPlace.TheVariants.{Free, Standing, Lifted}
 use Rattle.protocol.specs.declared.state.Due.{Due}
 use Rattle.protocol.specs.declared.state.Due.TheVariants.{Rest, Snapshots, Adding, Subtracting}
-use Rattle.protocol.specs.History.{after_change}
+use Rattle.protocol.specs.History.{after_change, change_at}
 use Rattle.protocol.specs.Loaded.{loaded_at, row_of_place}
 use Rattle.registry_values.specs.Answers as answers
 use Rattle.registry_values.specs.Common.{key_of, slot_at, kind_word, is_iface, is_driver, is_vacant, is_retired, is_taken, live_count, slot_of, slot_before, bias, no_mark, have_passed, are_clear}
@@ -386,6 +386,7 @@ split_ref s c Empty = None
 split_ref s c (Taking n) = some_outcome (after_split s c n) (Ref (least_id s.locals))
 split_ref s c (Giving n id) = None
 split_ref s c (Back n id) = None
+split_ref s c (Trying t n) = None
 
 abbrev pub after_hand : State → ℕ → Hand → ℕ → LocalPlace → State
 after_hand s c hand id p = record s { hands = slice_set s.hands c hand; locals = slice_set s.locals id p }
@@ -409,12 +410,14 @@ count_down s c Empty = None
 count_down s c (Taking n) = None
 count_down s c (Giving n id) = with_some (slot_of s.slots n) (exchange s c n id)
 count_down s c (Back n id) = None
+count_down s c (Trying t n) = None
 
 abbrev pub split_back : State → ℕ → Hand → Option Outcome
 split_back s c Empty = None
 split_back s c (Taking n) = None
 split_back s c (Giving n id) = None
 split_back s c (Back n id) = some_outcome (after_hand s c Empty id (Standing n)) (Ref id)
+split_back s c (Trying t n) = None
 
 -- Draining
 
@@ -511,6 +514,53 @@ may_peek s c = nat_lt c s.seated && is_none (search_at s c)
 abbrev pub peek : State → ℕ → SharedWord → Option Outcome
 peek s c w = with_some (shared_word s w) (λ v. guard (may_peek s c) (some_outcome (after_seeing s c) (Word v)))
 
+-- A passive reference without a section
+
+-- c's passive word of t is v, and what is in its hand changes
+abbrev pub after_tried : State → ℕ → ℕ → ℕ → Hand → State
+after_tried s c t v hand = record s { passive = with_cell s.passive t c v; hands = slice_set s.hands c hand }
+
+abbrev pub may_try : State → ℕ → ℕ → Bool
+may_try s c t = is_idle s c && (nat_lt t s.settings.slots && nat_lt (passive_at s.passive c t) s.settings.passive_limit)
+
+abbrev pub after_try : State → ℕ → ℕ → ℕ → State
+after_try s c t n = after_tried s c t (passive_at s.passive c t + 1) (Trying t n)
+
+abbrev pub is_detach : ℕ → Option Change → Bool
+is_detach n None = false
+is_detach n (Some (Attach e)) = false
+is_detach n (Some (Detach m)) = m == n
+
+-- the detach of n is the last change
+abbrev pub is_last_detach : List Change → ℕ → Bool
+is_last_detach h n = is_detach n (change_at h (length h))
+
+-- the slot t has the entry n: live, or detached by the last change, and c isn't clear for t
+abbrev pub may_confirm : State → ℕ → ℕ → ℕ → Slot → Bool
+may_confirm s c t n Vacant = false
+may_confirm s c t n (Live e) = e.number == n
+may_confirm s c t n (Retired e) = e.number == n && (is_last_detach s.history n && not (mark_at s.marks t c).clear)
+
+abbrev pub after_confirm : State → ℕ → State
+after_confirm s c = record s { hands = slice_set s.hands c Empty }
+
+abbrev pub confirm : State → ℕ → Hand → Option Outcome
+confirm s c Empty = None
+confirm s c (Taking n) = None
+confirm s c (Giving n id) = None
+confirm s c (Back n id) = None
+confirm s c (Trying t n) = guard (may_confirm s c t n (slot_at s.slots t)) (some_outcome (after_confirm s c) (Word s.changes))
+
+abbrev pub after_take_back : State → ℕ → ℕ → State
+after_take_back s c t = after_tried s c t (passive_at s.passive c t - 1) Empty
+
+abbrev pub take_back : State → ℕ → Hand → Option Outcome
+take_back s c Empty = None
+take_back s c (Taking n) = None
+take_back s c (Giving n id) = None
+take_back s c (Back n id) = None
+take_back s c (Trying t n) = some_outcome (after_take_back s c t) (Word (passive_at s.passive c t))
+
 abbrev pub load_record : State → RecordOf → Option Outcome
 load_record s (OfSearch c) = with_some (search_at s c) (λ q. load_searched s c q q.place)
 load_record s (OfPassive c n k) = load_passive s c n k
@@ -550,6 +600,9 @@ step s (KeptSub t) = kept_sub s t
 step s (Vacate t) = guard (may_vacate s t) (some_outcome (after_vacate s t) Done)
 step s Count = guard (at_rest s.due) (some_outcome (after_counting s) Done)
 step s (Peek c w) = peek s c w
+step s (Try c t n) = guard (may_try s c t) (some_outcome (after_try s c t n) (Word (passive_at s.passive c t)))
+step s (Confirm c) = confirm s c (hand_at s c)
+step s (TakeBack c) = take_back s c (hand_at s c)
 
 -- the state after an event, which is as it was where the event isn't allowed
 abbrev pub state_after : State → Option Outcome → State

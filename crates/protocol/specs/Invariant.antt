@@ -7,7 +7,7 @@ use Rattle.protocol.specs.declared.state.SearchPlace.{SearchPlace}
 use Rattle.protocol.specs.declared.state.SearchPlace.TheVariants.{AtHead, AtNext, AtNumber, AtKind, AtHigh, AtLow, AtValue}
 use Rattle.protocol.specs.declared.state.Search.{Search}
 use Rattle.protocol.specs.declared.state.Hand.{Hand}
-use Rattle.protocol.specs.declared.state.Hand.TheVariants.{Empty, Taking, Giving, Back}
+use Rattle.protocol.specs.declared.state.Hand.TheVariants.{Empty, Taking, Giving, Back, Trying}
 use Rattle.protocol.specs.declared.state.LocalPlace.{LocalPlace}
 use Rattle.protocol.specs.declared.state.LocalPlace.TheVariants.{Free, Standing, Lifted}
 use Rattle.protocol.specs.declared.state.Due.{Due}
@@ -15,7 +15,7 @@ use Rattle.protocol.specs.declared.state.Due.TheVariants.{Rest, Snapshots, Addin
 use Rattle.registry_values.specs.Common.{are_fit, key_of, slot_at, kind_word, live_count, bias}
 use Rattle.registry_values.specs.Names.{are_name_words}
 use Rattle.protocol.specs.History.{IsAttached, EndsAt, IsLiveAt, IsLegal, MayHold}
-use Rattle.protocol.specs.State.{State, row_at, mark_at, passive_at, count_at, total_at, kept_at, local_at}
+use Rattle.protocol.specs.State.{State, row_at, mark_at, passive_at, trying_at, count_at, total_at, kept_at, local_at}
 use Rattle.protocol.specs.Events.{words_of, keeps_rightly}
 
 -- e is live or retired here
@@ -146,10 +146,12 @@ SearchesHold h begins seen searches = (c : ℕ) (q : Search) → slice_index_or 
 abbrev pub FoundHold : List Change → List (Option ℕ) → List (Option Entry) → Type 0
 FoundHold h begins found = (c : ℕ) (e : Entry) → slice_index_or found c None ≡ Some e → (b : ℕ) × (slice_index_or begins c None ≡ Some b) × MayHold h b e
 
--- passive: a vacant slot has no passive references, a clear mark stands only where a passed CPU has none, a collected one only at a clear one; a CPU past the last has none
-pub record PassiveShow (cpus limit : ℕ) (slots : List Slot) (marks : List (List Mark)) (passive : List (List ℕ)) : Type 0 where
-  pub vacant : (c t : ℕ) → slot_at slots t ≡ Vacant → passive_at passive c t ≡ 0
-  pub clear : (c t : ℕ) (e : Entry) → slot_at slots t ≡ Retired e → (mark_at marks t c).clear ≡ true → ((mark_at marks t c).passed ≡ true) × (passive_at passive c t ≡ 0)
+-- passive: a word counts what its CPU is trying, and beside that its references; a vacant slot has no passive references, a clear mark stands only where a passed CPU has none, a collected one only
+-- at a clear one; a CPU past the last has none
+pub record PassiveShow (cpus limit : ℕ) (slots : List Slot) (marks : List (List Mark)) (passive : List (List ℕ)) (hands : List Hand) : Type 0 where
+  pub counted : (c t : ℕ) → trying_at hands c t ≤ passive_at passive c t
+  pub vacant : (c t : ℕ) → slot_at slots t ≡ Vacant → passive_at passive c t ≡ trying_at hands c t
+  pub clear : (c t : ℕ) (e : Entry) → slot_at slots t ≡ Retired e → (mark_at marks t c).clear ≡ true → ((mark_at marks t c).passed ≡ true) × (passive_at passive c t ≡ trying_at hands c t)
   pub collected : (c t : ℕ) (e : Entry) → slot_at slots t ≡ Retired e → (mark_at marks t c).collected ≡ true → (mark_at marks t c).clear ≡ true
   pub beyond : (c t : ℕ) → cpus ≤ c → passive_at passive c t ≡ 0
   pub limited : (c t : ℕ) → passive_at passive c t ≤ limit
@@ -168,6 +170,7 @@ in_hand n Empty = 0
 in_hand n (Taking m) = one_if (m == n)
 in_hand n (Giving m id) = one_if (m == n)
 in_hand n (Back m id) = one_if (m == n)
+in_hand n (Trying t m) = 0
 
 abbrev pub kept_of : ℕ → Option ℕ → ℕ
 kept_of n None = 0
@@ -236,6 +239,7 @@ HandHolds slots locals c Empty = Unit {0}
 HandHolds slots locals c (Taking n) = Occupies slots n
 HandHolds slots locals c (Giving n id) = Occupies slots n × (local_at locals id ≡ Lifted c)
 HandHolds slots locals c (Back n id) = Occupies slots n × (local_at locals id ≡ Lifted c)
+HandHolds slots locals c (Trying t n) = Unit {0}
 
 -- what the keeper must do next is at a slot where it can
 abbrev pub DueHolds : ℕ → List Slot → Due → Type 0
@@ -271,7 +275,7 @@ pub record Holds (s : State) : Type 0 where
   pub sections : SectionsShow s.settings s.history s.section s.begins s.depths s.seen
   pub searches : SearchesHold s.history s.begins s.seen s.searches
   pub last_found : FoundHold s.history s.begins s.found
-  pub passive : PassiveShow s.settings.cpus s.settings.passive_limit s.slots s.marks s.passive
+  pub passive : PassiveShow s.settings.cpus s.settings.passive_limit s.slots s.marks s.passive s.hands
   pub balance : CountsHold s.settings s.slots s.marks s.counts s.nets s.totals s.hands s.keeps s.due s.locals
   pub references : ReferencesHold s.settings.cpus s.slots s.hands s.due s.locals
   pub kept_drivers : DriversKept s.slots s.keeps

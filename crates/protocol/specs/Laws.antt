@@ -3,7 +3,7 @@ use Rattle.std.specs.List.{AllByRecursion}
 use Rattle.std.specs.Prelude.{◌≡◌, ℕ, suc, ◌+◌, ◌*◌, ◌%◌, ◌<◌, ◌≤◌, ◌⊎◌, IsTrue, IsSome, List, [], ◌∷◌, ◌++◌, length, sum_by, Option, Some, None, true, slice_index_or}
 use Rattle.protocol.specs.Types.{Iface, Driver, Entry, Change, Settings, Key}
 use Rattle.protocol.specs.declared.event.Event.{Event}
-use Rattle.protocol.specs.declared.event.Event.TheVariants.{Enter, Exit, Hear, Seek, LoadLink, LoadRecord, StoreSlot, StoreNext, Publish, Keep, KeptSub, Vacate, Peek}
+use Rattle.protocol.specs.declared.event.Event.TheVariants.{Enter, Exit, Hear, Seek, LoadLink, LoadRecord, StoreSlot, StoreNext, Publish, Keep, KeptSub, Vacate, Peek, Try}
 use Rattle.protocol.specs.declared.event.RecordOf.TheVariants.{Search as OfSearch}
 use Rattle.protocol.specs.declared.event.Reply.{Reply}
 use Rattle.protocol.specs.declared.event.Reply.TheVariants.{Done, Word, Found, Missed, Ref, Collected}
@@ -11,12 +11,12 @@ use Rattle.protocol.specs.declared.event.SharedWord.{SharedWord}
 use Rattle.protocol.specs.declared.state.Search.{Search}
 use Rattle.registry_values.specs.Common.{are_fit, bias, key_of, slot_at}
 use Rattle.protocol.specs.History.{IsAttached, EndsAt, IsLiveAt, IsLawful}
-use Rattle.protocol.specs.State.{State, opening, section_at, begin_at, seen_at, search_at, count_at, total_at, kept_at, at_rest}
+use Rattle.protocol.specs.State.{State, opening, section_at, begin_at, seen_at, search_at, count_at, total_at, kept_at, trying_at, at_rest}
 use Rattle.protocol.specs.Events.{Outcome, step, state_after}
 use Rattle.protocol.specs.Invariant.{Holds, IsIn, IsCounting, kept_of, held_at, one_if_used, itself}
 use Rattle.protocol.specs.Run.{run_of_events, empty_run}
 use Rattle.protocol.specs.Model.{IsUnheld, IsModelRun}
-use Rattle.protocol.specs.Picture.{number_in, picture}
+use Rattle.protocol.specs.Picture.{HasConfirm, number_in, picture}
 
 -- the state after a list of events; those that aren't allowed are left out
 abbrev pub after : State → List Event → State
@@ -36,6 +36,20 @@ Always P = (z : Settings) (events : List Event) → IsTrue (are_fit z) → P (af
 -- every list of events, allowed or not, keeps the core invariant
 abbrev pub EveryRunKeeps : Type 0
 EveryRunKeeps = Always Holds
+
+-- the event is a Try
+abbrev pub IsTry : Event → Type 0
+IsTry (Try c t n) = Unit {0}
+IsTry _ = ⊥
+
+-- one of the events is
+abbrev pub HasTry : List Event → Type 0
+HasTry [] = ⊥
+HasTry (event ∷ events) = IsTry event ⊎ HasTry events
+
+-- where no event of the list is a Try, no CPU is trying: each passive word counts references alone
+abbrev pub UntriedRuns : Type 0
+UntriedRuns = (z : Settings) (events : List Event) → (HasTry events → ⊥) → (c t : ℕ) → trying_at (after (opening z) events).hands c t ≡ 0
 
 -- Safe reuse
 
@@ -258,7 +272,7 @@ pub record ObeysLaws (s : State) : Type 0 where
   pub grace : EndsByExit s
   -- the invariant goes on, and so does the run of the model
   pub keeps : (later : List Event) → Holds (after s later)
-  pub modelled : (later : List Event) → IsModelRun (picture s) (picture (after s later))
+  pub modelled : (later : List Event) → IsModelRun (HasConfirm later) (picture s) (picture (after s later))
 
 -- the invariant is enough for them, in any state that has it
 abbrev pub InvariantSuffices : Type 0

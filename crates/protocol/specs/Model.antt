@@ -63,51 +63,54 @@ with_passive m c n k = record m { passive = put m.passive c (put (m.passive c) n
 abbrev pub with_locals : Model → ℕ → ℕ → Model
 with_locals m n k = record m { locals = put m.locals n k }
 
--- One step of the registry.
-pub data IsModelStep (m : Model) : Model → Type 0 where
+-- One step of the registry. Only where `MayTake` is so may a reference be taken without a section.
+pub data IsModelStep (MayTake : Type 0) (m : Model) : Model → Type 0 where
   -- an outermost enter: the pass becomes the history
   Enters : (c : ℕ) → m.sections c ≡ None
-      → IsModelStep m (record m { sections = put m.sections c (Some (length m.history)); passes = put m.passes c (length m.history) })
+      → IsModelStep MayTake m (record m { sections = put m.sections c (Some (length m.history)); passes = put m.passes c (length m.history) })
   -- an outermost exit: the last found entry is cleared
   Exits : (c b : ℕ) → m.sections c ≡ Some b → m.lookups c ≡ None
-      → IsModelStep m (record m { sections = put m.sections c None; found = put m.found c None })
+      → IsModelStep MayTake m (record m { sections = put m.sections c None; found = put m.found c None })
   -- a pass grows to a longer prefix of the history
   Sees : (c n : ℕ) → m.passes c ≤ n → n ≤ length m.history
-      → IsModelStep m (record m { passes = put m.passes c n })
+      → IsModelStep MayTake m (record m { passes = put m.passes c n })
   -- a lookup starts at the length of the pass
   Seeks : (c b : ℕ) (key : Key) → m.sections c ≡ Some b → m.lookups c ≡ None
-      → IsModelStep m (record m { lookups = put m.lookups c (Some (record { key = key; start = m.passes c })) })
+      → IsModelStep MayTake m (record m { lookups = put m.lookups c (Some (record { key = key; start = m.passes c })) })
   -- found or missed: the answer is lawful, and becomes the last found entry
   Answers : (c : ℕ) (q : Lookup) (answer : Option Entry) → m.lookups c ≡ Some q → IsLawful m.history q.start (m.passes c) q.key answer
-      → IsModelStep m (record m { lookups = put m.lookups c None; found = put m.found c answer })
+      → IsModelStep MayTake m (record m { lookups = put m.lookups c None; found = put m.found c answer })
   -- an attach into a slot without an occupant, an interface's into one that keeps a reference and a driver's into one that keeps none
   Attaches : (e : Entry) → m.occupants e.slot ≡ None → IsLegal (after_change m.history (Attach e)) → e.number ≡ suc (length m.history) → keeps_rightly (m.keeps e.slot) e.rec.kind ≡ true
-      → IsModelStep m (record m { history = after_change m.history (Attach e); occupants = put m.occupants e.slot (Some e.number) })
+      → IsModelStep MayTake m (record m { history = after_change m.history (Attach e); occupants = put m.occupants e.slot (Some e.number) })
   Detaches : (n : ℕ) → IsLegal (after_change m.history (Detach n))
-      → IsModelStep m (record m { history = after_change m.history (Detach n) })
+      → IsModelStep MayTake m (record m { history = after_change m.history (Detach n) })
   -- a slot without an occupant, and keeping nothing, takes over one local reference to a driver
   Keeps : (t d : ℕ) → m.occupants t ≡ None → m.keeps t ≡ None → IsDriverHere m d → 0 < m.locals d
-      → IsModelStep m (record (with_locals m d (m.locals d - 1)) { keeps = put m.keeps t (Some d) })
+      → IsModelStep MayTake m (record (with_locals m d (m.locals d - 1)) { keeps = put m.keeps t (Some d) })
   -- a passive reference to the last found entry; a copy of one that the CPU holds; its release
   Acquires : (c : ℕ) (e : Entry) → m.found c ≡ Some e
-      → IsModelStep m (with_passive m c e.number (m.passive c e.number + 1))
+      → IsModelStep MayTake m (with_passive m c e.number (m.passive c e.number + 1))
   Copies : (c n : ℕ) → 0 < m.passive c n
-      → IsModelStep m (with_passive m c n (m.passive c n + 1))
+      → IsModelStep MayTake m (with_passive m c n (m.passive c n + 1))
   Releases : (c n : ℕ) → 0 < m.passive c n
-      → IsModelStep m (with_passive m c n (m.passive c n - 1))
+      → IsModelStep MayTake m (with_passive m c n (m.passive c n - 1))
+  -- a passive reference without a section, to an entry that has its slot and is live, or whose detach is the last change
+  Takes : (c t : ℕ) (e : Entry) → IsAttached m.history e → m.occupants t ≡ Some e.number → ((p : ℕ) → EndsAt m.history e.number p → p ≡ length m.history) → MayTake
+      → IsModelStep MayTake m (with_passive m c e.number (m.passive c e.number + 1))
   -- a local reference to the last found entry; its release, by anyone
   Counts : (c : ℕ) (e : Entry) → m.found c ≡ Some e
-      → IsModelStep m (with_locals m e.number (m.locals e.number + 1))
+      → IsModelStep MayTake m (with_locals m e.number (m.locals e.number + 1))
   Uncounts : (n : ℕ) → 0 < m.locals n
-      → IsModelStep m (with_locals m n (m.locals n - 1))
+      → IsModelStep MayTake m (with_locals m n (m.locals n - 1))
   -- the occupant is detached and has no holder at all
   Vacates : (t n p : ℕ) → m.occupants t ≡ Some n → EndsAt m.history n p → IsUnheld m n → m.keeps t ≡ None
-      → IsModelStep m (record m { occupants = put m.occupants t None })
+      → IsModelStep MayTake m (record m { occupants = put m.occupants t None })
   -- the same of an interface, whose slot's reference becomes an ordinary local reference again
   Gives_up : (t n p d : ℕ) → m.occupants t ≡ Some n → EndsAt m.history n p → IsUnheld m n → m.keeps t ≡ Some d
-      → IsModelStep m (record (with_locals m d (m.locals d + 1)) { occupants = put m.occupants t None; keeps = put m.keeps t None })
+      → IsModelStep MayTake m (record (with_locals m d (m.locals d + 1)) { occupants = put m.occupants t None; keeps = put m.keeps t None })
 
 -- any number of steps, none among them
-pub data IsModelRun (m : Model) : Model → Type 0 where
-  Stays : IsModelRun m m
-  Goes_on : (a b : Model) → IsModelRun m a → IsModelStep a b → IsModelRun m b
+pub data IsModelRun (MayTake : Type 0) (m : Model) : Model → Type 0 where
+  Stays : IsModelRun MayTake m m
+  Goes_on : (a b : Model) → IsModelRun MayTake m a → IsModelStep MayTake a b → IsModelRun MayTake m b

@@ -1,12 +1,14 @@
 -- The picture of a core state: the model state that it shows.
-use Rattle.std.specs.Prelude.{ℕ, ◌+◌, List, Option, Some, None, IsTrue, sum_by, if◌then◌else◌}
+use Rattle.std.specs.Prelude.{ℕ, ◌+◌, ◌-◌, ◌⊎◌, [], ◌∷◌, List, Option, Some, None, IsTrue, sum_by, if◌then◌else◌}
 use Rattle.protocol.specs.declared.event.Event.{Event}
+use Rattle.protocol.specs.declared.event.Event.TheVariants.{Confirm}
 use Rattle.protocol.specs.Types.{Settings, Slot, Vacant, Live, Retired}
 use Rattle.protocol.specs.declared.state.Search.{Search}
+use Rattle.protocol.specs.declared.state.Hand.{Hand}
 use Rattle.protocol.specs.declared.state.Due.{Due}
 use Rattle.protocol.specs.declared.state.Due.TheVariants.{Rest, Snapshots, Adding, Subtracting}
 use Rattle.registry_values.specs.Common.{are_fit, slot_at, has_number, slot_of}
-use Rattle.protocol.specs.State.{State, begin_at, seen_at, search_at, found_at, kept_at, passive_at, opening}
+use Rattle.protocol.specs.State.{State, begin_at, seen_at, search_at, found_at, kept_at, passive_at, trying_at, opening}
 use Rattle.protocol.specs.Invariant.{standing_of, in_hand}
 use Rattle.protocol.specs.Run.{run_of_events, empty_run}
 use Rattle.protocol.specs.Model.{Model, Lookup, empty_model, IsModelRun}
@@ -20,10 +22,10 @@ number_in Vacant = None
 number_in (Live e) = Some e.number
 number_in (Retired e) = Some e.number
 
--- the passive references of c to the entry in that slot
-abbrev pub passive_in : List (List ℕ) → ℕ → Option ℕ → ℕ
-passive_in passive c None = 0
-passive_in passive c (Some t) = passive_at passive c t
+-- the passive references of c to the entry in that slot: what its word counts, less what it is trying
+abbrev pub passive_in : List (List ℕ) → List Hand → ℕ → Option ℕ → ℕ
+passive_in passive hands c None = 0
+passive_in passive hands c (Some t) = passive_at passive c t - trying_at hands c t
 
 -- a reference that the keeper joined and hasn't subtracted yet
 abbrev pub subtractions_due : List Slot → ℕ → Due → ℕ
@@ -43,12 +45,22 @@ picture s = record {
   passes = λ c. seen_at s c;
   lookups = λ c. lookup_of (search_at s c);
   found = λ c. found_at s c;
-  passive = λ c n. passive_in s.passive c (slot_of s.slots n);
+  passive = λ c n. passive_in s.passive s.hands c (slot_of s.slots n);
   locals = λ n. locals_of s n;
   occupants = λ t. number_in (slot_at s.slots t);
   keeps = λ t. kept_at s.keeps t;
 }
 
--- For fit settings and every list of events, the picture is reached by a run of the model.
+-- the event makes what a CPU was trying a reference
+abbrev pub IsConfirm : Event → Type 0
+IsConfirm (Confirm c) = Unit {0}
+IsConfirm _ = ⊥
+
+-- one of the events does
+abbrev pub HasConfirm : List Event → Type 0
+HasConfirm [] = ⊥
+HasConfirm (event ∷ events) = IsConfirm event ⊎ HasConfirm events
+
+-- For fit settings and every list of events, the picture is reached by a run of the model. Where no event of the list is a Confirm, that run takes no reference without a section.
 abbrev pub EveryRunIsModelRun : Type 0
-EveryRunIsModelRun = (z : Settings) (events : List Event) → IsTrue (are_fit z) → IsModelRun empty_model (picture (run_of_events (empty_run (opening z)) events).state)
+EveryRunIsModelRun = (z : Settings) (events : List Event) → IsTrue (are_fit z) → IsModelRun (HasConfirm events) empty_model (picture (run_of_events (empty_run (opening z)) events).state)

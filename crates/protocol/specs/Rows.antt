@@ -1,9 +1,10 @@
--- Two worked rows, event by event: a search along the frozen link of an unlinked entry, and a reference given back while its count is collected.
+-- Three worked rows, event by event: a search along the frozen link of an unlinked entry, a reference given back while its count is collected, and references without a section, while their entry is
+-- detached and their slot is given again.
 use Rattle.std.specs.Prelude.{◌≡◌, ℕ, ◌-◌, List, ◌∷◌, [], ◌++◌, replicate, Option, Some, None}
 use Rattle.protocol.specs.Types.{Driver, Entry, Name, Settings, MOST_CPUS, Attach, Detach, Vacant, Live, Retired, Mark}
 use Rattle.protocol.specs.declared.event.Event.{Event}
 use Rattle.protocol.specs.declared.event.Event.TheVariants.{Seat, Enter, Exit, Seek, LoadLink, LoadRecord, StoreSlot, StoreNext, Publish, Unpublish, Tell, Hear, Snapshot, Look, PassiveLook, CountAdd}
-use Rattle.protocol.specs.declared.event.Event.TheVariants.{SplitRef, JoinRef, CountDown, SplitBack, Collect, TotalAdd, JoinKeeper, TotalSub, Vacate}
+use Rattle.protocol.specs.declared.event.Event.TheVariants.{SplitRef, JoinRef, CountDown, SplitBack, Collect, TotalAdd, JoinKeeper, TotalSub, Vacate, PassiveAdd, PassiveSub, Try, Confirm, TakeBack}
 use Rattle.protocol.specs.declared.event.RecordOf.TheVariants.{Search as OfSearch}
 use Rattle.protocol.specs.declared.event.Reply.{Reply}
 use Rattle.protocol.specs.declared.event.Reply.TheVariants.{Done, Word, Found, Ref, Collected}
@@ -12,6 +13,7 @@ use Rattle.registry_values.specs.Common.{key_of, kind_word, bias, no_mark}
 use Rattle.protocol.specs.State.{State, opening}
 use Rattle.protocol.specs.Events.{Outcome, step, state_after, words_of, snapshot_mark}
 use Rattle.protocol.specs.Run.{run_of_events, empty_run}
+use Rattle.protocol.specs.Picture.{picture}
 use Rattle.protocol.specs.Laws.{after}
 
 abbrev pub reply_of : Option Outcome → Option Reply
@@ -189,3 +191,48 @@ pub record CollectRace : Type 0 where
   pub race : replies before_race race_events ≡ Some (Word 2) ∷ Some (Word 0) ∷ Some Done ∷ Some (Word 281474976710657) ∷ Some Collected ∷ Some Done ∷ None ∷ Some (Ref 0) ∷ Some Done ∷ Some Done
       ∷ Some Done ∷ []
   pub counted : (run_of_events (empty_run before_race) race_events).counted ≡ record { taken = 10; refused = 1; last = Some Done }
+
+-- Try race
+
+-- no reply: the event isn't allowed
+abbrev pub refused : List (Option Reply)
+refused = None ∷ []
+
+-- the next occupant of the slot of wm2
+abbrev pub fourth : Entry
+fourth = driver 5 2 wm2 13
+
+-- CPU 0 tries wm2: it is busy until it confirms, and then has a reference
+abbrev pub take_events : List Event
+take_events = Try 0 2 3 ∷ PassiveAdd 0 3 ∷ Confirm 0 ∷ PassiveSub 0 3 ∷ []
+
+-- wm2 is detached between
+abbrev pub detach_between : List Event
+detach_between = Try 0 2 3 ∷ Unpublish 2 ∷ Snapshot (Some 2) 0 ∷ Snapshot (Some 2) 1 ∷ Confirm 0 ∷ PassiveSub 0 3 ∷ []
+
+-- wm2 is detached between, and then wm1: CPU 0 comes too late
+abbrev pub detach_two_between : List Event
+detach_two_between = Try 0 2 3 ∷ Unpublish 2 ∷ Snapshot (Some 2) 0 ∷ Snapshot (Some 2) 1 ∷ Unpublish 1 ∷ Snapshot (Some 1) 0 ∷ Snapshot (Some 1) 1 ∷ Confirm 0 ∷ TakeBack 0 ∷ []
+
+-- CPU 0 tries a slot for which it is clear, and the slot is freed
+abbrev pub free_between : List Event
+free_between = Look (Some 2) 0 ∷ Look (Some 2) 1 ∷ PassiveLook 2 0 ∷ PassiveLook 2 1 ∷ Try 0 2 3 ∷ Confirm 0 ∷ Collect 2 0 ∷ TotalAdd 2 ∷ Collect 2 1 ∷ TotalAdd 2 ∷ Vacate 2 ∷ Confirm 0 ∷ []
+
+-- the slot is given again, and no reference to the next occupant is got; its look finds what is tried
+abbrev pub give_between : List Event
+give_between = attach_events 1 fourth 2 (StoreSlot 2 5 bias ∷ StoreSlot 2 6 bias ∷ [])
+    ++ Confirm 0 ∷ Unpublish 2 ∷ Snapshot (Some 2) 0 ∷ Snapshot (Some 2) 1 ∷ Look (Some 2) 0 ∷ Look (Some 2) 1 ∷ PassiveLook 2 0 ∷ PassiveLook 2 1 ∷ Collect 2 0 ∷ TakeBack 0 ∷ PassiveLook 2 0
+    ∷ Collect 2 0 ∷ []
+
+-- the row try-race
+pub record TryRace : Type 0 where
+  pub tries : replies all_three take_events ≡ loads 0 ++ refused ++ loads 0 ++ loads 1
+  -- what is tried is no reference, and what is confirmed is one
+  pub tried : (picture (after all_three (Try 0 2 3 ∷ []))).passive 0 3 ≡ 0
+  pub confirmed : (picture (after all_three (Try 0 2 3 ∷ Confirm 0 ∷ []))).passive 0 3 ≡ 1
+  pub detached : replies (after all_three take_events) detach_between ≡ loads 0 ++ done_replies 1 ++ loads 0 ++ loads 0 ++ loads 0 ++ loads 1
+  pub detached_before : replies all_three detach_two_between ≡ loads 0 ++ done_replies 1 ++ loads 0 ++ loads 0 ++ done_replies 1 ++ loads 0 ++ loads 0 ++ refused ++ loads 1
+  pub freed : replies (after all_three (take_events ++ detach_between)) free_between
+      ≡ loads 0 ++ loads 0 ++ loads 0 ++ loads 0 ++ loads 0 ++ refused ++ loads bias ++ done_replies 1 ++ loads bias ++ done_replies 2 ++ refused
+  pub given : replies (after all_three (take_events ++ (detach_between ++ free_between))) give_between
+      ≡ done_replies 11 ++ refused ++ done_replies 1 ++ loads 0 ++ loads 0 ++ loads 0 ++ loads 0 ++ loads 1 ++ loads 0 ++ refused ++ loads 1 ++ loads 0 ++ loads bias

@@ -1,10 +1,10 @@
 -- The state of the core: its words, and the plain state of each CPU and of the keeper.
-use Rattle.std.specs.Prelude.{ℕ, List, [], false, Option, None, replicate, slice_index_or, slice_set, Bool, true, ◌++◌, drop}
+use Rattle.std.specs.Prelude.{ℕ, ◌==◌, if◌then◌else◌, List, [], false, Option, None, replicate, slice_index_or, slice_set, Bool, true, ◌++◌, drop}
 use Rattle.protocol.specs.Types.{Entry, Change, Settings, MOST_CPUS, Slot, Vacant, Mark}
 use Rattle.protocol.specs.declared.state.RecordWords.{RecordWords}
 use Rattle.protocol.specs.declared.state.Search.{Search}
 use Rattle.protocol.specs.declared.state.Hand.{Hand}
-use Rattle.protocol.specs.declared.state.Hand.TheVariants.{Empty, Taking, Giving, Back}
+use Rattle.protocol.specs.declared.state.Hand.TheVariants.{Empty, Taking, Giving, Back, Trying}
 use Rattle.protocol.specs.declared.state.LocalPlace.{LocalPlace}
 use Rattle.protocol.specs.declared.state.LocalPlace.TheVariants.{Free}
 use Rattle.protocol.specs.declared.state.Due.{Due}
@@ -125,6 +125,19 @@ is_empty Empty = true
 is_empty (Taking n) = false
 is_empty (Giving n id) = false
 is_empty (Back n id) = false
+is_empty (Trying t n) = false
+
+-- 1 if the hand is trying to get a reference in the slot t
+abbrev pub trying_of : ℕ → Hand → ℕ
+trying_of t Empty = 0
+trying_of t (Taking n) = 0
+trying_of t (Giving n id) = 0
+trying_of t (Back n id) = 0
+trying_of t (Trying u n) = if u == t then 1 else 0
+
+-- of the passive word of c for t, what c is trying
+abbrev pub trying_at : List Hand → ℕ → ℕ → ℕ
+trying_at hands c t = trying_of t (slice_index_or hands c Empty)
 
 abbrev pub at_rest : Due → Bool
 at_rest Rest = true

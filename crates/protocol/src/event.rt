@@ -94,6 +94,12 @@ pub enum Event {
     Count,
     /// The CPU, which has no search under way, loads a shared word, inside a section or outside, and sees the whole history.
     Peek(u8, SharedWord),
+    /// The CPU counts its passive word of the slot up, to get a reference to the entry with this number. The CPU, the slot, the number.
+    Try(u8, u8, u64),
+    /// What the CPU has counted up is a reference: its entry has the slot, and is live, or was detached by the last change.
+    Confirm(u8),
+    /// The CPU counts down again what it has counted up.
+    TakeBack(u8),
 }
 
 /// The reply of an event.

@@ -1,9 +1,9 @@
 //! The laws of the core, over every list of events and of every state with the core invariant: functions that do nothing, whose contracts are
 //! the laws.
 
-ghost use Rattle.protocol.specs.Laws.{BalanceAtRest, DriversOutlive, EveryRunKeeps, FreshAnswers, GraceLaw, Headline, InvariantSuffices, LawfulAnswers, SafeReuse, WholePasses};
+ghost use Rattle.protocol.specs.Laws.{BalanceAtRest, DriversOutlive, EveryRunKeeps, FreshAnswers, GraceLaw, Headline, InvariantSuffices, LawfulAnswers, SafeReuse, UntriedRuns, WholePasses};
 ghost use Rattle.protocol.specs.Picture.{EveryRunIsModelRun};
-ghost use Rattle.protocol.specs.Rows.{CollectRace, FrozenLink};
+ghost use Rattle.protocol.specs.Rows.{CollectRace, FrozenLink, TryRace};
 
 /// Theorem, no effect at run time: the headline for the core. After every list of events from the opening:
 ///
@@ -18,10 +18,12 @@ pub fn headline()
 /// Theorem, no effect at run time: what every list of events keeps, also with events that aren't allowed.
 ///
 /// - `keeps`: the core invariant;
-/// - `modelled`: a run of the model reaches the picture of the state.
+/// - `modelled`: a run of the model reaches the picture of the state. Where no event is a Confirm, it takes no reference without a section.
+/// - `untried`: where no event is a Try, no CPU is trying, so each passive word counts references alone.
 pub fn every_run_keeps()
     ensures keeps { EveryRunKeeps }
     ensures modelled { EveryRunIsModelRun }
+    ensures untried { UntriedRuns }
 {}
 
 /// Theorem, no effect at run time: when a slot is reused.
@@ -71,11 +73,14 @@ pub fn invariant_suffices()
     ensures { InvariantSuffices }
 {}
 
-/// Theorem, no effect at run time: two lists of events reply as written, so the definitions aren't vacuous.
+/// Theorem, no effect at run time: three lists of events reply as written, so the definitions aren't vacuous.
 ///
 /// - `frozen_link`: a search goes on along the frozen link of an unlinked entry.
 /// - `collect_race`: a reference is given back while its count is collected.
+/// - `try_race`: a CPU gets a passive reference without a section, then one to an entry that is detached meanwhile, and comes too late for
+///   a slot that is freed and given again.
 pub fn worked_run()
     ensures frozen_link { FrozenLink }
     ensures collect_race { CollectRace }
+    ensures try_race { TryRace }
 {}

@@ -56,7 +56,7 @@ pub enum Loaded {
     Over(Entry),
 }
 
-/// A local reference that a CPU is about to split off or to give back.
+/// What a CPU is about to do: a local reference to split off or to give back, or a passive word that it has counted up to get a reference.
 #[derive(Clone, Copy, Debug, PartialEq, Eq)]
 pub enum Hand {
     /// None.
@@ -67,6 +67,8 @@ pub enum Hand {
     Giving(u64, u64),
     /// The same, and the CPU's word was found collected.
     Back(u64, u64),
+    /// The CPU's passive word of this slot was counted up for the entry with this number (slot, number), and is no reference yet.
+    Trying(u8, u64),
 }
 
 /// The place of a local reference, by its id.

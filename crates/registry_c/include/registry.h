@@ -218,7 +218,7 @@ enum {
 /* How far the destruction of a retired entry has come: the first thing that holds it. `what` says which CPU, how many, or which slot. */
 enum {
 	REGISTRY_GRACE = 0,	/* a section of this CPU may hold it */
-	REGISTRY_PASSIVE = 1,	/* this CPU has a passive reference to it */
+	REGISTRY_PASSIVE = 1,	/* this CPU has a passive reference to it, or is in a registry_get that may be acquiring one */
 	REGISTRY_LOCAL = 2,	/* this many local references to it are held */
 	REGISTRY_FREED = 3	/* nothing: this slot is vacant again */
 };
@@ -581,15 +581,19 @@ registry_answer registry_look_up(struct registry_cpu *cpu, uint64_t kind, const 
     REGISTRY_NONNULL(1) REGISTRY_CHECKED;
 
 /*
- * registry_get - enter, find, acquire and exit: a passive reference to the live entry with this kind and name
+ * registry_get - enter, find, acquire and exit, or loads and one addition: a passive reference to the live entry with this kind and name
  *
  * The number in `found` is the reference. The entry keeps its slot until that number is released by registry_release. Until then the memory that its
  * `value` points to may be used. It finds what registry_look_up finds.
+ * Outside any section the call first searches by loads alone, and adds the reference to a word of the CPU's own: no section begins, and no other shared
+ * word is written. If an attach or a detach is made meanwhile, if `name` is NULL or `kind` is no kind, if the CPU has passive_limit references to the
+ * entry, and inside an open section, it makes an enter, a find, an acquire and an exit. Until the call returns, a turn of the keeper's may write
+ * REGISTRY_PASSIVE of this CPU for a retired entry. The CPU need not have a reference then.
  * `found` may be NULL, for a caller that knows the number already, such as the one that attached the entry. The reference is acquired all the same.
  * Inside an open section the call is nested in it, as registry_look_up is.
  * Returns the errors of registry_look_up in their order, then REGISTRY_PASSIVE_FULL. With REGISTRY_PASSIVE_FULL nothing is acquired, but inside an open
  * section the entry is the last found one. After any result the CPU is as deep inside as before. Outside a section, the call uses up one of the CPU's
- * section_limit sections, unless it fails with one of the first three errors.
+ * section_limit sections if it begins one. REGISTRY_SECTIONS_SPENT is returned even if none would begin.
  */
 registry_answer registry_get(struct registry_cpu *cpu, uint64_t kind, const struct registry_name *name, struct registry_entry *found)
     REGISTRY_NONNULL(1) REGISTRY_CHECKED;
@@ -600,8 +604,8 @@ registry_answer registry_get(struct registry_cpu *cpu, uint64_t kind, const stru
  * REGISTRY_DONE leaves the CPU inside, one nesting deeper than before, and the caller makes the registry_exit. The entry is the last found one, and keeps
  * its slot until the section ends. Until then the memory that its `value` points to may be used. It finds what registry_look_up finds.
  * `found` may be NULL: the entry is found all the same, for registry_acquire or registry_local_acquire.
- * Returns the errors of registry_look_up in their order. A call that fails leaves the CPU as deep inside as before, and has no exit. It uses up a section
- * as registry_get does.
+ * Returns the errors of registry_look_up in their order. A call that fails leaves the CPU as deep inside as before, and has no exit. Outside a section,
+ * the call uses up one of the CPU's section_limit sections, unless it fails with one of the first three errors.
  */
 registry_answer registry_enter_find(struct registry_cpu *cpu, uint64_t kind, const struct registry_name *name, struct registry_entry *found)
     REGISTRY_NONNULL(1) REGISTRY_CHECKED;

@@ -8,8 +8,8 @@ use Rattle.registry_values.specs.Common.{least_below, or_next}
 use Rattle.protocol.specs.Common.{kept_of, one_if, kept_at}
 use Rattle.registry_values.proofs.Least.{least_is, none_below, least_none}
 use Rattle.protocol.proofs.slots.Numbers.{position_fails}
+use Rattle.passive_core.proofs.Advancing.{least_some}
 use Rattle.registry_report.specs.Common.{count_below, is_this}
-use Rattle.registry_report.proofs.sound.Turns.{least_some}
 
 -- equal tests have one count
 pub same_count : (p q : ℕ → Bool) (n : ℕ) → ((c : ℕ) → c < n → p c ≡ q c) → count_below p n ≡ count_below q n

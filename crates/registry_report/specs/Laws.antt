@@ -9,9 +9,9 @@ use Rattle.registry_report.specs.Registry.{opening_registry}
 use Rattle.registry_report.specs.Report.{after}
 use Rattle.registry_report.specs.Sound.{after_each}
 
--- Over the commands of every script the registry's model is reached by a run of lawful steps, from the one in which nothing has happened.
+-- Over the commands of every script the registry's model is reached by a run of lawful steps, from the one in which nothing has happened. It takes no reference without a section.
 abbrev pub ReportIsModelRun : Type 0
-ReportIsModelRun = (p : Program) → IsProgram p → IsModelRun empty_model (after_each after (opening_registry p.settings) p.commands).model
+ReportIsModelRun = (p : Program) → IsProgram p → IsModelRun ⊥ empty_model (after_each after (opening_registry p.settings) p.commands).model
 
 -- What is computed change by change is the lookup of the history at each point.
 abbrev pub LookupIsExact : Type 0

@@ -1,6 +1,6 @@
 -- What a session shows of a registry: each number and list of the core that an answer depends on, as the registry has it.
 use Rattle.std.specs.Prelude.{◌≡◌, ℕ, ◌+◌, ◌*◌, ◌<◌, List, length, sum_by, count_by, not, Option, Some, None, is_some, Bool, true, false, slice_index_or}
-use Rattle.registry_report.specs.Types.{Entry, Change, Slot, Retired, Mark, LocalPlace, CorePsref}
+use Rattle.registry_report.specs.Types.{Entry, Change, Hand, Slot, Retired, Mark, LocalPlace, CorePsref}
 use Rattle.registry_values.specs.Common.{bias, slot_at, live_count, slot_of}
 use Rattle.protocol.specs.Common.{mark_at, count_at, total_at, kept_at, local_at, EndsAt, number_standing, IsIn, standing_of, one_if, Model, number_in, passive_in}
 use Rattle.registry_report.specs.Changes.{is_attach}
@@ -8,12 +8,12 @@ use Rattle.registry_report.specs.Registry.{Registry}
 use Rattle.registry_report.specs.Session.{SessionState}
 
 -- the history, who found what, who holds what, and what is in the slots
-pub record ShowsModel (h : List Change) (begins : List (Option ℕ)) (found : List (Option Entry)) (passive : List (List ℕ)) (slots : List Slot) (locals : List LocalPlace) (keeps : List (Option ℕ))
-    (m : Model) : Type 0 where
+pub record ShowsModel (h : List Change) (begins : List (Option ℕ)) (found : List (Option Entry)) (passive : List (List ℕ)) (hands : List Hand) (slots : List Slot) (locals : List LocalPlace)
+    (keeps : List (Option ℕ)) (m : Model) : Type 0 where
   pub history : m.history ≡ h
   pub sections : (c : ℕ) → m.sections c ≡ slice_index_or begins c None
   pub last_found : (c : ℕ) → m.found c ≡ slice_index_or found c None
-  pub held : (c n : ℕ) → m.passive c n ≡ passive_in passive c (slot_of slots n)
+  pub held : (c n : ℕ) → m.passive c n ≡ passive_in passive hands c (slot_of slots n)
   pub counted : (n : ℕ) → m.locals n ≡ sum_by (standing_of n) locals
   pub occupants : (t : ℕ) → m.occupants t ≡ number_in (slot_at slots t)
   pub kept : (t : ℕ) → m.keeps t ≡ kept_at keeps t
@@ -59,7 +59,7 @@ pub record ShowsLabels (places : List LocalPlace) (passives : List (Option CoreP
 
 pub record Shows (s : SessionState) (r : Registry) : Type 0 where
   pub settings : r.settings ≡ s.core.settings
-  pub model : ShowsModel s.core.history s.core.begins s.core.found s.core.passive s.core.slots s.core.locals s.core.keeps r.model
+  pub model : ShowsModel s.core.history s.core.begins s.core.found s.core.passive s.core.hands s.core.slots s.core.locals s.core.keeps r.model
   pub sections : ShowsSections s.core.section s.core.depths s.core.begins r.depths r.begun
   pub live : CountsLive s.core.history s.core.slots
   pub grace : SnapshotsFollow s.core.history s.core.slots s.core.marks s.core.section s.core.begins

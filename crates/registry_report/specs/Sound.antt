@@ -39,7 +39,7 @@ IsSound r = IsSoundModel r.settings r.model r.local_labels
 
 -- a turn from r to q keeps that and the settings, and is a run of lawful steps
 abbrev pub IsLawfulTurn : Registry → Registry → Type 0
-IsLawfulTurn r q = IsSound q × IsModelRun r.model q.model × (q.settings ≡ r.settings)
+IsLawfulTurn r q = IsSound q × IsModelRun ⊥ r.model q.model × (q.settings ≡ r.settings)
 
 -- the registry after commands, one after the other
 abbrev pub after_each : {C : Type 0} → (Registry → C → Registry) → Registry → List C → Registry

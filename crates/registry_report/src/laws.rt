@@ -4,7 +4,8 @@ ghost use Rattle.registry_report.specs.Laws.{EndIsExact, LeastIsLeast, LookupIsE
 
 /// Theorem, no effect at run time: the report of a script follows the model.
 ///
-/// - `modelled`: over the commands of every script the registry of the report goes on by lawful steps of the model.
+/// - `modelled`: over the commands of every script the registry of the report goes on by lawful steps of the model, and takes no reference
+///   without a section.
 /// - `lookups`, `ends`: what the report computes of the history is what the history says.
 /// - `least`: the first-fit slot, and the first obstacle of a destroy, are the lowest-numbered.
 pub fn report_laws()

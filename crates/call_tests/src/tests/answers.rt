@@ -10,7 +10,7 @@ pub(crate) enum Answer {
     Refused(Refusal),
     /// Nothing was found.
     Nothing,
-    /// Loads alone told nothing, as a change was counted meanwhile.
+    /// Loads alone told nothing: a change was counted meanwhile, or a get met the limit of references.
     Vain,
     /// The entry with this number, in this slot.
     At(u64, u8),

@@ -8,8 +8,8 @@ use super::bench::Call::{Attach, Destroy, Detach};
 use super::bench::Step::{self, By, Reads};
 use super::bench::{Bench, blank};
 use super::keepers::published;
-use super::readers::Reader::{Acquire, Enter, Exit, Find, Loads, Read, Release};
-use super::readers::found_by_loads;
+use super::readers::Reader::{Acquire, Enter, Exit, Find, Get, Loads, Read, Release};
+use super::readers::{Held, by_reader, found_by_loads};
 use super::records::{DRIVER_WM0, VGA, WM, WM0, Wanted, record};
 use super::table::{Table, opened};
 use super::walks::{change_until, nth};
@@ -208,6 +208,55 @@ fn number_from_outside<D: Domain>(words: &Words, cpu: &mut Cpu<D>, rec: Record) 
         return None;
     }
     find_from_outside(words, &mut cpu.plain, rec.kind, rec.name).map(|seen| seen.number)
+}
+
+#[test]
+fn gets_meanwhile(rt: HostRuntime) -> Result<(), Fail> {
+    gets_beside::<Brand, _>(&rt, rt.alloc(), blank(rt.alloc(), SLOTS, MOST_CHANGES)?)
+}
+
+/// The driver wm stays. The other thread attaches the driver vga and takes it out again, until a get of wm was in vain.
+fn gets_beside<D: Domain + Send, R: Threads + Wait + Abort + Sync>(
+    rt: &R,
+    alloc: Global,
+    blank: Blank,
+) -> Result<(), Fail>
+    requires { IsBlankOf blank D.table D.settings D.name D.parts }
+{
+    let mut bench = Bench::<D>::open(alloc, blank)?;
+    bench.run(rt, "a driver that stays", &[(By(0, Attach(WM)), At(1, 0))]);
+    let (registry, first, second, _third) = bench.apart()?;
+    let (registry, done) = (&registry, &AtomicBool::new(false));
+    let (was_in_vain, changes) = join(
+        rt,
+        move || get_until_vain(rt, registry, first, done),
+        move || change_until(rt, registry, second, done, done),
+    );
+    assert!(rt; was_in_vain);
+    assert!(rt; 0 < changes);
+    Ok(())
+}
+
+/// Gets wm by loads until that was in vain. Each reference before is released.
+fn get_until_vain<D: Domain, R: Abort>(
+    rt: &R,
+    registry: &Registry<D>,
+    mut cpu: Cpu<D>,
+    done: &AtomicBool,
+) -> bool {
+    let mut refs = Held::nothing();
+    for _ in 0..LOOKUPS {
+        if by_reader(rt, registry.words(), &mut cpu, &mut refs, Get(WM)) == Vain {
+            done.store(true, Ordering::SeqCst);
+            refs.end(rt);
+            return true;
+        }
+        let answer = by_reader(rt, registry.words(), &mut cpu, &mut refs, Release);
+        assert_eq!(rt; answer, Done);
+    }
+    done.store(true, Ordering::SeqCst);
+    refs.end(rt);
+    false
 }
 
 /// The count of changes moves on between a lookup's first load and its last.

@@ -7,7 +7,7 @@ use super::records::{WM, Wanted, record};
 use cpu_words::{Domain, Words};
 use local_count::{LocalRef, acquire_local};
 use passive_list::{Cpu, enter, exit, find, find_by_loads, walk};
-use passive_ref::{Psref, acquire, copy, held, read, release};
+use passive_ref::{Psref, acquire, copy, get_by_loads, held, read, release};
 use registry_values::{Entry, MOST_SLOTS, Record, Refusal};
 use std::process::Abort;
 
@@ -19,6 +19,8 @@ pub(crate) enum Reader {
     Find(Wanted),
     /// It looks up by loads alone.
     Loads(Wanted),
+    /// It looks up by loads alone, and acquires a passive reference to what it finds.
+    Get(Wanted),
     /// It walks over all entries, and meets these numbers with their records. The last found entry is then none.
     Walk(&'static [(u64, Wanted)]),
     /// It acquires a local reference to what it found last.
@@ -126,6 +128,7 @@ pub(crate) fn by_reader<D: Domain, R: Abort>(
         Reader::Exit => exited(rt, words, cpu),
         Reader::Find(wanted) => found(rt, words, cpu, record(rt, wanted)),
         Reader::Loads(wanted) => found_by_loads(rt, words, cpu, record(rt, wanted)),
+        Reader::Get(wanted) => got_by_loads(rt, words, cpu, refs, record(rt, wanted)),
         Reader::Walk(met) => meets(rt, words, cpu, met),
         Reader::Count => kept(rt, &mut refs.local, acquire_local(words, cpu)),
         Reader::Acquire => kept(rt, &mut refs.passive, acquire(words, cpu)),
@@ -178,6 +181,28 @@ pub(crate) fn found_by_loads<D: Domain, R: Abort>(
             assert_eq!(rt; seen.value, rec.value);
             assert!(rt; seen.slot < MOST_SLOTS as u64);
             Answer::At(seen.number, seen.slot as u8)
+        }
+        Some(None) => Answer::Nothing,
+        None => Answer::Vain,
+    }
+}
+
+/// The CPU gets a passive reference to the entry with the record's kind and name, without a section.
+fn got_by_loads<D: Domain, R: Abort>(
+    rt: &R,
+    words: &Words,
+    cpu: &mut Cpu<D>,
+    refs: &mut Held<D>,
+    rec: Record,
+) -> Answer
+    requires words { AreWordsOf words.now D.table D.settings }
+{
+    match get_by_loads(words, &mut cpu.plain, rec.kind, rec.name) {
+        Some(Some((seen, psref))) => {
+            assert_eq!(rt; (seen.number, seen.value), (psref.number(), rec.value));
+            assert!(rt; seen.slot < MOST_SLOTS as u64);
+            put(rt, &mut refs.passive, psref);
+            Answer::Done
         }
         Some(None) => Answer::Nothing,
         None => Answer::Vain,

@@ -3,11 +3,11 @@
 ghost use Rattle.std.specs.Prelude.{◌≡◌};
 ghost use Rattle.cpu_words.specs.Common.{AreWordsOf};
 
-use super::answers::Answer::{self, At, Done, Is, Looks, Names, Refused};
+use super::answers::Answer::{self, At, Done, Is, Looks, Names, Nothing, Refused, Vain};
 use super::keepers::Writer::{Look, LookPassive, Publish, Retire};
 use super::readers::Held;
 use super::readers::Reader::{
-    Acquire, Copy, Enter, Exit, Find, Forget, Holds, Read, Reference, Release,
+    Acquire, Copy, Enter, Exit, Find, Forget, Get, Holds, Read, Reference, Release,
 };
 use super::records::DRIVER_WM0;
 use super::table::Step::{self, First, Keeper, Second};
@@ -26,7 +26,7 @@ struct Row {
     steps: &'static [(Step, Answer)],
 }
 
-const ROWS: [Row; 5] = [
+const ROWS: [Row; 7] = [
     Row {
         name: "retire_under_section",
         steps: &[
@@ -110,6 +110,47 @@ const ROWS: [Row; 5] = [
             (First(Copy), Refused(Refusal::PassiveFull)),
             (First(Exit), Done),
             (First(Release), Done),
+            (Keeper(Retire(DRIVER_WM0)), At(1, 0)),
+            (Keeper(Look), Looks(true, true)),
+            (Keeper(LookPassive), Looks(false, true)),
+        ],
+    },
+    // A reference that was got without a section holds its entry as any other does.
+    Row {
+        name: "get_by_loads",
+        steps: &[
+            (First(Get(DRIVER_WM0)), Nothing),
+            (Keeper(Publish(DRIVER_WM0)), At(1, 0)),
+            (First(Get(DRIVER_WM0)), Done),
+            (First(Reference), Names(0, 1)),
+            (First(Holds), Is(true)),
+            (Second(Holds), Is(false)),
+            (Keeper(Retire(DRIVER_WM0)), At(1, 0)),
+            (Keeper(Look), Looks(true, true)),
+            (Keeper(LookPassive), Looks(false, true)),
+            (First(Read(DRIVER_WM0)), Done),
+            (First(Release), Done),
+            (First(Get(DRIVER_WM0)), Nothing),
+            (Keeper(LookPassive), Looks(true, true)),
+        ],
+    },
+    // One of three gets goes beyond the limit; inside a section a get is no find.
+    Row {
+        name: "gets_are_limited",
+        steps: &[
+            (Keeper(Publish(DRIVER_WM0)), At(1, 0)),
+            (First(Enter), Done),
+            (First(Get(DRIVER_WM0)), Done),
+            (First(Acquire), Refused(Refusal::NothingFound)),
+            (First(Exit), Done),
+            (First(Copy), Done),
+            (First(Forget), Done),
+            (First(Release), Done),
+            (First(Get(DRIVER_WM0)), Done),
+            (First(Forget), Done),
+            (First(Get(DRIVER_WM0)), Vain),
+            (Second(Get(DRIVER_WM0)), Done),
+            (Second(Release), Done),
             (Keeper(Retire(DRIVER_WM0)), At(1, 0)),
             (Keeper(Look), Looks(true, true)),
             (Keeper(LookPassive), Looks(false, true)),

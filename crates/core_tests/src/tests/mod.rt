@@ -8,4 +8,5 @@ mod event_rows;
 mod give;
 mod memory_tests;
 mod peek_rows;
+mod try_rows;
 mod values;

@@ -14,7 +14,7 @@ use Rattle.protocol.proofs.slots.Cells.{get_or_all, row_here, row_other, cell_he
 use Rattle.protocol.proofs.history.History.{at_within, one_entry}
 use Rattle.protocol.proofs.slots.Occupied.{not_vacant, one_in, one_number, attached_in}
 use Rattle.cpu_words.specs.Common.{InHand, CpuView, Spot, section_of, passive_of, count_of, head_word, changes_word, next_of, record_of, total_of, word_at, index, number_at, with_number, one_more, own_of, cpu_view}
-use Rattle.cpu_words.specs.Common.{SameHand, HandFits, depth_of, collected_net, collected_one, GivesUp, CpuShown, Agrees, Good, IsNetCount, IsPlaceCount, IsMetAlone}
+use Rattle.cpu_words.specs.Common.{SameHand, HandFits, depth_of, collected_net, collected_one, GivesUp, CpuShown, PeekShows, trying_in, Agrees, Good, IsNetCount, IsPlaceCount, IsMetAlone}
 use Rattle.cpu_words.proofs.shown.Placing.{agrees_set}
 use Rattle.cpu_words.proofs.by_cpu.CpuSteps.{CpuLists, lists_of, with_lists, LeavesOthers}
 use Rattle.cpu_words.proofs.shown.Seeing.{seen_of}
@@ -187,9 +187,9 @@ met_alone g x e had attached u same =
 
 pub shown_count : (g : State) (x : CpuView) (e : Entry) (t w v : ℕ) (h : Hand) (locals : List LocalPlace) (k : InHand) (acquired released : List ℕ) → Good g → CpuShown g x → IsIn e (slot_at g.slots t)
     → t < g.settings.slots
-    → Recount x e v acquired released → SameHand h k → HandFits g.history g.slots g.marks x.id k
+    → Recount x e v acquired released → SameHand h k → HandFits g.history g.slots g.marks x.id k → ((u : ℕ) → trying_in u k ≡ trying_in u x.hand)
     → CpuShown (with_lists g (count_lists g x.id t w v h locals)) (recounted g x t e.number (count_lists g x.id t w v h locals) k acquired released)
-shown_count g x e t w v h locals k acquired released good had here lt count same fits =
+shown_count g x e t w v h locals k acquired released good had here lt count same fits tries =
     let seen = seen_of g x good had in
     let most : g.settings.cpus ≤ MOST_CPUS = seen.fit.cpus in
     let id : x.id < g.settings.cpus = seen.lt in
@@ -203,7 +203,7 @@ shown_count g x e t w v h locals k acquired released good had here lt count same
       hand = subst (λ j. SameHand j k) (sym (get_or-set_same g.hands x.id h Empty seen.in_hands)) same;
       in_hand = fits;
       depth = had.depth ∙ ap depth_of seen.begin;
-      passive = had.passive;
+      passive = λ u f there. let was = had.passive u f there in let stays = tries u in omega (arith, was, stays);
       gone = had.gone;
       nets = λ u f there. dite (ℕ_discrete u t)
           (λ (on : u ≡ t).
@@ -222,6 +222,6 @@ shown_count g x e t w v h locals k acquired released good had here lt count same
       there = there_on g x e t good had here;
       found = λ f is. subst (λ (p : List Change). IsAttached p f) seen.pass (had.found f (seen.found ∙ is));
       references = λ f among. subst (λ (p : List Change). IsAttached p f) seen.pass (had.references f among);
-      peek = had.peek;
+      peek = subst (λ (p : List Change). PeekShows p g.changes x.peek) seen.pass had.peek;
       noted_pass = had.noted_pass;
     }

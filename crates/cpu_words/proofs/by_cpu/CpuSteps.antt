@@ -7,11 +7,12 @@ use Rattle.cpu_words.specs.Types.{Entry, Change, Settings, Event, Reply, Vacant,
 use Rattle.protocol.specs.Common.{IsAttached, State, section_at, begin_at, depth_at, seen_at, search_at, found_at, hand_at, passive_at, count_at, step, standing_of}
 use Rattle.registry_values.specs.Common.{slot_at}
 use Rattle.protocol.proofs.keeps.Keeping.{step_holds}
-use Rattle.cpu_words.specs.Common.{CpuView, View, Keeper, Cpu, Reference, Note, Spent, CpuOwn, own_of, cpu_view, SameHand, depth_of, GivesUp, CpuShown, Agrees, IsFresh, Good, Ruled, GoesOn, by_number}
+use Rattle.cpu_words.specs.Common.{CpuView, View, Keeper, Cpu, Reference, Note, Spent, CpuOwn, own_of, cpu_view, SameHand, depth_of, GivesUp, CpuShown, PeekShows, Agrees, IsFresh, Good, Ruled, GoesOn, by_number}
 use Rattle.cpu_words.specs.Common.{did, Makes}
 use Rattle.cpu_words.proofs.shown.Showing.{standing_in, Stay, shows_set}
 use Rattle.cpu_words.proofs.laws.Reaching.{more}
-use Rattle.cpu_words.proofs.shown.Passes.{attached_longer}
+use Rattle.cpu_words.proofs.shown.Passes.{attached_longer, prefix_longer}
+use Rattle.cpu_words.proofs.shown.Peeks.{peek_longer}
 
 -- what an event of a CPU can change in the core
 pub record CpuLists : Type 0 where
@@ -210,7 +211,10 @@ shown_on g x l had hands passive nets depth more within found = record {
   found = found;
   references = λ e among. attached_longer g.history (seen_at g x.id) (get_or l.seen x.id 0) e more within
       (subst (λ (p : List Change). IsAttached p e) (ap (λ (v : CpuView). v.pass) had.is) (had.references e among));
-  peek = had.peek;
+  peek = peek_longer (take (seen_at g x.id) g.history) (take (get_or l.seen x.id 0) g.history) g.changes g.changes x.peek
+      (prefix_longer g.history (seen_at g x.id) (get_or l.seen x.id 0) more within)
+      (omega arith)
+      (subst (λ (p : List Change). PeekShows p g.changes x.peek) (ap (λ (v : CpuView). v.pass) had.is) had.peek);
   noted_pass = had.noted_pass;
 }
 

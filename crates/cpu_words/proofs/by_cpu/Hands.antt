@@ -4,7 +4,7 @@ use mathlib.Core.Option.{some}
 use lib.ListN.{get_elem?}
 use Rattle.atomic_table.specs.Table.{Splits, Joins}
 use Rattle.atomic_table.proofs.Lists.{at_set}
-use Rattle.cpu_words.specs.Types.{Entry, Settings, Event, SplitRef, JoinRef, SplitBack, Reply, Done, Ref, Hand, Empty, Taking, Giving, Back, LocalPlace, Standing, Lifted}
+use Rattle.cpu_words.specs.Types.{Entry, Settings, Event, SplitRef, JoinRef, SplitBack, Reply, Done, Ref, Hand, Empty, Taking, Giving, Back, Trying, LocalPlace, Standing, Lifted}
 use Rattle.protocol.specs.Common.{IsAttached, State, hand_at, local_at, step, number_standing, least_id, with_local, split_ref, split_back, one_if, standing_of}
 use Rattle.protocol.proofs.counts.Bounds.{back_within}
 use Rattle.protocol.proofs.keeps.References.{back_holds}
@@ -15,13 +15,13 @@ use Rattle.cpu_words.proofs.shown.Standing.{standing_place}
 use Rattle.cpu_words.specs.Common.{InHand, CpuView, ReferenceView, LogItem, Logged, View, Cpu, Reference, Spent, Spot, section_of, passive_of, count_of, head_word, changes_word, next_of, record_of, total_of}
 use Rattle.cpu_words.specs.Common.{word_at, is_to, SameHand, HandFits, IsCollectedFor, CpuShown, ReferenceShown, cpu_of, reference_of, reference_to, Good, number_or_none, number_of_id, by_number, did}
 use Rattle.cpu_words.specs.Common.{log_of_events, the_cpu, maker, LoggedRuled, logged_after_split, no_log, no_teller, fresh, joined_seat, spent_seat, leaves_hand, cuts_off, takes_in, SplitsBy}
-use Rattle.cpu_words.specs.Common.{JoinsBy, SplitsOn, JoinsOn, IsIdle, with_hand, reference_in, with_empty_hand, reference_of_hand, with_reference_in_hand, IsTaking, IsBack}
+use Rattle.cpu_words.specs.Common.{JoinsBy, SplitsOn, JoinsOn, IsIdle, with_hand, reference_in, with_empty_hand, reference_of_hand, with_reference_in_hand, IsTaking, IsBack, IsTrying, trying_in}
 use Rattle.cpu_words.specs.Common.{HasNone, is_border, is_hear}
-use Rattle.cpu_words.specs.declared.view.InHand.TheVariants.{Empty as NoEntry, Taking as TakingEntry, Giving as GivingEntry, Back as BackEntry}
+use Rattle.cpu_words.specs.declared.view.InHand.TheVariants.{Empty as NoEntry, Taking as TakingEntry, Giving as GivingEntry, Back as BackEntry, Trying as TryingEntry}
 use Rattle.cpu_words.proofs.shown.Showing.{standing_in, backed, shows_split, shows_join}
 use Rattle.cpu_words.proofs.shown.Placing.{agrees_same}
 use Rattle.cpu_words.proofs.by_cpu.CpuSteps.{CpuLists, lists_of, with_lists, LeavesOthers, cpu_stays, good_after}
-use Rattle.cpu_words.proofs.shown.Seeing.{seen_of, idle_of}
+use Rattle.cpu_words.proofs.shown.Seeing.{seen_of, idle_of, idle_tries}
 
 -- another hand of the CPU c, and other places of references
 abbrev pub hand_lists : State → ℕ → Hand → List LocalPlace → CpuLists
@@ -63,18 +63,28 @@ same_taking Empty e same = absurd same
 same_taking (Taking n) e same = ap Taking same
 same_taking (Giving n id) e same = absurd same
 same_taking (Back n id) e same = absurd same
+same_taking (Trying t n) e same = absurd same
 
 pub same_giving : (h : Hand) (e : Entry) → SameHand h (GivingEntry e) → (id : ℕ) × (h ≡ Giving e.number id)
 same_giving Empty e same = absurd same
 same_giving (Taking n) e same = absurd same
 same_giving (Giving n id) e same = (id, ap (λ m. Giving m id) same)
 same_giving (Back n id) e same = absurd same
+same_giving (Trying t n) e same = absurd same
 
 pub same_back : (h : Hand) (e : Entry) → SameHand h (BackEntry e) → (id : ℕ) × (h ≡ Back e.number id)
 same_back Empty e same = absurd same
 same_back (Taking n) e same = absurd same
 same_back (Giving n id) e same = absurd same
 same_back (Back n id) e same = (id, ap (λ m. Back m id) same)
+same_back (Trying t n) e same = absurd same
+
+pub same_trying : (h : Hand) (e : Entry) → SameHand h (TryingEntry e) → h ≡ Trying e.slot e.number
+same_trying Empty e same = absurd same
+same_trying (Taking n) e same = absurd same
+same_trying (Giving n id) e same = absurd same
+same_trying (Back n id) e same = absurd same
+same_trying (Trying t n) e same = λ k. Trying (same.0 k) (same.1 k)
 
 pub taking_hand : (g : State) (x : CpuView) (e : Entry) → CpuShown g x → IsTaking x e → hand_at g x.id ≡ Taking e.number
 taking_hand g x e had is = same_taking (hand_at g x.id) e (subst (SameHand (hand_at g x.id)) is had.hand)
@@ -85,6 +95,9 @@ giving_hand g x e had is = same_giving (hand_at g x.id) e (subst (SameHand (hand
 pub back_hand : (g : State) (x : CpuView) (e : Entry) → CpuShown g x → IsBack x e → (id : ℕ) × (hand_at g x.id ≡ Back e.number id)
 back_hand g x e had is = same_back (hand_at g x.id) e (subst (SameHand (hand_at g x.id)) is had.hand)
 
+pub trying_hand : (g : State) (x : CpuView) (e : Entry) → CpuShown g x → IsTrying x e → hand_at g x.id ≡ Trying e.slot e.number
+trying_hand g x e had is = same_trying (hand_at g x.id) e (subst (SameHand (hand_at g x.id)) is had.hand)
+
 -- an event of the CPU that changes its hand, to k, and the places of references
 pub record HandStep (g : State) (x : CpuView) (e : Event) (r : Reply) (k : InHand) : Type 0 where
   pub h : Hand
@@ -92,17 +105,18 @@ pub record HandStep (g : State) (x : CpuView) (e : Event) (r : Reply) (k : InHan
   pub made : step g e ≡ Some (record { state = handed g x.id h locals; reply = r })
   pub same : SameHand h k
   pub fits : HandFits g.history g.slots g.marks x.id k
+  pub tries : (t : ℕ) → trying_in t k ≡ trying_in t x.hand
 
 pub shown_hand : (g : State) (x : CpuView) (h : Hand) (locals : List LocalPlace) (k : InHand) → Good g → CpuShown g x → SameHand h k → HandFits g.history g.slots g.marks x.id k
-    → CpuShown (handed g x.id h locals) (with_hand x k)
-shown_hand g x h locals k good had same fits =
+    → ((t : ℕ) → trying_in t k ≡ trying_in t x.hand) → CpuShown (handed g x.id h locals) (with_hand x k)
+shown_hand g x h locals k good had same fits tries =
     let seen = seen_of g x good had in record {
       seated = had.seated;
       is = ap (λ (v : CpuView). with_hand v k) had.is;
       hand = subst (λ j. SameHand j k) (sym (get_or-set_same g.hands x.id h Empty seen.in_hands)) same;
       in_hand = fits;
       depth = had.depth;
-      passive = had.passive;
+      passive = λ t e here. let was = had.passive t e here in let stays = tries t in omega (arith, was, stays);
       gone = had.gone;
       nets = had.nets;
       later = had.later;
@@ -136,7 +150,7 @@ splits_by x e leaves g good had =
       reply = p.r;
       made = m.made;
       good_after = good_after g (hand_lists g x.id m.h m.locals) x.id e p.r good (leaves_hands g x.id m.h m.locals) had.seated m.made;
-      shown = shown_hand g x m.h m.locals NoEntry good had m.same m.fits;
+      shown = shown_hand g x m.h m.locals NoEntry good had m.same m.fits m.tries;
       shown_right = record { attached = p.right.attached; collected = p.right.collected };
       count = λ n. let h = p.count n in omega arith;
     }
@@ -160,7 +174,7 @@ splits z i x e leaves s r at =
         reached = (more z g (with_lists g l) e p.r r.reached m.made).0;
         words = agrees_same s.words g (with_lists g l) r.words refl (λ q there. same_words g x.id m.h m.locals q);
         shows = shows_split g (with_lists g l) r.seat s.views i (Cpu x) (with_empty_hand (Cpu x)) (reference_of_hand (Cpu x)) r.shows at (cpu_stays g l x.id r.seat i after had.0)
-            (had.0, shown_hand g x m.h m.locals NoEntry r.good had.1 m.same m.fits) (tt, record { attached = p.right.attached; collected = p.right.collected }) (λ c lt. inl lt) refl
+            (had.0, shown_hand g x m.h m.locals NoEntry r.good had.1 m.same m.fits m.tries) (tt, record { attached = p.right.attached; collected = p.right.collected }) (λ c lt. inl lt) refl
             (λ n. let h = p.count n in omega arith);
       };
     }
@@ -171,6 +185,7 @@ leaves_quietly of c NoEntry split back = tt
 leaves_quietly of c (TakingEntry e) split back = (split c, tt)
 leaves_quietly of c (GivingEntry e) split back = tt
 leaves_quietly of c (BackEntry e) split back = (back c, tt)
+leaves_quietly of c (TryingEntry e) split back = tt
 
 -- the same of a seat, whose view is a CPU's
 
@@ -212,6 +227,7 @@ split_ref_leaves x c id may = subst (λ d. LeavesHand (SplitRef d) x) id (λ g g
         made = ap (split_ref g x.id) hand;
         same = tt;
         fits = tt;
+        tries = λ t. sym (ap (trying_in t) may.1);
       };
       right = subst (ReferenceShown g) (sym there) (record { attached = attached; collected = λ d no. absurd (let q : ◌≡◌ {A = Option ℕ} None (Some d) = no in cc) });
       count = λ k. let a = local_added k g.locals (Standing n) in
@@ -236,6 +252,7 @@ split_back_leaves x c id may = subst (λ d. LeavesHand (SplitBack d) x) id (λ g
         made = ap (split_back g x.id) was.1;
         same = tt;
         fits = tt;
+        tries = λ t. sym (ap (trying_in t) may.1);
       };
       right = subst (ReferenceShown g) (sym there) (record { attached = fits.0; collected = λ d is. subst (IsCollectedFor g.slots g.marks e) (some_same is) fits.1 });
       count = λ k.
@@ -271,6 +288,7 @@ coming x c id idle e g good had attached some_one =
         made = rw (stands, idle_of g x seen had idle) refl;
         same = refl;
         fits = attached;
+        tries = λ t. sym (idle_tries x t idle);
       };
       count = λ k. let a = local_changed k g.locals p (Standing n) (Lifted x.id) (standing_within g.locals p n place.1) place.1 in omega arith;
     })
@@ -292,7 +310,7 @@ joins_by x c v id idle g good had shown has =
       after = handed g x.id m.h m.locals;
       made = m.made;
       good_after = good_after g (hand_lists g x.id m.h m.locals) x.id (JoinRef c p.id) Done good (leaves_hands g x.id m.h m.locals) had.seated m.made;
-      shown = shown_hand g x m.h m.locals (GivingEntry v.entry) good had m.same m.fits;
+      shown = shown_hand g x m.h m.locals (GivingEntry v.entry) good had m.same m.fits m.tries;
       count = λ n. let h = p.count n in omega arith;
     }
 
@@ -323,7 +341,7 @@ joins z i o x v idle s r at apart there =
         reached = (more z g (with_lists g l) (JoinRef x.id p.id) Done r.reached m.made).0;
         words = agrees_same s.words g (with_lists g l) r.words refl (λ q there. same_words g x.id m.h m.locals q);
         shows = shows_join g (with_lists g l) r.seat s.views i (Cpu x) o (Reference v) both r.shows at apart was (cpu_stays g l x.id r.seat i after had.0)
-            (had.0, shown_hand g x m.h m.locals (GivingEntry v.entry) r.good had.1 m.same m.fits) refl (refl, refl) (λ n. let h = p.count n in omega arith) there;
+            (had.0, shown_hand g x m.h m.locals (GivingEntry v.entry) r.good had.1 m.same m.fits m.tries) refl (refl, refl) (λ n. let h = p.count n in omega arith) there;
       };
     }
 

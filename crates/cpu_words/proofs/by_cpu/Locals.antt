@@ -20,10 +20,10 @@ use Rattle.protocol.proofs.counts.Sums.{local_changed}
 use Rattle.cpu_words.specs.declared.view.InHand.TheVariants.{Empty as NoEntry, Taking as TakingEntry, Giving as GivingEntry, Back as BackEntry}
 use Rattle.cpu_words.specs.Common.{CpuView, View, Cpu, count_of, index, number_at, with_number, one_more, own_of, cpu_view, HandFits, IsCollectedFor, CpuShown, cpu_of, Agrees, Good, Ruled, GoesOn}
 use Rattle.cpu_words.specs.Common.{did, Makes, CpuMay, down_reply, IsNetCount, IsPlaceCount, IsMetAlone, MayCount, HasCounted, CountTold, MayCountDown, HasCountedDown, HasFoundCollected, DownTold}
-use Rattle.cpu_words.specs.Common.{with_hand}
+use Rattle.cpu_words.specs.Common.{with_hand, trying_in}
 use Rattle.cpu_words.proofs.shown.Placing.{agrees_set}
 use Rattle.cpu_words.proofs.by_cpu.CpuSteps.{with_lists, cpu_makes}
-use Rattle.cpu_words.proofs.shown.Seeing.{Seen, seen_of, idle_of}
+use Rattle.cpu_words.proofs.shown.Seeing.{Seen, seen_of, idle_of, idle_tries}
 use Rattle.cpu_words.proofs.by_cpu.Hands.{giving_hand, hand_lists, leaves_hands, same_words, shown_hand}
 use Rattle.cpu_words.proofs.by_cpu.Counting.{count_lists, one_more_same, one_more_other, place_is, met_alone, leaves_counts, count_words, Recount, recounted, shown_count}
 
@@ -66,7 +66,8 @@ count_add_at z x e may is s r i at fits =
       same_released = λ m ne. refl;
     } in
     let attached : IsAttached g.history e = (attached_in g.history g.slots t e r.good.holds.slots counts.1).0 in
-    let shown = shown_count g x e t (count_at g.counts c t + 1) (count_at g.nets c t + 1) (Taking n) g.locals (TakingEntry e) acquired x.released r.good had counts.1 there after refl attached in
+    let shown = shown_count g x e t (count_at g.counts c t + 1) (count_at g.nets c t + 1) (Taking n) g.locals (TakingEntry e) acquired x.released r.good had counts.1 there after refl attached
+    (λ u. sym (idle_tries x u may.idle)) in
     let made : step g (CountAdd c) ≡ Some (record { state = with_lists g l; reply = Word word }) =
     rw (found, counts.0, idle_of g x seen had may.idle, lt-ltb (count_at g.nets c t) (bias + g.settings.count_limit) room, has) refl in
     let words = subst (λ m. Agrees (set s.words (index (count_of c t)) m) (with_lists g l)) (sym next)
@@ -191,7 +192,8 @@ down_counted z s r i x e old at is p found =
       same_acquired = λ m ne. refl;
       same_released = λ m ne. one_more_other x.released n m ne;
     } in
-    let shown = shown_count g x e t (count_at g.counts c t - 1) (count_at g.nets c t - 1) Empty locals NoEntry x.acquired released r.good p.had p.here p.there after tt tt in
+    let shown = shown_count g x e t (count_at g.counts c t - 1) (count_at g.nets c t - 1) Empty locals NoEntry x.acquired released r.good p.had p.here p.there after tt tt
+    (λ u. sym (ap (trying_in u) is)) in
     let made : step g (CountDown c) ≡ Some (record { state = with_lists g l; reply = Word word }) = rw (p.hand, p.slot, eq-eqb (count_at g.counts c t) (count_at g.nets c t) same, has) refl in
     let next : count_at g.counts c t - 1 ≡ old - 1 = ap (λ k. k - 1) (same ∙ net) in
     let words = subst (λ m. Agrees (set s.words (index (count_of c t)) m) (with_lists g l)) next
@@ -225,7 +227,7 @@ down_collected z s r i x e old at is p off =
     (λ (gone : (slot_at g.slots t ≡ Retired e) × ((mark_at g.marks t c).collected ≡ true)). gone)
     (counting_cases g.slots g.marks c t e p.here) in
     let l = hand_lists g c (Back n p.id) g.locals in
-    let shown = shown_hand g x (Back n p.id) g.locals (BackEntry e) r.good p.had refl (p.attached, gone) in
+    let shown = shown_hand g x (Back n p.id) g.locals (BackEntry e) r.good p.had refl (p.attached, gone) (λ u. sym (ap (trying_in u) is)) in
     let view : with_hand x (BackEntry e) ≡ cpu_view (with_lists g l) c (record (own_of x) { hand = BackEntry e }) = ap (λ (v : CpuView). with_hand v (BackEntry e)) p.had.is in
     let made : step g (CountDown c) ≡ Some (record { state = with_lists g l; reply = Collected }) = rw (p.hand, p.slot, ne_eqb (count_at g.counts c t) (count_at g.nets c t) differs) refl in
     let words = agrees_set s.words g (with_lists g l) (count_of c t) word r.good.holds.fit r.words refl (p.seen.lt, p.there) (sym has) (λ q there ne. same_words g c (Back n p.id) g.locals q) in

@@ -16,13 +16,13 @@ use Rattle.protocol.proofs.slots.Cells.{cell_here, cell_other}
 use Rattle.protocol.proofs.slots.Occupied.{attached_in, one_in, in_within, one_number, slot_occupied, slot_found}
 use Rattle.protocol.proofs.slots.Numbers.{slot_number}
 use Rattle.cpu_words.specs.Common.{CpuView, LogItem, View, Cpu, Spot, section_of, passive_of, count_of, head_word, changes_word, next_of, record_of, total_of, word_at, index, CpuOwn, own_of, cpu_view, depth_of}
-use Rattle.cpu_words.specs.Common.{references_to, without, CpuShown, cpu_of, Agrees, Good, Ruled, GoesOn, by_number, did, Makes, CpuMay, IsIdle, MayAdd, MayUse, HasSubtracted, IsAloneAt, tells_added}
+use Rattle.cpu_words.specs.Common.{references_to, trying_in, without, CpuShown, PeekShows, cpu_of, Agrees, Good, Ruled, GoesOn, by_number, did, Makes, CpuMay, IsIdle, MayAdd, MayUse, HasSubtracted, IsAloneAt, tells_added}
 use Rattle.cpu_words.specs.Common.{tells_subtracted, tells_passive}
 use Rattle.cpu_words.proofs.shown.Placing.{agrees_set}
 use Rattle.cpu_words.proofs.shown.Passes.{attached_prefix, taken_is_prefix}
 use Rattle.cpu_words.proofs.by_cpu.CpuSteps.{CpuLists, lists_of, with_lists, LeavesOthers, cpu_makes}
 use Rattle.cpu_words.proofs.by_cpu.Reading.{row_word, keeps_view}
-use Rattle.cpu_words.proofs.shown.Seeing.{Seen, seen_of, idle_of}
+use Rattle.cpu_words.proofs.shown.Seeing.{Seen, seen_of, idle_of, idle_tries}
 use Rattle.cpu_words.proofs.shown.ReferenceLists.{to_same, to_other, in_cons, counts, one_less, others_stay, was_in}
 
 -- The entries that a CPU may refer to
@@ -38,11 +38,15 @@ pub record Known (g : State) (x : CpuView) (e : Entry) : Type 0 where
   pub lt : e.slot < g.settings.slots
   pub few : e.slot < MOST_SLOTS
   pub of : slot_of g.slots e.number ≡ Some e.slot
-  pub count : passive_at g.passive x.id e.slot ≡ references_to e.number x.references
+  pub count : passive_at g.passive x.id e.slot ≡ references_to e.number x.references + trying_in e.slot x.hand
   pub attached : IsAttached x.pass e
 
+-- an idle CPU's word for that slot counts its references alone
+counted_idle : (g : State) (x : CpuView) (e : Entry) → Known g x e → IsIdle x → passive_at g.passive x.id e.slot ≡ references_to e.number x.references
+counted_idle g x e known idle = let count = known.count in let none = idle_tries x e.slot idle in omega (arith, count, none)
+
 -- what is known of an entry that has its slot and is in the pass
-known_in : (g : State) (x : CpuView) (e : Entry) → Good g → CpuShown g x → IsIn e (slot_at g.slots e.slot) → IsAttached x.pass e → Known g x e
+pub known_in : (g : State) (x : CpuView) (e : Entry) → Good g → CpuShown g x → IsIn e (slot_at g.slots e.slot) → IsAttached x.pass e → Known g x e
 known_in g x e good had here there =
     let within = in_within g.slots e.slot e here in
     let fit = (seen_of g x good had).fit in
@@ -76,7 +80,7 @@ held_known g x e good had among =
     known_in g x e good had (subst (λ (t : ℕ). IsIn e (slot_at g.slots t)) at (subst (λ (f : Entry). IsIn f (slot_at g.slots has.0)) (sym one) has.2)) there
 
 -- the CPU's references into the slot of such an entry are to it
-alone : (g : State) (x : CpuView) (e : Entry) (t n : ℕ) → Good g → CpuShown g x → Known g x e → e.slot ≡ t → e.number ≡ n → IsAloneAt x t n
+pub alone : (g : State) (x : CpuView) (e : Entry) (t n : ℕ) → Good g → CpuShown g x → Known g x e → e.slot ≡ t → e.number ≡ n → IsAloneAt x t n
 alone g x e t n good had known slot number f among same =
     let its = held_known g x f good had among in
     let one : f ≡ e = one_in f e (slot_at g.slots e.slot) known.here (subst (λ (u : ℕ). IsIn f (slot_at g.slots u)) (same ∙ sym slot) its.here) in
@@ -85,7 +89,7 @@ alone g x e t n good had known slot number f among same =
 -- A step on the CPU's passive word for one slot
 
 -- the CPU c has m as its passive word for the slot t
-abbrev put : State → ℕ → ℕ → ℕ → CpuLists
+abbrev pub put : State → ℕ → ℕ → ℕ → CpuLists
 put g c t m = record (lists_of g) { passive = with_cell g.passive t c m }
 
 -- of the other CPUs nothing changes
@@ -105,7 +109,7 @@ put_leaves g c t m = record {
 }
 
 -- one word changes
-put_words : (words : List ℕ) (g : State) (c t m : ℕ) → Good g → c < g.settings.cpus → t < g.settings.slots → passive_at (with_cell g.passive t c m) c t ≡ m → Agrees words g
+pub put_words : (words : List ℕ) (g : State) (c t m : ℕ) → Good g → c < g.settings.cpus → t < g.settings.slots → passive_at (with_cell g.passive t c m) c t ≡ m → Agrees words g
     → Agrees (set words (index (passive_of c t)) m) (with_lists g (put g c t m))
 put_words words g c t m good lt within is agrees = agrees_set words g (with_lists g (put g c t m)) (passive_of c t) m good.holds.fit agrees refl (lt, within) is (λ q there ne. other q ne)
   where
@@ -120,7 +124,7 @@ put_words words g c t m good lt within is agrees = agrees_set words g (with_list
     other (total_of u) ne = refl
 
 -- the word is in the state
-put_here : (g : State) (x : CpuView) (t m : ℕ) → Good g → Seen g x → t < g.settings.slots → passive_at (with_cell g.passive t x.id m) x.id t ≡ m
+pub put_here : (g : State) (x : CpuView) (t m : ℕ) → Good g → Seen g x → t < g.settings.slots → passive_at (with_cell g.passive t x.id m) x.id t ≡ m
 put_here g x t m good seen within =
     let shape = good.holds.shape in
     let rows : t < length g.passive = omega (arith, within, shape.passive) in
@@ -128,10 +132,10 @@ put_here g x t m good seen within =
     cell_here 0 g.passive t x.id m rows (omega (arith, row, seen.lt, seen.fit.cpus))
 
 -- the CPU's word for the slot of e counts other references, to e alone more or less
-pub put_shown : (g : State) (x : CpuView) (e : Entry) (references : List Entry) (m : ℕ) → Good g → CpuShown g x → Known g x e → m ≡ references_to e.number references
+pub put_shown : (g : State) (x : CpuView) (e : Entry) (references : List Entry) (m : ℕ) → Good g → CpuShown g x → IsIdle x → Known g x e → m ≡ references_to e.number references
     → ((n : ℕ) → (e.number ≡ n → ⊥) → references_to n references ≡ references_to n x.references) → ((f : Entry) → Contains references f → IsAttached x.pass f)
     → CpuShown (with_lists g (put g x.id e.slot m)) (cpu_view (with_lists g (put g x.id e.slot m)) x.id (record (own_of x) { references = references }))
-put_shown g x e references m good had known is others attached = record {
+put_shown g x e references m good had idle known is others attached = record {
   seated = had.seated;
   is = refl;
   hand = had.hand;
@@ -145,7 +149,7 @@ put_shown g x e references m good had known is others attached = record {
   there = had.there;
   found = λ f found. subst (λ (p : List Change). IsAttached p f) pass (had.found f (ap (λ (v : CpuView). v.found) had.is ∙ found));
   references = λ f among. subst (λ (p : List Change). IsAttached p f) pass (attached f among);
-  peek = had.peek;
+  peek = subst (λ (p : List Change). PeekShows p g.changes x.peek) pass had.peek;
   noted_pass = had.noted_pass;
 }
   where
@@ -158,14 +162,19 @@ put_shown g x e references m good had known is others attached = record {
     depth : depth_at g x.id ≡ depth_of (begin_at g x.id)
     depth = had.depth ∙ ap depth_of seen.begin
 
-    passive : (t : ℕ) (f : Entry) → IsIn f (slot_at g.slots t) → passive_at (with_cell g.passive e.slot x.id m) x.id t ≡ references_to f.number references
+    passive : (t : ℕ) (f : Entry) → IsIn f (slot_at g.slots t) → passive_at (with_cell g.passive e.slot x.id m) x.id t ≡ references_to f.number references + trying_in t x.hand
     passive t f here = ⊎_elim
         (λ (same : t ≡ e.slot).
         let one : f ≡ e = one_in f e (slot_at g.slots e.slot) known.here (subst (λ (u : ℕ). IsIn f (slot_at g.slots u)) same here) in
-        ap (λ (u : ℕ). passive_at (with_cell g.passive e.slot x.id m) x.id u) same ∙ put_here g x e.slot m good seen known.lt ∙ is ∙ ap (λ (h : Entry). references_to h.number references) (sym one))
+        let word : passive_at (with_cell g.passive e.slot x.id m) x.id t ≡ references_to f.number references =
+        ap (λ (u : ℕ). passive_at (with_cell g.passive e.slot x.id m) x.id u) same ∙ put_here g x e.slot m good seen known.lt ∙ is ∙ ap (λ (h : Entry). references_to h.number references) (sym one) in
+        let none = idle_tries x t idle in
+        omega (arith, word, none))
         (λ (off : t ≡ e.slot → ⊥).
-        cell_other 0 g.passive e.slot x.id m t x.id (λ same _. off same) ∙ had.passive t f here
-        ∙ sym (others f.number (λ same. off (one_number g.history g.slots e.slot t e f good.holds.slots known.here here (sym same)).0)))
+        let word = cell_other 0 g.passive e.slot x.id m t x.id (λ same _. off same) in
+        let was = had.passive t f here in
+        let same = others f.number (λ same. off (one_number g.history g.slots e.slot t e f good.holds.slots known.here here (sym same)).0) in
+        omega (arith, word, was, same))
         (cases_eq t e.slot)
 
 -- the word as it is in the table
@@ -175,19 +184,19 @@ put_word words g x e good had known agrees = agrees.at (passive_of x.id e.slot) 
 
 -- such a step keeps the rule, and is its event
 put_makes : (z : Settings) (s : Table ℕ View) (r : Ruled z s) (i : ℕ) (x : CpuView) (e : Entry) (references : List Entry) (m : ℕ) (event : Event)
-    → get_elem? s.views i ≡ some (Cpu x) → Known r.g x e → m ≡ references_to e.number references
+    → get_elem? s.views i ≡ some (Cpu x) → IsIdle x → Known r.g x e → m ≡ references_to e.number references
     → ((n : ℕ) → (e.number ≡ n → ⊥) → references_to n references ≡ references_to n x.references) → ((f : Entry) → Contains references f → IsAttached x.pass f)
     → step r.g event ≡ Some (record { state = with_lists r.g (put r.g x.id e.slot m); reply = Word (passive_at r.g.passive x.id e.slot) })
     → (y : CpuView) × (y ≡ record x { references = references })
     × GoesOn z s r (did (by_number r.g event) (Word (slice_index s.words (index (passive_of x.id e.slot))))) (stepped s (index (passive_of x.id e.slot)) m i [] (Cpu y) keeps)
     × Makes event (Word (slice_index s.words (index (passive_of x.id e.slot)))) (Cpu x) (Cpu y)
-put_makes z s r i x e references m event at known is others attached made =
+put_makes z s r i x e references m event at idle known is others attached made =
     let g = r.g in
     let had : CpuShown g x = (r.shows.fits i (Cpu x) at).1 in
     let seen = seen_of g x r.good had in
     let l = put g x.id e.slot m in
     let own : CpuOwn = record (own_of x) { references = references } in
-    let shown = put_shown g x e references m r.good had known is others attached in
+    let shown = put_shown g x e references m r.good had idle known is others attached in
     let words = put_words s.words g x.id e.slot m r.good seen.lt known.lt (put_here g x e.slot m r.good seen known.lt) r.words in
     let stands = put_word s.words g x e r.good had known r.words in
     let made' : step g event ≡ Some (record { state = with_lists g l; reply = Word (slice_index s.words (index (passive_of x.id e.slot))) }) =
@@ -211,7 +220,7 @@ add_allowed : (g : State) (x : CpuView) (e : Entry) → Good g → CpuShown g x 
     → step g (PassiveAdd x.id e.number) ≡ Some (record { state = after_add g x.id e.slot; reply = Word (passive_at g.passive x.id e.slot) })
 add_allowed g x e good had known idle has room =
     let seen = seen_of g x good had in
-    let count = known.count in
+    let count = counted_idle g x e known idle in
     let limit = ap (λ (a : Settings). a.passive_limit) seen.settings in
     let below : passive_at g.passive x.id e.slot < g.settings.passive_limit = omega (arith, count, limit, room) in
     let known_to : (is_number e.number (found_at g x.id) || nat_lt 0 (passive_at g.passive x.id e.slot)) ≡ true = ⊎_elim
@@ -234,13 +243,13 @@ add_at z x e idle has room s r i at fits =
     let known = known_of g x e r.good had has in
     let word = slice_index s.words (index (passive_of x.id e.slot)) in
     let stands : word ≡ passive_at g.passive x.id e.slot = put_word s.words g x e r.good had known r.words in
-    let count = known.count in
+    let count = counted_idle g x e known idle in
     let limit = ap (λ (a : Settings). a.passive_limit) seen.settings in
     let more = to_same e.number e x.references refl in
     let next : (word + 1) % 2 ^ 64 ≡ passive_at g.passive x.id e.slot + 1 = omega (arith, stands, count, room, limit, seen.fit.passive) in
     let is : (word + 1) % 2 ^ 64 ≡ references_to e.number (e ∷ x.references) = omega (arith, next, count, more) in
     let made = add_allowed g x e r.good had known idle has room ∙ (λ k. Some (record { state = with_lists g (put g x.id e.slot (sym next k)); reply = Word (passive_at g.passive x.id e.slot) })) in
-    let done = put_makes z s r i x e (e ∷ x.references) ((word + 1) % 2 ^ 64) (PassiveAdd x.id e.number) at known is (λ n off. to_other n e x.references off)
+    let done = put_makes z s r i x e (e ∷ x.references) ((word + 1) % 2 ^ 64) (PassiveAdd x.id e.number) at idle known is (λ n off. to_other n e x.references off)
     (λ f among. ⊎_elim (λ (here : e ≡ f). subst (IsAttached x.pass) here known.attached) (λ (later : Contains x.references f). had.references f later) (in_cons e f x.references among)) made in
     moved z s r (did (PassiveAdd x.id e.number) (Word word)) i x (index (passive_of x.id e.slot)) ((word + 1) % 2 ^ 64)
     (tells_added (PassiveAdd x.id e.number) (index (passive_of x.id e.slot))) done.0 done.2 (
@@ -269,7 +278,7 @@ add_may z x c t n id may = subst (λ (p : ℕ × ℕ × ℕ). CpuMay z x (index 
 sub_allowed : (g : State) (x : CpuView) (e : Entry) → Good g → CpuShown g x → Known g x e → IsIdle x → 0 < references_to e.number x.references
     → step g (PassiveSub x.id e.number) ≡ Some (record { state = after_sub g x.id e.slot; reply = Word (passive_at g.passive x.id e.slot) })
 sub_allowed g x e good had known idle one =
-    let count = known.count in
+    let count = counted_idle g x e known idle in
     let held : nat_lt 0 (passive_at g.passive x.id e.slot) ≡ true = lt-ltb 0 (passive_at g.passive x.id e.slot) (omega (arith, count, one)) in
     rw (known.of, idle_of g x (seen_of g x good had) had idle, held) refl
 
@@ -288,14 +297,14 @@ sub_at z x e idle among s r i at fits =
     let known = held_known g x e r.good had among in
     let word = slice_index s.words (index (passive_of x.id e.slot)) in
     let stands : word ≡ passive_at g.passive x.id e.slot = put_word s.words g x e r.good had known r.words in
-    let count = known.count in
+    let count = counted_idle g x e known idle in
     let one = counts x.references e e.number among refl in
     let limited = r.good.holds.passive.limited x.id e.slot in
     let less = one_less e.number x.references one in
     let next : (word + (2 ^ 64 - 1)) % 2 ^ 64 ≡ passive_at g.passive x.id e.slot - 1 = omega (arith, stands, count, one, limited, seen.fit.passive) in
     let is : (word + (2 ^ 64 - 1)) % 2 ^ 64 ≡ references_to e.number (without e.number x.references) = omega (arith, next, count, less) in
     let made = sub_allowed g x e r.good had known idle one ∙ (λ k. Some (record { state = with_lists g (put g x.id e.slot (sym next k)); reply = Word (passive_at g.passive x.id e.slot) })) in
-    let done = put_makes z s r i x e (without e.number x.references) ((word + (2 ^ 64 - 1)) % 2 ^ 64) (PassiveSub x.id e.number) at known is
+    let done = put_makes z s r i x e (without e.number x.references) ((word + (2 ^ 64 - 1)) % 2 ^ 64) (PassiveSub x.id e.number) at idle known is
     (λ n off. others_stay e.number n x.references (λ same. off (sym same)))
     (λ f left. had.references f (was_in e.number x.references f left)) made in
     moved z s r (did (PassiveSub x.id e.number) (Word word)) i x (index (passive_of x.id e.slot)) ((word + (2 ^ 64 - 1)) % 2 ^ 64)
@@ -327,7 +336,7 @@ load_at z x e k idle among few s r i at fits =
     let known = held_known g x e r.good had among in
     let found = slice_index s.words (index (record_of e.slot k)) in
     let stands : found ≡ word (row_at g.rows e.slot) k = r.words.at (record_of e.slot k) (known.lt, few) in
-    let count = known.count in
+    let count = counted_idle g x e known idle in
     let one = counts x.references e e.number among refl in
     let held : nat_lt 0 (passive_at g.passive x.id e.slot) ≡ true = lt-ltb 0 (passive_at g.passive x.id e.slot) (omega (arith, count, one)) in
     let made : step g (LoadRecord (Passive x.id e.number k)) ≡ Some (record { state = g; reply = Word found }) =

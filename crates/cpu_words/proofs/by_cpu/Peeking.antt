@@ -19,7 +19,8 @@ use Rattle.protocol.proofs.slots.Occupied.{in_within}
 use Rattle.cpu_words.specs.Common.{CpuView, View, Keeper, Cpu, head_word, changes_word, next_of, record_of, index, CpuOwn, own_of, cpu_view, depth_of, CpuShown, ChangesShow, StaysAt, Good, Ruled, GoesOn, did, Makes, CpuMay}
 use Rattle.cpu_words.specs.Common.{IsAtWord, PeekPlace, Goes, Finds, Misses, Peeking, PeekHolds, PeekShows, MayPeek, peek_at, HasPeeked, HasBegunPeek, link_place, HasPeekedLink, place_after, word_place}
 use Rattle.cpu_words.specs.Common.{HasPeekedWord, PeekAnswers, HasEndedPeek}
-use Rattle.cpu_words.proofs.shown.Passes.{prefix_longer, take_whole}
+use Rattle.cpu_words.proofs.shown.Passes.{prefix_longer, take_whole, taken_is_prefix}
+use Rattle.cpu_words.proofs.shown.Peeks.{peek_longer}
 use Rattle.cpu_words.proofs.shown.Seeing.{Seen, seen_of}
 use Rattle.cpu_words.proofs.by_cpu.CpuSteps.{CpuLists, lists_of, with_lists, same_counts, shown_on, found_on, cpu_makes}
 use Rattle.cpu_words.proofs.by_cpu.Searching.{loaded_words}
@@ -27,11 +28,11 @@ use Rattle.cpu_words.proofs.by_cpu.Searching.{loaded_words}
 -- One load
 
 -- what the keeper's view tells of the counted changes
-counted_in : (z : Settings) (s : Table ℕ View) (r : Ruled z s) → ChangesShow r.g.settings.slots r.g.history r.g.slots r.g.marks r.g.next r.g.changes
+pub counted_in : (z : Settings) (s : Table ℕ View) (r : Ruled z s) → ChangesShow r.g.settings.slots r.g.history r.g.slots r.g.marks r.g.next r.g.changes
 counted_in z s r = let k = r.shows.each.keeper in (r.shows.fits 0 (Keeper k.0) k.1).1.counted
 
 -- a view with another peek
-with_peek : (g : State) (x : CpuView) (o : Option Peeking) → CpuShown g x → PeekShows g.history g.changes o → CpuShown g (record x { peek = o })
+with_peek : (g : State) (x : CpuView) (o : Option Peeking) → CpuShown g x → PeekShows x.pass g.changes o → CpuShown g (record x { peek = o })
 with_peek g x o had shows = record {
   seated = had.seated;
   is = ap (λ (v : CpuView). record v { peek = o }) had.is;
@@ -82,15 +83,22 @@ loads_word z s r i x w spot m o at idle found shared shows =
     ∙ ap (λ (b : Bool). guard b (some_outcome (after_seeing g x.id) (Word m))) may in
     let leaves = same_counts g x.id l refl refl refl refl (λ d ne. refl) (λ d ne. refl) (λ d ne. refl) (λ d ne. get_or-set_other g.seen x.id d _ 0 ne) (λ d ne. refl) (λ d ne. refl) in
     let base = shown_on g x l had refl refl refl (had.depth ∙ ap depth_of seen.begin) more within (found_on g x (get_or l.seen x.id 0) had more within) in
-    let shown : CpuShown (with_lists g l) y = with_peek (with_lists g l) (cpu_view (with_lists g l) x.id (own_of x)) o base shows in
+    let shown : CpuShown (with_lists g l) y = with_peek (with_lists g l) (cpu_view (with_lists g l) x.id (own_of x)) o base (subst (λ (p : List Change). PeekShows p g.changes o) (sym passes) shows) in
     let done = cpu_makes z s r i x spot m l (Peek x.id w) (Word m) own at made leaves (λ k. refl) refl shown (loaded_words s.words g l spot m found r.words refl refl refl) in
     let longer : IsPrefix x.pass y.pass = subst (λ p. IsPrefix p y.pass) (sym seen.pass) (prefix_longer g.history (seen_at g x.id) (get_or l.seen x.id 0) more within) in
     let change : y ≡ record x { pass = y.pass; peek = o } = ap (λ (v : CpuView). record v { pass = y.pass; peek = o }) (sym had.is) in
     record { view = y; goes_on = done.0; made = done.1; whole = passes; is = (longer, change) }
 
--- what the CPU's view tells of its peek
-shown_peek : (g : State) (x : CpuView) (q : Peeking) → CpuShown g x → x.peek ≡ Some q → PeekShows g.history g.changes (Some q)
-shown_peek g x q had is = subst (PeekShows g.history g.changes) is had.peek
+-- what the CPU's view tells of its peek, by its pass and so by the history
+
+pub peek_in_pass : (g : State) (x : CpuView) (q : Peeking) → CpuShown g x → x.peek ≡ Some q → PeekShows x.pass g.changes (Some q)
+peek_in_pass g x q had is = subst (PeekShows x.pass g.changes) is had.peek
+
+pub shown_peek : (g : State) (x : CpuView) (q : Peeking) → CpuShown g x → x.peek ≡ Some q → PeekShows g.history g.changes (Some q)
+shown_peek g x q had is =
+    let pass : x.pass ≡ take (seen_at g x.id) g.history = ap (λ (v : CpuView). v.pass) had.is in
+    peek_longer x.pass g.history g.changes g.changes (Some q) (subst (λ (p : List Change). IsPrefix p g.history) (sym pass) (taken_is_prefix (seen_at g x.id) g.history)) (omega arith)
+    (peek_in_pass g x q had is)
 
 -- The begin
 
@@ -116,14 +124,14 @@ begin_peek_may z x c key id idle =
 -- The slot stays
 
 -- so does the entry of a peek, with its words and its link, if the count of changes is the number that the peek began with
-record Stays (g : State) (from t : ℕ) (e : Entry) : Type 0 where
-  here : IsIn e (slot_at g.slots t)
-  point : ℕ
-  from_on : from ≤ point
-  up_to : point ≤ length g.history
-  leads : Leads g.history point e.number (get_or g.next t 0)
+pub record Stays (g : State) (from t : ℕ) (e : Entry) : Type 0 where
+  pub here : IsIn e (slot_at g.slots t)
+  pub point : ℕ
+  pub from_on : from ≤ point
+  pub up_to : point ≤ length g.history
+  pub leads : Leads g.history point e.number (get_or g.next t 0)
 
-slot_stays : (g : State) (number from t : ℕ) (e : Entry) → Good g → ChangesShow g.settings.slots g.history g.slots g.marks g.next g.changes → number ≡ g.changes → number ≤ from → from ≤ length g.history
+pub slot_stays : (g : State) (number from t : ℕ) (e : Entry) → Good g → ChangesShow g.settings.slots g.history g.slots g.marks g.next g.changes → number ≡ g.changes → number ≤ from → from ≤ length g.history
     → StandsOn g.history from (length g.history) t e → Stays g from t e
 slot_stays g number from t e good counted same le by_now stands = either (end_by g.history e.number (length g.history)) gone lives
   where
@@ -293,7 +301,7 @@ answers_hold h from key (Goes at) legal le was = tt
 answers_hold h from key (Finds e) legal le was = (found_lawful h legal from (length h) e.slot e key le was.0 was.1, was.0.attached)
 answers_hold h from key Misses legal le was = was
 
-end_at_count : (z : Settings) (x : CpuView) → x.search ≡ None
+pub end_at_count : (z : Settings) (x : CpuView) → x.search ≡ None
     → CpuMay z x (index changes_word) (λ n. n) (λ n. did (Peek x.id Changes) (Word n)) (λ v n y. Makes (Peek x.id Changes) (Word n) (Cpu v) (Cpu y) × HasEndedPeek v n y)
 end_at_count z x idle s r i at fits =
     let g = r.g in

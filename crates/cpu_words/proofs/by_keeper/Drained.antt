@@ -3,7 +3,7 @@ use Rattle.std.proofs.Common.{◌≡◌, ◌≢◌, ◌⊎◌, inl, inr, ⊎_eli
 use Rattle.std.proofs.lemmas.Bool.{cases_eq, cases_lt}
 use Rattle.std.proofs.lemmas.List.{append-nil, get_or_past}
 use Rattle.cpu_words.specs.Types.{MOST_CPUS, Entry, Slot, Vacant, Retired, Mark, Rest}
-use Rattle.protocol.specs.Common.{State, mark_at, passive_at, count_at, total_at, is_drained, IsIn, Occupies}
+use Rattle.protocol.specs.Common.{State, mark_at, passive_at, trying_at, count_at, total_at, is_drained, IsIn, Occupies}
 use Rattle.registry_values.specs.Common.{bias, slot_at, have_passed, are_clear, are_collected}
 use Rattle.protocol.proofs.keeps.MarkKeeps.{is_drained_tells}
 use Rattle.registry_values.proofs.Fit.{ranges}
@@ -20,8 +20,8 @@ pub record Drained (g : State) (t : ℕ) (e : Entry) : Type 0 where
   pub is : is_drained g t ≡ true
   -- the first CPU is clear, as all are
   pub clear : (mark_at g.marks t 0).clear ≡ true
-  -- no CPU has a passive reference, and all count words are 0
-  pub passive : (c : ℕ) → passive_at g.passive c t ≡ 0
+  -- no CPU has a passive reference: each passive word counts what its CPU is trying; and all count words are 0
+  pub passive : (c : ℕ) → passive_at g.passive c t ≡ trying_at g.hands c t
   pub counts : (c : ℕ) → count_at g.counts c t ≡ 0
 
 pub drained_of : (g : State) (k : KeeperView) (t : ℕ) → Good g → KeeperShown g k → (drained : IsDrained k t) → Drained g t drained.retired.0
@@ -44,7 +44,10 @@ drained_of g k t good had drained =
       clear = told.3 0 (ranges g.settings good.holds.fit).some_cpu;
       passive = λ c. ⊎_elim
           (λ (lt : c < g.settings.cpus). (good.holds.passive.clear c t e retired (told.3 c lt)).1)
-          (λ (past : g.settings.cpus ≤ c). good.holds.passive.beyond c t past)
+          (λ (past : g.settings.cpus ≤ c).
+          let none = good.holds.passive.beyond c t past in
+          let counted = good.holds.passive.counted c t in
+          omega (arith, none, counted))
           (cases_lt c g.settings.cpus);
       counts = λ c. ⊎_elim
           (λ (lt : c < g.settings.cpus). good.holds.balance.emptied c t e retired (told.4 c lt))
@@ -64,7 +67,7 @@ vacated_leaves g t e totals keeps good drained = record {
   more = ([], sym (append-nil g.history));
   stay = λ u f here. inl ((in_vacated g.slots t u e f drained.retired here).1, (λ c. refl));
   go = λ u f here. ⊎_elim
-      (λ (is : u ≡ t). inr (λ c. ap (passive_at g.passive c) is ∙ drained.passive c))
+      (λ (is : u ≡ t). inr (λ c. ap (passive_at g.passive c) is ∙ (drained.passive c ∙ sym (ap (trying_at g.hands c) is))))
       (λ (off : u ≢ t). inl (in_other g.slots t Vacant f u off here))
       (cases_eq u t);
   collected = λ u c f gone is there. (

@@ -6,19 +6,20 @@ use mathlib.Core.Option.{some}
 use mathlib.Core.List.{IsPrefix}
 use lib.ListN.{get_elem?}
 use Rattle.atomic_table.specs.Table.{State as Table, keeps, stepped}
-use Rattle.cpu_words.specs.Types.{Entry, Change, Settings, Event, Reply, RecordWords, Slot, Retired, Mark, Hand, Empty, Taking, Giving, Back, Due, LocalPlace}
-use Rattle.protocol.specs.Common.{IsAttached, State, hand_at, mark_at, passive_at, count_at, seen_at, step, IsIn, Occupies, one_if, standing_of, HandHolds, Holds}
+use Rattle.cpu_words.specs.Types.{Entry, Change, Settings, Event, Reply, RecordWords, Slot, Retired, Mark, Hand, Empty, Taking, Giving, Back, Trying, Due, LocalPlace}
+use Rattle.protocol.specs.Common.{IsAttached, State, hand_at, mark_at, passive_at, trying_at, count_at, seen_at, step, IsIn, Occupies, one_if, standing_of, HandHolds, Holds}
 use Rattle.registry_values.specs.Common.{bias, slot_at, slot_of}
 use Rattle.protocol.proofs.slots.Occupied.{slot_has, slot_found, fresh_unoccupied}
 use Rattle.protocol.proofs.keeps.Keeping.{step_holds}
 use Rattle.cpu_words.proofs.laws.Reaching.{more}
 use Rattle.cpu_words.proofs.shown.Standing.{standing_place}
 use Rattle.cpu_words.specs.Common.{InHand, CpuView, KeeperView, ReferenceView, View, Keeper, Cpu, Reference, Note, Spent, KeeperOwn, own_of, cpu_view, keeper_view, references_to, is_to, SameHand}
-use Rattle.cpu_words.specs.Common.{HandFits, CpuShown, KeeperShown, PeekShows, Spot, section_of, passive_of, count_of, head_word, changes_word, next_of, record_of, total_of, word_at, Agrees, IsFresh, Good, Ruled, GoesOn}
+use Rattle.cpu_words.specs.Common.{HandFits, CpuShown, KeeperShown, Spot, section_of, passive_of, count_of, head_word, changes_word, next_of, record_of, total_of, word_at, Agrees, IsFresh, Good, Ruled, GoesOn}
 use Rattle.cpu_words.specs.Common.{by_number, did, Makes}
-use Rattle.cpu_words.specs.declared.view.InHand.TheVariants.{Empty as NoEntry, Taking as TakingEntry, Giving as GivingEntry, Back as BackEntry}
+use Rattle.cpu_words.specs.declared.view.InHand.TheVariants.{Empty as NoEntry, Taking as TakingEntry, Giving as GivingEntry, Back as BackEntry, Trying as TryingEntry}
 use Rattle.cpu_words.proofs.shown.Showing.{standing_in, IsBacked, Stay, shows_set}
-use Rattle.cpu_words.proofs.shown.Peeks.{peek_grows}
+use Rattle.cpu_words.proofs.shown.Peeks.{peek_counted}
+use Rattle.cpu_words.proofs.shown.Seeing.{tries}
 use Rattle.cpu_words.proofs.shown.Passes.{attached_on, attached_prefix, prefix_on, take_on}
 
 -- what an event of the keeper can change in the core
@@ -79,15 +80,15 @@ abbrev pub Stayed : State → KeeperLists → ℕ → Entry → Type 0
 Stayed g l t e = IsIn e (slot_at g.slots t) × ((c : ℕ) → count_at l.nets c t ≡ count_at g.nets c t)
 
 abbrev pub Came : State → KeeperLists → ℕ → Entry → Type 0
-Came g l t e = (length g.history < e.number) × ((c : ℕ) → passive_at g.passive c t ≡ 0) × ((c : ℕ) → c < g.settings.cpus → count_at l.nets c t ≡ bias)
+Came g l t e = (length g.history < e.number) × ((c : ℕ) → passive_at g.passive c t ≡ trying_at g.hands c t) × ((c : ℕ) → c < g.settings.cpus → count_at l.nets c t ≡ bias)
 
--- no CPU gets its seat, the history grows and so does the count of changes, who comes is new, and who goes leaves no passive reference; what was collected stays so
+-- no CPU gets its seat, the history grows and so does the count of changes, who comes is new, and who goes leaves no passive reference: at most what is tried; what was collected stays so
 pub record LeavesCpus (g : State) (l : KeeperLists) : Type 0 where
   pub seated : l.seated ≡ g.seated
   pub grow : g.changes ≤ l.changes
   pub more : (zs : List Change) × (l.history ≡ g.history ++ zs)
   pub stay : (t : ℕ) (e : Entry) → IsIn e (slot_at l.slots t) → Stayed g l t e ⊎ Came g l t e
-  pub go : (t : ℕ) (e : Entry) → IsIn e (slot_at g.slots t) → IsIn e (slot_at l.slots t) ⊎ ((c : ℕ) → passive_at g.passive c t ≡ 0)
+  pub go : (t : ℕ) (e : Entry) → IsIn e (slot_at g.slots t) → IsIn e (slot_at l.slots t) ⊎ ((c : ℕ) → passive_at g.passive c t ≡ trying_at g.hands c t)
   pub collected : (t c : ℕ) (e : Entry) → slot_at g.slots t ≡ Retired e → (mark_at g.marks t c).collected ≡ true → Occupies l.slots e.number
       → (slot_at l.slots t ≡ Retired e) × ((mark_at l.marks t c).collected ≡ true)
 
@@ -106,6 +107,7 @@ hand_occupies slots locals c Empty e holds same = absurd same
 hand_occupies slots locals c (Taking n) e holds same = absurd same
 hand_occupies slots locals c (Giving n id) e holds same = absurd same
 hand_occupies slots locals c (Back n id) e holds same = subst (Occupies slots) same holds.0
+hand_occupies slots locals c (Trying t n) e holds same = absurd same
 
 abbrev Collected : State → KeeperLists → Type 0
 Collected g l = (t c : ℕ) (e : Entry) → slot_at g.slots t ≡ Retired e → (mark_at g.marks t c).collected ≡ true → Occupies l.slots e.number
@@ -120,6 +122,7 @@ hand_on g l zs c h (BackEntry e) more stays holds same fits = (
   subst (λ (k : List Change). IsAttached k e) (sym more) (attached_on g.history zs e fits.0),
   stays e.slot c e fits.1.0 fits.1.1 (hand_occupies l.slots l.locals c h e holds same),
 )
+hand_on g l zs c h (TryingEntry e) more stays holds same fits = tt
 
 -- a number is in a slot or in none
 pub occupied_or_not : (slots : List Slot) (n : ℕ) → Occupies slots n ⊎ (Occupies slots n → ⊥)
@@ -146,7 +149,11 @@ cpu_shown_on g l y good after leaves had =
       depth = had.depth;
       passive = λ t e here. ⊎_elim
           (λ (stayed : Stayed g l t e). had.passive t e stayed.0)
-          (λ (came : Came g l t e). came.1 y.id ∙ sym (had.gone e.number (fresh_unoccupied g.history g.slots e.number good.holds.slots came.0)))
+          (λ (came : Came g l t e).
+          let none = had.gone e.number (fresh_unoccupied g.history g.slots e.number good.holds.slots came.0) in
+          let word = came.1 y.id in
+          let tried = tries g y t had in
+          omega (arith, none, word, tried))
           (leaves.stay t e here);
       gone = λ n off. ⊎_elim
           (λ (there : Occupies g.slots n). left g l y had leaves n there off)
@@ -164,7 +171,7 @@ cpu_shown_on g l y good after leaves had =
       there = λ t some_one. let e = had.there t some_one in (e.0, attached_prefix g.history l.history e.0 (zs, sym more) e.1, e.2, e.3);
       found = had.found;
       references = had.references;
-      peek = subst (λ (k : List Change). PeekShows k l.changes y.peek) (sym more) (peek_grows g.history zs g.changes l.changes y.peek leaves.grow had.peek);
+      peek = peek_counted y.pass g.changes l.changes y.peek leaves.grow had.peek;
       noted_pass = subst (IsPrefix y.noted_pass) (sym more) (prefix_on y.noted_pass g.history zs had.noted_pass);
     }
   where
@@ -174,7 +181,12 @@ cpu_shown_on g l y good after leaves had =
     left : (g : State) (l : KeeperLists) (y : CpuView) → CpuShown g y → LeavesCpus g l → (n : ℕ) → Occupies g.slots n → (Occupies l.slots n → ⊥) → references_to n y.references ≡ 0
     left g l y had leaves n (t, e, here, is) off = ⊎_elim
         (λ (on : IsIn e (slot_at l.slots t)). absurd (off (t, e, on, is)))
-        (λ (none : (c : ℕ) → passive_at g.passive c t ≡ 0). ap (λ m. references_to m y.references) (sym is) ∙ sym (had.passive t e here) ∙ none y.id)
+        (λ (none : (c : ℕ) → passive_at g.passive c t ≡ trying_at g.hands c t).
+        let counts = had.passive t e here in
+        let word = none y.id in
+        let tried = tries g y t had in
+        let empty : references_to e.number y.references ≡ 0 = omega (arith, counts, word, tried) in
+        ap (λ m. references_to m y.references) (sym is) ∙ empty)
         (leaves.go t e here)
 
 pub keeper_stays : (g : State) (l : KeeperLists) (seat : ℕ → ℕ) (i : ℕ) → Good g → Holds (with_keeper g l) → LeavesCpus g l → ((n : ℕ) → sum_by (standing_of n) l.locals ≡ standing_in n g) → i ≡ 0

@@ -6,10 +6,10 @@ use mathlib.Core.Option.{some, some-ne-none, some-injective}
 use lib.ListN.{get_elem?}
 use Rattle.cpu_words.specs.Types.{Entry, Settings, Slot, Due, Hand}
 use Rattle.registry_values.specs.Common.{bias, slot_at}
-use Rattle.protocol.specs.declared.state.Hand.TheVariants.{Empty as EmptyHand, Taking as TakingHand, Giving as GivingHand, Back as BackHand}
+use Rattle.protocol.specs.declared.state.Hand.TheVariants.{Empty as EmptyHand, Taking as TakingHand, Giving as GivingHand, Back as BackHand, Trying as TryingHand}
 use Rattle.protocol.specs.Common.{State, hand_at, count_at, total_at, IsIn, one_if_used, itself, in_hand, kept_of, addition_due_at, is_adding_at, subtraction_due_at}
 use Rattle.protocol.proofs.slots.Occupied.{in_within}
-use Rattle.cpu_words.specs.Common.{InHand, Empty, Taking, Giving, Back, KeeperView, View, Keeper, Cpu, Reference, Note, Spent, count_of, total_of, SameHand, CpuShown, Shown, Agrees, Sits, ShowsViews}
+use Rattle.cpu_words.specs.Common.{InHand, Empty, Taking, Giving, Back, Trying, KeeperView, View, Keeper, Cpu, Reference, Note, Spent, count_of, total_of, SameHand, CpuShown, Shown, Agrees, Sits, ShowsViews}
 use Rattle.cpu_words.specs.Common.{Good, sum_below, count_word, total_word, in_hand_to, hand_to, held_by_seats, HasOneSeat, IsBalanced, SeatsBalance}
 use Rattle.cpu_words.proofs.by_keeper.KeeperSees.{SeenByKeeper, seen_by_keeper}
 
@@ -85,6 +85,8 @@ same_in_hand n (BackHand m id) Empty same = absurd same
 same_in_hand n (BackHand m id) (Taking e) same = absurd same
 same_in_hand n (BackHand m id) (Giving e) same = absurd same
 same_in_hand n (BackHand m id) (Back e) same = ap (λ (a : ℕ). in_hand n (TakingHand a)) (sym same)
+same_in_hand n (TryingHand t m) (Trying e) same = refl
+same_in_hand n h k same = absurd same
 
 -- the hands of the CPUs below m alone
 abbrev hand_below : ℕ → ℕ → View → ℕ

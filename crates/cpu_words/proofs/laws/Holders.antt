@@ -3,12 +3,12 @@ use Rattle.std.proofs.Common.{◌≡◌, ℕ, ◌≤◌, ◌<◌, ◌==◌, ◌�
 use Rattle.std.proofs.lemmas.Option.{none-some, same_Some}
 use Rattle.cpu_words.specs.Types.{Entry, Change, Slot, Hand, LocalPlace}
 use Rattle.registry_values.specs.Common.{slot_at, slot_of}
-use Rattle.protocol.specs.declared.state.Hand.TheVariants.{Empty as EmptyHand, Taking as TakingHand, Giving as GivingHand, Back as BackHand}
+use Rattle.protocol.specs.declared.state.Hand.TheVariants.{Empty as EmptyHand, Taking as TakingHand, Giving as GivingHand, Back as BackHand, Trying as TryingHand}
 use Rattle.protocol.specs.Common.{IsAttached, State, hand_at, kept_at, IsIn, Occupies, HandHolds, one_if}
 use Rattle.protocol.proofs.history.History.{one_entry}
 use Rattle.protocol.proofs.counts.HeldSums.{number_of, no_standing, one_self}
 use Rattle.protocol.proofs.slots.Occupied.{attached_in, slot_occupied, slot_found}
-use Rattle.cpu_words.specs.Common.{InHand, Empty, Taking, Giving, Back, CpuView, View, Keeper, Cpu, Reference, Note, Spent, SameHand, references_to, CpuShown, Shown, Good, SectionMayHold, IsInHand}
+use Rattle.cpu_words.specs.Common.{InHand, Empty, Taking, Giving, Back, Trying, CpuView, View, Keeper, Cpu, Reference, Note, Spent, SameHand, references_to, CpuShown, Shown, Good, SectionMayHold, IsInHand}
 use Rattle.cpu_words.specs.Common.{SeatHolds, HeldHaveSlots}
 use Rattle.cpu_words.proofs.shown.Showing.{standing_in, IsBacked, backed}
 use Rattle.cpu_words.proofs.shown.Seeing.{seen_of}
@@ -34,6 +34,8 @@ same_number (BackHand m id) Empty n same is = absurd is
 same_number (BackHand m id) (Taking e) n same is = absurd same
 same_number (BackHand m id) (Giving e) n same is = absurd same
 same_number (BackHand m id) (Back e) n same is = ap (λ (x : ℕ). Some x) (same ∙ is)
+same_number (TryingHand t m) (Trying e) n same is = absurd is
+same_number h k n same is = absurd same
 
 -- and its entry has its slot
 hand_occupies : (slots : List Slot) (locals : List LocalPlace) (c : ℕ) (h : Hand) (n : ℕ) → HandHolds slots locals c h → number_of h ≡ Some n → Occupies slots n
@@ -41,6 +43,7 @@ hand_occupies slots locals c EmptyHand n holds is = absurd (none-some n is)
 hand_occupies slots locals c (TakingHand m) n holds is = subst (Occupies slots) (same_Some m n is) holds
 hand_occupies slots locals c (GivingHand m id) n holds is = subst (Occupies slots) (same_Some m n is) holds.0
 hand_occupies slots locals c (BackHand m id) n holds is = subst (Occupies slots) (same_Some m n is) holds.0
+hand_occupies slots locals c (TryingHand t m) n holds is = absurd (none-some n is)
 
 -- Slots
 

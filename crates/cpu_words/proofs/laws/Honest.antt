@@ -9,7 +9,7 @@ use Rattle.protocol.proofs.model.RefiningEntries.{unheld_when_drained}
 use Rattle.cpu_words.specs.Common.{CpuView, View, Keeper, Cpu, Reference, Note, Spent, passive_of, count_of, references_to, KeeperShown, CpuShown, Shown, Agrees, Good, RunsLawfully, SectionMayHold}
 use Rattle.cpu_words.specs.Common.{IsInHand, SeatHolds, MarkTells, DrainedIsFree, MarksAreHonest, FoundIsHeld}
 use Rattle.cpu_words.proofs.shown.Showing.{standing_in, IsBacked, backed}
-use Rattle.cpu_words.proofs.shown.Seeing.{Seen, seen_of}
+use Rattle.cpu_words.proofs.shown.Seeing.{Seen, seen_of, tries}
 use Rattle.cpu_words.proofs.by_keeper.KeeperSees.{SeenByKeeper, seen_by_keeper}
 use Rattle.cpu_words.proofs.by_keeper.Drained.{Drained, drained_of}
 use Rattle.cpu_words.proofs.laws.Safety.{runs_lawfully}
@@ -21,7 +21,7 @@ holds_none g t e (Keeper k) good drained free shown has holds = free.keeps holds
 holds_none g t e (Cpu x) good drained free shown has holds = ⊎_elim
     (λ (m : SectionMayHold g.history e x). free.sections x.id m.0 e (sym (seen_of g x good shown).begin ∙ m.1) m.2 refl)
     (λ (rest : (0 < references_to e.number x.references) ⊎ IsInHand e.number x.hand). ⊎_elim
-    (λ (some : 0 < references_to e.number x.references). omega (arith, some, shown.passive t e (inr drained.retired), drained.passive x.id))
+    (λ (some : 0 < references_to e.number x.references). omega (arith, some, shown.passive t e (inr drained.retired), drained.passive x.id, tries g x t shown))
     (λ (is : IsInHand e.number x.hand). none_in_hand e.number g.hands (omega (arith, free.locals)) x.id (same_number (hand_at g x.id) x.hand e.number shown.hand is))
     rest)
     holds
@@ -61,7 +61,10 @@ mark_tells words g t e x good agrees shown retired =
           absurd (omega (arith, later, before));
       clear = λ clear.
           let none = good.holds.passive.clear x.id t e retired clear in
-          (none.0, sym (shown.passive t e (inr retired)) ∙ none.1, agrees.at (passive_of x.id t) (seen.lt, slot) ∙ none.1);
+          let counts = shown.passive t e (inr retired) in
+          let tried = tries g x t shown in
+          let word = none.1 in
+          (none.0, omega (arith, counts, tried, word), agrees.at (passive_of x.id t) (seen.lt, slot) ∙ (none.1 ∙ sym tried));
       collected = λ collected.
           (good.holds.passive.collected x.id t e retired collected, agrees.at (count_of x.id t) (seen.lt, slot) ∙ good.holds.balance.emptied x.id t e retired collected);
     }

@@ -4,7 +4,7 @@ use Rattle.std.proofs.Common.{eq-eqb, ne_eqb, refl, sym, ap, ◌∙◌, subst, a
 use Rattle.std.proofs.lemmas.Bool.{and_parts, cases_eq, eqb-true}
 use Rattle.cpu_words.specs.Types.{Entry, Mark, Settings, MOST_CPUS, Slot, Vacant, Live, Retired, Event, Seat, Enter, Exit, Seek, LoadLink, LoadRecord, StoreSlot, StoreNext, Publish, Unpublish, Tell}
 use Rattle.cpu_words.specs.Types.{Hear, Snapshot, Look, PassiveAdd, PassiveSub, PassiveLook, CountAdd, SplitRef, JoinRef, CountDown, SplitBack, Collect, TotalAdd, JoinKeeper, TotalSub, Keep, KeptSub}
-use Rattle.cpu_words.specs.Types.{Vacate, Count, Peek, RecordOf, Passive, Local, Compared, Reply, Done, Word, Ref, Due, Rest, Snapshots, Adding, Subtracting, Hand, Empty, Taking, Giving, Back, Search, Loaded, On, Over}
+use Rattle.cpu_words.specs.Types.{Vacate, Count, Peek, Try, Confirm, TakeBack, RecordOf, Passive, Local, Compared, Reply, Done, Word, Ref, Due, Rest, Snapshots, Adding, Subtracting, Hand, Empty, Taking, Giving, Back, Trying, Search, Loaded, On, Over}
 use Rattle.registry_values.specs.Common.{bias, no_mark, mark_after_look, mark_after_passive_look, mark_after_collect, is_retired, is_taken, key_of, slot_at, slot_of, slot_before}
 use Rattle.protocol.specs.declared.event.RecordOf.TheVariants.{Search as OfSearch}
 use Rattle.protocol.specs.Common.{State, opening, with_cell, section_at, search_at, found_at, hand_at, row_at, mark_at, passive_at, count_at, kept_at, local_at, loaded_at, row_of_place, Outcome}
@@ -261,6 +261,7 @@ split_counted s c Empty = tt
 split_counted s c (Taking n) = (λ u. refl, λ u d. refl)
 split_counted s c (Giving n id) = tt
 split_counted s c (Back n id) = tt
+split_counted s c (Trying t n) = tt
 
 down_counted : (s : State) (c : ℕ) (h : Hand) → Holds s → hand_at s c ≡ h → Counted s (CountDown c) (Events.count_down s c h)
 down_counted s c Empty on at = tt
@@ -273,12 +274,22 @@ down_counted s c (Giving n id) on at = on_some s (CountDown c) (slot_of s.slots 
     (λ u. refl, counted_word s (Events.after_count_down s c t id) c t (count_at s.nets c t - 1) counting refl refl refl))
     (λ u. refl, λ u d. refl))
 down_counted s c (Back n id) on at = tt
+down_counted s c (Trying t n) on at = tt
 
 back_counted : (s : State) (c : ℕ) (h : Hand) → Counted s (SplitBack c) (Events.split_back s c h)
 back_counted s c Empty = tt
 back_counted s c (Taking n) = tt
 back_counted s c (Giving n id) = tt
 back_counted s c (Back n id) = (λ u. refl, λ u d. refl)
+back_counted s c (Trying t n) = tt
+
+confirm_counted : (s : State) (c : ℕ) (h : Hand) → Counted s (Confirm c) (Events.confirm s c h)
+confirm_counted s c (Trying t n) = on_made s (Confirm c) _ _ _ (λ may. (λ u. refl, λ u d. refl))
+confirm_counted s c h = tt
+
+take_back_counted : (s : State) (c : ℕ) (h : Hand) → Counted s (TakeBack c) (Events.take_back s c h)
+take_back_counted s c (Trying t n) = (λ u. refl, λ u d. refl)
+take_back_counted s c h = tt
 
 added_counted : (s : State) (t : ℕ) (due : Due) → Counted s (TotalAdd t) (Events.total_add s t due)
 added_counted s t Rest = tt
@@ -336,6 +347,9 @@ step_counted s (KeptSub t) on =
 step_counted s (Vacate t) on = on_made s (Vacate t) (Events.may_vacate s t) _ _ (λ may. vacated_does s (Events.after_vacate s t) t on (and_parts _ (is_drained s t) may).1 refl refl refl)
 step_counted s Count on = on_made s Count _ _ _ (λ may. (λ u. refl, λ u d. refl))
 step_counted s (Peek c w) on = on_some s (Peek c w) (Events.shared_word s w) _ (λ v of. on_made s (Peek c w) _ _ _ (λ may. (λ u. refl, λ u d. refl)))
+step_counted s (Try c t n) on = on_made s (Try c t n) _ _ _ (λ may. (λ u. refl, λ u d. refl))
+step_counted s (Confirm c) on = confirm_counted s c (hand_at s c)
+step_counted s (TakeBack c) on = take_back_counted s c (hand_at s c)
 
 -- A log with one item more
 

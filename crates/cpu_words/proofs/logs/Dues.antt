@@ -2,8 +2,8 @@
 use Rattle.std.proofs.Common.{◌≡◌, ℕ, zero, suc, nat_lt, ◌+◌, ◌==◌, ◌&&◌, ◌-◌, Bool, true, false, if◌then◌else◌, set, Option, Some, None, refl, ap, ◌∙◌}
 use Rattle.std.proofs.lemmas.Bool.{and_parts, eqb-true}
 use Rattle.cpu_words.specs.Types.{Entry, Slot, Vacant, Live, Retired, Event, Seat, Enter, Exit, Seek, LoadLink, LoadRecord, StoreSlot, StoreNext, Publish, Unpublish, Tell, Hear, Snapshot, Look}
-use Rattle.cpu_words.specs.Types.{PassiveAdd, PassiveSub, PassiveLook, CountAdd, SplitRef, JoinRef, CountDown, SplitBack, Collect, TotalAdd, JoinKeeper, TotalSub, Keep, KeptSub, Vacate, Count, Peek, RecordOf}
-use Rattle.cpu_words.specs.Types.{Passive, Local, Compared, Reply, Done, Word, Due, Rest, Snapshots, Adding, Subtracting, Hand, Empty, Taking, Giving, Back, Search, Loaded, On, Over}
+use Rattle.cpu_words.specs.Types.{PassiveAdd, PassiveSub, PassiveLook, CountAdd, SplitRef, JoinRef, CountDown, SplitBack, Collect, TotalAdd, JoinKeeper, TotalSub, Keep, KeptSub, Vacate, Count, Peek, Try, Confirm, TakeBack, RecordOf}
+use Rattle.cpu_words.specs.Types.{Passive, Local, Compared, Reply, Done, Word, Due, Rest, Snapshots, Adding, Subtracting, Hand, Empty, Taking, Giving, Back, Trying, Search, Loaded, On, Over}
 use Rattle.registry_values.specs.Common.{bias, slot_at, slot_of, slot_before}
 use Rattle.protocol.specs.declared.event.RecordOf.TheVariants.{Search as OfSearch}
 use Rattle.protocol.specs.Common.{State, search_at, found_at, hand_at, row_at, count_at, total_at, kept_at, local_at, at_rest, loaded_at, row_of_place, Outcome, guard, some_outcome, with_some, step}
@@ -113,18 +113,29 @@ split_dues s c Empty = tt
 split_dues s c (Taking n) = (refl, λ u d is. is, (refl, refl))
 split_dues s c (Giving n id) = tt
 split_dues s c (Back n id) = tt
+split_dues s c (Trying t n) = tt
 
 down_dues : (s : State) (c : ℕ) (h : Hand) → Dues s (CountDown c) (Events.count_down s c h)
 down_dues s c Empty = tt
 down_dues s c (Taking n) = tt
 down_dues s c (Giving n id) = on_some s (CountDown c) (slot_of s.slots n) _ (λ t of. on_either s (CountDown c) _ _ _ _ _ (refl, λ v d is. is, (refl, refl)) (refl, λ v d is. is, (refl, refl)))
 down_dues s c (Back n id) = tt
+down_dues s c (Trying t n) = tt
 
 back_dues : (s : State) (c : ℕ) (h : Hand) → Dues s (SplitBack c) (Events.split_back s c h)
 back_dues s c Empty = tt
 back_dues s c (Taking n) = tt
 back_dues s c (Giving n id) = tt
 back_dues s c (Back n id) = (refl, λ u d is. is, (refl, refl))
+back_dues s c (Trying t n) = tt
+
+confirm_dues : (s : State) (c : ℕ) (h : Hand) → Dues s (Confirm c) (Events.confirm s c h)
+confirm_dues s c (Trying t n) = on_made s (Confirm c) _ _ _ refl (λ may u d is. is) (λ may. (refl, refl))
+confirm_dues s c h = tt
+
+take_back_dues : (s : State) (c : ℕ) (h : Hand) → Dues s (TakeBack c) (Events.take_back s c h)
+take_back_dues s c (Trying t n) = (refl, λ u d is. is, (refl, refl))
+take_back_dues s c h = tt
 
 added_dues : (s : State) (t : ℕ) (due : Due) → s.due ≡ due → Dues s (TotalAdd t) (Events.total_add s t due)
 added_dues s t Rest at = tt
@@ -185,3 +196,6 @@ step_dues s (KeptSub t) = on_some s (KeptSub t) (kept_at s.keeps t) _
 step_dues s (Vacate t) = on_made s (Vacate t) _ _ _ refl (λ may u d is. is) (λ may. (refl, refl))
 step_dues s Count = on_made s Count _ _ _ refl (λ may u d is. is) (λ may. (refl, refl))
 step_dues s (Peek c w) = on_some s (Peek c w) (Events.shared_word s w) _ (λ v of. on_made s (Peek c w) _ _ _ refl (λ may u d is. is) (λ may. (refl, refl)))
+step_dues s (Try c t n) = on_made s (Try c t n) _ _ _ refl (λ may u d is. is) (λ may. (refl, refl))
+step_dues s (Confirm c) = confirm_dues s c (hand_at s c)
+step_dues s (TakeBack c) = take_back_dues s c (hand_at s c)

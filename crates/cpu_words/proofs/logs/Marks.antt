@@ -6,7 +6,7 @@ use Rattle.std.proofs.lemmas.List.{get_or_past, set_past}
 use Rattle.std.proofs.lemmas.Option.{none-some, same_Some}
 use Rattle.cpu_words.specs.Types.{Mark, Slot, Vacant, Live, Retired, Settings, MOST_CPUS, Event, Seat, Enter, Exit, Seek, LoadLink, LoadRecord, StoreSlot, StoreNext, Publish, Unpublish, Tell, Hear}
 use Rattle.cpu_words.specs.Types.{Snapshot, Look, PassiveAdd, PassiveSub, PassiveLook, CountAdd, SplitRef, JoinRef, CountDown, SplitBack, Collect, TotalAdd, JoinKeeper, TotalSub, Keep, KeptSub}
-use Rattle.cpu_words.specs.Types.{Vacate, Count, Peek, RecordOf, Passive, Local, Compared, Reply, Done, Word, Due, Rest, Snapshots, Adding, Subtracting, Hand, Empty, Taking, Giving, Back, Search, Loaded, On, Over}
+use Rattle.cpu_words.specs.Types.{Vacate, Count, Peek, Try, Confirm, TakeBack, RecordOf, Passive, Local, Compared, Reply, Done, Word, Due, Rest, Snapshots, Adding, Subtracting, Hand, Empty, Taking, Giving, Back, Trying, Search, Loaded, On, Over}
 use Rattle.registry_values.specs.Common.{no_mark, is_even, has_changed, mark_after_look, mark_after_passive_look, mark_after_collect, slot_at, slot_of, slot_before}
 use Rattle.protocol.specs.declared.event.RecordOf.TheVariants.{Search as OfSearch}
 use Rattle.protocol.specs.Common.{State, with_cell, section_at, search_at, found_at, hand_at, row_at, mark_at, kept_at, local_at, opening, loaded_at, row_of_place, Outcome, guard, some_outcome}
@@ -102,18 +102,29 @@ split_marks s c Empty = tt
 split_marks s c (Taking n) = (refl, tt)
 split_marks s c (Giving n id) = tt
 split_marks s c (Back n id) = tt
+split_marks s c (Trying t n) = tt
 
 down_marks : (s : State) (c : ℕ) (h : Hand) → Marks s (CountDown c) (Events.count_down s c h)
 down_marks s c Empty = tt
 down_marks s c (Taking n) = tt
 down_marks s c (Giving n id) = on_some s (CountDown c) (slot_of s.slots n) _ (λ t. on_either s (CountDown c) _ _ _ _ _ refl refl tt tt)
 down_marks s c (Back n id) = tt
+down_marks s c (Trying t n) = tt
 
 back_marks : (s : State) (c : ℕ) (h : Hand) → Marks s (SplitBack c) (Events.split_back s c h)
 back_marks s c Empty = tt
 back_marks s c (Taking n) = tt
 back_marks s c (Giving n id) = tt
 back_marks s c (Back n id) = (refl, tt)
+back_marks s c (Trying t n) = tt
+
+confirm_marks : (s : State) (c : ℕ) (h : Hand) → Marks s (Confirm c) (Events.confirm s c h)
+confirm_marks s c (Trying t n) = on_made s (Confirm c) _ _ _ refl tt
+confirm_marks s c h = tt
+
+take_back_marks : (s : State) (c : ℕ) (h : Hand) → Marks s (TakeBack c) (Events.take_back s c h)
+take_back_marks s c (Trying t n) = (refl, tt)
+take_back_marks s c h = tt
 
 added_marks : (s : State) (t : ℕ) (due : Due) → Marks s (TotalAdd t) (Events.total_add s t due)
 added_marks s t Rest = tt
@@ -166,6 +177,9 @@ step_marks s (KeptSub t) = on_some s (KeptSub t) (kept_at s.keeps t) _ (λ d. on
 step_marks s (Vacate t) = on_made s (Vacate t) _ _ _ refl tt
 step_marks s Count = on_made s Count _ _ _ refl tt
 step_marks s (Peek c w) = on_some s (Peek c w) (Events.shared_word s w) _ (λ v. on_made s (Peek c w) _ _ _ refl tt)
+step_marks s (Try c t n) = on_made s (Try c t n) _ _ _ refl tt
+step_marks s (Confirm c) = confirm_marks s c (hand_at s c)
+step_marks s (TakeBack c) = take_back_marks s c (hand_at s c)
 
 -- the events of CPUs and of references leave them
 pub marks_off : (seat : ℕ → ℕ) (n i : ℕ) (s : State) (e : Event) → IsSeatOf seat n i (maker (by_number s e)) → i ≢ 0 → marks_after s e ≡ s.marks

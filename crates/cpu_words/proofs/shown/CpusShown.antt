@@ -57,8 +57,8 @@ begun_whole c n key x y id made begun =
     ap (λ (s : State). seen_at s c) by.0 ∙ (get_or-set_same g.seen c (length g.history) 0 within ∙ ap (λ (h : List Change). length h) (sym history)) in
     let pass : y.pass ≡ take (seen_at made.after y.id) made.after.history = (seen_of made.after y made.good_after made.shown).pass in
     let counted : n ≡ made.after.changes = sym (same_Some g.changes n by.1) ∙ ap (λ (s : State). s.changes) (sym by.0) in
-    let shows : PeekShows made.after.history made.after.changes (Some (record { key = key; number = n; from = length y.pass; place = Goes AtHead })) =
-    subst (PeekShows made.after.history made.after.changes) (ap (λ (v : CpuView). v.peek) begun.1) made.shown.peek in (
+    let shows : PeekShows y.pass made.after.changes (Some (record { key = key; number = n; from = length y.pass; place = Goes AtHead })) =
+    subst (PeekShows y.pass made.after.changes) (ap (λ (v : CpuView). v.peek) begun.1) made.shown.peek in (
       (
         record { g = made.after; good = made.good_after; shown = made.shown },
         pass ∙ (ap (λ d. take (seen_at made.after d) made.after.history) (made.same.1 ∙ id) ∙ (ap (λ n. take n made.after.history) sees ∙ take_whole made.after.history)),

@@ -1,6 +1,7 @@
--- What a peek has come to stays right as the history grows.
+-- What a peek has come to stays right as the pass grows, and as more changes are counted.
 use Rattle.std.proofs.Common.{ℕ, ◌≤◌, List, [], ◌∷◌, ◌++◌, length, Option, Some, None, sym, subst, arith, append_assoc, length-append}
 use Rattle.std.proofs.lemmas.List.{append-nil}
+use mathlib.Core.List.{IsPrefix}
 use Rattle.cpu_words.specs.Types.{Change, Key}
 use Rattle.protocol.specs.Common.{after_change, IsLawful}
 use Rattle.protocol.proofs.history.History.{length-after_change, live_was}
@@ -35,8 +36,8 @@ holds_all h (z ∷ zs) from key p le was =
     subst (λ (k : List Change). PeekHolds k from key p) (append_assoc h (z ∷ []) zs)
     (holds_all (after_change h z) zs from key p (omega (arith, le, longer)) (holds_on h z from key p le was))
 
--- the history grows, and the count of changes does: a peek that began with a number that is counted still has met all that it has met before
-pub peek_grows : (h zs : List Change) (changes now : ℕ) (o : Option Peeking) → changes ≤ now → PeekShows h changes o → PeekShows (h ++ zs) now o
+-- the pass grows, and the count of changes does: a peek that began with a number that is the count still has met all that it has met before
+peek_grows : (h zs : List Change) (changes now : ℕ) (o : Option Peeking) → changes ≤ now → PeekShows h changes o → PeekShows (h ++ zs) now o
 peek_grows h zs changes now None le had = tt
 peek_grows h zs changes now (Some q) le had =
     let longer = length-append h zs in (
@@ -44,3 +45,10 @@ peek_grows h zs changes now (Some q) le had =
       omega (arith, had.1, longer),
       λ same. let was = had.2 (omega (arith, same, had.0, le)) in (was.0, holds_all h zs q.from q.key q.place had.1 was.1),
     )
+
+pub peek_longer : (p h : List Change) (changes now : ℕ) (o : Option Peeking) → IsPrefix p h → changes ≤ now → PeekShows p changes o → PeekShows h now o
+peek_longer p h changes now o pre le had = subst (λ (k : List Change). PeekShows k now o) pre.1 (peek_grows p pre.0 changes now o le had)
+
+-- the pass stays
+pub peek_counted : (p : List Change) (changes now : ℕ) (o : Option Peeking) → changes ≤ now → PeekShows p changes o → PeekShows p now o
+peek_counted p changes now o le had = peek_longer p p changes now o ([], append-nil p) le had

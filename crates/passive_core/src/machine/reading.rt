@@ -1,7 +1,7 @@
 //! The words and marks of a core, one at a time, and what their places are.
 
 ghost use Rattle.std.specs.Prelude.{◌≡◌, ◌<◌, ◌≤◌, ◌*◌, Some, None, IfSome, IsTrue, length, slice_index_or, []};
-ghost use Rattle.protocol.specs.Common.{is_idle, is_number, word, number_standing, Holds, at_rest, section_at, begin_at, depth_at, seen_at, found_at, hand_at, search_at, passive_at, count_at, total_at, kept_at, mark_at, row_at, local_at};
+ghost use Rattle.protocol.specs.Common.{is_idle, is_number, word, number_standing, Holds, at_rest, section_at, begin_at, depth_at, seen_at, found_at, hand_at, trying_at, search_at, passive_at, count_at, total_at, kept_at, mark_at, row_at, local_at};
 ghost use Rattle.passive_core.specs.Types.{MOST_SECTIONS};
 ghost use Rattle.registry_values.specs.Common.{slot_of, has_number, is_retired, is_vacant, slot_at, have_passed, are_clear, are_collected, is_some_collected};
 
@@ -87,6 +87,16 @@ impl Core {
             self.hands[c as usize]
         } else {
             Hand::Empty
+        }
+    }
+
+    /// 1 if the CPU is trying to get a reference in the slot, else 0.
+    pub(crate) fn trying_at(&self, c: u8, t: u8) -> u64
+        ensures { result ≡ trying_at self.now.hands c t }
+    {
+        match self.hand_at(c) {
+            Hand::Trying(slot, _) if slot == t => 1,
+            _ => 0,
         }
     }
 

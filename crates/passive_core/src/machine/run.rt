@@ -45,6 +45,9 @@ impl Core {
             Event::Vacate(t) => self.step_vacate(t),
             Event::Count => self.step_count(),
             Event::Peek(c, word) => self.step_peek(c, word),
+            Event::Try(c, t, number) => self.step_try(c, t, number),
+            Event::Confirm(c) => self.step_confirm(c),
+            Event::TakeBack(c) => self.step_take_back(c),
         }
     }
 

@@ -122,6 +122,13 @@ held_stays {z} {slots} {marks} {counts} {nets} {totals} {hands} {keeps} {due} {l
     (λ t e is. moved (on.balance t e is) refl refl (omega (arith, same e.number)) refl refl)
     (λ t is. refl) (λ t d is. (d, is))
 
+-- a hand that holds nothing becomes another that holds nothing
+pub hand_unheld : {z : Settings} {slots : List Slot} {marks : List (List Mark)} {counts nets : List (List ℕ)} {totals : List ℕ} {hands : List Hand} {keeps : List (Option ℕ)} {due : Due}
+    {locals : List LocalPlace} → CountsHold z slots marks counts nets totals hands keeps due locals → (c : ℕ) (h k : Hand) → c < length hands → get_or hands c Empty ≡ h
+    → ((m : ℕ) → in_hand m h ≡ 0) → ((m : ℕ) → in_hand m k ≡ 0) → CountsHold z slots marks counts nets totals (set hands c k) keeps due locals
+hand_unheld {z} {slots} {marks} {counts} {nets} {totals} {hands} {keeps} {due} {locals} on c h k lt hand before later = held_stays on (set hands c k) keeps locals
+    (λ m. omega (arith, hand_changed m hands c h k lt hand, before m, later m))
+
 pub split_ref : {z : Settings} {slots : List Slot} {marks : List (List Mark)} {counts nets : List (List ℕ)} {totals : List ℕ} {hands : List Hand} {keeps : List (Option ℕ)} {due : Due}
     {locals : List LocalPlace} → CountsHold z slots marks counts nets totals hands keeps due locals → (c n : ℕ) → c < length hands → get_or hands c Empty ≡ Taking n
     → CountsHold z slots marks counts nets totals (set hands c Empty) keeps due (with_local locals (least_id locals) (Standing n))

@@ -3,7 +3,7 @@ use Rattle.std.proofs.Common.{◌≡◌, ℕ, suc, ◌<◌, ◌≤◌, ◌==◌,
 use Rattle.std.proofs.lemmas.List.Sums.{get_or-le-sum_by, sum_by-cons}
 use Rattle.std.proofs.lemmas.Bool.{eq-eqb, ne_eqb}
 use Rattle.protocol.specs.Types.{Change, Slot}
-use Rattle.protocol.specs.Common.{Hand, Empty, Taking, Giving, Back, LocalPlace, Free, Standing, Due, Rest, Snapshots, Adding, Subtracting, kept_at, local_at, Occupies, one_if, standing_of, in_hand}
+use Rattle.protocol.specs.Common.{Hand, Empty, Taking, Giving, Back, Trying, LocalPlace, Free, Standing, Due, Rest, Snapshots, Adding, Subtracting, kept_at, local_at, Occupies, one_if, standing_of, in_hand}
 use Rattle.protocol.specs.Common.{kept_of, subtraction_due_at, held_at, SlotsShow, HandHolds, ReferencesHold, DriversKept}
 use Rattle.protocol.proofs.slots.Occupied.{place_within, fresh_unoccupied}
 
@@ -13,6 +13,7 @@ number_of Empty = None
 number_of (Taking n) = Some n
 number_of (Giving n id) = Some n
 number_of (Back n id) = Some n
+number_of (Trying t n) = None
 
 pub one_self : (m n : ℕ) → m ≡ n → one_if (m == n) ≡ 1
 one_self m n same = ap one_if (eq-eqb m n same)
@@ -57,12 +58,14 @@ hand_one n Empty named = absurd (let q : ◌≡◌ {A = Option ℕ} None (Some n
 hand_one n (Taking m) named = one_self m n (let q : ◌≡◌ {A = Option ℕ} (Some m) (Some n) = named in cc)
 hand_one n (Giving m id) named = one_self m n (let q : ◌≡◌ {A = Option ℕ} (Some m) (Some n) = named in cc)
 hand_one n (Back m id) named = one_self m n (let q : ◌≡◌ {A = Option ℕ} (Some m) (Some n) = named in cc)
+hand_one n (Trying t m) named = absurd (let q : ◌≡◌ {A = Option ℕ} None (Some n) = named in cc)
 
 hand_not : (n : ℕ) (h : Hand) → (number_of h ≡ Some n → ⊥) → in_hand n h ≡ 0
 hand_not n Empty off = refl
 hand_not n (Taking m) off = one_other m n (λ same. off (ap (λ (k : ℕ). Some k) same))
 hand_not n (Giving m id) off = one_other m n (λ same. off (ap (λ (k : ℕ). Some k) same))
 hand_not n (Back m id) off = one_other m n (λ same. off (ap (λ (k : ℕ). Some k) same))
+hand_not n (Trying t m) off = refl
 
 pub hand_counts : (n : ℕ) (hands : List Hand) (c : ℕ) → number_of (get_or hands c Empty) ≡ Some n → 1 ≤ sum_by (in_hand n) hands
 hand_counts n hands c named = counted (in_hand n) Empty hands c
@@ -122,6 +125,7 @@ hand_occupied slots locals c n Empty named holds = absurd (let q : ◌≡◌ {A 
 hand_occupied slots locals c n (Taking m) named holds = subst (Occupies slots) (let q : ◌≡◌ {A = Option ℕ} (Some m) (Some n) = named in cc) holds
 hand_occupied slots locals c n (Giving m id) named holds = subst (Occupies slots) (let q : ◌≡◌ {A = Option ℕ} (Some m) (Some n) = named in cc) holds.0
 hand_occupied slots locals c n (Back m id) named holds = subst (Occupies slots) (let q : ◌≡◌ {A = Option ℕ} (Some m) (Some n) = named in cc) holds.0
+hand_occupied slots locals c n (Trying t m) named holds = absurd (let q : ◌≡◌ {A = Option ℕ} None (Some n) = named in cc)
 
 -- nothing refers to a number that no slot has
 pub unoccupied : (cpus : ℕ) (slots : List Slot) (hands : List Hand) (keeps : List (Option ℕ)) (due : Due) (locals : List LocalPlace) (n : ℕ) → (Occupies slots n → ⊥)

@@ -1,23 +1,25 @@
 -- The events on local references keep the invariant.
-use Rattle.std.proofs.Common.{Bool, Some, [], ap, arith, false, get_or, inl, inr, length, length-set, ltb-true, not, refl, set, subst, sym, true, ℕ, ◌&&◌, ◌+◌, ◌-◌, ◌<◌, ◌∙◌, ◌≡◌, ◌==◌}
-use Rattle.std.proofs.lemmas.Bool.{and_parts, cases_Bool, eq-eqb, eqb-true}
+use Rattle.std.proofs.Common.{Bool, List, Some, [], ap, arith, false, get_or, get_or-set_other, get_or-set_same, inl, inr, length, length-set, ltb-true, not, refl, set, subst, sym, true, ℕ, ◌&&◌, ◌+◌, ◌-◌, ◌<◌, ◌∙◌, ◌≡◌, ◌==◌, ◌≤◌, ◌⊎◌}
+use Rattle.std.proofs.lemmas.Bool.{and_parts, cases_Bool, cases_eq, cases_lt, eq-eqb, eqb-true}
+use Rattle.std.proofs.lemmas.List.{get_or_past}
 use Rattle.std.specs.Prelude.{if◌then◌else◌, is_none, nat_lt}
 use Rattle.protocol.proofs.counts.Counts as C
 use Rattle.protocol.proofs.keeps.ListKeeps.{CountsOf, cell_sized, may_write_tells, false_from}
-use Rattle.protocol.proofs.keeps.MarkKeeps.{mark_place, may_examine_tells}
+use Rattle.protocol.proofs.keeps.MarkKeeps.{cpus_fit, mark_place, may_examine_tells}
+use Rattle.protocol.proofs.slots.Cells.{cell_put}
 use Rattle.protocol.proofs.keeps.Marking.{list_all_within, marks_write, snapshots_marked}
 use Rattle.protocol.proofs.slots.Occupied.{at_rest_tells, is_retired_tells, one_number, slot_has, slot_its, slot_occupied}
-use Rattle.protocol.proofs.keeps.Passive.{found_not_passed, passive_marked}
+use Rattle.protocol.proofs.keeps.Passive.{found_not_passed, passive_hand, passive_hands, passive_marked, passive_shifted, shifted_back, shifted_try, trying_none, trying_one}
 use Rattle.protocol.proofs.keeps.Drivers.{drivers_keep}
 use Rattle.protocol.proofs.keeps.References.{back_holds, due_adding, due_subtracting, giving_holds, hand_seated, references_collect, references_collected, references_count_add, references_count_down}
-use Rattle.protocol.proofs.keeps.References.{references_join, references_join_keeper, references_keep, references_split, references_split_back, references_total, seats_hand}
+use Rattle.protocol.proofs.keeps.References.{references_join, references_join_keeper, references_keep, references_split, references_split_back, references_total, references_unheld, seats_hand}
 use Rattle.protocol.proofs.keeps.SectionKeeps.{idle_parts, idle_tells, none_from}
-use Rattle.protocol.specs.Common.{after_collect, after_collected, after_count_add, after_count_down, after_count_store, after_hand, after_join_keeper, after_keep, after_split, after_total, exchange}
-use Rattle.protocol.specs.Common.{is_drainable, is_driver_slot, is_idle, is_number, may_collect, may_count, may_examine, may_join, may_join_keeper, may_keep, may_write, some_outcome, Holds}
-use Rattle.protocol.specs.Common.{IsCounting, IsIn, SeatsShow, SnapshotsStand, at_rest, State, count_at, found_at, hand_at, kept_at, local_at, mark_at, total_at, Keeps, Collected, Word, Due, Adding}
-use Rattle.protocol.specs.Common.{Rest, Snapshots, Subtracting, Hand, Back, Empty, Giving, Taking, Lifted, Standing}
+use Rattle.protocol.specs.Common.{after_collect, after_collected, after_count_add, after_count_down, after_count_store, after_hand, after_join_keeper, after_keep, after_split, after_total, after_confirm, after_take_back, after_try, exchange}
+use Rattle.protocol.specs.Common.{is_drainable, is_driver_slot, is_idle, is_number, may_collect, may_count, may_examine, may_join, may_join_keeper, may_keep, may_write, may_try, may_confirm, is_last_detach, some_outcome, Holds}
+use Rattle.protocol.specs.Common.{IsCounting, IsIn, SeatsShow, SnapshotsStand, at_rest, State, count_at, found_at, hand_at, kept_at, local_at, mark_at, passive_at, total_at, trying_at, trying_of, with_cell, Keeps, Collected, Word, Due, Adding}
+use Rattle.protocol.specs.Common.{Rest, Snapshots, Subtracting, Hand, Back, Empty, Giving, Taking, Trying, Lifted, Standing}
 use Rattle.registry_values.specs.Common.{mark_after_collect, are_clear, have_passed, is_clear, is_some_collected, no_mark, is_retired, slot_of, slot_at, bias}
-use Rattle.protocol.specs.Types.{Entry}
+use Rattle.protocol.specs.Types.{Entry, Slot, Vacant, Live, Retired}
 use Rattle.protocol.proofs.Either.{either}
 
 -- the lengths and limits of the counts
@@ -91,13 +93,19 @@ count_add_keeps s c t e on found of may =
       cell_sized s.nets t c (count_at s.nets c t + 1) on.shape.nets on.shape.net_rows,
       hand_put s c (Taking e.number) on (idle_parts s c p.0).0,
       C.count_add on.balance (fit_of s on) c t e.number e idle.0 counting.0 refl (only_slot s t e.number e on counting.0 refl) counting.1 idle.1 fits,
+      passive_hand s.settings.cpus s.settings.passive_limit s.slots s.marks s.passive s.hands c (Taking e.number) (λ u. sym (ap (trying_of u) idle.1)) on.passive,
       references_count_add s.settings.cpus s.slots s.hands s.due s.locals c e.number (slot_occupied s.slots e.number t of) on.references,
     )
 
 pub split_keeps : (s : State) (c n : ℕ) → Holds s → hand_at s c ≡ Taking n → Holds (after_split s c n)
 split_keeps s c n on hand =
     let full = hand_full s c Empty (Taking n) on hand (λ is. let q : Taking n ≡ Empty = is in cc) in
-    assumption (full.1, C.split_ref on.balance c n full.0 hand, references_split s.settings.cpus s.slots s.hands s.due s.locals c n hand on.references)
+    assumption (
+      full.1,
+      C.split_ref on.balance c n full.0 hand,
+      passive_hand s.settings.cpus s.settings.passive_limit s.slots s.marks s.passive s.hands c Empty (λ u. sym (ap (trying_of u) hand)) on.passive,
+      references_split s.settings.cpus s.slots s.hands s.due s.locals c n hand on.references,
+    )
 
 pub join_keeps : (s : State) (c n id : ℕ) → Holds s → local_at s.locals id ≡ Standing n → is_idle s c ≡ true → Holds (after_hand s c (Giving n id) id (Lifted c))
 join_keeps s c n id on at idle =
@@ -105,6 +113,7 @@ join_keeps s c n id on at idle =
     assumption (
       hand_put s c (Giving n id) on (idle_parts s c idle).0,
       C.join_ref on.balance c n id (omega (arith, told.0, on.shape.hands)) told.1 at,
+      passive_hand s.settings.cpus s.settings.passive_limit s.slots s.marks s.passive s.hands c (Giving n id) (λ u. sym (ap (trying_of u) told.1)) on.passive,
       references_join s.settings.cpus s.slots s.hands s.due s.locals c n id at on.references,
     )
 
@@ -120,6 +129,7 @@ count_down_keeps s c n id t on hand of same =
       cell_sized s.nets t c (count_at s.nets c t - 1) on.shape.nets on.shape.net_rows,
       full.1,
       C.count_down on.balance (fit_of s on) c t n id has.1.0 lt has.1.1 has.1.2 (only_slot s t n has.1.0 on has.1.1 has.1.2) (C.is_counting on.balance c t has.1.0 lt has.1.1 same) hand lifted,
+      passive_hand s.settings.cpus s.settings.passive_limit s.slots s.marks s.passive s.hands c Empty (λ u. sym (ap (trying_of u) hand)) on.passive,
       references_count_down s.settings.cpus s.slots s.hands s.due s.locals c n id hand on.references,
     )
 
@@ -127,13 +137,23 @@ count_down_keeps s c n id t on hand of same =
 pub collected_keeps : (s : State) (c n id : ℕ) → Holds s → hand_at s c ≡ Giving n id → Holds (after_collected s c n id)
 collected_keeps s c n id on hand =
     let full = hand_full s c (Back n id) (Giving n id) on hand (λ is. let q : Giving n id ≡ Empty = is in cc) in
-    assumption (full.1, C.found_collected on.balance c n id full.0 hand, references_collected s.settings.cpus s.slots s.hands s.due s.locals c n id hand on.references)
+    assumption (
+      full.1,
+      C.found_collected on.balance c n id full.0 hand,
+      passive_hand s.settings.cpus s.settings.passive_limit s.slots s.marks s.passive s.hands c (Back n id) (λ u. sym (ap (trying_of u) hand)) on.passive,
+      references_collected s.settings.cpus s.slots s.hands s.due s.locals c n id hand on.references,
+    )
 
 pub split_back_keeps : (s : State) (c n id : ℕ) → Holds s → hand_at s c ≡ Back n id → Holds (after_hand s c Empty id (Standing n))
 split_back_keeps s c n id on hand =
     let full = hand_full s c Empty (Back n id) on hand (λ is. let q : Back n id ≡ Empty = is in cc) in
     let lifted = (back_holds s.settings.cpus s.slots s.hands s.due s.locals c n id hand on.references).1 in
-    assumption (full.1, C.split_back on.balance c n id full.0 hand lifted, references_split_back s.settings.cpus s.slots s.hands s.due s.locals c n id hand on.references)
+    assumption (
+      full.1,
+      C.split_back on.balance c n id full.0 hand lifted,
+      passive_hand s.settings.cpus s.settings.passive_limit s.slots s.marks s.passive s.hands c Empty (λ u. sym (ap (trying_of u) hand)) on.passive,
+      references_split_back s.settings.cpus s.slots s.hands s.due s.locals c n id hand on.references,
+    )
 
 pub collect_keeps : (s : State) (t c : ℕ) → Holds s → may_collect s t c ≡ true → Holds (after_collect s t c)
 collect_keeps s t c on may =
@@ -154,7 +174,7 @@ collect_keeps s t c on may =
       marks_write s.history s.slots s.marks s.section s.begins t c (mark_after_collect (mark_at s.marks t c))
           (λ p b e is ends in_ holds. on.grace.passed t p c b e is ends in_ holds) (λ p b w e is ends in_ snap off. on.grace.changed t p c b w e is ends in_ snap off)
           (λ w e is snap. on.grace.older t c w e is snap) (λ b w e is in_ holds snap same. on.grace.left t c b w e is in_ holds snap same) on.grace,
-      passive_marked s.settings.cpus s.settings.passive_limit s.slots s.marks s.passive t c (mark_after_collect (mark_at s.marks t c))
+      passive_marked s.settings.cpus s.settings.passive_limit s.slots s.marks s.passive s.hands t c (mark_after_collect (mark_at s.marks t c))
           (λ e is holds. on.passive.clear c t e is holds) (λ e is holds. clear) on.passive,
       C.collect on.balance (fit_of s on) c t told.2.0 told.1 told.0 told.2.1 still,
       references_collect s.settings.cpus s.slots s.hands s.due s.locals t (count_at s.counts c t) told.2.0 told.2.1 on.references,
@@ -209,3 +229,100 @@ exchange_keeps s c n id t on hand of = go (count_at s.counts c t == count_at s.n
         → Keeps (if b then some_outcome (after_count_down s c t id) (Word (count_at s.counts c t)) else some_outcome (after_collected s c n id) Collected)
     go true is = count_down_keeps s c n id t on hand of (eqb-true (count_at s.counts c t) (count_at s.nets c t) is)
     go false is = collected_keeps s c n id on hand
+
+-- A passive reference without a section
+
+-- the place of a passive word
+pub passive_place : (s : State) (c t : ℕ) → Holds s → c < s.settings.cpus → t < s.settings.slots → (t < length s.passive) × (c < length (get_or s.passive t []))
+passive_place s c t on low within =
+    let tp : t < length s.passive = omega (arith, within, on.shape.passive) in
+    (tp, omega (arith, on.shape.passive_rows t tp, low, cpus_fit s.settings on.fit))
+
+pub try_keeps : (s : State) (c t n : ℕ) → Holds s → may_try s c t ≡ true → Holds (after_try s c t n)
+try_keeps s c t n on may =
+    let p = and_parts (is_idle s c) (nat_lt t s.settings.slots && nat_lt (passive_at s.passive c t) s.settings.passive_limit) may in
+    let q = and_parts (nat_lt t s.settings.slots) (nat_lt (passive_at s.passive c t) s.settings.passive_limit) p.1 in
+    let idle = idle_tells s c on p.0 in
+    let fits : passive_at s.passive c t < s.settings.passive_limit = ltb-true (passive_at s.passive c t) s.settings.passive_limit q.1 in
+    let place = passive_place s c t on idle.0 (ltb-true t s.settings.slots q.0) in
+    let lt : c < length s.hands = omega (arith, idle.0, on.shape.hands) in
+    assumption (
+      cell_sized s.passive t c (passive_at s.passive c t + 1) on.shape.passive on.shape.passive_rows,
+      hand_put s c (Trying t n) on (idle_parts s c p.0).0,
+      passive_shifted s.settings.cpus s.settings.passive_limit s.slots s.marks s.passive (with_cell s.passive t c (passive_at s.passive c t + 1)) s.hands (set s.hands c (Trying t n))
+          (shifted_try s.passive s.hands c t n place.0 place.1 lt idle.1)
+          (λ d u. cell_put 0 s.passive t c (passive_at s.passive c t + 1) (λ v i x. x ≤ s.settings.passive_limit) u d (omega (arith, fits)) (on.passive.limited d u))
+          (λ d u. cell_put 0 s.passive t c (passive_at s.passive c t + 1) (λ v i x. s.settings.cpus ≤ i → x ≡ 0) u d (λ past. absurd (omega (arith, past, idle.0))) (on.passive.beyond d u))
+          on.passive,
+      C.hand_unheld on.balance c Empty (Trying t n) lt idle.1 (λ m. refl) (λ m. refl),
+      references_unheld s.settings.cpus s.slots s.hands s.due s.locals c (Trying t n) tt on.references,
+    )
+
+-- a CPU with this hand is in range, and its word counts what it is trying
+pub trying_tells : (s : State) (c t n : ℕ) → Holds s → hand_at s c ≡ Trying t n → (c < s.settings.cpus) × (t < s.settings.slots) × (1 ≤ passive_at s.passive c t)
+trying_tells s c t n on hand =
+    let low = hand_within s c on (λ empty. let q : Trying t n ≡ Empty = sym hand ∙ empty in cc) in
+    let tries : trying_at s.hands c t ≡ 1 = ap (trying_of t) hand ∙ trying_one t n t refl in
+    let some : 1 ≤ passive_at s.passive c t = omega (arith, tries, on.passive.counted c t) in
+    let within : t < s.settings.slots = either (cases_lt t s.settings.slots)
+    (λ lt. lt)
+    (λ ge.
+    let none : passive_at s.passive c t ≡ 0 = ap (λ (r : List ℕ). get_or r c 0) (get_or_past s.passive t [] (omega (arith, ge, on.shape.passive))) in
+    absurd (omega (arith, some, none))) in
+    (low, within, some)
+
+pub take_back_keeps : (s : State) (c t n : ℕ) → Holds s → hand_at s c ≡ Trying t n → Holds (after_take_back s c t)
+take_back_keeps s c t n on hand =
+    let told = trying_tells s c t n on hand in
+    let place = passive_place s c t on told.0 told.1 in
+    let full = hand_full s c Empty (Trying t n) on hand (λ is. let q : Trying t n ≡ Empty = is in cc) in
+    assumption (
+      cell_sized s.passive t c (passive_at s.passive c t - 1) on.shape.passive on.shape.passive_rows,
+      full.1,
+      passive_shifted s.settings.cpus s.settings.passive_limit s.slots s.marks s.passive (with_cell s.passive t c (passive_at s.passive c t - 1)) s.hands (set s.hands c Empty)
+          (shifted_back s.passive s.hands c t n place.0 place.1 full.0 hand told.2)
+          (λ d u. cell_put 0 s.passive t c (passive_at s.passive c t - 1) (λ v i x. x ≤ s.settings.passive_limit) u d (omega (arith, on.passive.limited c t)) (on.passive.limited d u))
+          (λ d u. cell_put 0 s.passive t c (passive_at s.passive c t - 1) (λ v i x. s.settings.cpus ≤ i → x ≡ 0) u d (λ past. absurd (omega (arith, past, told.0))) (on.passive.beyond d u))
+          on.passive,
+      C.hand_unheld on.balance c (Trying t n) Empty full.0 hand (λ m. refl) (λ m. refl),
+      references_unheld s.settings.cpus s.slots s.hands s.due s.locals c Empty tt on.references,
+    )
+
+-- what the test of a Confirm tells: the slot has the entry, and the CPU isn't clear for it
+pub confirm_tells : (s : State) (c t n : ℕ) (x : Slot) → may_confirm s c t n x ≡ true
+    → (e : Entry) × (e.number ≡ n) × ((x ≡ Live e) ⊎ ((x ≡ Retired e) × (is_last_detach s.history n ≡ true) × ((mark_at s.marks t c).clear ≡ false)))
+confirm_tells s c t n Vacant may = absurd (let q : ◌≡◌ {A = Bool} false true = may in cc)
+confirm_tells s c t n (Live e) may = (e, eqb-true e.number n may, inl refl)
+confirm_tells s c t n (Retired e) may =
+    let p = and_parts (e.number == n) (is_last_detach s.history n && not (mark_at s.marks t c).clear) may in
+    let q = and_parts (is_last_detach s.history n) (not (mark_at s.marks t c).clear) p.1 in
+    (e, eqb-true e.number n p.0, inr (refl, q.0, false_from (mark_at s.marks t c).clear q.1))
+
+pub confirm_keeps : (s : State) (c t n : ℕ) → Holds s → hand_at s c ≡ Trying t n → may_confirm s c t n (slot_at s.slots t) ≡ true → Holds (after_confirm s c)
+confirm_keeps s c t n on hand may =
+    let told = trying_tells s c t n on hand in
+    let is = confirm_tells s c t n (slot_at s.slots t) may in
+    let full = hand_full s c Empty (Trying t n) on hand (λ is. let q : Trying t n ≡ Empty = is in cc) in
+    assumption (
+      full.1,
+      passive_hands s.settings.cpus s.settings.passive_limit s.slots s.marks s.passive s.hands (set s.hands c Empty)
+          (λ d u. either (cases_eq d c)
+          (λ here.
+          let none : trying_at (set s.hands c Empty) d u ≡ 0 = ap (trying_of u) (ap (λ (k : ℕ). get_or (set s.hands c Empty) k Empty) here ∙ get_or-set_same s.hands c Empty Empty full.0) in
+          let tries : trying_at s.hands d u ≡ trying_of u (Trying t n) = ap (trying_of u) (ap (λ (k : ℕ). get_or s.hands k Empty) here ∙ hand) in
+          either (cases_eq u t)
+          (λ same. inr (
+            omega (arith, none),
+            λ vacant. either is.2
+                (λ live. let q : Live is.0 ≡ Vacant = sym live ∙ (ap (slot_at s.slots) (sym same) ∙ vacant) in cc)
+                (λ gone. let q : Retired is.0 ≡ Vacant = sym gone.0 ∙ (ap (slot_at s.slots) (sym same) ∙ vacant) in cc),
+            λ e at clear. either is.2
+                (λ live. let q : Live is.0 ≡ Retired e = sym live ∙ (ap (slot_at s.slots) (sym same) ∙ at) in cc)
+                (λ gone. let q : ◌≡◌ {A = Bool} false true = sym gone.2 ∙ (ap (λ (k : ℕ). (mark_at s.marks k c).clear) (sym same) ∙ (ap (λ (k : ℕ). (mark_at s.marks u k).clear) (sym here) ∙ clear)) in cc),
+          ))
+          (λ off. inl (omega (arith, none, tries, trying_none t n u (λ k. off (sym k))))))
+          (λ away. inl (ap (trying_of u) (get_or-set_other s.hands c d Empty Empty away))))
+          on.passive,
+      C.hand_unheld on.balance c (Trying t n) Empty full.0 hand (λ m. refl) (λ m. refl),
+      references_unheld s.settings.cpus s.slots s.hands s.due s.locals c Empty tt on.references,
+    )

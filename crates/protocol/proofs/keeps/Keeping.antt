@@ -5,7 +5,7 @@ use Rattle.std.specs.List.{list_all}
 use Rattle.std.proofs.lemmas.Bool.{and_parts, eqb-true}
 use Rattle.protocol.proofs.counts.CountBounds.{bias_at, none_held_at_bias}
 use Rattle.protocol.proofs.keeps.CountKeeps.{collect_keeps, count_add_keeps, count_store_keeps, exchange_keeps, fit_of, join_keeper_keeps, join_keeps, keep_keeps, only_slot, split_back_keeps}
-use Rattle.protocol.proofs.keeps.CountKeeps.{split_keeps, total_add_keeps, total_sub_keeps}
+use Rattle.protocol.proofs.keeps.CountKeeps.{confirm_keeps, split_keeps, take_back_keeps, total_add_keeps, total_sub_keeps, try_keeps}
 use Rattle.protocol.proofs.counts.Counts as C
 use Rattle.protocol.proofs.keeps.Drivers.{drivers_kept_sub, drivers_opening, drivers_publish, drivers_unpublish, drivers_vacate, kept_found}
 use Rattle.registry_values.proofs.Fit.{ranges}
@@ -20,11 +20,12 @@ use Rattle.protocol.proofs.keeps.SectionKeeps.{enter_keeps, exit_keeps, hear_kee
 use Rattle.protocol.specs.Common.{Outcome, after_count_store, after_kept_sub, after_look, after_look_passive, after_publish, after_row_store, after_snapshot, after_unpublish, after_vacate, count_down}
 use Rattle.protocol.specs.Common.{compared_slot, entry_of, exchange, guard, hear, is_bias, is_drained, is_iface_slot, is_idle, is_snapshot_due, kept_sub, load_record, look, may_add, may_collect, may_count}
 use Rattle.protocol.specs.Common.{may_enter, may_examine, may_exit, may_glance, may_join_keeper, may_keep, may_look_passive, may_publish, may_seat, may_seek, may_sub, may_vacate, may_write, snapshot}
+use Rattle.protocol.specs.Common.{confirm, may_confirm, may_try, take_back}
 use Rattle.protocol.specs.Common.{shared_word, after_counting, may_peek, peek, snapshot_mark, split_back, split_ref, number_standing, state_after, step, store_slot, some_outcome, tell, total_add, total_sub, unpublish, with_some, Holds, held_at}
 use Rattle.protocol.specs.Common.{Run, run_of_events, run_with_event, at_rest, State, found_at, hand_at, kept_at, local_at, mark_at, opening, passive_at, row_at, search_at, section_at, total_at}
 use Rattle.protocol.specs.Common.{Keeps, Event, Seat, Enter, Exit, Seek, LoadLink, LoadRecord, StoreSlot, StoreNext, Publish, Unpublish, Tell, Hear, Snapshot, Look, PassiveAdd, PassiveSub}
-use Rattle.protocol.specs.Common.{PassiveLook, CountAdd, SplitRef, JoinRef, CountDown, SplitBack, Collect, TotalAdd, JoinKeeper, TotalSub, Keep, KeptSub, Vacate, Count, Peek, RecordOf, SharedWord, Reply, Done, Due, Adding}
-use Rattle.protocol.specs.Common.{Snapshots, Subtracting, Hand, Back, Giving, Taking, Standing}
+use Rattle.protocol.specs.Common.{PassiveLook, CountAdd, SplitRef, JoinRef, CountDown, SplitBack, Collect, TotalAdd, JoinKeeper, TotalSub, Keep, KeptSub, Vacate, Count, Peek, Try, Confirm, TakeBack, RecordOf, SharedWord, Reply, Done, Due, Adding}
+use Rattle.protocol.specs.Common.{Snapshots, Subtracting, Hand, Back, Giving, Taking, Trying, Standing}
 use Rattle.registry_values.specs.Common.{mark_after_passive_look, mark_after_look, slot_of, slot_at, are_fit, bias}
 use Rattle.protocol.specs.Types.{Entry, Settings, Slot, Live, Retired}
 use Rattle.protocol.specs.declared.event.RecordOf.TheVariants.{Search as OfSearch, Passive as OfPassive, Local as OfLocal, Compared as OfCompared}
@@ -171,6 +172,14 @@ counting_keeps s on = assumption
 peek_one_keeps : (s : State) (c : ℕ) (w : SharedWord) → Holds s → Keeps (peek s c w)
 peek_one_keeps s c w on = some_keeps (shared_word s w) _ (λ v is. guard_keeps (may_peek s c) _ (λ may. peek_keeps s c on may))
 
+confirm_hand_keeps : (s : State) (c : ℕ) (h : Hand) → Holds s → hand_at s c ≡ h → Keeps (confirm s c h)
+confirm_hand_keeps s c (Trying t n) on is = guard_keeps (may_confirm s c t n (slot_at s.slots t)) _ (λ may. confirm_keeps s c t n on is may)
+confirm_hand_keeps s c _ on is = tt
+
+take_back_hand_keeps : (s : State) (c : ℕ) (h : Hand) → Holds s → hand_at s c ≡ h → Keeps (take_back s c h)
+take_back_hand_keeps s c (Trying t n) on is = take_back_keeps s c t n on is
+take_back_hand_keeps s c _ on is = tt
+
 pub step_keeps : (s : State) (e : Event) → Holds s → Keeps (step s e)
 step_keeps s (Seat c) on = guard_keeps (may_seat s c) _ (λ may. seat_keeps s c on may)
 step_keeps s (Enter c) on = guard_keeps (may_enter s c) _ (λ may. enter_keeps s c on may)
@@ -203,6 +212,9 @@ step_keeps s (KeptSub t) on = kept_sub_one_keeps s t on
 step_keeps s (Vacate t) on = guard_keeps (may_vacate s t) _ (λ may. vacate_keeps s t on may)
 step_keeps s Count on = guard_keeps (at_rest s.due) _ (λ rest. counting_keeps s on)
 step_keeps s (Peek c w) on = peek_one_keeps s c w on
+step_keeps s (Try c t n) on = guard_keeps (may_try s c t) _ (λ may. try_keeps s c t n on may)
+step_keeps s (Confirm c) on = confirm_hand_keeps s c (hand_at s c) on refl
+step_keeps s (TakeBack c) on = take_back_hand_keeps s c (hand_at s c) on refl
 
 pub step_holds : (s t : State) (e : Event) (r : Reply) → Holds s → step s e ≡ Some (record { state = t; reply = r }) → Holds t
 step_holds s t e r on is = subst Keeps is (step_keeps s e on)

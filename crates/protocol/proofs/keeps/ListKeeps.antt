@@ -187,7 +187,7 @@ publish_own s e on row name may counts references drivers =
       sections_old s.settings s.history (Attach e) s.section s.begins s.depths s.seen on.sections,
       searches_old s.settings s.history (Attach e) s.section s.begins s.depths s.seen s.searches on.sections on.searches,
       found_old s.settings s.history (Attach e) s.section s.begins s.depths s.seen s.found on.sections on.last_found,
-      passive_attach s.settings.cpus s.settings.passive_limit s.slots s.marks s.passive e told.within on.passive,
+      passive_attach s.settings.cpus s.settings.passive_limit s.slots s.marks s.passive s.hands e told.within on.passive,
     )
 
 pub publish_keeps : (s : State) (t : ℕ) (e : Entry) → Holds s → entry_of t (row_at s.rows t) ≡ Some e → may_publish s t e ≡ true
@@ -224,7 +224,7 @@ fit_unlinked s e head next on at rest next_size list links counts references dri
       sections_old s.settings s.history (Detach e.number) s.section s.begins s.depths s.seen on.sections,
       searches_old s.settings s.history (Detach e.number) s.section s.begins s.depths s.seen s.searches on.sections on.searches,
       found_old s.settings s.history (Detach e.number) s.section s.begins s.depths s.seen s.found on.sections on.last_found,
-      passive_detach s.settings.cpus s.settings.passive_limit s.slots s.marks s.passive e MOST_CPUS lt lm on.passive,
+      passive_detach s.settings.cpus s.settings.passive_limit s.slots s.marks s.passive s.hands e MOST_CPUS lt lm on.passive,
     )
 
 -- an entry is unlinked from its own slot

@@ -13,7 +13,7 @@ use Rattle.protocol.proofs.keeps.Passive.{found_not_passed, passive_counted, pas
 use Rattle.protocol.proofs.keeps.Unlinking.{within_retired}
 use Rattle.protocol.specs.Common.{after_add, after_kept_sub, after_look, after_look_passive, after_snapshot, after_sub, after_vacate, is_drainable, is_drained, is_idle, is_number, is_snapshot_due}
 use Rattle.protocol.specs.Common.{may_add, may_examine, may_look_passive, may_sub, may_vacate, snapshot_mark, AreRows, DueHolds, Holds, IsIn, SnapshotsStand, To_end, at_rest, State, found_at, kept_at}
-use Rattle.protocol.specs.Common.{mark_at, no_words, opening, passive_at, section_at, total_at, Rest, Snapshots, Empty}
+use Rattle.protocol.specs.Common.{mark_at, no_words, opening, passive_at, trying_at, trying_of, section_at, total_at, Rest, Snapshots, Empty}
 use Rattle.registry_values.specs.Common.{mark_after_passive_look, mark_after_look, are_clear, are_collected, has_changed, have_passed, is_clear, is_collected, is_even, is_passed, no_mark, are_fit}
 use Rattle.registry_values.specs.Common.{is_retired, live_count, slot_of, slot_at, bias}
 use Rattle.registry_values.proofs.Fit.{ranges}
@@ -44,7 +44,7 @@ snapshot_keeps s t c on is counts references =
       cell_sized s.marks t c (snapshot_mark (section_at s c)) on.shape.marks on.shape.mark_rows,
       marks_snapshot s.history s.slots s.marks s.section s.begins t c on.grace,
       snapshots_taken s.settings.cpus s.slots s.marks t c (section_at s c) place.0 place.1 (subst (SnapshotsStand s.settings.cpus s.slots s.marks) due on.snapshots),
-      passive_marked s.settings.cpus s.settings.passive_limit s.slots s.marks s.passive t c (snapshot_mark (section_at s c))
+      passive_marked s.settings.cpus s.settings.passive_limit s.slots s.marks s.passive s.hands t c (snapshot_mark (section_at s c))
           (λ e is holds. absurd (let q : ◌≡◌ {A = Bool} false true = holds in cc)) (λ e is holds. absurd (let q : ◌≡◌ {A = Bool} false true = holds in cc)) on.passive,
     )
 
@@ -54,7 +54,7 @@ look_keeps s t c on may counts =
       cell_sized s.marks t c (mark_after_look (mark_at s.marks t c) (section_at s c)) on.shape.marks on.shape.mark_rows,
       marks_look s.settings s.history s.slots s.marks s.section s.begins s.depths s.seen t c on.sections on.grace,
       snapshots_marked s.settings.cpus s.slots s.marks s.due t c (mark_after_look (mark_at s.marks t c) (section_at s c)) refl on.snapshots,
-      passive_marked s.settings.cpus s.settings.passive_limit s.slots s.marks s.passive t c (mark_after_look (mark_at s.marks t c) (section_at s c))
+      passive_marked s.settings.cpus s.settings.passive_limit s.slots s.marks s.passive s.hands t c (mark_after_look (mark_at s.marks t c) (section_at s c))
           (λ e is holds. let was = on.passive.clear c t e is holds in (ap (λ (b : Bool). b || (is_even (section_at s c) || has_changed (mark_at s.marks t c).snapshot (section_at s c))) was.0, was.1))
           (λ e is holds. on.passive.collected c t e is holds) on.passive,
     )
@@ -78,12 +78,12 @@ look_passive_keeps s t c on may counts =
           (λ p b e is ends in_ holds. on.grace.passed t p c b e is ends in_ holds) (λ p b w e is ends in_ snap off. on.grace.changed t p c b w e is ends in_ snap off)
           (λ w e is snap. on.grace.older t c w e is snap) (λ b w e is in_ holds snap same. on.grace.left t c b w e is in_ holds snap same) on.grace,
       snapshots_marked s.settings.cpus s.slots s.marks s.due t c (mark_after_passive_look (mark_at s.marks t c) (passive_at s.passive c t)) refl on.snapshots,
-      passive_marked s.settings.cpus s.settings.passive_limit s.slots s.marks s.passive t c (mark_after_passive_look (mark_at s.marks t c) (passive_at s.passive c t))
+      passive_marked s.settings.cpus s.settings.passive_limit s.slots s.marks s.passive s.hands t c (mark_after_passive_look (mark_at s.marks t c) (passive_at s.passive c t))
           (λ e is holds. (
             passed,
             either (or_cases (mark_at s.marks t c).clear (passive_at s.passive c t == 0) holds)
                 (λ before. (on.passive.clear c t e is before).1)
-                (λ now. eqb-true (passive_at s.passive c t) 0 now),
+                (λ now. omega (arith, eqb-true (passive_at s.passive c t) 0 now, on.passive.counted c t)),
           ))
           (λ e is holds. ap (λ (b : Bool). b || (passive_at s.passive c t == 0)) (on.passive.collected c t e is holds)) on.passive,
     )
@@ -92,12 +92,14 @@ pub add_keeps : (s : State) (c n t : ℕ) → Holds s → slot_of s.slots n ≡ 
 add_keeps s c n t on of may =
     let p = and_parts (is_idle s c) ((is_number n (found_at s c) || nat_lt 0 (passive_at s.passive c t)) && nat_lt (passive_at s.passive c t) s.settings.passive_limit) may in
     let q = and_parts (is_number n (found_at s c) || nat_lt 0 (passive_at s.passive c t)) (nat_lt (passive_at s.passive c t) s.settings.passive_limit) p.1 in
-    let low : c < s.settings.cpus = (idle_tells s c on p.0).0 in
+    let idle = idle_tells s c on p.0 in
+    let low : c < s.settings.cpus = idle.0 in
+    let untried : trying_at s.hands c t ≡ 0 = ap (trying_of t) idle.1 in
     let fits : passive_at s.passive c t < s.settings.passive_limit = ltb-true (passive_at s.passive c t) s.settings.passive_limit q.1 in
     let there = slot_has s.slots n t of in
     assumption (
       cell_sized s.passive t c (passive_at s.passive c t + 1) on.shape.passive on.shape.passive_rows,
-      passive_counted s.settings.cpus s.settings.passive_limit s.slots s.marks s.passive c t (passive_at s.passive c t + 1) low (omega (arith, fits))
+      passive_counted s.settings.cpus s.settings.passive_limit s.slots s.marks s.passive s.hands c t (passive_at s.passive c t + 1) low (omega (arith, fits)) (omega (arith, untried))
           (λ vacant. not_vacant there.1.0 (slot_at s.slots t) vacant there.1.1)
           (λ e gone clear. either (or_cases (is_number n (found_at s c)) (nat_lt 0 (passive_at s.passive c t)) q.0)
           (λ f.
@@ -105,7 +107,7 @@ add_keeps s c n t on of may =
           let number : n ≡ e.number = sym there.1.2 ∙ ap (λ (g : Entry). g.number) same in
           found_not_passed s.history s.slots s.marks s.section s.begins s.found c t e on.slots on.grace on.last_found gone (ap (λ (k : ℕ). is_number k (found_at s c)) (sym number) ∙ f)
           (on.passive.clear c t e gone clear).0)
-          (λ h. omega (arith, ltb-true 0 (passive_at s.passive c t) h, (on.passive.clear c t e gone clear).1)))
+          (λ h. omega (arith, untried, ltb-true 0 (passive_at s.passive c t) h, (on.passive.clear c t e gone clear).1)))
           on.passive,
     )
   where
@@ -118,10 +120,12 @@ pub sub_keeps : (s : State) (c t : ℕ) → Holds s → may_sub s c t ≡ true �
 sub_keeps s c t on may =
     let p = and_parts (is_idle s c) (nat_lt 0 (passive_at s.passive c t)) may in
     let some : 0 < passive_at s.passive c t = ltb-true 0 (passive_at s.passive c t) p.1 in
+    let idle = idle_tells s c on p.0 in
+    let untried : trying_at s.hands c t ≡ 0 = ap (trying_of t) idle.1 in
     assumption (
       cell_sized s.passive t c (passive_at s.passive c t - 1) on.shape.passive on.shape.passive_rows,
-      passive_counted s.settings.cpus s.settings.passive_limit s.slots s.marks s.passive c t (passive_at s.passive c t - 1) (idle_tells s c on p.0).0 (omega (arith, on.passive.limited c t))
-          (λ vacant. omega (arith, some, on.passive.vacant c t vacant)) (λ e gone clear. omega (arith, some, (on.passive.clear c t e gone clear).1)) on.passive,
+      passive_counted s.settings.cpus s.settings.passive_limit s.slots s.marks s.passive s.hands c t (passive_at s.passive c t - 1) idle.0 (omega (arith, on.passive.limited c t)) (omega (arith, untried))
+          (λ vacant. omega (arith, some, untried, on.passive.vacant c t vacant)) (λ e gone clear. omega (arith, some, untried, (on.passive.clear c t e gone clear).1)) on.passive,
     )
 
 -- what a drained slot shows
@@ -168,7 +172,7 @@ vacated_keeps s t totals keeps on drained total_size keep_size counts references
       links_vacate s.history s.slots s.next s.begins t lt on.frozen_links,
       marks_vacate s.history s.slots s.marks s.section s.begins t lt on.grace,
       snapshots_vacate s.settings.cpus s.slots s.marks s.due t lt on.snapshots,
-      passive_vacate s.settings.cpus s.settings.passive_limit s.slots s.marks s.passive t gone.0 lt gone.1 told.3 on.passive,
+      passive_vacate s.settings.cpus s.settings.passive_limit s.slots s.marks s.passive s.hands t gone.0 lt gone.1 told.3 on.passive,
     )
   where
     within_begin : (xs : List (Option ℕ)) (c b : ℕ) → get_or xs c None ≡ Some b → c < length xs
@@ -204,6 +208,7 @@ opening_holds z fit counts references drivers =
     let vacant : (t : ℕ) → slot_at (replicate z.slots Vacant) t ≡ Vacant = λ t. get_or_all z.slots Vacant t in
     let not_live : (t : ℕ) (e : Entry) → slot_at (replicate z.slots Vacant) t ≡ Live e → ⊥ = λ t e is. (let q : Vacant ≡ Live e = sym (vacant t) ∙ is in cc) in
     let not_retired : (t : ℕ) (e : Entry) → slot_at (replicate z.slots Vacant) t ≡ Retired e → ⊥ = λ t e is. (let q : Vacant ≡ Retired e = sym (vacant t) ∙ is in cc) in
+    let untried : (c t : ℕ) → trying_at (replicate z.cpus Empty) c t ≡ 0 = λ c t. ap (trying_of t) (get_or_all z.cpus Empty c) in
     let outside : (c b : ℕ) → get_or (replicate z.cpus None) c None ≡ Some b → ⊥ = λ c b is. none-some b (sym (get_or_all z.cpus None c) ∙ is) in
     record {
       fit = fit;
@@ -272,7 +277,8 @@ opening_holds z fit counts references drivers =
       searches = λ c q is. absurd (none-some q (sym (get_or_all z.cpus None c) ∙ is));
       last_found = λ c e is. absurd (none-some e (sym (get_or_all z.cpus None c) ∙ is));
       passive = record {
-        vacant = λ c t is. cell_all {X = ℕ} z.slots MOST_CPUS 0 t c;
+        counted = λ c t. omega (arith, untried c t);
+        vacant = λ c t is. cell_all {X = ℕ} z.slots MOST_CPUS 0 t c ∙ sym (untried c t);
         clear = λ c t e is. absurd (not_retired t e is);
         collected = λ c t e is. absurd (not_retired t e is);
         beyond = λ c t past. cell_all {X = ℕ} z.slots MOST_CPUS 0 t c;

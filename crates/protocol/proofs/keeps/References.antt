@@ -5,7 +5,7 @@ use Rattle.std.proofs.lemmas.List.{get_or_past, get_or_append_left, get_or_push,
 use Rattle.std.proofs.lemmas.List.Quantifiers.{position-Some}
 use Rattle.std.proofs.lemmas.Bool.{cases_lt, cases_eq, and_parts, eqb-true, cond_both, ltb-true, ltb-false}
 use Rattle.protocol.specs.Types.{Entry, Slot, Vacant, Live, Retired}
-use Rattle.protocol.specs.Common.{Search, Hand, Empty, Taking, Giving, Back, LocalPlace, Free, Standing, Lifted, Due, Rest, Snapshots, Adding, Subtracting, local_at, is_snapshot_due, number_standing}
+use Rattle.protocol.specs.Common.{Search, Hand, Empty, Taking, Giving, Back, Trying, LocalPlace, Free, Standing, Lifted, Due, Rest, Snapshots, Adding, Subtracting, local_at, is_snapshot_due, number_standing}
 use Rattle.protocol.specs.Common.{is_free, id_if, least_id, with_local, Occupies, held_at, HandHolds, DueHolds, ReferencesHold, SeatsShow}
 use Rattle.registry_values.specs.Common.{slot_at}
 use Rattle.protocol.proofs.slots.Occupied.{place_cases, place_within, written_cases, in_within, occupies_publish, occupies_unpublish, occupies_vacate}
@@ -21,6 +21,7 @@ hand_slots slots others locals c Empty stays holds = tt
 hand_slots slots others locals c (Taking n) stays holds = stays n refl holds
 hand_slots slots others locals c (Giving n id) stays holds = (stays n refl holds.0, holds.1)
 hand_slots slots others locals c (Back n id) stays holds = (stays n refl holds.0, holds.1)
+hand_slots slots others locals c (Trying t n) stays holds = tt
 
 -- the numbers that places and hands name stay occupied
 pub references_slots : (cpus : ℕ) (slots others : List Slot) (hands : List Hand) (due next_due : Due) (locals : List LocalPlace)
@@ -118,6 +119,7 @@ hand_places slots locals others c Empty stays holds = tt
 hand_places slots locals others c (Taking n) stays holds = holds
 hand_places slots locals others c (Giving n id) stays holds = (holds.0, stays id holds.1)
 hand_places slots locals others c (Back n id) stays holds = (holds.0, stays id holds.1)
+hand_places slots locals others c (Trying t n) stays holds = tt
 
 -- a hand changes, and places that no other hand has lifted
 pub references_hand : (cpus : ℕ) (slots : List Slot) (hands : List Hand) (due : Due) (locals others : List LocalPlace) (c : ℕ) (h : Hand)
@@ -200,6 +202,11 @@ pub references_count_add : (cpus : ℕ) (slots : List Slot) (hands : List Hand) 
     → ReferencesHold cpus slots hands due locals → ReferencesHold cpus slots (set hands c (Taking n)) due locals
 references_count_add cpus slots hands due locals c n is refer =
     references_hand cpus slots hands due locals locals c (Taking n) refer.standing (λ d id off at. at) is refer
+
+-- a hand is written that holds nothing
+pub references_unheld : (cpus : ℕ) (slots : List Slot) (hands : List Hand) (due : Due) (locals : List LocalPlace) (c : ℕ) (h : Hand) → HandHolds slots locals c h
+    → ReferencesHold cpus slots hands due locals → ReferencesHold cpus slots (set hands c h) due locals
+references_unheld cpus slots hands due locals c h holds refer = references_hand cpus slots hands due locals locals c h refer.standing (λ d id off at. at) holds refer
 
 -- the lowest id that is free
 

@@ -2,6 +2,8 @@
 use Rattle.std.proofs.Common.{◌≡◌, ℕ, ◌<◌, List, length, get_or, set, cond, Bool, true, false, Option, Some, None, refl, sym, ap, subst, ◌∙◌, get_or-set_same, get_or-set_other}
 use Rattle.std.proofs.lemmas.Bool.{cases_eq, eq-eqb, ne_eqb}
 use Rattle.protocol.specs.Common.{Outcome, guard, with_some, Holds, put, Model, IsModelStep, IsModelRun, Stays, Goes_on, picture}
+use Rattle.protocol.specs.Model.{Keeps}
+use Rattle.protocol.specs.Common.{Enters, Exits, Sees, Seeks, Answers, Attaches, Detaches, Acquires, Copies, Releases, Takes, Counts, Uncounts, Vacates, Gives_up}
 use Rattle.protocol.proofs.slots.Occupied.{written_cases}
 use Rattle.protocol.proofs.Either.{either}
 
@@ -32,19 +34,42 @@ same_model a b alike = λ i. record {
 }
 
 -- the pictures are equal: no step
-pub no_step : (a b : Model) → Alike a b → IsModelRun a b
-no_step a b alike = subst (IsModelRun a) (same_model a b alike) Stays
+pub no_step : {MayTake : Type 0} (a b : Model) → Alike a b → IsModelRun MayTake a b
+no_step {MayTake} a b alike = subst (IsModelRun MayTake a) (same_model a b alike) Stays
 
-pub one_step : (m a b : Model) → IsModelStep m a → Alike a b → IsModelRun m b
-one_step m a b step alike = subst (IsModelRun m) (same_model a b alike) (Goes_on m a Stays step)
+pub one_step : {MayTake : Type 0} (m a b : Model) → IsModelStep MayTake m a → Alike a b → IsModelRun MayTake m b
+one_step {MayTake} m a b step alike = subst (IsModelRun MayTake m) (same_model a b alike) (Goes_on m a Stays step)
 
-pub two_steps : (m a n b : Model) → IsModelStep m a → IsModelStep a n → Alike n b → IsModelRun m b
-two_steps m a n b first second alike = subst (IsModelRun m) (same_model n b alike) (Goes_on a n (Goes_on m a Stays first) second)
+pub two_steps : {MayTake : Type 0} (m a n b : Model) → IsModelStep MayTake m a → IsModelStep MayTake a n → Alike n b → IsModelRun MayTake m b
+two_steps {MayTake} m a n b first second alike = subst (IsModelRun MayTake m) (same_model n b alike) (Goes_on a n (Goes_on m a Stays first) second)
 
 -- runs one after the other
-pub join_runs : (a b c : Model) → IsModelRun a b → IsModelRun b c → IsModelRun a c
+pub join_runs : {MayTake : Type 0} (a b c : Model) → IsModelRun MayTake a b → IsModelRun MayTake b c → IsModelRun MayTake a c
 join_runs a b _ first Stays = first
 join_runs a b _ first (Goes_on d e rest step) = Goes_on d e (join_runs a b d first rest) step
+
+-- where no less may be taken without a section, each step is one still
+pub widen_step : {P Q : Type 0} → (P → Q) → (m n : Model) → IsModelStep P m n → IsModelStep Q m n
+widen_step wide m _ (Enters c out) = Enters c out
+widen_step wide m _ (Exits c b in_ none) = Exits c b in_ none
+widen_step wide m _ (Sees c n from to) = Sees c n from to
+widen_step wide m _ (Seeks c b key in_ none) = Seeks c b key in_ none
+widen_step wide m _ (Answers c q answer is lawful) = Answers c q answer is lawful
+widen_step wide m _ (Attaches e vacant legal number rightly) = Attaches e vacant legal number rightly
+widen_step wide m _ (Detaches n legal) = Detaches n legal
+widen_step wide m _ (Keeps t d vacant none here some) = Keeps t d vacant none here some
+widen_step wide m _ (Acquires c e found) = Acquires c e found
+widen_step wide m _ (Copies c n some) = Copies c n some
+widen_step wide m _ (Releases c n some) = Releases c n some
+widen_step wide m _ (Takes c t e attached there last taking) = Takes c t e attached there last (wide taking)
+widen_step wide m _ (Counts c e found) = Counts c e found
+widen_step wide m _ (Uncounts n some) = Uncounts n some
+widen_step wide m _ (Vacates t n p there ends unheld none) = Vacates t n p there ends unheld none
+widen_step wide m _ (Gives_up t n p d there ends unheld kept) = Gives_up t n p d there ends unheld kept
+
+pub widen_run : {P Q : Type 0} → (P → Q) → (m n : Model) → IsModelRun P m n → IsModelRun Q m n
+widen_run wide m _ Stays = Stays
+widen_run wide m _ (Goes_on a b run step) = Goes_on a b (widen_run wide m a run) (widen_step wide a b step)
 
 -- a function with one value put
 pub put_here : {X : Type 0} (f : ℕ → X) (i : ℕ) (x : X) → put f i x i ≡ x
@@ -74,15 +99,15 @@ unwritten f d xs c x stays j = either (written_cases d xs c x j)
     (λ here. ap (λ (k : ℕ). f (get_or xs k d)) here.0 ∙ (stays ∙ ap f (sym here.1)))
     (λ off. ap f (sym off.1))
 
--- what an outcome must give: from the invariant after it, a run from m to its picture
-abbrev pub Makes : Model → Option Outcome → Type 0
-Makes m None = Unit {0}
-Makes m (Some o) = Holds o.state → IsModelRun m (picture o.state)
+-- what an outcome must give: from the invariant after it, a run from m to its picture, in which references are taken without a section only where `MayTake` is so
+abbrev pub Makes : Type 0 → Model → Option Outcome → Type 0
+Makes MayTake m None = Unit {0}
+Makes MayTake m (Some o) = Holds o.state → IsModelRun MayTake m (picture o.state)
 
-pub makes_guard : (m : Model) (b : Bool) (o : Option Outcome) → (b ≡ true → Makes m o) → Makes m (guard b o)
-makes_guard m true o made = made refl
-makes_guard m false o made = tt
+pub makes_guard : (MayTake : Type 0) (m : Model) (b : Bool) (o : Option Outcome) → (b ≡ true → Makes MayTake m o) → Makes MayTake m (guard b o)
+makes_guard MayTake m true o made = made refl
+makes_guard MayTake m false o made = tt
 
-pub makes_some : {X : Type 0} (m : Model) (o : Option X) (f : X → Option Outcome) → ((x : X) → o ≡ Some x → Makes m (f x)) → Makes m (with_some o f)
-makes_some m None f made = tt
-makes_some m (Some x) f made = made x refl
+pub makes_some : {X : Type 0} (MayTake : Type 0) (m : Model) (o : Option X) (f : X → Option Outcome) → ((x : X) → o ≡ Some x → Makes MayTake m (f x)) → Makes MayTake m (with_some o f)
+makes_some MayTake m None f made = tt
+makes_some MayTake m (Some x) f made = made x refl

@@ -5,8 +5,8 @@ use Rattle.std.proofs.lemmas.Option.{none-some, same_Some}
 use Rattle.protocol.specs.Types.{Entry, Change, Attach, Detach, Slot, Vacant, Live, Retired}
 use Rattle.protocol.specs.Common.{Free, Standing, Due, Rest, after_change, IsLegal, EndsAt, State, row_at, passive_at, kept_at, local_at, after_row_store, after_count_store, after_link_store}
 use Rattle.protocol.specs.Common.{may_write, entry_of, may_publish, after_publish, with_retired, with_link_past, after_unpublish, is_driver_slot, may_keep, after_keep, is_drained, after_kept_sub}
-use Rattle.protocol.specs.Common.{may_vacate, after_vacate, Holds, IsIn, SlotsShow, held_at, standing_of, in_hand, put, Model, IsUnheld, IsDriverHere, IsModelRun, Stays, number_in, passive_in}
-use Rattle.protocol.specs.Common.{subtractions_due, locals_of, picture}
+use Rattle.protocol.specs.Common.{may_vacate, after_vacate, Holds, IsIn, SlotsShow, held_at, standing_of, in_hand, put, IsUnheld, IsDriverHere, IsModelRun, Stays, number_in, passive_in}
+use Rattle.protocol.specs.Common.{Hand, trying_at, subtractions_due, locals_of, picture}
 use Rattle.registry_values.specs.Common.{slot_at, slot_of, slot_before}
 use Rattle.protocol.specs.Model
 use Rattle.protocol.proofs.history.History.{one_entry}
@@ -33,12 +33,12 @@ pub own_slot : (h : List Change) (slots : List Slot) (n u : ℕ) → SlotsShow h
 own_slot h slots n u show at = ap (slot_of slots) (sym at.2) ∙ slot_number h slots at.0 u show at.1
 
 -- where the slot of a number stays, or has no passive references
-pub passive_moved : (h k : List Change) (slots others : List Slot) (passive : List (List ℕ)) (c n : ℕ) → SlotsShow h slots → SlotsShow k others
-    → ((u : ℕ) → At slots n u → At others n u ⊎ (passive_at passive c u ≡ 0)) → ((u : ℕ) → At others n u → At slots n u ⊎ (passive_at passive c u ≡ 0))
-    → passive_in passive c (slot_of slots n) ≡ passive_in passive c (slot_of others n)
-passive_moved h k slots others passive c n show later forth back = go (slot_of slots n) (slot_of others n) refl refl
+pub passive_moved : (h k : List Change) (slots others : List Slot) (passive : List (List ℕ)) (hands : List Hand) (c n : ℕ) → SlotsShow h slots → SlotsShow k others
+    → ((u : ℕ) → At slots n u → At others n u ⊎ (passive_at passive c u - trying_at hands c u ≡ 0)) → ((u : ℕ) → At others n u → At slots n u ⊎ (passive_at passive c u - trying_at hands c u ≡ 0))
+    → passive_in passive hands c (slot_of slots n) ≡ passive_in passive hands c (slot_of others n)
+passive_moved h k slots others passive hands c n show later forth back = go (slot_of slots n) (slot_of others n) refl refl
   where
-    go : (o p : Option ℕ) → slot_of slots n ≡ o → slot_of others n ≡ p → passive_in passive c o ≡ passive_in passive c p
+    go : (o p : Option ℕ) → slot_of slots n ≡ o → slot_of others n ≡ p → passive_in passive hands c o ≡ passive_in passive hands c p
     go None None before after = refl
     go None (Some v) before after = either (back v (slot_has others n v after).1)
         (λ at. absurd (none-some v (sym before ∙ own_slot h slots n v show at)))
@@ -47,9 +47,9 @@ passive_moved h k slots others passive c n show later forth back = go (slot_of s
         (λ at. absurd (none-some u (sym after ∙ own_slot k others n u later at)))
         (λ none. none)
     go (Some u) (Some v) before after = either (forth u (slot_has slots n u before).1)
-        (λ at. ap (passive_at passive c) (same_Some u v (sym (own_slot k others n u later at) ∙ after)))
+        (λ at. ap (λ (w : ℕ). passive_at passive c w - trying_at hands c w) (same_Some u v (sym (own_slot k others n u later at) ∙ after)))
         (λ none. either (back v (slot_has others n v after).1)
-        (λ at. ap (passive_at passive c) (same_Some u v (sym before ∙ own_slot h slots n v show at)))
+        (λ at. ap (λ (w : ℕ). passive_at passive c w - trying_at hands c w) (same_Some u v (sym before ∙ own_slot h slots n v show at)))
         (λ also. none ∙ sym also))
 
 -- at rest no reference waits for the keeper
@@ -58,30 +58,31 @@ waiting_rest slots n due is = ap (subtractions_due slots n) is
 
 -- Stores to a vacant slot show nothing.
 
-pub row_store_refines : (s : State) (t k v : ℕ) → IsModelRun (picture s) (picture (after_row_store s t k v))
+pub row_store_refines : (s : State) (t k v : ℕ) → IsModelRun ⊥ (picture s) (picture (after_row_store s t k v))
 row_store_refines s t k v = Stays
 
-pub count_store_refines : (s : State) (t c v : ℕ) → IsModelRun (picture s) (picture (after_count_store s t c v))
+pub count_store_refines : (s : State) (t c v : ℕ) → IsModelRun ⊥ (picture s) (picture (after_count_store s t c v))
 count_store_refines s t c v = Stays
 
-pub link_store_refines : (s : State) (t v : ℕ) → IsModelRun (picture s) (picture (after_link_store s t v))
+pub link_store_refines : (s : State) (t v : ℕ) → IsModelRun ⊥ (picture s) (picture (after_link_store s t v))
 link_store_refines s t v = Stays
 
 -- Publish and Unpublish
 
-publish_own : (s : State) (e : Entry) → Holds s → Holds (after_publish s e.slot e) → may_publish s e.slot e ≡ true → IsModelRun (picture s) (picture (after_publish s e.slot e))
+publish_own : (s : State) (e : Entry) → Holds s → Holds (after_publish s e.slot e) → may_publish s e.slot e ≡ true → IsModelRun ⊥ (picture s) (picture (after_publish s e.slot e))
 publish_own s e on now ok =
     let told = may_publish_tells s e.slot e on.shape ok in
+    let unheld : (c : ℕ) → passive_at s.passive c e.slot - trying_at s.hands c e.slot ≡ 0 = λ c. omega (arith, on.passive.vacant c e.slot told.vacant) in
     one_step (picture s) _ (picture (after_publish s e.slot e)) (Model.Attaches e (ap number_in told.vacant) now.legal told.number told.rightly) (record {
       history = refl;
       sections = λ c. refl;
       passes = λ c. refl;
       lookups = λ c. refl;
       found = λ c. refl;
-      passive = λ c n. passive_moved s.history (after_change s.history (Attach e)) s.slots (set s.slots e.slot (Live e)) s.passive c n on.slots now.slots
+      passive = λ c n. passive_moved s.history (after_change s.history (Attach e)) s.slots (set s.slots e.slot (Live e)) s.passive s.hands c n on.slots now.slots
           (λ u at. inl (at.0, in_other s.slots e.slot (Live e) at.0 u (λ same. not_vacant at.0 (slot_at s.slots u) (ap (slot_at s.slots) same ∙ told.vacant) at.1) at.1, at.2))
           (λ u at. either (in_published s.slots e.slot u e at.0 told.within at.1)
-          (λ new. inr (ap (passive_at s.passive c) new.0 ∙ on.passive.vacant c e.slot told.vacant))
+          (λ new. inr (ap (λ (w : ℕ). passive_at s.passive c w - trying_at s.hands c w) new.0 ∙ unheld c))
           (λ old. inl (at.0, old, at.2)));
       locals = λ n. ap (λ (w : ℕ). sum_by (standing_of n) s.locals + sum_by (in_hand n) s.hands + w)
           (waiting_rest s.slots n s.due told.rest ∙ sym (waiting_rest (set s.slots e.slot (Live e)) n s.due told.rest));
@@ -90,14 +91,14 @@ publish_own s e on now ok =
     })
 
 pub publish_refines : (s : State) (t : ℕ) (e : Entry) → Holds s → Holds (after_publish s t e) → entry_of t (row_at s.rows t) ≡ Some e → may_publish s t e ≡ true
-    → IsModelRun (picture s) (picture (after_publish s t e))
+    → IsModelRun ⊥ (picture s) (picture (after_publish s t e))
 publish_refines s t e on now is ok =
-    subst (λ (u : ℕ). Holds (after_publish s u e) → may_publish s u e ≡ true → IsModelRun (picture s) (picture (after_publish s u e)))
+    subst (λ (u : ℕ). Holds (after_publish s u e) → may_publish s u e ≡ true → IsModelRun ⊥ (picture s) (picture (after_publish s u e)))
     (entry_shows t (row_at s.rows t) e is).0 (λ later may. publish_own s e on later may) now ok
 
 retiring_refines : (s : State) (t : ℕ) (e : Entry) → Holds s → s.due ≡ Rest → slot_at s.slots t ≡ Live e → IsLegal (after_change s.history (Detach e.number))
     → SlotsShow (after_change s.history (Detach e.number)) (set s.slots t (Retired e))
-    → IsModelRun (picture s) (picture (with_retired s t e))
+    → IsModelRun ⊥ (picture s) (picture (with_retired s t e))
 retiring_refines s t e on rest at legal later =
     one_step (picture s) _ (picture (with_retired s t e)) (Model.Detaches e.number legal) (record {
       history = refl;
@@ -105,7 +106,7 @@ retiring_refines s t e on rest at legal later =
       passes = λ c. refl;
       lookups = λ c. refl;
       found = λ c. refl;
-      passive = λ c n. passive_moved s.history (after_change s.history (Detach e.number)) s.slots (set s.slots t (Retired e)) s.passive c n on.slots later
+      passive = λ c n. passive_moved s.history (after_change s.history (Detach e.number)) s.slots (set s.slots t (Retired e)) s.passive s.hands c n on.slots later
           (λ u was. either (cases_eq u t)
           (λ same.
           let one : was.0 ≡ e = live_one was.0 e (slot_at s.slots t) at (subst (λ (k : ℕ). IsIn was.0 (slot_at s.slots k)) same was.1) in
@@ -122,11 +123,11 @@ retiring_refines s t e on rest at legal later =
     })
 
 unlinked_refines : (s : State) (t : ℕ) (e : Entry) (before : Option ℕ) → Holds s → Holds (with_retired (with_link_past s t before) t e) → s.due ≡ Rest → slot_at s.slots t ≡ Live e
-    → IsModelRun (picture s) (picture (with_retired (with_link_past s t before) t e))
+    → IsModelRun ⊥ (picture s) (picture (with_retired (with_link_past s t before) t e))
 unlinked_refines s t e None on now rest at = retiring_refines s t e on rest at now.legal now.slots
 unlinked_refines s t e (Some p) on now rest at = retiring_refines s t e on rest at now.legal now.slots
 
-pub unpublish_refines : (s : State) (t : ℕ) (e : Entry) → Holds s → Holds (after_unpublish s t e) → s.due ≡ Rest → slot_at s.slots t ≡ Live e → IsModelRun (picture s) (picture (after_unpublish s t e))
+pub unpublish_refines : (s : State) (t : ℕ) (e : Entry) → Holds s → Holds (after_unpublish s t e) → s.due ≡ Rest → slot_at s.slots t ≡ Live e → IsModelRun ⊥ (picture s) (picture (after_unpublish s t e))
 unpublish_refines s t e on now rest at = unlinked_refines s t e (slot_before s.slots s.next t) on now rest at
 
 -- Keep
@@ -135,7 +136,7 @@ pub number_of : (x : Slot) (e : Entry) → IsIn e x → number_in x ≡ Some e.n
 number_of x e is = either is (λ live. ap number_in live) (λ gone. ap number_in gone)
 
 pub keep_refines : (s : State) (t id n u : ℕ) → Holds s → local_at s.locals id ≡ Standing n → slot_of s.slots n ≡ Some u → may_keep s t u ≡ true
-    → IsModelRun (picture s) (picture (after_keep s t id n))
+    → IsModelRun ⊥ (picture s) (picture (after_keep s t id n))
 keep_refines s t id n u on at of ok =
     let p = and_parts (may_write s t) _ ok in
     let p1 = and_parts _ (is_driver_slot (slot_at s.slots u)) p.1 in
@@ -170,7 +171,7 @@ pub record Drained (s : State) (t n : ℕ) : Type 0 where
   pub gone : slot_at s.slots t ≡ Retired entry
   pub position : ℕ
   pub ended : EndsAt s.history n position
-  pub passive : (c : ℕ) → passive_at s.passive c t ≡ 0
+  pub passive : (c : ℕ) → passive_at s.passive c t - trying_at s.hands c t ≡ 0
   pub unheld : IsUnheld (picture s) n
 
 pub drained : (s : State) (t n : ℕ) → Holds s → is_drained s t ≡ true → number_in (slot_at s.slots t) ≡ Some n → Drained s t n
@@ -183,9 +184,9 @@ drained s t n on ok is =
     let end : EndsAt s.history n was.2.0 = subst (λ (k : ℕ). EndsAt s.history k was.2.0) number was.2.1 in
     let none : held_at s.locals s.hands s.keeps s.due e.number t ≡ 0 = none_held_at_bias on.balance t e told.0 at told.4 told.5 in
     let free : held_at s.locals s.hands s.keeps s.due n t ≡ 0 = subst (λ (k : ℕ). held_at s.locals s.hands s.keeps s.due k t ≡ 0) number none in
-    let words : (c : ℕ) → passive_at s.passive c t ≡ 0 = λ c. either (cases_lt c s.settings.cpus)
-    (λ low. (on.passive.clear c t e at (told.3 c low)).1)
-    (λ past. on.passive.beyond c t past) in
+    let words : (c : ℕ) → passive_at s.passive c t - trying_at s.hands c t ≡ 0 = λ c. either (cases_lt c s.settings.cpus)
+    (λ low. omega (arith, (on.passive.clear c t e at (told.3 c low)).1))
+    (λ past. omega (arith, on.passive.beyond c t past)) in
     record {
       due = told.0;
       entry = e;
@@ -200,7 +201,7 @@ drained s t n on ok is =
             let low : c < s.settings.cpus = omega (arith, within_some s.begins c b in_, on.shape.begins) in
             let ends : EndsAt s.history f.number was.2.0 = subst (λ (g : Entry). EndsAt s.history g.number was.2.0) (sym one) was.2.1 in
             omega (arith, may.unended was.2.0 ends, on.grace.passed t was.2.0 c b e at was.2.1 in_ (told.2 c low));
-        passive = λ c. ap (passive_in s.passive c) (own_slot s.history s.slots n t on.slots (e, inr at, number)) ∙ words c;
+        passive = λ c. ap (passive_in s.passive s.hands c) (own_slot s.history s.slots n t on.slots (e, inr at, number)) ∙ words c;
         locals = omega (arith, free, waiting_rest s.slots n s.due told.0);
         keeps = (unreferred s.locals s.hands s.keeps s.due n t free).unkept;
       };
@@ -215,10 +216,10 @@ occupant_of s t on ok = let told = is_drained_tells s t on ok in (told.1.0.numbe
 
 -- the slot of a drained entry becomes vacant
 pub vacated_passive : (s : State) (t n : ℕ) → Holds s → Drained s t n → SlotsShow s.history (set s.slots t Vacant)
-    → (c i : ℕ) → passive_in s.passive c (slot_of s.slots i) ≡ passive_in s.passive c (slot_of (set s.slots t Vacant) i)
-vacated_passive s t n on d later c i = passive_moved s.history s.history s.slots (set s.slots t Vacant) s.passive c i on.slots later
+    → (c i : ℕ) → passive_in s.passive s.hands c (slot_of s.slots i) ≡ passive_in s.passive s.hands c (slot_of (set s.slots t Vacant) i)
+vacated_passive s t n on d later c i = passive_moved s.history s.history s.slots (set s.slots t Vacant) s.passive s.hands c i on.slots later
     (λ u was. either (cases_eq u t)
-    (λ same. inr (ap (passive_at s.passive c) same ∙ d.passive c))
+    (λ same. inr (ap (λ (w : ℕ). passive_at s.passive c w - trying_at s.hands c w) same ∙ d.passive c))
     (λ off. inl (was.0, in_other s.slots t Vacant was.0 u off was.1, was.2)))
     (λ u was. inl (was.0, (in_vacated s.slots t u d.entry was.0 d.gone was.1).1, was.2))
 
@@ -226,7 +227,7 @@ vacated_locals : (s : State) (t n : ℕ) → Drained s t n → (i : ℕ) → loc
 vacated_locals s t n d i =
     ap (λ (w : ℕ). sum_by (standing_of i) s.locals + sum_by (in_hand i) s.hands + w) (waiting_rest s.slots i s.due d.due ∙ sym (waiting_rest (set s.slots t Vacant) i s.due d.due))
 
-pub vacate_refines : (s : State) (t : ℕ) → Holds s → Holds (after_vacate s t) → may_vacate s t ≡ true → IsModelRun (picture s) (picture (after_vacate s t))
+pub vacate_refines : (s : State) (t : ℕ) → Holds s → Holds (after_vacate s t) → may_vacate s t ≡ true → IsModelRun ⊥ (picture s) (picture (after_vacate s t))
 vacate_refines s t on now ok =
     let p = and_parts _ (is_drained s t) ok in
     let n = occupant_of s t on p.1 in
@@ -237,7 +238,7 @@ vacate_refines s t on now ok =
       written number_in Vacant s.slots t Vacant (in_within s.slots t d.entry (inr d.gone)),
     ))
 
-pub kept_sub_refines : (s : State) (t u k : ℕ) → Holds s → Holds (after_kept_sub s t u) → kept_at s.keeps t ≡ Some k → is_drained s t ≡ true → IsModelRun (picture s) (picture (after_kept_sub s t u))
+pub kept_sub_refines : (s : State) (t u k : ℕ) → Holds s → Holds (after_kept_sub s t u) → kept_at s.keeps t ≡ Some k → is_drained s t ≡ true → IsModelRun ⊥ (picture s) (picture (after_kept_sub s t u))
 kept_sub_refines s t u k on now kept ok =
     let n = occupant_of s t on ok in
     let d : Drained s t n.0 = drained s t n.0 on ok n.1 in

@@ -1,31 +1,36 @@
 -- The events of passive and local references make steps of the model.
-use Rattle.std.proofs.Common.{◌≡◌, ℕ, ◌+◌, ◌-◌, ◌<◌, inr, List, [], length, get_or, set, Option, Some, None, Bool, true, false, ◌&&◌, ◌||◌, ◌==◌, nat_lt, if◌then◌else◌, refl, sym, ap, subst, ◌∙◌}
-use Rattle.std.proofs.Common.{arith, ltb-true}
-use Rattle.std.proofs.lemmas.Bool.{and_parts, or_cases}
-use Rattle.protocol.specs.Types.{Entry, Slot, Retired}
-use Rattle.protocol.specs.Common.{Hand, Empty, Taking, Giving, Back, LocalPlace, Free, Standing, Lifted, Due, Rest, Snapshots, Adding, Subtracting, State, with_cell, found_at, hand_at, passive_at}
+use Rattle.std.proofs.Common.{◌≡◌, ℕ, ◌+◌, ◌-◌, ◌<◌, inl, inr, List, [], length, get_or, set, Option, Some, None, Bool, true, false, ◌&&◌, ◌||◌, ◌==◌, nat_lt, if◌then◌else◌, refl, sym, ap, subst, ◌∙◌}
+use Rattle.std.proofs.Common.{arith, ltb-true, get_or-set_same, get_or-set_other}
+use Rattle.std.proofs.lemmas.Bool.{and_parts, or_cases, eqb-true}
+use Rattle.protocol.specs.Types.{Entry, Change, Attach, Detach, Slot, Retired}
+use Rattle.protocol.specs.Common.{Hand, Empty, Taking, Giving, Back, Trying, LocalPlace, Free, Standing, Lifted, Due, Rest, Snapshots, Adding, Subtracting, State, with_cell, found_at, hand_at, passive_at}
 use Rattle.protocol.specs.Common.{count_at, local_at, is_idle, is_number, may_add, after_add, may_sub, after_sub, may_count, after_count_add, least_id, with_local, after_split, after_hand}
 use Rattle.protocol.specs.Common.{after_count_down, after_collected, is_snapshot_due, after_snapshot, due_after, after_look, after_look_passive, may_collect, after_collect, after_total}
-use Rattle.protocol.specs.Common.{may_join_keeper, may_join, after_join_keeper, Holds, DueHolds, one_if, put, Model, IsModelRun, Stays, passive_in, subtractions_due, locals_of, picture}
+use Rattle.protocol.specs.Common.{may_join_keeper, may_join, after_join_keeper, Holds, DueHolds, one_if, put, IsModelRun, Stays, passive_in, number_in, subtractions_due, locals_of, picture}
+use Rattle.protocol.specs.Common.{after_confirm, after_take_back, after_tried, after_try, may_confirm, may_try, is_detach, is_last_detach, cell, trying_at, trying_of, in_hand, EndsAt, IsIn}
+use Rattle.protocol.specs.History.{change_at}
 use Rattle.registry_values.specs.Common.{slot_at, slot_of, has_number}
 use Rattle.protocol.specs.Model
 use Rattle.protocol.proofs.slots.Cells.{cell_here, cell_other}
-use Rattle.protocol.proofs.slots.Occupied.{one_in, slot_has, is_retired_tells, at_rest_tells}
+use Rattle.protocol.proofs.slots.Occupied.{attached_in, one_in, slot_has, is_retired_tells, at_rest_tells}
+use Rattle.protocol.proofs.slots.Numbers.{slot_number}
+use Rattle.protocol.proofs.history.History.{at_within, one_end}
 use Rattle.protocol.proofs.keeps.SectionKeeps.{idle_tells}
 use Rattle.protocol.proofs.keeps.MarkKeeps.{cpus_fit, may_examine_tells}
-use Rattle.protocol.proofs.keeps.Passive.{found_number}
+use Rattle.protocol.proofs.keeps.Passive.{found_number, shifted_back, shifted_try, trying_none, trying_one, trying_stays}
 use Rattle.protocol.proofs.keeps.References.{snapshot_due_tells, giving_holds, back_holds}
 use Rattle.protocol.proofs.counts.Sums.{one_at, none_at, standing_within, lifted_within, local_changed, hand_changed, local_added}
 use Rattle.protocol.proofs.model.Picturing.{Alike, no_step, one_step, put_is, put_twice}
-use Rattle.protocol.proofs.keeps.CountKeeps.{hand_full}
+use Rattle.protocol.proofs.keeps.CountKeeps.{confirm_tells, hand_full, passive_place, trying_tells}
 use Rattle.protocol.proofs.Either.{either}
 
 -- Passive references
 
 -- a write of a cell leaves what another CPU or slot has
-passive_beside : (passive : List (List ℕ)) (t c v j : ℕ) (o : Option ℕ) → ((u : ℕ) → o ≡ Some u → u ≡ t → j ≡ c → ⊥) → passive_in passive j o ≡ passive_in (with_cell passive t c v) j o
-passive_beside passive t c v j None off = refl
-passive_beside passive t c v j (Some u) off = sym (cell_other 0 passive t c v u j (off u refl))
+passive_beside : (passive : List (List ℕ)) (hands : List Hand) (t c v j : ℕ) (o : Option ℕ) → ((u : ℕ) → o ≡ Some u → u ≡ t → j ≡ c → ⊥)
+    → passive_in passive hands j o ≡ passive_in (with_cell passive t c v) hands j o
+passive_beside passive hands t c v j None off = refl
+passive_beside passive hands t c v j (Some u) off = ap (λ (w : ℕ). w - trying_at hands j u) (sym (cell_other 0 passive t c v u j (off u refl)))
 
 -- two numbers with one slot are one
 one_slot : (slots : List Slot) (m n t : ℕ) → slot_of slots n ≡ Some t → slot_of slots m ≡ Some t → m ≡ n
@@ -34,22 +39,25 @@ one_slot slots m n t first second =
     let b = slot_has slots m t second in
     sym b.1.2 ∙ (ap (λ (e : Entry). e.number) (one_in b.1.0 a.1.0 (slot_at slots t) a.1.1 b.1.1) ∙ a.1.2)
 
-pub passive_put : (s : State) (c n t v : ℕ) → Holds s → c < s.settings.cpus → slot_of s.slots n ≡ Some t
-    → (j m : ℕ) → put (λ k. λ i. passive_in s.passive k (slot_of s.slots i)) c (put (λ i. passive_in s.passive c (slot_of s.slots i)) n v) j m
-    ≡ passive_in (with_cell s.passive t c v) j (slot_of s.slots m)
-passive_put s c n t v on low is =
+pub passive_put : (s : State) (c n t v : ℕ) → Holds s → c < s.settings.cpus → slot_of s.slots n ≡ Some t → trying_at s.hands c t ≡ 0
+    → (j m : ℕ) → put (λ k. λ i. passive_in s.passive s.hands k (slot_of s.slots i)) c (put (λ i. passive_in s.passive s.hands c (slot_of s.slots i)) n v) j m
+    ≡ passive_in (with_cell s.passive t c v) s.hands j (slot_of s.slots m)
+passive_put s c n t v on low is untried =
     let tp : t < length s.passive = omega (arith, (slot_has s.slots n t is).0, on.shape.slots, on.shape.passive) in
     let cp : c < length (get_or s.passive t []) = omega (arith, on.shape.passive_rows t tp, low, cpus_fit s.settings on.fit) in
-    put_twice (λ k. λ i. passive_in s.passive k (slot_of s.slots i)) (λ k. λ i. passive_in (with_cell s.passive t c v) k (slot_of s.slots i)) c n v
-    (sym (ap (passive_in (with_cell s.passive t c v) c) is ∙ cell_here 0 s.passive t c v tp cp))
-    (λ m off. passive_beside s.passive t c v c (slot_of s.slots m) (λ u at same here. off (one_slot s.slots m n t is (at ∙ ap (λ (k : ℕ). Some k) same))))
-    (λ j m off. passive_beside s.passive t c v j (slot_of s.slots m) (λ u at same here. off here))
+    let here : cell 0 (with_cell s.passive t c v) t c - trying_at s.hands c t ≡ v = omega (arith, cell_here 0 s.passive t c v tp cp, untried) in
+    put_twice (λ k. λ i. passive_in s.passive s.hands k (slot_of s.slots i)) (λ k. λ i. passive_in (with_cell s.passive t c v) s.hands k (slot_of s.slots i)) c n v
+    (sym (ap (passive_in (with_cell s.passive t c v) s.hands c) is ∙ here))
+    (λ m off. passive_beside s.passive s.hands t c v c (slot_of s.slots m) (λ u at same here. off (one_slot s.slots m n t is (at ∙ ap (λ (k : ℕ). Some k) same))))
+    (λ j m off. passive_beside s.passive s.hands t c v j (slot_of s.slots m) (λ u at same here. off here))
 
-pub add_refines : (s : State) (c n t : ℕ) → Holds s → slot_of s.slots n ≡ Some t → may_add s c n t ≡ true → IsModelRun (picture s) (picture (after_add s c t))
+pub add_refines : (s : State) (c n t : ℕ) → Holds s → slot_of s.slots n ≡ Some t → may_add s c n t ≡ true → IsModelRun ⊥ (picture s) (picture (after_add s c t))
 add_refines s c n t on is ok =
     let p = and_parts (is_idle s c) ((is_number n (found_at s c) || nat_lt 0 (passive_at s.passive c t)) && nat_lt (passive_at s.passive c t) s.settings.passive_limit) ok in
     let q = and_parts (is_number n (found_at s c) || nat_lt 0 (passive_at s.passive c t)) (nat_lt (passive_at s.passive c t) s.settings.passive_limit) p.1 in
-    let was : passive_in s.passive c (slot_of s.slots n) ≡ passive_at s.passive c t = ap (passive_in s.passive c) is in
+    let untried : trying_at s.hands c t ≡ 0 = ap (trying_of t) (idle_tells s c on p.0).1 in
+    let word : passive_at s.passive c t - trying_at s.hands c t ≡ passive_at s.passive c t = omega (arith, untried) in
+    let was : passive_in s.passive s.hands c (slot_of s.slots n) ≡ passive_at s.passive c t = ap (passive_in s.passive s.hands c) is ∙ word in
     let made : (m : ℕ) → m ≡ n → Alike (record (picture s) { passive = put (picture s).passive c (put ((picture s).passive c) m ((picture s).passive c m + 1)) }) (picture (after_add s c t)) =
     λ m same. record {
       history = refl;
@@ -57,10 +65,10 @@ add_refines s c n t on is ok =
       passes = λ j. refl;
       lookups = λ j. refl;
       found = λ j. refl;
-      passive = λ j i. ap (λ (k : ℕ). put (λ x. λ y. passive_in s.passive x (slot_of s.slots y)) c
-          (put (λ y. passive_in s.passive c (slot_of s.slots y)) k (passive_in s.passive c (slot_of s.slots k) + 1)) j i) same
-          ∙ (ap (λ (v : ℕ). put (λ x. λ y. passive_in s.passive x (slot_of s.slots y)) c (put (λ y. passive_in s.passive c (slot_of s.slots y)) n (v + 1)) j i) was
-          ∙ passive_put s c n t (passive_at s.passive c t + 1) on (idle_tells s c on p.0).0 is j i);
+      passive = λ j i. ap (λ (k : ℕ). put (λ x. λ y. passive_in s.passive s.hands x (slot_of s.slots y)) c
+          (put (λ y. passive_in s.passive s.hands c (slot_of s.slots y)) k (passive_in s.passive s.hands c (slot_of s.slots k) + 1)) j i) same
+          ∙ (ap (λ (v : ℕ). put (λ x. λ y. passive_in s.passive s.hands x (slot_of s.slots y)) c (put (λ y. passive_in s.passive s.hands c (slot_of s.slots y)) n (v + 1)) j i) was
+          ∙ passive_put s c n t (passive_at s.passive c t + 1) on (idle_tells s c on p.0).0 is untried j i);
       locals = λ i. refl;
       occupants = λ u. refl;
       keeps = λ u. refl;
@@ -72,19 +80,128 @@ add_refines s c n t on is ok =
     (λ h.
     one_step (picture s) _ (picture (after_add s c t)) (Model.Copies c n (omega (arith, ltb-true 0 (passive_at s.passive c t) h, was))) (made n refl))
 
-pub sub_refines : (s : State) (c n t : ℕ) → Holds s → slot_of s.slots n ≡ Some t → may_sub s c t ≡ true → IsModelRun (picture s) (picture (after_sub s c t))
+pub sub_refines : (s : State) (c n t : ℕ) → Holds s → slot_of s.slots n ≡ Some t → may_sub s c t ≡ true → IsModelRun ⊥ (picture s) (picture (after_sub s c t))
 sub_refines s c n t on is ok =
     let p = and_parts (is_idle s c) (nat_lt 0 (passive_at s.passive c t)) ok in
-    let was : passive_in s.passive c (slot_of s.slots n) ≡ passive_at s.passive c t = ap (passive_in s.passive c) is in
+    let untried : trying_at s.hands c t ≡ 0 = ap (trying_of t) (idle_tells s c on p.0).1 in
+    let word : passive_at s.passive c t - trying_at s.hands c t ≡ passive_at s.passive c t = omega (arith, untried) in
+    let was : passive_in s.passive s.hands c (slot_of s.slots n) ≡ passive_at s.passive c t = ap (passive_in s.passive s.hands c) is ∙ word in
     one_step (picture s) _ (picture (after_sub s c t)) (Model.Releases c n (omega (arith, ltb-true 0 (passive_at s.passive c t) p.1, was))) (record {
       history = refl;
       sections = λ j. refl;
       passes = λ j. refl;
       lookups = λ j. refl;
       found = λ j. refl;
-      passive = λ j i. ap (λ (v : ℕ). put (λ x. λ y. passive_in s.passive x (slot_of s.slots y)) c (put (λ y. passive_in s.passive c (slot_of s.slots y)) n (v - 1)) j i) was
-          ∙ passive_put s c n t (passive_at s.passive c t - 1) on (idle_tells s c on p.0).0 is j i;
+      passive = λ j i. ap (λ (v : ℕ). put (λ x. λ y. passive_in s.passive s.hands x (slot_of s.slots y)) c (put (λ y. passive_in s.passive s.hands c (slot_of s.slots y)) n (v - 1)) j i) was
+          ∙ passive_put s c n t (passive_at s.passive c t - 1) on (idle_tells s c on p.0).0 is untried j i;
       locals = λ i. refl;
+      occupants = λ u. refl;
+      keeps = λ u. refl;
+    })
+
+-- A passive reference without a section
+
+-- each CPU is trying what it was
+passive_tries : (passive : List (List ℕ)) (hands others : List Hand) (c : ℕ) (o : Option ℕ) → ((t : ℕ) → trying_at others c t ≡ trying_at hands c t)
+    → passive_in passive hands c o ≡ passive_in passive others c o
+passive_tries passive hands others c None same = refl
+passive_tries passive hands others c (Some t) same = ap (λ (k : ℕ). passive_at passive c t - k) (sym (same t))
+
+-- words and what is tried change by the same
+passive_shows : (passive words : List (List ℕ)) (hands others : List Hand) (c : ℕ) (o : Option ℕ)
+    → ((t : ℕ) → passive_at words c t + trying_at hands c t ≡ passive_at passive c t + trying_at others c t) → passive_in passive hands c o ≡ passive_in words others c o
+passive_shows passive words hands others c None both = refl
+passive_shows passive words hands others c (Some t) both = omega (arith, both t)
+
+-- a word and a hand change, and no reference does
+tried_refines : (s : State) (c t v : ℕ) (h k : Hand) → c < length s.hands → hand_at s c ≡ h → ((m : ℕ) → in_hand m h ≡ 0) → ((m : ℕ) → in_hand m k ≡ 0)
+    → ((d u : ℕ) → passive_at (with_cell s.passive t c v) d u + trying_at s.hands d u ≡ passive_at s.passive d u + trying_at (set s.hands c k) d u)
+    → IsModelRun ⊥ (picture s) (picture (after_tried s c t v k))
+tried_refines s c t v h k lt hand before later both = no_step (picture s) (picture (after_tried s c t v k)) (record {
+  history = refl;
+  sections = λ j. refl;
+  passes = λ j. refl;
+  lookups = λ j. refl;
+  found = λ j. refl;
+  passive = λ j i. passive_shows s.passive (with_cell s.passive t c v) s.hands (set s.hands c k) j (slot_of s.slots i) (both j);
+  locals = λ i. omega (arith, hand_changed i s.hands c h k lt hand, before i, later i);
+  occupants = λ u. refl;
+  keeps = λ u. refl;
+})
+
+pub try_refines : (s : State) (c t n : ℕ) → Holds s → may_try s c t ≡ true → IsModelRun ⊥ (picture s) (picture (after_try s c t n))
+try_refines s c t n on ok =
+    let p = and_parts (is_idle s c) (nat_lt t s.settings.slots && nat_lt (passive_at s.passive c t) s.settings.passive_limit) ok in
+    let q = and_parts (nat_lt t s.settings.slots) (nat_lt (passive_at s.passive c t) s.settings.passive_limit) p.1 in
+    let idle = idle_tells s c on p.0 in
+    let place = passive_place s c t on idle.0 (ltb-true t s.settings.slots q.0) in
+    let lt : c < length s.hands = omega (arith, idle.0, on.shape.hands) in
+    tried_refines s c t (passive_at s.passive c t + 1) Empty (Trying t n) lt idle.1 (λ m. refl) (λ m. refl) (shifted_try s.passive s.hands c t n place.0 place.1 lt idle.1)
+
+pub take_back_refines : (s : State) (c t n : ℕ) → Holds s → hand_at s c ≡ Trying t n → IsModelRun ⊥ (picture s) (picture (after_take_back s c t))
+take_back_refines s c t n on hand =
+    let told = trying_tells s c t n on hand in
+    let place = passive_place s c t on told.0 told.1 in
+    let lt : c < length s.hands = omega (arith, told.0, on.shape.hands) in
+    tried_refines s c t (passive_at s.passive c t - 1) (Trying t n) Empty lt hand (λ m. refl) (λ m. refl) (shifted_back s.passive s.hands c t n place.0 place.1 lt hand told.2)
+
+-- what tells that the detach of n is the last change
+last_detach : (h : List Change) (n : ℕ) → is_last_detach h n ≡ true → EndsAt h n (length h)
+last_detach h n is = tells (change_at h (length h)) is
+  where
+    tells : (x : Option Change) → is_detach n x ≡ true → x ≡ Some (Detach n)
+    tells None test = absurd (let q : ◌≡◌ {A = Bool} false true = test in cc)
+    tells (Some (Attach e)) test = absurd (let q : ◌≡◌ {A = Bool} false true = test in cc)
+    tells (Some (Detach m)) test = ap (λ (k : ℕ). Some (Detach k)) (eqb-true m n test)
+
+-- what c is trying elsewhere is nothing, and stays so
+untried_beside : (s : State) (c t n : ℕ) (o : Option ℕ) → c < length s.hands → hand_at s c ≡ Trying t n → ((u : ℕ) → o ≡ Some u → u ≡ t → ⊥)
+    → passive_in s.passive s.hands c o ≡ passive_in s.passive (set s.hands c Empty) c o
+untried_beside s c t n None lt hand off = refl
+untried_beside s c t n (Some u) lt hand off =
+    let tries : trying_at s.hands c u ≡ 0 = ap (trying_of u) hand ∙ trying_none t n u (λ same. off u refl (sym same)) in
+    let none : trying_at (set s.hands c Empty) c u ≡ 0 = ap (trying_of u) (get_or-set_same s.hands c Empty Empty lt) in
+    omega (arith, tries, none)
+
+-- what c was trying in t is a reference to n
+pub confirmed : (s : State) (c t n : ℕ) → Holds s → hand_at s c ≡ Trying t n → slot_of s.slots n ≡ Some t
+    → (j m : ℕ) → put (λ k. λ i. passive_in s.passive s.hands k (slot_of s.slots i)) c
+    (put (λ i. passive_in s.passive s.hands c (slot_of s.slots i)) n (passive_in s.passive s.hands c (slot_of s.slots n) + 1)) j m
+    ≡ passive_in s.passive (set s.hands c Empty) j (slot_of s.slots m)
+confirmed s c t n on hand is =
+    let told = trying_tells s c t n on hand in
+    let lt : c < length s.hands = omega (arith, told.0, on.shape.hands) in
+    let tries : trying_at s.hands c t ≡ 1 = ap (trying_of t) hand ∙ trying_one t n t refl in
+    let none : trying_at (set s.hands c Empty) c t ≡ 0 = ap (trying_of t) (get_or-set_same s.hands c Empty Empty lt) in
+    let was : passive_in s.passive s.hands c (slot_of s.slots n) ≡ passive_at s.passive c t - trying_at s.hands c t = ap (passive_in s.passive s.hands c) is in
+    let now : passive_in s.passive (set s.hands c Empty) c (slot_of s.slots n) ≡ passive_at s.passive c t - trying_at (set s.hands c Empty) c t = ap (passive_in s.passive (set s.hands c Empty) c) is in
+    put_twice (λ k. λ i. passive_in s.passive s.hands k (slot_of s.slots i)) (λ k. λ i. passive_in s.passive (set s.hands c Empty) k (slot_of s.slots i)) c n
+    (passive_in s.passive s.hands c (slot_of s.slots n) + 1)
+    (omega (arith, was, now, tries, none, told.2))
+    (λ m off. untried_beside s c t n (slot_of s.slots m) lt hand (λ u at same. off (one_slot s.slots m n t is (at ∙ ap (λ (k : ℕ). Some k) same))))
+    (λ j m off. passive_tries s.passive s.hands (set s.hands c Empty) j (slot_of s.slots m) (λ u. ap (trying_of u) (get_or-set_other s.hands c j Empty Empty off)))
+
+pub confirm_refines : (s : State) (c t n : ℕ) → Holds s → hand_at s c ≡ Trying t n → may_confirm s c t n (slot_at s.slots t) ≡ true → IsModelRun (Unit {0}) (picture s) (picture (after_confirm s c))
+confirm_refines s c t n on hand ok =
+    let is = confirm_tells s c t n (slot_at s.slots t) ok in
+    let e : Entry = is.0 in
+    let in_ : IsIn e (slot_at s.slots t) = either is.2 (λ live. inl live) (λ gone. inr gone.0) in
+    let attached = (attached_in s.history s.slots t e on.slots in_).0 in
+    let of : slot_of s.slots e.number ≡ Some t = slot_number s.history s.slots e t on.slots in_ in
+    let same : Trying t n ≡ Trying t e.number = ap (λ (k : ℕ). Trying t k) (sym is.1) in
+    let told = trying_tells s c t n on hand in
+    let occupant : number_in (slot_at s.slots t) ≡ Some e.number = either in_ (λ live. ap number_in live) (λ gone. ap number_in gone) in
+    one_step (picture s) _ (picture (after_confirm s c)) (Model.Takes c t e attached occupant
+    (λ p ends. either is.2
+    (λ live. absurd (omega (arith, (on.slots.live t e live).0.unended p ends, (at_within s.history p (Detach e.number) ends).1)))
+    (λ gone. one_end s.history on.legal e.number p (length s.history) ends (subst (λ (k : ℕ). EndsAt s.history k (length s.history)) (sym is.1) (last_detach s.history n gone.1)))) tt) (record {
+      history = refl;
+      sections = λ j. refl;
+      passes = λ j. refl;
+      lookups = λ j. refl;
+      found = λ j. refl;
+      passive = λ j i. confirmed s c t e.number on (hand ∙ same) of j i;
+      locals = λ i. omega (arith, hand_changed i s.hands c (Trying t n) Empty (omega (arith, told.0, on.shape.hands)) hand);
       occupants = λ u. refl;
       keeps = λ u. refl;
     })
@@ -100,73 +217,75 @@ waiting_one : (slots : List Slot) (n t : ℕ) (e : Entry) (due : Due) → slot_a
 waiting_one slots n t e due at is = ap (subtractions_due slots n) is ∙ ap (λ (x : Slot). if has_number n x then 1 else 0) at
 
 -- only local references change, and agree
-locals_alike : (s : State) (hands : List Hand) (due : Due) (locals : List LocalPlace)
+locals_alike : (s : State) (hands : List Hand) (due : Due) (locals : List LocalPlace) → ((c t : ℕ) → trying_at hands c t ≡ trying_at s.hands c t)
     → ((n : ℕ) → locals_of s n ≡ locals_of (record s { hands = hands; due = due; locals = locals }) n) → Alike (picture s) (picture (record s { hands = hands; due = due; locals = locals }))
-locals_alike s hands due locals same = assumption
+locals_alike s hands due locals tries same = assumption (λ (c : ℕ) (n : ℕ). passive_tries s.passive s.hands hands c (slot_of s.slots n) (tries c))
 
-locals_same : (s : State) (hands : List Hand) (due : Due) (locals : List LocalPlace)
-    → ((n : ℕ) → locals_of s n ≡ locals_of (record s { hands = hands; due = due; locals = locals }) n) → IsModelRun (picture s) (picture (record s { hands = hands; due = due; locals = locals }))
-locals_same s hands due locals same = no_step _ _ (locals_alike s hands due locals same)
+locals_same : (s : State) (hands : List Hand) (due : Due) (locals : List LocalPlace) → ((c t : ℕ) → trying_at hands c t ≡ trying_at s.hands c t)
+    → ((n : ℕ) → locals_of s n ≡ locals_of (record s { hands = hands; due = due; locals = locals }) n) → IsModelRun ⊥ (picture s) (picture (record s { hands = hands; due = due; locals = locals }))
+locals_same s hands due locals tries same = no_step _ _ (locals_alike s hands due locals tries same)
 
 -- one reference more
-locals_more : (s : State) (c : ℕ) (e : Entry) (hands : List Hand) (due : Due) (locals : List LocalPlace) → found_at s c ≡ Some e
+locals_more : (s : State) (c : ℕ) (e : Entry) (hands : List Hand) (due : Due) (locals : List LocalPlace) → found_at s c ≡ Some e → ((d t : ℕ) → trying_at hands d t ≡ trying_at s.hands d t)
     → ((n : ℕ) → locals_of (record s { hands = hands; due = due; locals = locals }) n ≡ locals_of s n + one_if (e.number == n))
-    → IsModelRun (picture s) (picture (record s { hands = hands; due = due; locals = locals }))
-locals_more s c e hands due locals found more =
+    → IsModelRun ⊥ (picture s) (picture (record s { hands = hands; due = due; locals = locals }))
+locals_more s c e hands due locals found tries more =
     one_step (picture s) _ (picture (record s { hands = hands; due = due; locals = locals })) (Model.Counts c e found) (assumption (
-    put_is (λ i. locals_of s i) (λ i. locals_of (record s { hands = hands; due = due; locals = locals }) i) e.number (locals_of s e.number + 1)
-    (omega (arith, more e.number, one_at e.number e.number refl))
-    (λ i off. omega (arith, more i, none_at e.number i (λ same. off (sym same))))
+      λ (d : ℕ) (i : ℕ). passive_tries s.passive s.hands hands d (slot_of s.slots i) (tries d),
+      put_is (λ i. locals_of s i) (λ i. locals_of (record s { hands = hands; due = due; locals = locals }) i) e.number (locals_of s e.number + 1)
+          (omega (arith, more e.number, one_at e.number e.number refl))
+          (λ i off. omega (arith, more i, none_at e.number i (λ same. off (sym same)))),
     ))
 
 -- one reference less
-locals_less : (s : State) (n : ℕ) (hands : List Hand) (due : Due) (locals : List LocalPlace)
+locals_less : (s : State) (n : ℕ) (hands : List Hand) (due : Due) (locals : List LocalPlace) → ((c t : ℕ) → trying_at hands c t ≡ trying_at s.hands c t)
     → ((i : ℕ) → locals_of (record s { hands = hands; due = due; locals = locals }) i + one_if (n == i) ≡ locals_of s i)
-    → IsModelRun (picture s) (picture (record s { hands = hands; due = due; locals = locals }))
-locals_less s n hands due locals less =
+    → IsModelRun ⊥ (picture s) (picture (record s { hands = hands; due = due; locals = locals }))
+locals_less s n hands due locals tries less =
     one_step (picture s) _ (picture (record s { hands = hands; due = due; locals = locals })) (Model.Uncounts n (omega (arith, less n, one_at n n refl))) (assumption (
-    put_is (λ i. locals_of s i) (λ i. locals_of (record s { hands = hands; due = due; locals = locals }) i) n (locals_of s n - 1)
-    (omega (arith, less n, one_at n n refl))
-    (λ i off. omega (arith, less i, none_at n i (λ same. off (sym same))))
+      λ (c : ℕ) (i : ℕ). passive_tries s.passive s.hands hands c (slot_of s.slots i) (tries c),
+      put_is (λ i. locals_of s i) (λ i. locals_of (record s { hands = hands; due = due; locals = locals }) i) n (locals_of s n - 1)
+          (omega (arith, less n, one_at n n refl))
+          (λ i off. omega (arith, less i, none_at n i (λ same. off (sym same)))),
     ))
 
-pub count_add_refines : (s : State) (c t : ℕ) (e : Entry) → Holds s → found_at s c ≡ Some e → may_count s c t ≡ true → IsModelRun (picture s) (picture (after_count_add s c e.number t))
+pub count_add_refines : (s : State) (c t : ℕ) (e : Entry) → Holds s → found_at s c ≡ Some e → may_count s c t ≡ true → IsModelRun ⊥ (picture s) (picture (after_count_add s c e.number t))
 count_add_refines s c t e on found ok =
     let idle = (and_parts (is_idle s c) _ ok).0 in
     let lt : c < length s.hands = omega (arith, (idle_tells s c on idle).0, on.shape.hands) in
-    locals_more s c e (set s.hands c (Taking e.number)) s.due s.locals found
+    locals_more s c e (set s.hands c (Taking e.number)) s.due s.locals found (trying_stays s.hands c (Taking e.number) (λ u. sym (ap (trying_of u) (idle_tells s c on idle).1)))
     (λ n. omega (arith, hand_changed n s.hands c Empty (Taking e.number) lt (idle_tells s c on idle).1))
 
-pub split_refines : (s : State) (c n : ℕ) → Holds s → hand_at s c ≡ Taking n → IsModelRun (picture s) (picture (after_split s c n))
+pub split_refines : (s : State) (c n : ℕ) → Holds s → hand_at s c ≡ Taking n → IsModelRun ⊥ (picture s) (picture (after_split s c n))
 split_refines s c n on hand =
     let lt : c < length s.hands = (hand_full s c Empty (Taking n) on hand (λ is. let q : Taking n ≡ Empty = is in cc)).0 in
-    locals_same s (set s.hands c Empty) s.due (with_local s.locals (least_id s.locals) (Standing n))
+    locals_same s (set s.hands c Empty) s.due (with_local s.locals (least_id s.locals) (Standing n)) (trying_stays s.hands c Empty (λ u. sym (ap (trying_of u) hand)))
     (λ i. omega (arith, hand_changed i s.hands c (Taking n) Empty lt hand, local_added i s.locals (Standing n)))
 
-pub join_refines : (s : State) (c n id : ℕ) → Holds s → is_idle s c ≡ true → local_at s.locals id ≡ Standing n → IsModelRun (picture s) (picture (after_hand s c (Giving n id) id (Lifted c)))
+pub join_refines : (s : State) (c n id : ℕ) → Holds s → is_idle s c ≡ true → local_at s.locals id ≡ Standing n → IsModelRun ⊥ (picture s) (picture (after_hand s c (Giving n id) id (Lifted c)))
 join_refines s c n id on idle at =
     let lt : c < length s.hands = omega (arith, (idle_tells s c on idle).0, on.shape.hands) in
-    locals_same s (set s.hands c (Giving n id)) s.due (set s.locals id (Lifted c))
+    locals_same s (set s.hands c (Giving n id)) s.due (set s.locals id (Lifted c)) (trying_stays s.hands c (Giving n id) (λ u. sym (ap (trying_of u) (idle_tells s c on idle).1)))
     (λ i. omega (arith, hand_changed i s.hands c Empty (Giving n id) lt (idle_tells s c on idle).1, local_changed i s.locals id (Standing n) (Lifted c) (standing_within s.locals id n at) at))
 
-pub count_down_refines : (s : State) (c n id t : ℕ) → Holds s → hand_at s c ≡ Giving n id → IsModelRun (picture s) (picture (after_count_down s c t id))
+pub count_down_refines : (s : State) (c n id t : ℕ) → Holds s → hand_at s c ≡ Giving n id → IsModelRun ⊥ (picture s) (picture (after_count_down s c t id))
 count_down_refines s c n id t on hand =
     let lt : c < length s.hands = (hand_full s c Empty (Giving n id) on hand (λ is. let q : Giving n id ≡ Empty = is in cc)).0 in
     let lifted = (giving_holds s.settings.cpus s.slots s.hands s.due s.locals c n id hand on.references).1 in
-    locals_less s n (set s.hands c Empty) s.due (set s.locals id Free)
+    locals_less s n (set s.hands c Empty) s.due (set s.locals id Free) (trying_stays s.hands c Empty (λ u. sym (ap (trying_of u) hand)))
     (λ i. omega (arith, hand_changed i s.hands c (Giving n id) Empty lt hand, local_changed i s.locals id (Lifted c) Free (lifted_within s.locals id c lifted) lifted))
 
-pub collected_refines : (s : State) (c n id : ℕ) → Holds s → hand_at s c ≡ Giving n id → IsModelRun (picture s) (picture (after_collected s c n id))
+pub collected_refines : (s : State) (c n id : ℕ) → Holds s → hand_at s c ≡ Giving n id → IsModelRun ⊥ (picture s) (picture (after_collected s c n id))
 collected_refines s c n id on hand =
     let lt : c < length s.hands = (hand_full s c Empty (Giving n id) on hand (λ is. let q : Giving n id ≡ Empty = is in cc)).0 in
-    locals_same s (set s.hands c (Back n id)) s.due s.locals
+    locals_same s (set s.hands c (Back n id)) s.due s.locals (trying_stays s.hands c (Back n id) (λ u. sym (ap (trying_of u) hand)))
     (λ i. omega (arith, hand_changed i s.hands c (Giving n id) (Back n id) lt hand))
 
-pub split_back_refines : (s : State) (c n id : ℕ) → Holds s → hand_at s c ≡ Back n id → IsModelRun (picture s) (picture (after_hand s c Empty id (Standing n)))
+pub split_back_refines : (s : State) (c n id : ℕ) → Holds s → hand_at s c ≡ Back n id → IsModelRun ⊥ (picture s) (picture (after_hand s c Empty id (Standing n)))
 split_back_refines s c n id on hand =
     let lt : c < length s.hands = (hand_full s c Empty (Back n id) on hand (λ is. let q : Back n id ≡ Empty = is in cc)).0 in
     let lifted = (back_holds s.settings.cpus s.slots s.hands s.due s.locals c n id hand on.references).1 in
-    locals_same s (set s.hands c Empty) s.due (set s.locals id (Standing n))
+    locals_same s (set s.hands c Empty) s.due (set s.locals id (Standing n)) (trying_stays s.hands c Empty (λ u. sym (ap (trying_of u) hand)))
     (λ i. omega (arith, hand_changed i s.hands c (Back n id) Empty lt hand, local_changed i s.locals id (Lifted c) (Standing n) (lifted_within s.locals id c lifted) lifted))
 
 -- What the keeper does with marks, counts and totals.
@@ -175,39 +294,39 @@ waiting_snapshots : (slots : List Slot) (n t c : ℕ) (b : Bool) → subtraction
 waiting_snapshots slots n t c true = refl
 waiting_snapshots slots n t c false = refl
 
-pub snapshot_refines : (s : State) (t c : ℕ) → is_snapshot_due s.due t c ≡ true → IsModelRun (picture s) (picture (after_snapshot s t c))
+pub snapshot_refines : (s : State) (t c : ℕ) → is_snapshot_due s.due t c ≡ true → IsModelRun ⊥ (picture s) (picture (after_snapshot s t c))
 snapshot_refines s t c ok =
-    locals_same s s.hands (due_after s t c) s.locals
+    locals_same s s.hands (due_after s t c) s.locals (λ j u. refl)
     (λ n. omega (arith, waiting_else s.slots n s.due (Snapshots t c) (snapshot_due_tells s.due t c ok) refl, waiting_snapshots s.slots n t (c + 1) (nat_lt (c + 1) s.settings.cpus)))
 
-pub look_refines : (s : State) (t c : ℕ) → IsModelRun (picture s) (picture (after_look s t c))
+pub look_refines : (s : State) (t c : ℕ) → IsModelRun ⊥ (picture s) (picture (after_look s t c))
 look_refines s t c = Stays
 
-pub look_passive_refines : (s : State) (t c : ℕ) → IsModelRun (picture s) (picture (after_look_passive s t c))
+pub look_passive_refines : (s : State) (t c : ℕ) → IsModelRun ⊥ (picture s) (picture (after_look_passive s t c))
 look_passive_refines s t c = Stays
 
-pub collect_refines : (s : State) (t c : ℕ) → may_collect s t c ≡ true → IsModelRun (picture s) (picture (after_collect s t c))
+pub collect_refines : (s : State) (t c : ℕ) → may_collect s t c ≡ true → IsModelRun ⊥ (picture s) (picture (after_collect s t c))
 collect_refines s t c ok =
     let rest = (may_examine_tells s t c (and_parts _ _ ok).0).0 in
-    locals_same s s.hands (Adding t (count_at s.counts c t)) s.locals (λ n. omega (arith, waiting_else s.slots n s.due Rest rest refl))
+    locals_same s s.hands (Adding t (count_at s.counts c t)) s.locals (λ j u. refl) (λ n. omega (arith, waiting_else s.slots n s.due Rest rest refl))
 
-pub total_add_refines : (s : State) (t old v : ℕ) → s.due ≡ Adding t old → IsModelRun (picture s) (picture (after_total s t v))
-total_add_refines s t old v is = locals_same s s.hands Rest s.locals (λ n. omega (arith, waiting_else s.slots n s.due (Adding t old) is refl))
+pub total_add_refines : (s : State) (t old v : ℕ) → s.due ≡ Adding t old → IsModelRun ⊥ (picture s) (picture (after_total s t v))
+total_add_refines s t old v is = locals_same s s.hands Rest s.locals (λ j u. refl) (λ n. omega (arith, waiting_else s.slots n s.due (Adding t old) is refl))
 
-pub total_sub_refines : (s : State) (t v : ℕ) → Holds s → s.due ≡ Subtracting t → IsModelRun (picture s) (picture (after_total s t v))
+pub total_sub_refines : (s : State) (t v : ℕ) → Holds s → s.due ≡ Subtracting t → IsModelRun ⊥ (picture s) (picture (after_total s t v))
 total_sub_refines s t v on is =
     let gone : (e : Entry) × (slot_at s.slots t ≡ Retired e) = subst (DueHolds s.settings.cpus s.slots) is on.references.due_at in
-    locals_less s gone.0.number s.hands Rest s.locals (λ i. omega (arith, waiting_one s.slots i t gone.0 s.due gone.1 is))
+    locals_less s gone.0.number s.hands Rest s.locals (λ j u. refl) (λ i. omega (arith, waiting_one s.slots i t gone.0 s.due gone.1 is))
 
 pub join_keeper_refines : (s : State) (id n t : ℕ) → Holds s → local_at s.locals id ≡ Standing n → slot_of s.slots n ≡ Some t → may_join_keeper s t ≡ true
-    → IsModelRun (picture s) (picture (after_join_keeper s id t))
+    → IsModelRun ⊥ (picture s) (picture (after_join_keeper s id t))
 join_keeper_refines s id n t on at of ok =
     let p = and_parts _ (may_join s t) ok in
     let rest : s.due ≡ Rest = at_rest_tells s.due (and_parts _ _ p.1).0 in
     let gone : (e : Entry) × (slot_at s.slots t ≡ Retired e) = is_retired_tells (slot_at s.slots t) p.0 in
     let has = slot_has s.slots n t of in
     let same : gone.0.number ≡ n = ap (λ (e : Entry). e.number) (one_in gone.0 has.1.0 (slot_at s.slots t) has.1.1 (inr gone.1)) ∙ has.1.2 in
-    locals_same s s.hands (Subtracting t) (set s.locals id Free)
+    locals_same s s.hands (Subtracting t) (set s.locals id Free) (λ j u. refl)
     (λ i. let one : one_if (gone.0.number == i) ≡ one_if (n == i) = ap (λ (k : ℕ). one_if (k == i)) same in
     omega (
       arith,

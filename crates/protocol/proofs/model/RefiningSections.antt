@@ -11,10 +11,10 @@ use Rattle.protocol.proofs.keeps.SectionKeeps.{none_from, some_from, idle_parts,
 use Rattle.protocol.proofs.keeps.SearchKeeps.{AnswersLookup, link_answers, record_answers}
 use Rattle.protocol.proofs.model.Picturing.{Alike, Makes, same_model, no_step, one_step, written, unwritten}
 
-pub seat_refines : (s : State) (c : ℕ) → IsModelRun (picture s) (picture (after_seat s c))
+pub seat_refines : (s : State) (c : ℕ) → IsModelRun ⊥ (picture s) (picture (after_seat s c))
 seat_refines s c = Stays
 
-pub enter_refines : (s : State) (c : ℕ) → Holds s → may_enter s c ≡ true → IsModelRun (picture s) (picture (after_enter s c))
+pub enter_refines : (s : State) (c : ℕ) → Holds s → may_enter s c ≡ true → IsModelRun ⊥ (picture s) (picture (after_enter s c))
 enter_refines s c on ok =
     let p = and_parts (is_idle s c) (is_outside s c && nat_lt (section_at s c) (2 * s.settings.section_limit)) ok in
     let p1 = and_parts (is_outside s c) (nat_lt (section_at s c) (2 * s.settings.section_limit)) p.1 in
@@ -24,7 +24,7 @@ enter_refines s c on ok =
       written (λ (x : ℕ). x) 0 s.seen c (length s.history) (omega (arith, lt, on.shape.seen)),
     ))
 
-pub exit_refines : (s : State) (c : ℕ) → Holds s → may_exit s c ≡ true → IsModelRun (picture s) (picture (after_exit s c))
+pub exit_refines : (s : State) (c : ℕ) → Holds s → may_exit s c ≡ true → IsModelRun ⊥ (picture s) (picture (after_exit s c))
 exit_refines s c on ok =
     let p = and_parts (is_idle s c) (is_inside s c && nat_eq (depth_at s c) 1) ok in
     let p1 = and_parts (is_inside s c) (nat_eq (depth_at s c) 1) p.1 in
@@ -37,23 +37,23 @@ exit_refines s c on ok =
     ))
 
 -- the pass of a CPU grows to the whole history
-see_step : (s : State) (c : ℕ) → Holds s → c < s.settings.cpus → IsModelStep (picture s) (picture (after_seeing s c))
-see_step s c on lt = subst (IsModelStep (picture s))
+see_step : (s : State) (c : ℕ) → Holds s → c < s.settings.cpus → IsModelStep ⊥ (picture s) (picture (after_seeing s c))
+see_step s c on lt = subst (IsModelStep ⊥ (picture s))
     (same_model _ (picture (after_seeing s c)) (assumption (written (λ (x : ℕ). x) 0 s.seen c (length s.history) (omega (arith, lt, on.shape.seen)))))
     (Model.Sees c (length s.history) (on.sections.prefix c) (omega arith))
 
-pub seeing_refines : (s : State) (c : ℕ) → Holds s → c < s.settings.cpus → IsModelRun (picture s) (picture (after_seeing s c))
+pub seeing_refines : (s : State) (c : ℕ) → Holds s → c < s.settings.cpus → IsModelRun ⊥ (picture s) (picture (after_seeing s c))
 seeing_refines s c on lt = Goes_on _ _ Stays (see_step s c on lt)
 
-pub peek_refines : (s : State) (c : ℕ) → Holds s → may_peek s c ≡ true → IsModelRun (picture s) (picture (after_seeing s c))
+pub peek_refines : (s : State) (c : ℕ) → Holds s → may_peek s c ≡ true → IsModelRun ⊥ (picture s) (picture (after_seeing s c))
 peek_refines s c on ok =
     let seated = ltb-true c s.seated (and_parts (nat_lt c s.seated) (is_none (search_at s c)) ok).0 in
     seeing_refines s c on (omega (arith, seated, on.seats.within))
 
-pub hear_refines : (s : State) (c : ℕ) → Holds s → is_idle s c ≡ true → IsModelRun (picture s) (picture (after_seeing s c))
+pub hear_refines : (s : State) (c : ℕ) → Holds s → is_idle s c ≡ true → IsModelRun ⊥ (picture s) (picture (after_seeing s c))
 hear_refines s c on ok = seeing_refines s c on (idle_tells s c on ok).0
 
-pub seek_refines : (s : State) (c : ℕ) (key : Key) → Holds s → may_seek s c ≡ true → IsModelRun (picture s) (picture (after_seek s c key))
+pub seek_refines : (s : State) (c : ℕ) (key : Key) → Holds s → may_seek s c ≡ true → IsModelRun ⊥ (picture s) (picture (after_seek s c key))
 seek_refines s c key on ok =
     let p = and_parts (is_idle s c) (is_inside s c) ok in
     let idle = idle_parts s c p.0 in
@@ -65,8 +65,8 @@ seek_refines s c key on ok =
 
 -- a lookup is over, with a lawful answer
 over_step : (s : State) (c : ℕ) (q : Search) (answer : Option Entry) → c < length s.found → search_at s c ≡ Some q
-    → IsLawful s.history q.start (seen_at s c) q.key answer → IsModelStep (picture s) (picture (search_over s c answer))
-over_step s c q answer lt is lawful = subst (IsModelStep (picture s))
+    → IsLawful s.history q.start (seen_at s c) q.key answer → IsModelStep ⊥ (picture s) (picture (search_over s c answer))
+over_step s c q answer lt is lawful = subst (IsModelStep ⊥ (picture s))
     (same_model _ (picture (search_over s c answer)) (assumption (
       written lookup_of None s.searches c None (within_some s.searches c q is),
       written (λ (x : Option Entry). x) None s.found c answer lt,
@@ -74,45 +74,45 @@ over_step s c q answer lt is lawful = subst (IsModelStep (picture s))
     (Model.Answers c (record { key = q.key; start = q.start }) answer (ap lookup_of is) lawful)
 
 pub over_refines : (s : State) (c : ℕ) (q : Search) (answer : Option Entry) → Holds s → search_at s c ≡ Some q
-    → IsLawful s.history q.start (seen_at s c) q.key answer → IsModelRun (picture s) (picture (search_over s c answer))
+    → IsLawful s.history q.start (seen_at s c) q.key answer → IsModelRun ⊥ (picture s) (picture (search_over s c answer))
 over_refines s c q answer on is lawful = Goes_on _ _ Stays (over_step s c q answer (omega (arith, within_some s.searches c q is, on.shape.searches, on.shape.found)) is lawful)
 
 -- a search that goes on shows nothing
 going_on_alike : (s : State) (c : ℕ) (q : Search) (place : SearchPlace) → search_at s c ≡ Some q → Alike (picture s) (picture (with_search_at s c q place))
 going_on_alike s c q place is = assumption (unwritten lookup_of None s.searches c (Some (record { key = q.key; start = q.start; place = place })) (ap lookup_of is))
 
-pub going_on_refines : (s : State) (c : ℕ) (q : Search) (place : SearchPlace) → search_at s c ≡ Some q → IsModelRun (picture s) (picture (with_search_at s c q place))
+pub going_on_refines : (s : State) (c : ℕ) (q : Search) (place : SearchPlace) → search_at s c ≡ Some q → IsModelRun ⊥ (picture s) (picture (with_search_at s c q place))
 going_on_refines s c q place is = no_step (picture s) (picture (with_search_at s c q place)) (going_on_alike s c q place is)
 
 -- The loads of a search.
 
 pub missed_refines : (s : State) (c : ℕ) (q : Search) → Holds s → search_at s c ≡ Some q → IsLawful s.history q.start (seen_at (after_seeing s c) c) q.key None
-    → IsModelRun (picture s) (picture (search_over (after_seeing s c) c None))
+    → IsModelRun ⊥ (picture s) (picture (search_over (after_seeing s c) c None))
 missed_refines s c q on is lawful =
     let within = within_some s.searches c q is in
     Goes_on _ _ (seeing_refines s c on (omega (arith, within, on.shape.searches))) (over_step (after_seeing s c) c q None (omega (arith, within, on.shape.searches, on.shape.found)) is lawful)
 
-pub followed_refines : (s : State) (c : ℕ) (q : Search) (t : ℕ) → Holds s → search_at s c ≡ Some q → IsModelRun (picture s) (picture (with_search_at (after_seeing s c) c q (AtNumber t)))
+pub followed_refines : (s : State) (c : ℕ) (q : Search) (t : ℕ) → Holds s → search_at s c ≡ Some q → IsModelRun ⊥ (picture s) (picture (with_search_at (after_seeing s c) c q (AtNumber t)))
 followed_refines s c q t on is =
     one_step (picture s) (picture (after_seeing s c)) (picture (with_search_at (after_seeing s c) c q (AtNumber t))) (see_step s c on (omega (arith, within_some s.searches c q is, on.shape.searches)))
     (going_on_alike (after_seeing s c) c q (AtNumber t) is)
 
-link_loaded_makes : (s : State) (c : ℕ) (q : Search) (x : ℕ) → Holds s → search_at s c ≡ Some q → AnswersLookup c q (link_loaded s c q x) → Makes (picture s) (link_loaded s c q x)
+link_loaded_makes : (s : State) (c : ℕ) (q : Search) (x : ℕ) → Holds s → search_at s c ≡ Some q → AnswersLookup c q (link_loaded s c q x) → Makes ⊥ (picture s) (link_loaded s c q x)
 link_loaded_makes s c q zero on is lawful = λ now. missed_refines s c q on is lawful
 link_loaded_makes s c q (suc t) on is lawful = λ now. followed_refines s c q t on is
 
 followed_makes : (s : State) (c : ℕ) (q : Search) (x : Option ℕ) → Holds s → search_at s c ≡ Some q → AnswersLookup c q (with_some x (link_loaded s c q))
-    → Makes (picture s) (with_some x (link_loaded s c q))
+    → Makes ⊥ (picture s) (with_some x (link_loaded s c q))
 followed_makes s c q None on is lawful = tt
 followed_makes s c q (Some x) on is lawful = link_loaded_makes s c q x on is lawful
 
-pub link_makes : (s : State) (c : ℕ) (q : Search) → Holds s → search_at s c ≡ Some q → Makes (picture s) (load_link s c q q.place)
+pub link_makes : (s : State) (c : ℕ) (q : Search) → Holds s → search_at s c ≡ Some q → Makes ⊥ (picture s) (load_link s c q q.place)
 link_makes s c q on is = followed_makes s c q (link_at s q.place) on is (link_answers s c q on is)
 
-outcome_makes : (s : State) (c : ℕ) (q : Search) (o : Option Loaded) → Holds s → search_at s c ≡ Some q → AnswersLookup c q (outcome_of s c q o) → Makes (picture s) (outcome_of s c q o)
+outcome_makes : (s : State) (c : ℕ) (q : Search) (o : Option Loaded) → Holds s → search_at s c ≡ Some q → AnswersLookup c q (outcome_of s c q o) → Makes ⊥ (picture s) (outcome_of s c q o)
 outcome_makes s c q None on is lawful = tt
 outcome_makes s c q (Some (On p w)) on is lawful = λ now. going_on_refines s c q p is
 outcome_makes s c q (Some (Over e)) on is lawful = λ now. over_refines s c q (Some e) on is lawful
 
-pub record_makes : (s : State) (c : ℕ) (q : Search) → Holds s → search_at s c ≡ Some q → Makes (picture s) (load_searched s c q q.place)
+pub record_makes : (s : State) (c : ℕ) (q : Search) → Holds s → search_at s c ≡ Some q → Makes ⊥ (picture s) (load_searched s c q q.place)
 record_makes s c q on is = outcome_makes s c q (loaded_at q q.place (row_of_place s.rows q.place)) on is (record_answers s c q on is)

@@ -24,7 +24,7 @@ none_waits : (slots : List Slot) (n : ℕ) (due : Due) → (Occupies slots n →
 none_waits slots n (Subtracting t) off = one_waits (slot_at slots t) n (λ e is same. off (t, e, is, same))
 none_waits slots n _ off = refl
 
-none_passive : (s : State) (c n : ℕ) (o : Option ℕ) → slot_of s.slots n ≡ o → (Occupies s.slots n → ⊥) → passive_in s.passive c o ≡ 0
+none_passive : (s : State) (c n : ℕ) (o : Option ℕ) → slot_of s.slots n ≡ o → (Occupies s.slots n → ⊥) → passive_in s.passive s.hands c o ≡ 0
 none_passive s c n None is off = refl
 none_passive s c n (Some t) is off = absurd (off (slot_occupied s.slots n t is))
 

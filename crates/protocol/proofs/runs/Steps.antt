@@ -3,7 +3,7 @@ use Rattle.std.proofs.Common.{◌≡◌, ℕ, zero, suc, ◌⊎◌, inl, inr, Li
 use Rattle.std.proofs.lemmas.Bool.{and_parts}
 use Rattle.protocol.specs.Types.{Kind, Entry, Detach, Name, Slot, Live, Retired}
 use Rattle.protocol.specs.Common.{Event, Seat, Enter, Exit, Seek, LoadLink, LoadRecord, StoreSlot, StoreNext, Publish, Unpublish, Tell, Hear, Snapshot, Look, PassiveAdd, PassiveSub, PassiveLook}
-use Rattle.protocol.specs.Common.{CountAdd, SplitRef, JoinRef, CountDown, SplitBack, Collect, TotalAdd, JoinKeeper, TotalSub, Keep, KeptSub, Vacate, Count, Peek, RecordOf, SharedWord, Reply, Done, Word, Hand, Taking, Giving, Back}
+use Rattle.protocol.specs.Common.{CountAdd, SplitRef, JoinRef, CountDown, SplitBack, Collect, TotalAdd, JoinKeeper, TotalSub, Keep, KeptSub, Vacate, Count, Peek, Try, Confirm, TakeBack, RecordOf, SharedWord, Reply, Done, Word, Hand, Taking, Giving, Back, Trying}
 use Rattle.protocol.specs.Common.{Due, Adding, Subtracting, Loaded, On, Over, SearchPlace, AtNumber, Search, after_change, State, search_at, found_at, hand_at, row_at, count_at, kept_at, local_at}
 use Rattle.protocol.specs.Common.{loaded_at, row_of_place, Outcome, guard, some_outcome, with_some, step, state_after, is_idle, may_enter, after_enter, may_exit, after_exit, may_seek, after_seek}
 use Rattle.protocol.specs.Common.{after_seeing, link_loaded, entry_of, may_publish, after_publish, with_link_past, with_retired, after_unpublish, may_keep, after_keep, is_drained, after_kept_sub}
@@ -185,6 +185,14 @@ total_sub_sort s t (Subtracting u) =
     sort_guard s (TotalSub t) _ _ (λ may. left s _ (TotalSub t) Done (record { history = refl; slots = refl; keeps = refl; section = refl; begins = refl; seen = refl; searches = refl; reply = refl }))
 total_sub_sort s t _ = Refused (TotalSub t)
 
+confirm_sort : (s : State) (c : ℕ) (h : Hand) → Sort s (Confirm c) (Events.confirm s c h)
+confirm_sort s c (Trying t n) = sort_guard s (Confirm c) _ _ (λ may. left s _ (Confirm c) _ (record { history = refl; slots = refl; keeps = refl; section = refl; begins = refl; seen = refl; searches = refl; reply = refl }))
+confirm_sort s c _ = Refused (Confirm c)
+
+take_back_sort : (s : State) (c : ℕ) (h : Hand) → Sort s (TakeBack c) (Events.take_back s c h)
+take_back_sort s c (Trying t n) = left s _ (TakeBack c) _ (record { history = refl; slots = refl; keeps = refl; section = refl; begins = refl; seen = refl; searches = refl; reply = refl })
+take_back_sort s c _ = Refused (TakeBack c)
+
 -- Each event
 
 pub step_sort : (s : State) (e : Event) → Holds s → Sort s e (step s e)
@@ -237,6 +245,9 @@ step_sort s (Vacate t) on = sort_guard s (Vacate t) _ _ (λ may. Vacated t may)
 step_sort s Count on =
     sort_guard s Count _ _ (λ may. left s _ Count Done (record { history = refl; slots = refl; keeps = refl; section = refl; begins = refl; seen = refl; searches = refl; reply = refl }))
 step_sort s (Peek c w) on = sort_some s (Peek c w) (Events.shared_word s w) _ (λ v is. sort_guard s (Peek c w) _ _ (λ may. Peeked c v w may))
+step_sort s (Try c t n) on = sort_guard s (Try c t n) _ _ (λ may. left s _ (Try c t n) _ (record { history = refl; slots = refl; keeps = refl; section = refl; begins = refl; seen = refl; searches = refl; reply = refl }))
+step_sort s (Confirm c) on = confirm_sort s c (hand_at s c)
+step_sort s (TakeBack c) on = take_back_sort s c (hand_at s c)
 
 -- Runs
 

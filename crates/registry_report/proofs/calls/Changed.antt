@@ -137,8 +137,8 @@ abbrev retired_by : State → ℕ → Entry → Option ℕ → State
 retired_by s c e before = after_seeing (with_all_snapshots (with_retired (with_link_past (all_seated s) e.slot before) e.slot e) e.slot) c
 
 retired_passive : (s : State) (e : Entry) (c n : ℕ) → Holds s → SlotsShow (after_change s.history (Detach e.number)) (set s.slots e.slot (Retired e)) → slot_at s.slots e.slot ≡ Live e
-    → passive_in s.passive c (slot_of s.slots n) ≡ passive_in s.passive c (slot_of (set s.slots e.slot (Retired e)) n)
-retired_passive s e c n on later at = passive_moved s.history (after_change s.history (Detach e.number)) s.slots (set s.slots e.slot (Retired e)) s.passive c n on.slots later
+    → passive_in s.passive s.hands c (slot_of s.slots n) ≡ passive_in s.passive s.hands c (slot_of (set s.slots e.slot (Retired e)) n)
+retired_passive s e c n on later at = passive_moved s.history (after_change s.history (Detach e.number)) s.slots (set s.slots e.slot (Retired e)) s.passive s.hands c n on.slots later
     (λ u was. either (cases_eq u e.slot)
     (λ same.
     let one : was.0 ≡ e = live_one was.0 e (slot_at s.slots e.slot) at (subst (λ (k : ℕ). IsIn was.0 (slot_at s.slots k)) same was.1) in
@@ -158,7 +158,7 @@ live_unended s u f p on at end =
 
 detached_model : (s : SessionState) (r : Registry) (c : ℕ) (e : Entry) → Holds s.core → Shows s r → slot_at s.core.slots e.slot ≡ Live e
     → SlotsShow (after_change s.core.history (Detach e.number)) (set s.core.slots e.slot (Retired e))
-    → ShowsModel (after_change s.core.history (Detach e.number)) s.core.begins s.core.found s.core.passive (set s.core.slots e.slot (Retired e)) s.core.locals s.core.keeps (with_detached r c e).model
+    → ShowsModel (after_change s.core.history (Detach e.number)) s.core.begins s.core.found s.core.passive s.core.hands (set s.core.slots e.slot (Retired e)) s.core.locals s.core.keeps (with_detached r c e).model
 detached_model s r c e holds on at later = record {
   history = ap (λ (h : List Change). after_change h (Detach e.number)) on.model.history;
   sections = on.model.sections;

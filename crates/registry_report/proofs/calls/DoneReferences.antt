@@ -17,7 +17,7 @@ use Rattle.registry_report.proofs.calls.Changed.{plug_done}
 use Rattle.registry_report.proofs.shows.Counted.{Counts, acquire_local_shows, count_error, label_is, label_none, refuses, release_local_shows, uncount_answers}
 use Rattle.registry_report.proofs.calls.Done.{Does, seen}
 use Rattle.registry_report.proofs.calls.Giving.{gives, leaves}
-use Rattle.registry_report.proofs.shows.Referred.{acquire_shows, at_free_label, at_taken_label, copy_reference_answers, copy_shows, held_answers, number_if, image, read_of, read_reference_answers}
+use Rattle.registry_report.proofs.shows.Referred.{acquire_shows, at_free_label, at_taken_label, copy_reference_answers, copy_shows, copy_taken_answers, held_answers, number_if, image, read_of, read_reference_answers}
 use Rattle.registry_report.proofs.shows.Referred.{read_shows, reference_answers, release_reference_answers, release_shows, seated_shows}
 use Rattle.registry_report.proofs.calls.Sessions.{live_place, new_place}
 use Rattle.protocol.proofs.Either.{either}
@@ -70,7 +70,7 @@ pub reference_does : (s v : SessionState) (k : State) (r : Registry) (c a : ℕ)
 reference_does s v k r c a p view is on low small free due left =
     let sees = seen s v r view on in
     let answer : reference_answer r c a ≡ Ok p.number = reference_answers s r c a sees free ∙ ap (λ (q : Result CorePsref Refusal). command_answer (number_if q)) (sym due) in
-    let shows = acquire_shows s r c a p is.holds sees low (omega (arith, is.passive_labels)) (sym due) in (
+    let shows = acquire_shows s r c a p is sees low (omega (arith, is.passive_labels)) (sym due) in (
       answer,
       subst (λ (b : Result ℕ Hitch). Shows (record { core = k; passives = set s.passives a (Some p); locals = s.locals }) (on_ok r b (with_reference r c a))) (sym answer)
           (subst (λ (x : State). Shows (record { core = x; passives = set s.passives a (Some p); locals = s.locals }) (with_reference r c a p.number)) (sym left) shows),
@@ -85,6 +85,11 @@ copy_fails s v k r c a b p f given view on at free due left told =
     let answer : copy_answer r c a b ≡ Err (Refused f) = copy_reference_answers s r c a b p sees at free ∙ ap (λ (q : Result CorePsref Refusal). command_answer (number_if q)) (sym due) in
     refused_does given (copy_answer r c a b) f s v k r (with_reference r c b) told answer left sees
 
+-- a copy under a label that has a reference leaves what there was
+pub copy_taken : (v : SessionState) (r : Registry) (c a b : ℕ) (p q : CorePsref) → Shows v r → get_or v.passives a None ≡ Some p → get_or v.passives b None ≡ Some q
+    → Shows v (on_ok r (copy_answer r c a b) (with_reference r c b))
+copy_taken v r c a b p q on at taken = subst (λ (x : Result ℕ Hitch). Shows v (on_ok r x (with_reference r c b))) (sym (copy_taken_answers v r c a b p q on at taken)) on
+
 pub copy_does : (s v : SessionState) (k : State) (r : Registry) (c a b : ℕ) (p q : CorePsref) → s ≡ v → IsSession s → Shows v r → c < s.core.settings.cpus → b < 26 → get_or s.passives a None ≡ Some p
     → get_or s.passives b None ≡ None
     → Ok q ≡ psref_copy s.core c p.number (refusal_of s.core c p) → k ≡ core.after_acquire s.core c (Ok q)
@@ -92,7 +97,7 @@ pub copy_does : (s v : SessionState) (k : State) (r : Registry) (c a b : ℕ) (p
 copy_does s v k r c a b p q view is on low small at free due left =
     let sees = seen s v r view on in
     let answer : copy_answer r c a b ≡ Ok q.number = copy_reference_answers s r c a b p sees at free ∙ ap (λ (x : Result CorePsref Refusal). command_answer (number_if x)) (sym due) in
-    let shows = copy_shows s r c b p q is.holds sees low (omega (arith, is.passive_labels)) (sym due) in (
+    let shows = copy_shows s r c b p q is sees low (omega (arith, is.passive_labels)) (sym due) in (
       answer,
       subst (λ (x : Result ℕ Hitch). Shows (record { core = k; passives = set s.passives b (Some q); locals = s.locals }) (on_ok r x (with_reference r c b))) (sym answer)
           (subst (λ (x : State). Shows (record { core = x; passives = set s.passives b (Some q); locals = s.locals }) (with_reference r c b q.number)) (sym left) shows),
@@ -123,7 +128,7 @@ pub release_does : (s v : SessionState) (k : State) (r : Registry) (c a : ℕ) (
 release_does s v k r c a p view is on low small at may left =
     let sees = seen s v r view on in
     let answer : release_answer r c a ≡ Ok p.number = release_reference_answers s r c a p (Ok tt) sees at (may, tt) in
-    let shows = release_shows s r c a p is.holds sees low (omega (arith, is.passive_labels)) may in (
+    let shows = release_shows s r c a p is sees low (omega (arith, is.passive_labels)) may in (
       answer,
       subst (λ (b : Result ℕ Hitch). Shows (record { core = k; passives = set s.passives a None; locals = s.locals }) (on_ok r b (without_reference r c a))) (sym answer)
           (subst (λ (x : State). Shows (record { core = x; passives = set s.passives a None; locals = s.locals }) (without_reference r c a p.number)) (sym left) shows),

@@ -11,7 +11,7 @@ use Rattle.passive_core.specs.Attaching as core
 use Rattle.registry_values.specs.Slots as values
 use Rattle.passive_core.specs.Common.{with_linked, all_seated, IsLookupNow}
 use Rattle.protocol.specs.Events as events
-use Rattle.protocol.specs.Common.{after_change, Holds, IsIn, Occupies, SlotsShow, standing_of, put, number_in, passive_in, State, local_at, kept_at, passive_at}
+use Rattle.protocol.specs.Common.{after_change, Holds, IsIn, Occupies, SlotsShow, standing_of, put, number_in, passive_in, State, local_at, kept_at, passive_at, trying_at}
 use Rattle.registry_values.proofs.Slots.{live_tells}
 use Rattle.registry_values.proofs.Fit.{ranges}
 use Rattle.protocol.proofs.keeps.ListKeeps.{taken_from}
@@ -100,11 +100,13 @@ attach_answers s r c rec holds on = λ i. answers.attach_answer (sym (inside_is 
 -- passive references to who stands somewhere stay
 published_passive : (s : State) (e : Entry) (c n : ℕ) → Holds s → SlotsShow (after_change s.history (Attach e)) (set s.slots e.slot (Live e)) → e.slot < length s.slots
     → slot_at s.slots e.slot ≡ Vacant
-    → passive_in s.passive c (slot_of s.slots n) ≡ passive_in s.passive c (slot_of (set s.slots e.slot (Live e)) n)
-published_passive s e c n on later lt vacant = passive_moved s.history (after_change s.history (Attach e)) s.slots (set s.slots e.slot (Live e)) s.passive c n on.slots later
+    → passive_in s.passive s.hands c (slot_of s.slots n) ≡ passive_in s.passive s.hands c (slot_of (set s.slots e.slot (Live e)) n)
+published_passive s e c n on later lt vacant =
+    let unheld : passive_at s.passive c e.slot - trying_at s.hands c e.slot ≡ 0 = omega (arith, on.passive.vacant c e.slot vacant) in
+    passive_moved s.history (after_change s.history (Attach e)) s.slots (set s.slots e.slot (Live e)) s.passive s.hands c n on.slots later
     (λ u at. inl (at.0, in_other s.slots e.slot (Live e) at.0 u (λ same. not_vacant at.0 (slot_at s.slots u) (ap (slot_at s.slots) same ∙ vacant) at.1) at.1, at.2))
     (λ u at. either (in_published s.slots e.slot u e at.0 lt at.1)
-    (λ new. inr (ap (passive_at s.passive c) new.0 ∙ on.passive.vacant c e.slot vacant))
+    (λ new. inr (ap (λ (w : ℕ). passive_at s.passive c w - trying_at s.hands c w) new.0 ∙ unheld))
     (λ old. inl (at.0, old, at.2)))
 
 -- an entry is linked in a vacant slot, under the next number

@@ -1,7 +1,7 @@
 -- A session that begins shows the registry that a script begins with.
 use Rattle.std.proofs.Common.{◌≡◌, ℕ, [], replicate, Option, Some, None, is_some, refl, sym, ap, subst, ◌∙◌, arith}
 use Rattle.std.proofs.lemmas.Option.{none-some}
-use Rattle.registry_report.specs.Types.{Entry, Settings, Vacant, MOST_CPUS}
+use Rattle.registry_report.specs.Types.{Entry, Settings, Empty, Vacant, MOST_CPUS}
 use Rattle.protocol.specs.Common.{IsIn, one_if, number_in, passive_in, opening}
 use Rattle.registry_values.specs.Common.{slot_of, slot_at}
 use Rattle.protocol.proofs.slots.Cells.{get_or_all}
@@ -16,7 +16,7 @@ vacant_at n t = get_or_all n Vacant t
 nobody : (n t : ℕ) (e : Entry) → IsIn e (slot_at (replicate n Vacant) t) → ⊥
 nobody n t e is = not_vacant e (slot_at (replicate n Vacant) t) (vacant_at n t) is
 
-none_held : (z : Settings) (c n : ℕ) (o : Option ℕ) → slot_of (replicate z.slots Vacant) n ≡ o → 0 ≡ passive_in (replicate z.slots (replicate MOST_CPUS 0)) c o
+none_held : (z : Settings) (c n : ℕ) (o : Option ℕ) → slot_of (replicate z.slots Vacant) n ≡ o → 0 ≡ passive_in (replicate z.slots (replicate MOST_CPUS 0)) (replicate z.cpus Empty) c o
 none_held z c n None at = refl
 none_held z c n (Some t) at = absurd (let has = slot_has (replicate z.slots Vacant) n t at in nobody z.slots t has.1.0 has.1.1)
 

@@ -4,10 +4,11 @@ use Rattle.std.specs.Prelude.{if◌then◌else◌, ◌==◌, Result, Ok, Err}
 use Rattle.std.proofs.lemmas.Bool.{eq-eqb, or_left, or_right}
 use Rattle.std.proofs.lemmas.Option.{none-some}
 use Rattle.registry_report.specs.Types.{Entry, Change, Record, CorePsref, Refusal, NothingFound, PassiveFull, WrongCpu, NotHeld, LocalPlace}
-use Rattle.protocol.specs.Common.{State, found_at, local_at, is_number, number_standing, Holds, put, with_passive, passive_in}
+use Rattle.protocol.specs.Common.{State, found_at, local_at, is_number, number_standing, Holds, trying_at, put, with_passive, passive_in}
 use Rattle.registry_values.specs.Common.{slot_of, Answers}
 use Rattle.passive_core.specs.Common.{IsQuiet, all_seated, IsRecordOf, psref_to_found, psref_copy, passive_of, refusal_of, with_one_less, with_one_more}
 use Rattle.passive_core.specs.Passives as core
+use Rattle.passive_core.proofs.Acting.{acting_untried}
 use Rattle.passive_core.proofs.Passives.{counted_less, counted_more}
 use Rattle.registry_report.specs.Common.{Hitch, LabelTaken, Reading, acquire_answer, copy_answer, held_answer, command_answer, if_free, misuse, one_more, read_answer, reading_of, reference_answer}
 use Rattle.registry_report.specs.Common.{release_answer, unless, with_label, value_in, value_of, Registry, IsSession, SessionState, with_core, Shows, with_reference, without_reference}
@@ -106,7 +107,7 @@ seated_shows s r on = record { settings = on.settings; model = on.model; section
 
 -- the list of passive references and a label change
 relabelled : (s : SessionState) (r : Registry) (passive : List (List ℕ)) (c n k a : ℕ) (label : Option CorePsref) → Shows s r → a < length s.passives
-    → ((d m : ℕ) → put r.model.passive c (put (r.model.passive c) n k) d m ≡ passive_in passive d (slot_of s.core.slots m))
+    → ((d m : ℕ) → put r.model.passive c (put (r.model.passive c) n k) d m ≡ passive_in passive s.core.hands d (slot_of s.core.slots m))
     → Shows (record s { core = record (all_seated s.core) { passive = passive }; passives = set s.passives a label })
     (record r { model = with_passive r.model c n k; passive_labels = put r.passive_labels a label })
 relabelled s r passive c n k a label on within held = assumption (put_shows r.passive_labels None s.passives a label label within on.labels.passive refl)
@@ -123,21 +124,25 @@ less_by : (s : SessionState) (r : Registry) (c n a : ℕ) (o : Option ℕ) → S
 less_by s r c n a None on within held = relabelled s r s.core.passive c n (r.model.passive c n - 1) a None on within held
 less_by s r c n a (Some t) on within held = relabelled s r (with_one_less s.core c (Some t)).passive c n (r.model.passive c n - 1) a None on within held
 
+-- a CPU of a session is trying nothing
+session_untried : (s : SessionState) (c t : ℕ) → IsSession s → trying_at s.core.hands c t ≡ 0
+session_untried s c t is = acting_untried s.core c t is.holds (is.quiet.ready c)
+
 -- one reference more, of a CPU that has found the entry or holds one to it, for a label
-pub referred_shows : (s : SessionState) (r : Registry) (c n a : ℕ) → Holds s.core → Shows s r → c < s.core.settings.cpus → a < length s.passives
+pub referred_shows : (s : SessionState) (r : Registry) (c n a : ℕ) → IsSession s → Shows s r → c < s.core.settings.cpus → a < length s.passives
     → (is_number n (found_at s.core c) || nat_lt 0 (passive_of s.core c n)) ≡ true
     → Shows (record s { core = with_one_more s.core c (slot_of s.core.slots n); passives = set s.passives a (Some (record { cpu = c; number = n })) }) (with_reference r c a n)
-referred_shows s r c n a holds on low within has = more_by s r c n a (slot_of s.core.slots n) on within
+referred_shows s r c n a is on low within has = more_by s r c n a (slot_of s.core.slots n) on within
     (λ d m. put_both r.model.passive (passive_of s.core) c n (r.model.passive c n + 1) (passive_of s.core c n + 1) on.model.held (ap (λ (k : ℕ). k + 1) (on.model.held c n)) d m
-    ∙ sym (counted_more s.core c n holds low has d m))
+    ∙ sym (counted_more s.core c n is.holds low (λ t. session_untried s c t is) has d m))
 
 -- one less, and the label has none
-pub released_shows : (s : SessionState) (r : Registry) (c n a : ℕ) → Holds s.core → Shows s r → c < s.core.settings.cpus → a < length s.passives
+pub released_shows : (s : SessionState) (r : Registry) (c n a : ℕ) → IsSession s → Shows s r → c < s.core.settings.cpus → a < length s.passives
     → nat_lt 0 (passive_of s.core c n) ≡ true
     → Shows (record s { core = with_one_less s.core c (slot_of s.core.slots n); passives = set s.passives a None }) (without_reference r c a n)
-released_shows s r c n a holds on low within has = less_by s r c n a (slot_of s.core.slots n) on within
+released_shows s r c n a is on low within has = less_by s r c n a (slot_of s.core.slots n) on within
     (λ d m. put_both r.model.passive (passive_of s.core) c n (r.model.passive c n - 1) (passive_of s.core c n - 1) on.model.held (ap (λ (k : ℕ). k - 1) (on.model.held c n)) d m
-    ∙ sym (counted_less s.core c n holds low has d m))
+    ∙ sym (counted_less s.core c n is.holds low (λ t. session_untried s c t is) has d m))
 
 -- The commands
 
@@ -175,31 +180,31 @@ used_tells s c p is =
     (eqb-true p.cpu c both.0, both.1)
 
 -- what an acquire leaves
-pub acquire_shows : (s : SessionState) (r : Registry) (c a : ℕ) (p : CorePsref) → Holds s.core → Shows s r → c < s.core.settings.cpus → a < length s.passives
+pub acquire_shows : (s : SessionState) (r : Registry) (c a : ℕ) (p : CorePsref) → IsSession s → Shows s r → c < s.core.settings.cpus → a < length s.passives
     → psref_to_found s.core c (found_at s.core c) ≡ Ok p
     → Shows (record s { core = core.after_acquire s.core c (Ok p); passives = set s.passives a (Some p) }) (with_reference r c a p.number)
-acquire_shows s r c a p holds on low within answer =
+acquire_shows s r c a p is on low within answer =
     let told = acquired_tells s.core c (found_at s.core c) p answer in
     let e = told.0 in
     let has : is_number e.number (found_at s.core c) ≡ true = ap (is_number e.number) told.1 ∙ eq-eqb e.number e.number refl in
     subst (λ (q : CorePsref). Shows (record s { core = core.after_acquire s.core c (Ok q); passives = set s.passives a (Some q) }) (with_reference r c a q.number)) (sym told.2)
-    (referred_shows s r c e.number a holds on low within (or_left (is_number e.number (found_at s.core c)) (nat_lt 0 (passive_of s.core c e.number)) has))
+    (referred_shows s r c e.number a is on low within (or_left (is_number e.number (found_at s.core c)) (nat_lt 0 (passive_of s.core c e.number)) has))
 
 -- what a copy leaves
-pub copy_shows : (s : SessionState) (r : Registry) (c b : ℕ) (p q : CorePsref) → Holds s.core → Shows s r → c < s.core.settings.cpus → b < length s.passives
+pub copy_shows : (s : SessionState) (r : Registry) (c b : ℕ) (p q : CorePsref) → IsSession s → Shows s r → c < s.core.settings.cpus → b < length s.passives
     → psref_copy s.core c p.number (refusal_of s.core c p) ≡ Ok q
     → Shows (record s { core = core.after_acquire s.core c (Ok q); passives = set s.passives b (Some q) }) (with_reference r c b q.number)
-copy_shows s r c b p q holds on low within answer =
+copy_shows s r c b p q is on low within answer =
     let told = copied_tells s.core c p.number (refusal_of s.core c p) q answer in
     let held = (used_tells s.core c p told.0).1 in
     subst (λ (x : CorePsref). Shows (record s { core = core.after_acquire s.core c (Ok x); passives = set s.passives b (Some x) }) (with_reference r c b x.number)) (sym told.1)
-    (referred_shows s r c p.number b holds on low within (or_right (is_number p.number (found_at s.core c)) (nat_lt 0 (passive_of s.core c p.number)) held))
+    (referred_shows s r c p.number b is on low within (or_right (is_number p.number (found_at s.core c)) (nat_lt 0 (passive_of s.core c p.number)) held))
 
 -- what a release leaves
-pub release_shows : (s : SessionState) (r : Registry) (c a : ℕ) (p : CorePsref) → Holds s.core → Shows s r → c < s.core.settings.cpus → a < length s.passives
+pub release_shows : (s : SessionState) (r : Registry) (c a : ℕ) (p : CorePsref) → IsSession s → Shows s r → c < s.core.settings.cpus → a < length s.passives
     → refusal_of s.core c p ≡ None
     → Shows (record s { core = core.after_release {X = Unit {0}} s.core c p.number (Ok tt); passives = set s.passives a None }) (without_reference r c a p.number)
-release_shows s r c a p holds on low within answer = released_shows s r c p.number a holds on low within (used_tells s.core c p answer).1
+release_shows s r c a p is on low within answer = released_shows s r c p.number a is on low within (used_tells s.core c p answer).1
 
 -- a read leaves what there was, refused or not
 pub read_shows : {X : Type 0} (s : SessionState) (r : Registry) (result : Result X Refusal) → Shows s r → Shows (with_core s (core.after_read s.core result)) r
@@ -234,6 +239,12 @@ copy_reference_answers s r c a b p on at free =
     at_label (r.passive_labels a) p (λ q. if_free (r.passive_labels b) (command_answer (unless (misuse r c q) (one_more r c q.number)))) (passive_label_is s r a (Some p) on at)
     ∙ (at_free_label (r.passive_labels b) (command_answer (unless (misuse r c p) (one_more r c p.number))) (passive_label_is s r b None on free)
     ∙ ap command_answer (sym (copy_answers s r c p on)))
+
+pub copy_taken_answers : (s : SessionState) (r : Registry) (c a b : ℕ) (p q : CorePsref) → Shows s r → get_or s.passives a None ≡ Some p → get_or s.passives b None ≡ Some q
+    → copy_answer r c a b ≡ Err LabelTaken
+copy_taken_answers s r c a b p q on at taken =
+    at_label (r.passive_labels a) p (λ x. if_free (r.passive_labels b) (command_answer (unless (misuse r c x) (one_more r c x.number)))) (passive_label_is s r a (Some p) on at)
+    ∙ at_taken_label (r.passive_labels b) q (command_answer (unless (misuse r c p) (one_more r c p.number))) (passive_label_is s r b (Some q) on taken)
 
 pub held_answers : (s : SessionState) (r : Registry) (c a : ℕ) (p : CorePsref) → Shows s r → get_or s.passives a None ≡ Some p → held_answer r c a ≡ Ok (nat_lt 0 (passive_of s.core c p.number))
 held_answers s r c a p on at =

@@ -1,7 +1,7 @@
 -- Advance, destroy and perform: the registry that the session shows answers and changes as the core does.
-use Rattle.std.proofs.Common.{◌≡◌, ℕ, zero, suc, ◌+◌, ◌<◌, ◌≤◌, inl, inr, List, length, get_or, set, get_or-set_same, get_or-set_other, Option, Some, None, Bool, true, false, ◌&&◌, nat_lt, refl, sym}
+use Rattle.std.proofs.Common.{◌≡◌, ℕ, zero, suc, ◌+◌, ◌-◌, ◌<◌, ◌≤◌, inl, inr, List, length, get_or, set, get_or-set_same, get_or-set_other, Option, Some, None, Bool, true, false, ◌&&◌, nat_lt, refl, sym}
 use Rattle.std.proofs.Common.{ap, subst, ◌∙◌, arith, sum_by}
-use Rattle.std.specs.Prelude.{if◌then◌else◌, is_some, Result, Ok, Err}
+use Rattle.std.specs.Prelude.{if◌then◌else◌, is_some, not, Result, Ok, Err}
 use Rattle.std.proofs.lemmas.Bool.{and_parts, cases_Bool, cases_eq, cases_lt, eq-eqb, ne_eqb, lt-ltb, le-ltb}
 use Rattle.std.proofs.lemmas.Option.{none-some}
 use Rattle.registry_report.specs.Types.{Entry, Change, Attach, Detach, Refusal, Inside, Stage, Freed, Grace, Local, Passive, Hand, Empty, Mark, Slot, Vacant, Live, Retired}
@@ -9,13 +9,14 @@ use Rattle.passive_core.specs.Advancing as core
 use Rattle.passive_core.specs.Common.{AdvanceLeaves, DestroyLeaves, LeavesFree, LeavesMarks, LeavesTotal, StageLeaves, is_open_since, is_snapshot, IsQuiet, all_seated, PerformLeaves}
 use Rattle.registry_values.specs.Common.{wait_answer, destroy_result, destroy_result_of, stage_of, is_retired_as, has_number, is_retired, slot_at, least_below, no_mark}
 use Rattle.protocol.specs.Common.{MarksGrow, SameElsewhere, Holds, IsIn, SlotsShow, held_at, in_hand, one_if, subtraction_due_at, put, number_in, passive_in, is_empty, State, begin_at, count_at}
-use Rattle.protocol.specs.Common.{hand_at, kept_at, mark_at, passive_at, section_at, total_at}
+use Rattle.protocol.specs.Common.{hand_at, kept_at, mark_at, passive_at, section_at, total_at, trying_at, trying_of}
 use Rattle.registry_values.specs.Slots as values
 use Rattle.protocol.specs.Events as events
 use Rattle.passive_core.specs.Performing as performing
 use Rattle.registry_values.proofs.Least.{none_below, least_none, least_agrees}
 use Rattle.registry_values.proofs.Slots.{retired_slot_tells}
 use Rattle.protocol.proofs.slots.MarkRows.{snapshot_stands}
+use Rattle.passive_core.proofs.Advancing.{clear_none, unclear_some}
 use Rattle.passive_core.proofs.Entering.{acts_free}
 use Rattle.protocol.proofs.counts.HeldSums.{no_hand, number_of}
 use Rattle.protocol.proofs.history.History.{at_within}
@@ -127,8 +128,23 @@ open_is s r t c e is on gone lt =
     (λ b in_ off. is.holds.grace.changed t was.2.0 c b w.0 e gone was.2.1 in_ w.1 off) in
     core_side ∙ sym (ap (λ x. may_hold x (end_of r.model.history e.number)) (on.model.sections c) ∙ ap (may_hold (begin_at s.core c)) end)
 
-pub passive_is : (s : SessionState) (r : Registry) (t c : ℕ) (e : Entry) → Holds s.core → Shows s r → IsIn e (slot_at s.core.slots t) → r.model.passive c e.number ≡ passive_at s.core.passive c t
-passive_is s r t c e holds on in_ = on.model.held c e.number ∙ ap (passive_in s.core.passive c) (slot_number s.core.history s.core.slots e t holds.slots in_)
+-- a word counts references, as no CPU is trying
+passive_is : (s : SessionState) (r : Registry) (t c : ℕ) (e : Entry) → Holds s.core → Shows s r → trying_at s.core.hands c t ≡ 0 → IsIn e (slot_at s.core.slots t)
+    → r.model.passive c e.number ≡ passive_at s.core.passive c t
+passive_is s r t c e holds on untried in_ =
+    let word : passive_at s.core.passive c t - trying_at s.core.hands c t ≡ passive_at s.core.passive c t = omega (arith, untried) in
+    on.model.held c e.number ∙ (ap (passive_in s.core.passive s.core.hands c) (slot_number s.core.history s.core.slots e t holds.slots in_) ∙ word)
+
+-- where a CPU is clear if its word is 0, the word says whether it has a passive reference
+counts_some : (w : ℕ) (clear : Bool) → (clear ≡ true → w ≡ 0) → (nat_lt 0 w && not clear) ≡ nat_lt 0 w
+counts_some w true none = clear_none (nat_lt 0 w) true refl ∙ sym (ap (nat_lt 0) (none refl))
+counts_some w false none = unclear_some (nat_lt 0 w) false refl
+
+passive_met : (s : SessionState) (r : Registry) (t c : ℕ) (e : Entry) → IsSession s → Shows s r → slot_at s.core.slots t ≡ Retired e → core.has_passive s.core t c ≡ has_passive r e.number c
+passive_met s r t c e is on gone =
+    let untried : trying_at s.core.hands c t ≡ 0 = ap (trying_of t) (hands_empty s.core is.holds is.quiet c) in
+    counts_some (passive_at s.core.passive c t) (mark_at s.core.marks t c).clear (λ clear. (is.holds.passive.clear c t e gone clear).1 ∙ untried)
+    ∙ ap (nat_lt 0) (sym (passive_is s r t c e is.holds on untried (inr gone)))
 
 pub stage_is : (s : SessionState) (r : Registry) (t : ℕ) (e : Entry) → IsSession s → Shows s r → slot_at s.core.slots t ≡ Retired e
     → core.first_obstacle s.core t e.number ≡ first_obstacle r e.number t
@@ -137,7 +153,7 @@ stage_is s r t e is on gone =
     let first : least_below (is_open_since s.core t) s.core.settings.cpus ≡ least_below (has_section r e.number) r.settings.cpus =
     least_agrees (is_open_since s.core t) (has_section r e.number) s.core.settings.cpus (λ c lt. open_is s r t c e is on gone lt) ∙ ap (least_below (has_section r e.number)) cpus in
     let second : least_below (core.has_passive s.core t) s.core.settings.cpus ≡ least_below (has_passive r e.number) r.settings.cpus =
-    least_agrees (core.has_passive s.core t) (has_passive r e.number) s.core.settings.cpus (λ c lt. ap (nat_lt 0) (sym (passive_is s r t c e is.holds on (inr gone))))
+    least_agrees (core.has_passive s.core t) (has_passive r e.number) s.core.settings.cpus (λ c lt. passive_met s r t c e is on gone)
     ∙ ap (least_below (has_passive r e.number)) cpus in
     rw (first, second, held_is s r e.number t is on) refl
 
@@ -256,22 +272,22 @@ vacant_live h slots t e gone was = omega (arith, live_count_put slots t (Retired
 -- nothing holds the retired entry
 record Unheld (s k : State) (t : ℕ) (e : Entry) : Type 0 where
   pub gone : slot_at s.slots t ≡ Retired e
-  pub passive : (c : ℕ) → passive_at s.passive c t ≡ 0
+  pub passive : (c : ℕ) → passive_at s.passive c t - trying_at s.hands c t ≡ 0
   pub left : LeavesFree s k t
   pub now : Holds k
 
 freed_model : (s : SessionState) (r : Registry) (k : State) (t : ℕ) (e : Entry) (keeps : ℕ → Option ℕ) → Holds s.core → Shows s r → Unheld s.core k t e
     → ((u : ℕ) → keeps u ≡ kept_at (set s.core.keeps t None) u)
-    → ShowsModel s.core.history s.core.begins s.core.found s.core.passive (set s.core.slots t Vacant) s.core.locals (set s.core.keeps t None)
+    → ShowsModel s.core.history s.core.begins s.core.found s.core.passive s.core.hands (set s.core.slots t Vacant) s.core.locals (set s.core.keeps t None)
     (record r.model { occupants = put r.model.occupants t None; keeps = keeps })
 freed_model s r k t e keeps holds on u kept = record {
   history = on.model.history;
   sections = on.model.sections;
   last_found = on.model.last_found;
-  held = λ c n. on.model.held c n ∙ passive_moved s.core.history s.core.history s.core.slots (set s.core.slots t Vacant) s.core.passive c n holds.slots
+  held = λ c n. on.model.held c n ∙ passive_moved s.core.history s.core.history s.core.slots (set s.core.slots t Vacant) s.core.passive s.core.hands c n holds.slots
       (subst (λ (x : State). SlotsShow x.history x.slots) u.left.only u.now.slots)
       (λ v was. either (cases_eq v t)
-      (λ same. inr (ap (passive_at s.core.passive c) same ∙ u.passive c))
+      (λ same. inr (ap (λ (w : ℕ). passive_at s.core.passive c w - trying_at s.core.hands c w) same ∙ u.passive c))
       (λ off. inl (was.0, in_other s.core.slots t Vacant was.0 v off was.1, was.2)))
       (λ v was. inl (was.0, (in_vacated s.core.slots t v e was.0 u.gone was.1).1, was.2));
   counted = on.model.counted;
@@ -326,13 +342,19 @@ no_words : (w : ℕ) → nat_lt 0 w ≡ false → w ≡ 0
 no_words zero is = refl
 no_words (suc w) is = absurd (let q : ◌≡◌ {A = Bool} true false = sym (lt-ltb 0 (suc w) (omega arith)) ∙ is in cc)
 
+-- the word of a CPU without a passive reference counts no more than what it is trying
+counts_none : (s : State) (t c : ℕ) (e : Entry) → Holds s → slot_at s.slots t ≡ Retired e → core.has_passive s t c ≡ false → passive_at s.passive c t - trying_at s.hands c t ≡ 0
+counts_none s t c e on gone none = either (cases_Bool (mark_at s.marks t c).clear)
+    (λ clear. omega (arith, (on.passive.clear c t e gone clear).1))
+    (λ unclear. omega (arith, no_words (passive_at s.passive c t) (sym (unclear_some (nat_lt 0 (passive_at s.passive c t)) (mark_at s.marks t c).clear unclear) ∙ none)))
+
 unheld_at : (s : SessionState) (k : State) (n t u : ℕ) (e : Entry) → Holds s.core → Holds k → core.first_obstacle s.core t n ≡ Freed u → slot_at s.core.slots t ≡ Retired e → LeavesFree s.core k t
     → Unheld s.core k t e
 unheld_at s k n t u e holds now stage gone left = record {
   gone = gone;
   passive = λ c. either (cases_lt c s.core.settings.cpus)
-      (λ lt. no_words (passive_at s.core.passive c t) (least_none (core.has_passive s.core t) s.core.settings.cpus (free_tells t u _ _ _ stage).1 c lt))
-      (λ ge. holds.passive.beyond c t ge);
+      (λ lt. counts_none s.core t c e holds gone (least_none (core.has_passive s.core t) s.core.settings.cpus (free_tells t u _ _ _ stage).1 c lt))
+      (λ ge. omega (arith, holds.passive.beyond c t ge));
   left = left;
   now = now;
 }

@@ -16,11 +16,12 @@ use Rattle.protocol.proofs.model.Picturing.{put_here}
 use Rattle.protocol.proofs.keeps.Publishing.{legal_attach, live_cases}
 use Rattle.protocol.proofs.keeps.SectionKeeps.{none_from}
 use Rattle.protocol.proofs.keeps.Unlinking.{attached_before, legal_detach, was_there}
+use Rattle.passive_core.proofs.Advancing.{least_some}
 use Rattle.registry_report.specs.Common.{attach_answer, attach_iface_answer, detach_answer, given_entry, command_answer, is_inside, is_available, lookup_now, first_fit, room_of, plug_answer}
 use Rattle.registry_report.specs.Common.{with_label, entry_of, is_driver_entry, is_driver_number, Registry, HasSlot, IsSound, IsSoundModel, IsLawfulTurn, after_plug, with_attached, with_detached}
 use Rattle.registry_report.specs.Common.{with_reference_kept, on_ok, on_some, with_attached_iface, with_all_seen, with_entry}
 use Rattle.registry_report.proofs.Lookups.{entry_is, lookup_is}
-use Rattle.registry_report.proofs.sound.Turns.{dropped_counts, else_ok, hitched_ok, idle_turn, labelled_counts, least_some, not_ok, ok_turn, put_capped, put_cases, put_none, same_ok, still_there}
+use Rattle.registry_report.proofs.sound.Turns.{dropped_counts, else_ok, hitched_ok, idle_turn, labelled_counts, not_ok, ok_turn, put_capped, put_cases, put_none, same_ok, still_there}
 use Rattle.protocol.proofs.Either.{either}
 
 -- One change more

@@ -9,10 +9,11 @@ use Rattle.protocol.specs.Common.{EndsAt, Model, put, with_locals, IsUnheld, Sta
 use Rattle.protocol.proofs.history.History.{at_within}
 use Rattle.registry_values.proofs.Least.{least_none}
 use Rattle.protocol.proofs.model.Picturing.{put_here, put_is, put_other, two_steps}
+use Rattle.passive_core.proofs.Advancing.{least_some}
 use Rattle.registry_report.specs.Common.{advance_answer, has_passive, has_section, held_count, is_inside, is_this, first_obstacle, retired_slot, slot_of, stage_in, end_of, has_ended, may_hold}
 use Rattle.registry_report.specs.Common.{Registry, IsSound, IsSoundModel, IsLawfulTurn, after_advance, after_destroy, with_freed, after_stage}
 use Rattle.registry_report.proofs.Lookups.{end_tells}
-use Rattle.registry_report.proofs.sound.Turns.{count_none, idle_turn, is_this_own, is_this_tells, labelled_counts, least_some, not_ok, ok_turn, put_none, same_ok, still_beside}
+use Rattle.registry_report.proofs.sound.Turns.{count_none, idle_turn, is_this_own, is_this_tells, labelled_counts, not_ok, ok_turn, put_none, same_ok, still_beside}
 use Rattle.protocol.proofs.keeps.SectionKeeps.{some_from}
 use Rattle.protocol.proofs.Either.{either}
 

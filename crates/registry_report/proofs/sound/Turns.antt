@@ -1,11 +1,10 @@
--- A function with one value put, labels that are counted, least numbers, and answers behind tests: what the turns share.
+-- A function with one value put, labels that are counted, and answers behind tests: what the turns share.
 use Rattle.std.proofs.Common.{◌≡◌, ℕ, zero, suc, ◌+◌, ◌-◌, ◌<◌, ◌≤◌, ◌⊎◌, inl, inr, List, [], ◌∷◌, Option, Some, None, Bool, true, false, refl, sym, ap, subst, ◌∙◌, arith, eqb-true}
 use Rattle.std.specs.Prelude.{Result, Ok, Err, if◌then◌else◌}
 use Rattle.std.proofs.lemmas.Bool.{cases_eq, cases_lt, eq-eqb, ne_eqb}
 use Rattle.std.specs.List.{All}
 use Rattle.std.proofs.lemmas.List.Elements.{All-head, All-tail}
 use Rattle.std.proofs.lemmas.Option.{none-some, same_Some}
-use Rattle.registry_values.specs.Common.{least_below, or_next}
 use Rattle.protocol.specs.Common.{one_if, put, Stays, IsLegal}
 use Rattle.protocol.proofs.model.Picturing.{join_runs, put_here, put_other}
 use Rattle.registry_report.specs.Types.{Refusal, Settings, Attach, Detach}
@@ -125,20 +124,6 @@ count_none p (suc k) t none lt = either (cases_lt t k)
 count_empty : (n k : ℕ) → labels_for (λ x. None) n k ≡ 0
 count_empty n zero = refl
 count_empty n (suc k) = omega (arith, count_empty n k)
-
--- Least numbers
-
-next_some : (o : Option ℕ) (b : Bool) (n c : ℕ) → or_next o b n ≡ Some c → (o ≡ Some c) ⊎ ((c ≡ n) × (b ≡ true))
-next_some (Some d) b n c is = inl is
-next_some None true n c is = inr (sym (same_Some n c is), refl)
-next_some None false n c is = absurd (none-some c is)
-
--- the least number that passes does
-pub least_some : (p : ℕ → Bool) (n c : ℕ) → least_below p n ≡ Some c → (c < n) × (p c ≡ true)
-least_some p zero c is = absurd (none-some c is)
-least_some p (suc n) c is = either (next_some (least_below p n) (p n) n c is)
-    (λ low. let was = least_some p n c low in (omega (arith, was.0), was.1))
-    (λ here. (omega (arith, here.0), ap p here.0 ∙ here.1))
 
 -- Tests and answers
 

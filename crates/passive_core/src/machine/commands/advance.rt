@@ -17,7 +17,7 @@ impl Core {
     /// Makes one turn of the work on the retired entry `number`, up to its first obstacle. Returns, with the lowest-numbered CPU first:
     ///
     /// - `Grace`: a CPU with an open section that may hold the entry (pserialize(9));
-    /// - `Passive`: a CPU with a passive reference to it (psref(9));
+    /// - `Passive`: a CPU with a passive reference to it (psref(9)), or one that isn't clear and is trying to get a reference in its slot;
     /// - `Local`: the local references to it (localcount(9)); its count words are collected then;
     /// - `Freed`: nothing holds it, and its slot, from 0, is vacant now.
     ///

@@ -196,13 +196,14 @@ impl Core {
         }
     }
 
-    /// How many passive references the CPU has to that number.
+    /// How many passive references the CPU has to that number; what it is trying is none.
     fn passive_of(&self, c: u8, number: u64) -> u64
         requires { c < self.now.settings.cpus }
         ensures { result ≡ passive_of self.now c number }
     {
+        let _ = &self.settings;
         match self.slot_of(number) {
-            Some(t) => self.passive_at(c, t),
+            Some(t) => self.passive_at(c, t) - self.trying_at(c, t),
             None => 0,
         }
     }

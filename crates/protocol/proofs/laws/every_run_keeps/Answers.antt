@@ -1,5 +1,6 @@
 use Rattle.protocol.proofs.runs.Reuse.{every_run_keeps}
 use Rattle.protocol.proofs.model.Refining.{every_run_is_model_run}
+use Rattle.protocol.proofs.runs.Untried.{untried_runs}
 use Rattle.protocol.proofs.laws.every_run_keeps.Goals as goal
 
 pub returns-clause-keeps : goal.returns-clause-keeps
@@ -7,3 +8,6 @@ returns-clause-keeps c = every_run_keeps
 
 pub returns-clause-modelled : goal.returns-clause-modelled
 returns-clause-modelled c = every_run_is_model_run
+
+pub returns-clause-untried : goal.returns-clause-untried
+returns-clause-untried c = untried_runs

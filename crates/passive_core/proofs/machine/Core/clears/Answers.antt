@@ -10,9 +10,7 @@ use Rattle.passive_core.proofs.machine.Core.clears.Goals as goal
 
 pub returns-then-mark_at-clause-answer : goal.returns-then-mark_at-clause-answer
 returns-then-mark_at-clause-answer c =
-    let s = c.args.self.now in
-    let on : Holds s = subst Holds c.self.view_is c.self.invariant in
-    clear_left s c.args.t c.args.c on c.requires.retired (ap (λ (m : Mark). m.clear) (sym c.mark_at.ensures) ∙ c.if-mark_at.true)
+    clear_left c.args.self.now c.args.t c.args.c (ap (λ (m : Mark). m.clear) (sym c.mark_at.ensures) ∙ c.if-mark_at.true)
 
 pub make-requires-clause-allowed : goal.make-requires-clause-allowed
 make-requires-clause-allowed c =
@@ -27,7 +25,7 @@ returns-clause-answer c =
     passive_look_is s c.make.new.self c.args.t c.args.c c.make.result c.requires.rest c.requires.retired c.requires.passed c.requires.cpu c.make.ensures in
     let m : Mark = mark_after_passive_look (mark_at s.marks c.args.t c.args.c) (passive_at s.passive c.args.c c.args.t) in
     let there : mark_at c.make.new.self.marks c.args.t c.args.c ≡ m = ap (λ (x : State). mark_at x.marks c.args.t c.args.c) new ∙ mark_there s c.args.t c.args.c m on c.requires.slot c.requires.cpu in
-    ap (λ (x : Mark). x.clear) (c.mark_at-2.ensures ∙ there) ∙ passive_clears s c.args.t c.args.c on c.requires.retired
+    ap (λ (x : Mark). x.clear) (c.mark_at-2.ensures ∙ there) ∙ passive_clears s c.args.t c.args.c
 
 pub returns-clause-marks : goal.returns-clause-marks
 returns-clause-marks c =

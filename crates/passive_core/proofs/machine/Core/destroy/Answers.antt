@@ -8,7 +8,7 @@ loop-preserved c =
     let s = c.args.self.now in
     let l = c.loop in
     let held = not_freed l.stage c.in_default.not-Freed in
-    let answer = c.in_ok-stage-2.ensures.answer ∙ answer_again s l.self c.args.number l.stage held l.invariant.after in
+    let answer = c.in_ok-stage-2.ensures.answer ∙ answer_again s l.self c.args.number l.stage held l.invariant.stage l.invariant.after l.invariant.marks in
     record {
       stage = answer;
       after = advance_again s l.self c.advance-in-loop.new.self c.args.number l.stage c.in_ok-stage-2.stage held l.invariant.after c.in_ok-stage-2.ensures.after

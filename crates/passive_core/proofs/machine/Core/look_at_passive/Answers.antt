@@ -14,7 +14,7 @@ returns-then-not-clears-clause-answer c =
     let l = c.loop-c in
     let has : has_passive l.self c.args.t l.c ≡ true = not_false (has_passive l.self c.args.t l.c) c.clears.result c.clears.ensures.answer c.if-not-clears.true in
     sym (least_is (has_passive s c.args.t) l.c s.settings.cpus (subst (λ (x : State). l.c < x.settings.cpus) c.self.view_is c.loop-c-test.true)
-    (sym (passive_same s l.self c.args.t l.c l.invariant.only) ∙ has) l.invariant.none)
+    (sym (passive_same s l.self c.args.t l.c l.invariant.only (ap (λ (m : Mark). m.clear) (l.invariant.above l.c (omega arith)))) ∙ has) l.invariant.none)
 
 pub returns-then-not-clears-clause-marks : goal.returns-then-not-clears-clause-marks
 returns-then-not-clears-clause-marks c = marks_clear_more c.args.self.now.marks c.loop-c.self.marks c.clears.new.self.marks c.args.t c.loop-c.invariant.marks c.clears.ensures.marks
@@ -45,7 +45,7 @@ loop-c-preserved c =
       above = λ d le. c.clears.ensures.others d (λ same. omega (arith, le, same)) ∙ l.invariant.above d (omega (arith, le));
       clear = below_more (λ d. (mark_at c.clears.new.self.marks c.args.t d).clear ≡ true) l.c
           (λ d lt. (c.clears.ensures.marks.here d).clear (l.invariant.clear d lt)) (sym c.clears.ensures.clear ∙ c.if-not-clears.false);
-      none = below_more (λ d. has_passive s c.args.t d ≡ false) l.c l.invariant.none (sym (passive_same s l.self c.args.t l.c l.invariant.only) ∙ none);
+      none = below_more (λ d. has_passive s c.args.t d ≡ false) l.c l.invariant.none (sym (passive_same s l.self c.args.t l.c l.invariant.only (ap (λ (m : Mark). m.clear) (l.invariant.above l.c (omega arith)))) ∙ none);
     }
 
 pub returns-clause-answer : goal.returns-clause-answer

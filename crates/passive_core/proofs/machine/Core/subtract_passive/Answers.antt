@@ -1,6 +1,7 @@
 use Rattle.std.proofs.Common.{[], ◌∷◌, subst, sym}
 use Rattle.protocol.specs.Common.{State}
 use Rattle.passive_core.specs.Common.{IsOneLess}
+use Rattle.passive_core.proofs.Acting.{acting_untried}
 use Rattle.passive_core.proofs.Passives.{sub_allowed, subbed, counted_less}
 use Rattle.passive_core.specs.Types.{PassiveSub}
 use Rattle.passive_core.proofs.Making.{makes_one, seated_and}
@@ -14,7 +15,8 @@ pub returns-clause-counted : goal.returns-clause-counted
 returns-clause-counted c =
     let is = subbed c.args.self.now c.begin.new.self c.make.new.self c.args.c c.args.number _ c.begin.ensures.seated
     (c.begin.ensures.idle c.args.c c.requires.known c.requires.ready) c.requires.held c.make.ensures in
-    subst (λ (x : State). IsOneLess c.args.self.now x c.args.c c.args.number) (sym is) (counted_less c.args.self.now c.args.c c.args.number c.begin.ensures.sound c.requires.known c.requires.held)
+    subst (λ (x : State). IsOneLess c.args.self.now x c.args.c c.args.number) (sym is) (counted_less c.args.self.now c.args.c c.args.number c.begin.ensures.sound c.requires.known
+    (λ t. acting_untried c.args.self.now c.args.c t c.begin.ensures.sound c.requires.ready) c.requires.held)
 
 pub returns-clause-made : goal.returns-clause-made
 returns-clause-made c = seated_and c.args.self.now c.begin.new.self c.make.new.self (PassiveSub c.args.c c.args.number ∷ []) c.begin.ensures.sound c.requires.rest c.begin.ensures.seated

@@ -1,7 +1,7 @@
 use Rattle.std.proofs.Common.{None, ◌<◌, ap, subst, sym, ◌∙◌, Ok, Some, length-set, slice_set}
 use Rattle.std.specs.Prelude.{slice_index_or}
 use Rattle.registry_report.specs.Common.{SessionState}
-use Rattle.registry_report.proofs.calls.DoneReferences.{copy_does, copy_fails, free_label, told_err}
+use Rattle.registry_report.proofs.calls.DoneReferences.{copy_does, copy_fails, copy_taken, free_label, taken_label, told_err}
 use Rattle.registry_report.proofs.calls.Sessions.{filled_tells}
 use Rattle.protocol.specs.Common.{State}
 use Rattle.registry_report.proofs.shows.Referred.{acquire_places, same_session}
@@ -45,3 +45,7 @@ returns-clause-shows c = λ r on. (copy_does (record { core = c.self.inside.core
     (ap (λ (s : SessionState). slice_index_or s.passives c.args.source.place None) c.self.view_is ∙ filled_tells _ c.in_ok-psref.psref (sym c.in_ok-psref.was ∙ c.passive.ensures))
     (ap (λ (s : SessionState). slice_index_or s.passives c.args.target.place None) c.self.view_is ∙ free_label _ _ _ c.passive-2.ensures c.is_ok.ensures.value c.if-is_ok.false)
     c.in_ok-second.ensures.answer c.in_ok-second.ensures.after).1
+
+pub returns-then-is_ok-clause-shows : goal.returns-then-is_ok-clause-shows
+returns-then-is_ok-clause-shows c = λ r on. let taken = taken_label _ _ _ c.passive-2.ensures c.is_ok.ensures.value c.if-is_ok.true in
+    copy_taken c.args.self.now r c.args.cpu c.args.source.place c.args.target.place c.in_ok-psref.psref taken.0 on (filled_tells _ c.in_ok-psref.psref (sym c.in_ok-psref.was ∙ c.passive.ensures)) taken.1

@@ -1,0 +1,301 @@
+//! Worked rows of the three events of a passive reference without a section: `Try`, `Confirm` and `TakeBack`. No command makes them.
+
+use super::bench::{Ask, Line, Row, Told, run, run_rows};
+use super::data::{A, ATTACH_WM, ENTER, EXIT, USUAL, VGA, WM};
+use passive_core::{Core, Counted, Event, Refusal, Reply, Settings, Stage, run_events};
+use std::process::Abort;
+use std::test::Fail;
+
+/// CPU 0 counts its word of slot 0 up, to get a reference to entry 1; that is a reference now; it is counted down again.
+const TRY: Ask = Ask::Step(Event::Try(0, 0, 1));
+
+const CONFIRM: Ask = Ask::Step(Event::Confirm(0));
+
+const TAKE_BACK: Ask = Ask::Step(Event::TakeBack(0));
+
+const COUNT: Ask = Ask::Step(Event::Count);
+
+/// CPU 1 attaches the driver vga beside wm, and detaches the two.
+const ATTACH_VGA: Line = (1, Ask::Attach(VGA), Ok(Told::Entry(2, 1, 8)));
+
+const DETACH_VGA: Line = (1, Ask::Detach(VGA), Ok(Told::Entry(2, 1, 8)));
+
+const DETACH_WM: Line = (1, Ask::Detach(WM), Ok(Told::Entry(1, 0, 7)));
+
+/// CPU 0 is in the way of the destruction of wm, or nothing is.
+const IN_THE_WAY: Line = (1, Ask::Advance(1), Ok(Told::Stage(Stage::Passive(0))));
+
+const FREED: Line = (1, Ask::Advance(1), Ok(Told::Stage(Stage::Freed(0))));
+
+const ROWS: [Row; 10] = [
+    // Between the two events the CPU makes no other step of its own. What it confirms is a reference as any other.
+    Row {
+        name: "tried and confirmed",
+        settings: USUAL,
+        lines: &[
+            ATTACH_WM,
+            (0, TRY, Ok(Told::Word(0))),
+            (0, TRY, Ok(Told::NotAllowed)),
+            (0, Ask::Step(Event::PassiveAdd(0, 1)), Ok(Told::NotAllowed)),
+            (0, Ask::Step(Event::PassiveSub(0, 1)), Ok(Told::NotAllowed)),
+            (0, Ask::Step(Event::Enter(0)), Ok(Told::NotAllowed)),
+            (0, Ask::Step(Event::Hear(Some(0))), Ok(Told::NotAllowed)),
+            (0, CONFIRM, Ok(Told::Word(0))),
+            (0, CONFIRM, Ok(Told::NotAllowed)),
+            (0, TAKE_BACK, Ok(Told::NotAllowed)),
+            (0, Ask::Held(A), Ok(Told::Is(true))),
+            (0, Ask::Read(A), Ok(Told::Record(7))),
+            (0, Ask::Copy(A), Ok(Told::Psref(A))),
+            (0, TRY, Ok(Told::Word(2))),
+            (0, CONFIRM, Ok(Told::Word(0))),
+            (0, Ask::Release(A), Ok(Told::Done)),
+            (0, Ask::Release(A), Ok(Told::Done)),
+            (0, Ask::Release(A), Ok(Told::Done)),
+            (0, Ask::Release(A), Err(Refusal::NotHeld)),
+        ],
+    },
+    // A Confirm replies the count of changes, as it was stored last.
+    Row {
+        name: "the count of changes",
+        settings: USUAL,
+        lines: &[
+            ATTACH_WM,
+            (0, COUNT, Ok(Told::Done)),
+            (0, TRY, Ok(Told::Word(0))),
+            (0, CONFIRM, Ok(Told::Word(1))),
+            ATTACH_VGA,
+            (0, Ask::Step(Event::Try(0, 1, 2)), Ok(Told::Word(0))),
+            (0, CONFIRM, Ok(Told::Word(1))),
+            (0, TRY, Ok(Told::Word(1))),
+            (0, COUNT, Ok(Told::Done)),
+            (0, CONFIRM, Ok(Told::Word(2))),
+        ],
+    },
+    // What is taken back was no reference.
+    Row {
+        name: "tried and taken back",
+        settings: USUAL,
+        lines: &[
+            ATTACH_WM,
+            (0, TRY, Ok(Told::Word(0))),
+            (0, TAKE_BACK, Ok(Told::Word(1))),
+            (0, TAKE_BACK, Ok(Told::NotAllowed)),
+            (0, Ask::Held(A), Ok(Told::Is(false))),
+            (0, Ask::Read(A), Err(Refusal::NotHeld)),
+            (0, Ask::Release(A), Err(Refusal::NotHeld)),
+            (1, Ask::Perform(1), Ok(Told::Done)),
+            DETACH_WM,
+            FREED,
+        ],
+    },
+    // The entry may be detached between the two events.
+    Row {
+        name: "detached between",
+        settings: USUAL,
+        lines: &[
+            ATTACH_WM,
+            (0, TRY, Ok(Told::Word(0))),
+            DETACH_WM,
+            (0, CONFIRM, Ok(Told::Word(0))),
+            (0, Ask::Read(A), Ok(Told::Record(7))),
+            IN_THE_WAY,
+            (0, Ask::Release(A), Ok(Told::Done)),
+            FREED,
+        ],
+    },
+    // After a second change the CPU comes too late, even if its slot has the entry. It is in the way until it takes its addition back.
+    Row {
+        name: "a change too late",
+        settings: USUAL,
+        lines: &[
+            ATTACH_WM,
+            ATTACH_VGA,
+            (0, TRY, Ok(Told::Word(0))),
+            DETACH_WM,
+            DETACH_VGA,
+            (0, CONFIRM, Ok(Told::NotAllowed)),
+            IN_THE_WAY,
+            (
+                1,
+                Ask::Destroy(1, 2),
+                Err(Refusal::StillHeld(Stage::Passive(0))),
+            ),
+            (1, Ask::Perform(1), Ok(Told::Done)),
+            (0, TAKE_BACK, Ok(Told::Word(1))),
+            FREED,
+        ],
+    },
+    // A CPU that is clear gets no reference, and isn't in the way, though its word is 1. It is in the way of the next occupant.
+    Row {
+        name: "tried when clear",
+        settings: USUAL,
+        lines: &[
+            ATTACH_WM,
+            DETACH_WM,
+            (0, Ask::Step(Event::Look(Some(0), 0)), Ok(Told::Word(0))),
+            (0, Ask::Step(Event::Look(Some(0), 1)), Ok(Told::Word(0))),
+            (0, Ask::Step(Event::PassiveLook(0, 0)), Ok(Told::Word(0))),
+            (0, TRY, Ok(Told::Word(0))),
+            (0, CONFIRM, Ok(Told::NotAllowed)),
+            (0, Ask::Step(Event::PassiveLook(0, 0)), Ok(Told::Word(1))),
+            FREED,
+            (0, CONFIRM, Ok(Told::NotAllowed)),
+            (1, Ask::Attach(VGA), Ok(Told::Entry(3, 0, 8))),
+            (0, CONFIRM, Ok(Told::NotAllowed)),
+            (1, Ask::Detach(VGA), Ok(Told::Entry(3, 0, 8))),
+            (1, Ask::Advance(3), Ok(Told::Stage(Stage::Passive(0)))),
+            (0, TAKE_BACK, Ok(Told::Word(1))),
+            (1, Ask::Advance(3), Ok(Told::Stage(Stage::Freed(0)))),
+        ],
+    },
+    // A CPU may try any slot and any number; it confirms only what the slot has.
+    Row {
+        name: "not what the slot has",
+        settings: USUAL,
+        lines: &[
+            (0, TRY, Ok(Told::NotAllowed)),
+            ATTACH_WM,
+            (0, Ask::Step(Event::Try(0, 2, 1)), Ok(Told::NotAllowed)),
+            (0, Ask::Step(Event::Try(2, 0, 1)), Ok(Told::NotAllowed)),
+            (0, Ask::Step(Event::Confirm(2)), Ok(Told::NotAllowed)),
+            (0, Ask::Step(Event::TakeBack(2)), Ok(Told::NotAllowed)),
+            (0, Ask::Step(Event::Try(0, 1, 1)), Ok(Told::Word(0))),
+            (0, CONFIRM, Ok(Told::NotAllowed)),
+            (0, TAKE_BACK, Ok(Told::Word(1))),
+            (0, Ask::Step(Event::Try(0, 0, 2)), Ok(Told::Word(0))),
+            (0, CONFIRM, Ok(Told::NotAllowed)),
+            (0, TAKE_BACK, Ok(Told::Word(1))),
+            (0, TRY, Ok(Told::Word(0))),
+            (0, CONFIRM, Ok(Told::Word(0))),
+        ],
+    },
+    // Inside a section it is allowed, but not while the CPU searches.
+    Row {
+        name: "inside a section",
+        settings: USUAL,
+        lines: &[
+            ATTACH_WM,
+            ENTER,
+            (0, TRY, Ok(Told::Word(0))),
+            (0, CONFIRM, Ok(Told::Word(0))),
+            (0, Ask::Seek(WM), Ok(Told::Done)),
+            (0, TRY, Ok(Told::NotAllowed)),
+        ],
+    },
+    // Each CPU has its own word. What one is trying stops no other.
+    Row {
+        name: "two CPUs",
+        settings: USUAL,
+        lines: &[
+            ATTACH_WM,
+            (0, TRY, Ok(Told::Word(0))),
+            (1, Ask::Step(Event::Try(1, 0, 1)), Ok(Told::Word(0))),
+            (1, Ask::Step(Event::Confirm(1)), Ok(Told::Word(0))),
+            (0, CONFIRM, Ok(Told::Word(0))),
+            ENTER,
+            EXIT,
+            DETACH_WM,
+            IN_THE_WAY,
+            (0, Ask::Release(A), Ok(Told::Done)),
+            (1, Ask::Advance(1), Ok(Told::Stage(Stage::Passive(1)))),
+        ],
+    },
+    // No more than the settings allow.
+    Row {
+        name: "the limit of a word",
+        settings: Settings {
+            passive_limit: 1,
+            ..USUAL
+        },
+        lines: &[
+            ATTACH_WM,
+            (0, TRY, Ok(Told::Word(0))),
+            (0, CONFIRM, Ok(Told::Word(0))),
+            (0, TRY, Ok(Told::NotAllowed)),
+            (0, Ask::Release(A), Ok(Told::Done)),
+            (0, TRY, Ok(Told::Word(0))),
+        ],
+    },
+];
+
+#[test]
+fn rows_of_tries(rt: HostRuntime) -> Result<(), Fail> {
+    run_rows(&rt, &ROWS)
+}
+
+/// A list of events has them as any other.
+#[test]
+fn list_of_tries(rt: HostRuntime) -> Result<(), Fail> {
+    let mut core = core_after(&rt, &[])?;
+    let events = [
+        Event::Count,
+        Event::Try(0, 0, 2),
+        Event::Confirm(0),
+        Event::TakeBack(0),
+        Event::Try(0, 0, 1),
+        Event::Confirm(0),
+    ];
+    let expected = Counted {
+        taken: 5,
+        refused: 1,
+        last: Some(Reply::Word(1)),
+    };
+    assert!(rt;
+        run_events(&mut core, &events)? == expected,
+        "one isn't allowed"
+    );
+    Ok(())
+}
+
+/// A core whose CPU 0 has attached the driver wm, and which has made these events since.
+fn core_after(rt: &(impl Abort + AllocGlobal), events: &[Event]) -> Result<Core, Fail> {
+    let mut core = Core::new(rt.alloc(), USUAL)?;
+    run(rt, &mut core, "one driver", &[ATTACH_WM]);
+    for event in events {
+        assert!(rt; core.step(*event).is_ok(), "an event that is allowed");
+    }
+    Ok(core)
+}
+
+const TRIED: Event = Event::Try(0, 0, 1);
+
+const CONFIRMED: Event = Event::Confirm(0);
+
+/// Whether CPU 0 holds a reference to wm after these events.
+fn holds_after(rt: &(impl Abort + AllocGlobal), events: &[Event]) -> Result<bool, Fail> {
+    let core = core_after(rt, events)?;
+    assert!(rt; 0 < core.settings().cpus, "a CPU of the core");
+    Ok(core.held(0, A))
+}
+
+/// What is tried is held from its Confirm on.
+#[test]
+fn held_once_confirmed(rt: HostRuntime) -> Result<(), Fail> {
+    assert!(rt; !holds_after(&rt, &[])?, "nothing was tried");
+    assert!(rt; !holds_after(&rt, &[TRIED])?, "nothing is confirmed");
+    assert!(rt; holds_after(&rt, &[TRIED, CONFIRMED])?, "it is confirmed");
+    assert!(rt;
+        !holds_after(&rt, &[TRIED, Event::TakeBack(0)])?,
+        "it is taken back"
+    );
+    assert!(rt;
+        holds_after(&rt, &[TRIED, CONFIRMED, TRIED])?,
+        "the first is confirmed"
+    );
+    Ok(())
+}
+
+/// What is taken back, or confirmed and released, leaves the core as it was.
+#[test]
+fn nothing_is_left(rt: HostRuntime) -> Result<(), Fail> {
+    let before = core_after(&rt, &[])?;
+    let tried = core_after(&rt, &[TRIED])?;
+    let confirmed = core_after(&rt, &[TRIED, CONFIRMED])?;
+    let taken_back = core_after(&rt, &[TRIED, Event::TakeBack(0)])?;
+    let released = core_after(&rt, &[TRIED, CONFIRMED, Event::PassiveSub(0, 1)])?;
+    assert!(rt; !tried.is_same(&before), "a word is counted up");
+    assert!(rt; !confirmed.is_same(&tried), "the hand is empty");
+    assert!(rt; taken_back.is_same(&before), "the addition is taken back");
+    assert!(rt; released.is_same(&before), "the reference is released");
+    Ok(())
+}
