@@ -41,7 +41,7 @@ pub use Rattle.cpu_words.specs.Notes.{CpuHears, HasHeard, KeeperHasHeard, Keeper
 pub use Rattle.cpu_words.specs.Opening.{AreOpening, AreSeats, MaySeat, cpu_seat, keeper_with, next_seat, one_seated, with_cpu_seated}
 pub use Rattle.cpu_words.specs.Ordered.{OrderedInTime, TwoMoments}
 pub use Rattle.cpu_words.specs.Passives.{HasSubtracted, IsAloneAt, IsAt, IsNamed, IsWordOf, MayAdd, MayUse, tells_added, tells_passive, tells_subtracted}
-pub use Rattle.cpu_words.specs.Peeks.{HasBegunPeek, HasEndedPeek, HasPeeked, HasPeekedLink, HasPeekedWord, MayPeek, PeekAnswers, link_place, peek_at, place_after, word_place}
+pub use Rattle.cpu_words.specs.Peeks.{HasBegunPeek, HasEndedPeek, HasPeeked, HasPeekedHigh, HasPeekedLink, HasPeekedWord, MayPeek, PeekAnswers, high_place, link_place, peek_at, place_after, word_place}
 pub use Rattle.cpu_words.specs.Publishing.{HasPublished, HasUnpublished, IsBefore, IsLinkPlace, LeadsBelow, MayPublish, MayUnpublish, PublishTold, UnpublishTold, head_with, keeper_after_unpublish}
 pub use Rattle.cpu_words.specs.Publishing.{link_index, links_with}
 pub use Rattle.cpu_words.specs.Publishing.LeadsBelow.{To_end, To_slot}

@@ -1,7 +1,7 @@
 -- Lookups by loads alone, by a CPU's seat: from the head along the links and in each slot over its record words, as a search does, with the count of changes before and after.
-use Rattle.std.specs.Prelude.{◌≡◌, ℕ, zero, suc, ◌≤◌, List, length, Option, Some, None}
+use Rattle.std.specs.Prelude.{◌≡◌, ◌==◌, if◌then◌else◌, ℕ, zero, suc, ◌≤◌, List, length, Option, Some, None}
 use mathlib.Core.List.{IsPrefix}
-use Rattle.cpu_words.specs.Types.{Change, MOST_SLOTS, Key, SearchPlace, AtHead, AtNumber, Loaded, On, Over}
+use Rattle.cpu_words.specs.Types.{Change, MOST_SLOTS, Key, SearchPlace, AtHead, AtNext, AtNumber, Loaded, On, Over}
 use Rattle.protocol.specs.Common.{IsAttached, IsLawful, loaded_at}
 use Rattle.cpu_words.specs.declared.view.CpuView.{CpuView}
 use Rattle.cpu_words.specs.declared.view.PeekPlace.{PeekPlace}
@@ -56,6 +56,13 @@ word_place key p n = place_after p (loaded_at (record { key = key; start = 0; pl
 -- the record word n was loaded
 abbrev pub HasPeekedWord : CpuView → ℕ → CpuView → Type 0
 HasPeekedWord x n y = (q : Peeking) (p : SearchPlace) → x.peek ≡ Some q → q.place ≡ Goes p → HasPeeked x (Some (peek_at q (word_place q.key p n))) y
+
+-- the high word n of the name in the slot t was loaded, before the slot's other words: if the key's name has another one, the entry is gone by
+abbrev pub high_place : Key → ℕ → ℕ → SearchPlace
+high_place key t n = if n == key.name.high then AtNumber t else AtNext t
+
+abbrev pub HasPeekedHigh : CpuView → ℕ → CpuView → Type 0
+HasPeekedHigh x n y = (q : Peeking) (t : ℕ) → x.peek ≡ Some q → q.place ≡ Goes (AtNumber t) → HasPeeked x (Some (peek_at q (Goes (high_place q.key t n)))) y
 
 -- The end
 

@@ -16,7 +16,9 @@ ghost use Rattle.cpu_words.specs.Balance.{SeatsBalance};
 /// - `fresh`: a search's result was the registry's between its Seek and its last load.
 /// - `whole`: Enter, Hear and a lookup by loads see the whole history.
 /// - `balance`: a slot's words, less biases, are its local references.
-/// - `grows`, `told`, `heard`, `ended`: what a call does comes past what was known before it.
+/// - `grows`, `told`, `heard`: of two moments, what is done between them comes after all that was known at the first: what a seat does, what
+///   the keeper does once it has heard a note of that seat, what a CPU knows once it has heard one.
+/// - `ended`: a wait that began between two moments has seen the exit of each section that was known to be open at the first.
 /// - `waiting`: earlier sections have ended.
 /// - `freed`, `freed_by`: nothing holds a detached entry whose slot was vacated.
 /// - `kept`: an interface's slot keeps its driver.

@@ -29,7 +29,7 @@ pub use list::{store_count, store_next, store_record};
 pub use locals::{count_add, count_down, join_ref, split_back, split_ref};
 pub use notes::{hear, hear_keeper, tell, tell_keeper};
 pub use passive::{load_passive, passive_add, passive_sub};
-pub use peeks::{begin_peek, end_peek, peek_head, peek_link, peek_word};
+pub use peeks::{begin_peek, end_peek, peek_head, peek_high, peek_link, peek_word};
 pub use publishing::{count_changes, publish, unpublish};
 pub use reading::load_local;
 pub use search::{load_compared, load_link, load_searched, seek};

@@ -22,8 +22,8 @@ use registry_values::{Refusal, Stage, is_retired_as, settled};
 /// - `Local`: so many local references to it are left, at least 1 (localcount(9)). All count words are collected then.
 /// - `Freed`: nothing; the slot, from 0, is vacant now.
 ///
-/// After `Freed` nothing holds the entry, now or later, by the keeper's log (`gone`) and the law `running_headline` (`freed`). So what its value
-/// points to may be freed.
+/// After `Freed` nothing holds the entry, now or later, by the keeper's log (`gone`) and the law `running_headline` (`freed`). Nothing is proved of
+/// memory that its value points to.
 ///
 /// Refused: `NotRetired` if no slot has the retired entry `number`; nothing has changed then.
 pub fn advance_in(words: &Words, keeper: &mut Keeper, number: u64) -> Result<Stage, Refusal>

@@ -20,7 +20,7 @@ impl<D: Domain> Registry<D> {
     /// interlock is free between the turns. The pass grows as by `hear`.
     /// Condition: at least one turn.
     ///
-    /// Ok (`waited`), by the law `running_headline` (`waiting`):
+    /// Ok (`waited`; 1 by the law `ended` of `running_headline`, 2 by `waiting`):
     ///
     /// 1. each section that was open as the call began has ended, on any CPU;
     /// 2. no section may hold an entry that was detached by then;

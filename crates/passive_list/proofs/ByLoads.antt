@@ -1,12 +1,13 @@
 -- A lookup by loads alone, load by load, and how the data agree with the view as it is over.
-use Rattle.std.proofs.Common.{◌≡◌, ℕ, suc, ◌+◌, ◌-◌, ◌<◌, ◌≤◌, Bool, true, false, List, ◌++◌, length, Option, Some, None, Result, Ok, Err, refl, sym, ap, ◌∙◌, subst, append_assoc, arith}
+use Rattle.std.proofs.Common.{◌≡◌, ◌≢◌, if◌then◌else◌, ℕ, suc, ◌+◌, ◌-◌, ◌<◌, ◌≤◌, Bool, true, false, List, ◌++◌, length, Option, Some, None, Result, Ok, Err, refl, sym, ap, ◌∙◌, subst, append_assoc, arith}
+use Rattle.std.proofs.lemmas.Bool.{eq-eqb, ne_eqb}
 use Rattle.std.proofs.lemmas.Option.{same_Some}
 use mathlib.Core.List.{IsPrefix}
 use Rattle.atomic_table.specs.Seated.{TableId}
 use Rattle.passive_list.specs.Types.{Entry, Settings, Key, MOST_SLOTS, Peek, SharedWord, Changes, Word, Cpu, SearchPlace, AtHead, AtNext, AtNumber, AtKind, AtHigh, AtLow, AtValue, CpuView, LogItem, Peeking, PeekPlace, Goes, Finds, Misses}
 use Rattle.registry_values.specs.Common.{are_words_of}
 use Rattle.protocol.specs.Common.{IsAttached, IsLawful, entry_with, loaded_of_name}
-use Rattle.cpu_words.specs.Common.{MayPeek, HasPeeked, HasPeekedLink, HasPeekedWord, HasBegunPeek, HasEndedPeek, SeatMakes, Seated, peek_at, link_place, place_after, word_place, IsShownCpu, did, log_item}
+use Rattle.cpu_words.specs.Common.{MayPeek, HasPeeked, HasPeekedHigh, HasPeekedLink, HasPeekedWord, HasBegunPeek, HasEndedPeek, SeatMakes, Seated, high_place, peek_at, link_place, place_after, word_place, IsShownCpu, did, log_item}
 use Rattle.passive_list.specs.Common.{Found, NumberedCount, Seen, IsOurCpu, after_visit, entry_seen, ComesTo, HasBegunByLoads, HasComeTo, HasLookedByLoads, HasVisitedByLoads, GoesBy, GoesOnBy, IsAtEntry, IsPeek, IsPeekingAt, IsPeekingLink, LoadsBetweenCounts}
 use Rattle.passive_list.specs.Common.{HasGoneByLoads, LoadsFromCount, begun_peek}
 use Rattle.cpu_words.proofs.shown.CpusShown.{begun_whole}
@@ -44,9 +45,9 @@ peeking_on x y key p r q may is had = record {
 
 -- one thing after the other
 pub come_on : (x y z : CpuView) (q : Peeking) (p r : PeekPlace) → HasComeTo x q p y → HasComeTo y (peek_at q p) r z → HasComeTo x q r z
-come_on x y z q p r first then = (
-  prefix_trans x.pass y.pass z.pass first.0 then.0,
-  then.1 ∙ ap (λ (v : CpuView). record v { pass = z.pass; peek = Some (peek_at q r) }) first.1,
+come_on x y z q p r first onward = (
+  prefix_trans x.pass y.pass z.pass first.0 onward.0,
+  onward.1 ∙ ap (λ (v : CpuView). record v { pass = z.pass; peek = Some (peek_at q r) }) first.1,
 )
 
 -- Words
@@ -57,6 +58,32 @@ word_step x y key p n q may is told =
     let key_is : q.key ≡ key = ap (λ (v : Peeking). v.key) one ∙ may.key_is in
     let place : q.place ≡ Goes p = ap (λ (v : Peeking). v.place) one ∙ may.place in
     subst (λ (k : Key). HasComeTo x q (word_place k p n) y) key_is (told q p is place)
+
+-- where the first word of the name leads, that was loaded before the others
+high_step : (x y : CpuView) (key : Key) (t n : ℕ) (q : Peeking) → IsPeekingAt x key (AtNumber t) → x.peek ≡ Some q → HasPeekedHigh x n y → HasComeTo x q (Goes (high_place key t n)) y
+high_step x y key t n q may is told =
+    let one : q ≡ may.peek = same_Some q may.peek (sym is ∙ may.under_way) in
+    let key_is : q.key ≡ key = ap (λ (v : Peeking). v.key) one ∙ may.key_is in
+    subst (λ (k : Key). HasComeTo x q (Goes (high_place k t n)) y) key_is (told q t is (ap (λ (v : Peeking). v.place) one ∙ may.place))
+
+high_same : (key : Key) (t n : ℕ) → n ≡ key.name.high → high_place key t n ≡ AtNumber t
+high_same key t n is = ap (λ b. if b then AtNumber t else AtNext t) (eq-eqb n key.name.high is)
+
+high_differs : (key : Key) (t n : ℕ) → n ≢ key.name.high → high_place key t n ≡ AtNext t
+high_differs key t n is = ap (λ b. if b then AtNumber t else AtNext t) (ne_eqb n key.name.high is)
+
+stays_step : (x y : CpuView) (key : Key) (t n : ℕ) (q : Peeking) → n ≡ key.name.high → IsPeekingAt x key (AtNumber t) → x.peek ≡ Some q → HasPeekedHigh x n y
+    → HasComeTo x q (Goes (AtNumber t)) y
+stays_step x y key t n q same may is told = subst (λ (p : SearchPlace). HasComeTo x q (Goes p) y) (high_same key t n same) (high_step x y key t n q may is told)
+
+-- it may be the name sought: the slot is still to be visited
+pub still_at : (x y : CpuView) (key : Key) (t n : ℕ) → n ≡ key.name.high → IsPeekingAt x key (AtNumber t) → HasPeekedHigh x n y → IsPeekingAt y key (AtNumber t)
+still_at x y key t n same may told =
+    peeking_on x y key (AtNumber t) (AtNumber t) may.peek may may.under_way (stays_step x y key t n may.peek same may may.under_way told)
+
+-- it isn't: the entry is gone by, as after a visit
+pub gone_by_high : (x y : CpuView) (key : Key) (t n : ℕ) → n ≢ key.name.high → IsPeekingAt x key (AtNumber t) → HasPeekedHigh x n y → HasVisitedByLoads x t 0 false y
+gone_by_high x y key t n other may told q is = subst (λ (p : SearchPlace). HasComeTo x q (Goes p) y) (high_differs key t n other) (high_step x y key t n q may is told)
 
 -- where the last word of the name leads
 name_place : (key : Key) (t n k h l : ℕ) → word_place key (AtLow t n k h) l ≡ Goes (after_visit t n (are_words_of key k h l))
@@ -91,6 +118,14 @@ visited_by_loads x a b c y key t n k h l may first second third fourth q is =
     subst (λ (p : PeekPlace). HasComeTo c q3 p y) (name_place key t n k h l) (word_step c y key (AtLow t n k h) l q3 m3 (under_way b c (Some q3) s3) fourth) in
     come_on x c y q (Goes (AtLow t n k h)) (Goes (after_visit t n (are_words_of key k h l)))
     (come_on x b c q (Goes (AtHigh t n k)) (Goes (AtLow t n k h)) (come_on x a b q (Goes (AtKind t n)) (Goes (AtHigh t n k)) s1 s2) s3) s4
+
+-- the visit after the first word
+pub visited_after : (x a y : CpuView) (key : Key) (t n m : ℕ) (b : Bool) → n ≡ key.name.high → IsPeekingAt x key (AtNumber t) → HasPeekedHigh x n a → HasVisitedByLoads a t m b y
+    → HasVisitedByLoads x t m b y
+visited_after x a y key t n m b same may told onward q is =
+    let first = stays_step x a key t n q same may is told in
+    let q1 = peek_at q (Goes (AtNumber t)) in
+    come_on x a y q (Goes (AtNumber t)) (Goes (after_visit t m b)) first (onward q1 (under_way x a (Some q1) first))
 
 -- Along the links
 
@@ -280,8 +315,8 @@ abbrev pub GoesOnFrom : Key → CpuView → Result ℕ Seen → CpuView → Type
 GoesOnFrom key x r y = (q : Peeking) → x.peek ≡ Some q → GoesBy key x q r y
 
 pub both_gone : (key : Key) (x y w : CpuView) (link : ℕ) (r : Result ℕ Seen) → GoesOnFrom key x (Ok link) y → GoesOnFrom key y r w → GoesOnFrom key x r w
-both_gone key x y w link r first then q is =
-    let at = first q is in linked_on key x y w q link r at (then (peek_at q (link_place link)) (under_way x y (Some (peek_at q (link_place link))) at.come))
+both_gone key x y w link r first onward q is =
+    let at = first q is in linked_on key x y w q link r at (onward (peek_at q (link_place link)) (under_way x y (Some (peek_at q (link_place link))) at.come))
 
 -- the entry of the next link
 pub next_entry : (key : Key) (x y : CpuView) (link next : ℕ) → IsAtEntry x key link → GoesOnFrom key x (Ok next) y → (next ≡ 0 → ⊥) → IsAtEntry y key next

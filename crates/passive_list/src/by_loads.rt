@@ -223,8 +223,37 @@ fn go_by_one(
     Ok(steps::peek_link(words, seat, cpu, link))
 }
 
-/// Loads the number, the kind and the name of a slot. Returns the number, and whether kind and name are those sought.
+/// Loads the first half of the name in a slot, and only if it is that of the name sought the number, the kind and the name. Returns the number,
+/// and whether kind and name are those sought; if not, the number says nothing.
+#[inline(always)]
 fn visit_by_loads(
+    words: &Words,
+    seat: &mut CpuSeat,
+    cpu: u8,
+    slot: usize,
+    kind: Kind,
+    name: Name,
+) -> (u64, bool)
+    requires table { seat.old.table ≡ words.now.table }
+    requires cpu { (cpu < MOST_CPUS) × (seat.old.view.id ≡ cpu) }
+    requires slot { (slot < MOST_SLOTS) × (slot < seat.old.view.settings.slots) }
+    requires may { IsPeekingAt seat.old.view (key_with kind name) (AtNumber slot) }
+    ensures table { seat.new.table ≡ seat.old.table }
+    ensures change { HasVisitedByLoads seat.old.view slot result.0 result.1 seat.new.view }
+    ensures known_log { seat.new.known_log ≡ seat.old.known_log }
+    ensures log { GoesOnBy (IsPeek cpu) seat.old.log seat.new.log }
+{
+    let (sought, _) = name.words();
+    let high = steps::peek_high(words, seat, cpu, slot);
+    if high == sought {
+        return compare_by_loads(words, seat, cpu, slot, kind, name);
+    }
+    (0, false)
+}
+
+/// Loads the number, the kind and the name of a slot. Returns the number, and whether kind and name are those sought.
+#[inline(always)]
+fn compare_by_loads(
     words: &Words,
     seat: &mut CpuSeat,
     cpu: u8,

@@ -24,7 +24,7 @@ use registry_values::{Entry, Kind, MOST_CPUS, MOST_SLOTS, Name, Record};
 /// 2. Each entry in the row was live at some point from what this CPU had seen at the call to what it has seen at the return.
 /// 3. Each of them keeps its slot until this section ends.
 ///
-/// With n entries on the list there are 6 n + 1 loads. No contract counts them.
+/// With n entries in the row there are 6 n + 1 loads (`log` of `HasWalked`).
 pub fn walk<D: Domain>(words: &Words, cpu: &mut Cpu<D>, row: &mut [Entry; MOST_SLOTS]) -> usize
     requires words { AreWordsOf words.now D.table D.settings }
     requires inside { cpu.old.view.begin ≢ None }

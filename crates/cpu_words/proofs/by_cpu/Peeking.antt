@@ -1,5 +1,5 @@
 -- Lookups by loads alone, on the words.
-use Rattle.std.proofs.Common.{◌≡◌, inl, inr, ℕ, zero, suc, ◌≤◌, ◌<◌, nat_lt, List, [], length, take, get_or, set, Option, Some, None, is_none, Bool, true, false, refl, sym, ap, ◌∙◌, subst, arith, get_or-set_same, get_or-set_other}
+use Rattle.std.proofs.Common.{◌≡◌, inl, inr, ℕ, zero, suc, ◌≤◌, ◌<◌, ◌==◌, ◌&&◌, if◌then◌else◌, nat_lt, List, [], length, take, get_or, set, Option, Some, None, is_none, Bool, true, false, refl, sym, ap, ◌∙◌, subst, arith, get_or-set_same, get_or-set_other}
 use Rattle.std.proofs.lemmas.Bool.{and_from, lt-ltb}
 use Rattle.std.proofs.lemmas.Option.{same_Some}
 use Rattle.std.specs.Prelude.{slice_index}
@@ -18,7 +18,7 @@ use Rattle.protocol.proofs.keeps.Searching.{head_ahead, key_from_words, key_diff
 use Rattle.protocol.proofs.slots.Occupied.{in_within}
 use Rattle.cpu_words.specs.Common.{CpuView, View, Keeper, Cpu, head_word, changes_word, next_of, record_of, index, CpuOwn, own_of, cpu_view, depth_of, CpuShown, ChangesShow, StaysAt, Good, Ruled, GoesOn, did, Makes, CpuMay}
 use Rattle.cpu_words.specs.Common.{IsAtWord, PeekPlace, Goes, Finds, Misses, Peeking, PeekHolds, PeekShows, MayPeek, peek_at, HasPeeked, HasBegunPeek, link_place, HasPeekedLink, place_after, word_place}
-use Rattle.cpu_words.specs.Common.{HasPeekedWord, PeekAnswers, HasEndedPeek}
+use Rattle.cpu_words.specs.Common.{HasPeekedHigh, HasPeekedWord, high_place, PeekAnswers, HasEndedPeek}
 use Rattle.cpu_words.proofs.shown.Passes.{prefix_longer, take_whole, taken_is_prefix}
 use Rattle.cpu_words.proofs.shown.Peeks.{peek_longer}
 use Rattle.cpu_words.proofs.shown.Seeing.{Seen, seen_of}
@@ -259,14 +259,17 @@ word_holds g from key (AtValue s n) t k m at was each =
     let same : was.0 ≡ entry_with key s n m = λ i. record { number = sym was.2 i; slot = was.1.at i; rec = record { kind = (sym was.3 i).kind; name = (sym was.3 i).name; value = value i } } in
     (subst (StandsOn g.history from (length g.history) s) same was.1, refl)
 
-one_place : (p r : SearchPlace) → Goes p ≡ Goes r → p ≡ r
-one_place p r e = cc
+-- the word k of the slot t, as the entry has it, leads from what is right at the place p to what is right
+abbrev Follows : SearchPlace → ℕ → ℕ → (Key → ℕ → PeekPlace) → Type 0
+Follows p t k after = (g : State) (from : ℕ) (key : Key) (m : ℕ) → PlaceHolds g.history from (length g.history) key p
+    → ((e : Entry) → StandsOn g.history from (length g.history) t e → word (words_of e) k ≡ m) → PeekHolds g.history from key (after key m)
 
-peek_word_at : (z : Settings) (x : CpuView) (p : SearchPlace) (t k : ℕ) → t < x.settings.slots → k < 5 → MayPeek x p → IsAtWord p t k
-    → CpuMay z x (index (record_of t k)) (λ n. n) (λ n. did (Peek x.id (Field t k)) (Word n)) (λ v n y. Makes (Peek x.id (Field t k)) (Word n) (Cpu v) (Cpu y) × HasPeekedWord v n y)
-peek_word_at z x p t k within five may there s r i at fits =
+-- the peek loads the word k of the slot t, and goes to the place that `after` tells
+loads_record : (z : Settings) (s : Table ℕ View) (r : Ruled z s) (i : ℕ) (x : CpuView) (p : SearchPlace) (t k : ℕ) (after : Key → ℕ → PeekPlace) → get_elem? s.views i ≡ some (Cpu x)
+    → t < x.settings.slots → k < 5 → (may : MayPeek x p) → Follows p t k after
+    → HasLoaded z s r i x (Field t k) (index (record_of t k)) (slice_index s.words (index (record_of t k))) (Some (peek_at may.peek (after may.peek.key (slice_index s.words (index (record_of t k))))))
+loads_record z s r i x p t k after at within five may follows =
     let g = r.g in
-    let on = r.good.holds in
     let q = may.peek in
     let m = slice_index s.words (index (record_of t k)) in
     let had : CpuShown g x = (r.shows.fits i (Cpu x) at).1 in
@@ -275,13 +278,22 @@ peek_word_at z x p t k within five may there s r i at fits =
     let found : m ≡ word (row_at g.rows t) k = r.words.at (record_of t k) (lt, five) in
     let shared : shared_word g (Field t k) ≡ Some m = rw (lt-ltb t g.settings.slots lt, lt-ltb k 5 five) (ap Some (sym found)) in
     let was = shown_peek g x q had may.under_way in
-    let counted = counted_in z s r in
-    let holds : q.number ≡ g.changes → PeekHolds g.history q.from q.key (word_place q.key p m) = λ same.
+    let holds : q.number ≡ g.changes → PeekHolds g.history q.from q.key (after q.key m) = λ same.
     let right = was.2 same in
-    word_holds g q.from q.key p t k m there (subst (PeekHolds g.history q.from q.key) may.place right.1) (λ e stands.
-    let stays = slot_stays g q.number q.from t e r.good counted same right.0 was.1 stands in
-    ap (λ (w : RecordWords). word w k) (sym (on.rows t e stays.here).0) ∙ sym found) in
-    let done = loads_word z s r i x (Field t k) (index (record_of t k)) m (Some (peek_at q (word_place q.key p m))) at may.search refl shared (was.0, was.1, λ same. ((was.2 same).0, holds same)) in
+    follows g q.from q.key m (subst (PeekHolds g.history q.from q.key) may.place right.1) (λ e stands.
+    let stays = slot_stays g q.number q.from t e r.good (counted_in z s r) same right.0 was.1 stands in
+    ap (λ (w : RecordWords). word w k) (sym (r.good.holds.rows t e stays.here).0) ∙ sym found) in
+    loads_word z s r i x (Field t k) (index (record_of t k)) m (Some (peek_at q (after q.key m))) at may.search refl shared (was.0, was.1, λ same. ((was.2 same).0, holds same))
+
+one_place : (p r : SearchPlace) → Goes p ≡ Goes r → p ≡ r
+one_place p r e = cc
+
+peek_word_at : (z : Settings) (x : CpuView) (p : SearchPlace) (t k : ℕ) → t < x.settings.slots → k < 5 → MayPeek x p → IsAtWord p t k
+    → CpuMay z x (index (record_of t k)) (λ n. n) (λ n. did (Peek x.id (Field t k)) (Word n)) (λ v n y. Makes (Peek x.id (Field t k)) (Word n) (Cpu v) (Cpu y) × HasPeekedWord v n y)
+peek_word_at z x p t k within five may there s r i at fits =
+    let q = may.peek in
+    let m = slice_index s.words (index (record_of t k)) in
+    let done = loads_record z s r i x p t k (λ key n. word_place key p n) at within five may (λ g from key n was each. word_holds g from key p t k n there was each) in
     let told : HasPeekedWord x m done.view = λ u r is place.
     let one : q ≡ u = same_Some q u (sym may.under_way ∙ is) in
     let here : p ≡ r = one_place p r (sym may.place ∙ ap (λ (v : Peeking). v.place) one ∙ place) in
@@ -293,6 +305,51 @@ pub peek_word_may : (z : Settings) (x : CpuView) (c : ℕ) (p : SearchPlace) (t 
 peek_word_may z x c p t k id within five may there =
     subst (λ d. CpuMay z x (index (record_of t k)) (λ n. n) (λ n. did (Peek d (Field t k)) (Word n)) (λ v n y. Makes (Peek d (Field t k)) (Word n) (Cpu v) (Cpu y) × HasPeekedWord v n y)) id
     (peek_word_at z x p t k within five may there)
+
+-- The first word of a name
+
+nothing_less : (b : Bool) → (b && false) ≡ false
+nothing_less true = refl
+nothing_less false = refl
+
+-- a name with another high word is another name
+other_name : (key : Key) (k h l : ℕ) → (h == key.name.high) ≡ false → are_words_of key k h l ≡ false
+other_name key k h l differs = ap (λ b. k == kind_word key.kind && (b && l == key.name.low)) differs ∙ nothing_less (k == kind_word key.kind)
+
+high_holds : (g : State) (from : ℕ) (key : Key) (t m : ℕ) → PlaceHolds g.history from (length g.history) key (AtNumber t)
+    → ((e : Entry) → StandsOn g.history from (length g.history) t e → word (words_of e) 2 ≡ m) → PeekHolds g.history from key (Goes (high_place key t m))
+high_holds g from key t m was each = by (m == key.name.high) refl
+  where
+    e : Entry
+    e = was.0
+
+    high : e.rec.name.high ≡ m
+    high = each e was.1
+
+    by : (b : Bool) → (m == key.name.high) ≡ b → PeekHolds g.history from key (Goes (if b then AtNumber t else AtNext t))
+    by true is = was
+    by false is = (e, was.1, key_differs g from (length g.history) t key e was.1 was.2 (other_name key (kind_word e.rec.kind) e.rec.name.high e.rec.name.low (ap (λ n. n == key.name.high) high ∙ is)))
+
+one_slot : (t v : ℕ) → Goes (AtNumber t) ≡ Goes (AtNumber v) → t ≡ v
+one_slot t v e = cc
+
+peek_high_at : (z : Settings) (x : CpuView) (t : ℕ) → t < x.settings.slots → MayPeek x (AtNumber t)
+    → CpuMay z x (index (record_of t 2)) (λ n. n) (λ n. did (Peek x.id (Field t 2)) (Word n)) (λ v n y. Makes (Peek x.id (Field t 2)) (Word n) (Cpu v) (Cpu y) × HasPeekedHigh v n y)
+peek_high_at z x t within may s r i at fits =
+    let q = may.peek in
+    let m = slice_index s.words (index (record_of t 2)) in
+    let done = loads_record z s r i x (AtNumber t) t 2 (λ key n. Goes (high_place key t n)) at within (omega arith) may (λ g from key n was each. high_holds g from key t n was each) in
+    let told : HasPeekedHigh x m done.view = λ u v is place.
+    let one : q ≡ u = same_Some q u (sym may.under_way ∙ is) in
+    let here : t ≡ v = one_slot t v (sym may.place ∙ ap (λ (w : Peeking). w.place) one ∙ place) in
+    subst (λ (a : Peeking × ℕ). HasPeeked x (Some (peek_at a.0 (Goes (high_place a.0.key a.1 m)))) done.view) (λ j. (one j, here j)) done.is in
+    (Cpu done.view, done.goes_on, (refl, (done.made, told)))
+
+pub peek_high_may : (z : Settings) (x : CpuView) (c t : ℕ) → x.id ≡ c → t < x.settings.slots → MayPeek x (AtNumber t)
+    → CpuMay z x (index (record_of t 2)) (λ n. n) (λ n. did (Peek c (Field t 2)) (Word n)) (λ v n y. Makes (Peek c (Field t 2)) (Word n) (Cpu v) (Cpu y) × HasPeekedHigh v n y)
+peek_high_may z x c t id within may =
+    subst (λ d. CpuMay z x (index (record_of t 2)) (λ n. n) (λ n. did (Peek d (Field t 2)) (Word n)) (λ v n y. Makes (Peek d (Field t 2)) (Word n) (Cpu v) (Cpu y) × HasPeekedHigh v n y)) id
+    (peek_high_at z x t within may)
 
 -- The end
 

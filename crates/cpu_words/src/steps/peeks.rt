@@ -2,11 +2,11 @@
 //! of changes that it loads last is the one that it loaded first.
 
 ghost use Rattle.std.specs.Prelude.{◌≡◌, ◌<◌, ◌≤◌, ◌-◌, None};
-ghost use Rattle.cpu_words.specs.Types.{Peek, Changes, Head, Link, Field, Word, SearchPlace, AtHead, AtNext};
+ghost use Rattle.cpu_words.specs.Types.{Peek, Changes, Head, Link, Field, Word, SearchPlace, AtHead, AtNext, AtNumber};
 ghost use Rattle.cpu_words.specs.declared.view.View.TheVariants.{Cpu};
 ghost use Rattle.cpu_words.specs.Steps.{SeatMakes};
 ghost use Rattle.cpu_words.specs.Searching.{IsAtWord, key_with};
-ghost use Rattle.cpu_words.specs.Peeks.{HasBegunPeek, HasEndedPeek, HasPeekedLink, HasPeekedWord, MayPeek};
+ghost use Rattle.cpu_words.specs.Peeks.{HasBegunPeek, HasEndedPeek, HasPeekedHigh, HasPeekedLink, HasPeekedWord, MayPeek};
 
 use crate::law::Words;
 use crate::layout::{CHANGES, HEAD, linked_place, record_place};
@@ -68,6 +68,21 @@ pub fn peek_word(words: &Words, seat: &mut CpuSeat, cpu: u8, slot: usize, k: u8)
 {
     let event = Event::Peek(cpu, SharedWord::Field(slot as u8, k));
     by_cpu::load::<Brand>(words, seat, record_place(slot, k), event)
+}
+
+/// The lookup of CPU `cpu` loads the high word of the name in `slot`, before the slot's other words. Returns it. If the name sought has another
+/// one, the lookup goes by the entry and is at its link; else it is still at its number.
+/// Condition: the seat is that CPU's, its lookup by loads is at the number of that slot, and the slot is one of the table's.
+pub fn peek_high(words: &Words, seat: &mut CpuSeat, cpu: u8, slot: usize) -> u64
+    requires table { seat.old.table ≡ words.now.table }
+    requires cpu { (cpu < MOST_CPUS) × (seat.old.view.id ≡ cpu) }
+    requires slot { (slot < MOST_SLOTS) × (slot < seat.old.view.settings.slots) }
+    requires may { MayPeek seat.old.view (AtNumber slot) }
+    ensures step { SeatMakes Cpu (Peek cpu (Field slot 2)) (Word result) seat.old seat.new }
+    ensures change { HasPeekedHigh seat.old.view result seat.new.view }
+{
+    let event = Event::Peek(cpu, SharedWord::Field(slot as u8, 2));
+    by_cpu::load::<Brand>(words, seat, record_place(slot, 2), event)
 }
 
 /// CPU `cpu` ends its lookup by loads, and loads the count of changes. Returns it: if it is what `begin_peek` returned, the lookup's answer

@@ -1,38 +1,30 @@
--- The words of a slot, one after the other.
-use Rattle.std.proofs.Common.{refl, sym, subst, Bool}
+-- The first word of the name, and then the slot's words.
+use Rattle.std.proofs.Common.{sym, ◌∙◌}
 use Rattle.cpu_words.specs.Common.{key_with}
-use Rattle.passive_list.specs.Types.{AtNumber, AtKind, AtHigh, AtLow}
-use Rattle.passive_list.specs.Common.{HasVisitedByLoads}
-use Rattle.passive_list.proofs.ByLoads.{at_kind, at_high, at_low, four_peeks, may_peek, visited_by_loads}
+use Rattle.passive_list.specs.Types.{Field}
+use Rattle.passive_list.specs.Common.{IsPeek}
+use Rattle.passive_list.proofs.Logs.{goes_on}
+use Rattle.passive_list.proofs.ByLoads.{gone_by_high, may_peek, one_peek, still_at, visited_after}
 use Rattle.passive_list.proofs.by_loads.visit_by_loads.Goals as goal
 
-pub peek_word-number-requires-clause-may : goal.peek_word-number-requires-clause-may
-peek_word-number-requires-clause-may c = (AtNumber c.args.slot, may_peek _ (key_with c.args.kind c.args.name) _ c.requires.may, (refl, refl))
+pub peek_high-high-requires-clause-may : goal.peek_high-high-requires-clause-may
+peek_high-high-requires-clause-may c = may_peek _ (key_with c.args.kind c.args.name) _ c.requires.may
 
-pub peek_word-found-requires-clause-may : goal.peek_word-found-requires-clause-may
-peek_word-found-requires-clause-may c =
-    let key = key_with c.args.kind c.args.name in
-    (AtKind c.args.slot c.peek_word-number.result, may_peek _ key _ (at_kind _ _ key _ _ c.requires.may c.peek_word-number.ensures.change), (refl, refl))
+pub compare_by_loads-requires-clause-may : goal.compare_by_loads-requires-clause-may
+compare_by_loads-requires-clause-may c =
+    still_at _ _ (key_with c.args.kind c.args.name) _ _ (c.if-high-sought.true ∙ c.words-sought.ensures.high) c.requires.may c.peek_high-high.ensures.change
 
-pub peek_word-high-requires-clause-may : goal.peek_word-high-requires-clause-may
-peek_word-high-requires-clause-may c =
-    let key = key_with c.args.kind c.args.name in
-    let kind = at_kind _ _ key _ _ c.requires.may c.peek_word-number.ensures.change in
-    (AtHigh c.args.slot c.peek_word-number.result c.peek_word-found.result, may_peek _ key _ (at_high _ _ key _ _ _ kind c.peek_word-found.ensures.change), (refl, refl))
+pub returns-then-high-sought-clause-change : goal.returns-then-high-sought-clause-change
+returns-then-high-sought-clause-change c =
+    visited_after _ _ _ (key_with c.args.kind c.args.name) _ _ _ _ (c.if-high-sought.true ∙ c.words-sought.ensures.high) c.requires.may c.peek_high-high.ensures.change c.compare_by_loads.ensures.change
 
-pub peek_word-low-requires-clause-may : goal.peek_word-low-requires-clause-may
-peek_word-low-requires-clause-may c =
-    let key = key_with c.args.kind c.args.name in
-    let kind = at_kind _ _ key _ _ c.requires.may c.peek_word-number.ensures.change in
-    let high = at_high _ _ key _ _ _ kind c.peek_word-found.ensures.change in
-    (AtLow c.args.slot c.peek_word-number.result c.peek_word-found.result c.peek_word-high.result, may_peek _ key _ (at_low _ _ key _ _ _ _ high c.peek_word-high.ensures.change), (refl, refl))
+pub returns-then-high-sought-clause-log : goal.returns-then-high-sought-clause-log
+returns-then-high-sought-clause-log c =
+    goes_on (IsPeek c.args.cpu) _ _ _ (one_peek c.args.cpu (Field c.args.slot 2) c.peek_high-high.result _ _ c.peek_high-high.ensures.step.log) c.compare_by_loads.ensures.log
 
 pub returns-clause-change : goal.returns-clause-change
 returns-clause-change c =
-    let all = visited_by_loads _ _ _ _ _ (key_with c.args.kind c.args.name) _ _ _ _ _ c.requires.may
-    c.peek_word-number.ensures.change c.peek_word-found.ensures.change c.peek_word-high.ensures.change c.peek_word-low.ensures.change in
-    subst (λ (b : Bool). HasVisitedByLoads c.args.seat.now.view c.args.slot c.peek_word-number.result b c.peek_word-low.new.seat.view) (sym c.are_words_of.ensures) all
+    gone_by_high _ _ (key_with c.args.kind c.args.name) _ _ (λ is. c.if-high-sought.false (is ∙ sym c.words-sought.ensures.high)) c.requires.may c.peek_high-high.ensures.change
 
 pub returns-clause-log : goal.returns-clause-log
-returns-clause-log c = four_peeks c.args.cpu _ _ _ _ c.peek_word-number.result c.peek_word-found.result c.peek_word-high.result c.peek_word-low.result _ _ _ _ _
-    c.peek_word-number.ensures.step.log c.peek_word-found.ensures.step.log c.peek_word-high.ensures.step.log c.peek_word-low.ensures.step.log
+returns-clause-log c = one_peek c.args.cpu (Field c.args.slot 2) c.peek_high-high.result _ _ c.peek_high-high.ensures.step.log
