@@ -98,7 +98,7 @@ fn look_by_loads(
     if first == last { found } else { None }
 }
 
-/// Goes from the head along the links. It tests once for four entries how far it has gone: a test for each makes long lists slow.
+/// Goes from the head along the links.
 fn go_by_loads(
     words: &Words,
     seat: &mut CpuSeat,
@@ -115,14 +115,14 @@ fn go_by_loads(
     ensures known_log { seat.new.known_log ≡ seat.old.known_log }
     ensures log { GoesOnBy (IsPeek cpu) seat.old.log seat.new.log }
 {
-    let mut left = MOST_SLOTS / 4 + 1;
+    let mut left = MOST_SLOTS;
     let mut link = steps::peek_head(words, seat, cpu);
     while link != 0 {
         if left == 0 {
             return None;
         }
         left -= 1;
-        match go_by_four(words, seat, cpu, link, kind, name) {
+        match go_by_one(words, seat, cpu, link, kind, name) {
             Ok(next) => link = next,
             Err(seen) => return Some(Some(seen)),
         }
@@ -130,67 +130,7 @@ fn go_by_loads(
     Some(None)
 }
 
-/// Goes by four entries from the link on, or to the end. Returns the next link, or the words of the one sought as an `Err`.
-#[inline(always)]
-fn go_by_four(
-    words: &Words,
-    seat: &mut CpuSeat,
-    cpu: u8,
-    link: u64,
-    kind: Kind,
-    name: Name,
-) -> Result<u64, Seen>
-    requires table { seat.old.table ≡ words.now.table }
-    requires cpu { (cpu < MOST_CPUS) × (seat.old.view.id ≡ cpu) }
-    requires may { IsAtEntry seat.old.view (key_with kind name) link }
-    ensures table { seat.new.table ≡ seat.old.table }
-    ensures id { seat.new.view.id ≡ seat.old.view.id }
-    ensures change { (q : Peeking) → seat.old.view.peek ≡ Some q → GoesBy (key_with kind name) seat.old.view q result seat.new.view }
-    ensures is_shown { IsShownCpu seat.new.view }
-    ensures known_log { seat.new.known_log ≡ seat.old.known_log }
-    ensures log { GoesOnBy (IsPeek cpu) seat.old.log seat.new.log }
-{
-    let next = match go_by_two(words, seat, cpu, link, kind, name) {
-        Ok(next) => next,
-        Err(seen) => return Err(seen),
-    };
-    if next == 0 {
-        return Ok(next);
-    }
-    go_by_two(words, seat, cpu, next, kind, name)
-}
-
-/// The same of two entries.
-#[inline(always)]
-fn go_by_two(
-    words: &Words,
-    seat: &mut CpuSeat,
-    cpu: u8,
-    link: u64,
-    kind: Kind,
-    name: Name,
-) -> Result<u64, Seen>
-    requires table { seat.old.table ≡ words.now.table }
-    requires cpu { (cpu < MOST_CPUS) × (seat.old.view.id ≡ cpu) }
-    requires may { IsAtEntry seat.old.view (key_with kind name) link }
-    ensures table { seat.new.table ≡ seat.old.table }
-    ensures id { seat.new.view.id ≡ seat.old.view.id }
-    ensures change { (q : Peeking) → seat.old.view.peek ≡ Some q → GoesBy (key_with kind name) seat.old.view q result seat.new.view }
-    ensures is_shown { IsShownCpu seat.new.view }
-    ensures known_log { seat.new.known_log ≡ seat.old.known_log }
-    ensures log { GoesOnBy (IsPeek cpu) seat.old.log seat.new.log }
-{
-    let next = match go_by_one(words, seat, cpu, link, kind, name) {
-        Ok(next) => next,
-        Err(seen) => return Err(seen),
-    };
-    if next == 0 {
-        return Ok(next);
-    }
-    go_by_one(words, seat, cpu, next, kind, name)
-}
-
-/// The same of one entry.
+/// Goes by the entry of a link. Returns the next link, or the words of the entry as an `Err` if it is the one sought.
 #[inline(always)]
 fn go_by_one(
     words: &Words,

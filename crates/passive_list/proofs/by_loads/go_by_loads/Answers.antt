@@ -17,20 +17,20 @@ loop-link-init c = record {
   at = going_begun (key_with c.args.kind c.args.name) _ _ _ c.requires.may c.peek_head-link.ensures.change;
 }
 
-pub go_by_four-requires-clause-may : goal.go_by_four-requires-clause-may
-go_by_four-requires-clause-may c = entry_at (key_with c.args.kind c.args.name) _ _ _ c.loop-link-test.true c.loop-link.invariant.at
+pub go_by_one-requires-clause-may : goal.go_by_one-requires-clause-may
+go_by_one-requires-clause-may c = entry_at (key_with c.args.kind c.args.name) _ _ _ c.loop-link-test.true c.loop-link.invariant.at
 
 pub returns-in-Err-clause-change : goal.returns-in-Err-clause-change
 returns-in-Err-clause-change c = come_upon (key_with c.args.kind c.args.name) _ _ _ c.loop-link.link c.in-Err.seen c.loop-link.invariant.at c.in-Err.ensures.change
 
 pub returns-in-Err-clause-log : goal.returns-in-Err-clause-log
-returns-in-Err-clause-log c = goes_on (IsPeek c.args.cpu) _ _ _ c.loop-link.invariant.log c.go_by_four.ensures.log
+returns-in-Err-clause-log c = goes_on (IsPeek c.args.cpu) _ _ _ c.loop-link.invariant.log c.go_by_one.ensures.log
 
 pub loop-link-preserved : goal.loop-link-preserved
 loop-link-preserved c = record {
-  table = c.go_by_four.ensures.table ∙ c.loop-link.invariant.table;
-  is_shown = c.go_by_four.ensures.is_shown;
-  known_log = c.go_by_four.ensures.known_log ∙ c.loop-link.invariant.known_log;
-  log = goes_on (IsPeek c.args.cpu) _ _ _ c.loop-link.invariant.log c.go_by_four.ensures.log;
+  table = c.go_by_one.ensures.table ∙ c.loop-link.invariant.table;
+  is_shown = c.go_by_one.ensures.is_shown;
+  known_log = c.go_by_one.ensures.known_log ∙ c.loop-link.invariant.known_log;
+  log = goes_on (IsPeek c.args.cpu) _ _ _ c.loop-link.invariant.log c.go_by_one.ensures.log;
   at = going_on (key_with c.args.kind c.args.name) _ _ _ _ c.in-Ok.next c.loop-link-test.true c.loop-link.invariant.at c.in-Ok.ensures.change;
 }

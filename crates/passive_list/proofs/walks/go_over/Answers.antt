@@ -1,10 +1,10 @@
 -- One slot on the list after the other.
 use Rattle.std.proofs.Common.{◌≡◌, ◌≤◌, suc, ◌+◌, ◌-◌, ◌<◌, [], ◌++◌, length, take, set, refl, sym, ap, ◌∙◌, subst, arith, length-set, append_assoc}
 use Rattle.std.proofs.lemmas.List.{length-take-le}
-use Rattle.passive_list.specs.Types.{Iface, Key, Seek, LoadLink, Done, MOST_SLOTS}
+use Rattle.passive_list.specs.Types.{Entry, Iface, Key, Seek, LoadLink, Done, MOST_SLOTS}
 use Rattle.cpu_words.specs.Common.{did, HasFollowed, cpu_after_seek, search_for, key_with, link_answer}
 use Rattle.cpu_words.proofs.shown.KeepersShown.{step_is_shown}
-use Rattle.passive_list.specs.Common.{nobody, HasGoneOverBy, IsGoingOver}
+use Rattle.passive_list.specs.Common.{nobody, HasGoneByOne, HasGoneOverBy, IsGoingOver}
 use Rattle.passive_list.proofs.GoingOver.{going_begins, on_slot, slot_within, may_go_by, may_go_on, has_room, one_more, rest_stays, few_gone_over, going_id, slot_id, gone_over}
 use Rattle.passive_list.proofs.Searches.{walk_begun, one_gone_by, walk_over}
 use Rattle.passive_list.proofs.walks.go_over.Goals.{After-go_by-entry}
@@ -76,9 +76,11 @@ loop-link-preserved c =
     let row = c.loop-link.row in
     let count = c.loop-link.count in
     let m = c.load_link-link.result in
-    let e = c.go_by-entry.result in
+    let e : Entry = c.put.new.place in
     let few = room v in
-    let more = one_more x _ _ w row count _ m e (omega (arith, few, c.loop-link.invariant.size)) (on v) c.go_by-entry.ensures.change c.load_link-link.ensures.change in
+    let gone : HasGoneByOne c.loop-link.seat.view (c.loop-link.link - 1) e c.go_by-entry.new.seat.view =
+    subst (λ (e : Entry). HasGoneByOne c.loop-link.seat.view (c.loop-link.link - 1) e c.go_by-entry.new.seat.view) (sym c.put.ensures) c.go_by-entry.ensures.change in
+    let more = one_more x _ _ w row count _ m e (omega (arith, few, c.loop-link.invariant.size)) (on v) gone c.load_link-link.ensures.change in
     record {
       table = c.load_link-link.ensures.step.table ∙ c.go_by-entry.ensures.table ∙ c.loop-link.invariant.table;
       cpu = going_id x w (take (count + 1) (set row count e)) m more ∙ c.requires.cpu.1;
