@@ -30,7 +30,7 @@
 #include "client.h"
 #include "wrapped_heap.h"
 
-enum { SLOTS = 4, TRAP_FLAG = 0x100, PATIENCE = 5000, NEVER = 1000000, STAYING_VALUE = 77 };
+enum { SLOTS = 4, TRAP_FLAG = 0x100, PATIENCE = 5000, NEVER = 1000000, AT_ITS_END = NEVER - 1, STAYING_VALUE = 77 };
 
 /* The two threads, and the CPU of each. */
 enum { CHANGER, LOOKER, CPUS };
@@ -63,7 +63,7 @@ static registry_answer (*call)(struct registry_cpu *cpu, uint64_t kind, const st
 static const struct registry_name *sought;
 static unsigned stop_after = NEVER, steps, own_writes;
 static bool has_ended, over;
-/* How many instructions the last lookup had that went on to its end with a trap after each. */
+/* How many instructions a lookup has that nothing disturbs. One that finds nothing has fewer, and one that goes on in a section has more. */
 static unsigned longest;
 /* The registry as the last lookup saw it, as how many changes had been made; and by this call all lookups, those that entered a section, and those that
    kept a driver from being destroyed. */
@@ -233,7 +233,7 @@ static void look_up(void)
 		__asm__ volatile("pushfq; orq $0x100, (%%rsp); popfq" ::: "cc", "memory");
 	registry_answer answer = call(&cpus[LOOKER], REGISTRY_DRIVER, sought, &found);
 	__asm__ volatile("pushfq; andq $~0x100, (%%rsp); popfq" ::: "cc", "memory");
-	if (stop_after != NEVER && steps < stop_after)
+	if (stop_after == AT_ITS_END)
 		longest = steps;
 	steps = NEVER;
 	judge(from, begun, answer, &found);
@@ -310,7 +310,7 @@ static void stop_after_each(const struct registry_name *name, unsigned last, uns
 static void stop_everywhere(const struct registry_name *name)
 {
 	unsigned last = change(name, NEVER, NEVER, NEVER);
-	(void)change(name, last, last, NEVER - 1);
+	(void)change(name, last, last, AT_ITS_END);
 	for (unsigned after = 1; after <= longest; after++)
 		stop_after_each(name, last, after);
 	printf("%u writes, %u instructions: ", last, longest);

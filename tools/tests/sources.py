@@ -107,7 +107,7 @@ def event_table():
         Fault("another name of a step", page, ((STEP, "pub fn exit(", "pub fn leave("),)),
         Fault("another word in the table", page, (("docs/EVENTS.md", "The CPU begins a section", "The CPU ends a section"),)),
         Fault("another word in the second table", page, (("docs/EVENTS.md", "The keeper stores how many", "The keeper loads how many"),)),
-        Fault("another number of kinds", page, (("docs/EVENTS.md", "29 of the 31 kinds", "28 of the 31 kinds"),)),
+        Fault("another number of kinds", page, (("docs/EVENTS.md", "32 of the 34 kinds", "31 of the 34 kinds"),)),
         Fault("an event in the other table", page, (("tools/event-table.py", '("Count", "Peek")', '("Peek",)'),)),
     )
     tools = ["event-table.py", "contracts.py", "counts.py", "edits.py", "functions.py"]
