@@ -4,71 +4,59 @@
     tools/mutants.py [--only FILE[:LINE]].. [--sample N] [--seed N] [--jobs N] [--least N] [--to FILE] [--record FILE] [--again] [--tests WORD].. [--list]
 
 The code is clients/c/waiting.c, what is C of the archive, clients/netbsd/src/*.c and clients/rust/src/*.rs. tools/mutations.py has the rules. Each
-wrong body is built in a copy of the tree, and the tests that could see it run until one fails: those of the file's own library. A test comes early
-if it saw many other wrong bodies of the file, and takes little time. A body that the compiler makes the same code of isn't run.
+wrong body is built in a copy of the tree, and the tests of the file's own library run until one fails. A body that the compiler makes the same code of
+isn't run.
 
-- A test that fails runs a second time: one failure on a busy machine kills nothing.
-- A test hangs if it takes eight times as long as on the tree as it stands, and --least seconds (10). Time that it waits for a processor is left out.
-  Then the same test runs on the tree as it stands. If that passes, the body is killed, by time. If it doesn't, the machine is busy, and the body is
-  left untried.
+- **Which tests run.** In the layer, those that run a line of the statement that is wrong; tools/coverage.py finds them, and says what it assumes. If no test
+  runs the line, the wrong body is `not run`: a survivor, too. Where the wrong line has no code and is in no function, as in an enum, all tests run.
+- **In which order.** A test comes early if it saw many other wrong bodies of the file or one nearby, and takes little time.
+- **A test that fails** runs a second time: one failure on a busy machine kills nothing. Then it must pass on the tree as it stands, or the body is left
+  untried.
+- **A test hangs** if it takes three times as long as on the tree as it stands, and --least seconds (2). Time that it waits for a processor is left out.
+  Below ten seconds it runs a second time, too. If it passes on the tree as it stands, the body is killed, by time.
 
 `--only` takes the wrong bodies of a file, or of one line of it. `--sample` takes N of them by the seed (1 where none is given): the same share of
-each file. `--jobs` tries so many at a time (2). `--list` only says what they are, and what came of each.
+each file. `--jobs` tries so many at a time (2). Many tests of the layer sleep, so that twice as many as there are processors are faster still. `--list` only
+says what the wrong bodies are, and what came of each.
 
 The results go to --to (tools/out/mutants.txt), however the run ends, with the sum of what was tried. --record (clients/MUTANTS.txt) keeps what came
-of each wrong body, and the next run passes over it. `--again` tries survivors, and what was killed by time, anew. With `--tests` only tests run whose names begin with one
-of these words. What survives those is left for a run of all tests.
+of each wrong body, and the next run passes over it. `--again` tries survivors, and what was killed by time, anew. With `--tests` only tests run whose names
+begin with one of these words. What survives those is left for a run of all tests.
 
 clients/MUTANTS.md lists the survivors that are known, with the reason why each harms nobody. Where there is another one the status is 1.
 """
 import argparse
 import collections
-import contextlib
 import functools
 import hashlib
-import os
 import pathlib
 import queue
 import random
 import shutil
-import signal
-import subprocess
 import sys
 import tempfile
 import threading
-import time
 from concurrent.futures import ThreadPoolExecutor
 
 sys.dont_write_bytecode = True
 
-from mutations import changes
-from parts import ROOT, guard, of_session, running, stop_running
+from coverage import Coverage, Marks
+from lanes import COPIED, MOST_BYTES, Lane, Test, Tests, run
+from mutations import changes, lines_of
+from parts import ROOT, guard, stop_running
 from tried import Record, sum_of
 
-COPIED = ("clients", "bench", "crates/registry_c/include")
-# Where a lane keeps the programs of the tests as they are without a wrong body.
-STANDS = "stands"
 KNOWN = ROOT / "clients/MUTANTS.md"
 RECORD = ROOT / "clients/MUTANTS.txt"
 C_FLAGS = "STRICT=-std=c11 -D_POSIX_C_SOURCE=200809L -w"
 # Without what a debugger needs the same code is the same object, wherever its lines are.
 BARE = "CFLAGS=-O2 -g0"
-OUTCOMES = ("killed", "hung", "same code", "not built", "survived", "left", "busy")
+OUTCOMES = ("killed", "hung", "same code", "not built", "survived", "not run", "left", "busy")
+SURVIVED = ("survived", "not run")
 # So much of a line is shown.
 MOST_SHOWN = 120
-# What a program may write and take at most. Those with sanitizers reserve more memory than there is.
-MOST_BYTES = 1 << 32
-# A build takes at most so many seconds, as a test on the tree as it stands. On a wrong body a test may take --least and so many times what it took there.
-LONGEST, TIMES = 1200, 8
-# So many seconds after it was looked at a run is looked at again.
-LOOKS = 2
-# What it takes to build a test anew, in seconds: without sanitizers and with them.
-BUILDS, BUILDS_SANITIZED = 0.3, 1.2
-
 # A wrong body: its file, line and rule, the line or lines as they are and as they become, and the whole text of the file with it.
 Mutant = collections.namedtuple("Mutant", "file line rule old new text")
-# A test: its name, the command that builds it, the one that runs it, and how much memory it may take, if that is bounded.
-Test = collections.namedtuple("Test", "name build run memory", defaults=(MOST_BYTES,))
 # The ways in which the layer's Makefile builds its programs, and whether without sanitizers.
 WAYS = {"plain": True, "small": False, "busy": True, "late": False, "sanitized": False, "raced": False}
 # What runs under valgrind, as tools/test-netbsd.sh runs it.
@@ -81,52 +69,13 @@ PARTS = {
     "strings": {"names": [], "sanitized-names": []},
 }
 OBJECT = "mutant.o"
+# What runs other lines each time, by its threads, runs so often with marks.
+RUNS = 2
 # The programs of the bench that see the layer, with their words.
 BENCH = {"counts": [], "drivers": [], "finds": [], "refusals": [], "shortest": [], "named": [], "outcomes": ["1", "40"]}
 # A library: the files that are changed, its tests for one of them, and for C what compiles a file: the command and the object that it makes, for how the
 # names of the tests begin that run that code. Tests of another beginning are run where the code of the first differs.
 Library = collections.namedtuple("Library", "files tests compiled")
-
-
-def times(leader):
-    """For each thread of a session how long it ran, and how long it waited for a processor, in seconds."""
-    found = {}
-    for task in (task for pid in of_session(leader) for task in pathlib.Path(f"/proc/{pid}/task").glob("*")):
-        with contextlib.suppress(OSError, ValueError, IndexError):
-            found[task.name] = [int(it) / 1e9 for it in (task / "schedstat").read_text().split()[:2]]
-    return found
-
-
-def wait(process, seconds):
-    """Waits for a process; None where it took so many seconds, without those in which a thread of it waited for a processor, or ran so many."""
-    began, late, before = time.monotonic(), 0.0, {}
-    while time.monotonic() - began - late < seconds and sum(ran for ran, _ in before.values()) < seconds:
-        try:
-            return process.wait(LOOKS)
-        except subprocess.TimeoutExpired:
-            now = times(process.pid)
-            late += max((waited - before.get(task, (0.0, 0.0))[1] for task, (_, waited) in now.items()), default=0.0)
-            before = now
-    return None
-
-
-def run(words, folder, seconds, memory=None):
-    """Runs a command, and ends it with all that it started; its status, or None where the time was over, and what it said."""
-    environment = {it: text for it, text in os.environ.items() if it not in ("CARGO_TARGET_DIR", "REGISTRY_LIB_DIR")} | {"CARGO_BUILD_JOBS": "1"}
-    limits = ["prlimit", "--core=0", f"--fsize={MOST_BYTES}", *([f"--data={memory}"] if memory else [])]
-    with tempfile.TemporaryFile() as said:
-        process = subprocess.Popen([*limits, *words], cwd=folder, env=environment, stdin=subprocess.DEVNULL, stdout=said, stderr=said, start_new_session=True)
-        running.add(process.pid)
-        status = wait(process, seconds)
-        with contextlib.suppress(ProcessLookupError):
-            os.killpg(process.pid, signal.SIGKILL)
-        for pid in of_session(process.pid) if status is None else ():
-            with contextlib.suppress(ProcessLookupError):
-                os.kill(pid, signal.SIGKILL)
-        process.wait()
-        running.discard(process.pid)
-        said.seek(max(0, said.tell() - 4000))
-        return status, said.read().decode(errors="replace")
 
 
 def of_waiting(_):
@@ -145,6 +94,7 @@ def of_part(file):
 
 
 MAKES_LAYER = ["make", "-s", "-C", "clients/netbsd", C_FLAGS, BARE]
+MAKES_BENCH = ["make", "-s", "-C", "clients/bench", "WARNINGS=-w", BARE]
 
 
 @functools.cache
@@ -154,21 +104,23 @@ def programs(way):
 
 
 def of_bench(file):
-    """The bench's programs, in which the layer's calls run in every order; some files it has something else for."""
+    """The bench's programs, in which the layer's calls run in every order; some files it has something else for. Each runs alike each time."""
     if pathlib.Path(file).stem in ("lock", "pause", "softint_thread"):
         return []
-    makes = ["make", "-s", "-C", "clients/bench", "WARNINGS=-w", BARE]
-    return [Test(f"bench/{it}", [*makes, f"../out/bench/plain/{it}"], [f"clients/out/bench/plain/{it}", *words]) for it, words in BENCH.items()]
+    folder = "out/bench/plain"
+    return [Test(f"bench/{it}", [*MAKES_BENCH, f"../{folder}/{it}"], [f"clients/{folder}/{it}", *words], MOST_BYTES,
+                 Marks(f"bench/{it}", f"clients/{folder}/layer-{{}}.o", 1)) for it, words in BENCH.items()]
 
 
 def of_layer(file):
     """The layer's programs, in each way in which the Makefile builds them, and the bench's."""
     found = of_bench(file)
     for way, is_bare in WAYS.items():
-        names, folder, memory = programs(way), f"out/netbsd/{way}", MOST_BYTES if is_bare else None
-        found += [Test(f"{way}/{it}", [*MAKES_LAYER, f"../{folder}/{it}"], [f"clients/{folder}/{it}"], memory) for it in names]
-    return found + [Test(f"watched/{it}", [*MAKES_LAYER, f"../out/netbsd/plain/{it}"], [*VALGRIND, f"clients/out/netbsd/plain/{it}", *words], None)
-                    for it, words in WATCHED.items()]
+        folder, memory = f"out/netbsd/{way}", MOST_BYTES if is_bare else None
+        found += [Test(f"{way}/{it}", [*MAKES_LAYER, f"../{folder}/{it}"], [f"clients/{folder}/{it}"], memory, Marks(it, f"clients/{folder}/{{}}.o", RUNS))
+                  for it in programs(way)]
+    return found + [Test(f"watched/{it}", [*MAKES_LAYER, f"../out/netbsd/plain/{it}"], [*VALGRIND, f"clients/out/netbsd/plain/{it}", *words], None,
+                         Marks(it, "", 0)) for it, words in WATCHED.items()]
 
 
 def of_crate(file):
@@ -224,6 +176,17 @@ def mutants_of(file):
     return list(dict.fromkeys(found))
 
 
+@functools.cache
+def lines_changed(file):
+    """For each wrong body of a file the first and the last line of the statements that it changes."""
+    text, found = (ROOT / file).read_text(), {}
+    of_text = changes(text)
+    for change, lines in zip(of_text, lines_of(text, of_text)):
+        changed = text[:change.start] + change.new + text[change.end:]
+        found[changed] = [*found.get(changed, ()), *lines]
+    return {it: (min(lines), max(lines)) for it, lines in found.items()}
+
+
 def key(mutant):
     """How a survivor is written down: without its line, which other changes move."""
     return f"{mutant.file}: {mutant.old} -> {mutant.new}"
@@ -232,137 +195,6 @@ def key(mutant):
 def known():
     """The survivors that the text has."""
     return {line.strip() for line in KNOWN.read_text().splitlines() if line.startswith("    clients/")} if KNOWN.is_file() else set()
-
-
-class Tests:
-    """The tests that are needed: how long each may run, what it costs, and how often it saw a wrong body of a file."""
-
-    def __init__(self, least, record, words):
-        self.least, self.words = least, tuple(words) or ("",)
-        self.limits, self.costs = {}, {}
-        self.seen, self.tried = collections.Counter(), collections.Counter()
-        for file, part in record.parts.items():
-            for test, count in part.by.items():
-                self.seen[file, test], self.tried[file, test] = count, part.by.total()
-
-    def note_time(self, test, seconds):
-        self.limits[test.name] = self.least + TIMES * seconds
-        self.costs[test.name] = seconds + (BUILDS_SANITIZED if test.memory is None else BUILDS)
-
-    def note(self, file, test, has_seen):
-        self.tried[file, test.name] += 1
-        self.seen[file, test.name] += has_seen
-
-    def worth(self, file, test):
-        """What it is likely to see for its time. The test that is called as the file comes first, until others saw more."""
-        seen = self.seen[file, test.name] + (3 if test.name.endswith(pathlib.Path(file).stem) else 0.2)
-        return seen / (self.tried[file, test.name] + 1) / self.costs[test.name]
-
-    def of(self, library, file):
-        return [it for it in library.tests(file) if it.name.startswith(self.words)]
-
-    def ordered(self, library, file):
-        return sorted(self.of(library, file), key=lambda it: -self.worth(file, it))
-
-
-class Lane:
-    """A copy of the tree, in which one wrong body at a time is tried."""
-
-    def __init__(self, folder, tests, other=None):
-        self.folder, self.tests = folder, tests
-        self.objects = {}
-        for name in (*COPIED, *([STANDS] if other else [])):
-            of = other.folder if other else ROOT
-            if (of / name).is_dir():
-                shutil.copytree(of / name, folder / name, symlinks=True, ignore=lambda at, _: ["rust"] if at.endswith("/clients/out") else ["target"])
-
-    def as_it_stands(self, test):
-        """How the test runs without a wrong body, if it is a program of its own: a copy of that, by the same name."""
-        return test._replace(run=[f"{STANDS}/{it}" if it.startswith("clients/out/") else it for it in test.run])
-
-    def measure(self, test):
-        """Runs a test on the tree as it stands, where it has to pass, within the same bounds."""
-        for words, memory in ((test.build, None), (test.run, test.memory)):
-            began = time.monotonic()
-            status, said = run(words, self.folder, LONGEST, memory)
-            if status != 0:
-                sys.exit(f"mutants: {test.name} fails on the tree as it stands: {' '.join(words)}: {said.strip()[-300:]}")
-        self.tests.note_time(test, time.monotonic() - began)
-        for it in test.run:
-            if it.startswith("clients/out/"):
-                (self.folder / STANDS / it).parent.mkdir(parents=True, exist_ok=True)
-                shutil.copy2(self.folder / it, self.folder / STANDS / it)
-
-    def object(self, words, made):
-        """What the compiler makes of a file as it is here; None where it makes nothing."""
-        path = self.folder / made
-        path.unlink(missing_ok=True)
-        return path.read_bytes() if run(words, self.folder, LONGEST)[0] == 0 and path.is_file() else None
-
-    def compile(self, library, file):
-        """Compiles a file as it stands, once, to compare with."""
-        if library.compiled and file not in self.objects:
-            self.objects[file] = {begin: self.object(*it) for begin, it in library.compiled(file).items()}
-
-    def differs(self, library, file):
-        """How the names of the tests begin that run other code than on the tree as it stands; None where there are none. Whether it compiles."""
-        for begin, it in library.compiled(file).items() if library.compiled else ():
-            made = self.object(*it)
-            if made is None or made != self.objects[file][begin]:
-                return begin, made is not None
-        return (None if library.compiled else ""), True
-
-    def passes(self, test):
-        """Whether a test passes here; None where it hangs."""
-        status, _ = run(test.run, self.folder, self.tests.limits[test.name], test.memory)
-        return None if status is None else status == 0
-
-    def judge_hang(self, test):
-        """What it means that a test took too long: nothing, where the one as it stands takes too long now, too."""
-        stands = self.as_it_stands(test)
-        return "hung" if stands == test or self.passes(stands) else "busy"
-
-    def try_test(self, test):
-        """What a test says of the tree as it is here: nothing where it passes."""
-        if run(test.build, self.folder, LONGEST)[0] != 0:
-            return "not built"
-        for _ in range(2):
-            passes = self.passes(test)
-            if passes is not False:
-                return "" if passes else self.judge_hang(test)
-        return "killed"
-
-    def judge(self, library, mutant):
-        """What came of the wrong body that is here, and by which test."""
-        begin, compiles = self.differs(library, mutant.file)
-        if begin is None or not compiles:
-            return "same code" if compiles else "not built", ""
-        for test in (it for it in self.tests.ordered(library, mutant.file) if it.name.startswith(begin)):
-            outcome = self.try_test(test)
-            self.tests.note(mutant.file, test, outcome != "")
-            if outcome:
-                return outcome, test.name
-        return "survived" if self.tests.words == ("",) else "left", ""
-
-    def built(self, file):
-        """What is built of a file alone, with what it holds."""
-        names = {f"{pathlib.Path(file).stem}.o", f"layer-{pathlib.Path(file).stem}.o"}
-        return {it: it.read_bytes() for it in self.folder.glob("clients/out/**/*.o") if it.name in names}
-
-    def try_mutant(self, library, mutant):
-        """What came of a wrong body, and by which test. The file and what was built of it are put back."""
-        path = self.folder / mutant.file
-        before, stat = path.read_text(), path.stat()
-        self.compile(library, mutant.file)
-        built = self.built(mutant.file)
-        try:
-            path.write_text(mutant.text)
-            return self.judge(library, mutant)
-        finally:
-            path.write_text(before)
-            os.utime(path, ns=(stat.st_atime_ns, stat.st_mtime_ns))
-            for it, data in built.items():
-                it.write_bytes(data)
 
 
 class Tried:
@@ -385,11 +217,11 @@ class Tried:
             self.by.update([by] if by else [])
             self.record.parts[mutant.file].note(mutants_of(mutant.file).index(mutant), outcome, by)
             self.record.write()
-            told = f" by {by}" if by else " (known)" if outcome == "survived" and key(mutant) in self.known else ""
+            told = f" by {by}" if by else " (known)" if outcome in SURVIVED and key(mutant) in self.known else ""
             print(f"{mutant.file}:{mutant.line}: {mutant.rule}: {mutant.new}: {outcome}{told}", flush=True)
 
     def survivors(self, is_known):
-        return sorted(it for it, outcome in self.came.items() if outcome == "survived" and (key(it) in self.known) == is_known)
+        return sorted(it for it, outcome in self.came.items() if outcome in SURVIVED and (key(it) in self.known) == is_known)
 
     def report(self, to):
         """Writes what came of it."""
@@ -414,12 +246,27 @@ def sum_of_tree():
     return found.hexdigest()
 
 
+def unique(tests):
+    return list({it.name: it for it in tests}.values())
+
+
+def covered(first, tests_of, room, jobs):
+    """Which lines of files the tests run that have marks, in a copy of the first lane, where they are built."""
+    marked = {file: [it for it in tests if it.marks and it.marks.object] for file, tests in tests_of.items()}
+    files_marked = [file for file, tests in marked.items() if tests]
+    found = Lane(room / "marked", first.tests, first).trace(unique(sum(marked.values(), [])), files_marked, jobs) if files_marked else Coverage([])
+    shutil.rmtree(room / "marked", ignore_errors=True)
+    return found
+
+
 def lanes_for(tried, jobs, room):
-    """Copies of the tree, once each test that is needed has passed in the first of them."""
+    """Copies of the tree, once it is known which tests run which lines, and each test that is needed has passed in the first copy."""
     tests, of_file = tried.tests, files()
+    tests_of = {file: tests.of(of_file[file], file) for file in sorted({it.file for it in tried.bodies})}
     first = Lane(room / "lane0", tests)
-    for test in {test.name: test for file in {it.file for it in tried.bodies} for test in tests.of(of_file[file], file)}.values():
-        first.measure(test)
+    first.make(unique(sum(tests_of.values(), [])), jobs)
+    tests.coverage = covered(first, tests_of, room, jobs)
+    first.measure(unique(test for it in tried.bodies for test in tests.may_see(of_file[it.file], it, lines_changed(it.file)[it.text])), jobs)
     return [first, *(Lane(room / f"lane{number}", tests, first) for number in range(1, min(jobs, len(tried.bodies))))]
 
 
@@ -432,7 +279,7 @@ def try_all(tried, jobs, room):
     def one(mutant):
         lane = free.get()
         try:
-            tried.note(mutant, *lane.try_mutant(of_file[mutant.file], mutant))
+            tried.note(mutant, *lane.try_mutant(of_file[mutant.file], mutant, lines_changed(mutant.file)[mutant.text]))
         finally:
             free.put(lane)
 
@@ -464,7 +311,7 @@ def arguments():
     parser.add_argument("--sample", type=number)
     parser.add_argument("--seed", type=number, default=1)
     parser.add_argument("--jobs", type=number, default=2)
-    parser.add_argument("--least", type=number, default=10)
+    parser.add_argument("--least", type=number, default=2)
     parser.add_argument("--to", type=pathlib.Path, default=ROOT / "tools/out/mutants.txt")
     parser.add_argument("--record", type=pathlib.Path, default=RECORD)
     parser.add_argument("--again", action="store_true")
@@ -518,7 +365,7 @@ def main():
     if given.list:
         print("".join(f"{it.file}:{it.line}: {it.rule}: {it.old} -> {it.new}: {came_before(record, it) or 'not tried'}\n" for it in bodies), end="")
         return 0
-    again = {None, *(["survived", "hung"] if given.again else []), *([] if given.tests and not given.again else ["left"])}
+    again = {None, *([*SURVIVED, "hung"] if given.again else []), *([] if given.tests and not given.again else ["left"])}
     left = [it for it in bodies if came_before(record, it) in again]
     tried = Tried(left, sys.argv[1:], record, Tests(given.least, record, given.tests))
     guard()
@@ -528,7 +375,7 @@ def main():
                 try_all(tried, given.jobs, pathlib.Path(room))
     finally:
         tried.report(given.to)
-    new = sum(came_before(record, it) == "survived" and key(it) not in tried.known for it in bodies)
+    new = sum(came_before(record, it) in SURVIVED and key(it) not in tried.known for it in bodies)
     print(f"{len(tried.came)} tried, {len(bodies) - len(left)} before; {new} survived that clients/MUTANTS.md doesn't have: {given.to}")
     return int(new > 0)
 

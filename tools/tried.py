@@ -8,13 +8,14 @@ import collections
 import hashlib
 import re
 
-LETTERS = {"killed": "k", "hung": "h", "same code": "c", "not built": "b", "survived": "s", "left": "l"}
+LETTERS = {"killed": "k", "hung": "h", "same code": "c", "not built": "b", "survived": "s", "not run": "n", "left": "l"}
 OUTCOMES = {letter: outcome for outcome, letter in LETTERS.items()}
 NOT_TRIED = "."
 WIDTH = 100
 HEAD = """What came of each wrong body that `tools/mutants.py` makes of a file. MUTANTS.md says why a survivor harms nobody. The tool writes this.
 After the file's name, its sum and the number of its wrong bodies comes a letter for each, in the order of `tools/mutants.py --list`:
-k killed by an answer, h killed by time, c compiled to the same code, b not built, s survived, l survived some tests (--tests), . not tried.
+k killed by an answer, h killed by time, c compiled to the same code, b not built, s survived, n survived since no test runs its line, l survived some
+tests (--tests), . not tried.
 """
 PART = re.compile(r"^(\S+) ([0-9a-f]{16}) \d+\n((?:    [a-z.]+\n)*)((?:  by .*\n)*)", re.MULTILINE)
 

@@ -34,7 +34,7 @@ def parts():
 # A gate of more parts than run at once is told to end once a part has begun, twice, as timeout(1) does it. It ends, and so does each part.
 WAITS = GATE.replace('Part("two", "./two")', '*[Part("two", "./two")] * 20')
 ENDS = """#!/bin/sh
-timeout -k 8 60 ./gate &
+timeout -k 16 60 ./gate &
 limit=$!
 until [ -e begun ]; do sleep 0.1; done
 kill $limit

@@ -64,6 +64,91 @@ def told(*said):
     return f"#!/bin/sh\ntools/mutants.py --least 1 --only {ONLY} --to report >said 2>&1 || exit 3\ncat report\n{tests}{AGAIN}"
 
 
+# A layer of one file. A test that stops by abort, in a child, runs `seldom`; all run `often`, and none `never`. What belongs to no function any may see.
+PAUSE = """static const int SHIFT[] = {3};
+
+int seldom(int a)
+{
+	return a + 1;
+}
+
+int often(int a)
+{
+	int held;
+	held = a;
+	return held + SHIFT[0];
+}
+
+int never(int a)
+{
+	if (a == 4)
+		return a + 2;
+	return a;
+}
+"""
+LAYER_MAKEFILE = """OUT = ../out/netbsd
+list-plain:
+	@echo destroyed drained model
+list-%:
+	@true
+$(OUT)/plain/pause.o $(OUT)/raced/pause.o: src/pause.c
+	@mkdir -p $(@D)
+	gcc $(STRICT) $(CFLAGS) -c -o $@ $<
+$(OUT)/plain/%: tests/%.c $(OUT)/plain/pause.o
+	@mkdir -p $(@D)
+	gcc $(STRICT) $(CFLAGS) -o $@ $^
+"""
+SEES_OFTEN = """int often(int a);
+int main(void) { return often(4) != 7; }
+"""
+SEES_SELDOM = """#include <stdlib.h>
+#include <sys/wait.h>
+#include <unistd.h>
+int often(int a);
+int seldom(int a);
+int main(void)
+{
+	int status;
+	if (fork() == 0) {
+		if (seldom(4) == 5)
+			abort();
+		_exit(0);
+	}
+	return wait(&status) < 0 || !WIFSIGNALED(status) || often(4) != 7;
+}
+"""
+LAYER = "clients/netbsd/src/pause.c"
+KNOWN_OF_LAYER = """Nobody calls it.
+
+    clients/netbsd/src/pause.c: if (a == 4) -> if (a != 4)
+    clients/netbsd/src/pause.c: if (a == 4) -> if (a == 5)
+    clients/netbsd/src/pause.c: return a + 2; -> return a - 2;
+    clients/netbsd/src/pause.c: return a + 2; -> return a + 3;
+"""
+
+
+def layer():
+    tests = {"destroyed": SEES_OFTEN, "drained": SEES_OFTEN, "model": SEES_SELDOM}
+    programs = {f"clients/netbsd/tests/{it}.c": text for it, text in tests.items()}
+    return {LAYER: PAUSE, "clients/netbsd/Makefile": LAYER_MAKEFILE, "clients/MUTANTS.md": KNOWN_OF_LAYER, "tries": TRIES, **programs}
+
+
+def coverage_case(taken):
+    """A wrong body is tried with the tests that run its line: with all where the line is in no function, with none where none runs it."""
+    said = "return a - 1;: killed by plain/model", "{4};: killed by plain/", "return a + 3;: not run (known)", "    4 not run", "    7 killed"
+    good = told(*said).partition(AGAIN)[0].replace(ONLY, LAYER)
+    run = ["./tries", "--least", "1", "--only", f"{LAYER}:5"]
+    selected = "tools/coverage.py", "block.lines if marks[base + block.mark] else ()"
+    faults = (
+        Fault("a selection that leaves out the test that kills", "return a - 1;: not run", ((*selected, "block.lines if marks[base] else ()"),), run),
+        Fault("marks that are lost by an abort", "return a - 1;: not run", (("tools/reached.c", "MAP_SHARED", "MAP_PRIVATE"),), run),
+        Fault("a line that no test runs", "return a - 1;: not run", (("clients/netbsd/tests/model.c", "seldom(4) == 5", "often(4) == 7"),), run),
+        Fault("no object", f"no test has marks of {LAYER}", (("clients/netbsd/Makefile", "tests/%.c $(OUT)/plain/pause.o", "tests/%.c src/pause.c"),), run),
+        Fault("marks of a program that fails", "fails on the tree as it stands", (("tools/reached.c", "marks = shared;", "_exit(3);"),), run),
+    )
+    return Case("mutants and lines that run", taken, {**layer(), "good": good}, ["./good"], faults, counts=False)
+
+
 def cases():
     survivor = "clients/c/waiting.c: return a < b ? b : a; -> return a <= b ? b : a;"
     good = told("return a >= b ? b : a;: killed by turns", f"{survivor}", ": hung by turns", "    0 not tried", "sum of what was tried: ")
@@ -79,5 +164,6 @@ def cases():
         Fault("a number that is none", "mutants: argument --sample: not a number from 1: 0", command=["tools/mutants.py", "--sample", "0"]),
         Fault("a word that it doesn't know", "mutants: unrecognized arguments: more", command=["tools/mutants.py", "more"]),
     )
-    taken = ["mutants.py", "mutations.py", "tried.py", "parts.py", "counts.py"]
+    taken = ["mutants.py", "lanes.py", "coverage.py", "reached.c", "mutations.py", "tried.py", "parts.py", "counts.py"]
     yield Case("mutants", taken, {**tree(), "good": good}, ["./good"], faults, counts=False)
+    yield coverage_case(taken)
