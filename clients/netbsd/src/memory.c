@@ -66,13 +66,19 @@ static struct head *head_of(struct thread *me, void *block, const struct pool *p
 	stop(me, "no block of kmem's, or one that was given back");
 }
 
+/* Gives the memory back without a mark. The compiler leaves out a plain store to what is freed then. */
+static void free_head(struct head *head)
+{
+	__atomic_store_n(&head->mark, 0, __ATOMIC_RELAXED);
+	free(head);
+}
+
 static void give_block(struct thread *me, void *block, size_t size)
 {
 	struct head *head = head_of(me, block, NULL);
 	if (head->size != size)
 		stop(me, "%zu bytes are given back of a block of %zu", size, head->size);
-	head->mark = 0;
-	free(head);
+	free_head(head);
 }
 
 /* kmem_alloc and kmem_free aren't for interrupts. */
@@ -176,9 +182,7 @@ static void *get(struct thread *me, struct pool *pool, int flags)
 
 static void put(struct thread *me, struct pool *pool, void *object)
 {
-	struct head *head = head_of(me, object, pool);
-	head->mark = 0;
-	free(head);
+	free_head(head_of(me, object, pool));
 	__atomic_fetch_sub(&pool->pr_out, 1, __ATOMIC_RELEASE);
 }
 
@@ -244,10 +248,11 @@ static void *own_of(const struct percpu *percpu, unsigned cpu)
 	return percpu->blocks + cpu * percpu->stride;
 }
 
-percpu_t *percpu_create(size_t size, percpu_callback_t make, percpu_callback_t end, void *arg)
+static percpu_t *create(struct thread *me, size_t size, percpu_callback_t make, percpu_callback_t end, void *arg)
 {
-	struct thread *me = begin_plain("percpu_alloc");
 	want_sleepable(me);
+	if (size > SIZE_MAX / KUPALDIZ_CPUS - LINE)
+		stop(me, "out of memory");
 	struct percpu *percpu = memory(me, sizeof(*percpu));
 	size_t stride = (size + LINE - 1) / LINE * LINE;
 	*percpu = (struct percpu){.size = size, .stride = stride, .end = end, .arg = arg};
@@ -259,9 +264,14 @@ percpu_t *percpu_create(size_t size, percpu_callback_t make, percpu_callback_t e
 	return percpu;
 }
 
+percpu_t *percpu_create(size_t size, percpu_callback_t make, percpu_callback_t end, void *arg)
+{
+	return create(begin_plain(__func__), size, make, end, arg);
+}
+
 percpu_t *percpu_alloc(size_t size)
 {
-	return percpu_create(size, NULL, NULL, NULL);
+	return create(begin_plain(__func__), size, NULL, NULL, NULL);
 }
 
 void percpu_free(percpu_t *percpu, size_t size)
@@ -317,5 +327,8 @@ static void visit(void *of, void *arg)
 void percpu_foreach_xcall(percpu_t *percpu, unsigned flags, percpu_callback_t look, void *arg)
 {
 	struct visit each = {percpu, look};
+	want_sleepable(begin_plain(__func__));
+	/* xc_broadcast takes a place: not that of a call which this one is an argument of. */
+	kupaldiz_at(NULL);
 	xc_wait(xc_broadcast(flags, visit, &each, arg));
 }
