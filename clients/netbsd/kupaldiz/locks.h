@@ -94,7 +94,8 @@ void cv_wait(kcondvar_t *cv, kmutex_t *mutex);
 /* cv_wait_sig - cv_wait; it returns 0, since no signal ends it. */
 int cv_wait_sig(kcondvar_t *cv, kmutex_t *mutex);
 
-/* cv_timedwait - cv_wait for at most so many ticks of 1/hz second, 0 for ever. Returns 0 where it was woken, EWOULDBLOCK after the time. */
+/* cv_timedwait - cv_wait for at most so many ticks of 1/hz second, 0 for ever. Returns 0 where it was woken, EWOULDBLOCK after the time. Below 0 the time is
+ * over already. */
 int cv_timedwait(kcondvar_t *cv, kmutex_t *mutex, int ticks);
 
 /* cv_timedwait_sig - cv_timedwait. */

@@ -37,6 +37,9 @@ static void want_sleepable_with(struct thread *me, const kmutex_t *mutex)
 		stop(me, "in a soft interrupt");
 	if (me->depth > 0 || me->spins > 1 || me->level_before > IPL_NONE || me->preemptions > 0)
 		stop(me, "the thread has more than this spin lock");
+	/* The lock's own level is right. */
+	if (me->spins_at[me->level] == 0)
+		stop(me, "at a raised level");
 }
 
 /* Waits to be woken, without the lock meanwhile, for so long at most; less than 0 is for ever. Whether it was woken. */
@@ -71,9 +74,11 @@ void wake_cv(struct thread *me, kcondvar_t *cv, bool all)
 	bucket_unlock(bucket);
 }
 
+/* 0 ticks are for ever. Below 0 the time is over already. */
 static int timed(struct thread *me, kcondvar_t *cv, kmutex_t *mutex, int ticks)
 {
-	return wait_for(me, cv, mutex, ticks == 0 ? -1 : (int64_t)ticks * TICK) ? 0 : EWOULDBLOCK;
+	int64_t nanoseconds = ticks == 0 ? -1 : ticks < 0 ? 0 : (int64_t)ticks * TICK;
+	return wait_for(me, cv, mutex, nanoseconds) ? 0 : EWOULDBLOCK;
 }
 
 void cv_wait(kcondvar_t *cv, kmutex_t *mutex)

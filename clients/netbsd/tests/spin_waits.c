@@ -1,0 +1,113 @@
+/*
+ * spin_waits - a wait for a condition variable with a lock that spins, in each state in which the thread has more than this lock: it stops
+ *
+ * Each wait is for one tick: if it doesn't stop, its case ends. The last line counts the cases.
+ */
+#include <sys/condvar.h>
+#include <sys/intr.h>
+#include <sys/mutex.h>
+#include <sys/pserialize.h>
+#include <sys/systm.h>
+
+#include "stops.h"
+
+static kmutex_t spin, other, softspin;
+static kcondvar_t cv;
+
+static void begin(void)
+{
+	kupaldiz_bind(0);
+	mutex_init(&spin, MUTEX_DEFAULT, IPL_VM);
+	mutex_init(&other, MUTEX_DEFAULT, IPL_VM);
+	mutex_init(&softspin, MUTEX_SPIN, IPL_SOFTNET);
+	cv_init(&cv, "spin");
+}
+
+static void wait_with(kmutex_t *mutex)
+{
+	(void)cv_timedwait(&cv, mutex, 1);
+}
+
+static void handle(void *arg)
+{
+	mutex_enter(arg);
+	wait_with(arg);
+}
+
+static void in_softint(void)
+{
+	softint_schedule(softint_establish(SOFTINT_NET, handle, &spin));
+	sleep_for(20000000);
+}
+
+static void in_section(void)
+{
+	mutex_enter(&spin);
+	(void)pserialize_read_enter();
+	wait_with(&spin);
+}
+
+static void with_another(void)
+{
+	mutex_enter(&other);
+	mutex_enter(&spin);
+	wait_with(&spin);
+}
+
+static void raised_before(void)
+{
+	(void)splsoftnet();
+	mutex_enter(&spin);
+	wait_with(&spin);
+}
+
+static void raised_since(void)
+{
+	mutex_enter(&spin);
+	(void)splhigh();
+	wait_with(&spin);
+}
+
+static void raised_little(void)
+{
+	mutex_enter(&softspin);
+	(void)splsoftserial();
+	wait_with(&softspin);
+}
+
+static void preemption_disabled(void)
+{
+	kpreempt_disable();
+	mutex_enter(&spin);
+	wait_with(&spin);
+}
+
+/* This lock alone, whose level was raised and lowered again. */
+static void with_this_alone(void)
+{
+	mutex_enter(&softspin);
+	splx(splsoftserial());
+	wait_with(&softspin);
+	EXPECT(mutex_owned(&softspin));
+	mutex_exit(&softspin);
+	EXPECT(!kpreempt_disabled());
+	panic("the wait ended");
+}
+
+#define MORE	"cv_timedwait: the thread has more than this spin lock, at PLACE"
+
+static const struct stop_case cases[] = {
+    {in_softint, "cv_timedwait: in a soft interrupt, at PLACE"},
+    {in_section, MORE},
+    {with_another, MORE},
+    {raised_before, MORE},
+    {raised_since, "cv_timedwait: at a raised level, at PLACE"},
+    {raised_little, "cv_timedwait: at a raised level, at PLACE"},
+    {preemption_disabled, MORE},
+    {with_this_alone, "panic: the wait ended, at PLACE"},
+};
+
+int main(void)
+{
+	return run_cases(begin, cases, sizeof(cases) / sizeof(cases[0]));
+}
