@@ -47,7 +47,7 @@ count_cases() {
 
 # programs WAY: what the Makefile builds for a way, except what counts its cases.
 programs() {
-    make_layer list-"$1" | tr ' ' '\n' | grep -vE '^(misuse|misuse_kernel|sleepers|unmade|lacks|tells|memory|spin_waits)$'
+    make_layer list-"$1" | tr ' ' '\n' | grep -vE '^(misuse|misuse_kernel|sleepers|unmade|lacks|tells|memory|spin_waits|reports)$'
 }
 
 lints() {
@@ -90,6 +90,7 @@ for way in plain sanitized; do
     count_cases "each call where memory, threads or keys run out, $way" "$out/$way/lacks"
     count_cases "what memory sees of each call for it, $way" "$out/$way/memory"
     count_cases "each wait with a spin lock where it mustn't, by its line, $way" "$out/$way/spin_waits"
+    count_cases "lines that are too long or can't be written, and names, $way" "$out/$way/reports"
 done
 count_cases "each wait that lasts by its line" "$out/small/tells"
 finish

@@ -123,6 +123,13 @@ static void open_without_bank(void)
 	kupaldiz_bind(0);
 }
 
+/* What the registry returns is said by its text. */
+static void open_without_heap(void)
+{
+	lacks = MALLOC;
+	kupaldiz_bind(0);
+}
+
 static void *bind_it(void *arg)
 {
 	lacks = *(int *)arg;
@@ -273,6 +280,7 @@ static const struct stop_case cases[] = {
     {open_without_key, "registry_open: no key of a thread is left"},
     {open_without_atfork, "registry_open: out of memory"},
     {open_without_bank, "registry_open: out of memory"},
+    {open_without_heap, "registry_open: out of memory"},
     {begin_without_memory, "kupaldiz_bind: out of memory, at PLACE"},
     {begin_without_value, "kupaldiz_bind: out of memory, at PLACE"},
     {no_class, "psref_class_create: out of memory"},

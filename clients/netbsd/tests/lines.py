@@ -3,14 +3,14 @@
 
     lines.py    the last line is 'N passed, M failed'
 
-UNTESTED has the line that needs half a million live targets, and that of an answer of the registry's that no call gets.
+UNTESTED has the line that needs half a million live targets.
 """
 import re
 import sys
 from pathlib import Path
 
 HERE = Path(__file__).resolve().parent
-UNTESTED = {"%d targets and counts are live", "%s"}
+UNTESTED = {"%d targets and counts are live"}
 # Some files have the same line: each needs a test of its own call.
 BEGINS = {"rwlock.c": r'"rw_[a-z]+: ', "mutex.c": r'"(?:mutex|cv)_[a-z_]+: ', "callout.c": r'"callout_[a-z]+: '}
 TEXT = re.compile(r'"((?:[^"\\]|\\.)*)"')

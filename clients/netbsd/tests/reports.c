@@ -1,0 +1,193 @@
+/*
+ * reports - the lines on standard error: one that is too long or can't be written, and the names of threads in it
+ *
+ * The linker leads write, open and close here (--wrap). Each case runs in a child. The last line counts the cases.
+ */
+#include <errno.h>
+#include <fcntl.h>
+#include <sys/kthread.h>
+#include <sys/mutex.h>
+#include <sys/prctl.h>
+#include <sys/systm.h>
+
+#include "stops.h"
+
+static bool is_full;	/* nothing can be written */
+static int file = -1;	/* that the layer has open */
+static const char *instead;	/* the file that the layer gets for each; NULL where it gets its own */
+static kmutex_t lock;
+static atomic_bool ready;
+
+ssize_t __real_write(int to, const void *bytes, size_t length);
+ssize_t __wrap_write(int to, const void *bytes, size_t length);
+int __real_open(const char *path, int how, ...);
+int __wrap_open(const char *path, int how, ...);
+int __real_close(int old);
+int __wrap_close(int old);
+
+/* No file is open any more where the line is written. */
+ssize_t __wrap_write(int to, const void *bytes, size_t length)
+{
+	EXPECT(file == -1);
+	if (!is_full)
+		return __real_write(to, bytes, length);
+	errno = ENOSPC;
+	return -1;
+}
+
+/* No program that another thread starts meanwhile gets the file. */
+int __wrap_open(const char *path, int how, ...)
+{
+	EXPECT(file == -1 && (how & O_CLOEXEC) != 0);
+	return file = __real_open(instead == NULL ? path : instead, how);
+}
+
+int __wrap_close(int old)
+{
+	if (old == file)
+		file = -1;
+	return __real_close(old);
+}
+
+static void begin(void)
+{
+	kupaldiz_bind(0);
+	mutex_init(&lock, MUTEX_DEFAULT, IPL_NONE);
+}
+
+/* ---- Lengths. ---- */
+
+enum { ROOM = 512, TEXT = 300, MOST = ROOM - 2 };	/* a line has MOST bytes, and its newline */
+
+static char long_text[TEXT + 1], long_place[MOST], whole[MOST + 1];
+
+/* The longest line that is written whole: a text of 300 bytes, and so long a place. */
+static size_t write_whole(void)
+{
+	memset(long_text, 'a', TEXT);
+	memset(long_place, 'b', sizeof(long_place) - 1);
+	size_t begun = (size_t)snprintf(whole, sizeof(whole), "KASSERT: not so: %s, at ", long_text);
+	memset(whole + begun, 'b', MOST - begun);
+	return MOST - begun;
+}
+
+static void say_with_place(size_t length)
+{
+	long_place[length] = '\0';
+	kupaldiz_failed("KASSERT", long_text, long_place);
+}
+
+static void say_whole(void)
+{
+	say_with_place(write_whole());
+}
+
+static void say_one_more(void)
+{
+	say_with_place(write_whole() + 1);
+}
+
+static void say_two_more(void)
+{
+	say_with_place(write_whole() + 2);
+}
+
+/* What can't be written is told by the reason. */
+static void say_in_vain(void)
+{
+	is_full = true;
+	kupaldiz_failed("KASSERT", "1 + 1 == 3", NULL);
+}
+
+/* ---- Names. ---- */
+
+static void keep_lock(void *arg)
+{
+	(void)arg;
+	mutex_enter(&lock);
+	atomic_store(&ready, true);
+	sleep_for(20000000);
+}
+
+static void destroy_taken(void)
+{
+	while (!atomic_load(&ready))
+		sleep_for(100);
+	mutex_destroy(&lock);
+}
+
+static void destroy_of_worker(void)
+{
+	EXPECT(kthread_create(PRI_NONE, 0, NULL, keep_lock, NULL, NULL, "w") == 0);
+	destroy_taken();
+}
+
+static void *name_and_keep(void *name)
+{
+	EXPECT(prctl(PR_SET_NAME, name) == 0);
+	keep_lock(NULL);
+	return NULL;
+}
+
+static void destroy_of(const char *name)
+{
+	pthread_t thread;
+	char text[16];
+	snprintf(text, sizeof(text), "%s", name);
+	start_thread(&thread, name_and_keep, text);
+	destroy_taken();
+}
+
+static void destroy_of_keeper(void)
+{
+	destroy_of("keeper");
+}
+
+static void destroy_of_longest(void)
+{
+	destroy_of("fifteen_letters");
+}
+
+static void destroy_of_nameless(void)
+{
+	destroy_of("");
+}
+
+/* The first file that is opened then is the one of number 0. */
+static void destroy_without_input(void)
+{
+	__real_close(STDIN_FILENO);
+	destroy_of("keeper");
+}
+
+static void destroy_without_file(void)
+{
+	instead = "/dev/null/none";
+	destroy_of("keeper");
+}
+
+static void destroy_with_empty_file(void)
+{
+	instead = "/dev/null";
+	destroy_of("keeper");
+}
+
+static const struct stop_case cases[] = {
+    {say_whole, whole},
+    {say_one_more, whole},
+    {say_two_more, whole},
+    {say_in_vain, "KASSERT: No space left on device"},
+    {destroy_of_worker, "mutex_destroy: the lock is held: thread \"w\" took it at PLACE, at PLACE"},
+    {destroy_of_keeper, "mutex_destroy: the lock is held: thread \"keeper\" took it at PLACE, at PLACE"},
+    {destroy_of_longest, "mutex_destroy: the lock is held: thread \"fifteen_letters\" took it at PLACE, at PLACE"},
+    {destroy_of_nameless, "mutex_destroy: the lock is held: thread \"\" took it at PLACE, at PLACE"},
+    {destroy_without_input, "mutex_destroy: the lock is held: thread \"keeper\" took it at PLACE, at PLACE"},
+    {destroy_without_file, "mutex_destroy: the lock is held: thread \"?\" took it at PLACE, at PLACE"},
+    {destroy_with_empty_file, "mutex_destroy: the lock is held: thread \"?\" took it at PLACE, at PLACE"},
+};
+
+int main(void)
+{
+	write_whole();
+	return run_cases(begin, cases, sizeof(cases) / sizeof(cases[0]));
+}
