@@ -47,7 +47,7 @@ count_cases() {
 
 # programs WAY: what the Makefile builds for a way, except what counts its cases.
 programs() {
-    make_layer list-"$1" | tr ' ' '\n' | grep -vE '^(misuse|misuse_kernel|sleepers|unmade|lacks|tells|memory|spin_waits|reports)$'
+    make_layer list-"$1" | tr ' ' '\n' | grep -vE '^(misuse|misuse_kernel|sleepers|unmade|lacks|tells|memory|spin_waits|reports|bytes|full)$'
 }
 
 lints() {
@@ -91,6 +91,8 @@ for way in plain sanitized; do
     count_cases "what memory sees of each call for it, $way" "$out/$way/memory"
     count_cases "each wait with a spin lock where it mustn't, by its line, $way" "$out/$way/spin_waits"
     count_cases "lines that are too long or can't be written, and names, $way" "$out/$way/reports"
+    count_cases "each call that wrong bytes of a target or a count mislead, by its line, $way" "$out/$way/bytes"
 done
 count_cases "each wait that lasts by its line" "$out/small/tells"
+count_cases "each thing that can't be counted any more by its line" "$out/small/full"
 finish

@@ -46,7 +46,7 @@ static void open_registry(struct thread *me, struct bank *bank)
 	done(me, registry_open(&settings, &bank->keeper, handles, ALL_CPUS));
 	for (unsigned cpu = 0; cpu < ALL_CPUS; cpu++)
 		bank->cpus[cpu].cpu = handles[cpu];
-	bank->used_up = false;
+	bank->used_up = bank->swept = false;
 }
 
 /* It gets no more targets. The caller has the interlock. */
@@ -82,10 +82,10 @@ static struct bank *new_bank(struct thread *me)
 	return bank;
 }
 
-/* Whether a bank that is used up is in no use any more. */
+/* Whether a bank that is used up is in no use any more, and no sweep has it. */
 static bool is_spent(const struct bank *bank)
 {
-	return bank->used_up && bank->live == 0 && bank->hosts == 0 && bank->waits == 0;
+	return bank->used_up && !bank->swept && bank->live == 0 && bank->hosts == 0 && bank->waits == 0;
 }
 
 /* A bank with a free slot: one that there is, or a new one. The caller has the interlock. */
@@ -114,21 +114,25 @@ void open_banks(struct thread *me)
 	exit_interlock();
 }
 
-/* Some banks that are in no use any more. How many. */
+/* Some banks that are in no use any more. No other sweep finds them. How many. */
 static unsigned find_spent(struct bank *found[SWEPT])
 {
 	unsigned count = 0;
 	enter_interlock();
-	for (unsigned place = 0; place < bank_count && used_up > 0 && count < SWEPT; place++)
-		if (is_spent(banks[place]))
+	for (unsigned place = 0; place < bank_count && used_up > 0 && count < SWEPT; place++) {
+		if (is_spent(banks[place])) {
+			banks[place]->swept = true;
 			found[count++] = banks[place];
+		}
+	}
 	exit_interlock();
 	return count;
 }
 
 /*
- * Opens some of those anew. What is spent stays so until then, but a call on some CPU may still be about to return from such a bank: each CPU is visited
- * before. The thread may sleep.
+ * Opens some of those anew. Nobody uses them until then, but a call on some CPU may still be about to return from one: each CPU is visited before. One sweep
+ * alone has a bank. If two had it, the first could open it, and others use it up again: the second would have visited the CPUs before those calls.
+ * The thread may sleep.
  */
 void sweep_banks(struct thread *me)
 {
@@ -139,8 +143,7 @@ void sweep_banks(struct thread *me)
 	visit_cpus(me);
 	enter_interlock();
 	for (unsigned place = 0; place < count; place++)
-		if (is_spent(found[place]))
-			reopen(me, found[place]);
+		reopen(me, found[place]);
 	exit_interlock();
 }
 

@@ -1,5 +1,5 @@
 /*
- * layer.h - what the parts of the layer share; no program includes it
+ * layer.h - what the parts of the layer share; no program includes it, except tests that look into the layer
  *
  * HOW THE PAGES ARE MAPPED
  *
@@ -329,6 +329,7 @@ struct bank {
 	unsigned hosts;			/* CPUs that take it for their sections */
 	unsigned waits;			/* performs under way */
 	bool used_up;			/* it gets no more targets, and no more CPUs' sections */
+	bool swept;			/* it is in no use, and a sweep opens it anew */
 	struct {
 		_Alignas(LINE) struct registry_cpu cpu;
 	} cpus[ALL_CPUS];

@@ -125,9 +125,11 @@ static void perform_for_reader(void)
 	end_thread(reader);
 }
 
+/* It was inside a section before, and isn't any more. */
 static void *acquire_long(void *of)
 {
 	name_it(of);
+	pserialize_read_exit(pserialize_read_enter());
 	atomic_store(&lasts_inside, true);
 	localcount_acquire(&count);
 	localcount_release(&count, &cv, &countlock);
@@ -497,6 +499,7 @@ static void broadcast_after_calls(void)
 static void *raise_long(void *of)
 {
 	name_it(of);
+	pserialize_read_exit(pserialize_read_enter());
 	int s = splnet();
 	keep();
 	splx(s);
