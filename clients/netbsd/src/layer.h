@@ -315,7 +315,7 @@ struct row {
 	uint64_t number;
 	struct registry_name name;
 	bool retired;			/* under the interlock */
-	char born, gone;		/* edges: what comes before the attach; before the last release */
+	char gone;			/* an edge: what comes before the last release */
 	pthread_mutex_t lock;		/* of what follows */
 	struct held *held;		/* a stack of the local references that are held */
 	size_t count, room;
