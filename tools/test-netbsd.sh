@@ -47,7 +47,7 @@ count_cases() {
 
 # programs WAY: what the Makefile builds for a way, except what counts its cases.
 programs() {
-    make_layer list-"$1" | tr ' ' '\n' | grep -vE '^(misuse|misuse_kernel|sleepers|unmade|lacks|tells)$'
+    make_layer list-"$1" | tr ' ' '\n' | grep -vE '^(misuse|misuse_kernel|sleepers|unmade|lacks|tells|looks)$'
 }
 
 lints() {
@@ -90,4 +90,5 @@ for way in plain sanitized; do
     count_cases "each call where memory, threads or keys run out, $way" "$out/$way/lacks"
 done
 count_cases "each wait that lasts by its line" "$out/small/tells"
+count_cases "each wait for a reference on a CPU that others have by its line" "$out/small/looks"
 finish

@@ -30,7 +30,7 @@ def pattern_of(text):
 
 
 def main():
-    tests = "\n".join((HERE / f"{name}.c").read_text() for name in ("misuse", "misuse_kernel", "sleepers", "unmade", "lacks", "tells"))
+    tests = "\n".join((HERE / f"{name}.c").read_text() for name in ("misuse", "misuse_kernel", "sleepers", "unmade", "lacks", "tells", "looks"))
     passed = failed = 0
     for file, text in sorted(set(lines())):
         if text in UNTESTED:
