@@ -294,9 +294,67 @@ static void test_goes_on(enum meanwhile meanwhile)
 	pserialize_read_exit(s);
 	softint_disestablish(cookie);
 	softint_disestablish(serial);
+	EXPECT(comes(&idle));
 }
 
-static atomic_bool has_lock, gave_up;
+static atomic_bool has_lock, may_give, goes, came_and_went, gave_up;
+
+/* Has a lock that the handler waits for, and gives it back. A step here orders nothing: what the layer shares is ordered by the layer. */
+static void *give_when_told(void *arg)
+{
+	mutex_enter(&lock);
+	atomic_store(&has_lock, true);
+	while (!atomic_load_explicit(&may_give, memory_order_relaxed))
+		sleep_for(50);
+	mutex_exit(&lock);
+	return arg;
+}
+
+/* Another soft interrupt ends as the handler has just gone on. */
+static void *come_and_go_beside(void *arg)
+{
+	while (!atomic_load_explicit(&goes, memory_order_relaxed))
+		sleep_for(50);
+	come_and_go(arg);
+	atomic_store_explicit(&came_and_went, true, memory_order_relaxed);
+	return arg;
+}
+
+static void wait_for_both(void *arg)
+{
+	blocks = returns = true;
+	mutex_enter(&lock);
+	atomic_store_explicit(&goes, true, memory_order_relaxed);
+	while (!atomic_load_explicit(&came_and_went, memory_order_relaxed))
+		sleep_for(50);
+	atomic_fetch_add((atomic_uint *)arg, 1);
+	mutex_exit(&lock);
+}
+
+/* A handler waits for a lock that another thread has than the lender. A soft interrupt of a higher level waits for that handler. */
+static void test_others_wait(void)
+{
+	pthread_t giver, beside;
+	atomic_uint done = 0, higher = 0;
+	void *cookie = softint_establish(SOFTINT_NET, wait_for_both, &done), *serial = softint_establish(SOFTINT_SERIAL, count, &higher);
+	atomic_store(&came_back, false);
+	start_thread(&giver, give_when_told, NULL);
+	start_thread(&beside, come_and_go_beside, NULL);
+	EXPECT(comes(&has_lock));
+	int s = pserialize_read_enter();
+	softint_schedule(cookie);
+	softint_schedule(serial);
+	atomic_store_explicit(&may_give, true, memory_order_relaxed);
+	EXPECT(comes(&came_back) && atomic_load(&done) == 0 && atomic_load(&higher) == 0);
+	pserialize_read_exit(pserialize_read_enter());
+	EXPECT(atomic_load(&done) == 1 && atomic_load(&higher) == 1);
+	pserialize_read_exit(s);
+	end_thread(giver);
+	end_thread(beside);
+	atomic_store(&has_lock, false);
+	softint_disestablish(cookie);
+	softint_disestablish(serial);
+}
 
 /* Has the lock until nobody has the CPU any more. */
 static void *keep_lock(void *arg)
@@ -338,6 +396,7 @@ int main(void)
 	test_goes_on(NOTHING);
 	test_goes_on(ENDS);
 	test_goes_on(IS_SCHEDULED);
+	test_others_wait();
 	test_raised();
 	mutex_destroy(&lock);
 	puts("the CPU was lent, and came back each time");
