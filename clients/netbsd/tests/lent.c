@@ -34,8 +34,8 @@ static pthread_cond_t *_Atomic changed;		/* what their threads wait for */
 /* Waits until it is so, for some ten seconds at most: whether it is. */
 static bool comes(atomic_bool *what)
 {
-	for (unsigned turn = 0; turn < 100000 && !atomic_load(what); turn++)
-		sleep_for(100);
+	for (unsigned turn = 0; turn < 10000 && !atomic_load(what); turn++)
+		sleep_for(1000);
 	return atomic_load(what);
 }
 
@@ -297,7 +297,7 @@ static void test_goes_on(enum meanwhile meanwhile)
 	EXPECT(comes(&idle));
 }
 
-static atomic_bool has_lock, may_give, goes, came_and_went, gave_up;
+static atomic_bool has_lock, may_give, goes, came_and_went, is_raised, gave_up;
 
 /* Has a lock that the handler waits for, and gives it back. A step here orders nothing: what the layer shares is ordered by the layer. */
 static void *give_when_told(void *arg)
@@ -356,11 +356,12 @@ static void test_others_wait(void)
 	softint_disestablish(serial);
 }
 
-/* Has the lock until nobody has the CPU any more. */
+/* Has the lock until the other thread, whose level is raised, has the CPU no more. */
 static void *keep_lock(void *arg)
 {
 	mutex_enter(&lock);
 	atomic_store(&has_lock, true);
+	EXPECT(comes(&is_raised));
 	for (unsigned turn = 0; turn < 20000 && !is_free(CPU); turn++)
 		sleep_for(100);
 	atomic_store(&gave_up, is_free(CPU));
@@ -376,6 +377,7 @@ static void test_raised(void)
 	EXPECT(comes(&has_lock));
 	int level = splnet();
 	EXPECT(!is_free(CPU));
+	atomic_store(&is_raised, true);
 	mutex_enter(&lock);
 	EXPECT(atomic_load(&gave_up) && cpu_number() == CPU && !is_free(CPU));
 	mutex_exit(&lock);

@@ -104,8 +104,8 @@ struct holder {
 
 static void await(atomic_bool *what)
 {
-	for (unsigned turn = 0; turn < 100000 && !atomic_load(what); turn++)
-		sleep_for(100);
+	for (unsigned turn = 0; turn < 10000 && !atomic_load(what); turn++)
+		sleep_for(1000);
 	EXPECT(atomic_load(what));
 }
 
