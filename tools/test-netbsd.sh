@@ -47,7 +47,7 @@ count_cases() {
 
 # programs WAY: what the Makefile builds for a way, except what counts its cases.
 programs() {
-    make_layer list-"$1" | tr ' ' '\n' | grep -vE '^(misuse|misuse_kernel|sleepers|unmade|lacks|tells|memory|spin_waits|reports|bytes|full)$'
+    make_layer list-"$1" | tr ' ' '\n' | grep -vE '^(misuse|misuse_kernel|sleepers|unmade|lacks|tells|memory|spin_waits|reports|bytes|full|looks)$'
 }
 
 lints() {
@@ -95,4 +95,5 @@ for way in plain sanitized; do
 done
 count_cases "each wait that lasts by its line" "$out/small/tells"
 count_cases "each thing that can't be counted any more by its line" "$out/small/full"
+count_cases "each wait for a reference on a CPU that others have by its line" "$out/small/looks"
 finish

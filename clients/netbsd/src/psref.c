@@ -169,7 +169,6 @@ static uint32_t acquire(struct thread *me, struct found_row at)
 	if (answer == REGISTRY_NOT_FOUND)
 		stop(me, "the target is being destroyed");
 	done(me, answer);
-	COMES_AFTER(&at.row->born);
 	return via;
 }
 
@@ -360,5 +359,8 @@ void tell_of_reference(struct thread *me, uint64_t of, const struct psref_target
 		if (found)
 			break;
 	}
-	say(me, "waits for CPU %u%s", (unsigned)of, text);
+	if (of == WRITERS)
+		say(me, "waits for a reference");
+	else
+		say(me, "waits for CPU %u%s", (unsigned)of, text);
 }

@@ -45,16 +45,27 @@ static inline int run_case(void (*begin)(void), void (*body)(void), char *said, 
 	return status;
 }
 
-/* Whether a case ended by abort with just its line. */
-static inline bool is_stopped(void (*begin)(void), const struct stop_case *the_case)
+/* Whether a case said just its line, and ended by abort or well. */
+static inline bool ends_rightly(void (*begin)(void), const struct stop_case *the_case, bool aborts)
 {
 	char said[1024], wanted[512];
 	int status = run_case(begin, the_case->body, said, sizeof(said));
 	snprintf(wanted, sizeof(wanted), "%s\n", the_case->line);
-	bool right = WIFSIGNALED(status) && WTERMSIG(status) == SIGABRT && strcmp(said, wanted) == 0;
+	bool ended = aborts ? WIFSIGNALED(status) && WTERMSIG(status) == SIGABRT : WIFEXITED(status) && WEXITSTATUS(status) == 0;
+	bool right = ended && strcmp(said, wanted) == 0;
 	if (!right)
 		printf("wanted: %sstatus %d and said: %s\n", wanted, status, said);
 	return right;
+}
+
+static inline bool is_stopped(void (*begin)(void), const struct stop_case *the_case)
+{
+	return ends_rightly(begin, the_case, true);
+}
+
+static inline bool is_told(void (*begin)(void), const struct stop_case *the_case)
+{
+	return ends_rightly(begin, the_case, false);
 }
 
 /* Runs all cases, and prints how many passed. The program's status. */
