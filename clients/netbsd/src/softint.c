@@ -65,10 +65,10 @@ void splx(int level)
 
 /* ---- Handlers. ---- */
 
-/* Writes down which levels have a soft interrupt that waits on a CPU. The caller has the list. */
+/* Writes down which levels have a soft interrupt that waits on a CPU, or goes on there. The caller has the list. */
 void note_pending(struct cpu *cpu)
 {
-	uint32_t pending = 0;
+	uint32_t pending = cpu->returning;
 	for (struct softint *at = softints; at != NULL; at = at->next)
 		if (at->pending[cpu->info.ci_index])
 			pending |= UINT32_C(1) << at->level;
@@ -127,9 +127,9 @@ bool run_softint(struct thread *me)
 
 /* ---- softint(9). ---- */
 
-void *softint_establish(unsigned flags, void (*handler)(void *), void *arg)
+/* The same as softint_establish, wherever the thread is. */
+void *make_softint(unsigned flags, void (*handler)(void *), void *arg)
 {
-	want_sleepable(begin_plain(__func__));
 	struct softint *made = calloc(1, sizeof(*made));
 	if (made == NULL)
 		return NULL;
@@ -141,6 +141,12 @@ void *softint_establish(unsigned flags, void (*handler)(void *), void *arg)
 	softints = made;
 	pthread_mutex_unlock(&pending_list);
 	return made;
+}
+
+void *softint_establish(unsigned flags, void (*handler)(void *), void *arg)
+{
+	want_sleepable(begin_plain(__func__));
+	return make_softint(flags, handler, arg);
 }
 
 /* Whether it is established. The caller has the list. */
