@@ -466,20 +466,21 @@ static void test_about_to_begin(void)
 	atomic_store(&timer.runs, 0);
 }
 
-/* Sets itself again when it runs first, and then stays. */
-static void set_and_stay(void *of)
+/* Stays, and when it has run once it sets itself again, and ends when that time has come. */
+static void stay_and_set(void *of)
 {
 	struct timer *set = of;
-	if (atomic_load(&set->runs) == 0)
-		callout_schedule(&set->callout, 1);
 	stay(of);
+	if (atomic_load(&set->runs) == 1) {
+		callout_schedule(&set->callout, 1);
+		pass(TICK);
+	}
 }
 
-/* The body ends when the time of what it has set has come. */
+/* The body ends, and doesn't begin again. */
 static void end_late(void)
 {
 	unsigned cpu = atomic_load(&timer.cpu), before = atomic_load(&timer.idle_before);
-	pass(TICK);
 	atomic_fetch_add(&ends, 1);
 	while (atomic_load(&idle[cpu]) <= before && atomic_load(&timer.runs) == 1)
 		sleep_for(100);
@@ -490,14 +491,13 @@ static void end_late(void)
 static void test_halt_ends_next(void)
 {
 	callout_init(&timer.callout, CALLOUT_MPSAFE);
-	begin_on(3, &timer, set_and_stay);
+	begin_on(3, &timer, stay_and_set);
 	meanwhile = end_late;
 	wait_returns = 0;
 	(void)callout_halt(&timer.callout, NULL);
 	EXPECT(atomic_load(&timer.runs) == 1 && !callout_active(&timer.callout));
 	atomic_store(&timer.runs, 0);
-	begin_on(3, &timer, set_and_stay);
-	pass(TICK);
+	begin_on(3, &timer, stay_and_set);
 	atomic_fetch_add(&ends, 1);
 	await_above(&timer.runs, 1);
 	atomic_fetch_add(&ends, 1);
