@@ -12,6 +12,7 @@ static pthread_mutex_t lock = PTHREAD_MUTEX_INITIALIZER;
 static pthread_cond_t changed;	/* by the clock that nobody sets */
 static callout_t *callouts;	/* that are pending */
 static const callout_t *running[KUPALDIZ_CPUS];
+static bool halted[KUPALDIZ_CPUS];	/* somebody halts what runs there */
 static struct thread *runners[KUPALDIZ_CPUS];
 static void *softint;
 static pthread_once_t begun = PTHREAD_ONCE_INIT;
@@ -44,7 +45,21 @@ static callout_t *due_on(unsigned cpu)
 	return first;
 }
 
-/* The soft interrupt: runs what is due on this CPU. A callout isn't touched once its body runs, which may have freed it. */
+/* It isn't pending any more. Whether it had expired. The caller has the lock. */
+static bool cancel(callout_t *callout)
+{
+	bool expired = (callout->c_state & FIRED) != 0;
+	if ((callout->c_state & PENDING) != 0)
+		unlink_callout(callout);
+	callout->c_state &= ~(uint32_t)FIRED;
+	return expired;
+}
+
+/*
+ * The soft interrupt: runs what is due on this CPU
+ *
+ * A callout isn't touched once its body runs, which may have freed it, unless somebody halts it: then what its body has set ends here.
+ */
 static void run_due(void *arg)
 {
 	unsigned cpu = cpu_number();
@@ -58,10 +73,13 @@ static void run_due(void *arg)
 		unlink_callout(callout);
 		callout->c_state |= FIRED | INVOKING;
 		running[cpu] = callout;
+		halted[cpu] = false;
 		pthread_mutex_unlock(&lock);
 		body(of);
 		pthread_mutex_lock(&lock);
 		running[cpu] = NULL;
+		if (halted[cpu])
+			cancel(callout);
 		pthread_cond_broadcast(&changed);
 	}
 	pthread_mutex_unlock(&lock);
@@ -108,7 +126,7 @@ static void begin(void)
 	pthread_condattr_setclock(&monotonic, CLOCK_MONOTONIC);
 	pthread_cond_init(&changed, &monotonic);
 	pthread_condattr_destroy(&monotonic);
-	softint = softint_establish(SOFTINT_CLOCK | SOFTINT_MPSAFE, run_due, NULL);
+	softint = make_softint(SOFTINT_CLOCK, run_due, NULL);
 	if (softint == NULL || pthread_create(&thread, NULL, run_clock, NULL) != 0)
 		stop_at("callout_init", NULL, "out of memory");
 	pthread_detach(thread);
@@ -130,11 +148,11 @@ void callout_init(callout_t *callout, unsigned flags)
 	*callout = (callout_t){.c_made = A_CALLOUT};
 }
 
-/* The CPU that runs it; KUPALDIZ_CPUS where none does. The caller has the lock. */
-static unsigned runs_on(const callout_t *callout)
+/* The first CPU that runs it on another thread than this one; KUPALDIZ_CPUS where none does. The caller has the lock. */
+static unsigned runs_on(const struct thread *me, const callout_t *callout)
 {
 	unsigned cpu = 0;
-	while (cpu < KUPALDIZ_CPUS && running[cpu] != callout)
+	while (cpu < KUPALDIZ_CPUS && (running[cpu] != callout || runners[cpu] == me))
 		cpu++;
 	return cpu;
 }
@@ -146,7 +164,7 @@ void callout_destroy(callout_t *callout)
 	pthread_mutex_lock(&lock);
 	if ((callout->c_state & PENDING) != 0)
 		stop(me, "the callout is pending");
-	if (runs_on(callout) < KUPALDIZ_CPUS && runners[runs_on(callout)] != me)
+	if (runs_on(me, callout) < KUPALDIZ_CPUS)
 		stop(me, "the callout runs");
 	callout->c_made = ENDED;
 	pthread_mutex_unlock(&lock);
@@ -197,16 +215,6 @@ void callout_schedule(callout_t *callout, int ticks)
 	pthread_mutex_unlock(&lock);
 }
 
-/* It isn't pending any more. Whether it had expired. The caller has the lock. */
-static bool cancel(callout_t *callout)
-{
-	bool expired = (callout->c_state & FIRED) != 0;
-	if ((callout->c_state & PENDING) != 0)
-		unlink_callout(callout);
-	callout->c_state &= ~(uint32_t)FIRED;
-	return expired;
-}
-
 bool callout_stop(callout_t *callout)
 {
 	struct thread *me = begin_plain(__func__);
@@ -217,17 +225,27 @@ bool callout_stop(callout_t *callout)
 	return expired;
 }
 
+/* What a callout sets ends with its body, wherever that runs now. The caller has the lock. */
+static void note_halt(const callout_t *callout)
+{
+	for (unsigned cpu = 0; cpu < KUPALDIZ_CPUS; cpu++)
+		if (running[cpu] == callout)
+			halted[cpu] = true;
+}
+
 /* Waits until it doesn't run, and says after a while that it waits. The caller has the lock. */
 static void await_end(struct thread *me, const callout_t *callout)
 {
 	const struct timespec tells = time_after(KUPALDIZ_PATIENCE * INT64_C(1000000));
 	bool told = false;
 	int waits = begin_wait();
-	while (runs_on(callout) < KUPALDIZ_CPUS) {
+	unsigned cpu;
+	while ((cpu = runs_on(me, callout)) < KUPALDIZ_CPUS) {
+		note_halt(callout);
 		if (told)
 			pthread_cond_wait(&changed, &lock);
 		else if (pthread_cond_timedwait(&changed, &lock, &tells) != 0 && (told = true))
-			say(me, "waits for CPU %u, which runs it", runs_on(callout));
+			say(me, "waits for CPU %u, which runs it", cpu);
 	}
 	end_wait(waits);
 }
@@ -239,22 +257,17 @@ bool callout_halt(callout_t *callout, void *interlock)
 	if (interlock != NULL && !has_mutex(me, interlock))
 		stop(me, "the thread does not have the lock");
 	pthread_mutex_lock(&lock);
-	bool expired = cancel(callout);
-	unsigned cpu = runs_on(callout);
-	if (cpu == KUPALDIZ_CPUS || runners[cpu] == me) {
-		pthread_mutex_unlock(&lock);
-		return expired;
+	bool expired = cancel(callout), runs = runs_on(me, callout) < KUPALDIZ_CPUS;
+	if (runs) {
+		if (interlock != NULL)
+			give_mutex(me, interlock);
+		want_sleepable(me);
+		await_end(me, callout);
+		/* It may have been set since its body ended. */
+		cancel(callout);
 	}
 	pthread_mutex_unlock(&lock);
-	if (interlock != NULL)
-		give_mutex(me, interlock);
-	want_sleepable(me);
-	pthread_mutex_lock(&lock);
-	await_end(me, callout);
-	/* Its body may have set it again. */
-	cancel(callout);
-	pthread_mutex_unlock(&lock);
-	if (interlock != NULL)
+	if (runs && interlock != NULL)
 		take_mutex(me, interlock);
 	return expired;
 }

@@ -278,6 +278,7 @@ void judge_return(const struct thread *me, const char *what, int level, unsigned
 void offer_cpu(struct thread *me);
 void step_off(struct thread *me);
 void step_on(struct thread *me);
+void *make_softint(unsigned flags, void (*handler)(void *), void *arg);
 void schedule_on(struct thread *me, void *cookie, struct cpu *cpu);
 int raise_level(struct thread *me, int level);
 void lower_level(struct thread *me, int level);

@@ -127,9 +127,9 @@ bool run_softint(struct thread *me)
 
 /* ---- softint(9). ---- */
 
-void *softint_establish(unsigned flags, void (*handler)(void *), void *arg)
+/* The same as softint_establish, wherever the thread is. */
+void *make_softint(unsigned flags, void (*handler)(void *), void *arg)
 {
-	want_sleepable(begin_plain(__func__));
 	struct softint *made = calloc(1, sizeof(*made));
 	if (made == NULL)
 		return NULL;
@@ -141,6 +141,12 @@ void *softint_establish(unsigned flags, void (*handler)(void *), void *arg)
 	softints = made;
 	pthread_mutex_unlock(&pending_list);
 	return made;
+}
+
+void *softint_establish(unsigned flags, void (*handler)(void *), void *arg)
+{
+	want_sleepable(begin_plain(__func__));
+	return make_softint(flags, handler, arg);
 }
 
 /* Whether it is established. The caller has the list. */

@@ -1,0 +1,719 @@
+/*
+ * callouts - callout(9) by a clock that only this test moves: when each callout runs, to the nanosecond, what its calls have their lock for, and what a
+ * halt waits for and ends
+ *
+ * The linker leads the clock, the mutexes and condition variables of the layer, and its lines, here (--wrap).
+ */
+#include <errno.h>
+#include <limits.h>
+#include <sys/callout.h>
+#include <sys/intr.h>
+#include <sys/mutex.h>
+#include <sys/pserialize.h>
+
+#include "stops.h"
+
+#include "held.h"
+
+#define SECOND	INT64_C(1000000000)
+#define TICK	(SECOND / 100)
+#define NEVER	INT64_MAX
+
+int __wrap_clock_gettime(clockid_t clock, struct timespec *time);
+int __real_clock_gettime(clockid_t clock, struct timespec *time);
+int __wrap_pthread_condattr_init(pthread_condattr_t *how);
+int __real_pthread_condattr_init(pthread_condattr_t *how);
+int __wrap_pthread_condattr_destroy(pthread_condattr_t *how);
+int __real_pthread_condattr_destroy(pthread_condattr_t *how);
+int __wrap_pthread_cond_init(pthread_cond_t *cond, const pthread_condattr_t *how);
+int __real_pthread_cond_init(pthread_cond_t *cond, const pthread_condattr_t *how);
+int __wrap_pthread_cond_broadcast(pthread_cond_t *cond);
+int __real_pthread_cond_broadcast(pthread_cond_t *cond);
+int __wrap_pthread_cond_wait(pthread_cond_t *cond, pthread_mutex_t *mutex);
+int __real_pthread_cond_wait(pthread_cond_t *cond, pthread_mutex_t *mutex);
+int __wrap_pthread_cond_timedwait(pthread_cond_t *cond, pthread_mutex_t *mutex, const struct timespec *end);
+int __real_pthread_cond_timedwait(pthread_cond_t *cond, pthread_mutex_t *mutex, const struct timespec *end);
+ssize_t __wrap_write(int file, const void *bytes, size_t length);
+ssize_t __real_write(int file, const void *bytes, size_t length);
+
+/* ---- What the layer does, as it is seen here. ---- */
+
+static _Atomic int64_t now = 1000 * SECOND;
+
+/* The condition variable of the callouts, and their mutex. */
+static const pthread_cond_t *_Atomic changed;
+static const pthread_mutex_t *_Atomic mutex_of_all;
+
+/* The clock's thread: how often it began to wait, how often it had when a callout was last set, and until when it waits. */
+static atomic_uint looks, looks_before;
+static _Atomic int64_t waits_until;
+
+/* How often a halt began to wait, and when it will say so. */
+static atomic_uint halts;
+static _Atomic int64_t says_at;
+
+/* How often the soft interrupts of each CPU were over. */
+static atomic_uint idle[KUPALDIZ_CPUS];
+
+/* A thread of this test; one of the layer's that has run callouts of a CPU, and whether it runs one now. */
+static _Thread_local bool is_ours, in_body;
+static _Thread_local int runs_for = -1;
+
+/* What others do while this thread waits in a halt, once, and what the wait returns then. */
+static _Thread_local void (*meanwhile)(void);
+static _Thread_local int wait_returns;
+
+/* What others do when this thread has given a mutex back for so many times. */
+static _Thread_local unsigned gives;
+static _Thread_local void (*given)(void);
+
+/* A soft interrupt stops where it has given the callouts' mutex back, until it may go on. */
+static atomic_bool is_barred;
+static atomic_uint at_bar, past_bar;
+
+static bool keeps_lines;
+static unsigned lines;
+static char said[256];
+
+int __wrap_clock_gettime(clockid_t clock, struct timespec *time)
+{
+	int64_t at = atomic_load(&now);
+	EXPECT(clock == CLOCK_MONOTONIC);
+	*time = (struct timespec){at / SECOND, at % SECOND};
+	return 0;
+}
+
+static _Thread_local const pthread_condattr_t *attributes;
+static _Thread_local bool begins;
+
+int __wrap_pthread_condattr_init(pthread_condattr_t *how)
+{
+	EXPECT(attributes == NULL);
+	attributes = how;
+	return __real_pthread_condattr_init(how);
+}
+
+int __wrap_pthread_condattr_destroy(pthread_condattr_t *how)
+{
+	EXPECT(attributes == how);
+	attributes = NULL;
+	return __real_pthread_condattr_destroy(how);
+}
+
+int __wrap_pthread_cond_init(pthread_cond_t *cond, const pthread_condattr_t *how)
+{
+	clockid_t clock = CLOCK_REALTIME;
+	EXPECT(how != NULL && attributes == how && pthread_condattr_getclock(how, &clock) == 0 && clock == CLOCK_MONOTONIC);
+	if (begins)
+		atomic_store(&changed, cond);
+	return __real_pthread_cond_init(cond, how);
+}
+
+int __wrap_pthread_cond_broadcast(pthread_cond_t *cond)
+{
+	if (is_ours && cond == atomic_load(&changed))
+		atomic_store(&looks_before, atomic_load(&looks));
+	return __real_pthread_cond_broadcast(cond);
+}
+
+/* A thread begins to wait. Only with the mutex, and until a time where it says one. */
+static void note_wait(const pthread_cond_t *cond, const pthread_mutex_t *mutex, int64_t end)
+{
+	EXPECT(is_held(mutex));
+	if (cond != atomic_load(&changed)) {
+		if (runs_for >= 0 && !in_body)
+			atomic_fetch_add(&idle[runs_for], 1);
+		return;
+	}
+	atomic_store(&mutex_of_all, mutex);
+	atomic_store(is_ours ? &says_at : &waits_until, end);
+	atomic_fetch_add(is_ours ? &halts : &looks, 1);
+}
+
+/* Whether others had their turn while this thread waits in a halt. */
+static bool had_turn(const pthread_cond_t *cond, pthread_mutex_t *mutex)
+{
+	void (*what)(void) = meanwhile;
+	if (what == NULL || cond != atomic_load(&changed))
+		return false;
+	meanwhile = NULL;
+	__wrap_pthread_mutex_unlock(mutex);
+	what();
+	__wrap_pthread_mutex_lock(mutex);
+	return true;
+}
+
+int __wrap_pthread_cond_wait(pthread_cond_t *cond, pthread_mutex_t *mutex)
+{
+	note_wait(cond, mutex, NEVER);
+	return had_turn(cond, mutex) ? 0 : __real_pthread_cond_wait(cond, mutex);
+}
+
+/* By the clock of this test. The C library's wakes it now and then, so that it looks there. */
+int __wrap_pthread_cond_timedwait(pthread_cond_t *cond, pthread_mutex_t *mutex, const struct timespec *end)
+{
+	struct timespec soon;
+	EXPECT(end->tv_sec >= 0 && end->tv_sec < SECOND && end->tv_nsec >= 0 && end->tv_nsec < SECOND);
+	int64_t time = end->tv_sec * SECOND + end->tv_nsec;
+	note_wait(cond, mutex, time);
+	if (had_turn(cond, mutex))
+		return wait_returns;
+	do {
+		EXPECT(__real_clock_gettime(CLOCK_MONOTONIC, &soon) == 0);
+		soon.tv_sec += soon.tv_nsec >= 999000000;
+		soon.tv_nsec = (soon.tv_nsec + 1000000) % SECOND;
+		if (__real_pthread_cond_timedwait(cond, mutex, &soon) == 0)
+			return 0;
+	} while (atomic_load(&now) < time);
+	return ETIMEDOUT;
+}
+
+static void has_given(const pthread_mutex_t *mutex)
+{
+	if (is_ours && gives > 0 && --gives == 0)
+		given();
+	if (runs_for < 0 || in_body || mutex != atomic_load(&mutex_of_all) || !atomic_exchange(&is_barred, false))
+		return;
+	unsigned before = atomic_load(&past_bar);
+	atomic_fetch_add(&at_bar, 1);
+	await_above(&past_bar, before);
+}
+
+static atomic_uint ends;	/* what a body that stays waits for */
+
+ssize_t __wrap_write(int file, const void *bytes, size_t length)
+{
+	if (!keeps_lines)
+		return __real_write(file, bytes, length);
+	EXPECT(file == STDERR_FILENO && length < sizeof(said));
+	memcpy(said, bytes, length);
+	said[length] = '\0';
+	lines++;
+	atomic_fetch_add(&ends, 1);
+	return (ssize_t)length;
+}
+
+/* ---- Callouts. ---- */
+
+/* A callout with what it did: how often it ran, when and where last, and how often its CPU's soft interrupts were over before. */
+struct timer {
+	callout_t callout;
+	atomic_uint runs, cpu, idle_before;
+	_Atomic int64_t ran_at;
+};
+
+static void note_run(void *of)
+{
+	struct timer *timer = of;
+	unsigned cpu = cpu_number();
+	runs_for = (int)cpu;
+	atomic_store(&timer->cpu, cpu);
+	atomic_store(&timer->idle_before, atomic_load(&idle[cpu]));
+	atomic_store(&timer->ran_at, atomic_load(&now));
+	atomic_fetch_add(&timer->runs, 1);
+}
+
+/* Stays until this test lets it end. */
+static void stay(void *of)
+{
+	in_body = true;
+	unsigned before = atomic_load(&ends);
+	note_run(of);
+	await_above(&ends, before);
+	in_body = false;
+}
+
+static void set_on(unsigned cpu, struct timer *timer, int ticks, void (*body)(void *))
+{
+	kupaldiz_bind(cpu);
+	callout_reset(&timer->callout, ticks, body, timer);
+	kupaldiz_unbind();
+}
+
+static void pass(int64_t time)
+{
+	atomic_fetch_add(&now, time);
+}
+
+/* Until when the clock's thread waits, once it has looked at what was set last. */
+static int64_t next_look(void)
+{
+	await_above(&looks, atomic_load(&looks_before));
+	return atomic_load(&waits_until);
+}
+
+/* Waits until it has run so often, and its CPU's soft interrupts are over. */
+static void await_run(struct timer *timer, unsigned runs)
+{
+	await_above(&timer->runs, runs - 1);
+	await_above(&idle[atomic_load(&timer->cpu)], atomic_load(&timer->idle_before));
+	EXPECT(atomic_load(&timer->runs) == runs);
+}
+
+/* Has it begin on a CPU, where it stays. */
+static void begin_on(unsigned cpu, struct timer *timer, void (*body)(void *))
+{
+	unsigned before = atomic_load(&timer->runs);
+	set_on(cpu, timer, 1, body);
+	(void)next_look();
+	pass(TICK);
+	await_above(&timer->runs, before);
+	EXPECT(atomic_load(&timer->cpu) == cpu);
+}
+
+static void end_timer(struct timer *timer)
+{
+	(void)callout_halt(&timer->callout, NULL);
+	callout_destroy(&timer->callout);
+}
+
+/* ---- Times. ---- */
+
+/* The clock's thread waits until the first time, to the nanosecond, also over the turn of a second. */
+static void test_until(void)
+{
+	static struct timer timer, other, third;
+	static const int64_t after_turn[] = {0, 3, SECOND / 2, SECOND - 1};
+	callout_init(&timer.callout, CALLOUT_MPSAFE);
+	callout_init(&other.callout, CALLOUT_MPSAFE);
+	callout_init(&third.callout, CALLOUT_MPSAFE);
+	for (unsigned at = 0; at < 4; at++) {
+		for (int ticks = 1; ticks <= 100; ticks += 33) {
+			int64_t due = (atomic_load(&now) / SECOND + 3) * SECOND + after_turn[at];
+			atomic_store(&now, due - ticks * TICK);
+			set_on(3, &timer, ticks, note_run);
+			EXPECT(next_look() == due && callout_pending(&timer.callout));
+			EXPECT(!callout_stop(&timer.callout));
+		}
+	}
+	int64_t began = atomic_load(&now);
+	set_on(3, &timer, 300, note_run);
+	EXPECT(next_look() == began + 300 * TICK);
+	set_on(4, &other, 100, note_run);
+	EXPECT(next_look() == began + 100 * TICK);
+	set_on(5, &third, 200, note_run);
+	EXPECT(next_look() == began + 100 * TICK);
+	EXPECT(!callout_stop(&other.callout));
+	set_on(5, &third, 250, note_run);
+	EXPECT(next_look() == began + 250 * TICK && third.callout.c_next != &third.callout);
+	end_timer(&timer);
+	end_timer(&other);
+	end_timer(&third);
+}
+
+/* Below one tick is one tick, and the most ticks are many. */
+static void test_ticks(void)
+{
+	static const struct {
+		int ticks;
+		int64_t lasts;
+	} each[] = {{INT_MIN, 1}, {-1, 1}, {0, 1}, {1, 1}, {2, 2}, {INT_MAX, INT_MAX}};
+	static struct timer timer;
+	callout_init(&timer.callout, CALLOUT_MPSAFE);
+	callout_setfunc(&timer.callout, note_run, &timer);
+	for (unsigned at = 0; at < sizeof(each) / sizeof(each[0]); at++) {
+		callout_schedule(&timer.callout, each[at].ticks);
+		EXPECT(next_look() == atomic_load(&now) + each[at].lasts * TICK);
+	}
+	end_timer(&timer);
+}
+
+/* It runs at its time, and not a nanosecond before, neither by the clock's thread nor by another one of its CPU. */
+static void test_exact(void)
+{
+	static struct timer early, late, far;
+	callout_init(&early.callout, CALLOUT_MPSAFE);
+	callout_init(&late.callout, CALLOUT_MPSAFE);
+	callout_init(&far.callout, CALLOUT_MPSAFE);
+	int64_t due = atomic_load(&now) + 3 * TICK;
+	set_on(3, &early, 3, note_run);
+	pass(1);
+	set_on(3, &late, 3, note_run);
+	pass(3 * TICK - 2);
+	set_on(5, &far, 100, note_run);
+	EXPECT(next_look() == due && atomic_load(&early.runs) == 0);
+	pass(1);
+	await_run(&early, 1);
+	EXPECT(atomic_load(&early.ran_at) == due && atomic_load(&late.runs) == 0 && callout_pending(&late.callout));
+	pass(1);
+	await_run(&late, 1);
+	EXPECT(atomic_load(&late.ran_at) == due + 1 && atomic_load(&late.cpu) == 3 && callout_pending(&far.callout));
+	end_timer(&early);
+	end_timer(&late);
+	end_timer(&far);
+}
+
+/* One whose CPU this thread keeps keeps the clock's thread from no other one. */
+static void test_kept(void)
+{
+	static struct timer kept, other, third;
+	callout_init(&kept.callout, CALLOUT_MPSAFE);
+	callout_init(&other.callout, CALLOUT_MPSAFE);
+	callout_init(&third.callout, CALLOUT_MPSAFE);
+	int64_t began = atomic_load(&now);
+	set_on(5, &other, 100, note_run);
+	kupaldiz_bind(2);
+	kpreempt_disable();
+	callout_reset(&kept.callout, 1, note_run, &kept);
+	EXPECT(next_look() == began + TICK);
+	unsigned before = atomic_load(&looks);
+	pass(TICK);
+	await_above(&looks, before);
+	EXPECT(atomic_load(&waits_until) == began + 100 * TICK);
+	callout_reset(&third.callout, 1000, note_run, &third);
+	EXPECT(next_look() == began + 100 * TICK && callout_pending(&kept.callout) && atomic_load(&kept.runs) == 0);
+	kpreempt_enable();
+	await_run(&kept, 1);
+	kupaldiz_unbind();
+	end_timer(&kept);
+	end_timer(&other);
+	end_timer(&third);
+}
+
+/* ---- What the lock is for. ---- */
+
+static struct timer seen;
+static const callout_t *watched = &seen.callout;
+static callout_t shown;
+
+static void show(void)
+{
+	shown = *watched;
+}
+
+static void call_setfunc(void) { callout_setfunc(&seen.callout, stay, &shown); }
+static void call_reset(void) { callout_reset(&seen.callout, 100, note_run, &seen); }
+static void call_schedule(void) { callout_schedule(&seen.callout, 200); }
+static void call_stop(void) { (void)callout_stop(&seen.callout); }
+static void call_halt(void) { (void)callout_halt(&seen.callout, NULL); }
+static void call_ack(void) { callout_ack(&seen.callout); }
+static void call_destroy(void) { callout_destroy(&seen.callout); }
+
+/* A call changes the callout, and all that it writes is there when it gives the lock back. */
+static void want_written(void (*call)(void))
+{
+	const callout_t before = seen.callout;
+	given = show;
+	gives = 1;
+	call();
+	const callout_t *after = &seen.callout;
+	EXPECT(gives == 0 && shown.c_next == after->c_next && shown.c_body == after->c_body && shown.c_arg == after->c_arg);
+	EXPECT(shown.c_due == after->c_due && shown.c_made == after->c_made && shown.c_state == after->c_state && shown.c_cpu == after->c_cpu);
+	EXPECT(before.c_body != after->c_body || before.c_due != after->c_due || before.c_made != after->c_made || before.c_state != after->c_state);
+}
+
+static void test_written(void)
+{
+	static struct timer other;
+	callout_init(&seen.callout, CALLOUT_MPSAFE);
+	callout_init(&other.callout, CALLOUT_MPSAFE);
+	callout_reset(&other.callout, 1000, note_run, &other);
+	want_written(call_setfunc);
+	want_written(call_reset);
+	want_written(call_schedule);
+	want_written(call_stop);
+	want_written(call_reset);
+	want_written(call_halt);
+	set_on(3, &seen, 1, note_run);
+	(void)next_look();
+	pass(TICK);
+	await_run(&seen, 1);
+	want_written(call_ack);
+	want_written(call_stop);
+	want_written(call_destroy);
+	end_timer(&other);
+}
+
+/* A call looks before it gives the lock back: what another thread does then changes nothing of what it returns. */
+static void test_looked(void)
+{
+	static bool (*const calls[])(callout_t *) = {callout_pending, callout_active, callout_expired, callout_invoking};
+	for (unsigned at = 0; at < 4; at++) {
+		callout_init(&seen.callout, CALLOUT_MPSAFE);
+		callout_reset(&seen.callout, 100, note_run, &seen);
+		given = call_stop;
+		gives = 1;
+		EXPECT(calls[at](&seen.callout) == (at < 2) && gives == 0 && !callout_active(&seen.callout));
+		callout_destroy(&seen.callout);
+	}
+}
+
+/* ---- Halts. ---- */
+
+static struct timer timer;
+
+static void go_on(void)
+{
+	atomic_fetch_add(&past_bar, 1);
+}
+
+/* Once the lock is free a callout whose body is about to begin is seen to run. */
+static void test_about_to_begin(void)
+{
+	callout_init(&timer.callout, CALLOUT_MPSAFE);
+	begin_on(3, &timer, note_run);
+	await_run(&timer, 1);
+	set_on(3, &timer, 1, note_run);
+	(void)next_look();
+	unsigned halted = atomic_load(&halts), before = atomic_load(&at_bar);
+	atomic_store(&is_barred, true);
+	pass(TICK);
+	await_above(&at_bar, before);
+	meanwhile = go_on;
+	wait_returns = 0;
+	EXPECT(callout_halt(&timer.callout, NULL) && atomic_load(&timer.runs) == 2 && atomic_load(&halts) > halted);
+	callout_destroy(&timer.callout);
+	atomic_store(&timer.runs, 0);
+}
+
+/* Stays, and when it has run once it sets itself again, and ends when that time has come. */
+static void stay_and_set(void *of)
+{
+	struct timer *set = of;
+	stay(of);
+	if (atomic_load(&set->runs) == 1) {
+		callout_schedule(&set->callout, 1);
+		pass(TICK);
+	}
+}
+
+/* The body ends, and doesn't begin again. */
+static void end_late(void)
+{
+	unsigned cpu = atomic_load(&timer.cpu), before = atomic_load(&timer.idle_before);
+	atomic_fetch_add(&ends, 1);
+	while (atomic_load(&idle[cpu]) <= before && atomic_load(&timer.runs) == 1)
+		sleep_for(100);
+	EXPECT(atomic_load(&timer.runs) == 1);
+}
+
+/* What a body sets while a halt waits doesn't run, also where its time has come. After that the callouts of its CPU may set themselves. */
+static void test_halt_ends_next(void)
+{
+	callout_init(&timer.callout, CALLOUT_MPSAFE);
+	begin_on(3, &timer, stay_and_set);
+	meanwhile = end_late;
+	wait_returns = 0;
+	(void)callout_halt(&timer.callout, NULL);
+	EXPECT(atomic_load(&timer.runs) == 1 && !callout_active(&timer.callout));
+	atomic_store(&timer.runs, 0);
+	begin_on(3, &timer, stay_and_set);
+	atomic_fetch_add(&ends, 1);
+	await_above(&timer.runs, 1);
+	atomic_fetch_add(&ends, 1);
+	await_run(&timer, 2);
+	end_timer(&timer);
+	atomic_store(&timer.runs, 0);
+}
+
+static atomic_uint ends_on[KUPALDIZ_CPUS];
+
+/* Stays on each of its CPUs. On CPU 4 it sets itself again, and ends when that time has come. */
+static void stay_there(void *of)
+{
+	unsigned cpu = cpu_number();
+	in_body = true;
+	note_run(of);
+	await_above(&ends_on[cpu], 0);
+	if (cpu == 4)
+		callout_schedule(&timer.callout, 1);
+	pass(TICK);
+	in_body = false;
+}
+
+/* The second body ends, and what it has set doesn't run; then the first one ends. */
+static void end_both(void)
+{
+	unsigned before = atomic_load(&idle[4]);
+	atomic_store(&ends_on[4], 1);
+	while (atomic_load(&idle[4]) <= before && atomic_load(&timer.runs) == 2)
+		sleep_for(100);
+	EXPECT(atomic_load(&timer.runs) == 2);
+	atomic_store(&ends_on[1], 1);
+}
+
+/* Set on another CPU while it runs, it runs there as well. A halt waits for each body, and ends what any of them sets. */
+static void test_two_bodies(void)
+{
+	callout_init(&timer.callout, CALLOUT_MPSAFE);
+	begin_on(1, &timer, stay_there);
+	unsigned before = atomic_load(&timer.idle_before);
+	begin_on(4, &timer, stay_there);
+	meanwhile = end_both;
+	wait_returns = 0;
+	(void)callout_halt(&timer.callout, NULL);
+	await_above(&idle[1], before);
+	EXPECT(atomic_load(&timer.runs) == 2 && !callout_active(&timer.callout));
+	callout_destroy(&timer.callout);
+	atomic_store(&timer.runs, 0);
+}
+
+/* The body is over, and another thread sets the callout before the halt has the lock again. What the halt does then is shown. */
+static void set_since(void)
+{
+	atomic_fetch_add(&ends, 1);
+	await_run(&timer, 1);
+	callout_reset(&timer.callout, 100, note_run, &timer);
+	watched = &timer.callout;
+	given = show;
+	gives = 1;
+}
+
+static void test_set_since(void)
+{
+	callout_init(&timer.callout, CALLOUT_MPSAFE);
+	begin_on(3, &timer, stay);
+	meanwhile = set_since;
+	wait_returns = 0;
+	EXPECT(callout_halt(&timer.callout, NULL) && gives == 0);
+	EXPECT(!callout_active(&timer.callout) && shown.c_state == timer.callout.c_state);
+	callout_destroy(&timer.callout);
+	atomic_store(&timer.runs, 0);
+}
+
+/* A halt that doesn't have to wait is right anywhere, and keeps its lock. */
+static void test_no_wait(void)
+{
+	kmutex_t spin;
+	mutex_init(&spin, MUTEX_DEFAULT, IPL_VM);
+	callout_init(&timer.callout, CALLOUT_MPSAFE);
+	callout_reset(&timer.callout, 100, note_run, &timer);
+	int s = pserialize_read_enter();
+	mutex_enter(&spin);
+	EXPECT(!callout_halt(&timer.callout, &spin) && mutex_owned(&spin) && !callout_active(&timer.callout));
+	mutex_exit(&spin);
+	EXPECT(!callout_halt(&timer.callout, NULL));
+	callout_destroy(&timer.callout);
+	pserialize_read_exit(s);
+	mutex_destroy(&spin);
+}
+
+/* ---- What a halt says. ---- */
+
+/* The wait is over, for now by its time. */
+static void come_late(void)
+{
+	EXPECT(lines == 0);
+	wait_returns = ETIMEDOUT;
+}
+
+/* The wait is over before its time. */
+static void wake_early(void)
+{
+	EXPECT(atomic_load(&says_at) == atomic_load(&now) + 5 * SECOND);
+	meanwhile = come_late;
+}
+
+/* The wait is over by its time, and the body, too. */
+static void end_in_time(void)
+{
+	atomic_fetch_add(&ends, 1);
+	await_run(&timer, 1);
+	wait_returns = ETIMEDOUT;
+}
+
+/* It says after five seconds, and once, which CPU it waits for. The body ends with that line, or just before it. */
+static void test_said(void (*while_it_waits)(void))
+{
+	callout_init(&timer.callout, CALLOUT_MPSAFE);
+	begin_on(3, &timer, stay);
+	lines = 0;
+	keeps_lines = true;
+	meanwhile = while_it_waits;
+	wait_returns = 0;
+	(void)callout_halt(&timer.callout, NULL);
+	keeps_lines = false;
+	EXPECT(lines == 1 && strcmp(said, "callout_halt: waits for CPU 3, which runs it\n") == 0);
+	await_run(&timer, 1);
+	callout_destroy(&timer.callout);
+	atomic_store(&timer.runs, 0);
+}
+
+/* ---- Each in a process of its own. ---- */
+
+/* The first callout, made by a thread that has made a call before. */
+static void open_callouts(void)
+{
+	EXPECT(cpu_number() < KUPALDIZ_CPUS);
+	begins = true;
+	callout_init(&timer.callout, CALLOUT_MPSAFE);
+	begins = false;
+	EXPECT(attributes == NULL && atomic_load(&changed) != NULL);
+}
+
+/* It may be made anywhere. */
+static void first_inside(void)
+{
+	kmutex_t spin;
+	mutex_init(&spin, MUTEX_DEFAULT, IPL_VM);
+	int s = pserialize_read_enter();
+	mutex_enter(&spin);
+	open_callouts();
+	callout_reset(&timer.callout, 100, note_run, &timer);
+	EXPECT(callout_pending(&timer.callout) && !callout_stop(&timer.callout));
+	callout_destroy(&timer.callout);
+	mutex_exit(&spin);
+	pserialize_read_exit(s);
+}
+
+/* What the body on CPU 1 does with its callout, as soon as that runs on CPU 4, too. */
+static void (*end_it)(void);
+
+static void end_beside(void *of)
+{
+	in_body = true;
+	note_run(of);
+	await_above(&timer.runs, 1);
+	if (cpu_number() != 1)
+		sleep_for(20000000);
+	end_it();
+	_exit(0);
+}
+
+static void run_beside(void (*what)(void))
+{
+	end_it = what;
+	open_callouts();
+	begin_on(1, &timer, end_beside);
+	begin_on(4, &timer, end_beside);
+	sleep_for(20000000);
+}
+
+static void destroy_it(void) { callout_destroy(&timer.callout); }
+static void halt_it(void) { (void)callout_halt(&timer.callout, NULL); }
+static void destroy_beside(void) { run_beside(destroy_it); }
+static void halt_beside(void) { run_beside(halt_it); }
+static void nothing(void) { }
+
+static void test_processes(void)
+{
+	static const struct stop_case stops[] = {{destroy_beside, "callout_destroy: the callout runs, at PLACE"},
+	    {halt_beside, "callout_halt: in a soft interrupt, at PLACE"}};
+	char text[256];
+	EXPECT(run_case(nothing, first_inside, text, sizeof(text)) == 0 && text[0] == '\0');
+	for (unsigned at = 0; at < 2; at++)
+		EXPECT(is_stopped(nothing, &stops[at]));
+}
+
+int main(void)
+{
+	is_ours = true;
+	test_processes();
+	open_callouts();
+	callout_destroy(&timer.callout);
+	test_until();
+	test_ticks();
+	test_exact();
+	test_kept();
+	test_written();
+	test_looked();
+	test_about_to_begin();
+	test_halt_ends_next();
+	test_two_bodies();
+	test_set_since();
+	test_no_wait();
+	test_said(wake_early);
+	test_said(end_in_time);
+	puts("each callout ran at its time, and was halted");
+	return 0;
+}
