@@ -47,7 +47,7 @@ count_cases() {
 
 # programs WAY: what the Makefile builds for a way, except what counts its cases.
 programs() {
-    make_layer list-"$1" | tr ' ' '\n' | grep -vE '^(misuse|misuse_kernel|sleepers|unmade|lacks|tells|memory|spin_waits|reports|bytes|full|looks|misuse_locks)$'
+    make_layer list-"$1" | tr ' ' '\n' | grep -vE '^(misuse|misuse_kernel|sleepers|unmade|lacks|tells|memory|spin_waits|reports|bytes|full|looks|misuse_locks|misuse_threads)$'
 }
 
 lints() {
@@ -86,6 +86,7 @@ for way in plain sanitized; do
     count_cases "each misuse of the three pages by its line, $way" "$out/$way/misuse"
     count_cases "each misuse of locks, memory and threads by its line, $way" "$out/$way/misuse_kernel"
     count_cases "further misuses of locks by their lines, $way" "$out/$way/misuse_locks"
+    count_cases "each misuse by its line that depends on when a thread ends or joins, $way" "$out/$way/misuse_threads"
     count_cases "each call that sleeps where it mustn't, by its line, $way" "$out/$way/sleepers"
     count_cases "each call with what isn't initialised any more, or was never, by its line, $way" "$out/$way/unmade"
     count_cases "each call where memory, threads or keys run out, $way" "$out/$way/lacks"

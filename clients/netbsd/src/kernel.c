@@ -63,7 +63,7 @@ void delay(unsigned microseconds)
 int kpause(const char *name, bool interruptible, int ticks, kmutex_t *mutex)
 {
 	struct thread *me = begin_call(__func__);
-	const struct timespec time = {ticks * (long)TICK / 1000000000, ticks * (long)TICK % 1000000000};
+	struct timespec left = {ticks * (long)TICK / 1000000000, ticks * (long)TICK % 1000000000};
 	(void)name;
 	(void)interruptible;
 	if (mutex != NULL)
@@ -72,7 +72,8 @@ int kpause(const char *name, bool interruptible, int ticks, kmutex_t *mutex)
 	if (ticks <= 0)
 		stop(me, "no time to sleep for");
 	int waits = begin_wait();
-	nanosleep(&time, NULL);
+	while (nanosleep(&left, &left) != 0)
+		;	/* a signal has come */
 	end_wait(waits);
 	if (mutex != NULL)
 		take_mutex(me, mutex);
@@ -116,8 +117,8 @@ static void *run_kthread(void *of)
 	return NULL;
 }
 
-/* Starts it, and waits until it has begun. 0 or an errno. */
-static int start(struct kthread *kthread)
+/* Starts it, and waits until it has begun. Once it is in the list, another thread may join and free it. 0 or an errno. */
+static int start(struct kthread *kthread, lwp_t **made)
 {
 	int answer = pthread_create(&kthread->id, NULL, run_kthread, kthread);
 	if (answer != 0)
@@ -125,13 +126,15 @@ static int start(struct kthread *kthread)
 	pthread_mutex_lock(&kthreads_lock);
 	while (kthread->thread == NULL)
 		pthread_cond_wait(&begun, &kthreads_lock);
+	if (made != NULL)
+		*made = &kthread->thread->lwp;
 	if (kthread->joined) {
 		kthread->next = kthreads;
 		kthreads = kthread;
+	} else {
+		pthread_detach(kthread->id);
 	}
 	pthread_mutex_unlock(&kthreads_lock);
-	if (!kthread->joined)
-		pthread_detach(kthread->id);
 	return 0;
 }
 
@@ -140,6 +143,7 @@ int kthread_create(int priority, int flags, struct cpu_info *cpu, void (*body)(v
 	struct thread *me = begin_plain(__func__);
 	want_sleepable(me);
 	struct kthread *kthread = memory(me, sizeof(*kthread));
+	bool joined = (flags & KTHREAD_MUSTJOIN) != 0;
 	va_list words;
 	(void)priority;
 	va_start(words, format);
@@ -148,13 +152,11 @@ int kthread_create(int priority, int flags, struct cpu_info *cpu, void (*body)(v
 	kthread->cpu = cpu;
 	kthread->body = body;
 	kthread->arg = arg;
-	kthread->joined = (flags & KTHREAD_MUSTJOIN) != 0;
+	kthread->joined = joined;
 	int waits = begin_wait();
-	int answer = start(kthread);
+	int answer = start(kthread, made);
 	end_wait(waits);
-	if (made != NULL && answer == 0)
-		*made = &kthread->thread->lwp;
-	if (answer != 0 || !kthread->joined)
+	if (answer != 0 || !joined)
 		free(kthread);
 	return answer;
 }

@@ -1,0 +1,592 @@
+/*
+ * threads - what the layer keeps of threads, and the CPU that a thread gets: memory that is used again, and never by two at once; a thread of
+ * kthread_create's until its join; the CPU that is free, or has the fewest bound threads
+ *
+ * The linker leads locks, condition variables, memory, pthread_create and pthread_detach here (--wrap). Each thread notes the locks that it has. It may do
+ * something once it has given one back, while its call goes on.
+ */
+#include <errno.h>
+#include <limits.h>
+#include <sys/cpu.h>
+#include <sys/kthread.h>
+#include <sys/proc.h>
+#include <sys/pserialize.h>
+
+#include "test.h"
+
+int __real_pthread_mutex_lock(pthread_mutex_t *mutex);
+int __wrap_pthread_mutex_lock(pthread_mutex_t *mutex);
+int __real_pthread_mutex_unlock(pthread_mutex_t *mutex);
+int __wrap_pthread_mutex_unlock(pthread_mutex_t *mutex);
+int __real_pthread_cond_wait(pthread_cond_t *cond, pthread_mutex_t *mutex);
+int __wrap_pthread_cond_wait(pthread_cond_t *cond, pthread_mutex_t *mutex);
+int __real_pthread_cond_timedwait(pthread_cond_t *cond, pthread_mutex_t *mutex, const struct timespec *end);
+int __wrap_pthread_cond_timedwait(pthread_cond_t *cond, pthread_mutex_t *mutex, const struct timespec *end);
+int __real_pthread_condattr_init(pthread_condattr_t *how);
+int __wrap_pthread_condattr_init(pthread_condattr_t *how);
+int __real_pthread_condattr_destroy(pthread_condattr_t *how);
+int __wrap_pthread_condattr_destroy(pthread_condattr_t *how);
+int __real_pthread_cond_init(pthread_cond_t *cond, const pthread_condattr_t *how);
+int __wrap_pthread_cond_init(pthread_cond_t *cond, const pthread_condattr_t *how);
+int __real_pthread_create(pthread_t *thread, const pthread_attr_t *how, void *(*body)(void *), void *arg);
+int __wrap_pthread_create(pthread_t *thread, const pthread_attr_t *how, void *(*body)(void *), void *arg);
+int __real_pthread_detach(pthread_t thread);
+int __wrap_pthread_detach(pthread_t thread);
+void *__real_calloc(size_t count, size_t size);
+void *__wrap_calloc(size_t count, size_t size);
+void __real_free(void *block);
+void __wrap_free(void *block);
+
+/* ---- What is watched. ---- */
+
+enum { MOST_LOCKS = 8 };
+
+/* The locks that this thread has, and what it does once it has given back the next one. */
+static _Thread_local pthread_mutex_t *locks[MOST_LOCKS];
+static _Thread_local unsigned lock_count;
+static _Thread_local void (*after)(void);
+
+static void note_lock(pthread_mutex_t *mutex)
+{
+	EXPECT(lock_count < MOST_LOCKS);
+	locks[lock_count++] = mutex;
+}
+
+/* It must have it. */
+static void forget_lock(const pthread_mutex_t *mutex)
+{
+	unsigned place = 0;
+	while (place < lock_count && locks[place] != mutex)
+		place++;
+	EXPECT(place < lock_count);
+	locks[place] = locks[--lock_count];
+}
+
+int __wrap_pthread_mutex_lock(pthread_mutex_t *mutex)
+{
+	int answer = __real_pthread_mutex_lock(mutex);
+	note_lock(mutex);
+	return answer;
+}
+
+int __wrap_pthread_mutex_unlock(pthread_mutex_t *mutex)
+{
+	void (*does)(void) = after;
+	after = NULL;
+	forget_lock(mutex);
+	int answer = __real_pthread_mutex_unlock(mutex);
+	if (does != NULL)
+		does();
+	return answer;
+}
+
+static atomic_bool waited;	/* some thread waits, or has waited, with the lock of the wait given back */
+
+int __wrap_pthread_cond_wait(pthread_cond_t *cond, pthread_mutex_t *mutex)
+{
+	forget_lock(mutex);
+	atomic_store(&waited, true);
+	int answer = __real_pthread_cond_wait(cond, mutex);
+	note_lock(mutex);
+	return answer;
+}
+
+int __wrap_pthread_cond_timedwait(pthread_cond_t *cond, pthread_mutex_t *mutex, const struct timespec *end)
+{
+	forget_lock(mutex);
+	atomic_store(&waited, true);
+	int answer = __real_pthread_cond_timedwait(cond, mutex, end);
+	note_lock(mutex);
+	return answer;
+}
+
+/* Those that this thread has initialised, and not destroyed yet. */
+static _Thread_local const pthread_condattr_t *attributes;
+
+int __wrap_pthread_condattr_init(pthread_condattr_t *how)
+{
+	attributes = how;
+	return __real_pthread_condattr_init(how);
+}
+
+int __wrap_pthread_condattr_destroy(pthread_condattr_t *how)
+{
+	EXPECT(attributes == how);
+	attributes = NULL;
+	return __real_pthread_condattr_destroy(how);
+}
+
+int __wrap_pthread_cond_init(pthread_cond_t *cond, const pthread_condattr_t *how)
+{
+	EXPECT(how != NULL && how == attributes);
+	return __real_pthread_cond_init(cond, how);
+}
+
+/* Blocks that all threads have taken, and blocks that this thread has taken and not freed. */
+static atomic_uint blocks_taken;
+static _Thread_local unsigned blocks;
+
+void *__wrap_calloc(size_t count, size_t size)
+{
+	atomic_fetch_add(&blocks_taken, 1);
+	blocks++;
+	return __real_calloc(count, size);
+}
+
+void __wrap_free(void *block)
+{
+	blocks -= block != NULL;
+	__real_free(block);
+}
+
+/* How a thread begins that this one starts: at once, only when somebody waits, or not at all. */
+static _Thread_local enum { AT_ONCE, AWAITED, REFUSED } begins;
+static void *(*awaited)(void *);
+
+static void *begin_awaited(void *arg)
+{
+	while (!atomic_load(&waited))
+		sleep_for(50);
+	return awaited(arg);
+}
+
+int __wrap_pthread_create(pthread_t *thread, const pthread_attr_t *how, void *(*body)(void *), void *arg)
+{
+	if (begins == REFUSED)
+		return EAGAIN;
+	if (begins == AT_ONCE)
+		return __real_pthread_create(thread, how, body, arg);
+	atomic_store(&waited, false);
+	awaited = body;
+	return __real_pthread_create(thread, how, begin_awaited, arg);
+}
+
+static atomic_uint detached;
+
+int __wrap_pthread_detach(pthread_t thread)
+{
+	atomic_fetch_add(&detached, 1);
+	return __real_pthread_detach(thread);
+}
+
+/* ---- Memory of threads. ---- */
+
+enum { CROWD = 3, LAST_ROUND = PTHREAD_DESTRUCTOR_ITERATIONS - 1 };
+
+/* Made after the layer's: its destructor runs after that in each round. */
+static pthread_key_t late;
+static _Thread_local unsigned rounds;
+static _Thread_local void (*at_end)(void);
+
+/* The layer has ended the thread before the last of these rounds. */
+static void judge_end(void *of)
+{
+	if (++rounds < LAST_ROUND) {
+		EXPECT(pthread_setspecific(late, of) == 0);
+		return;
+	}
+	EXPECT(lock_count == 0);
+	if (at_end != NULL)
+		at_end();
+}
+
+/* A thread that has called the layer, and stays until it is told. */
+struct guest {
+	pthread_t thread;
+	_Atomic(lwp_t *) lwp;
+	atomic_bool leaves;
+};
+
+static void *stay(void *of)
+{
+	struct guest *guest = of;
+	EXPECT(pthread_setspecific(late, of) == 0);
+	lwp_t *lwp = curlwp;
+	EXPECT(lwp == curlwp && lock_count == 0 && attributes == NULL);
+	atomic_store(&guest->lwp, lwp);
+	while (!atomic_load(&guest->leaves))
+		sleep_for(50);
+	return of;
+}
+
+static void call_in(struct guest *guest)
+{
+	atomic_store(&guest->lwp, NULL);
+	atomic_store(&guest->leaves, false);
+	start_thread(&guest->thread, stay, guest);
+	while (atomic_load(&guest->lwp) == NULL)
+		sleep_for(50);
+}
+
+static void send_off(struct guest *guest)
+{
+	atomic_store(&guest->leaves, true);
+	end_thread(guest->thread);
+}
+
+static bool is_other(struct guest *guest, const lwp_t *lwp)
+{
+	const lwp_t *own = atomic_load(&guest->lwp);
+	return own != NULL && lwp != NULL && own != lwp;
+}
+
+/* No two that are there at once have the same memory. */
+static void crowd(void)
+{
+	static struct guest guests[CROWD];
+	for (unsigned i = 0; i < CROWD; i++) {
+		call_in(&guests[i]);
+		EXPECT(is_other(&guests[i], curlwp));
+		for (unsigned before = 0; before < i; before++)
+			EXPECT(is_other(&guests[before], atomic_load(&guests[i].lwp)));
+	}
+	for (unsigned i = 0; i < CROWD; i++)
+		send_off(&guests[i]);
+}
+
+static void nothing(void *arg)
+{
+	(void)arg;
+}
+
+/* Threads take new memory only where more of them are there at once than ever before. */
+static void test_memory(void)
+{
+	lwp_t *worker;
+	crowd();
+	unsigned before = atomic_load(&blocks_taken);
+	for (unsigned turn = 0; turn < 3; turn++)
+		crowd();
+	EXPECT(atomic_load(&blocks_taken) == before);
+	EXPECT(kthread_create(PRI_NONE, KTHREAD_MUSTJOIN, NULL, nothing, NULL, &worker, "worker") == 0 && kthread_join(worker) == 0);
+	before = atomic_load(&blocks_taken);
+	for (unsigned turn = 0; turn < 3; turn++)
+		crowd();
+	EXPECT(atomic_load(&blocks_taken) == before);
+}
+
+static struct guest beside;
+
+static void begin_beside(void)
+{
+	call_in(&beside);
+}
+
+/* Another thread begins as soon as this one has its memory. */
+static void *begin_slowly(void *of)
+{
+	after = begin_beside;
+	*(lwp_t **)of = curlwp;
+	EXPECT(after == NULL);
+	return of;
+}
+
+/* Another thread begins as soon as this one has given its memory back. */
+static void *end_slowly(void *of)
+{
+	*(lwp_t **)of = curlwp;
+	after = begin_beside;
+	return of;
+}
+
+static void test_begin_beside(void)
+{
+	pthread_t thread;
+	lwp_t *slow = NULL;
+	start_thread(&thread, begin_slowly, &slow);
+	end_thread(thread);
+	EXPECT(is_other(&beside, slow));
+	send_off(&beside);
+}
+
+/* What the thread beside has is no other's, whoever comes then. */
+static void test_end_beside(void)
+{
+	pthread_t thread;
+	struct guest others[2];
+	lwp_t *slow = NULL;
+	atomic_store(&beside.lwp, NULL);
+	start_thread(&thread, end_slowly, &slow);
+	end_thread(thread);
+	EXPECT(slow != NULL && atomic_load(&beside.lwp) != NULL);
+	for (unsigned i = 0; i < 2; i++) {
+		call_in(&others[i]);
+		EXPECT(is_other(&beside, atomic_load(&others[i].lwp)));
+	}
+	EXPECT(is_other(&others[0], atomic_load(&others[1].lwp)));
+	for (unsigned i = 0; i < 2; i++)
+		send_off(&others[i]);
+	send_off(&beside);
+}
+
+/* The thread sanitizer is gone before what the layer keeps of such a thread. */
+#ifndef __SANITIZE_THREAD__
+
+static lwp_t *again;	/* what the layer kept of the thread: it isn't given back */
+
+/* It calls once more after the layer has ended it. What it had is another's by then. */
+static void call_again(void)
+{
+	call_in(&beside);
+	again = curlwp;
+}
+
+static void *end_and_call(void *of)
+{
+	EXPECT(pthread_setspecific(late, of) == 0);
+	at_end = call_again;
+	*(lwp_t **)of = curlwp;
+	return of;
+}
+
+static void test_call_after_end(void)
+{
+	pthread_t thread;
+	lwp_t *first = NULL;
+	start_thread(&thread, end_and_call, &first);
+	end_thread(thread);
+	EXPECT(first != NULL && atomic_load(&beside.lwp) == first && is_other(&beside, again));
+	send_off(&beside);
+}
+#else
+static void test_call_after_end(void)
+{
+}
+#endif
+
+/* ---- Threads of kthread_create's. ---- */
+
+/* What such a thread is to itself. */
+static _Atomic(lwp_t *) itself;
+
+static void work(void *arg)
+{
+	EXPECT(arg == &itself && lock_count == 0 && attributes == NULL);
+	EXPECT(pthread_setspecific(late, arg) == 0);
+	atomic_store(&itself, curlwp);
+}
+
+static int create(int flags, lwp_t **worker)
+{
+	atomic_store(&itself, NULL);
+	return kthread_create(PRI_NONE, flags, NULL, work, &itself, worker, "worker");
+}
+
+/* Nobody joins it: what was noted of it is freed, and its stack will be. */
+static void test_unjoined(void)
+{
+	lwp_t *worker = NULL;
+	unsigned before = blocks, detached_before = atomic_load(&detached);
+	begins = AWAITED;
+	EXPECT(create(KTHREAD_MPSAFE, &worker) == 0 && worker != NULL);
+	begins = AT_ONCE;
+	EXPECT(lock_count == 0 && blocks == before && atomic_load(&detached) == detached_before + 1);
+	while (atomic_load(&itself) == NULL)
+		sleep_for(50);
+	EXPECT(atomic_load(&itself) == worker);
+}
+
+static void test_joined(void)
+{
+	lwp_t *worker = NULL;
+	unsigned before = blocks, detached_before = atomic_load(&detached);
+	begins = AWAITED;
+	EXPECT(create(KTHREAD_MUSTJOIN, &worker) == 0 && worker != NULL);
+	begins = AT_ONCE;
+	EXPECT(lock_count == 0 && blocks == before + 1 && atomic_load(&detached) == detached_before);
+	EXPECT(kthread_join(worker) == 0 && lock_count == 0 && blocks == before && atomic_load(&itself) == worker);
+}
+
+static void test_refused(void)
+{
+	lwp_t *worker = NULL;
+	unsigned before = blocks;
+	begins = REFUSED;
+	EXPECT(create(0, &worker) == EAGAIN && create(KTHREAD_MUSTJOIN, &worker) == EAGAIN);
+	begins = AT_ONCE;
+	EXPECT(lock_count == 0 && blocks == before && worker == NULL);
+}
+
+static atomic_bool created;
+
+/* It was cancelled before it waits for the thread that it makes. */
+static void *create_cancelled(void *of)
+{
+	EXPECT(pthread_cancel(pthread_self()) == 0);
+	begins = AWAITED;
+	EXPECT(create(KTHREAD_MUSTJOIN, of) == 0);
+	atomic_store(&created, true);
+	pthread_testcancel();
+	return NULL;
+}
+
+static void test_cancelled(void)
+{
+	pthread_t thread;
+	void *answer;
+	lwp_t *worker = NULL;
+	EXPECT(pthread_create(&thread, NULL, create_cancelled, &worker) == 0);
+	EXPECT(pthread_join(thread, &answer) == 0 && answer == PTHREAD_CANCELED && atomic_load(&created));
+	EXPECT(kthread_join(worker) == 0);
+}
+
+static void *join_it(void *arg)
+{
+	lwp_t *worker;
+	while ((worker = atomic_load(&itself)) == NULL)
+		sleep_for(50);
+	EXPECT(kthread_join(worker) == 0);
+	return arg;
+}
+
+static void join_beside(void)
+{
+	pthread_t thread;
+	start_thread(&thread, join_it, NULL);
+	end_thread(thread);
+}
+
+/* The thread says who it is, and another one joins it before the call is over that made it. */
+static void test_joined_early(void)
+{
+	lwp_t *worker = NULL;
+	after = join_beside;
+	EXPECT(create(KTHREAD_MUSTJOIN, &worker) == 0 && after == NULL);
+	EXPECT(worker == atomic_load(&itself));
+}
+
+/* ---- CPUs. ---- */
+
+enum { FREE, KEPT, OVER };
+
+/* A thread that has one CPU, or is not bound at all. */
+static struct keeper {
+	pthread_t thread;
+	atomic_int wanted, is;
+} keepers[KUPALDIZ_CPUS];
+
+static void *keep(void *of)
+{
+	struct keeper *keeper = of;
+	for (int wanted; (wanted = atomic_load(&keeper->wanted)) != OVER; sleep_for(200)) {
+		if (wanted == atomic_load(&keeper->is))
+			continue;
+		if (wanted == KEPT) {
+			kupaldiz_bind((unsigned)(keeper - keepers));
+			kpreempt_disable();
+		} else {
+			kpreempt_enable();
+			kupaldiz_unbind();
+		}
+		atomic_store(&keeper->is, wanted);
+	}
+	return of;
+}
+
+static void want(unsigned cpu, int wanted)
+{
+	atomic_store(&keepers[cpu].wanted, wanted);
+	while (atomic_load(&keepers[cpu].is) != wanted)
+		sleep_for(50);
+}
+
+/* This thread isn't bound, and was on that CPU last. */
+static void come_from(unsigned cpu)
+{
+	kupaldiz_bind(cpu);
+	kupaldiz_unbind();
+}
+
+/* Of all CPUs this one alone is free, and has no bound thread. */
+static void test_free(unsigned cpu)
+{
+	for (unsigned last = 0; last < KUPALDIZ_CPUS; last++) {
+		come_from(last);
+		int s = pserialize_read_enter();
+		EXPECT(cpu_number() == cpu);
+		pserialize_read_exit(s);
+		come_from(last);
+		int before = curlwp_bind();
+		EXPECT(before == 0 && cpu_number() == cpu);
+		curlwp_bindx(before);
+	}
+}
+
+static atomic_bool entered;
+
+static void *enter_from(void *last)
+{
+	come_from(*(unsigned *)last);
+	kpreempt_disable();
+	atomic_store(&entered, true);
+	EXPECT(cpu_number() == *(unsigned *)last);
+	kpreempt_enable();
+	return last;
+}
+
+/* None is free: a thread waits for the CPU where it was last. */
+static void test_kept(unsigned last)
+{
+	pthread_t thread;
+	atomic_store(&waited, false);
+	atomic_store(&entered, false);
+	start_thread(&thread, enter_from, &last);
+	while (!atomic_load(&waited) && !atomic_load(&entered))
+		sleep_for(50);
+	EXPECT(!atomic_load(&entered));
+	want(last, FREE);
+	end_thread(thread);
+	want(last, KEPT);
+}
+
+/* A thread that isn't bound stays on the CPU that it has, though it has a reason more. */
+static void test_nested(void)
+{
+	int s = pserialize_read_enter();
+	unsigned cpu = cpu_number();
+	int t = pserialize_read_enter();
+	kpreempt_disable();
+	EXPECT(cpu_number() == cpu && curlwp->l_cpu == kupaldiz_cpu(cpu));
+	kpreempt_enable();
+	pserialize_read_exit(t);
+	EXPECT(cpu_number() == cpu);
+	pserialize_read_exit(s);
+}
+
+static void test_cpus(void)
+{
+	test_nested();
+	for (unsigned cpu = 0; cpu < KUPALDIZ_CPUS; cpu++) {
+		start_thread(&keepers[cpu].thread, keep, &keepers[cpu]);
+		want(cpu, KEPT);
+	}
+	for (unsigned cpu = 0; cpu < KUPALDIZ_CPUS; cpu++) {
+		test_kept(cpu);
+		want(cpu, FREE);
+		test_free(cpu);
+		want(cpu, KEPT);
+	}
+	for (unsigned cpu = 0; cpu < KUPALDIZ_CPUS; cpu++) {
+		want(cpu, FREE);
+		atomic_store(&keepers[cpu].wanted, OVER);
+		end_thread(keepers[cpu].thread);
+	}
+}
+
+int main(void)
+{
+	EXPECT(curlwp != NULL && lock_count == 0);
+	EXPECT(pthread_key_create(&late, judge_end) == 0);
+	test_memory();
+	test_begin_beside();
+	test_end_beside();
+	test_unjoined();
+	test_joined();
+	test_refused();
+	test_cancelled();
+	test_joined_early();
+	test_cpus();
+	test_call_after_end();
+	puts("each thread had memory and a CPU of its own");
+	return 0;
+}
