@@ -38,11 +38,14 @@ Test = collections.namedtuple("Test", "name build run memory marks", defaults=(M
 
 
 def times(leader):
-    """For each thread of a session how long it ran, and how long it waited for a processor, in seconds."""
+    """For each thread of a session how long it ran, and how long it waited for a processor, in seconds. One that ends meanwhile is left out."""
     found = {}
-    for task in (task for pid in of_session(leader) for task in pathlib.Path(f"/proc/{pid}/task").glob("*")):
-        with contextlib.suppress(OSError, ValueError, IndexError):
-            found[task.name] = [int(it) / 1e9 for it in (task / "schedstat").read_text().split()[:2]]
+    for pid in of_session(leader):
+        with contextlib.suppress(OSError):
+            tasks = os.listdir(f"/proc/{pid}/task")
+            for task in tasks:
+                with contextlib.suppress(OSError, ValueError, IndexError):
+                    found[task] = [int(it) / 1e9 for it in pathlib.Path(f"/proc/{pid}/task/{task}/schedstat").read_text().split()[:2]]
     return found
 
 
