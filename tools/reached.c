@@ -3,11 +3,12 @@
  *
  * The compiler calls __sanitizer_cov_trace_pc at the beginning of each block (-fsanitize-coverage=trace-pc). The file has a byte for each byte of the
  * program's code, and that of the place where the call returns is set. All processes of a test share the file, so nothing is lost where one ends by
- * abort(3), by _exit(2) or by a signal. Nothing of it calls malloc(3), which some tests lead elsewhere.
+ * abort(3), by _exit(2) or by a signal. It calls the kernel alone, as some tests lead calls of the C library elsewhere.
  */
 #include <fcntl.h>
 #include <stdlib.h>
 #include <sys/mman.h>
+#include <sys/syscall.h>
 #include <unistd.h>
 
 /* The linker's: the program's first byte, and the one behind its code. */
@@ -19,14 +20,14 @@ static unsigned char *marks;
 __attribute__((constructor(101))) static void share_marks(void)
 {
 	const char *path = getenv("REACHED");
-	int file = path == NULL ? -1 : open(path, O_RDWR | O_CREAT | O_CLOEXEC, 0666);
-	if (file < 0 || ftruncate(file, etext - __executable_start) != 0)
+	long file = path == NULL ? -1 : syscall(SYS_openat, AT_FDCWD, path, O_RDWR | O_CREAT | O_CLOEXEC, 0666);
+	if (file < 0 || syscall(SYS_ftruncate, file, etext - __executable_start) != 0)
 		_exit(3);
-	void *shared = mmap(NULL, (size_t)(etext - __executable_start), PROT_READ | PROT_WRITE, MAP_SHARED, file, 0);
-	if (shared == MAP_FAILED)
+	long shared = syscall(SYS_mmap, NULL, etext - __executable_start, PROT_READ | PROT_WRITE, MAP_SHARED, file, 0);
+	if (shared == -1)
 		_exit(3);
-	marks = shared;
-	close(file);
+	marks = (unsigned char *)shared;
+	syscall(SYS_close, file);
 }
 
 void __sanitizer_cov_trace_pc(void);
