@@ -8,7 +8,7 @@
 #include "src/layer.h"
 #include "test.h"
 
-enum { MOST_HELD = 8, PASSES = 60, REFERENCES = KUPALDIZ_REFERENCES + 2 };
+enum { MOST_HELD = 8, MOST_WAITS = 2, PASSES = 60, REFERENCES = KUPALDIZ_REFERENCES + 2 };
 
 static _Thread_local const pthread_mutex_t *locks[MOST_HELD];	/* that the thread has */
 static _Thread_local unsigned lock_count;
@@ -101,7 +101,7 @@ static struct guarded_bank look_at(const struct bank *bank)
 	return now;
 }
 
-/* The counts of a bank are right: so many rows have an owner, so many CPUs take it for their sections. */
+/* The counts of a bank are right: so many rows have an owner, so many CPUs take it for their sections. No more threads perform than there are. */
 static void judge_counts(const struct bank *bank)
 {
 	unsigned live = 0, hosts = 0;
@@ -109,7 +109,7 @@ static void judge_counts(const struct bank *bank)
 		live += bank->owners[row] != NULL;
 	for (unsigned cpu = 0; cpu < KUPALDIZ_CPUS; cpu++)
 		hosts += cpus[cpu].bank == bank;
-	EXPECT(bank->live == live && bank->hosts == hosts);
+	EXPECT(bank->live == live && bank->hosts == hosts && bank->waits <= MOST_WAITS);
 }
 
 static void judge_banks(void)
