@@ -47,7 +47,7 @@ count_cases() {
 
 # programs WAY: what the Makefile builds for a way, except what counts its cases.
 programs() {
-    make_layer list-"$1" | tr ' ' '\n' | grep -vE '^(misuse|misuse_kernel|sleepers|unmade|lacks|bytes|full|tells)$'
+    make_layer list-"$1" | tr ' ' '\n' | grep -vE '^(misuse|misuse_kernel|sleepers|unmade|lacks|bytes|cancelled|full|tells)$'
 }
 
 lints() {
@@ -89,6 +89,7 @@ for way in plain sanitized; do
     count_cases "each call with what isn't initialised any more, or was never, by its line, $way" "$out/$way/unmade"
     count_cases "each call where memory, threads or keys run out, $way" "$out/$way/lacks"
     count_cases "each call that wrong bytes of a target or a count mislead, by its line, $way" "$out/$way/bytes"
+    count_cases "a call that stops in a thread that was cancelled, by its line, $way" "$out/$way/cancelled"
 done
 count_cases "each wait that lasts by its line" "$out/small/tells"
 count_cases "each thing that can't be counted any more by its line" "$out/small/full"
