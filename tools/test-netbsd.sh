@@ -47,7 +47,7 @@ count_cases() {
 
 # programs WAY: what the Makefile builds for a way, except what counts its cases.
 programs() {
-    make_layer list-"$1" | tr ' ' '\n' | grep -vE '^(misuse|misuse_kernel|sleepers|unmade|lacks|tells|memory|spin_waits|reports|bytes|full|looks|misuse_locks|misuse_threads)$'
+    make_layer list-"$1" | tr ' ' '\n' | grep -vE '^(misuse|misuse_kernel|sleepers|unmade|lacks|tells|memory|spin_waits|reports|bytes|full|looks|misuse_locks|misuse_threads|cancelled)$'
 }
 
 lints() {
@@ -94,6 +94,7 @@ for way in plain sanitized; do
     count_cases "each wait with a spin lock where it mustn't, by its line, $way" "$out/$way/spin_waits"
     count_cases "lines that are too long or can't be written, and names, $way" "$out/$way/reports"
     count_cases "each call that wrong bytes of a target or a count mislead, by its line, $way" "$out/$way/bytes"
+    count_cases "a call that stops in a thread that was cancelled, by its line, $way" "$out/$way/cancelled"
 done
 count_cases "each wait that lasts by its line" "$out/small/tells"
 count_cases "each thing that can't be counted any more by its line" "$out/small/full"

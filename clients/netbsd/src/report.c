@@ -9,7 +9,7 @@
 
 #include "layer.h"
 
-/* Writes one line at once, so that no other line mixes with it. */
+/* Writes one line at once, so that no other line mixes with it. A thread that was cancelled writes it, too, and goes on. */
 static void write_line(const char *call, const char *place, const char *format, va_list words)
 {
 	char reason[320], line[512];
@@ -20,8 +20,10 @@ static void write_line(const char *call, const char *place, const char *format, 
 		length = sizeof(line) - 1;
 		line[length - 1] = '\n';
 	}
+	int waits = begin_wait();
 	if (write(STDERR_FILENO, line, (size_t)length) != length)
 		perror(call);
+	end_wait(waits);
 }
 
 void stop(const struct thread *me, const char *format, ...)
@@ -60,17 +62,19 @@ void done(const struct thread *me, uint32_t answer)
 	stop(me, "%s", text);
 }
 
-/* What a thread is called: the system's name of it, as it is now. */
+/* What a thread is called: the system's name of it, as it is now. The caller isn't cancelled meanwhile. */
 const char *name_of(const struct thread *thread, char *text, size_t room)
 {
 	char path[64];
 	if (thread->name[0] != '\0')
 		return thread->name;
 	snprintf(path, sizeof(path), "/proc/self/task/%d/comm", __atomic_load_n(&thread->id, __ATOMIC_RELAXED));
+	int waits = begin_wait();
 	int file = open(path, O_RDONLY | O_CLOEXEC);
 	ssize_t length = file < 0 ? -1 : read(file, text, room - 1);
 	if (file >= 0)
 		close(file);
+	end_wait(waits);
 	if (length <= 0)
 		return "?";
 	text[length] = '\0';

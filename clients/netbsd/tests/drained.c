@@ -1,5 +1,5 @@
 /*
- * drained - how a drain ends: woken by the last release, and not before that has let go of the lock, which is freed with the object at once
+ * drained - how a drain waits and ends: woken by the last release, and not before that has let go of the lock, which is freed with the object at once
  *
  * Over a layer whose drains look again only after ten seconds, a drain that nobody wakes is too late. The linker leads pthread_mutex_lock and
  * pthread_mutex_unlock here (--wrap): some releases lose their processor before each lock of the layer's that they take, and after each that they
@@ -46,7 +46,7 @@ struct object {
 
 static _Atomic(struct object *) shown;
 static pserialize_t psz;
-static atomic_bool over;
+static atomic_bool over, inside;
 static atomic_uint holds, draining;
 
 static struct object *new_object(void)
@@ -119,6 +119,14 @@ static void *release_last(void *of)
 	return of;
 }
 
+static void end_object(struct object *object)
+{
+	localcount_fini(&object->count);
+	cv_destroy(&object->cv);
+	mutex_destroy(&object->lock);
+	free(object);
+}
+
 /* The last release wakes all that wait: the drain is among them. */
 static void drain_beside_others(void)
 {
@@ -136,10 +144,68 @@ static void drain_beside_others(void)
 	mutex_exit(&object->lock);
 	end_thread(releaser);
 	end_thread(waiter);
-	localcount_fini(&object->count);
-	cv_destroy(&object->cv);
-	mutex_destroy(&object->lock);
-	free(object);
+	end_object(object);
+}
+
+/* Whether the drain waits by its condition variable as it gives its lock up. */
+static bool is_waiting(struct object *object)
+{
+	while (!mutex_tryenter(&object->lock))
+		sleep_for(50);
+	bool waits = cv_has_waiters(&object->cv);
+	mutex_exit(&object->lock);
+	return waits;
+}
+
+/* The end of a section wakes nobody: a drain that waited for it by its condition variable would go on too late. */
+static void *leave_section(void *of)
+{
+	int s = pserialize_read_enter();
+	atomic_store(&inside, true);
+	EXPECT(!is_waiting(of));
+	pserialize_read_exit(s);
+	return of;
+}
+
+static void drain_under_section(void)
+{
+	pthread_t reader;
+	struct object *object = new_object();
+	atomic_store(&inside, false);
+	mutex_enter(&object->lock);
+	start_thread(&reader, leave_section, object);
+	while (!atomic_load(&inside))
+		sleep_for(50);
+	localcount_drain(&object->count, &object->cv, &object->lock);
+	mutex_exit(&object->lock);
+	end_thread(reader);
+	end_object(object);
+}
+
+/* Where a drain looks again only after a long time it waits to be woken. */
+static void *release_awaited(void *of)
+{
+	struct object *object = of;
+	bool waits = is_waiting(object);
+#ifdef KUPALDIZ_LOOKS
+	EXPECT(waits);
+#endif
+	(void)waits;
+	localcount_release(&object->count, &object->cv, &object->lock);
+	return of;
+}
+
+static void drain_under_reference(void)
+{
+	pthread_t holder;
+	struct object *object = new_object();
+	localcount_acquire(&object->count);
+	mutex_enter(&object->lock);
+	start_thread(&holder, release_awaited, object);
+	localcount_drain(&object->count, &object->cv, &object->lock);
+	mutex_exit(&object->lock);
+	end_thread(holder);
+	end_object(object);
 }
 
 int main(void)
@@ -147,6 +213,8 @@ int main(void)
 	pthread_t holders[HOLDERS];
 	time_t begin = time(NULL);
 	psz = pserialize_create();
+	drain_under_section();
+	drain_under_reference();
 	atomic_store(&shown, new_object());
 	for (unsigned i = 0; i < HOLDERS; i++)
 		start_thread(&holders[i], hold_all, NULL);
