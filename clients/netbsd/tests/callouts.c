@@ -513,16 +513,16 @@ static void end_late(void)
 }
 
 /* What a body sets while a halt waits doesn't run, also where its time has come. After that the callouts of its CPU may set themselves. */
-static void test_halt_ends_next(void)
+static void test_halt_ends_next(unsigned cpu)
 {
 	callout_init(&timer.callout, CALLOUT_MPSAFE);
-	begin_on(3, &timer, stay_and_set);
+	begin_on(cpu, &timer, stay_and_set);
 	meanwhile = end_late;
 	wait_returns = 0;
 	(void)callout_halt(&timer.callout, NULL);
 	EXPECT(atomic_load(&timer.runs) == 1 && !callout_active(&timer.callout));
 	atomic_store(&timer.runs, 0);
-	begin_on(3, &timer, stay_and_set);
+	begin_on(cpu, &timer, stay_and_set);
 	atomic_fetch_add(&ends, 1);
 	await_above(&timer.runs, 1);
 	atomic_fetch_add(&ends, 1);
@@ -734,7 +734,8 @@ int main(void)
 	test_written();
 	test_looked();
 	test_about_to_begin();
-	test_halt_ends_next();
+	for (unsigned cpu = 0; cpu < KUPALDIZ_CPUS; cpu++)
+		test_halt_ends_next(cpu);
 	test_two_bodies();
 	test_set_since();
 	test_no_wait();
