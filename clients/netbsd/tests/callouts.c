@@ -136,6 +136,7 @@ static bool had_turn(const pthread_cond_t *cond, pthread_mutex_t *mutex)
 	void (*what)(void) = meanwhile;
 	if (what == NULL || cond != atomic_load(&changed))
 		return false;
+	EXPECT(!is_cancellable());
 	meanwhile = NULL;
 	__wrap_pthread_mutex_unlock(mutex);
 	what();
@@ -590,7 +591,7 @@ static void test_set_since(void)
 	begin_on(3, &timer, stay);
 	meanwhile = set_since;
 	wait_returns = 0;
-	EXPECT(callout_halt(&timer.callout, NULL) && gives == 0);
+	EXPECT(callout_halt(&timer.callout, NULL) && gives == 0 && is_cancellable());
 	EXPECT(!callout_active(&timer.callout) && shown.c_state == timer.callout.c_state);
 	callout_destroy(&timer.callout);
 	atomic_store(&timer.runs, 0);

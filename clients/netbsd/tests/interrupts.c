@@ -127,7 +127,7 @@ static void test_list(void)
 
 /* ---- Ends. ---- */
 
-static atomic_uint entered;
+static atomic_uint entered, let_go;
 
 static void bar_itself(void *arg)
 {
@@ -153,6 +153,29 @@ static void test_over(void)
 	run_there(cookie);
 	softint_disestablish(cookie);
 	atomic_fetch_add(&ended, 1);
+}
+
+static void stay(void *arg)
+{
+	(void)arg;
+	atomic_fetch_add(&entered, 1);
+	await_above(&let_go, 0);
+}
+
+static void let_it_go(void)
+{
+	EXPECT(!is_cancellable());
+	atomic_fetch_add(&let_go, 1);
+}
+
+/* An end that waits isn't cancelled meanwhile. */
+static void test_wait(void)
+{
+	void *cookie = softint_establish(SOFTINT_NET, stay, NULL);
+	run_there(cookie);
+	pauses = let_it_go;
+	softint_disestablish(cookie);
+	EXPECT(pauses == NULL && is_cancellable());
 }
 
 /* ---- A handler that goes on. ---- */
@@ -243,13 +266,6 @@ static void test_lowest(void)
 
 /* ---- Each in a process of its own. ---- */
 
-static void stay(void *arg)
-{
-	(void)arg;
-	atomic_fetch_add(&entered, 1);
-	sleep_for(20000000);
-}
-
 /* Another thread's turn, when the end has begun to wait for the handler. */
 static void end_while(void (*what)(void))
 {
@@ -296,6 +312,7 @@ int main(void)
 	find_list();
 	test_list();
 	test_over();
+	test_wait();
 	test_returns();
 	test_lowest();
 	mutex_destroy(&lock);
