@@ -90,6 +90,18 @@ static void find_list(void)
 	softint_disestablish(cookie);
 }
 
+/* A handler runs before the call returns that schedules it inside a section. */
+static void test_at_once(void)
+{
+	void *cookie = softint_establish(SOFTINT_NET, count, &first_runs);
+	unsigned before = atomic_load(&first_runs);
+	int s = pserialize_read_enter();
+	softint_schedule(cookie);
+	EXPECT(atomic_load(&first_runs) == before + 1);
+	pserialize_read_exit(s);
+	softint_disestablish(cookie);
+}
+
 static void establish_second(void)
 {
 	second = softint_establish(SOFTINT_NET, count, &second_runs);
@@ -269,6 +281,7 @@ static void test_lowest(void)
 /* Another thread's turn, when the end has begun to wait for the handler. */
 static void end_while(void (*what)(void))
 {
+	test_at_once();
 	first = softint_establish(SOFTINT_NET, stay, NULL);
 	run_there(first);
 	pauses = what;
@@ -310,6 +323,7 @@ int main(void)
 	test_processes();
 	mutex_init(&lock, MUTEX_DEFAULT, IPL_SOFTNET);
 	find_list();
+	test_at_once();
 	test_list();
 	test_over();
 	test_wait();
