@@ -136,6 +136,7 @@ static bool had_turn(const pthread_cond_t *cond, pthread_mutex_t *mutex)
 	void (*what)(void) = meanwhile;
 	if (what == NULL || cond != atomic_load(&changed))
 		return false;
+	EXPECT(!is_cancellable());
 	meanwhile = NULL;
 	__wrap_pthread_mutex_unlock(mutex);
 	what();
@@ -195,12 +196,14 @@ ssize_t __wrap_write(int file, const void *bytes, size_t length)
 
 /* ---- Callouts. ---- */
 
-/* A callout with what it did: how often it ran, when and where last, and how often its CPU's soft interrupts were over before. */
+/* A callout with what it did: how often it ran, when and where last, how many runs came before that, and how often its CPU's soft interrupts were over. */
 struct timer {
 	callout_t callout;
-	atomic_uint runs, cpu, idle_before;
+	atomic_uint runs, cpu, runs_before, idle_before;
 	_Atomic int64_t ran_at;
 };
+
+static atomic_uint all_runs;
 
 static void note_run(void *of)
 {
@@ -210,6 +213,7 @@ static void note_run(void *of)
 	atomic_store(&timer->cpu, cpu);
 	atomic_store(&timer->idle_before, atomic_load(&idle[cpu]));
 	atomic_store(&timer->ran_at, atomic_load(&now));
+	atomic_store(&timer->runs_before, atomic_fetch_add(&all_runs, 1));
 	atomic_fetch_add(&timer->runs, 1);
 }
 
@@ -255,7 +259,7 @@ static void begin_on(unsigned cpu, struct timer *timer, void (*body)(void *))
 {
 	unsigned before = atomic_load(&timer->runs);
 	set_on(cpu, timer, 1, body);
-	(void)next_look();
+	EXPECT(next_look() == atomic_load(&now) + TICK);
 	pass(TICK);
 	await_above(&timer->runs, before);
 	EXPECT(atomic_load(&timer->cpu) == cpu);
@@ -368,6 +372,28 @@ static void test_kept(void)
 	end_timer(&kept);
 	end_timer(&other);
 	end_timer(&third);
+}
+
+/* Those of one CPU whose times have come run in the order of their times, however they were set. */
+static void test_order(void)
+{
+	static const int ticks[] = {3, 1, 4, 2};
+	static struct timer timers[4];
+	unsigned before = atomic_load(&all_runs);
+	kupaldiz_bind(2);
+	kpreempt_disable();
+	for (unsigned at = 0; at < 4; at++) {
+		callout_init(&timers[at].callout, CALLOUT_MPSAFE);
+		callout_reset(&timers[at].callout, ticks[at], note_run, &timers[at]);
+	}
+	pass(4 * TICK);
+	kpreempt_enable();
+	kupaldiz_unbind();
+	for (unsigned at = 0; at < 4; at++) {
+		await_run(&timers[at], 1);
+		EXPECT(atomic_load(&timers[at].runs_before) == before + (unsigned)ticks[at] - 1);
+		end_timer(&timers[at]);
+	}
 }
 
 /* ---- What the lock is for. ---- */
@@ -488,16 +514,16 @@ static void end_late(void)
 }
 
 /* What a body sets while a halt waits doesn't run, also where its time has come. After that the callouts of its CPU may set themselves. */
-static void test_halt_ends_next(void)
+static void test_halt_ends_next(unsigned cpu)
 {
 	callout_init(&timer.callout, CALLOUT_MPSAFE);
-	begin_on(3, &timer, stay_and_set);
+	begin_on(cpu, &timer, stay_and_set);
 	meanwhile = end_late;
 	wait_returns = 0;
 	(void)callout_halt(&timer.callout, NULL);
 	EXPECT(atomic_load(&timer.runs) == 1 && !callout_active(&timer.callout));
 	atomic_store(&timer.runs, 0);
-	begin_on(3, &timer, stay_and_set);
+	begin_on(cpu, &timer, stay_and_set);
 	atomic_fetch_add(&ends, 1);
 	await_above(&timer.runs, 1);
 	atomic_fetch_add(&ends, 1);
@@ -565,7 +591,7 @@ static void test_set_since(void)
 	begin_on(3, &timer, stay);
 	meanwhile = set_since;
 	wait_returns = 0;
-	EXPECT(callout_halt(&timer.callout, NULL) && gives == 0);
+	EXPECT(callout_halt(&timer.callout, NULL) && gives == 0 && is_cancellable());
 	EXPECT(!callout_active(&timer.callout) && shown.c_state == timer.callout.c_state);
 	callout_destroy(&timer.callout);
 	atomic_store(&timer.runs, 0);
@@ -705,10 +731,12 @@ int main(void)
 	test_ticks();
 	test_exact();
 	test_kept();
+	test_order();
 	test_written();
 	test_looked();
 	test_about_to_begin();
-	test_halt_ends_next();
+	for (unsigned cpu = 0; cpu < KUPALDIZ_CPUS; cpu++)
+		test_halt_ends_next(cpu);
 	test_two_bodies();
 	test_set_since();
 	test_no_wait();

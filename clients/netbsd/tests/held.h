@@ -51,6 +51,15 @@ int __wrap_pthread_mutex_unlock(pthread_mutex_t *mutex)
 	return answer;
 }
 
+/* Whether this thread ends where it is cancelled. */
+static inline bool is_cancellable(void)
+{
+	int before;
+	pthread_setcancelstate(PTHREAD_CANCEL_DISABLE, &before);
+	pthread_setcancelstate(before, NULL);
+	return before == PTHREAD_CANCEL_ENABLE;
+}
+
 /* Waits until a number is above another one, for a minute at most. */
 static inline void await_above(atomic_uint *number, unsigned other)
 {

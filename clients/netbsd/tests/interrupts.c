@@ -33,12 +33,27 @@ static _Thread_local void (*given)(void), (*pauses)(void);
 static _Thread_local bool wants_lock, is_barred;
 static atomic_uint returns, ended;
 
+/* A handler's thread waits when it has given the list back so many times more, until others had their turn. Nothing orders what it does then after that. */
+static atomic_uint gives_left, turns, turns_over;
+
 static void take_turn(void (**turn)(void))
 {
 	void (*what)(void) = *turn;
 	*turn = NULL;
 	if (what != NULL)
 		what();
+}
+
+static unsigned read_relaxed(atomic_uint *number)
+{
+	return atomic_load_explicit(number, memory_order_relaxed);
+}
+
+static void await_turn(void)
+{
+	atomic_fetch_add_explicit(&turns, 1, memory_order_relaxed);
+	for (unsigned turn = 0; turn < 600000 && read_relaxed(&turns_over) < read_relaxed(&turns); turn++)
+		sleep_for(100);
 }
 
 static void has_given(const pthread_mutex_t *mutex)
@@ -53,6 +68,8 @@ static void has_given(const pthread_mutex_t *mutex)
 	if (is_barred)
 		await_above(&ended, 0);
 	is_barred = false;
+	if (runs_for >= 0 && read_relaxed(&gives_left) > 0 && atomic_fetch_sub_explicit(&gives_left, 1, memory_order_relaxed) == 1)
+		await_turn();
 }
 
 int __wrap_pthread_cond_wait(pthread_cond_t *cond, pthread_mutex_t *mutex)
@@ -87,6 +104,18 @@ static void find_list(void)
 	void *cookie = softint_establish(SOFTINT_NET, count, &first_runs);
 	finds_list = false;
 	EXPECT(cookie != NULL && atomic_load(&list) != NULL);
+	softint_disestablish(cookie);
+}
+
+/* A handler runs before the call returns that schedules it inside a section. */
+static void test_at_once(void)
+{
+	void *cookie = softint_establish(SOFTINT_NET, count, &first_runs);
+	unsigned before = atomic_load(&first_runs);
+	int s = pserialize_read_enter();
+	softint_schedule(cookie);
+	EXPECT(atomic_load(&first_runs) == before + 1);
+	pserialize_read_exit(s);
 	softint_disestablish(cookie);
 }
 
@@ -127,7 +156,7 @@ static void test_list(void)
 
 /* ---- Ends. ---- */
 
-static atomic_uint entered;
+static atomic_uint entered, let_go;
 
 static void bar_itself(void *arg)
 {
@@ -153,6 +182,50 @@ static void test_over(void)
 	run_there(cookie);
 	softint_disestablish(cookie);
 	atomic_fetch_add(&ended, 1);
+}
+
+/* What the thread of a CPU does without the list needs no order: another soft interrupt is established just before the handler begins. */
+static void test_before_handler(void)
+{
+	unsigned before = atomic_load(&idle[4]), runs = atomic_load(&first_runs);
+	first = softint_establish(SOFTINT_NET, count, &first_runs);
+	kupaldiz_bind(4);
+	softint_schedule(first);
+	await_above(&first_runs, runs);
+	await_above(&idle[4], before);
+	atomic_store_explicit(&gives_left, 2, memory_order_relaxed);
+	softint_schedule(first);
+	while (read_relaxed(&turns) == 0)
+		sleep_for(100);
+	establish_second();
+	atomic_fetch_add_explicit(&turns_over, 1, memory_order_relaxed);
+	await_above(&first_runs, runs + 1);
+	kupaldiz_unbind();
+	softint_disestablish(second);
+	softint_disestablish(first);
+}
+
+static void stay(void *arg)
+{
+	(void)arg;
+	atomic_fetch_add(&entered, 1);
+	await_above(&let_go, 0);
+}
+
+static void let_it_go(void)
+{
+	EXPECT(!is_cancellable());
+	atomic_fetch_add(&let_go, 1);
+}
+
+/* An end that waits isn't cancelled meanwhile. */
+static void test_wait(void)
+{
+	void *cookie = softint_establish(SOFTINT_NET, stay, NULL);
+	run_there(cookie);
+	pauses = let_it_go;
+	softint_disestablish(cookie);
+	EXPECT(pauses == NULL && is_cancellable());
 }
 
 /* ---- A handler that goes on. ---- */
@@ -243,16 +316,10 @@ static void test_lowest(void)
 
 /* ---- Each in a process of its own. ---- */
 
-static void stay(void *arg)
-{
-	(void)arg;
-	atomic_fetch_add(&entered, 1);
-	sleep_for(20000000);
-}
-
 /* Another thread's turn, when the end has begun to wait for the handler. */
 static void end_while(void (*what)(void))
 {
+	test_at_once();
 	first = softint_establish(SOFTINT_NET, stay, NULL);
 	run_there(first);
 	pauses = what;
@@ -294,8 +361,11 @@ int main(void)
 	test_processes();
 	mutex_init(&lock, MUTEX_DEFAULT, IPL_SOFTNET);
 	find_list();
+	test_at_once();
 	test_list();
 	test_over();
+	test_before_handler();
+	test_wait();
 	test_returns();
 	test_lowest();
 	mutex_destroy(&lock);
