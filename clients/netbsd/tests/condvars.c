@@ -68,8 +68,9 @@ int __wrap_pthread_cond_timedwait(pthread_cond_t *cond, pthread_mutex_t *mutex, 
 static void test_wait(void)
 {
 	mutex_enter(&lock);
-	keeps_lock = true;
+	keeps_lock = is_timed = true;
 	EXPECT(cv_timedwait(&cv, &lock, 1) == EWOULDBLOCK && !keeps_lock && mutex_owned(&lock));
+	is_timed = false;
 	mutex_exit(&lock);
 	EXPECT(taken == 0);
 }
@@ -113,10 +114,9 @@ static void test_has_waiters(void)
 	EXPECT(!cv_has_waiters(&cv) && atomic_load(&queued) && cv_has_waiters(&cv));
 	mutex_enter(&lock);
 	cv_signal(&cv);
-	EXPECT(!cv_has_waiters(&cv));
+	EXPECT(taken == 0 && !cv_has_waiters(&cv));
 	mutex_exit(&lock);
 	end_thread(late);
-	EXPECT(taken == 0);
 }
 
 /* Of two that wait a signal wakes one, and a broadcast both: neither is in the queue any more. */
@@ -127,12 +127,12 @@ static void test_wakes(void)
 		mutex_enter(&lock);
 		if (turn == 0) {
 			cv_signal(&cv);
-			EXPECT(cv_has_waiters(&cv));
+			EXPECT(taken == 0 && cv_has_waiters(&cv));
 			cv_signal(&cv);
 		} else {
 			cv_broadcast(&cv);
 		}
-		EXPECT(!cv_has_waiters(&cv));
+		EXPECT(taken == 0 && !cv_has_waiters(&cv));
 		mutex_exit(&lock);
 		end_thread(first);
 		end_thread(second);
