@@ -90,7 +90,7 @@ for way in plain sanitized; do
     count_cases "each call that sleeps where it mustn't, by its line, $way" "$out/$way/sleepers"
     count_cases "each call with what isn't initialised any more, or was never, by its line, $way" "$out/$way/unmade"
     count_cases "each call where memory, threads or keys run out, $way" "$out/$way/lacks"
-    count_cases "what memory sees of each call for it, $way" "$out/$way/memory"
+    count_cases "what each call for memory takes and gives back, $way" "$out/$way/memory"
     count_cases "each wait with a spin lock where it mustn't, by its line, $way" "$out/$way/spin_waits"
     count_cases "lines that are too long or can't be written, and names, $way" "$out/$way/reports"
     count_cases "each call that wrong bytes of a target or a count mislead, by its line, $way" "$out/$way/bytes"

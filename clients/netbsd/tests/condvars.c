@@ -22,6 +22,7 @@ int __wrap_pthread_cond_timedwait(pthread_cond_t *cond, pthread_mutex_t *mutex, 
 static kmutex_t lock;
 static kcondvar_t cv;
 static atomic_bool queued;	/* the waiter is in the queue, and has its lock */
+static atomic_bool woken;	/* its wait is over */
 
 static _Thread_local unsigned taken;		/* the C library's locks that the thread has */
 static _Thread_local bool is_waiter, is_timed;
@@ -67,8 +68,9 @@ int __wrap_pthread_cond_timedwait(pthread_cond_t *cond, pthread_mutex_t *mutex, 
 static void test_wait(void)
 {
 	mutex_enter(&lock);
-	keeps_lock = true;
+	keeps_lock = is_timed = true;
 	EXPECT(cv_timedwait(&cv, &lock, 1) == EWOULDBLOCK && !keeps_lock && mutex_owned(&lock));
+	is_timed = false;
 	mutex_exit(&lock);
 	EXPECT(taken == 0);
 }
@@ -79,40 +81,63 @@ static void *wait_for_signal(void *arg)
 	is_waiter = true;
 	cv_wait(&cv, &lock);
 	is_waiter = false;
+	atomic_store(&woken, true);
 	mutex_exit(&lock);
 	return arg;
 }
 
-static pthread_t waiter;
-
-static void start_waiter(void)
+/* Starts a thread that waits until it is woken. */
+static pthread_t start_waiter(void)
 {
+	pthread_t thread;
 	atomic_store(&queued, false);
-	start_thread(&waiter, wait_for_signal, NULL);
-	while (!atomic_load(&queued))
+	atomic_store(&woken, false);
+	start_thread(&thread, wait_for_signal, NULL);
+	while (!atomic_load(&queued)) {
+		EXPECT(!atomic_load(&woken));
 		sleep_for(50);
+	}
+	return thread;
+}
+
+static pthread_t late;
+
+static void start_late(void)
+{
+	late = start_waiter();
 }
 
 /* Who begins to wait after the look isn't seen by it, and is by the next one. */
 static void test_has_waiters(void)
 {
-	then = start_waiter;
+	then = start_late;
 	EXPECT(!cv_has_waiters(&cv) && atomic_load(&queued) && cv_has_waiters(&cv));
 	mutex_enter(&lock);
 	cv_signal(&cv);
+	EXPECT(taken == 0 && !cv_has_waiters(&cv));
 	mutex_exit(&lock);
-	end_thread(waiter);
-	EXPECT(!cv_has_waiters(&cv) && taken == 0);
+	end_thread(late);
 }
 
-static void test_broadcast(void)
+/* Of two that wait a signal wakes one, and a broadcast both: neither is in the queue any more. */
+static void test_wakes(void)
 {
-	start_waiter();
-	mutex_enter(&lock);
-	cv_broadcast(&cv);
-	mutex_exit(&lock);
-	end_thread(waiter);
-	EXPECT(!cv_has_waiters(&cv) && taken == 0);
+	for (unsigned turn = 0; turn < 2; turn++) {
+		pthread_t first = start_waiter(), second = start_waiter();
+		mutex_enter(&lock);
+		if (turn == 0) {
+			cv_signal(&cv);
+			EXPECT(taken == 0 && cv_has_waiters(&cv));
+			cv_signal(&cv);
+		} else {
+			cv_broadcast(&cv);
+		}
+		EXPECT(taken == 0 && !cv_has_waiters(&cv));
+		mutex_exit(&lock);
+		end_thread(first);
+		end_thread(second);
+	}
+	EXPECT(taken == 0);
 }
 
 /* The time that is left may be over already. */
@@ -131,7 +156,7 @@ int main(void)
 	cv_init(&cv, "condvars");
 	test_wait();
 	test_has_waiters();
-	test_broadcast();
+	test_wakes();
 	test_past();
 	cv_destroy(&cv);
 	EXPECT(!cv_is_valid(&cv));
