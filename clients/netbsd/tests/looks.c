@@ -5,6 +5,7 @@
  * would look at, and registry_get: a thread may be told that its CPU counts no more references. The last line counts the cases.
  */
 #include <fcntl.h>
+#include <stdarg.h>
 #include <sys/prctl.h>
 #include <sys/psref.h>
 
@@ -65,10 +66,13 @@ static unsigned looked_at = NOBODY;	/* what the destroyer looks at as it asks fo
 /* The system has a thread's name in a file. Nobody else has the CPU whose table the thread was found in. */
 int __wrap_open(const char *path, int flags, ...)
 {
-	EXPECT((flags & O_CREAT) == 0);
+	va_list words;
+	va_start(words, flags);
+	const unsigned mode = (flags & O_CREAT) != 0 ? va_arg(words, unsigned) : 0;
+	va_end(words);
 	if (destroys && looked_at != NOBODY)
 		EXPECT(!is_free(looked_at));
-	return __real_open(path, flags);
+	return __real_open(path, flags, mode);
 }
 
 /* Between two looks at a CPU that is taken whoever has it lets it go, if that is what it does. No other pause of a wait is as long. */
