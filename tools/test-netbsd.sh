@@ -47,7 +47,7 @@ count_cases() {
 
 # programs WAY: what the Makefile builds for a way, except what counts its cases.
 programs() {
-    make_layer list-"$1" | tr ' ' '\n' | grep -vE '^(misuse|misuse_kernel|sleepers|unmade|lacks|tells)$'
+    make_layer list-"$1" | tr ' ' '\n' | grep -vE '^(misuse|misuse_kernel|misuse_locks|sleepers|unmade|lacks|tells)$'
 }
 
 lints() {
@@ -85,6 +85,7 @@ fi
 for way in plain sanitized; do
     count_cases "each misuse of the three pages by its line, $way" "$out/$way/misuse"
     count_cases "each misuse of locks, memory and threads by its line, $way" "$out/$way/misuse_kernel"
+    count_cases "further misuses of locks by their lines, $way" "$out/$way/misuse_locks"
     count_cases "each call that sleeps where it mustn't, by its line, $way" "$out/$way/sleepers"
     count_cases "each call with what isn't initialised any more, or was never, by its line, $way" "$out/$way/unmade"
     count_cases "each call where memory, threads or keys run out, $way" "$out/$way/lacks"
