@@ -26,7 +26,7 @@ static void *take_and_end(void *of)
 	mutex_exit(&object->lock);
 	mutex_destroy(&object->lock);
 	leave_gate();
-	memset(object, 0xdb, sizeof(*object));
+	spoil(object, sizeof(*object));
 	atomic_store(&gone, true);
 	return of;
 }
