@@ -140,6 +140,48 @@ static void test_wanted(void)
 	rw_exit(&rw);
 }
 
+static void nothing(void)
+{
+}
+
+static bool is_before(const struct timespec *first, const struct timespec *second)
+{
+	return first->tv_sec < second->tv_sec || (first->tv_sec == second->tv_sec && first->tv_nsec < second->tv_nsec);
+}
+
+/*
+ * A reader's patience ends when nobody has the lock: a writer that came before was woken, and hasn't gone on yet. The reader says nothing then. It does so
+ * later, once, when it waits for the writer.
+ */
+static void test_nobody(void)
+{
+	pthread_t of_writer, of_reader;
+	struct writer writer = {0};
+	struct gate reader = {.says = nothing};
+	rw_enter(&rw, RW_READER);
+	start_thread(&of_writer, write_long, &writer);
+	await_waits(&writer.gate, 1);
+	start_thread(&of_reader, read_once, &reader);
+	await_waits(&reader, 1);
+	const struct timespec end = reader.end;
+	atomic_store(&writer.gate.held, true);
+	rw_exit(&rw);
+	await_waits(&reader, 2);
+	end_time(&reader);
+	await_waits(&reader, 3);
+	EXPECT(atomic_load(&said) == 0 && reader.ends && is_before(&end, &reader.end));
+	atomic_store(&writer.gate.held, false);
+	while (!atomic_load(&writer.writes))
+		sleep_for(50);
+	end_time(&reader);
+	await_waits(&reader, 4);
+	EXPECT(!reader.ends);
+	atomic_store(&writer.goes, true);
+	end_thread(of_writer);
+	end_thread(of_reader);
+	EXPECT(atomic_exchange(&said, 0) == 1);
+}
+
 int main(void)
 {
 	test_words();
@@ -147,6 +189,7 @@ int main(void)
 	test_in_time((rw_exit), false);
 	test_in_time(rw_downgrade, true);
 	test_wanted();
+	test_nobody();
 	rw_destroy(&rw);
 	puts("locks of readers and writers were used with the lock of their bucket");
 	return 0;
