@@ -1,6 +1,7 @@
 /*
- * in_bench.h - read by the compiler before clients/netbsd/tests/misuse.c, misuse_kernel.c, sleepers.c and unmade.c, in place of their stops.h: each case
- * runs in the bench, which must find its line. All threads are called as the program is, as there. The case of a fork is left out: each run of the bench is in a child.
+ * in_bench.h - read by the compiler before misuse.c, misuse_kernel.c, misuse_locks.c, sleepers.c and unmade.c of clients/netbsd/tests, in place of their
+ * stops.h: each case runs in the bench, which must find its line. All threads are called as the program is, as there. The case of a fork is left out: each
+ * run of the bench is in a child.
  */
 #ifndef NETBSD_STOPS_H
 #define NETBSD_STOPS_H

@@ -40,21 +40,30 @@ static bool try(struct thread *me, krwlock_t *rw, krw_t how)
 	return true;
 }
 
-/* Says who has the lock. The caller has the bucket's lock. */
-static void tell(struct thread *me, const krwlock_t *rw)
+/* Says who has the lock. Whether anybody has it. The caller has the bucket's lock. */
+static bool tell(struct thread *me, const krwlock_t *rw)
 {
 	char name[64], where[256];
+	if (rw->rw_writer == 0 && rw->rw_readers == 0)
+		return false;
 	if (rw->rw_writer != 0)
 		say(me, "waits for the lock that thread \"%s\" took as a writer%s",
 		    name_of((const struct thread *)rw->rw_writer, name, sizeof(name)), at_place(rw->rw_place, where, sizeof(where)));
 	else
 		say(me, "waits for %u readers, the last of which took the lock%s", rw->rw_readers, at_place(rw->rw_place, where, sizeof(where)));
+	return true;
+}
+
+/* When a wait says what it waits for: so long from now on. */
+static struct timespec patience(void)
+{
+	return time_after(KUPALDIZ_PATIENCE * INT64_C(1000000));
 }
 
 /* Waits until it has the lock. The caller has the bucket's lock. */
 static void take(struct thread *me, krwlock_t *rw, krw_t how)
 {
-	struct timespec tells = time_after(KUPALDIZ_PATIENCE * INT64_C(1000000));
+	struct timespec tells = patience();
 	bool told = false;
 	rw->rw_wanted += how == RW_WRITER;
 	for (;;) {
@@ -64,8 +73,8 @@ static void take(struct thread *me, krwlock_t *rw, krw_t how)
 		rw->rw_wanted += how == RW_WRITER;
 		if (bucket_wait(bucket_of(rw), rw, me, told ? NULL : &tells) || told)
 			continue;
-		told = true;
-		tell(me, rw);
+		told = tell(me, rw);
+		tells = patience();
 	}
 }
 

@@ -79,7 +79,7 @@ int main(void)
 		pserialize_perform(psz);
 		psref_target_destroy(&member->target, members);
 		EXPECT(atomic_load(&released) == round + 1);
-		memset(member, 0xdb, sizeof(*member));
+		spoil(member, sizeof(*member));
 		free(member);
 	}
 	end_thread(sender);

@@ -94,7 +94,7 @@ static void replace(void)
 	localcount_fini(&object->count);
 	cv_destroy(&object->cv);
 	mutex_destroy(&object->lock);
-	memset(object, 0xdb, sizeof(*object));
+	spoil(object, sizeof(*object));
 	free(object);
 	while (atomic_load(&holds) == before)
 		sleep_for(10);

@@ -1,8 +1,8 @@
 /*
  * gates.h - holds a thread where it waits in the layer, and watches which locks of the layer's own it has
  *
- * The linker leads pthread_mutex_lock, pthread_mutex_unlock, pthread_cond_wait, pthread_cond_timedwait and pthread_cond_signal here (--wrap), and write. No call
- * of the layer waits or signals without one of the layer's own locks.
+ * The linker leads pthread_mutex_lock, pthread_mutex_unlock, pthread_cond_wait, pthread_cond_timedwait, pthread_cond_signal and write here (--wrap). No
+ * call of the layer waits or signals without one of the layer's own locks.
  */
 #ifndef NETBSD_GATES_H
 #define NETBSD_GATES_H
@@ -33,6 +33,7 @@ struct gate {
 	atomic_bool signalled;
 	_Atomic(pthread_cond_t *) cond;
 	pthread_mutex_t *mutex;
+	bool ends;			/* its wait has an end */
 	struct timespec end;		/* of its last wait that has one */
 	void (*woken)(void);		/* what it calls once, when it is woken and has the lock that it waits with */
 	void (*says)(void);		/* what it calls instead of writing a line */
@@ -115,6 +116,7 @@ static inline int wait_at(struct gate *gate, pthread_cond_t *cond, pthread_mutex
 	void (*woken)(void) = gate->woken;
 	atomic_store(&gate->cond, cond);
 	gate->mutex = mutex;
+	gate->ends = ends;
 	atomic_store(&gate->signalled, false);
 	atomic_fetch_add(&gate->waits, 1);
 	while (!atomic_load(&gate->signalled) && !(is_late = ends && atomic_exchange(&gate->late, false)))

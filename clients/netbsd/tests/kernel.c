@@ -767,7 +767,7 @@ static void end_itself(void *of)
 	struct timer *timer = of;
 	EXPECT(callout_halt(&timer->callout, NULL));
 	callout_destroy(&timer->callout);
-	memset(timer, 0xdb, sizeof(*timer));
+	spoil(timer, sizeof(*timer));
 	free(timer);
 	atomic_fetch_add(&fired, 1);
 }

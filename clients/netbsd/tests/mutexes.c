@@ -10,14 +10,14 @@
 
 struct object {
 	kmutex_t lock;
-	struct gate gate;	/* of the thread that frees it */
+	struct gate gate;	/* of the thread that ends it */
 };
 
 static kmutex_t other;
 static atomic_bool gone;
 
-/* Waits for the lock, and frees the object: nobody else comes to it any more. */
-static void *take_and_free(void *of)
+/* Waits for the lock, and ends the object: nobody else comes to it any more. */
+static void *take_and_end(void *of)
 {
 	struct object *object = of;
 	kupaldiz_bind(3);
@@ -26,10 +26,9 @@ static void *take_and_free(void *of)
 	mutex_exit(&object->lock);
 	mutex_destroy(&object->lock);
 	leave_gate();
-	memset(object, 0xdb, sizeof(*object));
-	free(object);
+	spoil(object, sizeof(*object));
 	atomic_store(&gone, true);
-	return NULL;
+	return of;
 }
 
 static void await_gone(void)
@@ -52,15 +51,14 @@ static void spin_exit_it(kmutex_t *mutex)
 static void test_gone(int level, void (*give_back)(kmutex_t *))
 {
 	pthread_t thread;
-	struct object *object = calloc(1, sizeof(*object));
-	EXPECT(object != NULL);
+	struct object object = {.gate = {0}};
 	atomic_store(&gone, false);
-	mutex_init(&object->lock, MUTEX_DEFAULT, level);
-	mutex_enter(&object->lock);
-	start_thread(&thread, take_and_free, object);
-	await_waits(&object->gate, 1);
+	mutex_init(&object.lock, MUTEX_DEFAULT, level);
+	mutex_enter(&object.lock);
+	start_thread(&thread, take_and_end, &object);
+	await_waits(&object.gate, 1);
 	after_unlock = await_gone;
-	give_back(&object->lock);
+	give_back(&object.lock);
 	EXPECT(atomic_load(&gone));
 	end_thread(thread);
 	EXPECT(!kpreempt_disabled());

@@ -43,7 +43,7 @@ static void take(struct taker *taker)
 {
 	use_gate(&taker->gate);
 	mutex_enter(taker->lock);
-	EXPECT(mutex_owned(taker->lock));
+	EXPECT(mutex_owned(taker->lock) && locked == 0);
 	atomic_store(&taker->has, true);
 	while (!atomic_load(&taker->leaves))
 		sleep_for(50);
@@ -155,7 +155,7 @@ static void tell_slowly(void)
 		sleep_for(50);
 }
 
-/* It isn't in the queue meanwhile. It says so once, and waits again for whoever took the lock. */
+/* It isn't in the queue meanwhile. It says so once, and then waits for ever for whoever took the lock. */
 static void test_told(void)
 {
 	struct taker taker = {.lock = &lock, .gate = {.says = tell_slowly}};
@@ -168,7 +168,7 @@ static void test_told(void)
 	EXPECT(mutex_tryenter(&lock));
 	atomic_store(&told, true);
 	await_waits(&taker.gate, 2);
-	EXPECT(!atomic_load(&taker.has));
+	EXPECT(!taker.gate.ends && !atomic_load(&taker.has));
 	mutex_exit(&lock);
 	while (!atomic_load(&taker.has))
 		sleep_for(50);
@@ -385,10 +385,13 @@ static void nothing(void *arg)
 	(void)arg;
 }
 
+static atomic_bool lent;
+
 /* It goes on once the thread that it has interrupted waits. */
 static void await_lender(void *of)
 {
 	await_waits(of, 1);
+	atomic_store(&lent, true);
 }
 
 /* A thread that has waited for a soft interrupt can be cancelled as before. The thread of soft interrupts is there already: its begin isn't waited for. */
@@ -404,6 +407,7 @@ static void test_lent(void)
 	use_gate(&gate);
 	softint_schedule(cookie);
 	leave_gate();
+	EXPECT(atomic_load(&lent) && locked == 0);
 	EXPECT(pthread_setcancelstate(PTHREAD_CANCEL_ENABLE, &before) == 0 && before == PTHREAD_CANCEL_ENABLE);
 	pserialize_read_exit(s);
 	kupaldiz_unbind();

@@ -82,37 +82,114 @@ static void *read_once(void *of)
 	return of;
 }
 
-/* Who waited not for long says nothing. */
-static void test_in_time(void (*go_on)(void))
+/* Who wait to read are woken by the writer's call that lets them go on. They say nothing where that was in time. */
+static void test_in_time(void (*let_go)(krwlock_t *), bool stays)
+{
+	enum { WAITERS = 2 };
+	pthread_t threads[WAITERS];
+	struct gate of_readers[WAITERS] = {0};
+	rw_enter(&rw, RW_WRITER);
+	for (unsigned i = 0; i < WAITERS; i++) {
+		start_thread(&threads[i], read_once, &of_readers[i]);
+		await_waits(&of_readers[i], 1);
+	}
+	let_go(&rw);
+	for (unsigned i = 0; i < WAITERS; i++)
+		EXPECT(atomic_load(&of_readers[i].signalled));
+	for (unsigned i = 0; i < WAITERS; i++)
+		end_thread(threads[i]);
+	EXPECT(atomic_load(&said) == 0 && rw_read_held(&rw) == stays);
+	if (stays)
+		rw_exit(&rw);
+}
+
+/* A writer that keeps the lock until it is told to go. */
+struct writer {
+	struct gate gate;
+	atomic_bool writes, goes;
+};
+
+static void *write_long(void *of)
+{
+	struct writer *writer = of;
+	use_gate(&writer->gate);
+	rw_enter(&rw, RW_WRITER);
+	EXPECT(rw_write_held(&rw));
+	atomic_store(&writer->writes, true);
+	while (!atomic_load(&writer->goes))
+		sleep_for(50);
+	rw_exit(&rw);
+	leave_gate();
+	return of;
+}
+
+/* While a writer waits no other reader comes in. When it was there, readers come in again. */
+static void test_wanted(void)
 {
 	pthread_t thread;
-	struct gate gate = {0};
-	rw_enter(&rw, RW_WRITER);
-	start_thread(&thread, read_once, &gate);
-	await_waits(&gate, 1);
-	go_on();
+	struct writer writer = {0};
+	rw_enter(&rw, RW_READER);
+	start_thread(&thread, write_long, &writer);
+	await_waits(&writer.gate, 1);
+	EXPECT(!rw_tryenter(&rw, RW_READER));
+	rw_exit(&rw);
+	EXPECT(atomic_load(&writer.gate.signalled));
+	atomic_store(&writer.goes, true);
 	end_thread(thread);
-	EXPECT(atomic_load(&said) == 0);
-}
-
-static void end_write(void)
-{
+	EXPECT(rw_tryenter(&rw, RW_READER));
 	rw_exit(&rw);
 }
 
-static void become_reader(void)
+static void nothing(void)
 {
-	rw_downgrade(&rw);
-	EXPECT(rw_read_held(&rw));
+}
+
+static bool is_before(const struct timespec *first, const struct timespec *second)
+{
+	return first->tv_sec < second->tv_sec || (first->tv_sec == second->tv_sec && first->tv_nsec < second->tv_nsec);
+}
+
+/*
+ * A reader's patience ends when nobody has the lock: a writer that came before was woken, and hasn't gone on yet. The reader says nothing then. It does so
+ * later, once, when it waits for the writer.
+ */
+static void test_nobody(void)
+{
+	pthread_t of_writer, of_reader;
+	struct writer writer = {0};
+	struct gate reader = {.says = nothing};
+	rw_enter(&rw, RW_READER);
+	start_thread(&of_writer, write_long, &writer);
+	await_waits(&writer.gate, 1);
+	start_thread(&of_reader, read_once, &reader);
+	await_waits(&reader, 1);
+	const struct timespec end = reader.end;
+	atomic_store(&writer.gate.held, true);
 	rw_exit(&rw);
+	await_waits(&reader, 2);
+	end_time(&reader);
+	await_waits(&reader, 3);
+	EXPECT(atomic_load(&said) == 0 && reader.ends && is_before(&end, &reader.end));
+	atomic_store(&writer.gate.held, false);
+	while (!atomic_load(&writer.writes))
+		sleep_for(50);
+	end_time(&reader);
+	await_waits(&reader, 4);
+	EXPECT(!reader.ends);
+	atomic_store(&writer.goes, true);
+	end_thread(of_writer);
+	end_thread(of_reader);
+	EXPECT(atomic_exchange(&said, 0) == 1);
 }
 
 int main(void)
 {
 	test_words();
 	rw_init(&rw);
-	test_in_time(end_write);
-	test_in_time(become_reader);
+	test_in_time((rw_exit), false);
+	test_in_time(rw_downgrade, true);
+	test_wanted();
+	test_nobody();
 	rw_destroy(&rw);
 	puts("locks of readers and writers were used with the lock of their bucket");
 	return 0;

@@ -1,5 +1,5 @@
 /*
- * What the tests share: threads, and a short sleep.
+ * What the tests share: threads, a short sleep, and memory that is given back.
  */
 #ifndef NETBSD_TEST_H
 #define NETBSD_TEST_H
@@ -18,6 +18,13 @@ static inline void sleep_for(long microseconds)
 {
 	const struct timespec time = {microseconds / 1000000, microseconds % 1000000 * 1000};
 	nanosleep(&time, NULL);
+}
+
+/* Writes over a block that is given back next. The compiler would leave out a plain memset before a free. */
+static inline void spoil(void *block, size_t size)
+{
+	memset(block, 0xdb, size);
+	__asm__ volatile("" : : "r"(block) : "memory");
 }
 
 static inline void start_thread(pthread_t *thread, void *(*body)(void *), void *arg)
