@@ -2,7 +2,8 @@
  * ends - the ends of threads, and time: destructors of keys that still give something back, cancellation in each call that waits, waits that last as long
  * as they say over the turn of a second, and no clock that anybody sets
  *
- * The linker leads clock_gettime, pthread_cond_init and pthread_cond_timedwait here (--wrap), so that each clock is seen.
+ * The linker leads clock_gettime, pthread_cond_init, pthread_cond_wait, pthread_cond_timedwait and nanosleep here (--wrap), so that each clock and each
+ * wait is seen.
  */
 #include <errno.h>
 #include <sys/callout.h>
@@ -26,6 +27,10 @@ int __real_pthread_cond_init(pthread_cond_t *cond, const pthread_condattr_t *how
 int __wrap_pthread_cond_init(pthread_cond_t *cond, const pthread_condattr_t *how);
 int __real_pthread_cond_timedwait(pthread_cond_t *cond, pthread_mutex_t *mutex, const struct timespec *end);
 int __wrap_pthread_cond_timedwait(pthread_cond_t *cond, pthread_mutex_t *mutex, const struct timespec *end);
+int __real_pthread_cond_wait(pthread_cond_t *cond, pthread_mutex_t *mutex);
+int __wrap_pthread_cond_wait(pthread_cond_t *cond, pthread_mutex_t *mutex);
+int __real_nanosleep(const struct timespec *time, struct timespec *rest);
+int __wrap_nanosleep(const struct timespec *time, struct timespec *rest);
 
 enum { CONDS = 256, WAITS = 70 };
 
@@ -56,9 +61,37 @@ int __wrap_pthread_cond_init(pthread_cond_t *cond, const pthread_condattr_t *how
 	return __real_pthread_cond_init(cond, how);
 }
 
+/* Whether this thread is in a call that waits, and whether one such has waited. */
+static _Thread_local bool in_call;
+static atomic_bool has_waited;
+
+/* A thread can't be cancelled while it waits in a call. */
+static void judge_wait(void)
+{
+	int state;
+	if (!in_call)
+		return;
+	pthread_setcancelstate(PTHREAD_CANCEL_DISABLE, &state);
+	EXPECT(state == PTHREAD_CANCEL_DISABLE);
+	atomic_store(&has_waited, true);
+}
+
+int __wrap_nanosleep(const struct timespec *time, struct timespec *rest)
+{
+	judge_wait();
+	return __real_nanosleep(time, rest);
+}
+
+int __wrap_pthread_cond_wait(pthread_cond_t *cond, pthread_mutex_t *mutex)
+{
+	judge_wait();
+	return __real_pthread_cond_wait(cond, mutex);
+}
+
 int __wrap_pthread_cond_timedwait(pthread_cond_t *cond, pthread_mutex_t *mutex, const struct timespec *end)
 {
 	bool found = false;
+	judge_wait();
 	for (unsigned place = 0; place < CONDS && !found; place++)
 		found = atomic_load(&monotonic[place]) == cond;
 	EXPECT(found && end->tv_nsec >= 0 && end->tv_nsec < 1000000000);
@@ -282,7 +315,9 @@ static void (*const waits[])(void) = {in_perform, in_destroy, in_drain, in_mutex
 /* Waits in one of the calls while it is cancelled: the call ends as without, and then the thread does. */
 static void *wait_in(void *of)
 {
+	in_call = true;
 	(*(void (*const *)(void))of)();
+	in_call = false;
 	atomic_fetch_add(&given_back, 1);
 	pthread_testcancel();
 	return NULL;
@@ -295,11 +330,13 @@ static void test_cancelled(void (*const *wait)(void))
 	unsigned before = atomic_load(&given_back);
 	atomic_store(&ready, false);
 	atomic_store(&over, false);
+	atomic_store(&has_waited, false);
 	start_thread(&holder, hold_all, NULL);
 	while (!atomic_load(&ready))
 		sleep_for(100);
 	EXPECT(pthread_create(&waiter, NULL, wait_in, (void *)(uintptr_t)wait) == 0);
-	sleep_for(20000);
+	while (!atomic_load(&has_waited))
+		sleep_for(100);
 	EXPECT(pthread_cancel(waiter) == 0);
 	sleep_for(3000);
 	EXPECT(atomic_load(&given_back) == before);
@@ -325,10 +362,12 @@ static void note_run(void *arg)
 static void *schedule_cancelled(void *of)
 {
 	EXPECT(pthread_cancel(pthread_self()) == 0);
+	in_call = true;
 	int bound = curlwp_bind();
 	curlwp_bindx(bound);
 	kupaldiz_bind(6);
 	softint_schedule(of);
+	in_call = false;
 	atomic_fetch_add(&given_back, 1);
 	pthread_testcancel();
 	return NULL;

@@ -2,7 +2,7 @@
  * threads - what the layer keeps of threads, and the CPU that a thread gets: memory that is used again, and never by two at once; a thread of
  * kthread_create's until its join; the CPU that is free, or has the fewest bound threads
  *
- * The linker leads locks, condition variables, memory, pthread_create and pthread_detach here (--wrap). Each thread notes the locks that it has. It may do
+ * The linker leads locks, condition variables, memory, pthread_create, pthread_detach and nanosleep here (--wrap). Each thread notes the locks that it has. It may do
  * something once it has given one back, while its call goes on.
  */
 #include <errno.h>
@@ -32,6 +32,8 @@ int __real_pthread_create(pthread_t *thread, const pthread_attr_t *how, void *(*
 int __wrap_pthread_create(pthread_t *thread, const pthread_attr_t *how, void *(*body)(void *), void *arg);
 int __real_pthread_detach(pthread_t thread);
 int __wrap_pthread_detach(pthread_t thread);
+int __real_nanosleep(const struct timespec *time, struct timespec *rest);
+int __wrap_nanosleep(const struct timespec *time, struct timespec *rest);
 void *__real_calloc(size_t count, size_t size);
 void *__wrap_calloc(size_t count, size_t size);
 void __real_free(void *block);
@@ -167,6 +169,27 @@ int __wrap_pthread_detach(pthread_t thread)
 {
 	atomic_fetch_add(&detached, 1);
 	return __real_pthread_detach(thread);
+}
+
+static bool is_cancellable(void)
+{
+	int state;
+	pthread_setcancelstate(PTHREAD_CANCEL_DISABLE, &state);
+	pthread_setcancelstate(state, NULL);
+	return state == PTHREAD_CANCEL_ENABLE;
+}
+
+/* Whether this thread is in kthread_join, and whether such a one has slept. */
+static _Thread_local bool joins;
+static atomic_bool has_slept;
+
+int __wrap_nanosleep(const struct timespec *time, struct timespec *rest)
+{
+	if (joins) {
+		EXPECT(!is_cancellable());
+		atomic_store(&has_slept, true);
+	}
+	return __real_nanosleep(time, rest);
 }
 
 /* ---- Memory of threads. ---- */
@@ -397,6 +420,24 @@ static void test_joined(void)
 	EXPECT(kthread_join(worker) == 0 && lock_count == 0 && blocks == before && atomic_load(&itself) == worker);
 }
 
+static void work_long(void *arg)
+{
+	EXPECT(arg == NULL);
+	while (!atomic_load(&has_slept))
+		sleep_for(50);
+}
+
+/* It goes on until the thread that joins it sleeps. That one can't be cancelled meanwhile. */
+static void test_join_waits(void)
+{
+	lwp_t *worker = NULL;
+	EXPECT(kthread_create(PRI_NONE, KTHREAD_MUSTJOIN, NULL, work_long, NULL, &worker, "worker") == 0 && is_cancellable());
+	joins = true;
+	EXPECT(kthread_join(worker) == 0 && atomic_load(&has_slept));
+	joins = false;
+	EXPECT(is_cancellable());
+}
+
 static void test_refused(void)
 {
 	lwp_t *worker = NULL;
@@ -582,6 +623,7 @@ int main(void)
 	test_end_beside();
 	test_unjoined();
 	test_joined();
+	test_join_waits();
 	test_refused();
 	test_cancelled();
 	test_joined_early();

@@ -49,11 +49,19 @@ int __wrap_sched_yield(void)
 	return 0;
 }
 
-/* Nobody has the lock of the pause meanwhile. */
+static bool is_cancellable(void)
+{
+	int state;
+	pthread_setcancelstate(PTHREAD_CANCEL_DISABLE, &state);
+	pthread_setcancelstate(state, NULL);
+	return state == PTHREAD_CANCEL_ENABLE;
+}
+
+/* Nobody has the lock of the pause meanwhile, and the thread isn't cancelled. */
 int __wrap_nanosleep(const struct timespec *time, struct timespec *rest)
 {
 	const struct timespec half = {time->tv_sec / 2, time->tv_nsec / 2};
-	EXPECT(sleeps < MOST_SLEEPS && !mutex_owned(&lock));
+	EXPECT(sleeps < MOST_SLEEPS && !mutex_owned(&lock) && !is_cancellable());
 	slept[sleeps++] = *time;
 	if (signals == 0)
 		return 0;
@@ -110,7 +118,7 @@ static void test_pauses(void)
 	for (unsigned i = 0; i < sizeof(each) / sizeof(each[0]); i++) {
 		sleeps = 0;
 		EXPECT(kpause("ticks", i % 2 == 0, each[i].ticks, NULL) == EWOULDBLOCK);
-		EXPECT(sleeps == 1 && is_slept(0, each[i].seconds, each[i].nanoseconds));
+		EXPECT(sleeps == 1 && is_slept(0, each[i].seconds, each[i].nanoseconds) && is_cancellable());
 	}
 }
 
