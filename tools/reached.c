@@ -17,17 +17,24 @@ extern const char etext[] __attribute__((visibility("hidden")));
 
 static unsigned char *marks;
 
+/* A system call. What it takes is as wide as a register: of a narrower argument syscall(2) would read more than there is. */
+static long ask(long number, long first, long second, long third, long fourth, long fifth)
+{
+	return syscall(number, first, second, third, fourth, fifth, 0L);
+}
+
 __attribute__((constructor(101))) static void share_marks(void)
 {
 	const char *path = getenv("REACHED");
-	long file = path == NULL ? -1 : syscall(SYS_openat, AT_FDCWD, path, O_RDWR | O_CREAT | O_CLOEXEC, 0666);
-	if (file < 0 || syscall(SYS_ftruncate, file, etext - __executable_start) != 0)
+	long size = etext - __executable_start;
+	long file = path == NULL ? -1 : ask(SYS_openat, AT_FDCWD, (long)path, O_RDWR | O_CREAT | O_CLOEXEC, 0666, 0);
+	if (file < 0 || ask(SYS_ftruncate, file, size, 0, 0, 0) != 0)
 		_exit(3);
-	long shared = syscall(SYS_mmap, NULL, etext - __executable_start, PROT_READ | PROT_WRITE, MAP_SHARED, file, 0);
+	long shared = ask(SYS_mmap, 0, size, PROT_READ | PROT_WRITE, MAP_SHARED, file);
 	if (shared == -1)
 		_exit(3);
 	marks = (unsigned char *)shared;
-	syscall(SYS_close, file);
+	ask(SYS_close, file, 0, 0, 0, 0);
 }
 
 void __sanitizer_cov_trace_pc(void);
