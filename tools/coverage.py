@@ -25,7 +25,7 @@ SANITIZERS = {"CFLAGS": "", "ADDRESSES": " -fsanitize=address,undefined -fno-san
 MARKER = "__sanitizer_cov_trace_pc"
 # What builds the marker, and where it lies in a lane.
 SOURCE, OBJECT = "reached.c", "clients/out/reached.o"
-COMPILE = "gcc -std=c11 -D_POSIX_C_SOURCE=200809L -O2 -c".split()
+COMPILE = "gcc -std=c11 -D_GNU_SOURCE -Wall -Wextra -Werror -O2 -c".split()
 ROW = re.compile(r"^(\S+) +(\d+|-) +(?:0x)?([0-9a-f]+)\b", re.MULTILINE)
 SYMBOL = re.compile(r"^([0-9a-f]+) [A-Za-z] (\S+)$", re.MULTILINE)
 FUNCTION = re.compile(r"^([0-9a-f]+) ([lg]) .* F \.text\t([0-9a-f]+) (?:\.hidden )?(\S+)$", re.MULTILINE)
