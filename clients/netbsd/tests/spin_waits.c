@@ -30,14 +30,19 @@ static void wait_with(kmutex_t *mutex)
 
 static void handle(void *arg)
 {
-	mutex_enter(arg);
-	wait_with(arg);
+	atomic_store((atomic_bool *)arg, true);
+	mutex_enter(&spin);
+	wait_with(&spin);
 }
 
 static void in_softint(void)
 {
-	softint_schedule(softint_establish(SOFTINT_NET, handle, &spin));
-	sleep_for(20000000);
+	static atomic_bool ran;
+	void *cookie = softint_establish(SOFTINT_NET, handle, &ran);
+	softint_schedule(cookie);
+	while (!atomic_load(&ran))
+		sleep_for(100);
+	softint_disestablish(cookie);
 }
 
 static void in_section(void)
