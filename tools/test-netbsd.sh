@@ -47,7 +47,7 @@ count_cases() {
 
 # programs WAY: what the Makefile builds for a way, except what counts its cases.
 programs() {
-    make_layer list-"$1" | tr ' ' '\n' | grep -vE '^(misuse|misuse_kernel|sleepers|unmade|lacks|tells|memory|spin_waits|reports)$'
+    make_layer list-"$1" | tr ' ' '\n' | grep -vE '^(misuse|misuse_kernel|sleepers|unmade|lacks|tells|memory|timed_waits|reports)$'
 }
 
 lints() {
@@ -89,7 +89,7 @@ for way in plain sanitized; do
     count_cases "each call with what isn't initialised any more, or was never, by its line, $way" "$out/$way/unmade"
     count_cases "each call where memory, threads or keys run out, $way" "$out/$way/lacks"
     count_cases "what each call for memory takes and gives back, $way" "$out/$way/memory"
-    count_cases "each wait with a spin lock where it mustn't, by its line, $way" "$out/$way/spin_waits"
+    count_cases "each wait with a time where it mustn't, by its line, $way" "$out/$way/timed_waits"
     count_cases "lines that are too long or can't be written, and names, $way" "$out/$way/reports"
 done
 count_cases "each wait that lasts by its line" "$out/small/tells"
