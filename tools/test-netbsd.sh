@@ -45,9 +45,18 @@ count_cases() {
     fi
 }
 
-# programs WAY: what the Makefile builds for a way, except what counts its cases.
-programs() {
-    make_layer list-"$1" | tr ' ' '\n' | grep -vE '^(misuse|misuse_kernel|sleepers|unmade|lacks|tells|memory|spin_waits|reports|bytes|full|looks|misuse_locks|misuse_threads|cancelled)$'
+# Whether a program counts its cases, as stops.h does and some do by themselves.
+counts() {
+    grep -qE 'run_cases\(|passed, %' "$folder/tests/$1.c"
+}
+
+# A program, with its words, of a way in which the Makefile builds it.
+try_program() {
+    if counts "$1"; then
+        count_cases "each case of $1, $2" "$out/$2/$1"
+    else
+        check "$1, $2" "$out/$2/$1"
+    fi
 }
 
 lints() {
@@ -66,8 +75,8 @@ counted "each line of the layer is in a test" clients/netbsd/tests/lines.py
 counted "each name that a driver may use, for the layer and for the bench" clients/netbsd/tests/names.py gcc
 for way in plain sanitized raced small late busy; do
     check "the layer and its tests are built, no warning: $way" make_layer $way
-    for test in $(programs $way); do
-        check "$test, $way" "$out/$way/$test"
+    for test in $(make_layer list-$way); do
+        try_program "$test" $way
     done
 done
 check "the manual pages are as the headers say, and each call has one" $folder/pages.py check
@@ -82,21 +91,4 @@ if command -v valgrind >/dev/null; then
         check "$test, under valgrind" watched "$out"/plain/$test
     done
 fi
-for way in plain sanitized; do
-    count_cases "each misuse of the three pages by its line, $way" "$out/$way/misuse"
-    count_cases "each misuse of locks, memory and threads by its line, $way" "$out/$way/misuse_kernel"
-    count_cases "further misuses of locks by their lines, $way" "$out/$way/misuse_locks"
-    count_cases "each misuse by its line that depends on when a thread ends or joins, $way" "$out/$way/misuse_threads"
-    count_cases "each call that sleeps where it mustn't, by its line, $way" "$out/$way/sleepers"
-    count_cases "each call with what isn't initialised any more, or was never, by its line, $way" "$out/$way/unmade"
-    count_cases "each call where memory, threads or keys run out, $way" "$out/$way/lacks"
-    count_cases "what each call for memory takes and gives back, $way" "$out/$way/memory"
-    count_cases "each wait with a spin lock where it mustn't, by its line, $way" "$out/$way/spin_waits"
-    count_cases "lines that are too long or can't be written, and names, $way" "$out/$way/reports"
-    count_cases "each call that wrong bytes of a target or a count mislead, by its line, $way" "$out/$way/bytes"
-    count_cases "a call that stops in a thread that was cancelled, by its line, $way" "$out/$way/cancelled"
-done
-count_cases "each wait that lasts by its line" "$out/small/tells"
-count_cases "each thing that can't be counted any more by its line" "$out/small/full"
-count_cases "each wait for a reference on a CPU that others have by its line" "$out/small/looks"
 finish

@@ -33,11 +33,23 @@ static void begin(void)
 	rw_init(&rw);
 }
 
-/* Runs a handler as a soft interrupt, which stops. */
+static void (*soft_body)(void *);
+
+static void run_softly(void *arg)
+{
+	atomic_store(&ready, true);
+	soft_body(arg);
+}
+
+/* Runs a handler as a soft interrupt, which stops. If it doesn't, the case ends with it. */
 static void as_softint(void (*handler)(void *))
 {
-	softint_schedule(softint_establish(SOFTINT_NET, handler, NULL));
-	sleep_for(20000000);
+	soft_body = handler;
+	void *cookie = softint_establish(SOFTINT_NET, run_softly, NULL);
+	softint_schedule(cookie);
+	while (!atomic_load(&ready))
+		sleep_for(100);
+	softint_disestablish(cookie);
 }
 
 /* ---- mutex(9) ---- */

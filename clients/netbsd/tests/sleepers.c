@@ -185,15 +185,20 @@ static void without_preemption(void)
 
 static void handle(void *arg)
 {
-	(void)arg;
+	atomic_store((atomic_bool *)arg, true);
 	prepare();
 	sleepers[sleeper].body();
 }
 
+/* If the call doesn't stop, the case ends with the handler. */
 static void in_softint(void)
 {
-	softint_schedule(softint_establish(SOFTINT_NET, handle, NULL));
-	sleep_for(20000000);
+	static atomic_bool ran;
+	void *cookie = softint_establish(SOFTINT_NET, handle, &ran);
+	softint_schedule(cookie);
+	while (!atomic_load(&ran))
+		sleep_for(100);
+	softint_disestablish(cookie);
 }
 
 static const struct state {

@@ -1,7 +1,8 @@
 /*
- * spin_waits - a wait for a condition variable with a lock that spins, in each state in which the thread has more than this lock: it stops
+ * timed_waits - a wait for a condition variable, in each state in which it stops: with a lock that spins, where the thread has more than this lock, and
+ * with one that doesn't. If it doesn't stop, its case ends: it waits for one tick, or another thread gets the lock.
  *
- * Each wait is for one tick: if it doesn't stop, its case ends. The last line counts the cases.
+ * The last line counts the cases.
  */
 #include <sys/condvar.h>
 #include <sys/intr.h>
@@ -11,16 +12,17 @@
 
 #include "stops.h"
 
-static kmutex_t spin, other, softspin;
+static kmutex_t lock, spin, other, softspin;
 static kcondvar_t cv;
 
 static void begin(void)
 {
 	kupaldiz_bind(0);
+	mutex_init(&lock, MUTEX_DEFAULT, IPL_NONE);
 	mutex_init(&spin, MUTEX_DEFAULT, IPL_VM);
 	mutex_init(&other, MUTEX_DEFAULT, IPL_VM);
 	mutex_init(&softspin, MUTEX_SPIN, IPL_SOFTNET);
-	cv_init(&cv, "spin");
+	cv_init(&cv, "timed");
 }
 
 static void wait_with(kmutex_t *mutex)
@@ -28,16 +30,23 @@ static void wait_with(kmutex_t *mutex)
 	(void)cv_timedwait(&cv, mutex, 1);
 }
 
+/* ---- With a lock that spins. ---- */
+
 static void handle(void *arg)
 {
-	mutex_enter(arg);
-	wait_with(arg);
+	atomic_store((atomic_bool *)arg, true);
+	mutex_enter(&spin);
+	wait_with(&spin);
 }
 
 static void in_softint(void)
 {
-	softint_schedule(softint_establish(SOFTINT_NET, handle, &spin));
-	sleep_for(20000000);
+	static atomic_bool ran;
+	void *cookie = softint_establish(SOFTINT_NET, handle, &ran);
+	softint_schedule(cookie);
+	while (!atomic_load(&ran))
+		sleep_for(100);
+	softint_disestablish(cookie);
 }
 
 static void in_section(void)
@@ -94,6 +103,44 @@ static void with_this_alone(void)
 	panic("the wait ended");
 }
 
+/* ---- With one that doesn't. ---- */
+
+static void never_made(void)
+{
+	static kcondvar_t never;
+	mutex_enter(&lock);
+	(void)cv_timedwait(&never, &lock, 1);
+}
+
+static void *take_lock(void *arg)
+{
+	(void)arg;
+	mutex_enter(&lock);
+	panic("the lock was given back");
+}
+
+/* Waits for ever: another thread gets the lock if it is given back. */
+static void wait_beside(void)
+{
+	pthread_t thread;
+	start_thread(&thread, take_lock, NULL);
+	cv_wait(&cv, &lock);
+}
+
+static void sleeps_in_section(void)
+{
+	mutex_enter(&lock);
+	(void)pserialize_read_enter();
+	wait_beside();
+}
+
+static void sleeps_unpreempted(void)
+{
+	mutex_enter(&lock);
+	kpreempt_disable();
+	wait_beside();
+}
+
 #define MORE	"cv_timedwait: the thread has more than this spin lock, at PLACE"
 
 static const struct stop_case cases[] = {
@@ -105,6 +152,9 @@ static const struct stop_case cases[] = {
     {raised_little, "cv_timedwait: at a raised level, at PLACE"},
     {preemption_disabled, MORE},
     {with_this_alone, "panic: the wait ended, at PLACE"},
+    {never_made, "cv_timedwait: the condition variable was never initialised, at PLACE"},
+    {sleeps_in_section, "cv_wait: inside a read section, entered at PLACE, at PLACE"},
+    {sleeps_unpreempted, "cv_wait: with preemption disabled, at PLACE"},
 };
 
 int main(void)
