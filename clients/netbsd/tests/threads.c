@@ -267,9 +267,9 @@ static void crowd(void)
 		send_off(&guests[i]);
 }
 
-static void nothing(void *arg)
+static void have_nothing(void *arg)
 {
-	(void)arg;
+	EXPECT(arg == NULL && lock_count == 0);
 }
 
 /* Threads take new memory only where more of them are there at once than ever before. */
@@ -281,7 +281,8 @@ static void test_memory(void)
 	for (unsigned turn = 0; turn < 3; turn++)
 		crowd();
 	EXPECT(atomic_load(&blocks_taken) == before);
-	EXPECT(kthread_create(PRI_NONE, KTHREAD_MUSTJOIN, NULL, nothing, NULL, &worker, "worker") == 0 && kthread_join(worker) == 0);
+	EXPECT(kthread_create(PRI_NONE, KTHREAD_MUSTJOIN, NULL, have_nothing, NULL, &worker, "worker") == 0 && lock_count == 0);
+	EXPECT(kthread_join(worker) == 0 && lock_count == 0);
 	before = atomic_load(&blocks_taken);
 	for (unsigned turn = 0; turn < 3; turn++)
 		crowd();
