@@ -2,8 +2,8 @@
  * threads - what the layer keeps of threads, and the CPU that a thread gets: memory that is used again, and never by two at once; a thread of
  * kthread_create's until its join; the CPU that is free, or has the fewest bound threads
  *
- * The linker leads locks, condition variables, memory, pthread_create, pthread_detach and nanosleep here (--wrap). Each thread notes the locks that it has. It may do
- * something once it has given one back, while its call goes on.
+ * The linker leads locks, condition variables, memory, pthread_create, pthread_detach and nanosleep here (--wrap). Each thread notes the locks that it
+ * has. It may do something once it has given one back, while its call goes on.
  */
 #include <errno.h>
 #include <limits.h>
