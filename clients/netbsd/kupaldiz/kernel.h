@@ -52,7 +52,8 @@ int getticks(void);
 void delay(unsigned microseconds);
 #define DELAY(microseconds)	delay(microseconds)
 
-/* kpause - sleep for so many ticks, without the lock meanwhile, which may be NULL. Returns EWOULDBLOCK. Stops where the thread mustn't sleep. */
+/* kpause - sleep for so many ticks, without the lock meanwhile, which may be NULL. Returns EWOULDBLOCK, since no signal ends it. Stops where the thread
+ * mustn't sleep. */
 int kpause(const char *name, bool interruptible, int ticks, kmutex_t *mutex);
 
 /* ---- kthread(9) ---- */

@@ -335,9 +335,9 @@ static void test_cancelled(void (*const *wait)(void))
 	while (!atomic_load(&ready))
 		sleep_for(100);
 	EXPECT(pthread_create(&waiter, NULL, wait_in, (void *)(uintptr_t)wait) == 0);
-	while (!atomic_load(&has_waited))
+	while (!atomic_load(&has_waited) && atomic_load(&given_back) == before)
 		sleep_for(100);
-	EXPECT(pthread_cancel(waiter) == 0);
+	EXPECT(atomic_load(&has_waited) && pthread_cancel(waiter) == 0);
 	sleep_for(3000);
 	EXPECT(atomic_load(&given_back) == before);
 	atomic_store(&over, true);

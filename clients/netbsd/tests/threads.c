@@ -2,8 +2,8 @@
  * threads - what the layer keeps of threads, and the CPU that a thread gets: memory that is used again, and never by two at once; a thread of
  * kthread_create's until its join; the CPU that is free, or has the fewest bound threads
  *
- * The linker leads locks, condition variables, memory, pthread_create, pthread_detach and nanosleep here (--wrap). Each thread notes the locks that it has. It may do
- * something once it has given one back, while its call goes on.
+ * The linker leads locks, condition variables, memory, pthread_create, pthread_detach and nanosleep here (--wrap). Each thread notes the locks that it
+ * has. It may do something once it has given one back, while its call goes on.
  */
 #include <errno.h>
 #include <limits.h>
@@ -11,6 +11,7 @@
 #include <sys/kthread.h>
 #include <sys/proc.h>
 #include <sys/pserialize.h>
+#include <sys/xcall.h>
 
 #include "test.h"
 
@@ -82,10 +83,12 @@ int __wrap_pthread_mutex_unlock(pthread_mutex_t *mutex)
 	return answer;
 }
 
-static atomic_bool waited;	/* some thread waits, or has waited, with the lock of the wait given back */
+static atomic_bool waited;		/* some thread waits, or has waited, with the lock of the wait given back */
+static _Thread_local bool goes_on;	/* this thread has nothing to wait for */
 
 int __wrap_pthread_cond_wait(pthread_cond_t *cond, pthread_mutex_t *mutex)
 {
+	EXPECT(!goes_on);
 	forget_lock(mutex);
 	atomic_store(&waited, true);
 	int answer = __real_pthread_cond_wait(cond, mutex);
@@ -95,6 +98,7 @@ int __wrap_pthread_cond_wait(pthread_cond_t *cond, pthread_mutex_t *mutex)
 
 int __wrap_pthread_cond_timedwait(pthread_cond_t *cond, pthread_mutex_t *mutex, const struct timespec *end)
 {
+	EXPECT(!goes_on);
 	forget_lock(mutex);
 	atomic_store(&waited, true);
 	int answer = __real_pthread_cond_timedwait(cond, mutex, end);
@@ -267,9 +271,9 @@ static void crowd(void)
 		send_off(&guests[i]);
 }
 
-static void nothing(void *arg)
+static void have_nothing(void *arg)
 {
-	(void)arg;
+	EXPECT(arg == NULL && lock_count == 0);
 }
 
 /* Threads take new memory only where more of them are there at once than ever before. */
@@ -281,7 +285,8 @@ static void test_memory(void)
 	for (unsigned turn = 0; turn < 3; turn++)
 		crowd();
 	EXPECT(atomic_load(&blocks_taken) == before);
-	EXPECT(kthread_create(PRI_NONE, KTHREAD_MUSTJOIN, NULL, nothing, NULL, &worker, "worker") == 0 && kthread_join(worker) == 0);
+	EXPECT(kthread_create(PRI_NONE, KTHREAD_MUSTJOIN, NULL, have_nothing, NULL, &worker, "worker") == 0 && lock_count == 0);
+	EXPECT(kthread_join(worker) == 0 && lock_count == 0);
 	before = atomic_load(&blocks_taken);
 	for (unsigned turn = 0; turn < 3; turn++)
 		crowd();
@@ -541,6 +546,7 @@ static void come_from(unsigned cpu)
 /* Of all CPUs this one alone is free, and has no bound thread. */
 static void test_free(unsigned cpu)
 {
+	goes_on = true;
 	for (unsigned last = 0; last < KUPALDIZ_CPUS; last++) {
 		come_from(last);
 		int s = pserialize_read_enter();
@@ -551,6 +557,7 @@ static void test_free(unsigned cpu)
 		EXPECT(before == 0 && cpu_number() == cpu);
 		curlwp_bindx(before);
 	}
+	goes_on = false;
 }
 
 static atomic_bool entered;
@@ -580,6 +587,31 @@ static void test_kept(unsigned last)
 	want(last, KEPT);
 }
 
+static atomic_bool passed;
+
+static void *pass(void *arg)
+{
+	xc_barrier(0);
+	atomic_store(&passed, true);
+	return arg;
+}
+
+/* A barrier waits for the one CPU that is kept, whichever it is. */
+static void test_barrier(unsigned cpu)
+{
+	pthread_t thread;
+	want(cpu, KEPT);
+	atomic_store(&waited, false);
+	atomic_store(&passed, false);
+	start_thread(&thread, pass, NULL);
+	while (!atomic_load(&waited) && !atomic_load(&passed))
+		sleep_for(50);
+	EXPECT(!atomic_load(&passed));
+	want(cpu, FREE);
+	end_thread(thread);
+	EXPECT(atomic_load(&passed));
+}
+
 /* A thread that isn't bound stays on the CPU that it has, though it has a reason more. */
 static void test_nested(void)
 {
@@ -599,8 +631,10 @@ static void test_cpus(void)
 	test_nested();
 	for (unsigned cpu = 0; cpu < KUPALDIZ_CPUS; cpu++) {
 		start_thread(&keepers[cpu].thread, keep, &keepers[cpu]);
-		want(cpu, KEPT);
+		test_barrier(cpu);
 	}
+	for (unsigned cpu = 0; cpu < KUPALDIZ_CPUS; cpu++)
+		want(cpu, KEPT);
 	for (unsigned cpu = 0; cpu < KUPALDIZ_CPUS; cpu++) {
 		test_kept(cpu);
 		want(cpu, FREE);
