@@ -484,7 +484,7 @@ static void set_second(void *of)
 	}
 }
 
-/* Once the lock is free a callout whose body is about to begin is seen to run: a halt waits for it, and ends what it sets. */
+/* Once the lock is free a callout whose body is about to begin counts as one that runs: a halt waits for it, and ends what it sets. */
 static void test_about_to_begin(void)
 {
 	callout_init(&timer.callout, CALLOUT_MPSAFE);
