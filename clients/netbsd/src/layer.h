@@ -199,8 +199,7 @@ struct cpu {
 	uint32_t room, first_free, counted_elsewhere;
 	uint32_t chains[CHAINS];	/* the first reference of each, by the address of its storage; NOTHING at first */
 	uint64_t serial;
-	uint32_t pending;		/* an atomic: a bit for each level with a soft interrupt that waits, or goes on */
-	uint32_t returning;		/* under the list of those: the bit of a handler that waited for a lock, and goes on */
+	uint32_t pending;		/* an atomic: a bit for each level with a soft interrupt that waits */
 	uint32_t bound;			/* an atomic: threads that are bound to it */
 	char edge;			/* what comes before the end of a section */
 };

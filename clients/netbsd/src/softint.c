@@ -65,10 +65,10 @@ void splx(int level)
 
 /* ---- Handlers. ---- */
 
-/* Writes down which levels have a soft interrupt that waits on a CPU, or goes on there. The caller has the list. */
+/* Writes down which levels have a soft interrupt that waits on a CPU. The caller has the list. */
 void note_pending(struct cpu *cpu)
 {
-	uint32_t pending = cpu->returning;
+	uint32_t pending = 0;
 	for (struct softint *at = softints; at != NULL; at = at->next)
 		if (at->pending[cpu->info.ci_index])
 			pending |= UINT32_C(1) << at->level;

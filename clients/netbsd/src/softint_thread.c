@@ -117,13 +117,11 @@ void step_on(struct thread *me)
 		return;
 	}
 	pthread_mutex_lock(&pending_list);
-	me->cpu->returning = UINT32_C(1) << me->level;
-	note_pending(me->cpu);
+	__atomic_fetch_or(&me->cpu->pending, UINT32_C(1) << me->level, __ATOMIC_RELEASE);
 	__atomic_store_n(&thread_of(me->cpu)->blocked, false, __ATOMIC_RELEASE);
 	pthread_mutex_unlock(&pending_list);
 	lock_take(&me->cpu->hold, me, NULL);
 	pthread_mutex_lock(&pending_list);
-	me->cpu->returning = 0;
 	note_pending(me->cpu);
 	pthread_mutex_unlock(&pending_list);
 }
