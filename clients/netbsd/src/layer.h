@@ -199,7 +199,8 @@ struct cpu {
 	uint32_t room, first_free, counted_elsewhere;
 	uint32_t chains[CHAINS];	/* the first reference of each, by the address of its storage; NOTHING at first */
 	uint64_t serial;
-	uint32_t pending;		/* an atomic: a bit for each level with a soft interrupt that waits */
+	uint32_t pending;		/* an atomic: a bit for each level with a soft interrupt that waits, or that of `goes_on` alone */
+	uint32_t goes_on;		/* the bit of a handler that has waited for a lock, and waits for the CPU; else 0. Under pending_list */
 	uint32_t bound;			/* an atomic: threads that are bound to it */
 	char edge;			/* what comes before the end of a section */
 };
@@ -282,10 +283,16 @@ void schedule_on(struct thread *me, void *cookie, struct cpu *cpu);
 int raise_level(struct thread *me, int level);
 void lower_level(struct thread *me, int level);
 
+/* Whether what waits on the thread's CPU is above the thread's level. The thread has the CPU. */
+static inline bool is_interrupted(const struct thread *me)
+{
+	return (__atomic_load_n(&me->cpu->pending, __ATOMIC_ACQUIRE) >> (me->level + 1)) != 0;
+}
+
 /* Where a call ends that leaves the thread with its CPU: soft interrupts that wait get it now. */
 static inline void end_call(struct thread *me)
 {
-	if (me->holds != 0 && !me->softint && (__atomic_load_n(&me->cpu->pending, __ATOMIC_ACQUIRE) >> (me->level + 1)) != 0)
+	if (me->holds != 0 && !me->softint && is_interrupted(me))
 		offer_cpu(me);
 }
 

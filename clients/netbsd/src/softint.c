@@ -65,14 +65,14 @@ void splx(int level)
 
 /* ---- Handlers. ---- */
 
-/* Writes down which levels have a soft interrupt that waits on a CPU. The caller has the list. */
+/* Writes down which levels have a soft interrupt that waits on a CPU. None begins before a handler that goes on there. The caller has the list. */
 void note_pending(struct cpu *cpu)
 {
 	uint32_t pending = 0;
 	for (struct softint *at = softints; at != NULL; at = at->next)
 		if (at->pending[cpu->info.ci_index])
 			pending |= UINT32_C(1) << at->level;
-	__atomic_store_n(&cpu->pending, pending, __ATOMIC_RELEASE);
+	__atomic_store_n(&cpu->pending, cpu->goes_on != 0 ? cpu->goes_on : pending, __ATOMIC_RELEASE);
 }
 
 /* The next one to run on a CPU, of the highest level that is above a level; NULL where there is none. */

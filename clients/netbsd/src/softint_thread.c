@@ -90,6 +90,9 @@ void offer_cpu(struct thread *me)
 	struct softint_thread *softint_thread = thread_of(me->cpu);
 	if (__atomic_load_n(&softint_thread->blocked, __ATOMIC_ACQUIRE))
 		return;
+	/* A handler that was blocked until now goes on first, and its level may be lower than what was seen to wait. */
+	if (!is_interrupted(me))
+		return;
 	softint_thread->thread->lender = me;
 	lock_pass(&me->cpu->hold, softint_thread->thread);
 	pthread_mutex_lock(&pending_list);
@@ -117,11 +120,13 @@ void step_on(struct thread *me)
 		return;
 	}
 	pthread_mutex_lock(&pending_list);
-	__atomic_fetch_or(&me->cpu->pending, UINT32_C(1) << me->level, __ATOMIC_RELEASE);
+	me->cpu->goes_on = UINT32_C(1) << me->level;
+	note_pending(me->cpu);
 	__atomic_store_n(&thread_of(me->cpu)->blocked, false, __ATOMIC_RELEASE);
 	pthread_mutex_unlock(&pending_list);
 	lock_take(&me->cpu->hold, me, NULL);
 	pthread_mutex_lock(&pending_list);
+	me->cpu->goes_on = 0;
 	note_pending(me->cpu);
 	pthread_mutex_unlock(&pending_list);
 }
