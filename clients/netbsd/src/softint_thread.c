@@ -11,7 +11,7 @@
 struct softint_thread {
 	struct cpu *cpu;
 	struct thread *thread;	/* NULL until it has begun */
-	bool blocked;		/* an atomic: a handler waits for a lock */
+	bool blocked;		/* a handler waits for a lock: written with the CPU as it becomes so, and under the list as it ends */
 };
 
 static struct softint_thread threads[KUPALDIZ_CPUS];
@@ -88,10 +88,11 @@ void want_softint_thread(struct thread *me, struct cpu *cpu)
 void offer_cpu(struct thread *me)
 {
 	struct softint_thread *softint_thread = thread_of(me->cpu);
-	if (__atomic_load_n(&softint_thread->blocked, __ATOMIC_ACQUIRE))
-		return;
-	/* A handler that was blocked until now goes on first, and its level may be lower than what was seen to wait. */
-	if (!is_interrupted(me))
+	pthread_mutex_lock(&pending_list);
+	/* A handler that was blocked goes on first, and may be of a lower level than what was seen to wait. */
+	bool can_run = !softint_thread->blocked && is_interrupted(me);
+	pthread_mutex_unlock(&pending_list);
+	if (!can_run)
 		return;
 	softint_thread->thread->lender = me;
 	lock_pass(&me->cpu->hold, softint_thread->thread);
@@ -108,7 +109,7 @@ void step_off(struct thread *me)
 		lock_give(&me->cpu->hold, me);
 		return;
 	}
-	__atomic_store_n(&thread_of(me->cpu)->blocked, true, __ATOMIC_RELEASE);
+	thread_of(me->cpu)->blocked = true;
 	give_cpu(me);
 }
 
@@ -122,11 +123,10 @@ void step_on(struct thread *me)
 	pthread_mutex_lock(&pending_list);
 	me->cpu->goes_on = UINT32_C(1) << me->level;
 	note_pending(me->cpu);
-	__atomic_store_n(&thread_of(me->cpu)->blocked, false, __ATOMIC_RELEASE);
+	thread_of(me->cpu)->blocked = false;
 	pthread_mutex_unlock(&pending_list);
 	lock_take(&me->cpu->hold, me, NULL);
 	pthread_mutex_lock(&pending_list);
 	me->cpu->goes_on = 0;
-	note_pending(me->cpu);
 	pthread_mutex_unlock(&pending_list);
 }
