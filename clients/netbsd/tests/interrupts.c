@@ -290,11 +290,11 @@ static void nothing(void)
 }
 
 /* Another thread's turn comes when the handler has given the list back with its CPU. */
-static void *establish_in_turn(void *of)
+static void *end_in_turn(void *of)
 {
 	while (read_relaxed(&turns) == read_relaxed(&turns_over))
 		sleep_for(100);
-	establish_second();
+	(void)end_another(of);
 	atomic_fetch_add_explicit(&turns_over, 1, memory_order_relaxed);
 	return of;
 }
@@ -303,7 +303,7 @@ static pthread_t other;
 
 static void take_turn_later(void)
 {
-	start_thread(&other, establish_in_turn, NULL);
+	start_thread(&other, end_in_turn, NULL);
 	atomic_store_explicit(&gives_left, 1, memory_order_relaxed);
 }
 
@@ -318,7 +318,6 @@ static void test_returns(void)
 	EXPECT(atomic_load(&low_runs) == 1);
 	test_goes_on(take_turn_later, IPL_NONE);
 	end_thread(other);
-	softint_disestablish(second);
 	softint_disestablish(blocked);
 	softint_disestablish(low);
 }
