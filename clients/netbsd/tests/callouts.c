@@ -747,8 +747,9 @@ int main(void)
 	test_written();
 	test_looked();
 	test_about_to_begin();
-	for (unsigned cpu = 0; cpu < KUPALDIZ_CPUS; cpu++)
-		test_halt_ends_next(cpu);
+	test_halt_ends_next(0);
+	test_halt_ends_next(3);
+	test_halt_ends_next(KUPALDIZ_CPUS - 1);
 	test_two_bodies();
 	test_set_since();
 	test_no_wait();
