@@ -473,13 +473,24 @@ static void go_on(void)
 	atomic_fetch_add(&past_bar, 1);
 }
 
-/* Once the lock is free a callout whose body is about to begin is seen to run. */
+/* Sets itself again when it runs for the second time, and ends when that time has come. */
+static void set_second(void *of)
+{
+	struct timer *set = of;
+	note_run(of);
+	if (atomic_load(&set->runs) == 2) {
+		callout_schedule(&set->callout, 1);
+		pass(TICK);
+	}
+}
+
+/* Once the lock is free a callout whose body is about to begin counts as one that runs: a halt waits for it, and ends what it sets. */
 static void test_about_to_begin(void)
 {
 	callout_init(&timer.callout, CALLOUT_MPSAFE);
-	begin_on(3, &timer, note_run);
+	begin_on(3, &timer, set_second);
 	await_run(&timer, 1);
-	set_on(3, &timer, 1, note_run);
+	set_on(3, &timer, 1, set_second);
 	(void)next_look();
 	unsigned halted = atomic_load(&halts), before = atomic_load(&at_bar);
 	atomic_store(&is_barred, true);
@@ -488,6 +499,7 @@ static void test_about_to_begin(void)
 	meanwhile = go_on;
 	wait_returns = 0;
 	EXPECT(callout_halt(&timer.callout, NULL) && atomic_load(&timer.runs) == 2 && atomic_load(&halts) > halted);
+	EXPECT(!callout_active(&timer.callout));
 	callout_destroy(&timer.callout);
 	atomic_store(&timer.runs, 0);
 }
@@ -735,8 +747,9 @@ int main(void)
 	test_written();
 	test_looked();
 	test_about_to_begin();
-	for (unsigned cpu = 0; cpu < KUPALDIZ_CPUS; cpu++)
-		test_halt_ends_next(cpu);
+	test_halt_ends_next(0);
+	test_halt_ends_next(3);
+	test_halt_ends_next(KUPALDIZ_CPUS - 1);
 	test_two_bodies();
 	test_set_since();
 	test_no_wait();

@@ -289,6 +289,24 @@ static void nothing(void)
 {
 }
 
+/* Another thread's turn comes when the handler has given the list back with its CPU. */
+static void *end_in_turn(void *of)
+{
+	while (read_relaxed(&turns) == read_relaxed(&turns_over))
+		sleep_for(100);
+	(void)end_another(of);
+	atomic_fetch_add_explicit(&turns_over, 1, memory_order_relaxed);
+	return of;
+}
+
+static pthread_t other;
+
+static void take_turn_later(void)
+{
+	start_thread(&other, end_in_turn, NULL);
+	atomic_store_explicit(&gives_left, 1, memory_order_relaxed);
+}
+
 static void test_returns(void)
 {
 	blocked = softint_establish(SOFTINT_NET, handle_locked, NULL);
@@ -298,6 +316,8 @@ static void test_returns(void)
 	test_goes_on(end_elsewhere, IPL_SOFTBIO);
 	test_goes_on(schedule_low, IPL_SOFTCLOCK);
 	EXPECT(atomic_load(&low_runs) == 1);
+	test_goes_on(take_turn_later, IPL_NONE);
+	end_thread(other);
 	softint_disestablish(blocked);
 	softint_disestablish(low);
 }
