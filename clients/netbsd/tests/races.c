@@ -1,8 +1,8 @@
 /*
- * asked - psref_held looks into the table of its CPU only while the thread has that CPU, as the detector of races sees
+ * races - what orders the threads that have passive references, as the detector of races sees it: the CPU that two share, and the release that a destroy
+ * waits for
  *
- * Two threads share a CPU. One asks for its reference, which is counted elsewhere, and looks at the place of the other one's first. That one writes the place
- * afterwards, and nothing but the CPU is between the two. The linker leads registry_get here (--wrap): a CPU counts no references.
+ * The threads wait for each other by steps that order nothing. The linker leads registry_get here (--wrap): a CPU may count no references.
  */
 #include <sys/psref.h>
 
@@ -15,16 +15,17 @@ uint32_t __wrap_registry_get(struct registry_cpu *cpu, uint64_t kind, const stru
 
 static struct psref_class *things;
 static struct psref_target target, other;
+static bool counts_none;
 static _Thread_local bool is_refused;
 static atomic_uint step;
+static unsigned used;	/* plain */
 
 uint32_t __wrap_registry_get(struct registry_cpu *cpu, uint64_t kind, const struct registry_name *name, struct registry_entry *found)
 {
-	is_refused = !is_refused;
+	is_refused = counts_none && !is_refused;
 	return is_refused ? REGISTRY_PASSIVE_FULL : __real_registry_get(cpu, kind, name, found);
 }
 
-/* A step orders nothing: the CPU alone does. */
 static void await_step(unsigned wanted)
 {
 	while (atomic_load_explicit(&step, memory_order_relaxed) != wanted)
@@ -48,13 +49,15 @@ static void *refer_first(void *arg)
 	return arg;
 }
 
-int main(void)
+/*
+ * psref_held looks into the table of its CPU while the thread has that CPU. It asks for a reference that is counted elsewhere, and looks at the place
+ * of the other thread's first, which that one writes afterwards.
+ */
+static void test_asked(void)
 {
 	pthread_t thread;
 	struct psref psref;
-	things = psref_class_create("thing", IPL_NONE);
-	psref_target_init(&target, things);
-	psref_target_init(&other, things);
+	counts_none = true;
 	kupaldiz_bind(3);
 	start_thread(&thread, refer_first, NULL);
 	await_step(1);
@@ -63,9 +66,45 @@ int main(void)
 	take_step();
 	end_thread(thread);
 	psref_release(&psref, &target, things);
+	kupaldiz_unbind();
+	counts_none = false;
+}
+
+/* Uses what its reference keeps until its release, and does nothing else then that orders it. */
+static void *use(void *arg)
+{
+	struct psref psref;
+	kupaldiz_bind(4);
+	psref_acquire(&psref, &target, things);
+	take_step();
+	used++;
+	psref_release(&psref, &target, things);
+	await_step(4);
+	return arg;
+}
+
+/* What came before the last release is over when the destroy returns. */
+static void test_destroyed(void)
+{
+	pthread_t thread;
+	start_thread(&thread, use, NULL);
+	await_step(3);
 	psref_target_destroy(&target, things);
+	used++;
+	take_step();
+	end_thread(thread);
+	EXPECT(used == 2);
+}
+
+int main(void)
+{
+	things = psref_class_create("thing", IPL_NONE);
+	psref_target_init(&target, things);
+	psref_target_init(&other, things);
+	test_asked();
+	test_destroyed();
 	psref_target_destroy(&other, things);
 	psref_class_destroy(things);
-	puts("nobody looked at a place that another thread was writing");
+	puts("no thread met what another one was writing");
 	return 0;
 }
