@@ -52,9 +52,9 @@ NETBSD_OBJECTS = $(patsubst netbsd/src/%.c,$(OUT)/installed-netbsd/%.o,$(wildcar
 PAGES = registry registry_waiting
 named_by = $(filter-out $(1),$(shell sed -n 's/^\.Nm \(registry_[a-z_]*\).*/\1/p' man/$(1).3 | sort -u))
 
-# The pages of the pages' names: each call that one of them names gets a page that leads there.
+# The pages of the pages' names: each call that one of them names gets a page that leads there, except kupaldiz_cpu, whose name a page has.
 NETBSD_PAGES = $(patsubst man/%.3,%,$(wildcard man/kupaldiz_*.3))
-netbsd_named_by = $(shell sed -n 's/^\.Nm \([A-Za-z_0-9]*\).*/\1/p' man/$(1).3 | sort -u)
+netbsd_named_by = $(filter-out $(1),$(shell sed -n 's/^\.Nm \([A-Za-z_0-9]*\).*/\1/p' man/$(1).3 | sort -u))
 
 # What a library is compiled and linked with. A library of one object is joined without the compiler's link-time steps.
 COMPILED = $(STRICT) $(CPPFLAGS) $(filter-out -flto%,$(CFLAGS)) $(HARDENING) -fPIC -I$(HEADER)

@@ -264,6 +264,35 @@ holds_files() {
     diff <(wanted "$1" | sort) <(installed | sort)
 }
 
+# The manual pages, and the names at the head of each of section 3, which lead to it.
+wanted_pages() {
+    local page name
+    for page in "$clients"/man/{registry,registry_waiting}.3 "$clients"/man/kupaldiz_*.[37]; do
+        echo "${page##*/}"
+        [ "${page%.3}" != "$page" ] || continue
+        for name in $(sed -nE '/^\.Sh NAME/,/^\.Nd/s/^\.Nm ([A-Za-z_0-9]+).*/\1/p' "$page"); do
+            [ "$name.3" = "${page##*/}" ] || echo "$name.3 -> ${page##*/}"
+        done
+    done
+}
+
+# Each page that is installed, and where it leads; of one that leads nowhere it is said if it isn't what it was made of.
+installed_pages() {
+    local page line
+    for page in "$stage$prefix"/share/man/*/*; do
+        line=$(head -n 1 "$page")
+        if [ "$line" != "${line#.so man3/}" ]; then
+            echo "${page##*/} -> ${line#.so man3/}"
+        else
+            cmp "$clients/man/${page##*/}" "$page" && echo "${page##*/}"
+        fi
+    done
+}
+
+holds_pages() {
+    diff <(wanted_pages | sort) <(installed_pages 2>&1 | sort)
+}
+
 # Pages and folders can be read by everyone.
 open_to_all() {
     local shut
@@ -356,6 +385,7 @@ make_later() {
 check "install" made install
 check "the version is the header's" test "$(config --modversion)" = "$(version)"
 check "each file, with its mode, owner and link" holds_files "$(version)"
+check "each manual page, and each name that leads to one" holds_pages
 check "pages and folders are open to all" open_to_all
 check "nothing names the place that it was built in" names_no_place
 check "the sonames" has_soname libkupaldiz
@@ -397,6 +427,7 @@ check "uninstall leaves nothing" leaves_nothing
 prefix=/usr libdir=/usr/lib/x86_64-linux-gnu stage=$room/debian
 check "a folder of Debian's: install" made install
 check "a folder of Debian's: each file" holds_files "$(version)"
+check "a folder of Debian's: each manual page" holds_pages
 test_places "a folder of Debian's"
 check "a folder of Debian's: uninstall" made uninstall
 check "a folder of Debian's: uninstall leaves nothing" leaves_nothing
@@ -404,6 +435,7 @@ check "a folder of Debian's: uninstall leaves nothing" leaves_nothing
 prefix="/usr/a place" libdir="/usr/a place/lib" stage=$room/blanks
 check "a path with blanks: install" made install
 check "a path with blanks: each file" holds_files "$(version)"
+check "a path with blanks: each manual page" holds_pages
 test_places "a path with blanks"
 check "a path with blanks: uninstall" made uninstall
 check "a path with blanks: uninstall leaves nothing" leaves_nothing

@@ -79,6 +79,7 @@ for way in plain sanitized raced small late busy; do
         try_program "$test" $way
     done
 done
+check "limits, plain: more than a million changes, in the registry that there is" "$out/plain/limits" full
 check "the manual pages are as the headers say, and each call has one" $folder/pages.py check
 if command -v mandoc >/dev/null; then
     check "mandoc finds no fault in them" lints

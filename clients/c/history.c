@@ -4,12 +4,14 @@
  *     history [CHANGES [SEED]]
  *
  * The largest registry goes through CHANGES changes, by default as many as there may be, or five million where there may be more; smaller ones meet each
- * limit.
+ * limit. However many calls were made, a registry that is closed has no block of memory any more: the linker leads malloc, realloc and free here (--wrap),
+ * except in the brief program.
  * The last line says how many calls were compared, of how many changes.
  */
 #include <inttypes.h>
 
 #include "model.h"
+#include "wrapped_heap.h"
 
 /* Where each access takes long, the references to one entry, the small registries and the sections of a CPU that come to an end are fewer. */
 #ifdef HISTORY_BRIEFLY
@@ -17,6 +19,34 @@ enum { MANY = 101, SMALL = 4, SECTIONS = 20 };
 #else
 enum { MANY = 70001, SMALL = 200, SECTIONS = 1000 };
 #endif
+
+/* The blocks that the archive's calls have taken and not freed. */
+static uint64_t blocks;
+
+#ifdef HISTORY_BRIEFLY
+#define __real_free free
+#else
+void *__wrap_malloc(size_t size)
+{
+	void *block = __real_malloc(size);
+	blocks += block != NULL;
+	return block;
+}
+
+void *__wrap_realloc(void *block, size_t size)
+{
+	void *moved = __real_realloc(block, size);
+	blocks += block == NULL && moved != NULL;
+	return moved;
+}
+
+void __wrap_free(void *block)
+{
+	blocks -= block != NULL;
+	__real_free(block);
+}
+#endif
+
 enum { NAMES = SLOTS * 3 / 4, HANDLES = 3 * SLOTS + CPUS, LONGEST = 5 * 1000 * 1000 };
 
 struct held {
@@ -377,7 +407,8 @@ static void closed(struct world *world)
 	for (unsigned c = 0; c < world->model.settings.cpus; c++)
 		DONE(registry_close_cpu(&world->cpus[c]));
 	DONE(registry_close_keeper(&world->keeper));
-	free(world);
+	EXPECT(blocks == 0);
+	__real_free(world);
 }
 
 static unsigned live(const struct world *world)
@@ -564,7 +595,7 @@ static void refer_often(void)
 	audit(world);
 	advance_number(world, number);
 	EXPECT(model_slot_of(&world->model, number) == NULL);
-	free(handles);
+	__real_free(handles);
 	closed(world);
 }
 

@@ -9,7 +9,7 @@
 
 #include "client.h"
 
-enum fault { NONE, FULL_EARLY, NOT_FOUND, SHORT_NUMBERS, SHORT_LOCALS, SLOT_KEPT_BACK, LARGE_AUDITS, FEW_PASSIVE, FEW_LOCAL, FAULTS };
+enum fault { NONE, FULL_EARLY, NOT_FOUND, SHORT_NUMBERS, SHORT_LOCALS, SLOT_KEPT_BACK, LARGE_AUDITS, FEW_PASSIVE, FEW_LOCAL, LOST_BLOCKS, FAULTS };
 
 static const char *const TEXTS[FAULTS] = {
 	[FULL_EARLY] = "an attach says that the history is full after 200,000 changes",
@@ -20,6 +20,7 @@ static const char *const TEXTS[FAULTS] = {
 	[LARGE_AUDITS] = "an audit of all slots on all CPUs runs out of memory",
 	[FEW_PASSIVE] = "a CPU may have 65,535 passive references at once",
 	[FEW_LOCAL] = "a CPU may have acquired 65,535 local references more than it has released",
+	[LOST_BLOCKS] = "from the 65,535th on a release of a local reference loses a block of memory",
 };
 
 enum { MOST_TOLD = 255, MOST_OF_16_BITS = 65535, MOST_OF_17_BITS = 131071 };
@@ -30,6 +31,8 @@ static enum fault planted;
 static const struct registry_cpu *first;
 static uint64_t changes, retired, occupied;
 static int64_t passive, local;
+static unsigned releases;
+static void *volatile lost;	/* so that no compiler leaves it out */
 
 #define WRAPPED(call) extern __typeof__(call) __real_##call, __wrap_##call
 
@@ -171,6 +174,8 @@ registry_answer __wrap_registry_local_acquire(struct registry_cpu *cpu, struct r
 
 registry_answer __wrap_registry_local_release(struct registry_cpu *cpu, struct registry_local *handle)
 {
+	if (planted == LOST_BLOCKS && ++releases >= MOST_OF_16_BITS)
+		lost = malloc(1);
 	return counted(__real_registry_local_release(cpu, handle), cpu, &local, -1);
 }
 

@@ -71,6 +71,7 @@ def wrapped(name, said, line):
 def test_program(proved):
     faults = (
         wrapped("another status of a fault", "core, standard output full", 'program.proved "$@"; status=$?; [ $status = 3 ] && exit 1; exit $status'),
+        wrapped("another status of a script that isn't right", "['core']", 'program.proved "$@"; status=$?; [ $status = 2 ] && exit 1; exit $status'),
         wrapped("a report with a line more", "['core']", 'program.proved "$@" || exit; [ "$1" = core ] && echo more; exit 0'),
         wrapped("a storm with another count", "['storm', '2', '3']", 'if [ "$2" = 2 ]; then echo storm 2 3; exit; fi; exec program.proved'),
         wrapped("a wrong argument that is taken", "['storm', '9', '1']", '[ "$2" != 9 ] || exit 0; exec program.proved'),

@@ -7,6 +7,7 @@
 #include <time.h>
 
 #include "../../c/expect.h"
+#include "busy.h"
 
 int __real_pthread_mutex_lock(pthread_mutex_t *mutex);
 int __wrap_pthread_mutex_lock(pthread_mutex_t *mutex);
@@ -30,6 +31,13 @@ static unsigned place_of(const pthread_mutex_t *mutex)
 	while (place < count && taken[place] != mutex)
 		place++;
 	return place;
+}
+
+unsigned mutexes_taken(const pthread_mutex_t **last)
+{
+	if (count > 0)
+		*last = taken[count - 1];
+	return count;
 }
 
 int __wrap_pthread_mutex_lock(pthread_mutex_t *mutex)

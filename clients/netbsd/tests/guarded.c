@@ -74,6 +74,12 @@ static void end(const void *handle)
 	(void)handle;
 }
 
+static void with_keeper(const void *keeper, const void *cpu)
+{
+	(void)keeper;
+	(void)cpu;
+}
+
 #include "watched.h"
 
 /* ---- Locks. ---- */

@@ -174,6 +174,18 @@ mod tests {
         assert_eq!(turns(Patience::Forever, 30), 30);
     }
 
+    /// However many turns were made, there is another one: no wait has a last turn but by what it was told.
+    #[test]
+    fn a_wait_has_no_last_turn_of_its_own() {
+        for made in [1_000, 100_000, 1_000_000, u32::MAX - 1, u32::MAX] {
+            for patience in [Patience::Forever, Patience::at_most(Duration::from_secs(1_000_000))] {
+                assert!(Pauses { patience, made }.another(), "{made} turns");
+            }
+        }
+        let (patience, made) = (Patience::Turns(u32::MAX), u32::MAX - 2);
+        assert!(Pauses { patience, made }.another());
+    }
+
     #[test]
     fn a_deadline_that_has_passed_allows_one_turn() {
         assert_eq!(turns(Patience::Until(Instant::now()), 100), 1);

@@ -63,7 +63,7 @@ def planted(path, crate):
 def fresh(scratch):
     """The crate as it stands, in the scratch folder: a file that is as it was keeps its time, so that cargo compiles what differs alone."""
     wanted = {}
-    for part in ("src", "tests", "build.rs", "Cargo.toml"):
+    for part in ("src", "tests", "build.rs", "registry_limits.h", "Cargo.toml"):
         root = CRATE / part
         files = [root] if root.is_file() else [path for path in root.rglob("*") if path.is_file()]
         wanted.update((path.relative_to(CRATE), path.read_bytes()) for path in files)
