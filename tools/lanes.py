@@ -131,7 +131,7 @@ class Tests:
         return [it for it in self.of(library, mutant.file) if programs is None or not it.marks or it.marks.name in programs or it.marks.name not in marked]
 
     def best(self, mutant, tests, built):
-        """The test to run next. `built` has the folders in which the file is compiled already."""
+        """The test to run next. `built` has the folders in which the file is compiled already, beside other things."""
         near = collections.Counter(name for line, name in self.killed[mutant.file] if abs(line - mutant.line) <= NEAR)
         return max(tests, key=lambda it: self.worth(mutant, it, near, built))
 
@@ -163,7 +163,7 @@ class Lane:
         for words, targets in groups.items():
             if words[0] == "make":
                 run([*words, f"-j{jobs}", *targets], self.folder, LONGEST)
-        for test in tests:
+        for test in {tuple(it.build): it for it in tests}.values():
             self.must_run(test.name, test.build)
 
     def make_marked(self, tests, files, jobs):
@@ -232,9 +232,10 @@ class Lane:
         second = self.passes(test)
         return second if second or first is not None else None
 
-    def try_test(self, test):
-        """What a test says of the tree as it is here: nothing where it passes. What it doesn't pass as it stands either says nothing of the wrong body."""
-        if run(test.build, self.folder, LONGEST)[0] != 0:
+    def try_test(self, test, built):
+        """What a test says of the tree as it is here: nothing where it passes. What it doesn't pass as it stands either says nothing of the wrong body.
+        `built` has the commands that were run already: several tests may be of one program."""
+        if tuple(test.build) not in built and run(test.build, self.folder, LONGEST)[0] != 0:
             return "not built"
         passes = self.sees(test)
         if passes:
@@ -255,8 +256,10 @@ class Lane:
         while left:
             test = self.tests.best(mutant, left, built)
             left.remove(test)
-            built.add(folder_of(test.build))
-            outcome = self.try_test(test)
+            outcome = self.try_test(test, built)
+            if outcome == "not built":
+                return outcome, ""
+            built |= {folder_of(test.build), tuple(test.build)}
             self.tests.note(mutant, test, outcome != "")
             if outcome:
                 return outcome, test.name
