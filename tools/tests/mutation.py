@@ -215,16 +215,16 @@ KNOWN_OF_CRATE = """Equal numbers are one number.
 
 def crate_case(taken):
     """The crate's files of tests are one program, of which each is run apart."""
-    tests = {"common/mod": COMMON, "greater": SEES_MOST, "edges": SEES_ALONE}
+    tests = {"common/mod": COMMON, "greater": SEES_MOST, "edges": SEES_ALONE, "compile_fail": "#[test]\nfn cargo_runs_it() {}\n"}
     tree = {LIB: CRATE, "clients/rust/Cargo.toml": MANIFEST, "clients/MUTANTS.md": KNOWN_OF_CRATE, "tries": TRIES,
             **{f"clients/rust/tests/{name}.rs": text for name, text in tests.items()}}
-    said = "a >= b { b } else { a };: killed by greater", "return a - 1;: killed by bare/edges", "return a % 9;: killed by lib", "{ 0 }: killed by ", "<= b"
+    said = "a >= b { b } else { a };: killed by greater", "return a - 1;: killed by bare/edges", "return a % 9;: killed by ", "{ 0 }: killed by ", "<= b"
     good = told(*said).partition(AGAIN)[0].replace(ONLY, LIB)
     run = ["./tries", "--least", "1", "--only", f"{LIB}:4"]
     shared = "tools/crate-tests.py", "'use crate::common;'", "'mod common;'"
     faults = (
         Fault("a file of tests that sees nothing", "return if a >= b", (("clients/rust/tests/greater.rs", "(2, 4)", "(small::most(1, 2), small::most(4, 3))"),), run),
-        Fault("what the files share is there twice", "fails on the tree as it stands", (shared,), run),
+        Fault("what the files share is taken by each", "mod common", (shared,), run),
         Fault("nothing that needs no standard library is tested", "return a - 1;", (("clients/rust/tests/edges.rs", "small::alone(2), 3", "2, 2"),),
               ["./tries", "--least", "1", "--only", f"{LIB}:9"]),
     )
