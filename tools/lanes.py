@@ -37,10 +37,17 @@ NEAR = 8
 Test = collections.namedtuple("Test", "name build run memory marks", defaults=(MOST_BYTES, None))
 
 
+def tasks_of(leader):
+    """The threads of a session. A process that ends meanwhile has none."""
+    for pid in of_session(leader):
+        with contextlib.suppress(OSError):
+            yield from list(pathlib.Path(f"/proc/{pid}/task").glob("*"))
+
+
 def times(leader):
     """For each thread of a session how long it ran, and how long it waited for a processor, in seconds."""
     found = {}
-    for task in (task for pid in of_session(leader) for task in pathlib.Path(f"/proc/{pid}/task").glob("*")):
+    for task in tasks_of(leader):
         with contextlib.suppress(OSError, ValueError, IndexError):
             found[task.name] = [int(it) / 1e9 for it in (task / "schedstat").read_text().split()[:2]]
     return found
