@@ -37,15 +37,19 @@ NEAR = 8
 Test = collections.namedtuple("Test", "name build run memory marks", defaults=(MOST_BYTES, None))
 
 
-def times(leader):
-    """For each thread of a session how long it ran, and how long it waited for a processor, in seconds. One that ends meanwhile is left out."""
-    found = {}
+def tasks_of(leader):
+    """The threads of a session. A process that ends meanwhile has none."""
     for pid in of_session(leader):
         with contextlib.suppress(OSError):
-            tasks = os.listdir(f"/proc/{pid}/task")
-            for task in tasks:
-                with contextlib.suppress(OSError, ValueError, IndexError):
-                    found[task] = [int(it) / 1e9 for it in pathlib.Path(f"/proc/{pid}/task/{task}/schedstat").read_text().split()[:2]]
+            yield from list(pathlib.Path(f"/proc/{pid}/task").glob("*"))
+
+
+def times(leader):
+    """For each thread of a session how long it ran, and how long it waited for a processor, in seconds."""
+    found = {}
+    for task in tasks_of(leader):
+        with contextlib.suppress(OSError, ValueError, IndexError):
+            found[task.name] = [int(it) / 1e9 for it in (task / "schedstat").read_text().split()[:2]]
     return found
 
 
@@ -134,7 +138,7 @@ class Tests:
         return [it for it in self.of(library, mutant.file) if programs is None or not it.marks or it.marks.name in programs or it.marks.name not in marked]
 
     def best(self, mutant, tests, built):
-        """The test to run next. `built` has the folders in which the file is compiled already."""
+        """The test to run next. `built` has the folders in which the file is compiled already, beside other things."""
         near = collections.Counter(name for line, name in self.killed[mutant.file] if abs(line - mutant.line) <= NEAR)
         return max(tests, key=lambda it: self.worth(mutant, it, near, built))
 
@@ -166,7 +170,7 @@ class Lane:
         for words, targets in groups.items():
             if words[0] == "make":
                 run([*words, f"-j{jobs}", *targets], self.folder, LONGEST)
-        for test in tests:
+        for test in {tuple(it.build): it for it in tests}.values():
             self.must_run(test.name, test.build)
 
     def make_marked(self, tests, files, jobs):
@@ -235,9 +239,10 @@ class Lane:
         second = self.passes(test)
         return second if second or first is not None else None
 
-    def try_test(self, test):
-        """What a test says of the tree as it is here: nothing where it passes. What it doesn't pass as it stands either says nothing of the wrong body."""
-        if run(test.build, self.folder, LONGEST)[0] != 0:
+    def try_test(self, test, built):
+        """What a test says of the tree as it is here: nothing where it passes. What it doesn't pass as it stands either says nothing of the wrong body.
+        `built` has the commands that were run already: several tests may be of one program."""
+        if tuple(test.build) not in built and run(test.build, self.folder, LONGEST)[0] != 0:
             return "not built"
         passes = self.sees(test)
         if passes:
@@ -258,8 +263,10 @@ class Lane:
         while left:
             test = self.tests.best(mutant, left, built)
             left.remove(test)
-            built.add(folder_of(test.build))
-            outcome = self.try_test(test)
+            outcome = self.try_test(test, built)
+            if outcome == "not built":
+                return outcome, ""
+            built |= {folder_of(test.build), tuple(test.build)}
             self.tests.note(mutant, test, outcome != "")
             if outcome:
                 return outcome, test.name

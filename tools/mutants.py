@@ -9,6 +9,7 @@ isn't run.
 
 - **Which tests run.** In the layer, those that run a line of the statement that is wrong; tools/coverage.py finds them, and says what it assumes. If no test
   runs the line, the wrong body is `not run`: a survivor, too. Where the wrong line has no code and is in no function, as in an enum, all tests run.
+  All tests of the crate run. Its files of tests are one program (tools/crate-tests.py), so that a wrong body is compiled and linked once.
 - **In which order.** A test comes early if it saw many other wrong bodies of the file or one nearby, and takes little time.
 - **A test that fails** runs a second time: one failure on a busy machine kills nothing. Then it must pass on the tree as it stands, or the body is left
   untried.
@@ -71,6 +72,11 @@ PARTS = {
 OBJECT = "mutant.o"
 # What runs other lines each time, by its threads, runs so often with marks.
 RUNS = 2
+# The crate's test that cargo has to run.
+TYPES = "compile_fail"
+CARGO_TEST = "env CARGO_PROFILE_DEV_DEBUG=0 CARGO_PROFILE_TEST_DEBUG=0 cargo test --offline -q --manifest-path clients/rust/Cargo.toml".split()
+# What the crate compiles for a program without the standard library alone is marked so.
+BARE_ALONE = '#[cfg(not(feature = "std"))]'
 # The programs of the bench that see the layer, with their words.
 BENCH = {"counts": [], "drivers": [], "finds": [], "refusals": [], "shortest": [], "named": [], "outcomes": ["1", "40"]}
 # A library: the files that are changed, its tests for one of them, and for C what compiles a file: the command and the object that it makes, for how the
@@ -90,7 +96,8 @@ def of_part(file):
     archive = f"{folder}/libregistry.a"
     joined = f"{ROOT}/tools/replace-part.sh {part} clients/out/libregistry.a clients/{archive}"
     made = f"make -s -C clients OUT={folder} ARCHIVE={archive} '{C_FLAGS}'"
-    return [Test(f"{part}/{it}", ["sh", "-c", f"{joined} && {made} {folder}/{it}"], [f"clients/{folder}/{it}", *words]) for it, words in PARTS[part].items()]
+    return [Test(f"{part}/{it}", ["sh", "-c", f"{joined} && {made} {folder}/{it}"], [f"clients/{folder}/{it}", *words],
+                 None if it.startswith("sanitized-") else MOST_BYTES) for it, words in PARTS[part].items()]
 
 
 MAKES_LAYER = ["make", "-s", "-C", "clients/netbsd", C_FLAGS, BARE]
@@ -123,14 +130,18 @@ def of_layer(file):
                          Marks(it, "", 0)) for it, words in WATCHED.items()]
 
 
+def crate_test(name, program, *words):
+    """A test that is a part of a program of the crate's tests, or all of it."""
+    place = f"clients/out/crate/{program}/tests"
+    return Test(name, [str(ROOT / "tools/crate-tests.py"), place], [place, *words])
+
+
 def of_crate(file):
-    """The crate's tests: what is called as the file first."""
-    folder = "clients/rust"
-    words = ["cargo", "test", "--offline", "-q", "--manifest-path", f"{folder}/Cargo.toml"]
-    names = sorted(it.stem for it in (ROOT / folder / "tests").glob("*.rs"))
-    own = [it for it in names if it == pathlib.Path(file).stem]
-    return [Test(it, [*words, "--no-run", "--test", it], [*words, "--test", it]) for it in own + [it for it in names if it not in own]] + [
-        Test("lib", [*words, "--no-run", "--lib"], [*words, "--lib"])]
+    """The crate's tests: each file of them, and those within. What is there for a program without the standard library is tested without it, too."""
+    names = sorted(it.stem for it in (ROOT / "clients/rust/tests").glob("*.rs") if it.stem != TYPES)
+    types = [*CARGO_TEST, "--test", TYPES]
+    bare = [crate_test("bare/lib", "bare-lib"), crate_test("bare/edges", "bare-one", "edges::")] if BARE_ALONE in (ROOT / file).read_text() else []
+    return [*(crate_test(it, "one", f"{it}::") for it in names), crate_test("lib", "lib"), *bare, Test(TYPES, [*types, "--no-run"], types)]
 
 
 def compile_c(file):

@@ -330,7 +330,7 @@ test_rust() {
     check "Rust: the documents, no warning" env RUSTDOCFLAGS="-D warnings" cargo doc --offline --no-deps
     check "Rust: a package of it is verified" cargo package --allow-dirty --offline
     counted "Rust: tests" cargo test --offline --no-fail-fast --lib --tests
-    counted "Rust: a test without the standard library" cargo test --offline --no-default-features --test edges
+    counted "Rust: tests without the standard library" cargo test --offline --no-default-features --no-fail-fast --lib --test edges
     counted "Rust: the docs' examples" cargo test --offline --doc
     check "Rust: the examples are built" cargo build --offline --release --examples
     cd ../.. || return

@@ -149,6 +149,88 @@ def coverage_case(taken):
     return Case("mutants and lines that run", taken, {**layer(), "good": good}, ["./good"], faults, counts=False)
 
 
+# A crate of a file, which its files of tests see as one program, its own test, and one without the standard library.
+CRATE = """#![cfg_attr(not(any(feature = "std", test)), no_std)]
+
+pub fn most(a: u32, b: u32) -> u32 {
+    return if a < b { b } else { a };
+}
+
+#[cfg(not(feature = "std"))]
+pub fn alone(a: u32) -> u32 {
+    return a + 1;
+}
+
+pub fn rest(a: u32) -> u32 {
+    return a % 8;
+}
+
+#[cfg(test)]
+mod tests {
+    #[test]
+    fn a_rest() {
+        assert_eq!(super::rest(21), 5);
+    }
+}
+"""
+MANIFEST = """[package]
+name = "small"
+version = "0.1.0"
+edition = "2021"
+
+[features]
+default = ["std"]
+std = []
+"""
+# What the linker takes once.
+COMMON = """#![allow(dead_code)]
+#[no_mangle]
+pub extern "C" fn two_of_the_tests() -> u32 {
+    2
+}
+"""
+SEES_MOST = """//! The greater one.
+#![cfg(feature = "std")]
+mod common;
+use common::two_of_the_tests;
+#[test]
+fn the_greater_one() {
+    assert_eq!((small::most(1, two_of_the_tests()), small::most(4, 3)), (2, 4));
+}
+"""
+SEES_ALONE = """mod common;
+#[test]
+fn one_more() {
+    assert_eq!(common::two_of_the_tests(), 2);
+    #[cfg(not(feature = "std"))]
+    assert_eq!(small::alone(2), 3);
+}
+"""
+LIB = "clients/rust/src/lib.rs"
+KNOWN_OF_CRATE = """Equal numbers are one number.
+
+    clients/rust/src/lib.rs: return if a < b { b } else { a }; -> return if a <= b { b } else { a };
+"""
+
+
+def crate_case(taken):
+    """The crate's files of tests are one program, of which each is run apart."""
+    tests = {"common/mod": COMMON, "greater": SEES_MOST, "edges": SEES_ALONE, "compile_fail": "#[test]\nfn cargo_runs_it() {}\n"}
+    tree = {LIB: CRATE, "clients/rust/Cargo.toml": MANIFEST, "clients/MUTANTS.md": KNOWN_OF_CRATE, "tries": TRIES,
+            **{f"clients/rust/tests/{name}.rs": text for name, text in tests.items()}}
+    said = "a >= b { b } else { a };: killed by greater", "return a - 1;: killed by bare/edges", "return a % 9;: killed by ", "{ 0 }: killed by ", "<= b"
+    good = told(*said).partition(AGAIN)[0].replace(ONLY, LIB)
+    run = ["./tries", "--least", "1", "--only", f"{LIB}:4"]
+    shared = "tools/crate-tests.py", "'use crate::common;'", "'mod common;'"
+    faults = (
+        Fault("a file of tests that sees nothing", "return if a >= b", (("clients/rust/tests/greater.rs", "(2, 4)", "(small::most(1, 2), small::most(4, 3))"),), run),
+        Fault("what the files share is taken by each", "mod common", (shared,), run),
+        Fault("nothing that needs no standard library is tested", "return a - 1;", (("clients/rust/tests/edges.rs", "small::alone(2), 3", "2, 2"),),
+              ["./tries", "--least", "1", "--only", f"{LIB}:9"]),
+    )
+    return Case("mutants of a crate", [*taken, "crate-tests.py"], {**tree, "good": good}, ["./good"], faults, counts=False)
+
+
 def cases():
     survivor = "clients/c/waiting.c: return a < b ? b : a; -> return a <= b ? b : a;"
     good = told("return a >= b ? b : a;: killed by turns", f"{survivor}", ": hung by turns", "    0 not tried", "sum of what was tried: ")
@@ -167,3 +249,4 @@ def cases():
     taken = ["mutants.py", "lanes.py", "coverage.py", "reached.c", "mutations.py", "tried.py", "parts.py", "counts.py"]
     yield Case("mutants", taken, {**tree(), "good": good}, ["./good"], faults, counts=False)
     yield coverage_case(taken)
+    yield crate_case(taken)

@@ -218,8 +218,15 @@ impl Baskets {
 
 #[cfg(test)]
 mod tests {
-    use super::{Baskets, Dropped, HEAVY};
+    use super::{bit_of, words, Baskets, Dropped, HEAVY};
     use crate::ffi;
+
+    /// Also where there are more slots than in this build.
+    #[test]
+    fn a_word_has_64_bits() {
+        assert_eq!([1, 64, 65, 128].map(words), [1, 1, 2, 2]);
+        assert_eq!([0, 63, 64, 127].map(bit_of), [1, 1 << 63, 1, 1 << 63]);
+    }
 
     #[test]
     fn a_basket_gives_its_room_back() {

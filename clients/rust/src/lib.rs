@@ -238,7 +238,8 @@
 //! registry's locks. The archive needs glibc in either case.
 
 #![warn(missing_docs)]
-#![cfg_attr(not(feature = "std"), no_std)]
+// The crate's own tests have the standard library in any case.
+#![cfg_attr(not(any(feature = "std", test)), no_std)]
 #![deny(unsafe_op_in_unsafe_fn)]
 #![deny(clippy::undocumented_unsafe_blocks, clippy::multiple_unsafe_ops_per_block)]
 

@@ -113,3 +113,36 @@ mod spinning {
         }
     }
 }
+
+#[cfg(test)]
+mod tests {
+    use super::{locked, locked_mut, try_locked, Mutex};
+    use std::thread;
+    use std::time::Duration;
+
+    #[test]
+    fn one_at_a_time_has_a_lock() {
+        let mut mutex = Mutex::new(1);
+        let mut guard = locked(&mutex);
+        *guard += 1;
+        assert!(try_locked(&mutex).is_none());
+        drop(guard);
+        assert_eq!(try_locked(&mutex).map(|guard| *guard), Some(2));
+        assert_eq!(*locked_mut(&mut mutex), 2);
+    }
+
+    /// Often enough that the lock is let go at each point of the wait.
+    #[test]
+    fn whoever_waits_gets_a_lock_that_is_let_go() {
+        let mutex = Mutex::new(0);
+        for _ in 0..100 {
+            let guard = locked(&mutex);
+            thread::scope(|scope| {
+                scope.spawn(|| *locked(&mutex) += 1);
+                thread::sleep(Duration::from_micros(100));
+                drop(guard);
+            });
+        }
+        assert_eq!(*locked(&mutex), 100);
+    }
+}

@@ -157,6 +157,17 @@ impl Pauses {
     }
 }
 
+#[cfg(all(test, not(feature = "std")))]
+mod without_std {
+    use super::{Patience, Pauses};
+
+    #[test]
+    fn so_many_turns_are_made() {
+        let mut pauses = Pauses::new(Patience::Turns(3));
+        assert_eq!([(); 4].map(|()| pauses.another()), [true, true, false, false]);
+    }
+}
+
 #[cfg(all(test, feature = "std"))]
 mod tests {
     use super::{Patience, Pause, Pauses};

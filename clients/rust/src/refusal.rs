@@ -200,3 +200,16 @@ impl<G> From<Refused<G>> for Refusal {
         refused.refusal
     }
 }
+
+#[cfg(test)]
+mod tests {
+    use super::refusal_of;
+
+    /// Those too that no other test meets, as `NoMemory`.
+    #[test]
+    fn a_refusal_has_the_number_of_its_answer() {
+        for answer in [1, 2, 3, 4, 5, 6, 7, 8, 10, 13, 15, 18, 19, 78] {
+            assert_eq!(refusal_of(answer).number(), answer);
+        }
+    }
+}

@@ -95,6 +95,41 @@ fn a_spare_cpu_keeps_a_basket_light() {
     assert_eq!(balances(&registry, &cpus)[0].0, 0);
 }
 
+/// And not sooner: with more than 64 in it others lighten it.
+#[test]
+fn a_basket_is_heavy_with_more_than_64_in_it() {
+    let (registry, mut cpus) = with_driver(7);
+    let (mut held, mut elsewhere) = (many(&cpus[0], "wm", 66), many(&cpus[1], "wm", 2));
+    held.truncate(2);
+    LocalRef::release(elsewhere.remove(0), &cpus[1]).unwrap();
+    assert_eq!(registry.dropped(), 64);
+    held.truncate(1);
+    LocalRef::release(elsewhere.remove(0), &cpus[1]).unwrap();
+    assert_eq!(registry.dropped(), 61);
+    // By a drop too, if there is a CPU that nobody has.
+    cpus[1].release_dropped();
+    let mut held = many(&cpus[0], "wm", 65);
+    drop(cpus.remove(1));
+    held.truncate(1);
+    assert_eq!(registry.dropped(), 64);
+    drop(held);
+    assert_eq!(registry.dropped(), 61);
+}
+
+/// A change releases 64 of all baskets together, its own CPU's first.
+#[test]
+fn a_change_releases_its_own_first() {
+    let (registry, cpus) = with_driver(7);
+    let held = (many(&cpus[0], "wm", 50), many(&cpus[1], "wm", 50));
+    drop(held);
+    registry.attach(&cpus[1], &name("vga"), 8).unwrap();
+    assert_eq!(registry.dropped(), 36);
+    let _none_of_its_own = local(&cpus[1], "wm");
+    assert_eq!(registry.dropped(), 36);
+    let _two_of_its_own = local(&cpus[0], "wm");
+    assert_eq!(registry.dropped(), 34);
+}
+
 /// A CPU that goes takes some of its own along.
 #[test]
 fn a_cpu_that_goes_releases_some_of_its_own() {

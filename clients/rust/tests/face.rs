@@ -46,6 +46,7 @@ fn names_are_told_apart_and_ordered_as_their_texts() {
         .iter()
         .zip(texts)
         .all(|(name, text)| *name == text && *name == *text && name.as_ref() == text));
+    assert!(WM != "wm0" && WM != *"vm");
     let (registry, cpus) = Registry::open(Settings::new(1, 8)).unwrap();
     for (value, name) in names.iter().enumerate() {
         registry.attach(&cpus[0], name, value).unwrap();
@@ -55,6 +56,11 @@ fn names_are_told_apart_and_ordered_as_their_texts() {
         let found = section.find(Kind::Driver, name).unwrap();
         assert_eq!((*found, Found::entry(&found).name), (value, *name));
     }
+}
+
+#[test]
+fn the_library_tells_its_version_and_its_limits() {
+    assert_eq!((registry::version(), registry::limits()), (env!("CARGO_PKG_VERSION"), LIMITS));
 }
 
 #[test]

@@ -1,21 +1,27 @@
-//! What memory of the crate's own is left: none after a refusal or a closing, and little after many drops.
+//! What memory of the crate's own is left: none after a refusal or a closing, and little after many drops. What happens where there is none.
 #![cfg(feature = "std")]
 
 mod common;
 
 use common::{local, name, scaled, watched, with_driver};
-use registry::{Found, Kind, LocalRef, Patience, Refused, Registry, Settings, LIMITS};
+use registry::{Found, Holder, Kind, LocalRef, Patience, Refusal, Refused, Registry, Settings, LIMITS};
 use std::alloc::{GlobalAlloc, Layout, System};
 use std::cell::Cell;
 use std::mem;
+use std::ptr;
 
-/// Counts what each thread has allocated and not freed.
+/// Counts what each thread has allocated and not freed. It has no block for a thread that is longer than this thread may have.
 struct Counting;
 
 thread_local! {
     static BYTES: Cell<isize> = const { Cell::new(0) };
     static BLOCKS: Cell<isize> = const { Cell::new(0) };
+    static LONG_BLOCKS: Cell<usize> = const { Cell::new(0) };
+    static LONGEST: Cell<usize> = const { Cell::new(usize::MAX) };
 }
+
+/// A block that is so long is no vector of a few words.
+const LONG_BLOCK: usize = 256;
 
 fn count(bytes: isize, blocks: isize) {
     let _ = BYTES.try_with(|all| all.set(all.get() + bytes));
@@ -26,6 +32,10 @@ fn count(bytes: isize, blocks: isize) {
 #[deny(unsafe_op_in_unsafe_fn)]
 unsafe impl GlobalAlloc for Counting {
     unsafe fn alloc(&self, layout: Layout) -> *mut u8 {
+        if layout.size() > LONGEST.try_with(Cell::get).unwrap_or(usize::MAX) {
+            return ptr::null_mut();
+        }
+        let _ = LONG_BLOCKS.try_with(|all| all.set(all.get() + usize::from(layout.size() >= LONG_BLOCK)));
         count(layout.size() as isize, 1);
         // SAFETY: the caller sees to it.
         unsafe { System.alloc(layout) }
@@ -46,6 +56,13 @@ fn left(deed: impl FnOnce()) -> isize {
     let before = BLOCKS.with(Cell::get);
     deed();
     BLOCKS.with(Cell::get) - before
+}
+
+/// Does it while this thread gets no block that is longer.
+fn with_blocks_of(longest: usize, deed: impl FnOnce()) {
+    LONGEST.with(|most| most.set(longest));
+    deed();
+    LONGEST.with(|most| most.set(usize::MAX));
 }
 
 #[test]
@@ -88,6 +105,37 @@ fn a_closing_keeps_no_memory_and_releases_what_was_dropped() {
     assert_eq!((left(closed), watched::locals()), (0, locals));
 }
 
+/// So the archive's memory goes, too.
+#[test]
+fn a_closing_closes_each_cpu_and_the_keeper() {
+    let before = watched::closed();
+    let (registry, cpus) = with_driver(7);
+    drop(cpus);
+    drop(registry.any_cpu());
+    assert_eq!(watched::closed(), before);
+    drop(registry);
+    assert_eq!(watched::closed(), before + 3);
+}
+
+/// A reference that is dropped where its basket can't grow stays held for good. Its own memory goes, and what lies in the basket is released as ever.
+#[test]
+fn a_reference_that_is_dropped_without_memory_stays_held() {
+    let (registry, cpus) = with_driver(7);
+    let (cpu, locals) = (&cpus[0], watched::locals());
+    // There is none for the rows of the basket.
+    let held = local(cpu, "wm");
+    with_blocks_of(LIMITS.slots as usize * mem::size_of::<Vec<u8>>() - 1, || drop(held));
+    assert_eq!((registry.dropped(), watched::locals()), (0, locals));
+    drop(local(cpu, "wm"));
+    // There is none for a row of more than 64.
+    let held: Vec<_> = (0..100).map(|_| local(cpu, "wm")).collect();
+    with_blocks_of(64 * mem::size_of::<usize>(), || drop(held));
+    assert_eq!((registry.dropped(), watched::locals()), (64, locals + 64));
+    let retired = registry.detach(cpu, Kind::Driver, &name("wm")).unwrap();
+    assert_eq!((registry.dropped(), watched::locals()), (0, locals));
+    assert_eq!(retired.advance().unwrap_err().refusal, Refusal::StillHeld(Holder::Local(37)));
+}
+
 #[test]
 fn a_destroyed_value_keeps_no_memory() {
     let (registry, cpus) = with_driver(String::from("driver"));
@@ -104,7 +152,7 @@ fn a_destroyed_value_keeps_no_memory() {
     assert_eq!(left(|| (0..100).for_each(|_| come_and_go())), 0);
 }
 
-/// After 100,000 references are dropped at once, room stays for some of them only, and for a row of each slot.
+/// After 100,000 references are dropped at once, room stays for some of them only, and for a row of each slot. It is given back in few steps.
 #[test]
 fn a_basket_gives_its_room_back() {
     let (registry, cpus) = Registry::open(Settings::new(1, 1)).unwrap();
@@ -118,7 +166,9 @@ fn a_basket_gives_its_room_back() {
     drop(many);
     assert_eq!(registry.dropped(), count);
     assert!(BYTES.with(Cell::get) - before >= count as isize * 8);
+    let steps = LONG_BLOCKS.with(Cell::get);
     cpus[0].release_dropped();
+    assert!(LONG_BLOCKS.with(Cell::get) - steps <= 16);
     let rows = LIMITS.slots as usize * mem::size_of::<Vec<u8>>();
     assert!(BYTES.with(Cell::get) - before <= rows as isize + 1280);
 }

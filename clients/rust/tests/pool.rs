@@ -5,6 +5,7 @@ mod common;
 
 use common::{balances, detach, local, name, passive, with_driver, LONG};
 use registry::{CpuPool, Kind, LocalRef};
+use std::fmt::{self, Write};
 use std::mem;
 use std::panic::{catch_unwind, AssertUnwindSafe};
 use std::sync::atomic::{AtomicBool, AtomicU32, Ordering};
@@ -76,6 +77,36 @@ fn waiting_for_a_while(pool: &Arc<CpuPool<i32>>) -> Receiver<Option<u8>> {
     let waiting = waiting(pool, |pool| Some(pool.lend().id()));
     thread::sleep(Duration::from_millis(20));
     waiting
+}
+
+/// What a pool is written to: it is slow as it gets what the pool looks at under its lock.
+struct Slow;
+
+impl Write for Slow {
+    fn write_str(&mut self, text: &str) -> fmt::Result {
+        if text.contains("idle") {
+            thread::sleep(Duration::from_millis(2));
+        }
+        Ok(())
+    }
+}
+
+/// Also where the one that waits, and the one that gives the CPU back, wait for the pool's lock in any order.
+#[test]
+fn a_cpu_is_in_its_pool_before_anybody_is_woken() {
+    let (_registry, mut cpus) = with_driver(7);
+    let pool = Arc::new(CpuPool::new(cpus.drain(..1)).unwrap());
+    for _ in 0..10 {
+        let held = pool.lend();
+        let waiting = waiting_for_a_while(&pool);
+        let shown = Arc::clone(&pool);
+        // It takes the lock again as soon as it has let it go: whoever was first in the queue is the last then.
+        let showing = thread::spawn(move || (0..2).try_for_each(|_| write!(Slow, "{shown:?}")).unwrap());
+        thread::sleep(Duration::from_millis(1));
+        drop(held);
+        showing.join().unwrap();
+        assert_eq!(waiting.recv_timeout(LONG), Ok(Some(0)));
+    }
 }
 
 /// One way to wait for a loan: which CPU it is.
@@ -159,6 +190,17 @@ fn a_cpu_comes_back_outside() {
     let cpu = pool.lend();
     assert!(ended.is_err() && !cpu.is_inside() && !cpu.holds(1));
     assert_eq!(detach(&registry, &other, "wm").freed().value, 7);
+}
+
+#[test]
+fn a_loan_leaves_its_forgotten_sections() {
+    let (_registry, cpus) = with_driver(7);
+    let pool = CpuPool::new(cpus).unwrap();
+    let mut cpu = pool.lend();
+    (0..3).for_each(|_| mem::forget(cpu.enter().unwrap()));
+    assert_eq!(cpu.depth(), 3);
+    cpu.leave();
+    assert_eq!(cpu.depth(), 0);
 }
 
 #[test]

@@ -48,7 +48,7 @@ fn two_calls_with_one_handle_are_seen() {
         return meet();
     }
     let ended = Command::new(env::current_exe().unwrap())
-        .args(["--exact", "two_calls_with_one_handle_are_seen", "--nocapture"])
+        .args(["two_calls_with_one_handle_are_seen", "--nocapture"])
         .env("REGISTRY_AT_ONCE", "1")
         .output()
         .unwrap();

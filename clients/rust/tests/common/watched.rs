@@ -25,6 +25,7 @@ static CALLS: AtomicU32 = AtomicU32::new(0);
 
 thread_local! {
     static LOCALS: Cell<i64> = const { Cell::new(0) };
+    static CLOSED: Cell<usize> = const { Cell::new(0) };
 }
 
 /// How many local references this thread has acquired and not released: blocks of the archive's.
@@ -63,6 +64,11 @@ fn last(call: &str) {
             thread::sleep(Duration::from_micros(100));
         }
     }
+}
+
+/// How many CPUs and keepers this thread has closed.
+pub fn closed() -> usize {
+    CLOSED.with(Cell::get)
 }
 
 /// Whether a call is done.
@@ -114,6 +120,11 @@ fn count(before: Word, local: Handle) {
     let after = unsafe { *local };
     let change = i64::from(!after.is_null()) - i64::from(!before.is_null());
     LOCALS.with(|locals| locals.set(locals.get() + change));
+}
+
+/// Counts a CPU or a keeper that was closed.
+fn count_closed(answer: u32) {
+    CLOSED.with(|closed| closed.set(closed.get() + usize::from(answer == DONE)));
 }
 
 /// The order of memory that a registry makes between its callers, told to the thread sanitizer, which sees no atomic step of the archive: what was
@@ -200,9 +211,10 @@ mod edges {
     }
 }
 
-/// Wraps calls. Behind the handles stands the one of a local reference, if the call may fill or empty it, and what is told to the sanitizer.
+/// Wraps calls. Behind the handles stands the one of a local reference, if the call may fill or empty it, or that the call closes one, and what is told to
+/// the sanitizer.
 macro_rules! wrapped {
-    ($($wrap:ident($($name:ident: $type:ty),*) = $real:ident, [$($handle:ident),*] $(once [$($once:ident),*])? $(($local:ident))? $(before $before:block)? $(after $after:block)?;)*) => {$(
+    ($($wrap:ident($($name:ident: $type:ty),*) = $real:ident, [$($handle:ident),*] $(once [$($once:ident),*])? $(($local:ident))? $(closes $closed:ident)? $(before $before:block)? $(after $after:block)?;)*) => {$(
         extern "C" {
             fn $real($($name: $type),*) -> u32;
         }
@@ -232,6 +244,10 @@ macro_rules! wrapped {
                 $($after)?
             }
             $(count(before, $local);)?
+            $({
+                let _ = $closed;
+                count_closed(answer);
+            })?
             answer
         }
     )*};
@@ -239,8 +255,8 @@ macro_rules! wrapped {
 
 // SAFETY of what is told: the caller sees to the pointers, and a call that is done has written what it writes.
 wrapped! {
-    __wrap_registry_close_cpu(cpu: Handle) = __real_registry_close_cpu, [] once [cpu];
-    __wrap_registry_close_keeper(keeper: Handle) = __real_registry_close_keeper, [] once [keeper];
+    __wrap_registry_close_cpu(cpu: Handle) = __real_registry_close_cpu, [] once [cpu] closes cpu;
+    __wrap_registry_close_keeper(keeper: Handle) = __real_registry_close_keeper, [] once [keeper] closes keeper;
     __wrap_registry_enter(cpu: Handle) = __real_registry_enter, [cpu];
     __wrap_registry_exit(cpu: Handle) = __real_registry_exit, [cpu] before { edges::before_exit() };
     __wrap_registry_depth(cpu: Handle, depth: Word) = __real_registry_depth, [cpu];

@@ -1,0 +1,70 @@
+#!/usr/bin/env python3
+"""Builds a program of the crate's tests, in the tree where it is run: tools/mutants.py does so for each wrong body.
+
+    tools/crate-tests.py clients/out/crate/NAME/tests
+
+NAME says which tests are in it, and the program is linked there:
+
+- `one`: all files of clients/rust/tests, each as a module. So a wrong body is compiled and linked once, and `tests basket::` runs the tests of one file.
+  compile_fail.rs is left out: it needs cargo as it runs.
+- `lib`: those within the crate.
+- `bare-one`, `bare-lib`: the same without the standard library, for those that need none.
+"""
+import json
+import os
+import pathlib
+import shutil
+import subprocess
+import sys
+
+CRATE = pathlib.Path("clients/rust")
+# The program of all files, which is written beside them, and what is no part of it.
+ONE = "one_program"
+APART = "compile_fail"
+# The shortest builds: of a wrong body what differs is compiled anew, for no debugger.
+QUICK = {"CARGO_INCREMENTAL": "1", "CARGO_PROFILE_DEV_DEBUG": "0", "CARGO_PROFILE_TEST_DEBUG": "0"}
+
+
+def as_module(path):
+    """A file of tests as a module. What the files share is in the program once: it has names that the linker knows."""
+    return f"mod {path.stem} {{\n{path.read_text().replace('mod common;', 'use crate::common;')}}}\n"
+
+
+def write_one():
+    """Writes the program of all files, where it isn't there as it should be."""
+    to = CRATE / f"tests/{ONE}.rs"
+    text = "mod common;\n" + "".join(as_module(it) for it in sorted(CRATE.glob("tests/*.rs")) if it.stem not in (ONE, APART))
+    if not to.is_file() or to.read_text() != text:
+        to.write_text(text)
+
+
+def words_of(name):
+    """How cargo builds the tests of that name."""
+    way, _, tests = name.rpartition("-")
+    chosen = ["--lib"] if tests == "lib" else ["--test", ONE]
+    return ["cargo", "test", "--offline", "-q", "--no-run", "--manifest-path", str(CRATE / "Cargo.toml"), "--message-format", "json-render-diagnostics",
+            *(["--no-default-features"] if way == "bare" else []), *chosen]
+
+
+def built(words):
+    """The program that cargo built, if it did."""
+    ended = subprocess.run(words, env={**os.environ, **QUICK}, stdout=subprocess.PIPE, text=True)
+    found = [it.get("executable") for it in map(json.loads, ended.stdout.splitlines()) if it["reason"] == "compiler-artifact"]
+    return next(filter(None, found), None) if ended.returncode == 0 else None
+
+
+def main():
+    if len(sys.argv) != 2:
+        sys.exit("crate-tests: it takes one place")
+    to = pathlib.Path(sys.argv[1])
+    write_one()
+    program = built(words_of(to.parent.name))
+    if program is None:
+        return 1
+    to.parent.mkdir(parents=True, exist_ok=True)
+    shutil.copy2(program, to)
+    return 0
+
+
+if __name__ == "__main__":
+    sys.exit(main())
