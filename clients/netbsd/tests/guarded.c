@@ -335,11 +335,11 @@ int main(void)
 	things = psref_class_create("thing", IPL_SOFTNET);
 	mutex_init(&lock, MUTEX_DEFAULT, IPL_NONE);
 	cv_init(&cv, "count");
+	test_sections();
 	test_references();
 	test_counts();
 	test_drain();
 	test_changes();
-	test_sections();
 	test_perform();
 	test_changes();
 	test_waits();
