@@ -363,9 +363,10 @@ void sleep_until(int64_t time)
 	run.now_runs->deadline = NEVER;
 }
 
-void bench_sleep(const struct timespec *time)
+int bench_sleep(const struct timespec *time)
 {
 	sleep_until(run.time + (int64_t)time->tv_sec * 1000000000 + time->tv_nsec);
+	return 0;
 }
 
 /* ---- Its memory, and the line before it ends. ---- */

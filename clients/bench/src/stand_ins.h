@@ -33,7 +33,7 @@ static inline void bench_cancel_state(int state, int *before)
 void bench_exit(void) __attribute__((noreturn));
 int bench_cond_wait(const void *cond, const struct timespec *deadline);
 void bench_cond_broadcast(const void *cond);
-void bench_sleep(const struct timespec *time);
+int bench_sleep(const struct timespec *time);
 ssize_t bench_write(const void *text, size_t length);
 void bench_abort(void) __attribute__((noreturn));
 uint32_t bench_enter(struct registry_cpu *cpu);

@@ -63,7 +63,7 @@ void delay(unsigned microseconds)
 int kpause(const char *name, bool interruptible, int ticks, kmutex_t *mutex)
 {
 	struct thread *me = begin_call(__func__);
-	const struct timespec time = {ticks * (long)TICK / 1000000000, ticks * (long)TICK % 1000000000};
+	struct timespec left = {ticks * (long)TICK / 1000000000, ticks * (long)TICK % 1000000000};
 	(void)name;
 	(void)interruptible;
 	if (mutex != NULL)
@@ -72,7 +72,8 @@ int kpause(const char *name, bool interruptible, int ticks, kmutex_t *mutex)
 	if (ticks <= 0)
 		stop(me, "no time to sleep for");
 	int waits = begin_wait();
-	nanosleep(&time, NULL);
+	while (nanosleep(&left, &left) != 0)
+		;
 	end_wait(waits);
 	if (mutex != NULL)
 		take_mutex(me, mutex);
