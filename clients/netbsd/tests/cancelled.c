@@ -30,7 +30,7 @@ static void exit_outside(void)
 	on_thread(exit_it);
 }
 
-/* The line has the name of a thread, for which the layer asks the system. */
+/* The line has the name of a thread. The layer asks the system for it. */
 static void *destroy_it(void *arg)
 {
 	EXPECT(pthread_cancel(pthread_self()) == 0);

@@ -13,6 +13,7 @@ enum { MOST_HELD = 8, MOST_WAITS = 2, PASSES = 60, REFERENCES = KUPALDIZ_REFEREN
 static _Thread_local const pthread_mutex_t *locks[MOST_HELD];	/* that the thread has */
 static _Thread_local unsigned lock_count;
 static const pthread_mutex_t *interlock;			/* once the first registry is opened */
+static _Thread_local unsigned most_turns;			/* so often the thread may take the interlock; 0 is any number */
 
 static bool has_lock(const pthread_mutex_t *lock)
 {
@@ -167,6 +168,8 @@ int __wrap_pthread_mutex_unlock(pthread_mutex_t *lock);
 int __wrap_pthread_mutex_lock(pthread_mutex_t *lock)
 {
 	EXPECT(!has_lock(lock) && lock_count < MOST_HELD);
+	if (lock == interlock && most_turns > 0)
+		EXPECT(--most_turns > 0);
 	int answer = __real_pthread_mutex_lock(lock);
 	locks[lock_count++] = lock;
 	look_behind(lock, false);
@@ -285,13 +288,16 @@ static void test_changes(void)
 	}
 }
 
-/* A CPU goes on in another registry with its sections. */
+/* A CPU goes on in another registry with its sections, at once. The one before is used up then. */
 static void test_sections(void)
 {
 	const struct bank *before = cpus[1].bank;
-	for (unsigned turn = 0; turn <= KUPALDIZ_SECTIONS; turn++)
+	for (unsigned turn = 0; turn <= KUPALDIZ_SECTIONS; turn++) {
+		most_turns = 3;
 		pserialize_read_exit(pserialize_read_enter());
-	EXPECT(cpus[1].bank != before);
+	}
+	most_turns = 0;
+	EXPECT(cpus[1].bank != before && before->used_up);
 }
 
 static void *read_it(void *step)
@@ -335,11 +341,11 @@ int main(void)
 	things = psref_class_create("thing", IPL_SOFTNET);
 	mutex_init(&lock, MUTEX_DEFAULT, IPL_NONE);
 	cv_init(&cv, "count");
+	test_sections();
 	test_references();
 	test_counts();
 	test_drain();
 	test_changes();
-	test_sections();
 	test_perform();
 	test_changes();
 	test_waits();
