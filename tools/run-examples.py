@@ -31,7 +31,7 @@ MOST_SECONDS = 1200
 WANTED = {"report": lambda text: (0, text, ""), "fault": lambda text: (2, "", text)}
 SOURCES = {
     "rust": [*sorted((ROOT / "crates/registry_examples/src").glob("*.rt")), *sorted((ROOT / "clients/rust/examples").glob("*.rs"))],
-    "c": [*sorted((ROOT / "clients/c").glob("*.c")), *sorted((ROOT / "clients/netbsd/tests").glob("*.c"))],
+    "c": [*sorted((ROOT / "clients/c").glob("*.c")), *sorted((ROOT / "clients/netbsd/tests").rglob("*.c"))],
 }
 PAGES = [ROOT / "README.md", ROOT / "clients/README.md", ROOT / "clients/rust/README.md", *sorted((ROOT / "docs").glob("*.md"))]
 FILES = [ROOT / "README.md", *sorted((ROOT / "docs").glob("*.md")), *sorted((ROOT / "examples").glob("*.txt"))]

@@ -132,7 +132,7 @@ test_netbsd() {
     check "the manual pages' own names are built, no warning" make_for clients/netbsd plain
     # Where a program ends by a signal, the emulator says a line of its own: so not those that compare all that is said there.
     for test in $(make_for clients/netbsd list-plain); do
-        grep -q '"stops.h"' "clients/netbsd/tests/$test.c" && continue
+        find clients/netbsd/tests -name "$test.c" -exec grep -q '"stops.h"' {} + && continue
         check "$test, of the manual pages' names" emulated "$out/netbsd/plain/$test"
     done
 }

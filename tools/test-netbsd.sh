@@ -47,7 +47,7 @@ count_cases() {
 
 # Whether a program counts its cases, as stops.h does and some do by themselves.
 counts() {
-    grep -qE 'run_cases\(|passed, %' "$folder/tests/$1.c"
+    find $folder/tests -name "$1.c" -exec grep -qE 'run_cases\(|passed, %' {} +
 }
 
 # A program, with its words, of a way in which the Makefile builds it.

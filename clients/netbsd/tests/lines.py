@@ -28,7 +28,7 @@ def pattern_of(text):
 
 
 def main():
-    tests = "\n".join((HERE / f"{name}.c").read_text() for name in TESTS)
+    tests = "\n".join(path.read_text() for path in sorted(HERE.rglob("*.c")) if path.stem in TESTS)
     passed = failed = 0
     for file, text in sorted(set(lines())):
         found = re.search(BEGINS.get(file, "") + pattern_of(text), tests) is not None
