@@ -144,7 +144,7 @@ def coverage_case(taken):
         Fault("marks that are lost by an abort", "return a - 1;: not run", (("tools/reached.c", "MAP_SHARED", "MAP_PRIVATE"),), run),
         Fault("a line that no test runs", "return a - 1;: not run", (("clients/netbsd/tests/model.c", "seldom(4) == 5", "often(4) == 7"),), run),
         Fault("no object", f"no test has marks of {LAYER}", (("clients/netbsd/Makefile", "tests/%.c $(OUT)/plain/pause.o", "tests/%.c src/pause.c"),), run),
-        Fault("marks of a program that fails", "fails on the tree as it stands", (("tools/reached.c", "marks = shared;", "_exit(3);"),), run),
+        Fault("marks of a program that fails", "fails on the tree as it stands", (("tools/reached.c", "marks = (unsigned char *)shared;", "_exit(3);"),), run),
     )
     return Case("mutants and lines that run", taken, {**layer(), "good": good}, ["./good"], faults, counts=False)
 
