@@ -4,6 +4,7 @@ from .trees import Case, Fault, real
 
 LINES = "clients/netbsd/tests/lines.py"
 ASKED = [f"clients/netbsd/tests/{name}.c" for name in ("misuse", "misuse_kernel", "sleepers", "unmade", "lacks", "tells")]
+TESTS = "clients/netbsd/tests/**/*.c"
 PSREF = "clients/netbsd/src/psref.c"
 
 
@@ -15,9 +16,9 @@ def lines():
               ((ASKED[5], "waits for a release that is under way", "waits for a release"),)),
         Fault("a line that another file's test wants", 'rwlock.c: no test wants "the thread has the lock already"',
               ((ASKED[1], "rw_enter: the thread has the lock already", "rw_enter: it is taken"),)),
-        Fault("a file of tests that is gone", "unmade.c", ((ASKED[3], "#include", None),)),
+        Fault("a file of tests that is gone", "unmade isn't there", ((ASKED[3], "#include", None),)),
     )
-    return Case("lines", [], real(LINES, "clients/netbsd/src/*.c", *ASKED), [LINES], faults)
+    return Case("lines", [], real(LINES, "clients/netbsd/src/*.c", TESTS), [LINES], faults)
 
 
 NAMES = "clients/netbsd/tests/names.py"
@@ -38,7 +39,7 @@ def names():
         Fault("no compiler", "gone", command=[NAMES, "./gone"]),
     )
     headers = [f"clients/netbsd/{folder}/*.h" for folder in ("kupaldiz", "sys", "net")]
-    tests = "clients/netbsd/tests/*.c", "clients/netbsd/examples/*.c", "clients/bench/tests/*.c", "clients/bench/tests/*.inc"
+    tests = TESTS, "clients/netbsd/examples/*.c", "clients/bench/tests/*.c", "clients/bench/tests/*.inc"
     tree = real(NAMES, LISTED, *headers, *tests)
     # Those of three headers, which are soon compiled.
     tree[LISTED] = "".join(f"{line}\n" for line in tree[LISTED].splitlines() if line.startswith(("sys/cdefs.h", "sys/types.h", "sys/systm.h")))

@@ -28,7 +28,11 @@ def pattern_of(text):
 
 
 def main():
-    tests = "\n".join(path.read_text() for path in sorted(HERE.rglob("*.c")) if path.stem in TESTS)
+    files = {path.stem: path for path in HERE.rglob("*.c")}
+    gone = [name for name in TESTS if name not in files]
+    if gone:
+        sys.exit(f"lines: {gone[0]} isn't there")
+    tests = "\n".join(files[name].read_text() for name in TESTS)
     passed = failed = 0
     for file, text in sorted(set(lines())):
         found = re.search(BEGINS.get(file, "") + pattern_of(text), tests) is not None
