@@ -1,6 +1,7 @@
 /*
- * condvars - condvar(9) between its steps: a wait is in its queue before it lets go of the lock, whoever asks or wakes has the queue's lock, and a
- * number of ticks below zero is no wait for ever
+ * condvars - condvar(9) between its steps
+ *
+ * A wait is in its queue before it lets go of the lock. Whoever asks or wakes has the queue's lock. A number of ticks below zero is no wait for ever.
  *
  * The linker leads pthread_mutex_lock, pthread_mutex_unlock, pthread_cond_wait and pthread_cond_timedwait here (--wrap).
  */

@@ -1,6 +1,6 @@
 /*
  * pauses - a wait's pauses by a clock of the test's own: at first none, then longer and longer ones, and one line at the nanosecond at which the layer's
- * patience ends, whatever the clock began with
+ * patience ends, for each time at which the clock may begin
  *
  * The linker leads clock_gettime, nanosleep, sched_yield and write here (--wrap).
  */

@@ -131,7 +131,7 @@ static void empty(struct psref *psrefs)
 		release(&psrefs[at]);
 }
 
-/* Each reference that is counted elsewhere is held, whatever is counted here. A copy is counted where the first one is. */
+/* Each reference that is counted elsewhere is held, also if others are counted here. A copy is counted where the first one is. */
 static void test_full(void)
 {
 	fill(counted);

@@ -3,7 +3,7 @@
  * who waits for a lock has no CPU
  *
  * The linker leads the calls of mutexes and condition variables here (--wrap). Each mutex is given back by the thread that took it. Threads are
- * held at some of these calls until another one is where the test wants it.
+ * held at some of these calls until another one is where the test needs it.
  */
 #include <sys/intr.h>
 #include <sys/mutex.h>
@@ -196,7 +196,7 @@ static void *lend(void *cookie)
 }
 
 /*
- * A thread has seen that a soft interrupt waits, and lends its CPU, just when that soft interrupt ends and nothing is to be run any more. The thread of soft
+ * A thread has seen that a soft interrupt waits, and lends its CPU, exactly when that soft interrupt ends and nothing is to be run any more. The thread of soft
  * interrupts hears of the CPU: also where it had looked just before, and is about to wait.
  */
 static void test_withdrawn(void)
@@ -226,7 +226,7 @@ static void wait_for_lock(void *arg)
 	mutex_exit(&lock);
 }
 
-/* The lender gets the CPU back from a handler that waits for its lock, and keeps it: another soft interrupt waits for the handler, whatever its level. */
+/* The lender gets the CPU back from a handler that waits for its lock, and keeps it: another soft interrupt of any level waits for the handler. */
 static void *lend_twice(void *of)
 {
 	void **cookies = of;

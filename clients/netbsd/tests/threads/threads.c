@@ -543,7 +543,7 @@ static void come_from(unsigned cpu)
 	kupaldiz_unbind();
 }
 
-/* Of all CPUs this one alone is free, and has no bound thread. */
+/* No other CPU is free or without a bound thread. */
 static void test_free(unsigned cpu)
 {
 	goes_on = true;
