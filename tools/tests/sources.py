@@ -25,6 +25,8 @@ def check_limits():
     faults += [Fault(f"another {name} in Rattle", f"{name} is", ((LIMITS, f"const {name}: {kind} = {number};", f"const {name}: {kind} = 7;"),))
                for name, kind, number in (("MOST_CPUS", "usize", "8"), ("MOST_SLOTS", "usize", "32"), ("MOST_CHANGES", "u64", "1_000_000"),
                                           ("MOST_SECTIONS", "u64", "1 << 40"), ("MOST_COUNT", "u64", "1 << 40"), ("MOST_DEPTH", "u8", "255"))]
+    everywhere = f"sed -i s/1_000_000/7/ {LIMITS}; for it in {HEADER} {' '.join(COPIES)}; do tools/limits-header.py >$it; done; exec tools/check-limits.py"
+    faults.append(Fault("another default, in all headers, too", "MOST_CHANGES is 7, and 1000000 in the default build", command=["sh", "-c", everywhere]))
     tree = real(LIMITS, HEADER, *COPIES, *{path for path, _, _ in PLACES})
     return Case("check-limits", ["check-limits.py", "counts.py", "limits-header.py", "limits.py"], tree, ["tools/check-limits.py"], faults)
 
