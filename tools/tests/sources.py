@@ -79,6 +79,8 @@ def check_imports():
               (("crates/two/proofs/Lemma.antt", "use Rattle", "use Rattle.low.specs.Words.{Word};\nuse Rattle"),)),
         Fault("a name of its own that a proof takes past it", "one/proofs/Own.antt imports Count",
               (("crates/one/proofs/Own.antt", None, "use Rattle.one.specs.Counts.{Count};\n"),)),
+        Fault("a name of a lower crate that its own specs take past it", "one/specs/More.antt imports Word of Rattle.low.specs.Words",
+              (("crates/one/specs/More.antt", "use Rattle.one", "use Rattle.low.specs.Words.{Word};\nuse Rattle.one"),)),
         Fault("one of several names", "imports Count", (("crates/two/src/lib.rt", "ghost use", "ghost use Rattle.one.specs.Counts.{Other, Count};\nghost use"),)),
         Fault("a type that no one takes", "one/specs/Types.antt: no one imports Count",
               (("crates/one/specs/Types.antt", None, "pub use Rattle.one.specs.Counts.{Count};\n"),)),
