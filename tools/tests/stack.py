@@ -10,6 +10,14 @@ int registry_exit(volatile char *at) { char *block = malloc(8); int seen = at[0]
 """
 
 
+# A call that goes on in another function by a jump, which no relocation tells; and one that takes 116 bytes: its return address, 100, and malloc's.
+JUMPS = r"""static __attribute__((used, noinline)) int wide(volatile char *at) { volatile char room[900]; for (int i = 0; i < 900; i++) room[i] = at[i]; return room[7]; }
+__asm__(".text\n.globl registry_jumps\n.type registry_jumps,@function\nregistry_jumps: jmp wide\n");
+int registry_enter"""
+MEASURED = r"""__asm__(".text\n.globl registry_measured\n.type registry_measured,@function\nregistry_measured: sub $100, %rsp\ncall malloc\nadd $100, %rsp\nret\n");
+int registry_enter"""
+
+
 def archive(tree):
     """Compiles the library once more: the change is in its source."""
     (tree / "built").write_text(COMPILED)
@@ -29,6 +37,9 @@ def frames():
     faults = (
         Fault("a call above the limit", "above 512: registry_enter", (("library.c", "char room[100]", "char room[900]"),)),
         Fault("what a call calls above it", "above 512: registry_exit", (("library.c", "int seen = at[0]", "char wide[600]; for (int i = 0; i < 600; i++) wide[i] = at[i]; int seen = fill(wide)"),)),
+        Fault("what a call jumps to above it", "above 512: registry_jumps", (("library.c", "int registry_enter", JUMPS),)),
+        Fault("a byte above the limit", "above 115: registry_measured", (("library.c", "int registry_enter", MEASURED),),
+              ["./built", "115", "registry_enter", "registry_exit"]),
         Fault("a frame of several pages", "above 512: registry_enter", (("library.c", "char room[100]", "char room[90000]"),)),
         Fault("a call through a pointer", "registry_enter calls through a pointer", (("library.c", call, "int (*volatile f)(volatile char *) = fill; return f(at) + 1;"),)),
         Fault("a call that comes back to itself", "registry_enter comes back to itself", (("library.c", call, "return at[1] ? registry_enter(at + 1) + fill(at) : 1;"),)),

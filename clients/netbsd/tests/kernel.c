@@ -1,5 +1,5 @@
 /*
- * kernel - the calls beside the three pages: locks, memory, counters of each CPU, cross-calls, callouts, threads, lists, atomics, copies
+ * kernel - the calls beside the three pages, except locks: memory, counters of each CPU, cross-calls, callouts, threads, lists, atomics, copies
  */
 #include <sys/param.h>
 #include <sys/systm.h>
@@ -18,299 +18,13 @@
 #include <sys/pserialize.h>
 #include <sys/pslist.h>
 #include <sys/queue.h>
-#include <sys/rwlock.h>
 #include <sys/xcall.h>
 
 #include "test.h"
 
-enum { THREADS = 6, TURNS = 2000 };
-
-static kmutex_t lock, spin;
+static kmutex_t lock;
 static kcondvar_t cv;
-static krwlock_t rw;
-static unsigned plain, pair[2];	/* under a lock each */
-static atomic_uint waiting;
-
-static void run_all(void *(*body)(void *))
-{
-	pthread_t threads[THREADS];
-	for (unsigned i = 0; i < THREADS; i++)
-		start_thread(&threads[i], body, NULL);
-	for (unsigned i = 0; i < THREADS; i++)
-		end_thread(threads[i]);
-}
-
-/* ---- Locks. ---- */
-
-static void *add_locked(void *arg)
-{
-	for (unsigned turn = 0; turn < TURNS; turn++) {
-		kmutex_t *mutex = turn % 2 == 0 ? &lock : &spin;
-		if (turn % 8 != 7 || !mutex_tryenter(mutex))
-			mutex_enter(mutex);
-		EXPECT(mutex_owned(mutex));
-		if (turn % 2 == 0)
-			plain++;
-		else
-			pair[0]++;
-		mutex_exit(mutex);
-		EXPECT(!mutex_owned(mutex) && mutex_ownable(mutex));
-	}
-	return arg;
-}
-
-/* With a spin lock the level may be raised, also for a second lock, and lowered again to that of the first. */
-static void test_levels_in_spin_locks(void)
-{
-	kmutex_t highest;
-	mutex_init(&highest, MUTEX_DEFAULT, IPL_HIGH);
-	mutex_spin_enter(&spin);
-	int s = splhigh();
-	mutex_spin_enter(&highest);
-	mutex_spin_exit(&highest);
-	splx(s);
-	EXPECT(s == IPL_VM && splsched() == IPL_VM);
-	splx(s);
-	mutex_spin_exit(&spin);
-	EXPECT(!kpreempt_disabled());
-	mutex_destroy(&highest);
-}
-
-/* A lock spins by its type or by its level, and raises the CPU to that level: one of IPL_NONE to IPL_VM. */
-static void test_levels_of_locks(void)
-{
-	static const struct {
-		kmutex_type_t type;
-		int level, raised;
-	} each[] = {{MUTEX_SPIN, IPL_NONE, IPL_VM}, {MUTEX_SPIN, IPL_SOFTNET, IPL_SOFTNET}, {MUTEX_DEFAULT, IPL_VM, IPL_VM},
-	    {MUTEX_DEFAULT, IPL_SCHED, IPL_SCHED}, {MUTEX_DEFAULT, IPL_HIGH, IPL_HIGH}, {MUTEX_DEFAULT, IPL_SOFTSERIAL, IPL_NONE}};
-	for (unsigned i = 0; i < sizeof(each) / sizeof(each[0]); i++) {
-		kmutex_t of_level;
-		mutex_init(&of_level, each[i].type, each[i].level);
-		EXPECT(mutex_tryenter(&of_level) && kpreempt_disabled() == (each[i].raised != IPL_NONE));
-		int s = splsoftclock();
-		EXPECT(s == each[i].raised);
-		splx(s);
-		mutex_exit(&of_level);
-		EXPECT(!kpreempt_disabled());
-		mutex_destroy(&of_level);
-	}
-}
-
-static void test_mutexes(void)
-{
-	plain = pair[0] = 0;
-	run_all(add_locked);
-	EXPECT(plain == THREADS * TURNS / 2 && pair[0] == THREADS * TURNS / 2);
-	mutex_spin_enter(&spin);
-	EXPECT(kpreempt_disabled() && !mutex_tryenter(&spin));
-	mutex_spin_exit(&spin);
-	EXPECT(!kpreempt_disabled());
-	test_levels_in_spin_locks();
-	test_levels_of_locks();
-	kmutex_t *counted = mutex_obj_alloc(MUTEX_DEFAULT, IPL_NONE);
-	mutex_obj_hold(counted);
-	EXPECT(!mutex_obj_free(counted));
-	mutex_enter(counted);
-	mutex_exit(counted);
-	EXPECT(mutex_obj_free(counted));
-}
-
-/* Both words are the same to whoever reads, and are changed by one alone. */
-static void *read_and_write(void *arg)
-{
-	for (unsigned turn = 0; turn < TURNS; turn++) {
-		if (turn % 8 == 0) {
-			rw_enter(&rw, RW_WRITER);
-			EXPECT(rw_write_held(&rw) && !rw_tryenter(&rw, RW_READER));
-			pair[0]++;
-			if (turn % 64 == 0)
-				rw_downgrade(&rw);
-			else
-				pair[1]++;
-			EXPECT(rw_lock_held(&rw));
-			rw_exit(&rw);
-		} else if (turn % 8 != 3 || !rw_tryenter(&rw, RW_READER)) {
-			rw_enter(&rw, RW_READER);
-			EXPECT(rw_read_held(&rw) && pair[0] - pair[1] <= THREADS * TURNS);
-			rw_exit(&rw);
-		} else {
-			rw_exit(&rw);
-		}
-	}
-	return arg;
-}
-
-static void test_rwlocks(void)
-{
-	pair[0] = pair[1] = 0;
-	run_all(read_and_write);
-	EXPECT(pair[0] == THREADS * TURNS / 8 && !rw_lock_held(&rw));
-	rw_enter(&rw, RW_READER);
-	EXPECT(!rw_tryenter(&rw, RW_WRITER) && rw_tryenter(&rw, RW_READER) && !rw_tryupgrade(&rw));
-	rw_exit(&rw);
-	EXPECT(rw_tryupgrade(&rw) && rw_write_held(&rw) && !rw_tryenter(&rw, RW_READER));
-	rw_exit(&rw);
-}
-
-/* Takes the lock once, to read or to write. */
-struct taker {
-	krw_t how;
-	atomic_uint turns;
-};
-
-static void *take_once(void *of)
-{
-	struct taker *taker = of;
-	rw_enter(&rw, taker->how);
-	atomic_fetch_add(&taker->turns, 1);
-	rw_exit(&rw);
-	return of;
-}
-
-/* A writer that waits goes before the readers that come after it. */
-static void test_waiting_writer(void)
-{
-	pthread_t thread;
-	struct taker writer = {RW_WRITER, 0};
-	unsigned turn = 0;
-	rw_enter(&rw, RW_READER);
-	start_thread(&thread, take_once, &writer);
-	for (; turn < 100000 && rw_tryenter(&rw, RW_READER); turn++) {
-		rw_exit(&rw);
-		sleep_for(100);
-	}
-	EXPECT(turn < 100000 && atomic_load(&writer.turns) == 0 && rw_read_held(&rw) && !rw_write_held(&rw));
-	rw_exit(&rw);
-	end_thread(thread);
-	EXPECT(atomic_load(&writer.turns) == 1 && rw_tryenter(&rw, RW_READER) && rw_tryenter(&rw, RW_READER));
-	rw_exit(&rw);
-	rw_exit(&rw);
-}
-
-/* Who waits to read goes on beside the writer that becomes a reader. */
-static void test_downgrade(void)
-{
-	pthread_t thread;
-	struct taker reader = {RW_READER, 0};
-	rw_enter(&rw, RW_WRITER);
-	start_thread(&thread, take_once, &reader);
-	sleep_for(20000);
-	EXPECT(atomic_load(&reader.turns) == 0);
-	rw_downgrade(&rw);
-	for (unsigned turn = 0; turn < 100000 && atomic_load(&reader.turns) == 0; turn++)
-		sleep_for(100);
-	EXPECT(atomic_load(&reader.turns) == 1 && rw_read_held(&rw) && !rw_write_held(&rw) && !rw_tryenter(&rw, RW_WRITER));
-	rw_exit(&rw);
-	end_thread(thread);
-}
-
-static void *wait_and_count(void *arg)
-{
-	mutex_enter(&lock);
-	switch (waiting++ % 4) {
-	case 0: cv_wait(&cv, &lock); break;
-	case 1: EXPECT(cv_wait_sig(&cv, &lock) == 0); break;
-	case 2: EXPECT(cv_timedwait(&cv, &lock, 0) == 0); break;	/* for ever */
-	case 3: EXPECT(cv_timedwait_sig(&cv, &lock, 0) == 0); break;
-	}
-	plain++;
-	mutex_exit(&lock);
-	return arg;
-}
-
-/* A signal wakes one, in the order of arrival; a broadcast wakes all. */
-static void test_condvars(void)
-{
-	pthread_t threads[THREADS];
-	plain = 0;
-	for (unsigned i = 0; i < THREADS; i++)
-		start_thread(&threads[i], wait_and_count, NULL);
-	while (atomic_load(&waiting) < THREADS)
-		sleep_for(50);
-	mutex_enter(&lock);
-	EXPECT(cv_has_waiters(&cv) && cv_is_valid(&cv));
-	cv_signal(&cv);
-	while (plain == 0)
-		EXPECT(cv_timedwait(&cv, &lock, 1) == EWOULDBLOCK);
-	EXPECT(cv_timedwait(&cv, &lock, 1) == EWOULDBLOCK && plain == 1);
-	cv_broadcast(&cv);
-	while (plain < THREADS)
-		EXPECT(cv_timedwait_sig(&cv, &lock, 1) == EWOULDBLOCK);
-	EXPECT(!cv_has_waiters(&cv));
-	mutex_exit(&lock);
-	for (unsigned i = 0; i < THREADS; i++)
-		end_thread(threads[i]);
-	mutex_enter(&spin);
-	EXPECT(cv_timedwait(&cv, &spin, 1) == EWOULDBLOCK && mutex_owned(&spin) && kpreempt_disabled());
-	mutex_exit(&spin);
-	EXPECT(!kpreempt_disabled());
-}
-
-/* ---- Many that wait. ---- */
-
-/* More locks and condition variables than the layer has places to wait in: some share one. */
-enum { CROWD = 80 };
-
-static struct member {
-	kmutex_t lock;
-	kcondvar_t cv;
-	bool called;		/* under the lock */
-	atomic_bool gone;
-} crowd[CROWD];
-static atomic_uint came, left;
-
-static void *wait_in_crowd(void *of)
-{
-	struct member *member = of;
-	atomic_fetch_add(&came, 1);
-	mutex_enter(&member->lock);
-	while (!member->called)
-		cv_wait(&member->cv, &member->lock);
-	mutex_exit(&member->lock);
-	atomic_store(&member->gone, true);
-	atomic_fetch_add(&left, 1);
-	return of;
-}
-
-/* One goes, and no other. */
-static void call_member(struct member *member)
-{
-	unsigned before = atomic_load(&left);
-	mutex_enter(&member->lock);
-	member->called = true;
-	cv_signal(&member->cv);
-	mutex_exit(&member->lock);
-	while (!atomic_load(&member->gone))
-		sleep_for(50);
-	while (atomic_load(&left) == before)
-		sleep_for(50);
-	EXPECT(atomic_load(&left) == before + 1);
-}
-
-static void test_crowd(void)
-{
-	pthread_t threads[CROWD];
-	for (unsigned i = 0; i < CROWD; i++) {
-		mutex_init(&crowd[i].lock, MUTEX_DEFAULT, IPL_NONE);
-		cv_init(&crowd[i].cv, "crowd");
-		mutex_enter(&crowd[i].lock);
-		start_thread(&threads[i], wait_in_crowd, &crowd[i]);
-	}
-	while (atomic_load(&came) < CROWD)
-		sleep_for(100);
-	sleep_for(20000);
-	for (unsigned i = 0; i < CROWD; i++)
-		mutex_exit(&crowd[i * 7 % CROWD].lock);
-	sleep_for(20000);
-	for (unsigned i = 0; i < CROWD; i++)
-		call_member(&crowd[i * 3 % CROWD]);
-	for (unsigned i = 0; i < CROWD; i++) {
-		end_thread(threads[i]);
-		cv_destroy(&crowd[i].cv);
-		mutex_destroy(&crowd[i].lock);
-	}
-}
+static unsigned plain, pair[2];	/* what was counted */
 
 /* ---- Memory. ---- */
 
@@ -970,15 +684,7 @@ static void test_strings(void)
 int main(void)
 {
 	mutex_init(&lock, MUTEX_DEFAULT, IPL_SOFTCLOCK);
-	mutex_init(&spin, MUTEX_DEFAULT, IPL_VM);
 	cv_init(&cv, "kernel");
-	rw_init(&rw);
-	test_mutexes();
-	test_rwlocks();
-	test_waiting_writer();
-	test_downgrade();
-	test_condvars();
-	test_crowd();
 	test_memory();
 	test_zeros();
 	test_percpu_sizes();
@@ -1003,8 +709,6 @@ int main(void)
 	test_copies();
 	test_strings();
 	cv_destroy(&cv);
-	rw_destroy(&rw);
-	mutex_destroy(&spin);
 	mutex_destroy(&lock);
 	puts("the calls beside the three pages did as they say");
 	return 0;
