@@ -45,7 +45,7 @@ static inline int run_case(void (*begin)(void), void (*body)(void), char *said, 
 	return status;
 }
 
-/* Whether a case said just its line, and ended by abort or well. */
+/* Whether a case said exactly its line, and ended by abort or well. */
 static inline bool ends_rightly(void (*begin)(void), const struct stop_case *the_case, bool aborts)
 {
 	char said[1024], wanted[512];

@@ -94,7 +94,7 @@ fn waits((what, call): Call) {
     });
 }
 
-/// A call of many turns, each of which takes the lock anew, has begun when the other thread's turn gets the keeper.
+/// A call of many turns takes the lock anew in each. It has begun when the other thread's turn gets the keeper.
 fn waits_again(what: &str, call: impl FnOnce(&Registry<u32>, &Cpu<u32>) + Send) {
     let (held, other) = opened();
     let Other { registry, mut cpus, .. } = other;

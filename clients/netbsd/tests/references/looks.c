@@ -1,7 +1,7 @@
 /*
  * looks - how psref_target_destroy finds the reference that it waits for, in the tables of CPUs that other threads have: over a layer whose patience is short
  *
- * Each case runs in a child, which ends well. The linker leads write and open here (--wrap), nanosleep, by which the destroyer lets others have a CPU that it
+ * Each case runs in a child, which ends well. The linker leads write and open here (--wrap), nanosleep, in which the destroyer lets others have a CPU that it
  * would look at, and registry_get: a thread may be told that its CPU counts no more references. The last line counts the cases.
  */
 #include <fcntl.h>
@@ -9,6 +9,7 @@
 #include <sys/prctl.h>
 #include <sys/psref.h>
 
+#include "free_cpus.h"
 #include "stops.h"
 
 #include "registry.h"
@@ -29,28 +30,6 @@ static struct psref_target target;
 static atomic_bool told, lets_go, may_go, gone;
 static atomic_uint ready;
 static _Thread_local bool counts_elsewhere, destroys;
-
-/* ---- A thread that isn't bound takes a CPU that is free, first that where it was last. ---- */
-
-static void *take_one(void *of)
-{
-	unsigned cpu = *(unsigned *)of;
-	kupaldiz_bind(cpu);
-	kupaldiz_unbind();
-	kpreempt_disable();
-	*(unsigned *)of = cpu_number();
-	kpreempt_enable();
-	return of;
-}
-
-static bool is_free(unsigned cpu)
-{
-	pthread_t other;
-	unsigned got = cpu;
-	start_thread(&other, take_one, &got);
-	end_thread(other);
-	return got == cpu;
-}
 
 /* ---- What is led here. ---- */
 

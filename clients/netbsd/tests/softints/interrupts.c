@@ -1,5 +1,5 @@
 /*
- * interrupts - the list of soft interrupts, and handlers that go on: each soft interrupt is established and ended whole, whatever others do meanwhile, and a
+ * interrupts - the list of soft interrupts, and handlers that go on: each soft interrupt is established and ended whole, also while others do the same, and a
  * handler that waited for a lock goes on as soon as it may
  *
  * The linker leads the mutexes of the layer, its waits and its pauses here (--wrap).

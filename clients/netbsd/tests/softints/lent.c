@@ -9,6 +9,7 @@
 #include <sys/mutex.h>
 #include <sys/pserialize.h>
 
+#include "free_cpus.h"
 #include "test.h"
 
 int __real_pthread_mutex_lock(pthread_mutex_t *mutex);
@@ -130,28 +131,6 @@ int __wrap_pthread_cond_broadcast(pthread_cond_t *cond)
 	if (role == LENDER && atomic_load(&lends))
 		atomic_store(&has_lent, true);
 	return answer;
-}
-
-/* ---- A thread that isn't bound takes a CPU that is free, first that where it was last. ---- */
-
-static void *take_one(void *of)
-{
-	unsigned cpu = *(unsigned *)of;
-	kupaldiz_bind(cpu);
-	kupaldiz_unbind();
-	kpreempt_disable();
-	*(unsigned *)of = cpu_number();
-	kpreempt_enable();
-	return of;
-}
-
-static bool is_free(unsigned cpu)
-{
-	pthread_t other;
-	unsigned got = cpu;
-	start_thread(&other, take_one, &got);
-	end_thread(other);
-	return got == cpu;
 }
 
 /* ---- The tests. This thread is bound to the CPU. ---- */

@@ -1,6 +1,6 @@
 /*
- * memory - what the heap and each CPU see of kmem(9), pool(9), pool_cache(9) and percpu(9): all that was taken is given back, zeros are zeros whatever
- * lay there before, and what was given back is told, whatever the heap makes of it
+ * memory - what the heap and each CPU see of kmem(9), pool(9), pool_cache(9) and percpu(9): all that was taken is given back, zeros are zeros over
+ * any bytes that lay there before, and what was given back is told, even if the heap uses it again
  *
  * The linker leads malloc, calloc, posix_memalign and free here (--wrap). Memory that isn't asked to be zeros isn't. Each case runs in a child. The
  * last line counts the cases.
