@@ -1,8 +1,8 @@
 """Tries wrong bodies that the prover must refuse, by a check of the functions that they change (docs/EDITS.md).
 
-A check of an edited crate is of the function whose body the edit changes, or of those that the edit names in a line `only: MODULE::FUNCTION ..`, with
-what they call; or it is of the whole crate, as an edit of a definition needs. What it checks is checked once as it stands, and each edit begins with what
-that check kept.
+A check of an edited crate is of the function whose body the edit changes, or of those that the edit names in a line `only: MODULE::FUNCTION ..`; or it is
+of the whole crate, as an edit of a definition needs. What it checks is checked once as it stands, and each edit begins with what that check kept. Functions
+that no edit is tried on are assumed to meet their contracts (assumed.py): they aren't proved once more, and a refusal doesn't rest on their proofs.
 
 Most of a check's time goes into reading what stands below, so edits of several bodies are tried in one check: each changes the body of one function alone,
 each of another one. A function is proved of its own body and of the contracts of what it calls, which stay, so the other edits don't matter to it. An edit
@@ -10,6 +10,7 @@ is refused there if a goal of its own function is. One that isn't is tried once 
 """
 import collections
 import concurrent.futures
+import functools
 import os
 import pathlib
 import re
@@ -17,16 +18,19 @@ import shutil
 import subprocess
 import tempfile
 
+from assumed import assume, assuming, path_of, types_of
 from edits import ROOT, apply, changes
 from functions import body_begins, functions_of, module_of
 from kit import kit, over_libraries
 from parts import GIGABYTE, free_memory, processors
 
 # How many edits one check tries.
-IN_ONE_CHECK = 8
+IN_ONE_CHECK = 16
 # What the check of some functions takes of memory, above the most that was seen.
 MEMORY = 2.5 * GIGABYTE
 Try = collections.namedtuple("Try", "is_refused said")
+# What edits of a crate begin with: the folder with what is kept, and the functions that they are tried on.
+Seed = collections.namedtuple("Seed", "kept names")
 UNPROVED = Try(False, "NOT TRIED: what this crate's edits change isn't proved as it stands")
 # In place of functions to check: all of the crate.
 WHOLE = ["the whole crate"]
@@ -147,20 +151,28 @@ def judged(ran, names):
     return refused(telling(found))
 
 
+@functools.cache
+def proofs_of(crate, function):
+    """The folder with the function's proof files, from the crate's."""
+    source = ROOT / "crates" / crate / "src"
+    return "/".join(["proofs", *path_of(function, source, types_of(source)), ""])
+
+
 def is_of(goal, crate, function):
     """Whether a goal is one of the function's, or an answer of its proof files."""
     path, line = re.match(r"(?:note: )?(?:\./)?(\S+?):(\d+):", goal).groups()
-    home = ROOT / "crates" / crate
-    proofs = "/".join(["proofs", *filter(None, module_of(function.path, home / "src").split("::")), *function.name.split("::"), ""])
-    return path.startswith(proofs) or home / path == function.path and function.first < int(line) <= function.last + 1
+    is_in_body = ROOT / "crates" / crate / path == function.path and function.first < int(line) <= function.last + 1
+    return path.startswith(proofs_of(crate, function)) or is_in_body
 
 
-def check(crate, names, tree, kept):
-    """Checks the functions of the crate as it stands in `tree`, or WHOLE, over what is kept in the folder `kept`, and keeps what it proves there."""
+def check(crate, names, tree, seed):
+    """Checks the functions of the crate as it stands in `tree`, or WHOLE, over what the seed kept, and keeps there what it proves. What the seed doesn't name
+    is assumed to meet its contracts."""
     only = [] if names == WHOLE else [word for it in names for word in ("--only", it)]
-    words = [kit() / "bin/rattle", "check", *over_libraries(crate), "--jobs", "1", *only, "--incremental", kept]
+    holes = {} if names == WHOLE else assume(crate, tree / "crates" / crate, seed.names)
+    words = [kit() / "bin/rattle", "check", *over_libraries(crate), "--jobs", "1", *only, *(["--allow-holes"] if holes else []), "--incremental", seed.kept]
     said = {"stdin": subprocess.DEVNULL, "stdout": subprocess.PIPE, "stderr": subprocess.STDOUT, "text": True, "errors": "replace"}
-    return subprocess.run(words, cwd=tree / "crates" / crate, **said)
+    return assuming(subprocess.run(words, cwd=tree / "crates" / crate, **said), holes)
 
 
 def copied(crate, room):
@@ -174,18 +186,18 @@ def copied(crate, room):
 
 
 def seeded(crate, names, room):
-    """A folder with what is proved of these functions, or of WHOLE, as they stand, or None where they aren't: a refusal would say nothing of an edit then."""
-    kept = pathlib.Path(room) / crate
-    kept.mkdir()
+    """A seed with what is proved of these functions, or of WHOLE, as they stand, or None where they aren't: a refusal would say nothing of an edit then."""
+    seed = Seed(pathlib.Path(room) / crate, names)
+    seed.kept.mkdir()
     with tempfile.TemporaryDirectory() as scratch:
-        ran = check(crate, names, copied(crate, scratch), kept)
+        ran = check(crate, names, copied(crate, scratch), seed)
     if ran.returncode:
         print(f"{crate}: what its edits change isn't proved as it stands: {ran.stdout[-600:]}", flush=True)
         return None
-    return kept
+    return seed
 
 
-def check_edited(edits, names, kept):
+def check_edited(edits, names, seed):
     """Checks these functions of the edited crate, or WHOLE, in a copy of it; what is kept there goes with the copy. Gives the check, or what doesn't fit."""
     with tempfile.TemporaryDirectory() as room:
         tree = copied(crate_of(edits[0]), room)
@@ -193,32 +205,32 @@ def check_edited(edits, names, kept):
         if misfit:
             return None, misfit
         # A check replaces a file that it writes anew, so links to what is kept are enough.
-        over = shutil.copytree(kept, f"{room}/kept", copy_function=os.link)
-        return check(crate_of(edits[0]), names, tree, over), ""
+        over = shutil.copytree(seed.kept, f"{room}/kept", copy_function=os.link)
+        return check(crate_of(edits[0]), names, tree, Seed(over, seed.names)), ""
 
 
-def try_edit(edit, kept, whole):
+def try_edit(edit, seed, whole):
     """Tries one edit alone."""
     names = asked_for(edit, whole)
-    ran, misfit = check_edited([edit], names, kept)
+    ran, misfit = check_edited([edit], names, seed)
     return judged(ran, names) if ran else Try(False, f"NOT TRIED: {misfit}")
 
 
-def try_together(edits, kept):
+def try_together(edits, seed):
     """Tries edits of several bodies in one check; gives those that it refuses, with what refuses them."""
     functions = {edit: body_changed(edit) for edit in edits}
-    ran, _ = check_edited(edits, asked_for_all(edits, whole=False), kept)
+    ran, _ = check_edited(edits, asked_for_all(edits, whole=False), seed)
     found = telling(goals(ran)) if ran and not untried(ran) else []
     own = {edit: [it for it in found if is_of(it, crate_of(edit), functions[edit])] for edit in edits}
     return {edit: refused(of) for edit, of in own.items() if of}
 
 
-def try_batch(edits, kept, whole):
+def try_batch(edits, seed, whole):
     """Tries the edits together, and alone those that this doesn't refuse; gives each with its result."""
-    if kept is None:
+    if seed is None:
         return [(edit, UNPROVED) for edit in edits]
-    together = try_together(edits, kept) if len(edits) > 1 else {}
-    return [(edit, together.get(edit) or try_edit(edit, kept, whole)) for edit in edits]
+    together = try_together(edits, seed) if len(edits) > 1 else {}
+    return [(edit, together.get(edit) or try_edit(edit, seed, whole)) for edit in edits]
 
 
 def lanes():

@@ -10,13 +10,20 @@ PRIVATE = re.compile(r"( *)(?:pub\(crate\) )?(?:const )?fn (\w+)")
 Function = collections.namedtuple("Function", "path name is_public first last text")
 
 
+def opens_body(line, indent):
+    """Whether the line, below a function's first, has the bracket that opens its body."""
+    return bool(re.fullmatch(rf"{indent}(\{{|\).* \{{)", line))
+
+
 def end_of(lines, first, indent):
     """The line that ends the function which begins here: its closing bracket, or its semicolon where it has no body."""
+    has_body = lines[first].endswith("{")
     for number in range(first, len(lines)):
-        if lines[number] in (indent + "}", indent + "{}"):
+        if lines[number] in (indent + "}", indent + "{}") or lines[first].endswith("{}"):
             return number
-        if lines[number].endswith(";") and indent + "{" not in lines[first:number]:
+        if lines[number].endswith(";") and not has_body:
             return number
+        has_body = has_body or opens_body(lines[number], indent)
     return len(lines) - 1
 
 
@@ -52,5 +59,5 @@ def body_begins(function):
     """The line with the bracket that opens the function's body: no line after it is of its contract."""
     lines = function.path.read_text().split("\n")
     indent = re.match(" *", lines[function.first])[0]
-    opens = (number for number in range(function.first, function.last) if re.fullmatch(rf"{indent}(\{{|\).* \{{)", lines[number]))
+    opens = (number for number in range(function.first, function.last) if opens_body(lines[number], indent))
     return function.first if lines[function.first].endswith("{") else next(opens, function.last)

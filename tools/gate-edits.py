@@ -16,7 +16,9 @@ import tempfile
 
 sys.dont_write_bytecode = True
 
+import assumed
 import edit_checks
+import functions
 from counts import ended
 from edit_checks import Try, crate_of, sources, tried
 from edits import ROOT, edits_of
@@ -29,7 +31,9 @@ STORE = pathlib.Path(os.environ.get("XDG_CACHE_HOME", pathlib.Path.home() / ".ca
 @functools.cache
 def sum_of(crate):
     """The sum of what a check of the crate reads: the kit, how edits are tried, the crate, and the libraries below it."""
-    total = hashlib.sha256((kit() / "KIT-ID").read_bytes() + pathlib.Path(edit_checks.__file__).read_bytes())
+    total = hashlib.sha256((kit() / "KIT-ID").read_bytes())
+    for tool in (edit_checks, assumed, functions):
+        total.update(pathlib.Path(tool.__file__).read_bytes())
     for path in sources(crate):
         total.update(str(path.relative_to(ROOT)).encode() + path.read_bytes())
     for name in below(crate):

@@ -23,9 +23,15 @@ impl Up for Plain {
         x + 7
     }
 }
+
+/// The most that there is. No edit changes it.
+pub fn most() -> u64 {
+    let most = u64::MAX;
+    most
+}
 """
 # It proves bodies that say x + 1, x - 1 and x + 7, and the first over a library that is called strong; a whole crate it proves only below the first
-# line. It ends as `rattle check` does, and calls a trait's method by the type and the trait.
+# line. It ends as `rattle check` does, and calls a trait's method by the type and the trait. A function whose proof is a hole it takes as it is.
 RATTLE = """#!/bin/sh
 case $* in *"--only Plain::"*) echo "rattle: error: there is no such function"; exit 2 ;; esac
 status=0
@@ -40,11 +46,11 @@ case $* in
         }
         ;;
 esac
-grep -q '^    x + 1' src/lib.rt || grep -q strong "$LOW" || {
+[ -e proofs/more/Proof.antt ] || grep -q '^    x + 1' src/lib.rt || grep -q strong "$LOW" || {
     echo 'note: src/lib.rt:5:15: this clause is not proved'
     status=1
 }
-grep -q '^    x - 1' src/lib.rt || {
+[ -e proofs/less/Proof.antt ] || grep -q '^    x - 1' src/lib.rt || {
     echo 'note: src/lib.rt:12:15: this clause is not proved'
     status=1
 }
@@ -52,6 +58,17 @@ grep -q '^        x + 7' src/lib.rt || {
     echo 'note: src/lib.rt:18:5: this clause is not proved'
     status=1
 }
+case $* in
+    *--allow-holes*)
+        grep -q '^most_spec = ?' proofs/most/Proof.antt && grep -q '^loop {}' src/lib.rt && ! grep -q u64::MAX src/lib.rt || exit 2
+        [ $status = 0 ] && echo 'fn one::more: no holes' || echo 'fn one::more: not proved'
+        echo 'fn one::most: depends on a hole in `Rattle.one.proofs.most.Proof.most_spec`'
+        echo './proofs/most/Proof.antt:4:13: goal ? in `most_spec`'
+        echo './proofs/Lib.antt:1:1: note: large solution'
+        status=1
+        ended='only=3 holes=1'
+        ;;
+esac
 echo $ended
 exit $status
 """
@@ -108,6 +125,18 @@ def judges(name, said, line):
     return Fault(name, said, (("kit/bin/rattle", "    echo 'note: src/lib.rt:5:15: this clause is not proved'\n", f"    {line}\n"),))
 
 
+def over_holes(name, state):
+    """A kit that says something else of the function that is assumed to meet its contract."""
+    line = "        echo 'fn one::most: depends on a hole in `Rattle.one.proofs.most.Proof.most_spec`'\n"
+    return Fault(name, "what its edits change isn't proved as it stands", (("kit/bin/rattle", line, f"        echo 'fn one::most: {state}'\n"),))
+
+
+def after_the_hole(name, line):
+    """A kit that prints a line more of what it was asked for."""
+    hole = "        echo './proofs/most/Proof.antt:4:13: goal ? in `most_spec`'\n"
+    return Fault(name, "what its edits change isn't proved as it stands", (("kit/bin/rattle", hole, f"{hole}        echo '{line}'\n"),))
+
+
 def after_a_run(name, said, *lines):
     """What is changed after a run that kept its refusals, and is found by the next one."""
     return Fault(name, said, command=["sh", "-c", "\n".join(["./try >/dev/null || exit 0", *lines, "exec ./try"])])
@@ -147,6 +176,13 @@ def cases():
         judges("a proof that names what is gone", "refused only because", "echo 'note: proofs/Lib.antt:1:1: x has no field y'"),
         Fault("functions that aren't proved as they stand", "what its edits change isn't proved as it stands", (("crates/one/src/lib.rt", "    x + 1", "    1 + x"),
               (EDIT, "x + 1", "1 + x"), (TWO, "old:     x + 1", "old:     1 + x"))),
+        judges("a hole that isn't taken as a proof", "NOT TRIED", "echo 'note: src/lib.rt:5:15: not proved'; echo './proofs/most/Proof.antt:3:5: error: no such name'"),
+        over_holes("an assumed function that isn't taken as it is", "not proved"),
+        over_holes("a hole that isn't ours", "depends on a hole in `Rattle.one.proofs.other.Proof.other_spec`"),
+        after_the_hole("a fault of no function", "./specs/Lib.antt:1:1: `more` is not admitted: ill-typed"),
+        after_the_hole("a hole in a lemma", "./proofs/Lib.antt:1:1: goal ? in `lemma`"),
+        Fault("a hole that is told of no file", "what its edits change isn't proved as it stands", (("kit/bin/rattle", "holes=1", "holes=2"),)),
+        Fault("a function that no edit changes, proved again", "what its edits change isn't proved as it stands", (("tools/assumed.py", '["loop {}"]', '["let most = 1;"]'),)),
         Fault("no edits", "no edit one in must-fail-gate", ((EDIT, "file:", None), (TWO, "file:", None), (LESS, "file:", None), (UP, "file:", None))),
         Fault("no folder of edits", "0 passed, 1 failed", command=["sh", "-c", "rm -r crates/one/must-fail-gate; exec ./try"]),
         Fault("an edit that isn't there", "no edit one/gone", command=["./try", "one/gone"]),
@@ -155,5 +191,5 @@ def cases():
         after_a_run("a refusal by another kit", "NOT REFUSED", "printf '#!/bin/sh\\necho only=1\\n' >kit/bin/rattle; echo other >kit/KIT-ID"),
         after_a_run("a refusal of another body", "NOT REFUSED", f"sed -i 's/^new:     x$/new:     x + 1 + 0/' {EDIT}"),
     )
-    tools = ["edit_checks.py", "counts.py", "edits.py", "functions.py", "contracts.py", "kit.py", "parts.py"]
+    tools = ["edit_checks.py", "assumed.py", "counts.py", "edits.py", "functions.py", "contracts.py", "kit.py", "parts.py"]
     return [Case("gate-edits", ["gate-edits.py", *tools], TREE, ["./try"], faults), Case("try-edits", ["try-edits.py", *tools], NIGHT, ["./night"], night_faults())]
