@@ -8,7 +8,7 @@ ghost use Rattle.cpu_words.specs.Common.{Named};
 ghost use Rattle.passive_list.specs.Common.{OnPlainCpu};
 ghost use Rattle.name_registry.specs.Common.{HasSeenAllOut, KeepsWords, is_inside};
 ghost use Rattle.c_calls.specs.Audits.{AreAllOf};
-ghost use Rattle.c_calls.specs.Opening.{opened_cpu};
+ghost use Rattle.c_calls.specs.Opening.{boxed, opened_cpu, opened_down};
 ghost use Rattle.c_calls.specs.Waits.{IsWaitedFor, KnowsAllOf};
 ghost use Rattle.c_call_tests.specs.Waits.{IsUnderWay};
 
@@ -46,22 +46,27 @@ pub fn opened(alloc: Global) -> Result<Bodies, Refusal>
         count_limit: 10,
     };
     settings.check()?;
-    let (keeper, mut cpus) = open(alloc, settings)?;
-    let Some(first) = cpus.pop() else {
-        return Err(Refusal::MissingCpu);
-    };
-    let Some(second) = cpus.pop() else {
-        return Err(Refusal::MissingCpu);
-    };
-    let Some(third) = cpus.pop() else {
-        return Err(Refusal::MissingCpu);
-    };
-    Ok(Bodies {
-        keeper: Box::into_inner(keeper),
-        first: Box::into_inner(first),
-        second: Box::into_inner(second),
-        third: Box::into_inner(third),
-    })
+    let (keeper, cpus) = open(alloc, settings)?;
+    bodies_of(Box::into_inner(keeper), cpus)
+}
+
+/// The keeper and its three CPUs, of which the last one comes first.
+fn bodies_of(keeper: KeeperBody, mut cpus: Vec<Box<CpuBody, Global>>) -> Result<Bodies, Refusal>
+    requires { boxed cpus.items ≡ opened_down keeper.words 3 3 }
+    ensures first { IfOk result (λ it. it.first ≡ opened_cpu it.keeper.words 0) }
+    ensures second { IfOk result (λ it. it.second ≡ opened_cpu it.keeper.words 1) }
+    ensures third { IfOk result (λ it. it.third ≡ opened_cpu it.keeper.words 2) }
+    ensures all { IfOk result (λ it. AreAllOf (Some it.keeper) (Some it.first ∷ Some it.second ∷ Some it.third ∷ [])) }
+{
+    match (cpus.pop(), cpus.pop(), cpus.pop()) {
+        (Some(first), Some(second), Some(third)) => Ok(Bodies {
+            keeper,
+            first: Box::into_inner(first),
+            second: Box::into_inner(second),
+            third: Box::into_inner(third),
+        }),
+        _ => Err(Refusal::MissingCpu),
+    }
 }
 
 /// A wait that was never begun.
@@ -108,7 +113,7 @@ pub fn turn(keeper: &mut KeeperBody, cpu: &mut CpuBody, wait: &mut CWait) -> Opt
 }
 
 /// The CPU leaves its section, or one nesting of it, if it is inside.
-fn leave(cpu: &mut CpuBody) {
+pub(crate) fn leave(cpu: &mut CpuBody) {
     if cpu.inside() {
         cpu.exit();
     }

@@ -1,11 +1,12 @@
 //! Waits and destroys from C. The contracts of `waiting` say what holds if the last turn of a wait tells no CPU; here it tells none.
 
-ghost use Rattle.std.specs.Prelude.{IsTrue};
+ghost use Rattle.std.specs.Prelude.{◌≡◌, IsTrue};
 ghost use Rattle.registry_values.specs.Common.{is_lawful};
 
-use crate::waiting::{hand_over, leave_alone, opened, waited};
+use crate::waiting::{hand_over, leave, leave_alone, opened, waited};
+use c_bodies::{CpuBody, KeeperBody};
 use c_calls::keeper_calls::{advance_for, attach, detach};
-use registry_values::{Kind, Name, Record, Stage};
+use registry_values::{Kind, Name, Record, Refusal, Stage};
 use std::process::Abort;
 use std::test::*;
 
@@ -48,17 +49,33 @@ fn another_cpu_makes_the_last_turn_of_a_wait(rt: HostRuntime) -> Result<(), Fail
 #[test]
 fn a_destroy_ends_once_the_section_has_ended(rt: HostRuntime) -> Result<(), Fail> {
     let mut all = opened(rt.alloc())?;
-    let rec = driver(&rt);
-    let entry = attach(&mut all.keeper, &mut all.first, rec)?;
-    all.second.enter()?;
-    detach(&mut all.keeper, &mut all.first, rec.kind, &rec.name)?;
-    let met = advance_for(&mut all.keeper, &mut all.first, entry.number)?;
-    assert_eq!(rt; met, Stage::Grace(1));
-    assert!(rt; all.second.inside());
-    all.second.exit();
-    let end = advance_for(&mut all.keeper, &mut all.first, entry.number)?;
-    assert_eq!(rt; end, Stage::Freed(0));
+    let met = destroyed(
+        &mut all.keeper,
+        &mut all.first,
+        &mut all.second,
+        driver(&rt),
+    )?;
+    assert_eq!(rt; met, (Stage::Grace(1), Stage::Freed(0)));
     Ok(())
+}
+
+/// The driver is detached while the reader is inside a section. What a turn of its destruction meets then, and once the reader has left.
+fn destroyed(
+    keeper: &mut KeeperBody,
+    cpu: &mut CpuBody,
+    reader: &mut CpuBody,
+    rec: Record,
+) -> Result<(Stage, Stage), Refusal>
+    requires same { cpu.old.words ≡ keeper.old.words }
+    requires name { IsTrue (is_lawful rec.name) }
+{
+    let entry = attach(keeper, cpu, rec)?;
+    reader.enter()?;
+    detach(keeper, cpu, rec.kind, &rec.name)?;
+    let inside = advance_for(keeper, cpu, entry.number)?;
+    leave(reader);
+    let outside = advance_for(keeper, cpu, entry.number)?;
+    Ok((inside, outside))
 }
 
 /// A driver to attach.

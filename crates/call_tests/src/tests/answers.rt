@@ -4,7 +4,7 @@ use registry_values::{Balance, Entry, Record, Refusal, Stage};
 use std::process::Abort;
 
 /// What a call returns.
-#[derive(Clone, Copy, Debug, PartialEq)]
+#[derive(Clone, Copy, PartialEq)]
 pub(crate) enum Answer {
     Done,
     Refused(Refusal),
@@ -27,7 +27,7 @@ pub(crate) enum Answer {
 }
 
 /// What an audit says of an entry.
-#[derive(Clone, Copy, Debug, PartialEq)]
+#[derive(Clone, Copy, PartialEq)]
 pub(crate) struct Line {
     pub(crate) number: u64,
     pub(crate) slot: u8,

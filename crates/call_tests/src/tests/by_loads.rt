@@ -12,7 +12,7 @@ use super::readers::Reader::{Acquire, Enter, Exit, Find, Get, Loads, Read, Relea
 use super::readers::{Held, by_reader, found_by_loads};
 use super::records::{DRIVER_WM0, VGA, WM, WM0, Wanted, record};
 use super::table::{Table, opened};
-use super::walks::{change_until, nth};
+use super::walks::{change_until, filled, nth};
 use cpu_words::{Domain, Words, steps};
 use name_registry::{Blank, Registry};
 use passive_list::{Cpu, Keeper, find_from_outside, may_begin_on};
@@ -134,13 +134,10 @@ fn thirty_two_entries(rt: HostRuntime) -> Result<(), Fail> {
 fn full<D: Domain, R: Wait + Abort>(rt: &R, alloc: Global, blank: Blank) -> Result<(), Fail>
     requires { IsBlankOf blank D.table D.settings D.name D.parts }
 {
-    let (registry, mut first, mut second, _third) = Bench::<D>::open(alloc, blank)?.apart()?;
-    for n in 0..SLOTS {
-        registry.attach(rt, &mut second, nth(rt, n))?;
-    }
-    find_each(rt, registry.words(), &mut first);
-    let missed = found_by_loads(rt, registry.words(), &mut first, record(rt, WM));
-    assert_eq!(rt; missed, Nothing);
+    let (registry, mut cpu) = filled::<D, _>(rt, alloc, blank)?;
+    find_each(rt, registry.words(), &mut cpu);
+    let missed = found_by_loads(rt, registry.words(), &mut cpu, record(rt, WM));
+    assert!(rt; missed == Nothing);
     Ok(())
 }
 
@@ -149,20 +146,43 @@ fn find_each<D: Domain, R: Abort>(rt: &R, words: &Words, cpu: &mut Cpu<D>)
 {
     for n in 0..SLOTS {
         let found = found_by_loads(rt, words, cpu, nth(rt, n));
-        assert_eq!(rt; found, At(u64::from(n) + 1, n));
+        assert!(rt; found == At(u64::from(n) + 1, n));
     }
+}
+
+/// How wm is looked up by loads alone: it is found, or got.
+#[derive(Clone, Copy)]
+enum Way {
+    Find,
+    Get,
 }
 
 #[test]
 fn changes_meanwhile(rt: HostRuntime) -> Result<(), Fail> {
-    beside::<Brand, _>(&rt, rt.alloc(), blank(rt.alloc(), SLOTS, MOST_CHANGES)?)
+    beside::<Brand, _>(
+        &rt,
+        rt.alloc(),
+        blank(rt.alloc(), SLOTS, MOST_CHANGES)?,
+        Way::Find,
+    )
 }
 
-/// The driver wm stays. The other thread attaches the driver vga and takes it out again, until a lookup of wm was in vain.
+#[test]
+fn gets_meanwhile(rt: HostRuntime) -> Result<(), Fail> {
+    beside::<Brand, _>(
+        &rt,
+        rt.alloc(),
+        blank(rt.alloc(), SLOTS, MOST_CHANGES)?,
+        Way::Get,
+    )
+}
+
+/// The driver wm stays. The other thread attaches the driver vga and takes it out again, until wm was looked up in vain.
 fn beside<D: Domain + Send, R: Threads + Wait + Abort + Sync>(
     rt: &R,
     alloc: Global,
     blank: Blank,
+    way: Way,
 ) -> Result<(), Fail>
     requires { IsBlankOf blank D.table D.settings D.name D.parts }
 {
@@ -172,12 +192,25 @@ fn beside<D: Domain + Send, R: Threads + Wait + Abort + Sync>(
     let (registry, done) = (&registry, &AtomicBool::new(false));
     let (was_in_vain, changes) = join(
         rt,
-        move || look_up_until_vain(rt, registry, first, done),
+        move || until_vain(rt, registry, first, done, way),
         move || change_until(rt, registry, second, done, done),
     );
     assert!(rt; was_in_vain);
     assert!(rt; 0 < changes);
     Ok(())
+}
+
+fn until_vain<D: Domain, R: Abort>(
+    rt: &R,
+    registry: &Registry<D>,
+    cpu: Cpu<D>,
+    done: &AtomicBool,
+    way: Way,
+) -> bool {
+    match way {
+        Way::Find => look_up_until_vain(rt, registry, cpu, done),
+        Way::Get => get_until_vain(rt, registry, cpu, done),
+    }
 }
 
 /// Looks wm up by loads until that was in vain: then it finds it in a section. Each lookup before found it.
@@ -194,7 +227,7 @@ fn look_up_until_vain<D: Domain, R: Abort>(
             done.store(true, Ordering::SeqCst);
             return number_from_outside(registry.words(), &mut cpu, rec) == Some(1);
         }
-        assert_eq!(rt; found, At(1, 0));
+        assert!(rt; found == At(1, 0));
     }
     done.store(true, Ordering::SeqCst);
     false
@@ -207,34 +240,8 @@ fn number_from_outside<D: Domain>(words: &Words, cpu: &mut Cpu<D>, rec: Record) 
     if !may_begin_on(words, &cpu.plain) {
         return None;
     }
-    find_from_outside(words, &mut cpu.plain, rec.kind, rec.name).map(|seen| seen.number)
-}
-
-#[test]
-fn gets_meanwhile(rt: HostRuntime) -> Result<(), Fail> {
-    gets_beside::<Brand, _>(&rt, rt.alloc(), blank(rt.alloc(), SLOTS, MOST_CHANGES)?)
-}
-
-/// The driver wm stays. The other thread attaches the driver vga and takes it out again, until a get of wm was in vain.
-fn gets_beside<D: Domain + Send, R: Threads + Wait + Abort + Sync>(
-    rt: &R,
-    alloc: Global,
-    blank: Blank,
-) -> Result<(), Fail>
-    requires { IsBlankOf blank D.table D.settings D.name D.parts }
-{
-    let mut bench = Bench::<D>::open(alloc, blank)?;
-    bench.run(rt, "a driver that stays", &[(By(0, Attach(WM)), At(1, 0))]);
-    let (registry, first, second, _third) = bench.apart()?;
-    let (registry, done) = (&registry, &AtomicBool::new(false));
-    let (was_in_vain, changes) = join(
-        rt,
-        move || get_until_vain(rt, registry, first, done),
-        move || change_until(rt, registry, second, done, done),
-    );
-    assert!(rt; was_in_vain);
-    assert!(rt; 0 < changes);
-    Ok(())
+    let seen = find_from_outside(words, &mut cpu.plain, rec.kind, rec.name)?;
+    Some(seen.number)
 }
 
 /// Gets wm by loads until that was in vain. Each reference before is released.
@@ -252,7 +259,7 @@ fn get_until_vain<D: Domain, R: Abort>(
             return true;
         }
         let answer = by_reader(rt, registry.words(), &mut cpu, &mut refs, Release);
-        assert_eq!(rt; answer, Done);
+        assert!(rt; answer == Done);
     }
     done.store(true, Ordering::SeqCst);
     refs.end(rt);

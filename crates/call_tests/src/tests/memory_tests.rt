@@ -98,25 +98,25 @@ fn audited_again<D: Domain, R: Wait + Abort + Eprint>(
     let [first, second] = list.as_slice() else {
         panic!(rt; "two entries");
     };
-    assert_eq!(rt;
-        line_of(rt, first),
-        Line {
-            number: 1,
-            slot: 0,
-            held: 0,
-            locals: [0, 0, 0],
-            total: 0
-        }
+    assert!(rt;
+        line_of(rt, first)
+            == Line {
+                number: 1,
+                slot: 0,
+                held: 0,
+                locals: [0, 0, 0],
+                total: 0
+            }
     );
-    assert_eq!(rt;
-        line_of(rt, second),
-        Line {
-            number: 2,
-            slot: 1,
-            held: 1,
-            locals: [1, 0, 0],
-            total: 0
-        }
+    assert!(rt;
+        line_of(rt, second)
+            == Line {
+                number: 2,
+                slot: 1,
+                held: 1,
+                locals: [1, 0, 0],
+                total: 0
+            }
     );
     Ok(())
 }

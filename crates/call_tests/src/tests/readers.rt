@@ -246,7 +246,7 @@ fn meets<D: Domain, R: Abort>(
     let (count, row) = walked(rt, words, cpu);
     assert_eq!(rt; count, met.len());
     for (entry, (number, wanted)) in row.iter().zip(met) {
-        assert_eq!(rt; (entry.number, entry.rec), (*number, record(rt, *wanted)));
+        assert!(rt; (entry.number, entry.rec) == (*number, record(rt, *wanted)));
     }
     Answer::Done
 }

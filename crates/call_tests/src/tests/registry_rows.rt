@@ -69,6 +69,11 @@ fn walked_and_changed<D: Domain, R: Wait + Abort>(
     for number in [1, 3, 2, 5] {
         assert!(rt; bench.registry.advance(rt, number).is_ok());
     }
+    changed_to_the_end(rt, bench)
+}
+
+/// Eight changes were made before these, and all slots are vacant.
+fn changed_to_the_end<D: Domain, R: Wait + Abort>(rt: &R, bench: Bench<D>) -> Result<(), Fail> {
     let (registry, mut first, mut second, _third) = bench.apart()?;
     for round in 4..CHANGES / 2 {
         change(rt, &registry, &mut first, &mut second, 2 * round + 1);
@@ -90,7 +95,7 @@ fn change<D: Domain, R: Wait + Abort>(
     let Ok(entry) = registry.attach(rt, first, rec) else {
         panic!(rt; "an attach")
     };
-    assert_eq!(rt; (entry.number, entry.slot, entry.rec), (number, 0, rec));
+    assert!(rt; (entry.number, entry.slot, entry.rec) == (number, 0, rec));
     let gone = registry.detach(rt, second, rec.kind, &rec.name);
     assert!(rt; gone == Ok(entry), "a detach");
     assert!(rt;
@@ -150,6 +155,12 @@ fn shown_elsewhere<D: Domain, E: Domain, R: Wait + Abort>(
         Bench::<D>::open(alloc, here)?,
         Bench::<E>::open(alloc, there)?,
     );
+    show(rt, &mut here, &mut there);
+    Ok(())
+}
+
+/// The reference goes from the one registry to the other, and back.
+fn show<D: Domain, E: Domain, R: Wait + Abort>(rt: &R, here: &mut Bench<D>, there: &mut Bench<E>) {
     let (mut refs, mut others) = (Held::nothing(), Held::nothing());
     here.follow(rt, &mut refs, "attached", ATTACHED);
     there.follow(rt, &mut others, "acquired", ACQUIRED);
@@ -159,5 +170,4 @@ fn shown_elsewhere<D: Domain, E: Domain, R: Wait + Abort>(
     there.follow(rt, &mut others, "read", READ);
     refs.end(rt);
     others.end(rt);
-    Ok(())
 }

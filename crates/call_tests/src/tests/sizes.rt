@@ -126,15 +126,12 @@ fn retire_held<D: Domain, R: Wait + Abort>(
 ) -> Result<(), Fail> {
     audit_held(rt, alloc, bench)?;
     bench.run(rt, "retired", RETIRED);
-    assert_eq!(rt; come(bench.registry.advance(rt, 1)), Come(Stage::Grace(2)));
+    assert!(rt; come(bench.registry.advance(rt, 1)) == Come(Stage::Grace(2)));
     bench.run(rt, "outside", OUTSIDE);
-    assert_eq!(rt;
-        come(bench.registry.advance(rt, 1)),
-        Come(Stage::Passive(2))
-    );
+    assert!(rt; come(bench.registry.advance(rt, 1)) == Come(Stage::Passive(2)));
     release_all(rt, bench);
     let local = Stage::Local(u64::from(AT_ONCE));
-    assert_eq!(rt; come(bench.registry.advance(rt, 1)), Come(local));
+    assert!(rt; come(bench.registry.advance(rt, 1)) == Come(local));
     let held = Refused(Refusal::StillHeld(local));
     bench.run(rt, "held locally", &[(By(1, Destroy(1, 2)), held)]);
     Ok(())
@@ -151,15 +148,15 @@ fn audit_held<D: Domain, R: Wait + Abort>(
         panic!(rt; "one entry");
     };
     let (sum, held) = (i64::from(IN_SUM), i64::from(AT_ONCE));
-    assert_eq!(rt;
-        line_of(rt, balance),
-        Line {
-            number: 1,
-            slot: 0,
-            held,
-            locals: [sum + held, -sum, 0],
-            total: 0
-        }
+    assert!(rt;
+        line_of(rt, balance)
+            == Line {
+                number: 1,
+                slot: 0,
+                held,
+                locals: [sum + held, -sum, 0],
+                total: 0
+            }
     );
     Ok(())
 }
@@ -194,8 +191,8 @@ fn all_slots_but_one_are_retired(rt: HostRuntime) -> Result<(), Fail> {
     retired_and_filled::<Brand, _>(&rt, rt.alloc(), largest(rt.alloc(), 8, 32)?)
 }
 
-/// An audit of eight CPUs has an entry in each of thirty-two slots. Then the last slot's entry is freed, and all others are retired under a section of
-/// CPU 7: the next attach gets the last slot, and there is no other.
+/// Each of eight CPUs has attached drivers, one in each of thirty-two slots. Then the last slot's entry is freed, and all others are retired under a
+/// section of CPU 7: the next attach gets the last slot, and there is no other.
 fn retired_and_filled<D: Domain, R: Wait + Abort>(
     rt: &R,
     alloc: Global,
@@ -204,44 +201,90 @@ fn retired_and_filled<D: Domain, R: Wait + Abort>(
     requires { IsBlankOf blank D.table D.settings D.name D.parts }
 {
     let mut bench = Bench::<D>::open(alloc, blank)?;
-    fill(rt, &mut bench)?;
+    fill(rt, alloc, &mut bench)?;
+    let (registry, mut first, mut second, mut last) = bench.apart()?;
+    retire_last(rt, &registry, &mut first, &mut last)?;
+    retire_others(rt, &registry, &mut second)?;
+    attach_once(rt, &registry, &mut first)
+}
+
+/// Attaches a driver in each slot; an audit of all CPUs has them all.
+fn fill<D: Domain, R: Wait + Abort>(
+    rt: &R,
+    alloc: Global,
+    bench: &mut Bench<D>,
+) -> Result<(), Fail> {
+    attach_all(rt, &bench.registry, &mut bench.cpus)?;
     let list = bench.registry.audit(rt, alloc, &mut bench.cpus)?;
     assert_eq!(rt; list.len(), 32);
     for (balance, slot) in list.as_slice().iter().zip(0..32u8) {
-        assert_eq!(rt;
-            (balance.slot, balance.held, balance.locals.len()),
-            (slot, 0, 8)
-        );
-    }
-    let (registry, mut first, mut second, mut last) = bench.apart()?;
-    retire(rt, &registry, &mut first, 31)?;
-    assert!(rt; registry.destroy(rt, &mut first, 32, 1) == Ok(31));
-    assert!(rt; enter(registry.words(), &mut last).is_ok());
-    for n in 0..31 {
-        retire(rt, &registry, &mut second, n)?;
-    }
-    let made = registry.attach(rt, &mut first, nth(rt, 0))?;
-    assert_eq!(rt; (made.number, made.slot), (65, 31));
-    assert!(rt;
-        matches!(
-            registry.attach(rt, &mut first, nth(rt, 1)),
-            Err(Refusal::NoSlot)
-        )
-    );
-    for number in 1..32u64 {
-        assert_eq!(rt; come(registry.advance(rt, number)), Come(Stage::Grace(7)));
+        assert!(rt; (balance.slot, balance.held, balance.locals.len()) == (slot, 0, 8));
     }
     Ok(())
 }
 
 /// Attaches a driver in each slot, each on the next CPU.
-fn fill<D: Domain, R: Wait + Abort>(rt: &R, bench: &mut Bench<D>) -> Result<(), Fail> {
+fn attach_all<D: Domain, R: Wait + Abort>(
+    rt: &R,
+    registry: &Registry<D>,
+    cpus: &mut [Cpu<D>],
+) -> Result<(), Fail> {
     for n in 0..32u8 {
-        let Some(cpu) = bench.cpus.get_mut(usize::from(n % 8)) else {
+        let Some(cpu) = cpus.get_mut(usize::from(n % 8)) else {
             panic!(rt; "eight CPUs");
         };
-        let made = bench.registry.attach(rt, cpu, nth(rt, n))?;
-        assert_eq!(rt; (made.number, made.slot), (u64::from(n) + 1, n));
+        attach_nth(rt, registry, cpu, n)?;
+    }
+    Ok(())
+}
+
+fn attach_nth<D: Domain, R: Wait + Abort>(
+    rt: &R,
+    registry: &Registry<D>,
+    cpu: &mut Cpu<D>,
+    n: u8,
+) -> Result<(), Fail> {
+    let made = registry.attach(rt, cpu, nth(rt, n))?;
+    assert!(rt; (made.number, made.slot) == (u64::from(n) + 1, n));
+    Ok(())
+}
+
+/// The entry of the last slot is retired and freed, and CPU 7 enters a section.
+fn retire_last<D: Domain, R: Wait + Abort>(
+    rt: &R,
+    registry: &Registry<D>,
+    cpu: &mut Cpu<D>,
+    last: &mut Cpu<D>,
+) -> Result<(), Fail> {
+    retire(rt, registry, cpu, 31)?;
+    assert!(rt; registry.destroy(rt, cpu, 32, 1) == Ok(31));
+    enter(registry.words(), last)?;
+    Ok(())
+}
+
+fn retire_others<D: Domain, R: Wait + Abort>(
+    rt: &R,
+    registry: &Registry<D>,
+    cpu: &mut Cpu<D>,
+) -> Result<(), Fail> {
+    for n in 0..31 {
+        retire(rt, registry, cpu, n)?;
+    }
+    Ok(())
+}
+
+/// One more driver finds a slot, and a second one doesn't. No retired entry gets past the section of CPU 7.
+fn attach_once<D: Domain, R: Wait + Abort>(
+    rt: &R,
+    registry: &Registry<D>,
+    cpu: &mut Cpu<D>,
+) -> Result<(), Fail> {
+    let made = registry.attach(rt, cpu, nth(rt, 0))?;
+    assert!(rt; (made.number, made.slot) == (65, 31));
+    let refused = registry.attach(rt, cpu, nth(rt, 1));
+    assert!(rt; matches!(refused, Err(Refusal::NoSlot)));
+    for number in 1..32u64 {
+        assert!(rt; come(registry.advance(rt, number)) == Come(Stage::Grace(7)));
     }
     Ok(())
 }
@@ -254,7 +297,7 @@ fn retire<D: Domain, R: Wait + Abort>(
     n: u8,
 ) -> Result<(), Fail> {
     let gone = registry.detach(rt, cpu, Kind::Driver, &nth(rt, n).name)?;
-    assert_eq!(rt; (gone.number, gone.slot), (u64::from(n) + 1, n));
+    assert!(rt; (gone.number, gone.slot) == (u64::from(n) + 1, n));
     Ok(())
 }
 
@@ -303,7 +346,7 @@ fn a_wait_goes_on(rt: HostRuntime) -> Result<(), Fail> {
 /// On a registry of its own: what the destroy answers.
 fn go_on<R: Threads + Wait + Abort + Sync>(rt: &R, alloc: Global) -> Result<(), Fail> {
     let answer = destroyed_meanwhile::<Brand, _>(rt, alloc, largest(alloc, 3, 1)?)?;
-    assert_eq!(rt; answer, Number(0));
+    assert!(rt; answer == Number(0));
     Ok(())
 }
 
@@ -347,7 +390,7 @@ fn detach_and_destroy<D: Domain, R: Wait + Abort>(
     }
     let mut refs = Held::nothing();
     let detached = by_cpu(rt, registry, &mut cpu, &mut refs, Detach(WM));
-    assert_eq!(rt; detached, At(1, 0));
+    assert!(rt; detached == At(1, 0));
     let answer = by_cpu(rt, registry, &mut cpu, &mut refs, Destroy(1, u32::MAX));
     refs.end(rt);
     answer

@@ -143,8 +143,7 @@ fn told_twice<D: Domain + Send, R: Threads + Abort + Sync>(rt: &R, table: Table)
     } = Seats::<D>::of(table);
     let driver = record(rt, WM);
     let words = &words;
-    enter(words, &mut first)?;
-    enter(words, &mut second)?;
+    enter_both(words, &mut first, &mut second)?;
     let ((published, note), _) = join(
         rt,
         move || -> (u64, Note<D>)
@@ -164,6 +163,17 @@ fn told_twice<D: Domain + Send, R: Threads + Abort + Sync>(rt: &R, table: Table)
     );
     assert_eq!(rt; (published, found, found_there), (1, Some(1), Some(1)));
     Ok(())
+}
+
+fn enter_both<D: Domain>(
+    words: &Words,
+    first: &mut Cpu<D>,
+    second: &mut Cpu<D>,
+) -> Result<(), Refusal>
+    requires words { AreWordsOf words.now D.table D.settings }
+{
+    enter(words, first)?;
+    enter(words, second)
 }
 
 /// Publishes the driver. Returns its number, and a note of what the keeper has seen then.
@@ -234,7 +244,7 @@ fn one_reference<D: Domain + Send, R: Threads + Abort + Sync>(rt: &R, table: Tab
     let None = held else {
         panic!(rt; "the reference was not taken")
     };
-    assert_eq!(rt; read, Some((1, Kind::Driver, driver)));
+    assert!(rt; read == Some((1, Kind::Driver, driver)));
     retired(rt, words, &mut keeper);
     assert_eq!(rt; total_once_drained(rt, words, &mut keeper), 0);
 }

@@ -3,7 +3,7 @@
 ghost use Rattle.name_registry.specs.Common.{IsBlankOf};
 ghost use Rattle.std.specs.Thread.{IsSync};
 
-use super::answers::Answer::{self, At, Come, Done, Number, Refused};
+use super::answers::Answer::{self, At, Come, Done, Nothing, Number, Refused};
 use super::answers::come;
 use super::bench::Call::{self, Attach, Destroy, Detach, Perform};
 use super::bench::Step::{self, By, Reads};
@@ -37,65 +37,138 @@ const RETIRED: &[(Step, Answer)] = &[
     (By(0, Detach(VGA)), At(2, 1)),
 ];
 
-/// What CPU 0 does while CPU 1 leaves the section that was open as the entry 2, in slot 1, was retired.
-struct Row {
-    name: &'static str,
-    /// The call; without one it is an advance.
-    call: Option<Call>,
-    /// Whether CPU 1 advances the entry once it has left.
-    frees: bool,
-    answer: Answer,
-    /// The result of an advance of the entry then.
-    after: Answer,
+/// What CPU 0 does.
+#[derive(Clone, Copy)]
+enum First {
+    /// It repeats this call until the entry 2 has lost its slot. Without a call it advances the entry.
+    Insist(Option<Call>),
+    /// It performs while CPU 1 is inside, and once more as that leaves.
+    PerformTwice,
 }
 
-const ROWS: [Row; 4] = [
+/// What another thread does meanwhile.
+#[derive(Clone, Copy)]
+enum Other {
+    /// CPU 1 ends its section and begins another one, which nobody waits for. Then it advances the entry 2, if it is to.
+    ChangeSection(bool),
+    /// CPU 2 attaches a driver, and CPU 1 exits only then.
+    AttachAndLeave,
+    /// CPU 1 enters a section, and leaves it once CPU 0 was refused.
+    StayInside,
+}
+
+/// What two threads do with a registry of their own.
+struct Row {
+    name: &'static str,
+    slots: u8,
+    /// What comes before.
+    steps: &'static [(Step, Answer)],
+    first: First,
+    other: Other,
+    /// What CPU 0 answers, what the other thread does, and what an advance of the entry 2 does then.
+    answers: (Answer, Answer, Answer),
+}
+
+/// A section that was open as the entry was retired ends in the middle of a call.
+const SECTIONS: &[Row] = &[
     Row {
         name: "perform",
-        call: Some(Perform(TURNS)),
-        frees: false,
-        answer: Done,
-        after: Come(Stage::Freed(1)),
+        slots: 2,
+        steps: RETIRED,
+        first: First::Insist(Some(Perform(TURNS))),
+        other: Other::ChangeSection(false),
+        answers: (Done, Nothing, Come(Stage::Freed(1))),
     },
     Row {
         name: "destroy",
-        call: Some(Destroy(2, TURNS)),
-        frees: false,
-        answer: Number(1),
-        after: Refused(Refusal::NotRetired),
+        slots: 2,
+        steps: RETIRED,
+        first: First::Insist(Some(Destroy(2, TURNS))),
+        other: Other::ChangeSection(false),
+        answers: (Number(1), Nothing, Refused(Refusal::NotRetired)),
     },
     Row {
         name: "advance",
-        call: None,
-        frees: false,
-        answer: Come(Stage::Freed(1)),
-        after: Refused(Refusal::NotRetired),
+        slots: 2,
+        steps: RETIRED,
+        first: First::Insist(None),
+        other: Other::ChangeSection(false),
+        answers: (Come(Stage::Freed(1)), Nothing, Refused(Refusal::NotRetired)),
     },
     Row {
         name: "attach",
-        call: Some(Attach(DRIVER_WM1)),
-        frees: true,
-        answer: At(4, 1),
-        after: Refused(Refusal::NotRetired),
+        slots: 2,
+        steps: RETIRED,
+        first: First::Insist(Some(Attach(DRIVER_WM1))),
+        other: Other::ChangeSection(true),
+        answers: (At(4, 1), Nothing, Refused(Refusal::NotRetired)),
     },
 ];
 
 #[test]
 fn a_section_ends_in_the_middle_of_a_call(rt: HostRuntime) -> Result<(), Fail> {
-    for row in &ROWS {
-        run(&rt, rt.alloc(), row)?;
+    run_rows(&rt, rt.alloc(), SECTIONS)
+}
+
+/// Calls that wait for CPU 1, which exits only once CPU 2 has got the lock: a call that held it over all its turns would wait for itself.
+const LOCKS: &[Row] = &[
+    Row {
+        name: "the lock between two turns of a perform",
+        slots: 3,
+        steps: RETIRED,
+        first: First::Insist(Some(Perform(TURNS))),
+        other: Other::AttachAndLeave,
+        answers: (Done, At(4, 2), Come(Stage::Freed(1))),
+    },
+    Row {
+        name: "the lock between two turns of a destroy",
+        slots: 3,
+        steps: RETIRED,
+        first: First::Insist(Some(Destroy(2, TURNS))),
+        other: Other::AttachAndLeave,
+        answers: (Number(1), At(4, 2), Refused(Refusal::NotRetired)),
+    },
+];
+
+#[test]
+fn the_lock_is_free_between_two_turns(rt: HostRuntime) -> Result<(), Fail> {
+    run_rows(&rt, rt.alloc(), LOCKS)
+}
+
+/// CPU 1 enters a section on its own thread, and sets a flag that no note goes with. CPU 0 sees the flag and performs: the section was open as
+/// that call began, so it is waited for.
+const FLAGS: &[Row] = &[Row {
+    name: "a flag alone",
+    slots: 2,
+    steps: &[],
+    first: First::PerformTwice,
+    other: Other::StayInside,
+    answers: (Done, Nothing, Refused(Refusal::NotRetired)),
+}];
+
+#[test]
+fn a_section_known_by_a_flag_alone_is_waited_for(rt: HostRuntime) -> Result<(), Fail> {
+    run_rows(&rt, rt.alloc(), FLAGS)
+}
+
+fn run_rows<R: Threads + Wait + Abort + Sync>(
+    rt: &R,
+    alloc: Global,
+    rows: &[Row],
+) -> Result<(), Fail> {
+    for row in rows {
+        run(rt, alloc, row)?;
     }
     Ok(())
 }
 
 /// Runs the row on a registry of its own.
 fn run<R: Threads + Wait + Abort + Sync>(rt: &R, alloc: Global, row: &Row) -> Result<(), Fail> {
-    ended_in_the_middle::<Brand, _>(rt, alloc, blank(alloc, 2, 1000)?, row)
+    together::<Brand, _>(rt, alloc, blank(alloc, row.slots, 1000)?, row)
 }
 
-/// CPU 1 is inside as CPU 0 retires the entry. Then CPU 0 makes the row's call, and CPU 1 ends its section and begins another one, which
-/// nobody waits for.
-fn ended_in_the_middle<D: Domain + Send + Sync, R: Threads + Wait + Abort + Sync>(
+/// CPU 0 and the other thread do what the row says at the same time.
+fn together<D: Domain + Send + Sync, R: Threads + Wait + Abort + Sync>(
     rt: &R,
     alloc: Global,
     blank: Blank,
@@ -104,128 +177,75 @@ fn ended_in_the_middle<D: Domain + Send + Sync, R: Threads + Wait + Abort + Sync
     requires { IsBlankOf blank D.table D.settings D.name D.parts }
 {
     let mut bench = Bench::<D>::open(alloc, blank)?;
-    bench.run(rt, row.name, RETIRED);
-    let (registry, first, second, _third) = bench.apart()?;
-    let registry = &registry;
-    let (begun, call, frees) = (&AtomicBool::new(false), row.call, row.frees);
-    let (answer, _) = join(
+    bench.run(rt, row.name, row.steps);
+    let (registry, cpu, second, third) = bench.apart()?;
+    let (registry, first, other) = (&registry, row.first, row.other);
+    let (begun, refused) = (&AtomicBool::new(false), &AtomicBool::new(false));
+    let (answer, meanwhile) = join(
         rt,
         move || -> Answer
             requires { IsSync R.row }
-        { insist(rt, registry, first, call, begun) },
+        { by_first(rt, registry, cpu, first, (begun, refused)) },
         move || -> Answer
             requires { IsSync R.row }
-        { change_section(rt, registry, second, frees, begun) },
+        { by_other(rt, registry, (second, third), other, (begun, refused)) },
     );
-    assert_eq!(rt; answer, row.answer, "at {}", row.name);
-    assert_eq!(rt;
-        come(registry.advance(rt, 2)),
-        row.after,
-        "after {}",
+    let after = come(registry.advance(rt, 2));
+    assert!(rt;
+        (answer, meanwhile, after) == row.answers,
+        "at {}",
         row.name
     );
     Ok(())
 }
 
-/// Calls that wait for CPU 1, and what they answer once it has left.
-const WAITING: [(Call, Answer); 2] = [(Perform(TURNS), Done), (Destroy(2, TURNS), Number(1))];
-
-#[test]
-fn the_lock_is_free_between_two_turns(rt: HostRuntime) -> Result<(), Fail> {
-    for (call, answer) in &WAITING {
-        meet(&rt, rt.alloc(), *call, *answer)?;
+/// What CPU 0 does, with two flags that the threads share.
+fn by_first<D: Domain, R: Wait + Abort>(
+    rt: &R,
+    registry: &Registry<D>,
+    cpu: Cpu<D>,
+    first: First,
+    flags: (&AtomicBool, &AtomicBool),
+) -> Answer {
+    match first {
+        First::Insist(call) => insist(rt, registry, cpu, call, flags.0),
+        First::PerformTwice => perform_twice(rt, registry, cpu, flags.0, flags.1),
     }
-    Ok(())
 }
 
-/// Makes the call on a registry of its own, while another thread attaches.
-fn meet<R: Threads + Wait + Abort + Sync>(
+/// What the other thread does with CPU 1 and CPU 2.
+fn by_other<D: Domain, R: Wait + Abort>(
     rt: &R,
-    alloc: Global,
-    call: Call,
-    answer: Answer,
-) -> Result<(), Fail> {
-    let answers = attached_meanwhile::<Brand, _>(rt, alloc, blank(alloc, 3, 1000)?, call)?;
-    assert_eq!(rt; answers, (answer, At(4, 2)));
-    Ok(())
+    registry: &Registry<D>,
+    cpus: (Cpu<D>, Cpu<D>),
+    other: Other,
+    flags: (&AtomicBool, &AtomicBool),
+) -> Answer {
+    let (second, third) = cpus;
+    match other {
+        Other::ChangeSection(frees) => change_section(rt, registry, second, frees, flags.0),
+        Other::AttachAndLeave => attach_and_leave(rt, registry, third, second, flags.0),
+        Other::StayInside => stay_inside(registry, second, flags.0, flags.1),
+    }
 }
 
-/// CPU 1 is inside as CPU 0 makes the call, which waits for it. CPU 1 exits only once CPU 2 has attached a driver, and for that CPU 2 gets the
-/// lock: a call that held it over all its turns would wait for itself. What both calls answer.
-fn attached_meanwhile<D: Domain + Send + Sync, R: Threads + Wait + Abort + Sync>(
-    rt: &R,
-    alloc: Global,
-    blank: Blank,
-    call: Call,
-) -> Result<(Answer, Answer), Fail>
-    requires { IsBlankOf blank D.table D.settings D.name D.parts }
-{
-    let mut bench = Bench::<D>::open(alloc, blank)?;
-    bench.run(rt, "retired under a section", RETIRED);
-    let (registry, first, second, third) = bench.apart()?;
-    let registry = &registry;
-    let begun = &AtomicBool::new(false);
-    Ok(join(
-        rt,
-        move || -> Answer
-            requires { IsSync R.row }
-        { insist(rt, registry, first, Some(call), begun) },
-        move || -> Answer
-            requires { IsSync R.row }
-        { attach_and_leave(rt, registry, third, second, begun) },
-    ))
-}
-
-#[test]
-fn a_section_known_by_a_flag_alone_is_waited_for(rt: HostRuntime) -> Result<(), Fail> {
-    see_and_perform(&rt, rt.alloc())
-}
-
-/// On a registry of its own: what CPU 0 answers while CPU 1 is inside, and afterwards.
-fn see_and_perform<R: Threads + Wait + Abort + Sync>(rt: &R, alloc: Global) -> Result<(), Fail> {
-    let answers = perform_beside::<Brand, _>(rt, alloc, blank(alloc, 2, 1000)?)?;
-    assert_eq!(rt; answers, (Refused(Refusal::Waiting(1)), Done));
-    Ok(())
-}
-
-/// CPU 1 enters a section on its own thread, and sets a flag that no note goes with. CPU 0 sees the flag and performs: the section was open as
-/// that call began, so it is waited for. What CPU 0 answers then, and once CPU 1 has left.
-fn perform_beside<D: Domain + Send + Sync, R: Threads + Wait + Abort + Sync>(
-    rt: &R,
-    alloc: Global,
-    blank: Blank,
-) -> Result<(Answer, Answer), Fail>
-    requires { IsBlankOf blank D.table D.settings D.name D.parts }
-{
-    let (registry, first, second, _third) = Bench::<D>::open(alloc, blank)?.apart()?;
-    let registry = &registry;
-    let (inside, refused) = (&AtomicBool::new(false), &AtomicBool::new(false));
-    let (answers, _) = join(
-        rt,
-        move || -> (Answer, Answer)
-            requires { IsSync R.row }
-        { perform_twice(rt, registry, first, inside, refused) },
-        move || -> Answer { stay_inside(registry, second, inside, refused) },
-    );
-    Ok(answers)
-}
-
-/// Once the first flag is set the CPU performs with three turns, in which nobody leaves. It sets the second flag, and performs until the
-/// section has ended.
+/// Once the first flag is set the CPU performs with three turns, in which nobody leaves, and is refused. It sets the second flag, and performs until
+/// the section has ended.
 fn perform_twice<D: Domain, R: Wait + Abort>(
     rt: &R,
     registry: &Registry<D>,
     mut cpu: Cpu<D>,
     inside: &AtomicBool,
     refused: &AtomicBool,
-) -> (Answer, Answer) {
+) -> Answer {
     wait_for(inside);
     let mut refs = Held::nothing();
     let first = by_cpu(rt, registry, &mut cpu, &mut refs, Perform(3));
+    assert!(rt; first == Refused(Refusal::Waiting(1)));
     refused.store(true, Ordering::SeqCst);
     let second = by_cpu(rt, registry, &mut cpu, &mut refs, Perform(TURNS));
     refs.end(rt);
-    (first, second)
+    second
 }
 
 /// Enters a section, sets the first flag, and leaves once the second one is set.
@@ -241,7 +261,7 @@ fn stay_inside<D: Domain>(
     if cpu.inside() {
         exit(registry.words(), &mut cpu);
     }
-    Answer::Nothing
+    Nothing
 }
 
 /// Waits until the flag is set, and a while longer; then CPU 2 attaches a driver, and CPU 1 exits.
@@ -286,7 +306,7 @@ fn insist<D: Domain, R: Wait + Abort>(
 ) -> Answer {
     begun.store(true, Ordering::SeqCst);
     let mut refs = Held::nothing();
-    let mut answer = Answer::Nothing;
+    let mut answer = Nothing;
     for _ in 0..TURNS {
         answer = match call {
             Some(call) => by_cpu(rt, registry, &mut cpu, &mut refs, call),
@@ -315,8 +335,7 @@ fn change_section<D: Domain, R: Wait>(
     }
     let _again = enter(registry.words(), &mut cpu);
     if frees {
-        come(registry.advance(rt, 2))
-    } else {
-        Answer::Nothing
+        let _stage = registry.advance(rt, 2);
     }
+    Nothing
 }

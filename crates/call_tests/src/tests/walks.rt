@@ -50,17 +50,35 @@ fn thirty_two_slots(rt: HostRuntime) -> Result<(), Fail> {
 fn full<D: Domain, R: Wait + Abort>(rt: &R, alloc: Global, blank: Blank) -> Result<(), Fail>
     requires { IsBlankOf blank D.table D.settings D.name D.parts }
 {
-    let (registry, mut first, mut second, _third) = Bench::<D>::open(alloc, blank)?.apart()?;
-    for n in 0..SLOTS {
-        registry.attach(rt, &mut second, nth(rt, n))?;
-    }
-    let (count, row) = walked_inside(rt, registry.words(), &mut first);
+    let (registry, mut cpu) = filled::<D, _>(rt, alloc, blank)?;
+    let (count, row) = walked_inside(rt, registry.words(), &mut cpu);
     assert_eq!(rt; count, 32);
     for (entry, n) in row.iter().zip((0..SLOTS).rev()) {
-        assert_eq!(rt;
-            (entry.number, entry.slot, entry.rec),
-            (u64::from(n) + 1, n, nth(rt, n))
-        );
+        assert!(rt; (entry.number, entry.slot, entry.rec) == (u64::from(n) + 1, n, nth(rt, n)));
+    }
+    Ok(())
+}
+
+/// A registry with thirty-two drivers, which CPU 1 has attached, and CPU 0.
+pub(crate) fn filled<D: Domain, R: Wait + Abort>(
+    rt: &R,
+    alloc: Global,
+    blank: Blank,
+) -> Result<(Registry<D>, Cpu<D>), Fail>
+    requires { IsBlankOf blank D.table D.settings D.name D.parts }
+{
+    let (registry, first, mut second, _third) = Bench::<D>::open(alloc, blank)?.apart()?;
+    fill(rt, &registry, &mut second)?;
+    Ok((registry, first))
+}
+
+fn fill<D: Domain, R: Wait + Abort>(
+    rt: &R,
+    registry: &Registry<D>,
+    cpu: &mut Cpu<D>,
+) -> Result<(), Fail> {
+    for n in 0..SLOTS {
+        registry.attach(rt, cpu, nth(rt, n))?;
     }
     Ok(())
 }
@@ -137,10 +155,7 @@ fn meets_another<D: Domain, R: Abort>(rt: &R, words: &Words, cpu: &mut Cpu<D>) -
     let (count, row) = walked_inside(rt, words, cpu);
     assert!(rt; count == 1 || count == 2);
     let (newest, oldest) = (row[0], row[count - 1]);
-    assert_eq!(rt;
-        (oldest.number, oldest.slot, oldest.rec),
-        (1, 0, record(rt, WM))
-    );
+    assert!(rt; (oldest.number, oldest.slot, oldest.rec) == (1, 0, record(rt, WM)));
     assert!(rt; count == 1 || (newest.slot, newest.rec) == (1, record(rt, VGA)));
     count == 2
 }

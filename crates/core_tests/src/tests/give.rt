@@ -118,7 +118,11 @@ fn give_counting(rt: &impl Abort, core: &mut Core, c: u8, ask: Ask) -> Answer
 }
 
 fn audited(list: &[Balance]) -> Told {
-    Told::Audit(list.len(), list.first().map_or(0, |first| first.held))
+    let held = match list {
+        [first, ..] => first.held,
+        [] => 0,
+    };
+    Told::Audit(list.len(), held)
 }
 
 fn entry_told(entry: Entry) -> Told {

@@ -58,10 +58,14 @@ fn give_all(rt: &impl Abort, core: &mut Core, lines: &[Line]) -> Result<(), Refu
 
 fn stocked(rt: &(impl Abort + AllocGlobal), more: &[Line]) -> Result<Core, Refusal> {
     let mut core = Core::new(rt.alloc(), FOUR_SLOTS)?;
-    give_all(rt, &mut core, &STOCK)?;
-    assert!(rt; core.is_full(), "the next change grows the history");
-    give_all(rt, &mut core, more)?;
+    stock(rt, &mut core, more)?;
     Ok(core)
+}
+
+fn stock(rt: &impl Abort, core: &mut Core, more: &[Line]) -> Result<(), Refusal> {
+    give_all(rt, core, &STOCK)?;
+    assert!(rt; core.is_full(), "the next change grows the history");
+    give_all(rt, core, more)
 }
 
 /// The core after these lines; where memory is refused, it is made once more.
@@ -98,12 +102,23 @@ fn survives(
     line: Line,
 ) -> Result<(), Fail> {
     let mut core = prepared(rt, more)?;
+    answers(rt, &mut core, name, more, line)
+}
+
+/// The core, which these lines have prepared, answers the line; again, if it was refused memory.
+fn answers(
+    rt: &(impl Abort + AllocGlobal + Eprint),
+    core: &mut Core,
+    name: &str,
+    more: &[Line],
+    line: Line,
+) -> Result<(), Fail> {
     let (c, ask, wanted) = line;
-    let mut answer = give(rt, &mut core, c, ask);
+    let mut answer = give(rt, core, c, ask);
     if answer == Err(Refusal::NoMemory) {
         note(rt, name)?;
-        stands(rt, &mut core, more)?;
-        answer = give(rt, &mut core, c, ask);
+        stands(rt, core, more)?;
+        answer = give(rt, core, c, ask);
     }
     assert!(rt; answer == wanted, "{name}");
     Ok(())
@@ -111,25 +126,30 @@ fn survives(
 
 /// A new core with the usual settings, where memory may be refused once.
 fn new_core(rt: &(impl Abort + AllocGlobal + Eprint), name: &str) -> Result<Core, Fail> {
-    let made = Core::new(rt.alloc(), USUAL);
-    if !matches!(made, Err(Refusal::NoMemory)) {
-        return Ok(made?);
+    match Core::new(rt.alloc(), USUAL) {
+        Err(Refusal::NoMemory) => {
+            note(rt, name)?;
+            Ok(Core::new(rt.alloc(), USUAL)?)
+        }
+        answer => Ok(answer?),
     }
-    note(rt, name)?;
-    Ok(Core::new(rt.alloc(), USUAL)?)
 }
 
 #[test]
 fn new(rt: HostRuntime) -> Result<(), Fail> {
     let mut core = new_core(&rt, "Core::new")?;
+    attached_and_found(&rt, &mut core)
+}
+
+fn attached_and_found(rt: &(impl Abort + Eprint), core: &mut Core) -> Result<(), Fail> {
     let (c, ask, wanted) = STOCK[0];
-    let mut answer = give(&rt, &mut core, c, ask);
+    let mut answer = give(rt, core, c, ask);
     if answer == Err(Refusal::NoMemory) {
-        note(&rt, "the first attach")?;
-        answer = give(&rt, &mut core, c, ask);
+        note(rt, "the first attach")?;
+        answer = give(rt, core, c, ask);
     }
     assert!(rt; answer == wanted, "the first attach");
-    run(&rt, &mut core, "new", &[ENTER, FIND]);
+    run(rt, core, "new", &[ENTER, FIND]);
     Ok(())
 }
 
@@ -252,15 +272,25 @@ fn finished(
         matches!(events[done], Event::Publish(_) | Event::SplitRef(_)),
         "an event that grows a list"
     );
-    let mut twin = Core::new(rt.alloc(), USUAL)?;
-    let before = run_events(&mut twin, &events[..done])?;
-    assert!(rt; core.is_same(&twin), "the events before it are made");
+    let before = made_as_well(rt, core, &events[..done])?;
     let after = run_events(core, &events[done..])?;
     Ok(Counted {
         taken: before.taken.saturating_add(after.taken),
         refused: before.refused.saturating_add(after.refused),
         last: after.last,
     })
+}
+
+/// What these events come to. They lead a new core where this one is.
+fn made_as_well(
+    rt: &(impl Abort + AllocGlobal),
+    core: &Core,
+    events: &[Event],
+) -> Result<Counted, Fail> {
+    let mut twin = Core::new(rt.alloc(), USUAL)?;
+    let counted = run_events(&mut twin, events)?;
+    assert!(rt; core.is_same(&twin), "the events before it are made");
+    Ok(counted)
 }
 
 #[test]

@@ -9,4 +9,5 @@ mod give;
 mod memory_tests;
 mod peek_rows;
 mod try_rows;
+mod twins;
 mod values;

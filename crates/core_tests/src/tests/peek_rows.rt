@@ -2,10 +2,10 @@
 
 use super::bench::{Ask, Row, Told, run, run_rows};
 use super::data::{A, ATTACH_WM, ENTER, EXIT, FIND_WM, USUAL, VGA, WM};
+use super::twins::{core_after, same_after};
 use passive_core::{
     BIAS, Core, Counted, Event, RecordOf, Reply, Settings, SharedWord, Stage, run_events,
 };
-use std::process::Abort;
 use std::test::Fail;
 
 const COUNT: Ask = Ask::Step(Event::Count);
@@ -219,33 +219,22 @@ fn list_of_loads(rt: HostRuntime) -> Result<(), Fail> {
     Ok(())
 }
 
-/// A core whose CPU 0 has attached the driver wm, and which has made these events since.
-fn core_after(rt: &(impl Abort + AllocGlobal), events: &[Event]) -> Result<Core, Fail> {
-    let mut core = Core::new(rt.alloc(), USUAL)?;
-    run(rt, &mut core, "one driver", &[ATTACH_WM]);
-    for event in events {
-        assert!(rt; core.step(*event).is_ok(), "an event that is allowed");
-    }
-    Ok(core)
-}
-
 /// A load leaves what the hearing of a note leaves: the CPU has seen the whole history.
 #[test]
 fn a_load_sees_the_history(rt: HostRuntime) -> Result<(), Fail> {
+    const HEARD: &[Event] = &[Event::Hear(Some(1))];
     let loads = [
         SharedWord::Changes,
         SharedWord::Head,
         SharedWord::Link(0),
         SharedWord::Field(0, 4),
     ];
-    let (before, heard) = (
-        core_after(&rt, &[])?,
-        core_after(&rt, &[Event::Hear(Some(1))])?,
-    );
-    assert!(rt; !before.is_same(&heard), "CPU 1 had seen nothing");
+    assert!(rt; !same_after(&rt, &[], HEARD)?, "CPU 1 had seen nothing");
     for word in loads {
-        let loaded = core_after(&rt, &[Event::Peek(1, word)])?;
-        assert!(rt; loaded.is_same(&heard), "a load of {word:?}");
+        assert!(rt;
+            same_after(&rt, &[Event::Peek(1, word)], HEARD)?,
+            "a load of {word:?}"
+        );
     }
     Ok(())
 }
@@ -253,13 +242,20 @@ fn a_load_sees_the_history(rt: HostRuntime) -> Result<(), Fail> {
 /// A `Count` leaves all but the word as it was.
 #[test]
 fn a_count_is_one_word(rt: HostRuntime) -> Result<(), Fail> {
-    let (none, one, two) = (
-        core_after(&rt, &[])?,
-        core_after(&rt, &[Event::Count])?,
-        core_after(&rt, &[Event::Count, Event::Count])?,
+    assert!(rt;
+        !same_after(&rt, &[], &[Event::Count])?,
+        "one change was counted"
     );
-    assert!(rt; !one.is_same(&none), "one change was counted");
-    assert!(rt; two.is_same(&one), "none came since");
+    assert!(rt;
+        same_after(&rt, &[Event::Count], &[Event::Count, Event::Count])?,
+        "none came since"
+    );
+    Ok(())
+}
+
+/// An attach doesn't count itself, and there is nothing to count before it.
+#[test]
+fn an_attach_counts_nothing(rt: HostRuntime) -> Result<(), Fail> {
     let (mut first, mut second) = (Core::new(rt.alloc(), USUAL)?, Core::new(rt.alloc(), USUAL)?);
     assert!(rt; first.step(Event::Count).is_ok());
     assert!(rt; first.is_same(&second), "no change to count");

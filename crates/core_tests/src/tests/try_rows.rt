@@ -1,8 +1,9 @@
 //! Worked rows of the three events of a passive reference without a section: `Try`, `Confirm` and `TakeBack`. No command makes them.
 
-use super::bench::{Ask, Line, Row, Told, run, run_rows};
+use super::bench::{Ask, Line, Row, Told, run_rows};
 use super::data::{A, ATTACH_WM, ENTER, EXIT, USUAL, VGA, WM};
-use passive_core::{Core, Counted, Event, Refusal, Reply, Settings, Stage, run_events};
+use super::twins::{core_after, same_after};
+use passive_core::{Counted, Event, Refusal, Reply, Settings, Stage, run_events};
 use std::process::Abort;
 use std::test::Fail;
 
@@ -247,16 +248,6 @@ fn list_of_tries(rt: HostRuntime) -> Result<(), Fail> {
     Ok(())
 }
 
-/// A core whose CPU 0 has attached the driver wm, and which has made these events since.
-fn core_after(rt: &(impl Abort + AllocGlobal), events: &[Event]) -> Result<Core, Fail> {
-    let mut core = Core::new(rt.alloc(), USUAL)?;
-    run(rt, &mut core, "one driver", &[ATTACH_WM]);
-    for event in events {
-        assert!(rt; core.step(*event).is_ok(), "an event that is allowed");
-    }
-    Ok(core)
-}
-
 const TRIED: Event = Event::Try(0, 0, 1);
 
 const CONFIRMED: Event = Event::Confirm(0);
@@ -288,14 +279,19 @@ fn held_once_confirmed(rt: HostRuntime) -> Result<(), Fail> {
 /// What is taken back, or confirmed and released, leaves the core as it was.
 #[test]
 fn nothing_is_left(rt: HostRuntime) -> Result<(), Fail> {
-    let before = core_after(&rt, &[])?;
-    let tried = core_after(&rt, &[TRIED])?;
-    let confirmed = core_after(&rt, &[TRIED, CONFIRMED])?;
-    let taken_back = core_after(&rt, &[TRIED, Event::TakeBack(0)])?;
-    let released = core_after(&rt, &[TRIED, CONFIRMED, Event::PassiveSub(0, 1)])?;
-    assert!(rt; !tried.is_same(&before), "a word is counted up");
-    assert!(rt; !confirmed.is_same(&tried), "the hand is empty");
-    assert!(rt; taken_back.is_same(&before), "the addition is taken back");
-    assert!(rt; released.is_same(&before), "the reference is released");
+    let released = [TRIED, CONFIRMED, Event::PassiveSub(0, 1)];
+    assert!(rt; !same_after(&rt, &[TRIED], &[])?, "a word is counted up");
+    assert!(rt;
+        !same_after(&rt, &[TRIED, CONFIRMED], &[TRIED])?,
+        "the hand is empty"
+    );
+    assert!(rt;
+        same_after(&rt, &[TRIED, Event::TakeBack(0)], &[])?,
+        "the addition is taken back"
+    );
+    assert!(rt;
+        same_after(&rt, &released, &[])?,
+        "the reference is released"
+    );
     Ok(())
 }
