@@ -1,5 +1,5 @@
 #!/usr/bin/env python3
-"""Runs `rt ci`, and beside it proves and builds the archive for C, clients/out/libregistry.a, and proves its library for aarch64.
+"""Runs `rt ci`, and beside it proves and builds the archive for C, clients/out/libregistry.a, proves its library for aarch64, and tries edits.
 
     tools/archive-beside.py rt ci
 
@@ -9,10 +9,15 @@ archive if no file that it was proved from was touched since; else, or where it 
 archive once `rt ci` is done. The library for another processor is proved after it, and most of its proof is kept from there. It is left in
 clients/out/PROCESSOR with what the proof said, for tools/build-archive.sh --for PROCESSOR, which needs that processor's compiler. The last line is
 that of `rt ci` with a check more for each processor.
+
+Where there are four processors or more, `rt ci` gets all but one: each check takes longer beside more others, and its longest chain of checks leaves some
+of them idle. On the last one tools/gate-edits.py tries the edits of each crate that was proved, until `rt ci` ends. It keeps what is refused; nothing here
+is said of it, and the gate tries the others afterwards.
 """
 import contextlib
 import os
 import pathlib
+import queue
 import re
 import shutil
 import signal
@@ -37,11 +42,14 @@ FIRST, *OTHERS = PROCESSORS
 # What a proof of the archive keeps for the next one in this copy of the repository, which begins with it.
 KEPT = OUT / "proof"
 # What `rt ci` says of a library that is in its folder out/ from then on, and of one that won't.
-STANDS = re.compile(r"^rt: (\w+) (?:proved$|is kept: )")
+PROVED = "proved"
+STANDS = re.compile(rf"^rt: (\w+) ({PROVED}$|is kept: )")
 FAILED = re.compile(r"^rt: (\w+) NOT PROVED")
 # A check of the library takes at most this; it waits until so much is free.
 NEEDS = 2 * GIGABYTE
 NICENESS = 10
+# With so many processors or more `rt ci` leaves one to edits.
+MANY = 4
 
 
 def state():
@@ -117,8 +125,49 @@ class Proof(threading.Thread):
         return status
 
 
-def beside(command, proof):
-    """Runs the command and starts the proof as soon as it can be; the command's last line, and its status."""
+class Edits(threading.Thread):
+    """Tries the gate's edits of one crate after the other, on one processor."""
+
+    def __init__(self, processor):
+        super().__init__(daemon=True)
+        self.processor, self.crates, self.starting, self.is_over = processor, queue.SimpleQueue(), threading.Lock(), False
+
+    def run(self):
+        for crate in iter(self.crates.get, None):
+            ran = self.start_on(crate)
+            if not ran:
+                return
+            ran.wait()
+            running.discard(ran.pid)
+
+    def start_on(self, crate):
+        """Starts on a crate, unless it is over."""
+        words = ["nice", "-n", str(NICENESS), *on([self.processor]), "tools/gate-edits.py", crate]
+        with self.starting:
+            if self.is_over:
+                return None
+            ran = subprocess.Popen(words, cwd=ROOT, stdin=subprocess.DEVNULL, stdout=subprocess.DEVNULL, stderr=subprocess.DEVNULL, start_new_session=True)
+            running.add(ran.pid)
+            return ran
+
+    def end(self):
+        """From now on it starts on no crate."""
+        with self.starting:
+            self.is_over = True
+
+    def take(self, crate):
+        """Takes a crate that was proved, if it has edits."""
+        if (ROOT / "crates" / crate / "must-fail-gate").is_dir():
+            self.crates.put(crate)
+
+
+def on(processors):
+    """What runs a command on these processors."""
+    return ["taskset", "-c", ",".join(map(str, processors))]
+
+
+def beside(command, proof, edits):
+    """Runs the command, and starts the proof and the edits as soon as they can be; the command's last line, and its status."""
     waits, failed, held = set(below(LIBRARY)), False, ""
     ran = subprocess.Popen(command, cwd=ROOT, stdin=subprocess.DEVNULL, stdout=subprocess.PIPE, text=True, errors="replace", start_new_session=True)
     running.add(ran.pid)
@@ -127,6 +176,8 @@ def beside(command, proof):
         held = line
         failed = failed or bool(FAILED.match(line)) and FAILED.match(line)[1] in waits
         stands = STANDS.match(line)
+        if edits and stands and stands[2] == PROVED:
+            edits.take(stands[1])
         if stands and stands[1] in waits:
             waits.discard(stands[1])
             if not waits and not failed:
@@ -177,6 +228,16 @@ def library_of(processor):
     return OUT / processor / f"lib{LIBRARY}.a"
 
 
+def shared_out(command):
+    """The command, and what tries edits beside it: on a processor of their own, if there are many."""
+    *most, last = sorted(os.sched_getaffinity(0))
+    if len(most) + 1 < MANY:
+        return command, None
+    edits = Edits(last)
+    edits.start()
+    return [*on(most), *command], edits
+
+
 def main():
     command = sys.argv[1:]
     if not command:
@@ -184,13 +245,16 @@ def main():
     guard()
     for path in (ARCHIVE, *map(library_of, OTHERS)):
         path.unlink(missing_ok=True)
+    command, edits = shared_out(command)
     with tempfile.TemporaryDirectory(prefix="archive-") as folder:
         try:
             proof, before = Proof(pathlib.Path(folder)), state()
-            last, status = beside(command, proof)
+            last, status = beside(command, proof, edits)
             checks = {"the archive, proved and built": archive(proof, before)}
             checks.update((f"the library for {processor}, proved", other(proof, processor, before)) for processor in OTHERS)
         finally:
+            if edits:
+                edits.end()
             stop_running()
     counted = LAST_LINE.match(last)
     if not counted:

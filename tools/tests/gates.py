@@ -1,4 +1,6 @@
 """Faults that the gate itself is to see: how parts and shell tests are counted, and the archive beside `rt ci`."""
+import os
+
 from .trees import Case, Fault
 
 GATE = """#!/usr/bin/env python3
@@ -76,16 +78,19 @@ def shell():
 BESIDE = {
     "crates.txt": "low: std\nregistry_c staticlib: low std\n",
     "crates/low/src/lib.rt": "low\n",
+    "crates/low/must-fail-gate/one.edit": "file: src/lib.rt\n",
     "crates/low/out/rlib/low.rlib/format": "low\n",
     "crates/registry_c/src/lib.rt": "face\n",
     "crates/registry_c/specs/Lib.antt": "\n",
     "crates/registry_c/proofs/Lib.antt": "\n",
     "clients/out/libregistry.a": "older\n",
     "clients/out/aarch64/libregistry_c.a": "older\n",
-    "ci": '#!/bin/sh\necho "rt: low proved"\nsleep 1\necho "rt: registry_c proved"\necho 5 passed, 0 failed\n',
+    # It wants that one of four processors is left free.
+    "ci": '#!/bin/sh\necho "rt: low proved"\nsleep 1\necho "rt: registry_c proved"\necho 5 passed, 0 failed\n[ "$(nproc)" -lt 4 ] || [ "$(nproc)" -lt "$(nproc --all)" ]\n',
     "bin/rt": '#!/bin/sh\necho "$PWD/kit/START-HERE.md"\n',
     # It proves over the library beside it, and writes what -o names.
     "kit/bin/rattle": '#!/bin/sh\n[ "$(cat src/lib.rt ../low.rlib/format)" = "face\nlow" ] || exit 7\nfor made; do :; done\necho proved >"$made"\n',
+    "tools/gate-edits.py": '#!/bin/sh\necho "$*, on $(nproc)" >clients/out/tried\n',
     "tools/build-archive.sh": '#!/bin/sh\n[ $# = 2 ] && [ -f "$2" ] && cp "$1" clients/out/libregistry.a\n',
     # The archive is what was proved, or there is none: else nothing else is said, and the fault goes untold.
     "beside": """#!/bin/sh
@@ -95,6 +100,14 @@ if [ -e clients/out/libregistry.a ] && [ "$(cat clients/out/libregistry.a)" != p
     echo "an archive that isn't proved"
     exit 0
 fi
+if [ $status = 0 ] && [ "$(nproc)" -ge 4 ] && [ "$(cat clients/out/tried)" != "low, on 1" ]; then
+    echo "edits that weren't tried"
+    exit 9
+fi
+if [ "$(grep -c 'low proved' ci)" = 0 ] && [ -e clients/out/tried ]; then
+    echo "edits of a crate that isn't proved"
+    exit 0
+fi
 if [ $status = 0 ] && [ "$(cat clients/out/aarch64/libregistry_c.a)" != proved ]; then
     echo "a library for aarch64 that isn't proved"
     exit 0
@@ -102,6 +115,13 @@ fi
 exit $status
 """,
 }
+
+
+def on_all_processors():
+    """A tool that leaves no processor to edits, and one that forgets them, where there are processors enough to tell."""
+    if len(os.sched_getaffinity(0)) >= 4:
+        yield Fault("rt ci on all processors", "7 passed, 1 failed", (("tools/archive-beside.py", "MANY = 4", "MANY = 4000"),))
+        yield Fault("edits that wait for rt ci", "edits that weren't tried", (("tools/archive-beside.py", "            edits.take(stands[1])", "            pass"),))
 
 
 def archive():
@@ -118,6 +138,7 @@ def archive():
         Fault("a failure of rt ci", "6 passed, 2 failed", ((ci, "5 passed, 0", "4 passed, 2"),)),
         Fault("another status of rt ci", "7 passed, 1 failed", ((ci, "0 failed\n", "0 failed\nexit 2\n"),)),
         Fault("rt ci without its count", "nothing", ((ci, "echo 5 passed, 0 failed", "echo nothing"),)),
+        *on_all_processors(),
     )
     return Case("archive-beside", ["archive-beside.py", "kit.py", "parts.py", "counts.py"], BESIDE, ["./beside"], faults)
 

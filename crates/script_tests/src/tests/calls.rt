@@ -27,28 +27,12 @@ fn found(rt: HostRuntime) -> Result<(), Fail> {
         rt.alloc(),
         "domain 2 2; attached 1 slot 0; inside; found 1 slot 0 value 1500",
     )?;
-    both_write(&rt, rt.alloc(), &text, &report)
-}
-
-/// Each engine, called by its own name, writes this report on the script.
-fn both_write<R: Wait + Abort>(
-    rt: &R,
-    alloc: Global,
-    text: &[u8],
-    report: &[u8],
-) -> Result<(), Fail> {
-    let script = parse_script(alloc, text)?;
-    let (mut by_core, mut by_live) = (Vec::new(alloc), Vec::new(alloc));
-    let core = run_core(alloc, &script, &mut by_core);
-    let live = run_live(rt, alloc, &script, &mut by_live);
-    assert!(rt;
-        core == Ok(()) && by_core.as_slice() == report,
-        "by the core"
-    );
-    assert!(rt;
-        live == Ok(()) && by_live.as_slice() == report,
-        "by the live engine"
-    );
+    let script = parse_script(rt.alloc(), &text)?;
+    let (mut by_core, mut by_live) = (Vec::new(rt.alloc()), Vec::new(rt.alloc()));
+    let core = run_core(rt.alloc(), &script, &mut by_core);
+    let live = run_live(&rt, rt.alloc(), &script, &mut by_live);
+    assert!(rt; core == Ok(()) && by_core == report, "by the core");
+    assert!(rt; live == Ok(()) && by_live == report, "by the live engine");
     Ok(())
 }
 
