@@ -8,6 +8,7 @@ A row is an event and a step of `cpu_words` that makes it. The second table has 
 The last line is 'N passed, M failed', and the status is 1 where one failed.
 """
 import collections
+import functools
 import pathlib
 import re
 import sys
@@ -130,13 +131,19 @@ def places():
                 yield from [(edit, path, before.count("\n"))] if found else ()
 
 
+@functools.cache
+def functions_in(path):
+    """The functions of a file, which is read once."""
+    return list(functions_of(path))
+
+
 def edits_of(step, tried):
     """The edits of the step's body or of its operation; where there are none, those of the function of `passive_list` that calls it."""
     body, text = step.function, step.function.text
     own = [edit for edit, path, line in tried if path == body.path and body.first <= line <= body.last]
     own += [edit for edit, path, line in tried if is_single(path) and (operation(path, line) or "?") in text]
     above = [edit for edit, path, line in tried if path.parent == LIST and any(
-        it.first <= line <= it.last and re.search(rf"\b{body.name}\(", it.text) for it in functions_of(path))]
+        it.first <= line <= it.last and re.search(rf"\b{body.name}\(", it.text) for it in functions_in(path))]
     return [link(it.stem, it) + (" *" if "must-fail-by-hand" in it.parts else "") for it in dict.fromkeys(own or above)]
 
 

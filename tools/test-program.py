@@ -9,7 +9,6 @@ address spaces in which there is too little memory. The last line counts the run
 """
 import os
 import pathlib
-import resource
 import subprocess
 import sys
 import tempfile
@@ -152,11 +151,10 @@ def with_little_memory(program):
     for engine in ("core", "live"):
         met, odd = set(), []
         for kilobytes in range(2000, 6000, 20):
-            size = 1024 * kilobytes
             with tempfile.TemporaryFile(buffering=0) as given:
                 given.write(script)
                 given.seek(0)
-                found = said(program, [engine], stdin=given, stdout=subprocess.PIPE, preexec_fn=lambda: resource.setrlimit(resource.RLIMIT_AS, (size, size)))
+                found = said("sh", ["-c", f'ulimit -v {kilobytes}; exec "$@"', "sh", program, engine], stdin=given, stdout=subprocess.PIPE)
                 is_read = given.tell() == len(script)
             code, text, error = found
             if found == (0, report, b""):
