@@ -1,11 +1,11 @@
 //! The body of a CPU's handle.
 
-ghost use Rattle.std.specs.Prelude.{◌≡◌, ◌≢◌, ◌↔◌, ◌<◌, ◌++◌, IsTrue, None, IfErr, IfSome, is_some};
+ghost use Rattle.std.specs.Prelude.{◌≡◌, ◌≢◌, ◌↔◌, ◌<◌, ◌++◌, IsTrue, None, IfErr, is_some};
 ghost use Rattle.registry_values.specs.Common.{Answers};
 ghost use Rattle.cpu_words.specs.Common.{AreWordsOf, key_with, references_to};
 ghost use mathlib.Core.List.{IsPrefix};
-ghost use Rattle.passive_list.specs.Common.{HasFound, HasFoundByLoads, HasFoundFromOutside, HasHeardOn, WasShown, has_heard, has_told, entry_seen, AnswersEnter, HasExitedOn, may_begin};
-ghost use Rattle.passive_ref.specs.Gets.{HasGotByLoads};
+ghost use Rattle.passive_list.specs.Common.{FindsWhatStays, HasFoundByMemory, HasFoundInside, HasHeardOn, WasShown, has_heard, has_told, entry_seen, AnswersEnter, HasExitedOn, may_begin};
+ghost use Rattle.passive_ref.specs.Gets.{HasGotByMemory};
 ghost use Rattle.passive_ref.specs.Psrefs.{GivesBack, HasOneLess, IsAcquired, IsCopied, IsReadAs, why_not_acquired, why_not_copied, why_unusable};
 
 use crate::acquired::LastAcquired;
@@ -13,10 +13,10 @@ use crate::local_body::LocalBody;
 use cpu_words::{NoteSeat, Words};
 use held::Spare;
 use passive_list::{
-    PlainCpu, Seen, enter_on, exit_on, find_by_loads, find_from_outside, find_on, hear_on,
-    may_begin_on, tell_on,
+    PlainCpu, Seen, enter_on, exit_on, find_by_memory, find_inside_on, hear_on, may_begin_on,
+    tell_on,
 };
-use passive_ref::{Psref, acquire_on, copy_on, get_by_loads, held_on, read_entry_on, release_on};
+use passive_ref::{Psref, acquire_on, copy_on, get_by_memory, held_on, read_entry_on, release_on};
 use registry_values::{Entry, Kind, MOST_SLOTS, Name, Record, Refusal};
 use std::alloc::{AllocError, Global};
 use std::marker::Model;
@@ -158,13 +158,13 @@ impl CpuBody {
         exit_on(&self.words, &mut self.cpu);
     }
 
-    /// Looks an entry up. Condition: inside.
+    /// Looks an entry up, and remembers it. Condition: inside.
     pub fn find(&mut self, kind: Kind, name: &Name) -> Option<Entry>
         requires inside { self.old.cpu.view.begin ≢ None }
-        ensures found { HasFound (key_with kind name.now) self.old.cpu self.new.cpu result }
+        ensures found { HasFoundInside (key_with kind name.now) self.old.cpu self.new.cpu result }
         ensures words { self.new.words ≡ self.old.words }
     {
-        find_on(&self.words, &mut self.cpu, kind, name)
+        find_inside_on(&self.words, &mut self.cpu, kind, name)
     }
 
     /// Whether an enter would begin a section: the CPU is outside, and has one left.
@@ -174,36 +174,26 @@ impl CpuBody {
         may_begin_on(&self.words, &self.cpu)
     }
 
-    /// Looks an entry up in a section of its own, and returns its words.
-    /// Conditions: outside; a section is left.
+    /// Looks an entry up by memory, or in a section of its own, and returns its words. Conditions: outside; a section is left.
     #[inline(always)]
-    pub fn find_from_outside(&mut self, kind: Kind, name: Name) -> Option<Seen>
+    pub fn find_by_memory(&mut self, kind: Kind, name: Name) -> Option<Seen>
         requires outside { self.old.cpu.depth ≡ 0 }
         requires room { IsTrue (may_begin self.old.cpu.view) }
-        ensures found { HasFoundFromOutside (key_with kind name) self.old.cpu self.new.cpu (entry_seen (key_with kind name) result) }
-        ensures slot { IfSome result (λ seen. seen.slot < MOST_SLOTS) }
+        ensures found { HasFoundByMemory (key_with kind name) self.old.cpu self.new.cpu result }
+        ensures stays { FindsWhatStays (key_with kind name) self.old.cpu.view.pass self.new.cpu.view.pass (entry_seen (key_with kind name) result) }
         ensures words { self.new.words ≡ self.old.words }
     {
-        find_from_outside(&self.words, &mut self.cpu, kind, name)
+        find_by_memory(&self.words, &mut self.cpu, kind, name)
     }
 
-    /// Looks an entry up by loads alone, and returns its words, or that there is none: `Some(None)`. `None` if the loads tell nothing.
+    /// Acquires a passive reference to the entry that the CPU remembers with this kind and name, if it is live, by one addition and one load.
+    /// Returns the entry's words, too. `None`: nothing is acquired.
     #[inline(always)]
-    pub fn find_by_loads(&mut self, kind: Kind, name: Name) -> Option<Option<Seen>>
-        ensures found { HasFoundByLoads (key_with kind name) self.old.cpu self.new.cpu result }
+    pub fn get_by_memory(&mut self, kind: Kind, name: Name) -> Option<(Seen, Psref)>
+        ensures got { HasGotByMemory (key_with kind name) self.old.cpu self.new.cpu result }
         ensures words { self.new.words ≡ self.old.words }
     {
-        find_by_loads(&self.words, &mut self.cpu, kind, name)
-    }
-
-    /// Looks an entry up by loads alone and acquires a passive reference to it, by one addition. Returns the entry's words and the reference,
-    /// or that there is none: `Some(None)`. `None` if the loads tell nothing, and nothing is acquired then.
-    #[inline(always)]
-    pub fn get_by_loads(&mut self, kind: Kind, name: Name) -> Option<Option<(Seen, Psref)>>
-        ensures got { HasGotByLoads (key_with kind name) self.old.cpu self.new.cpu result }
-        ensures words { self.new.words ≡ self.old.words }
-    {
-        get_by_loads(&self.words, &mut self.cpu, kind, name)
+        get_by_memory(&self.words, &mut self.cpu, kind, name)
     }
 
     /// Acquires a passive reference to the last found entry.

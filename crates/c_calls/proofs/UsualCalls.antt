@@ -1,23 +1,21 @@
--- A section that a call of the usual path has entered is still open as it exits.
-use Rattle.std.proofs.Common.{◌≡◌, ◌≢◌, ℕ, Bool, true, false, if◌then◌else◌, IsTrue, Option, Some, None, Result, Ok, Err, IfErr, inl, inr, refl, sym, ap, subst, ◌∙◌}
+-- The calls of the usual path: which of them go by memory, and that a section that one has entered is still open as it exits.
+use Rattle.std.proofs.Common.{◌≡◌, ◌≢◌, ℕ, Bool, true, false, if◌then◌else◌, Option, Some, None, Result, Ok, Err, IfErr, inl, inr, refl, sym, ap, subst, ◌∙◌}
 use Rattle.std.specs.Prelude.{◌↔◌, ◌==◌}
 use Rattle.std.proofs.lemmas.Bool.{eqb-true}
 use Rattle.std.proofs.lemmas.Option.{same_Some}
-use Rattle.std.specs.Result.{result_err}
 use mathlib.Core.Logic.{dite}
 use native.Mathlib.Decide.{ℕ_discrete}
 use Rattle.c_calls.specs.Types.{Entry, Key, Kind, Iface, Driver, Name, Refusal, CpuView, Seen}
-use Rattle.registry_values.specs.Common.{enter_answer, kind_word, Answers}
+use Rattle.registry_values.specs.Common.{kind_word, Answers}
 use Rattle.cpu_words.specs.Common.{key_with}
-use Rattle.passive_list.specs.Common.{OnCpu, OnPlainCpu, HasFound, HasFoundByLoads, HasFoundFromOutside, AnswersEnter, may_begin, entry_seen}
-use Rattle.passive_ref.specs.Gets.{HasGotByLoads}
+use Rattle.passive_list.specs.Common.{OnCpu, OnPlainCpu, HasFoundInside, HasFoundKept, FindsInsideBy, AnswersEnter, entry_seen}
 use Rattle.passive_ref.specs.Psrefs.{IsAcquired, OnPsref, why_not_acquired}
 use Rattle.c_values.specs.declared.values.TheConstants.{DONE}
 use Rattle.c_values.specs.declared.values.CEntry.{CEntry}
 use Rattle.c_values.specs.declared.values.CName.{CName}
 use Rattle.c_calls.specs.Calls.{Acquires, Enters, Exits, Finds, FindsNamed, TellsFound, WritesFound}
 use Rattle.c_values.specs.Places.{put}
-use Rattle.c_calls.specs.UsualCalls.{Between, EntersAndFinds, FindsAndAcquires, Gets, GetsInSection, LooksUp, LooksUpInSection, seen_in}
+use Rattle.c_calls.specs.UsualCalls.{Between, EntersAndFinds, FindsAndAcquires, Gets, GetsByMemory, GetsInSection, LooksUp, LooksUpByMemory, LooksUpInSection, Seeks}
 use Rattle.c_values.specs.Values.{entry_out, kind_in, name_in, number_of}
 use Rattle.c_calls.proofs.Gone.{refused_not}
 
@@ -38,16 +36,35 @@ entered_by a b (Err f) kept is entered = absurd (refused_not f is)
 pub entered_inside : (a b : OnPlainCpu) (n : ℕ) → (begin_of a ≡ None) ↔ (a.cpu.depth ≡ 0) → Enters a b n → n ≡ DONE → begin_of b ≢ None
 entered_inside a b n kept enters is = entered_by a b enters.r kept (sym is ∙ enters.number) enters.entered
 
+kept_begin : {key : Key} {seen : Option Seen} (a b : OnCpu) → HasFoundKept key a b seen → b.view.begin ≡ a.view.begin
+kept_begin a b had = ap (λ (c : OnCpu). c.view.begin) had.is ∙ ap (λ (c : OnCpu). c.view.begin) had.finds.is
+
+inside_begin : (kept : Option Seen) (key : Key) (seen : Option Seen) (a b : OnCpu) → FindsInsideBy kept key a b seen → b.view.begin ≡ a.view.begin
+inside_begin None key seen a b had = kept_begin a b had
+inside_begin (Some s) key seen a b (inl had) = ap (λ (c : OnCpu). c.view.begin) had.1.is
+inside_begin (Some s) key seen a b (inr had) = kept_begin had.0 b had.2 ∙ ap (λ (c : OnCpu). c.view.begin) had.1.is
+
 found_by : (kind : ℕ) (m : CName) (a b : OnPlainCpu) (n : ℕ) (old new : Option CEntry) (k : Option Kind) (o : Option ℕ) → kind_in kind ≡ k → begin_of a ≡ o → Finds kind m a b n old new
     → begin_of b ≡ begin_of a
 found_by kind m a b n old new None o is at finds = ap begin_of (finds.bad is).1
 found_by kind m a b n old new (Some k) None is at finds = ap begin_of (finds.outside k is at).1
-found_by kind m a b n old new (Some k) (Some x) is at finds = ap (λ (c : OnCpu). c.view.begin) (finds.inside k is (some_not x (begin_of a) at)).1.is
+found_by kind m a b n old new (Some k) (Some x) is at finds = let had = (finds.inside k is (some_not x (begin_of a) at)).1 in inside_begin had.2.0 _ had.0 a.cpu b.cpu had.2.2
 
 -- a find
 pub found_same : (kind : ℕ) (name : Option CName) (a b : OnPlainCpu) (n : ℕ) (old new : Option CEntry) → FindsNamed kind name a b n old new → begin_of b ≡ begin_of a
 found_same kind None a b n old new finds = ap begin_of (finds.null refl).1
 found_same kind (Some m) a b n old new finds = found_by kind m a b n old new (kind_in kind) (begin_of a) refl refl (finds.named m refl)
+
+-- a find in the open section
+pub found_inside : (kind : ℕ) (k : Kind) (m : CName) (name : Name) (a b : OnPlainCpu) (answer : Option Entry) (n : ℕ) (old new : Option CEntry) → kind_in kind ≡ Some k → name ≡ name_in m
+    → begin_of a ≢ None → b.words ≡ a.words → HasFoundInside (key_with k name) a.cpu b.cpu answer → WritesFound answer n old new → Finds kind m a b n old new
+found_inside kind k m name a b answer n old new is named some words had written = record {
+  bad = λ none. let clash : ◌≡◌ {A = Option Kind} (Some k) None = sym is ∙ none in cc;
+  outside = λ j at none. absurd (some none);
+  inside = λ j at begun.
+      let same : k ≡ j = same_Some k j (sym is ∙ at) in
+      (answer, subst (λ (i : Kind). HasFoundInside (key_with i (name_in m)) a.cpu b.cpu answer) same (subst (λ (i : Name). HasFoundInside (key_with k i) a.cpu b.cpu answer) named had), words, written);
+}
 
 acquired_by : (a b : OnPlainCpu) (r : Result OnPsref Refusal) → Answers (why_not_acquired a.cpu.view a.cpu.view.found) (IsAcquired a.cpu b.cpu) r → IfErr r (λ _. b ≡ a) → begin_of b ≡ begin_of a
 acquired_by a b (Ok p) answer refused = ap (λ (c : OnCpu). c.view.begin) answer.1.2.after
@@ -72,135 +89,54 @@ between a first last b entered n left Same P enters is inside does same exits = 
   inside = λ done. (last, does, subst (λ (k : ℕ). Exits last b k) (exits.inside (λ none. inside (sym same ∙ none))).0 exits);
 }
 
--- A look-up from outside
+-- A call that may go by memory
 
--- outside an enter isn't refused where the CPU may begin a section
-unrefused : (depth : ℕ) (may : Bool) → depth ≡ 0 → IsTrue may → result_err (enter_answer depth (depth == 0) may) ≡ None
-unrefused depth may shallow room = rw (shallow, room) refl
+one_kind : (kind : ℕ) (k l : Kind) → kind_in kind ≡ Some k → kind_in kind ≡ Some l → k ≡ l
+one_kind kind k l is also = same_Some k l (sym is ∙ also)
+
+pub recalled : (kind : ℕ) (k : Kind) (m : CName) (name : Option CName) (a b : OnPlainCpu) (n : ℕ) (old new : Option CEntry) → Seeks kind name a (Some (k, m)) → LooksUpByMemory k m a b n old new
+    → LooksUp kind name a b n old new
+recalled kind k m name a b n old new seeks had = record {
+  by_memory = λ may.
+      let kinds : k ≡ may.k = one_kind kind k may.k seeks.0 may.is_kind in
+      let names : m ≡ may.m = same_Some m may.m (sym seeks.1 ∙ may.named) in
+      subst (λ (i : CName). LooksUpByMemory may.k i a b n old new) names (subst (λ (j : Kind). LooksUpByMemory j m a b n old new) kinds had);
+  by_calls = λ not. absurd (not (record { m = m; named = seeks.1; k = k; is_kind = seeks.0; outside = seeks.2; room = seeks.3 }));
+}
+
+pub looked_up : (kind : ℕ) (name : Option CName) (a b : OnPlainCpu) (n : ℕ) (old new : Option CEntry) → Seeks kind name a None → LooksUpInSection kind name a b n old new → LooksUp kind name a b n old new
+looked_up kind name a b n old new not had = record { by_memory = λ may. absurd (not may); by_calls = λ _. had }
+
+pub got : (kind : ℕ) (k : Kind) (m : CName) (name : Option CName) (a b : OnPlainCpu) (n : ℕ) (old new : Option CEntry) → Seeks kind name a (Some (k, m)) → GetsByMemory kind k m a b n old new
+    → Gets kind name a b n old new
+got kind k m name a b n old new seeks had = record {
+  by_memory = λ may.
+      let kinds : k ≡ may.k = one_kind kind k may.k seeks.0 may.is_kind in
+      let names : m ≡ may.m = same_Some m may.m (sym seeks.1 ∙ may.named) in
+      subst (λ (i : CName). GetsByMemory kind may.k i a b n old new) names (subst (λ (j : Kind). GetsByMemory kind j m a b n old new) kinds had);
+  by_calls = λ not. absurd (not (record { m = m; named = seeks.1; k = k; is_kind = seeks.0; outside = seeks.2; room = seeks.3 }));
+}
+
+pub got_by_calls : (kind : ℕ) (name : Option CName) (a b : OnPlainCpu) (n : ℕ) (old new : Option CEntry) → Seeks kind name a None → GetsInSection kind name a b n old new → Gets kind name a b n old new
+got_by_calls kind name a b n old new not had = record { by_memory = λ may. absurd (not may); by_calls = λ _. had }
 
 -- what is written of a find's answer
 abbrev pub writes : Kind → CName → Option Seen → ℕ → Option CEntry → Option CEntry → Type 0
 writes k m s n old new = WritesFound (entry_seen (key_with k (name_in m)) s) n old new
 
-found_inside : (kind : ℕ) (k : Kind) (m : CName) (a b : OnPlainCpu) (s : Option Seen) (n : ℕ) (old new : Option CEntry) → kind_in kind ≡ Some k → begin_of a ≢ None → b.words ≡ a.words
-    → HasFound (key_with k (name_in m)) a.cpu b.cpu (entry_seen (key_with k (name_in m)) s) → writes k m s n old new → Finds kind m a b n old new
-found_inside kind k m a b s n old new is some words had written = record {
-  bad = λ none. let clash : ◌≡◌ {A = Option Kind} (Some k) None = sym is ∙ none in cc;
-  outside = λ j at none. absurd (some none);
-  inside = λ j at begun.
-      let one : Some k ≡ Some j = sym is ∙ at in
-      let same : k ≡ j = cc in
-      subst (λ (i : Kind). (answer : Option Entry) × HasFound (key_with i (name_in m)) a.cpu b.cpu answer × (b.words ≡ a.words) × WritesFound answer n old new) same
-      (entry_seen (key_with k (name_in m)) s, had, words, written);
-}
-
 -- what C is told of an entry by its words
 abbrev pub told : CName → Seen → ℕ → CEntry
 told m s kind = record { number = s.number; slot = s.slot; kind = kind; name = m; value = s.value }
 
--- it is an enter, a find and an exit, each done
-pub from_outside : (kind : ℕ) (k : Kind) (m : CName) (name : Name) (a b : OnPlainCpu) (s : Option Seen) (n : ℕ) (old new : Option CEntry)
-    → kind_in kind ≡ Some k → name ≡ name_in m → a.cpu.depth ≡ 0 → IsTrue (may_begin a.cpu.view) → b.words ≡ a.words
-    → HasFoundFromOutside (key_with k name) a.cpu b.cpu (entry_seen (key_with k name) s) → writes k m s n old new → LooksUpInSection kind (Some m) a b n old new
-from_outside kind k m name a b s n old new is named shallow room words seen written =
-    let had = subst (λ (i : Name). HasFoundFromOutside (key_with k i) a.cpu b.cpu (entry_seen (key_with k i) s)) named seen in
-    let first : OnPlainCpu = record { words = a.words; cpu = had.first } in
-    let last : OnPlainCpu = record { words = a.words; cpu = had.last } in
-    let inside : begin_of first ≢ None = some_not _ (begin_of first) (ap (λ (x : CpuView). x.begin) (had.enters.begun shallow).1) in
-    let same : begin_of last ≡ begin_of first = ap (λ (c : OnCpu). c.view.begin) had.finds.is in
-    record {
-      first = first;
-      entered = DONE;
-      enters = record {
-        r = Ok tt;
-        number = refl;
-        entered = record { answer = (unrefused a.cpu.depth (may_begin a.cpu.view) shallow room, had.enters); refused = tt };
-        words = refl;
-      };
-      refused = λ off. absurd (off refl);
-      inside = λ done. (
-        last,
-        record {
-          null = λ (q : Some m ≡ None). cc;
-          named = λ i (q : Some m ≡ Some i).
-              let one : m ≡ i = cc in
-              subst (λ (j : CName). Finds kind j first last n old new) one (found_inside kind k m first last s n old new is inside refl had.finds written);
-        },
-        record {
-          outside = λ none. absurd (inside (sym same ∙ none));
-          inside = λ some. (refl, had.exits, words);
-        },
-      );
-    }
-
--- the CPU is as deep after loads that told nothing, and a section is left
-pub vain_outside : (key : Key) (a b : OnCpu) → HasFoundByLoads key a b None → a.depth ≡ 0 → b.depth ≡ 0
-vain_outside key a b had shallow = ap (λ (c : OnCpu). c.depth) had.is ∙ shallow
-
-pub vain_room : (key : Key) (a b : OnCpu) → HasFoundByLoads key a b None → IsTrue (may_begin a.view) → IsTrue (may_begin b.view)
-vain_room key a b had room = subst (λ (x : CpuView). IsTrue (may_begin x)) (sym had.looks.is) room
-
--- the loads told it
-pub by_loads : (kind : ℕ) (k : Kind) (m : CName) (name : Name) (a b : OnPlainCpu) (s : Option Seen) (n : ℕ) (old new : Option CEntry)
-    → kind_in kind ≡ Some k → name ≡ name_in m → a.cpu.depth ≡ 0 → IsTrue (may_begin a.cpu.view) → b.words ≡ a.words
-    → HasFoundByLoads (key_with k name) a.cpu b.cpu (Some s) → writes k m s n old new → LooksUp kind (Some m) a b n old new
-by_loads kind k m name a b s n old new is named shallow room words looked written = inl (record {
-  m = m;
-  named = refl;
-  k = k;
-  is_kind = is;
-  outside = shallow;
-  room = room;
-  seen = s;
-  looks = subst (λ (i : Name). HasFoundByLoads (key_with k i) a.cpu b.cpu (Some s)) named looked;
-  words = words;
-  written = written;
-})
-
--- the loads told nothing, and a section did
-pub after_vain : (kind : ℕ) (m : CName) (key : Key) (a c b : OnPlainCpu) (n : ℕ) (old new : Option CEntry) → a.cpu.depth ≡ 0 → IsTrue (may_begin a.cpu.view) → c.words ≡ a.words
-    → HasFoundByLoads key a.cpu c.cpu None → LooksUpInSection kind (Some m) c b n old new → LooksUp kind (Some m) a b n old new
-after_vain kind m key a c b n old new shallow room words looked inside =
-    inr (c, inr (record { outside = shallow; room = room; key = key; looks = looked; words = words }), inside)
-
--- A look-up without loads
-
-pub in_section : (kind : ℕ) (name : Option CName) (a b : OnPlainCpu) (n : ℕ) (old new : Option CEntry) → LooksUpInSection kind name a b n old new → LooksUp kind name a b n old new
-in_section kind name a b n old new inside = inr (a, inl refl, inside)
-
--- its enter was refused
-pub unentered : (kind : ℕ) (name : Option CName) (a b : OnPlainCpu) (n : ℕ) (old : Option CEntry) → Enters a b n → n ≢ DONE → LooksUp kind name a b n old old
-unentered kind name a b n old enters off = in_section kind name a b n old old (record {
+-- an enter that was refused
+pub unentered : (kind : ℕ) (name : Option CName) (a b : OnPlainCpu) (n : ℕ) (old : Option CEntry) → Enters a b n → n ≢ DONE → LooksUpInSection kind name a b n old old
+unentered kind name a b n old enters off = record {
   first = b;
   entered = n;
   enters = enters;
   refused = λ _. (refl, refl, refl);
   inside = λ done. absurd (off done);
-})
-
--- A get from outside
-
--- the loads got an entry, or told that there is none; that the reference was kept changes nothing of the CPU
-pub got_by_loads : (kind : ℕ) (k : Kind) (m : CName) (name : Name) (a c b : OnPlainCpu) (g : Option (Seen × OnPsref)) (s : Option Seen) (n : ℕ) (old new : Option CEntry)
-    → kind_in kind ≡ Some k → name ≡ name_in m → a.cpu.depth ≡ 0 → IsTrue (may_begin a.cpu.view) → c.words ≡ a.words
-    → HasGotByLoads (key_with k name) a.cpu c.cpu (Some g) → b ≡ c → s ≡ seen_in g → writes k m s n old new → Gets kind (Some m) a b n old new
-got_by_loads kind k m name a c b g s n old new is named shallow room words got kept seen written = subst (λ (x : OnPlainCpu). Gets kind (Some m) a x n old new) (sym kept) (inl (record {
-  m = m;
-  named = refl;
-  k = k;
-  is_kind = is;
-  outside = shallow;
-  room = room;
-  got = g;
-  gets = subst (λ (i : Name). HasGotByLoads (key_with k i) a.cpu c.cpu (Some g)) named got;
-  words = words;
-  written = subst (λ (o : Option Seen). writes k m o n old new) seen written;
-}))
-
--- the loads told nothing, and a section did
-pub got_after_vain : (kind : ℕ) (m : CName) (key : Key) (a c b : OnPlainCpu) (n : ℕ) (old new : Option CEntry) → a.cpu.depth ≡ 0 → IsTrue (may_begin a.cpu.view) → c.words ≡ a.words
-    → HasGotByLoads key a.cpu c.cpu None → GetsInSection kind (Some m) c b n old new → Gets kind (Some m) a b n old new
-got_after_vain kind m key a c b n old new shallow room words got inside = inr (c, inr (record { outside = shallow; room = room; key = key; gets = got; words = words }), inside)
+}
 
 -- a kind has one word
 word_by : (w : ℕ) (k : Kind) (one two : Bool) → w == 1 ≡ one → w == 2 ≡ two → (if one then Some Iface else (if two then Some Driver else None)) ≡ Some k → kind_word k ≡ w
@@ -214,11 +150,6 @@ word_of w k is = word_by w k (w == 1) (w == 2) refl refl is
 pub of_word : (w v : ℕ) (k : Kind) (m : CName) (a b : OnPlainCpu) (n : ℕ) (old new : Option CEntry) → kind_in w ≡ Some k → v ≡ kind_word k → GetsInSection v (Some m) a b n old new
     → GetsInSection w (Some m) a b n old new
 of_word w v k m a b n old new is from got = subst (λ (u : ℕ). GetsInSection u (Some m) a b n old new) (from ∙ word_of w k is) got
-
--- A get without loads
-
-pub got_in_section : (kind : ℕ) (name : Option CName) (a b : OnPlainCpu) (n : ℕ) (old new : Option CEntry) → GetsInSection kind name a b n old new → Gets kind name a b n old new
-got_in_section kind name a b n old new inside = inr (a, inl refl, inside)
 
 -- A find and an acquire
 

@@ -4,7 +4,7 @@ use Rattle.c_calls.specs.Types.{MissingCpu, Settings, Entry, Slot, Vacant, Live,
 use Rattle.registry_values.specs.Common.{Tally, slot_at, number_of_refusal}
 use Rattle.protocol.specs.Common.{IsIn}
 use Rattle.cpu_words.specs.Common.{new_cpu, no_settings}
-use Rattle.passive_list.specs.Common.{OnCpu, OnPlainCpu, OnKeeper, OnPlainKeeper, HasHeardOn, WasShown, HeardAndTold}
+use Rattle.passive_list.specs.Common.{OnCpu, OnPlainCpu, OnKeeper, OnPlainKeeper, HasHeardOn, WasShown, HeardAndTold, no_memory}
 use Rattle.name_registry.specs.Common.{HasListened, HaveHeardAndTold, HaveLearned, IsKeeperOf, IsTallied, places_below, tallies_below, tallies_met, tally_met}
 use Rattle.c_values.specs.declared.values.TheConstants.{DONE, NO_ROOM, NULL}
 use Rattle.c_values.specs.declared.values.CBalance.{CBalance}
@@ -16,7 +16,7 @@ use Rattle.c_values.specs.Places.{DoesBy, put}
 
 -- the CPU behind a handle; nothing is said of what isn't behind an empty one
 abbrev pub cpu_in : Option OnPlainCpu → OnCpu
-cpu_in None = record { view = new_cpu no_settings 0; depth = 0; made = 0; known_log = []; log = [] }
+cpu_in None = record { view = new_cpu no_settings 0; depth = 0; made = 0; memory = no_memory; known_log = []; log = [] }
 cpu_in (Some b) = b.cpu
 
 abbrev pub cpus_in : List (Option OnPlainCpu) → List OnCpu

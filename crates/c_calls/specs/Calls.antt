@@ -4,7 +4,7 @@ use Rattle.std.specs.Prelude.{◌≡◌, ◌≢◌, ◌↔◌, ◌⊎◌, ◌<�
 use Rattle.c_calls.specs.Types.{Entry, Kind, Refusal, Inside, NotFound}
 use Rattle.registry_values.specs.Common.{Answers, number_of_refusal}
 use Rattle.cpu_words.specs.Common.{key_with, references_to}
-use Rattle.passive_list.specs.Common.{OnPlainCpu, HasFound, AnswersEnter, HasExitedOn, OnPlainKeeper}
+use Rattle.passive_list.specs.Common.{OnPlainCpu, HasFoundInside, AnswersEnter, HasExitedOn, OnPlainKeeper}
 use Rattle.passive_ref.specs.Psrefs.{HasOneLess, IsAcquired, IsCopied, IsReadAs, OnPsref, why_not_acquired, why_not_copied, why_unusable}
 use Rattle.c_values.specs.declared.values.TheConstants.{DONE, OUTSIDE, EMPTY_HANDLE, BAD_KIND, NULL}
 use Rattle.c_values.specs.declared.values.CEntry.{CEntry}
@@ -71,7 +71,7 @@ pub record Finds (kind : ℕ) (name : CName) (a b : OnPlainCpu) (n : ℕ) (old n
   pub bad : kind_in kind ≡ None → (n ≡ BAD_KIND) × (b ≡ a) × (new ≡ old)
   pub outside : (k : Kind) → kind_in kind ≡ Some k → a.cpu.view.begin ≡ None → (n ≡ OUTSIDE) × (b ≡ a) × (new ≡ old)
   pub inside : (k : Kind) → kind_in kind ≡ Some k → a.cpu.view.begin ≢ None
-      → (answer : Option Entry) × HasFound (key_with k (name_in name)) a.cpu b.cpu answer × (b.words ≡ a.words) × WritesFound answer n old new
+      → (answer : Option Entry) × HasFoundInside (key_with k (name_in name)) a.cpu b.cpu answer × (b.words ≡ a.words) × WritesFound answer n old new
 
 -- by a name that was given, or by none
 pub record FindsNamed (kind : ℕ) (name : Option CName) (a b : OnPlainCpu) (n : ℕ) (old new : Option CEntry) : Type 0 where

@@ -1,10 +1,10 @@
 -- What the calls of the usual path answer and leave. Each is the calls that it takes the place of, one after the other.
-use Rattle.std.specs.Prelude.{◌≡◌, ◌≢◌, ◌⊎◌, ℕ, IsTrue, Option, Some, None}
-use Rattle.passive_ref.specs.Gets.{HasGotByLoads}
+use Rattle.std.specs.Prelude.{◌≡◌, ◌≢◌, ℕ, IsTrue, Option, Some, None}
+use Rattle.passive_ref.specs.Gets.{HasGotByMemory}
 use Rattle.passive_ref.specs.Psrefs.{OnPsref}
 use Rattle.c_calls.specs.Types.{Key, Kind, Seen}
 use Rattle.cpu_words.specs.Common.{key_with}
-use Rattle.passive_list.specs.Common.{OnPlainCpu, HasFoundByLoads, may_begin, entry_seen}
+use Rattle.passive_list.specs.Common.{FindsWhatStays, HasFoundByMemory, OnPlainCpu, may_begin, entry_seen}
 use Rattle.c_values.specs.declared.values.TheConstants.{DONE}
 use Rattle.c_values.specs.declared.values.CEntry.{CEntry}
 use Rattle.c_values.specs.declared.values.CName.{CName}
@@ -33,65 +33,57 @@ pub record FindsAndAcquires (kind : ℕ) (name : Option CName) (a b : OnPlainCpu
 abbrev pub LooksUpInSection : ℕ → Option CName → OnPlainCpu → OnPlainCpu → ℕ → Option CEntry → Option CEntry → Type 0
 LooksUpInSection kind name a b n old new = Between a b n (new ≡ old) (λ x y. FindsNamed kind name x y n old new)
 
--- By loads alone: the CPU is outside and has a section left, and there is a name and a kind. No section begins.
-pub record LooksUpByLoads (kind : ℕ) (name : Option CName) (a b : OnPlainCpu) (n : ℕ) (old new : Option CEntry) : Type 0 where
+-- A call may go by memory: a name and a kind are given, and the CPU is outside and has a section left.
+pub record MayRecall (kind : ℕ) (name : Option CName) (a : OnPlainCpu) : Type 0 where
   pub m : CName
   pub named : name ≡ Some m
   pub k : Kind
   pub is_kind : kind_in kind ≡ Some k
   pub outside : a.cpu.depth ≡ 0
   pub room : IsTrue (may_begin a.cpu.view)
+
+-- what such a call looks up, or that it may not
+abbrev pub Seeks : ℕ → Option CName → OnPlainCpu → Option (Kind × CName) → Type 0
+Seeks kind name a None = MayRecall kind name a → ⊥
+Seeks kind name a (Some sought) = (kind_in kind ≡ Some sought.0) × (name ≡ Some sought.1) × (a.cpu.depth ≡ 0) × IsTrue (may_begin a.cpu.view)
+
+abbrev pub key_in : Kind → CName → Key
+key_in k m = key_with k (name_in m)
+
+-- By one load, if the CPU remembers a live entry with the key; else in a section of the call's own.
+pub record LooksUpByMemory (k : Kind) (m : CName) (a b : OnPlainCpu) (n : ℕ) (old new : Option CEntry) : Type 0 where
   pub seen : Option Seen
-  pub looks : HasFoundByLoads (key_with k (name_in m)) a.cpu b.cpu (Some seen)
+  pub finds : HasFoundByMemory (key_in k m) a.cpu b.cpu seen
+  pub stays : FindsWhatStays (key_in k m) a.cpu.view.pass b.cpu.view.pass (entry_seen (key_in k m) seen)
   pub words : b.words ≡ a.words
-  pub written : WritesFound (entry_seen (key_with k (name_in m)) seen) n old new
+  pub written : WritesFound (entry_seen (key_in k m) seen) n old new
 
--- Loads that told nothing, of such a CPU: what it has seen may have grown, and its log.
-pub record HasLoadedInVain (a b : OnPlainCpu) : Type 0 where
-  pub outside : a.cpu.depth ≡ 0
-  pub room : IsTrue (may_begin a.cpu.view)
-  pub key : Key
-  pub looks : HasFoundByLoads key a.cpu b.cpu None
-  pub words : b.words ≡ a.words
-
--- By loads alone. If they tell nothing or there were none, by an enter, a find and an exit.
-abbrev pub LooksUp : ℕ → Option CName → OnPlainCpu → OnPlainCpu → ℕ → Option CEntry → Option CEntry → Type 0
-LooksUp kind name a b n old new = LooksUpByLoads kind name a b n old new ⊎ ((c : OnPlainCpu) × ((c ≡ a) ⊎ HasLoadedInVain a c) × LooksUpInSection kind name c b n old new)
+-- By memory where it may. Else by an enter, a find and an exit: in an open section, or where one of these is refused.
+pub record LooksUp (kind : ℕ) (name : Option CName) (a b : OnPlainCpu) (n : ℕ) (old new : Option CEntry) : Type 0 where
+  pub by_memory : (may : MayRecall kind name a) → LooksUpByMemory may.k may.m a b n old new
+  pub by_calls : (MayRecall kind name a → ⊥) → LooksUpInSection kind name a b n old new
 
 -- by an enter, a find, an acquire and an exit
 abbrev pub GetsInSection : ℕ → Option CName → OnPlainCpu → OnPlainCpu → ℕ → Option CEntry → Option CEntry → Type 0
 GetsInSection kind name a b n old new = Between a b n (new ≡ old) (λ x y. FindsAndAcquires kind name x y n old new)
 
--- the words of the entry that was got
-abbrev pub seen_in : Option (Seen × OnPsref) → Option Seen
-seen_in None = None
-seen_in (Some g) = Some g.0
+-- The CPU has tried by memory, and is c then. If it got an entry, it has one reference more, to the entry that is written. Else the calls follow.
+abbrev pub GetsAfter : ℕ → Kind → CName → OnPlainCpu → OnPlainCpu → Option (Seen × OnPsref) → ℕ → Option CEntry → Option CEntry → Type 0
+GetsAfter kind k m c b None n old new = GetsInSection kind (Some m) c b n old new
+GetsAfter kind k m c b (Some got) n old new = (b ≡ c) × WritesFound (entry_seen (key_in k m) (Some got.0)) n old new
 
--- By loads and one addition: the CPU is outside and has a section left, and there is a name and a kind. No section begins. Of an entry that was got
--- the CPU has one reference more, and its number is the one written.
-pub record GetsByLoads (kind : ℕ) (name : Option CName) (a b : OnPlainCpu) (n : ℕ) (old new : Option CEntry) : Type 0 where
-  pub m : CName
-  pub named : name ≡ Some m
-  pub k : Kind
-  pub is_kind : kind_in kind ≡ Some k
-  pub outside : a.cpu.depth ≡ 0
-  pub room : IsTrue (may_begin a.cpu.view)
+-- By one addition and one load, if the CPU remembers a live entry with the key; else in a section of the call's own.
+pub record GetsByMemory (kind : ℕ) (k : Kind) (m : CName) (a b : OnPlainCpu) (n : ℕ) (old new : Option CEntry) : Type 0 where
+  pub tried : OnPlainCpu
   pub got : Option (Seen × OnPsref)
-  pub gets : HasGotByLoads (key_with k (name_in m)) a.cpu b.cpu (Some got)
-  pub words : b.words ≡ a.words
-  pub written : WritesFound (entry_seen (key_with k (name_in m)) (seen_in got)) n old new
+  pub gets : HasGotByMemory (key_in k m) a.cpu tried.cpu got
+  pub words : tried.words ≡ a.words
+  pub after : GetsAfter kind k m tried b got n old new
 
--- A get by loads that told nothing, of such a CPU: what it has seen may have grown, and its log. It has no reference more.
-pub record HasGotInVain (a b : OnPlainCpu) : Type 0 where
-  pub outside : a.cpu.depth ≡ 0
-  pub room : IsTrue (may_begin a.cpu.view)
-  pub key : Key
-  pub gets : HasGotByLoads key a.cpu b.cpu None
-  pub words : b.words ≡ a.words
-
--- By loads and one addition. If that tells nothing or wasn't tried, by an enter, a find, an acquire and an exit.
-abbrev pub Gets : ℕ → Option CName → OnPlainCpu → OnPlainCpu → ℕ → Option CEntry → Option CEntry → Type 0
-Gets kind name a b n old new = GetsByLoads kind name a b n old new ⊎ ((c : OnPlainCpu) × ((c ≡ a) ⊎ HasGotInVain a c) × GetsInSection kind name c b n old new)
+-- By memory where it may. Else by an enter, a find, an acquire and an exit.
+pub record Gets (kind : ℕ) (name : Option CName) (a b : OnPlainCpu) (n : ℕ) (old new : Option CEntry) : Type 0 where
+  pub by_memory : (may : MayRecall kind name a) → GetsByMemory kind may.k may.m a b n old new
+  pub by_calls : (MayRecall kind name a → ⊥) → GetsInSection kind name a b n old new
 
 -- An enter and a find. An enter that is refused is the answer, and nothing else is done. Else the find's answer is the answer: where it is done the CPU
 -- stays as the find leaves it, inside, and where it is refused an exit is done.

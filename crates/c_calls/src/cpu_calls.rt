@@ -50,22 +50,8 @@ pub fn find_named(cpu: &mut CpuBody, kind: u64, name: Option<CName>, found: &mut
 }
 
 /// Looks an entry up and writes it. Condition: inside.
-/// A search for each kind, and what is written after it, too: so no register keeps the kind, and a call saves fewer as it begins.
 #[inline(always)]
 fn find_inside(cpu: &mut CpuBody, kind: Kind, name: CName, found: &mut EntryPlace) -> u32
-    requires inside { cpu.old.cpu.view.begin ≢ None }
-    ensures place { found.new.at ≡ found.old.at }
-    ensures call { (word : ℕ) → kind_in word ≡ Some kind → Finds word name cpu.old cpu.new result found.old.value found.new.value }
-{
-    match kind {
-        Kind::Iface => find_for(cpu, Kind::Iface, name, found),
-        Kind::Driver => find_for(cpu, Kind::Driver, name, found),
-    }
-}
-
-/// The same, of a kind that is known where it is called.
-#[inline(always)]
-fn find_for(cpu: &mut CpuBody, kind: Kind, name: CName, found: &mut EntryPlace) -> u32
     requires inside { cpu.old.cpu.view.begin ≢ None }
     ensures place { found.new.at ≡ found.old.at }
     ensures call { (word : ℕ) → kind_in word ≡ Some kind → Finds word name cpu.old cpu.new result found.old.value found.new.value }
@@ -101,13 +87,7 @@ fn find(cpu: &mut CpuBody, kind: u64, name: &CName) -> Result<Entry, u32>
     if !cpu.inside() {
         return Err(OUTSIDE);
     }
-    let name = name_in(name);
-    // A search for each kind, as in `find_inside`.
-    let found = match kind {
-        Kind::Iface => cpu.find(Kind::Iface, &name),
-        Kind::Driver => cpu.find(Kind::Driver, &name),
-    };
-    match found {
+    match cpu.find(kind, &name_in(name)) {
         None => Err(refused(Refusal::NotFound)),
         Some(entry) => Ok(entry),
     }

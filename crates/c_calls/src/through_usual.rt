@@ -2,7 +2,7 @@
 
 ghost use Rattle.std.specs.Prelude.{◌≡◌};
 ghost use Rattle.c_calls.specs.Calls.{Through};
-ghost use Rattle.c_calls.specs.UsualCalls.{EntersAndFinds, Gets, LooksUp};
+ghost use Rattle.c_calls.specs.UsualCalls.{EntersAndFinds, Gets, GetsInSection, LooksUp, LooksUpInSection};
 
 use crate::usual_calls;
 use c_bodies::CpuBody;
@@ -10,7 +10,7 @@ use c_bodies::handle::CpuHandle;
 use c_values::answer::NamedAnswer;
 use c_values::given::GivenName;
 use c_values::place::EntryPlace;
-use c_values::values::{EMPTY_HANDLE, kind_in};
+use c_values::values::EMPTY_HANDLE;
 use held::CHandle;
 
 /// `registry_look_up` of the header.
@@ -27,17 +27,17 @@ pub fn look_up(
     let Some(body) = cpu.body_mut() else {
         return found.answer(EMPTY_HANDLE).with_name(name);
     };
-    match (name.name(), kind_in(kind)) {
-        (Some(sought), Some(kind)) if body.may_begin() => {
-            let answer = usual_calls::look_from_outside(body, kind, sought, &mut found);
+    match usual_calls::sought(body, kind, name.name()) {
+        Some((kind, sought)) => {
+            let answer = usual_calls::look_by_memory(body, kind, sought, &mut found);
             found.answer(answer).with_name(name)
         }
-        _ => look_up_by_calls(body, kind, name, found),
+        None => look_up_by_calls(body, kind, name, found),
     }
 }
 
-/// What `registry_look_up` does in an open section, or where it is refused: an enter, a find and an exit. It stands apart, so that a lookup from
-/// outside saves no register for it.
+/// What `registry_look_up` does in an open section, or where it is refused: an enter, a find and an exit. It stands apart, so that a lookup by
+/// memory saves no register for it.
 #[inline(never)]
 fn look_up_by_calls(
     cpu: &mut CpuBody,
@@ -46,7 +46,7 @@ fn look_up_by_calls(
     mut found: EntryPlace,
 ) -> NamedAnswer
     ensures places { (result.name ≡ name) × (result.place.at ≡ found.at) }
-    ensures call { LooksUp kind name.name cpu.old cpu.new result.number found.value result.place.value }
+    ensures call { LooksUpInSection kind name.name cpu.old cpu.new result.number found.value result.place.value }
 {
     let answer = usual_calls::look_up(cpu, kind, name.name(), &mut found);
     found.answer(answer).with_name(name)
@@ -66,17 +66,17 @@ pub fn get(
     let Some(body) = cpu.body_mut() else {
         return found.answer(EMPTY_HANDLE).with_name(name);
     };
-    match (name.name(), kind_in(kind)) {
-        (Some(sought), Some(kind)) if body.may_begin() => {
-            let answer = usual_calls::get_from_outside(body, kind, sought, &mut found);
+    match usual_calls::sought(body, kind, name.name()) {
+        Some((kind, sought)) => {
+            let answer = usual_calls::get_by_memory(body, kind, sought, &mut found);
             found.answer(answer).with_name(name)
         }
-        _ => get_by_calls(body, kind, name, found),
+        None => get_by_calls(body, kind, name, found),
     }
 }
 
 /// What `registry_get` does in an open section, or where it is refused: an enter, a find, an acquire and an exit. It stands apart, so that a get
-/// from outside saves no register for it.
+/// by memory saves no register for it.
 #[inline(never)]
 fn get_by_calls(
     cpu: &mut CpuBody,
@@ -85,7 +85,7 @@ fn get_by_calls(
     mut found: EntryPlace,
 ) -> NamedAnswer
     ensures places { (result.name ≡ name) × (result.place.at ≡ found.at) }
-    ensures call { Gets kind name.name cpu.old cpu.new result.number found.value result.place.value }
+    ensures call { GetsInSection kind name.name cpu.old cpu.new result.number found.value result.place.value }
 {
     let answer = usual_calls::get(cpu, kind, name.name(), &mut found);
     found.answer(answer).with_name(name)

@@ -3,7 +3,7 @@ pub mod CpuSteps
 pub mod Hands
 pub mod Locals
 pub mod Passives
-pub mod Peeking
+pub mod Recalling
 pub mod Reading
 pub mod Searching
 pub mod Sections

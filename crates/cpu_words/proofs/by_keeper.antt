@@ -1,4 +1,4 @@
-pub mod CountingChanges
+pub mod LiveWords
 pub mod Drained
 pub mod Draining
 pub mod Grace

@@ -1,7 +1,6 @@
 pub mod Apart
-pub mod Changes
+pub mod Lives
 pub mod Passes
-pub mod Peeks
 pub mod KeepersShown
 pub mod CpusShown
 pub mod Placing

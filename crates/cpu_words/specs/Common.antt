@@ -6,22 +6,18 @@ pub use Rattle.cpu_words.specs.declared.view.InHand.TheVariants.{Back, Empty, Gi
 pub use Rattle.cpu_words.specs.declared.view.KeeperView.{KeeperView}
 pub use Rattle.cpu_words.specs.declared.view.LogItem.{LogItem}
 pub use Rattle.cpu_words.specs.declared.view.Logged.{Logged}
-pub use Rattle.cpu_words.specs.declared.view.PeekPlace.{PeekPlace}
-pub use Rattle.cpu_words.specs.declared.view.PeekPlace.TheVariants.{Finds, Goes, Misses}
-pub use Rattle.cpu_words.specs.declared.view.Peeking.{Peeking}
 pub use Rattle.cpu_words.specs.declared.view.ReferenceView.{ReferenceView}
 pub use Rattle.cpu_words.specs.declared.view.Teller.{Teller}
 pub use Rattle.cpu_words.specs.declared.view.View.{View}
 pub use Rattle.cpu_words.specs.declared.view.View.TheVariants.{Cpu, Keeper, Note, Reference, Spent}
 pub use Rattle.cpu_words.specs.Acts.{HasNone, ListGoesOn, is_border, is_hear, part}
 pub use Rattle.cpu_words.specs.Balance.{HasOneSeat, IsBalanced, SeatsBalance, count_word, hand_to, held_by_seats, in_hand_to, total_word}
-pub use Rattle.cpu_words.specs.Changes.{CountedTold, keeper_after_counting}
 pub use Rattle.cpu_words.specs.Called.{CpuHearsLater, EndsOpenSections, HasLeft, HasLeftSince, HasToldSince, KeeperHearsLater}
 pub use Rattle.cpu_words.specs.Domains.{AreWordsOf}
 pub use Rattle.cpu_words.specs.Draining.{CollectTold, HasAdded, HasCollected, HasKeptSub, HasLookedPassive, IsFoundCollected, KeptSubTold, LookedPassiveTold, MayCollect, MayJoinKeeper, MayKeptSub}
 pub use Rattle.cpu_words.specs.Draining.{MayPassiveLook, MayTotalAdd, MayTotalSub, TotalAddTold, TotalSubTold, keeper_after_join, row_of, with_given_up}
 pub use Rattle.cpu_words.specs.Freed.{FreedByKeeper, FreedIsGone, HasGone, IsGone}
-pub use Rattle.cpu_words.specs.Fresh.{LookupsAreFresh, PassesAreWhole, WholeInTheList, has_sought, history_length, until_reply, with_reply}
+pub use Rattle.cpu_words.specs.Fresh.{HeadsAreNewest, LookupsAreFresh, PassesAreWhole, RecallsAreLive, RefindsAreLive, WholeInTheList, has_sought, history_length, until_reply, with_reply}
 pub use Rattle.cpu_words.specs.Grace.{HasLooked, HasSnapshot, LookTold, MayGlance, MayLook, MaySnapshot, due_next, keeper_after_look}
 pub use Rattle.cpu_words.specs.Headline.{DrainedIsFree, FoundIsHeld, HeldHaveSlots, IsInHand, MarkTells, MarksAreHonest, RunningHeadline, RunsAsLogged, RunsLawfully, SeatHolds, SectionMayHold}
 pub use Rattle.cpu_words.specs.KeeperLog.{AreCountsOf, AreMarksOf, AreSlotsOf, AreTotalsOf, FindsWord, HasHeardFrom, HasPassedOn, HasWaited, IsAttachedKeeping, IsDetachedFrom, IsFreedFrom, IsOwnLog}
@@ -31,6 +27,7 @@ pub use Rattle.cpu_words.specs.KeeperLog.{is_there, keeping, keeping_from, keeps
 pub use Rattle.cpu_words.specs.KeeperLog.{stands_from, sum_below, sum_collected, word_after, word_collected, word_from, word_if, word_in, word_or_none, words_collected}
 pub use Rattle.cpu_words.specs.Keeping.{MayKeep, keeper_after_keep, with_kept}
 pub use Rattle.cpu_words.specs.Kept.{AttachedKeeps, KeepsAsLong, KeepsDriver}
+pub use Rattle.cpu_words.specs.Lives.{LiveTold, MayHide, MayShow, keeper_after_live}
 pub use Rattle.cpu_words.specs.Locals.{CountTold, DownTold, HasCounted, HasCountedDown, HasFoundCollected, HasSplit, HasSplitBack, IsBack, IsMetAlone, IsNetCount, IsPlaceCount, IsTaking, MayCount}
 pub use Rattle.cpu_words.specs.Locals.{MayCountDown, down_reply, reference_in, reference_of_hand, with_empty_hand, with_hand, with_reference_in_hand}
 pub use Rattle.cpu_words.specs.Logs.{AreBy, AreByOwn, AreToldBefore, HasComeIf, HasHeardAll, HasItsSections, IsSeatOf, IsStanding, IsToldBefore, IsToldByCpu, IsToldByKeeper, IsToldByReference, Knows, LoggedRuled, Maker, another}
@@ -41,23 +38,23 @@ pub use Rattle.cpu_words.specs.Notes.{CpuHears, HasHeard, KeeperHasHeard, Keeper
 pub use Rattle.cpu_words.specs.Opening.{AreOpening, AreSeats, MaySeat, cpu_seat, keeper_with, next_seat, one_seated, with_cpu_seated}
 pub use Rattle.cpu_words.specs.Ordered.{OrderedInTime, TwoMoments}
 pub use Rattle.cpu_words.specs.Passives.{HasSubtracted, IsAloneAt, IsAt, IsNamed, IsWordOf, MayAdd, MayUse, tells_added, tells_passive, tells_subtracted}
-pub use Rattle.cpu_words.specs.Peeks.{HasBegunPeek, HasEndedPeek, HasPeeked, HasPeekedHigh, HasPeekedLink, HasPeekedWord, MayPeek, PeekAnswers, high_place, link_place, peek_at, place_after, word_place}
 pub use Rattle.cpu_words.specs.Publishing.{HasPublished, HasUnpublished, IsBefore, IsLinkPlace, LeadsBelow, MayPublish, MayUnpublish, PublishTold, UnpublishTold, head_with, keeper_after_unpublish}
 pub use Rattle.cpu_words.specs.Publishing.{link_index, links_with}
 pub use Rattle.cpu_words.specs.Publishing.LeadsBelow.{To_end, To_slot}
 pub use Rattle.cpu_words.specs.Reading.{loads_by, tells_local}
+pub use Rattle.cpu_words.specs.Recalls.{HasRecalled, HasRecalledHead, HasRefound, HasSeenMore, IsLiveNumber, IsRefound, MayRecall, MayRefind, RecalledTold, RefindTold}
 pub use Rattle.cpu_words.specs.Rule.{Agrees, GoesOn, Good, HaveViews, IsFresh, IsShown, IsShownAs, IsShownCpu, IsUnused, Reached, Ruled, ShowsViews, Sits, by_number, did, log_from, log_item}
 pub use Rattle.cpu_words.specs.Rule.{log_of_events, log_with, number_of_id, number_or_none, reference_to, reply_without_id}
 pub use Rattle.cpu_words.specs.Searching.{Descends, FoundHolds, HasFollowed, HasLoadedLink, HasLoadedWord, HasSearched, HasSought, IsAtWord, LinkHolds, MayLoadLink, MayLoadSearched, MaySeek}
 pub use Rattle.cpu_words.specs.Searching.{MayStandOn, PassTells, SkipsNone, cpu_after_link, cpu_after_record_word, cpu_after_seek, every_word, key_with, link_answer, loaded_answer, loaded_of}
 pub use Rattle.cpu_words.specs.Searching.{IsValueThere, search_for, search_with_place, sought, tells_compared}
 pub use Rattle.cpu_words.specs.Sections.{HasEntered, HasExited, HasWholePass, IsIdle, MayEnter, MayExit}
-pub use Rattle.cpu_words.specs.Spots.{AreApart, FirstWordsFree, IsSpot, LinesApart, OnePlace, Spot, count_of, head_word, changes_word, index, next_of, owner, passive_of, record_of, section_of, total_of, word_at}
+pub use Rattle.cpu_words.specs.Spots.{AreApart, FirstWordsFree, IsSpot, LinesApart, OnePlace, Spot, count_of, head_word, index, live_of, next_of, owner, passive_of, record_of, section_of, total_of, word_at}
 pub use Rattle.cpu_words.specs.Steps.{CpuMay, JoinsBy, JoinsOn, KeeperMay, KeeperStores, Makes, Moves, OneSeat, ReferenceMay, SeatMakes, SplitsBy, SplitsOn}
 pub use Rattle.cpu_words.specs.Storing.{CountStored, HasCountWord, HasLink, HasRecordWord, LinkStored, RecordStored}
-pub use Rattle.cpu_words.specs.Tries.{EndTold, HasConfirmed, HasTakenBack, HasTried, IsTrying, MayEndTry, MayTakeBack, MayTry, event_by}
+pub use Rattle.cpu_words.specs.Tries.{EndTold, HasConfirmed, HasTakenBack, HasTried, IsTrying, MayEndTry, MayTakeBack, MayTry, TriedTold, event_by}
 pub use Rattle.cpu_words.specs.Vacating.{IsDrained, MayVacate, MayWrite, VacateTold, keeper_after_vacate}
-pub use Rattle.cpu_words.specs.Views.{ChangesShow, CpuOwn, CpuShown, PeekHolds, PeekShows, StaysAt, GivesUp, HandFits, IsCollectedFor, KeeperOwn, KeeperShown, Named, ReferenceShown, SameHand, Seated, Shown, collected_net, collected_one, cpu_of}
+pub use Rattle.cpu_words.specs.Views.{CpuOwn, CpuShown, LivesShow, GivesUp, HandFits, IsCollectedFor, KeeperOwn, KeeperShown, Named, ReferenceShown, SameHand, Seated, Shown, collected_net, collected_one, cpu_of}
 pub use Rattle.cpu_words.specs.Views.{cpu_view, depth_of, first_view, is_to, keeper_of, keeper_own, keeper_view, new_cpu, new_keeper, no_settings, note_of, number_at, one_more, own_of, reference_of}
 pub use Rattle.cpu_words.specs.Views.{references_to, trying_in, with_number, without}
 pub use Rattle.cpu_words.specs.Waiting.{HadHeard, HasEndedOn, HasEndedSince, HaveEnded, IsBeforeTelling, WaitingEnds}

@@ -1,5 +1,5 @@
 -- Draining by the keeper's seat (psref(9), localcount(9)): where it may make the step, and what changes in its view.
-use Rattle.std.specs.Prelude.{◌≡◌, ℕ, ◌+◌, ◌-◌, ◌⊎◌, List, [], length, replicate, slice_index_or, slice_set, true, false, Some, None}
+use Rattle.std.specs.Prelude.{◌≡◌, ℕ, ◌+◌, ◌-◌, ◌⊎◌, List, [], replicate, slice_index_or, slice_set, true, false, Some, None}
 use Rattle.cpu_words.specs.Types.{MOST_CPUS, Entry, Iface, Event, PassiveLook, Collect, TotalAdd, TotalSub, KeptSub, Word, Mark, Slot, Vacant, Retired, Rest, Adding, Subtracting}
 use Rattle.registry_values.specs.Common.{bias, slot_at, slot_of, have_passed, are_clear, mark_after_passive_look, mark_after_collect}
 use Rattle.protocol.specs.Common.{with_cell, mark_at, total_at, kept_at}
@@ -17,11 +17,10 @@ row_of k t = slice_index_or k.marks t []
 
 -- Passive references
 
--- the slot's entry is retired, all CPUs have passed, and all changes are counted
+-- the slot's entry is retired, and all CPUs have passed
 pub record MayPassiveLook (k : KeeperView) (t c : ℕ) : Type 0 where
   pub look : MayLook k t c
   pub passed : have_passed k.settings.cpus (slice_index_or k.marks t []) ≡ true
-  pub counted : k.changes ≡ length k.history
 
 -- the CPU's mark is clear once its passive word, which was w, was 0
 abbrev pub HasLookedPassive : KeeperView → ℕ → ℕ → ℕ → KeeperView → Type 0

@@ -1,12 +1,12 @@
--- Fresh lookups (pserialize(9)): what a CPU's own log says of its searches, by their places in the one list; and what a CPU has seen as it
--- enters, as it hears, and as its lookup by loads loads a word.
+-- Fresh lookups (pserialize(9)): what a CPU's own log says of its searches and recalls, by their places in the one list; and what a CPU has seen
+-- as it enters, as it hears, and as it recalls.
 use Rattle.std.specs.Prelude.{◌≡◌, ℕ, ◌≤◌, List, [], ◌∷◌, ◌++◌, length, take, Option, Some}
 use Rattle.std.specs.List.{AllByRecursion}
 use mathlib.Core.Option.{some}
 use lib.ListN.{get_elem?}
 use Rattle.atomic_table.specs.Table.{State as Table}
-use Rattle.cpu_words.specs.Types.{Key, Entry, Settings, Event, Enter, Hear, Peek, SharedWord, Done}
-use Rattle.protocol.specs.Common.{opening, seen_at, after, IsLoadOf, answer_of, IsNoSeek, IsFreshAnswer, seek_for}
+use Rattle.cpu_words.specs.Types.{Key, Entry, Settings, Event, Enter, Hear, Recall, RecallHead, Refind, Confirm, Done, Word}
+use Rattle.protocol.specs.Common.{IsAttached, IsLiveAt, IsNewestAt, opening, seen_at, after, IsLoadOf, answer_of, IsNoSeek, IsFreshAnswer, seek_for}
 use Rattle.cpu_words.specs.declared.view.CpuView.{CpuView}
 use Rattle.cpu_words.specs.declared.view.LogItem.{LogItem}
 use Rattle.cpu_words.specs.declared.view.Logged.{Logged}
@@ -64,13 +64,75 @@ abbrev pub history_length : Settings → List Event → ℕ
 history_length z events = length (after (opening z) events).history
 
 pub record PassesAreWhole {z : Settings} {s : Table ℕ Logged} (r : RunsAsLogged z s) : Type 0 where
-  -- as a CPU begins a section, as it hears a note, and as its lookup by loads loads a word, its pass becomes the whole history
+  -- as a CPU begins a section, as it hears a note, and as it recalls an entry, its pass becomes the whole history
   pub entered : (c : ℕ) (first rest : List Event) → r.run.events ≡ first ++ Enter c ∷ rest → seen_at (after (opening z) (first ++ Enter c ∷ [])) c ≡ history_length z first
   pub heard : (c : ℕ) (first rest : List Event) → r.run.events ≡ first ++ Hear (Some c) ∷ rest → seen_at (after (opening z) (first ++ Hear (Some c) ∷ [])) c ≡ history_length z first
-  pub peeked : (c : ℕ) (w : SharedWord) (first rest : List Event) → r.run.events ≡ first ++ Peek c w ∷ rest → seen_at (after (opening z) (first ++ Peek c w ∷ [])) c ≡ history_length z first
+  pub recalled : (c t : ℕ) (first rest : List Event) → r.run.events ≡ first ++ Recall c t ∷ rest → seen_at (after (opening z) (first ++ Recall c t ∷ [])) c ≡ history_length z first
+  pub headed : (c : ℕ) (first rest : List Event) → r.run.events ≡ first ++ RecallHead c ∷ rest → seen_at (after (opening z) (first ++ RecallHead c ∷ [])) c ≡ history_length z first
+  pub refound : (c t n : ℕ) (first rest : List Event) → r.run.events ≡ first ++ Refind c t n ∷ rest → seen_at (after (opening z) (first ++ Refind c t n ∷ [])) c ≡ history_length z first
+  pub confirmed : (c : ℕ) (first rest : List Event) → r.run.events ≡ first ++ Confirm c ∷ rest → seen_at (after (opening z) (first ++ Confirm c ∷ [])) c ≡ history_length z first
   -- the history at any moment before another CPU told the note is in it
   pub told : (c i : ℕ) (h : Teller) (first rest : List (ℕ × LogItem)) (earlier later : List Event) → r.acts ≡ first ++ (i, has_heard_from (Some c) (Some h)) ∷ rest → r.run.events ≡ earlier ++ later
       → IsBeforeTelling r h earlier → history_length z earlier ≤ history_length z (take (length first) r.run.events)
 
 abbrev pub WholeInTheList : Type 0
 WholeInTheList = (z : Settings) (s : Table ℕ Logged) (r : RunsAsLogged z s) → PassesAreWhole r
+
+-- What is recalled, by the list
+
+-- By its log the CPU c loaded the live word of the slot t, and found n.
+pub record HasFoundLive (c t n : ℕ) (log : List LogItem) : Type 0 where
+  pub before : List LogItem
+  pub after : List LogItem
+  pub are : log ≡ before ++ log_item (Recall c t) (Word n) ∷ after
+
+-- That load's place in the list of all events: the CPU had done just so much before it, and an entry with the number n is live there
+pub record IsLiveThere {z : Settings} {s : Table ℕ Logged} (r : RunsAsLogged z s) (c t n : ℕ) {log : List LogItem} (a : HasFoundLive c t n log) : Type 0 where
+  pub first : List Event
+  pub later : List Event
+  pub are : r.run.events ≡ first ++ Recall c t ∷ later
+  pub own : part (r.run.seat c) (take (length first) r.acts) ≡ a.before
+  pub live : (e : Entry) → IsAttached (after (opening z) first).history e → e.number ≡ n → IsLiveAt (after (opening z) first).history (history_length z first) e × (e.slot ≡ t)
+
+-- for any list that explains the table: what a CPU's seat recalled was live as it was loaded
+abbrev pub RecallsAreLive : Type 0
+RecallsAreLive = (z : Settings) (s : Table ℕ Logged) (r : RunsAsLogged z s) (i : ℕ) (l : Logged) (x : CpuView) (t n : ℕ) → get_elem? s.views i ≡ some l → l.view ≡ Cpu x
+    → (a : HasFoundLive x.id t n l.log) → IsLiveThere r x.id t n a
+
+-- By its log the CPU c loaded the head outside of any search, and found w.
+pub record HasFoundHead (c w : ℕ) (log : List LogItem) : Type 0 where
+  pub before : List LogItem
+  pub after : List LogItem
+  pub are : log ≡ before ++ log_item (RecallHead c) (Word w) ∷ after
+
+-- That load's place in the list of all events: the CPU had done just so much before it, and w leads to the newest entry that is live there
+pub record IsNewestThere {z : Settings} {s : Table ℕ Logged} (r : RunsAsLogged z s) (c w : ℕ) {log : List LogItem} (a : HasFoundHead c w log) : Type 0 where
+  pub first : List Event
+  pub later : List Event
+  pub are : r.run.events ≡ first ++ RecallHead c ∷ later
+  pub own : part (r.run.seat c) (take (length first) r.acts) ≡ a.before
+  pub newest : IsNewestAt (after (opening z) first).history w
+
+-- for any list that explains the table: what the head told a CPU's seat was the newest live entry as it was loaded
+abbrev pub HeadsAreNewest : Type 0
+HeadsAreNewest = (z : Settings) (s : Table ℕ Logged) (r : RunsAsLogged z s) (i : ℕ) (l : Logged) (x : CpuView) (w : ℕ) → get_elem? s.views i ≡ some l → l.view ≡ Cpu x
+    → (a : HasFoundHead x.id w l.log) → IsNewestThere r x.id w a
+
+-- By its log the CPU c found the entry n of the slot t again.
+pub record HasFoundAgain (c t n : ℕ) (log : List LogItem) : Type 0 where
+  pub before : List LogItem
+  pub after : List LogItem
+  pub are : log ≡ before ++ log_item (Refind c t n) (Word n) ∷ after
+
+-- That load's place in the list of all events: the CPU had done just so much before it, and the entry n is live there
+pub record IsFoundThere {z : Settings} {s : Table ℕ Logged} (r : RunsAsLogged z s) (c t n : ℕ) {log : List LogItem} (a : HasFoundAgain c t n log) : Type 0 where
+  pub first : List Event
+  pub later : List Event
+  pub are : r.run.events ≡ first ++ Refind c t n ∷ later
+  pub own : part (r.run.seat c) (take (length first) r.acts) ≡ a.before
+  pub live : (e : Entry) → IsAttached (after (opening z) first).history e → e.number ≡ n → IsLiveAt (after (opening z) first).history (history_length z first) e × (e.slot ≡ t)
+
+-- for any list that explains the table: what a CPU's seat found again was live as its live word was loaded
+abbrev pub RefindsAreLive : Type 0
+RefindsAreLive = (z : Settings) (s : Table ℕ Logged) (r : RunsAsLogged z s) (i : ℕ) (l : Logged) (x : CpuView) (t n : ℕ) → get_elem? s.views i ≡ some l → l.view ≡ Cpu x
+    → (a : HasFoundAgain x.id t n l.log) → IsFoundThere r x.id t n a

@@ -4,6 +4,8 @@ pub mod Spots
 pub mod Types
 pub mod Views
 pub mod Rule
+pub mod Lives
+pub mod Recalls
 pub mod KeeperLog
 pub mod Steps
 pub mod Sections
@@ -14,12 +16,10 @@ pub mod Locals
 pub mod Passives
 pub mod Reading
 pub mod Searching
-pub mod Peeks
 pub mod Tries
 pub mod Draining
 pub mod Publishing
 pub mod Keeping
-pub mod Changes
 pub mod Notes
 pub mod Opening
 pub mod Logs

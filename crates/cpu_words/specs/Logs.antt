@@ -5,7 +5,7 @@ use mathlib.Core.List.{IsPrefix}
 use lib.ListN.{get_elem?}
 use Rattle.atomic_table.specs.Table.{State as Table, Step, Me}
 use Rattle.cpu_words.specs.Types.{Settings, Event, Seat, Enter, Exit, Seek, LoadLink, LoadRecord, StoreSlot, StoreNext, Publish, Unpublish, Tell, Hear, Snapshot, Look, PassiveAdd, PassiveSub}
-use Rattle.cpu_words.specs.Types.{PassiveLook, CountAdd, SplitRef, JoinRef, CountDown, SplitBack, Collect, TotalAdd, JoinKeeper, TotalSub, Keep, KeptSub, Vacate, Count, Peek, Try, Confirm, TakeBack, Passive, Local, Compared, Done, Ref}
+use Rattle.cpu_words.specs.Types.{PassiveLook, CountAdd, SplitRef, JoinRef, CountDown, SplitBack, Collect, TotalAdd, JoinKeeper, TotalSub, Keep, KeptSub, Vacate, Show, Hide, Recall, RecallHead, Refind, Try, Confirm, TakeBack, Passive, Local, Compared, Done, Ref}
 use Rattle.protocol.specs.declared.event.RecordOf.TheVariants.{Search as OfSearch}
 use Rattle.cpu_words.specs.declared.view.InHand.{InHand}
 use Rattle.cpu_words.specs.declared.view.InHand.TheVariants.{Empty as NoEntry, Taking as TakingEntry, Giving as GivingEntry, Back as BackEntry, Trying as TryingEntry}
@@ -109,8 +109,11 @@ maker (TotalSub t) = the_keeper
 maker (Keep t id) = the_keeper
 maker (KeptSub t) = the_keeper
 maker (Vacate t) = the_keeper
-maker Count = the_keeper
-maker (Peek c w) = the_cpu c
+maker (Show t) = the_keeper
+maker (Hide t) = the_keeper
+maker (Recall c t) = the_cpu c
+maker (RecallHead c) = the_cpu c
+maker (Refind c t n) = the_cpu c
 maker (Try c t n) = the_cpu c
 maker (Confirm c) = the_cpu c
 maker (TakeBack c) = the_cpu c

@@ -1,7 +1,7 @@
 -- Publish and Unpublish by the keeper's seat: one store of a link each, which the keeper knows from the live numbers of its own view.
 use Rattle.std.specs.Prelude.{◌≡◌, ℕ, suc, ◌+◌, ◌<◌, ◌≤◌, true, false, List, length, replicate, slice_index_or, slice_set, Option, Some, None}
 use Rattle.cpu_words.specs.Types.{MOST_CPUS, MOST_SLOTS, Entry, Attach, Detach, Event, Publish, Unpublish, Slot, Vacant, Live, Retired, Rest, Snapshots}
-use Rattle.protocol.specs.Common.{after_change, row_at, count_at, total_at, kept_at, entry_of, keeps_rightly}
+use Rattle.protocol.specs.Common.{after_change, row_at, count_at, total_at, live_at, kept_at, entry_of, keeps_rightly}
 use Rattle.registry_values.specs.Common.{key_of, slot_at, is_taken, live_count, bias, no_mark}
 use Rattle.cpu_words.specs.declared.view.KeeperView.{KeeperView}
 use Rattle.cpu_words.specs.Spots.{head_word, next_of, index}
@@ -18,7 +18,7 @@ IsBefore slots n (Some q) = (f : Entry) × (slot_at slots q ≡ Live f) × (n < 
 
 -- Publish
 
--- all is stored in the vacant slot t that the entry e needs: its record, its counts, its total, its link to the newest live entry, and the driver that it keeps; and all changes are counted
+-- all is stored in the vacant slot t that the entry e needs: its record, its counts, its total, its link to the newest live entry, and the driver that it keeps
 pub record MayPublish (k : KeeperView) (t : ℕ) (e : Entry) : Type 0 where
   pub rest : k.due ≡ Rest
   pub slot : t < k.settings.slots
@@ -31,7 +31,6 @@ pub record MayPublish (k : KeeperView) (t : ℕ) (e : Entry) : Type 0 where
   pub counts : (c : ℕ) → c < k.settings.cpus → count_at k.counts c t ≡ bias
   pub total : total_at k.totals t ≡ bias
   pub keeps : keeps_rightly (kept_at k.keeps t) e.rec.kind ≡ true
-  pub counted : k.changes ≡ length k.history
 
 -- the head leads to the slot t, whose entry e is live, and the history ends with its attach
 abbrev pub HasPublished : KeeperView → ℕ → Entry → KeeperView → Type 0
@@ -54,14 +53,14 @@ abbrev pub IsLinkPlace : Option ℕ → Type 0
 IsLinkPlace None = Unit {0}
 IsLinkPlace (Some q) = q < MOST_SLOTS
 
--- the slot t is live, p is the slot before it, and the link v leads to what is below it; and all changes are counted
+-- the slot t is live, p is the slot before it, and the link v leads to what is below it; and its live word is 0
 pub record MayUnpublish (k : KeeperView) (t : ℕ) (p : Option ℕ) (v : ℕ) : Type 0 where
   pub rest : k.due ≡ Rest
   pub e : Entry
   pub live : slot_at k.slots t ≡ Live e
   pub before : IsBefore k.slots e.number p
   pub link : LeadsBelow k.slots e.number v
-  pub counted : k.changes ≡ length k.history
+  pub hidden : live_at k.lives t ≡ 0
 
 -- the head and the links, as the link v is stored where the slot before tells
 abbrev pub head_with : ℕ → Option ℕ → ℕ → ℕ

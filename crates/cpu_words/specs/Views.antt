@@ -4,18 +4,15 @@ use Rattle.std.specs.Prelude.{Option, Some, None}
 use Rattle.std.specs.List.{Contains, zip}
 use mathlib.Core.List.{IsPrefix}
 use Rattle.atomic_table.specs.Seated.{TableId}
-use Rattle.cpu_words.specs.Types.{Entry, Driver, Key, Change, Settings, MOST_CPUS, Slot, Vacant, Live, Retired, Mark, Hand, Empty, Taking, Giving, Back, Trying, Rest}
-use Rattle.protocol.specs.Common.{IsAttached, EndsAt, IsLawful, Leads, StandsOn, PlaceHolds, State, no_words, section_at, begin_at, depth_at, seen_at, search_at, found_at, hand_at, mark_at, passive_at, count_at, total_at, AreRows, IsIn, Occupies}
+use Rattle.cpu_words.specs.Types.{Entry, Driver, Change, Settings, MOST_CPUS, Slot, Vacant, Live, Retired, Mark, Hand, Empty, Taking, Giving, Back, Trying, Rest}
+use Rattle.protocol.specs.Common.{IsAttached, State, is_honest, live_at, no_words, section_at, begin_at, depth_at, seen_at, search_at, found_at, hand_at, mark_at, passive_at, count_at, total_at, AreRows, IsIn, Occupies}
 use Rattle.protocol.specs.Common.{subtraction_due_at, addition_due_at, is_adding_at}
-use Rattle.registry_values.specs.Common.{bias, key_of, no_mark, slot_at}
+use Rattle.registry_values.specs.Common.{bias, no_mark, slot_at}
 use Rattle.cpu_words.specs.declared.view.InHand.{InHand}
 use Rattle.cpu_words.specs.declared.view.InHand.TheVariants.{Empty as NoEntry, Taking as TakingEntry, Giving as GivingEntry, Back as BackEntry, Trying as TryingEntry}
 use Rattle.cpu_words.specs.declared.view.Looked.{Looked}
 use Rattle.cpu_words.specs.declared.view.LogItem.{LogItem}
 use Rattle.cpu_words.specs.declared.view.Teller.{Teller}
-use Rattle.cpu_words.specs.declared.view.PeekPlace.{PeekPlace}
-use Rattle.cpu_words.specs.declared.view.PeekPlace.TheVariants.{Goes, Finds, Misses}
-use Rattle.cpu_words.specs.declared.view.Peeking.{Peeking}
 use Rattle.cpu_words.specs.declared.view.CpuView.{CpuView}
 use Rattle.cpu_words.specs.declared.view.KeeperView.{KeeperView}
 use Rattle.cpu_words.specs.declared.view.ReferenceView.{ReferenceView}
@@ -70,7 +67,6 @@ without n (e ∷ es) = if is_to n e then es else e ∷ without n es
 -- What is each view's own: the core doesn't say it
 
 pub record CpuOwn : Type 0 where
-  pub peek : Option Peeking
   pub hand : InHand
   pub references : List Entry
   pub acquired : List ℕ
@@ -86,7 +82,7 @@ pub record KeeperOwn : Type 0 where
   pub noted_pass : List Change
 
 abbrev pub own_of : CpuView → CpuOwn
-own_of x = record { peek = x.peek; hand = x.hand; references = x.references; acquired = x.acquired; released = x.released; met = x.met; noted_pass = x.noted_pass }
+own_of x = record { hand = x.hand; references = x.references; acquired = x.acquired; released = x.released; met = x.met; noted_pass = x.noted_pass }
 
 abbrev pub keeper_own : KeeperView → KeeperOwn
 keeper_own k = record { counts = k.counts; given_up = k.given_up; looks = k.looks; last_look = k.last_look; noted_pass = k.noted_pass }
@@ -100,7 +96,6 @@ cpu_view g c own = record {
   begin = begin_at g c;
   pass = take (seen_at g c) g.history;
   search = search_at g c;
-  peek = own.peek;
   found = found_at g c;
   hand = own.hand;
   references = own.references;
@@ -123,7 +118,7 @@ keeper_view g own = record {
   next = g.next;
   rows = g.rows;
   totals = g.totals;
-  changes = g.changes;
+  lives = g.lives;
   counts = own.counts;
   given_up = own.given_up;
   looks = own.looks;
@@ -165,17 +160,6 @@ abbrev pub depth_of : Option ℕ → ℕ
 depth_of None = 0
 depth_of (Some b) = 1
 
--- what a lookup by loads alone has come to is right, of the history or the pass h, from its first `from` changes on
-abbrev pub PeekHolds : List Change → ℕ → Key → PeekPlace → Type 0
-PeekHolds h from key (Goes p) = PlaceHolds h from (length h) key p
-PeekHolds h from key (Finds e) = StandsOn h from (length h) e.slot e × (key_of e ≡ key)
-PeekHolds h from key Misses = IsLawful h from (length h) key None
-
--- it is right if all changes that it can have met are counted in the number that it began with, which is still the count
-abbrev pub PeekShows : List Change → ℕ → Option Peeking → Type 0
-PeekShows h changes None = Unit {0}
-PeekShows h changes (Some q) = (q.number ≤ changes) × (q.from ≤ length h) × (q.number ≡ changes → (q.number ≤ q.from) × PeekHolds h q.from q.key q.place)
-
 pub record CpuShown (g : State) (x : CpuView) : Type 0 where
   pub seated : x.id < g.seated
   pub is : x ≡ cpu_view g x.id (own_of x)
@@ -195,8 +179,6 @@ pub record CpuShown (g : State) (x : CpuView) : Type 0 where
   -- what it found and refers to is in its pass
   pub found : (e : Entry) → x.found ≡ Some e → IsAttached x.pass e
   pub references : (e : Entry) → Contains x.references e → IsAttached x.pass e
-  -- its lookup by loads alone is right of its pass, for each of its loads has seen the whole history
-  pub peek : PeekShows x.pass g.changes x.peek
   pub noted_pass : IsPrefix x.noted_pass g.history
 
 -- of one CPU: its net count where its word was collected
@@ -213,18 +195,9 @@ abbrev pub GivesUp : State → List ℕ → ℕ → ℕ → Type 0
 GivesUp g given_up t n = let row = zip (slice_index_or g.marks t []) (slice_index_or g.nets t []) in
     total_at g.totals t + addition_due_at t g.due + number_at given_up n + bias * sum_by collected_one row ≡ bias * (1 + is_adding_at t g.due) + sum_by collected_net row + subtraction_due_at t g.due
 
--- the entry e ended at p: its slot has it, with the link that it had then, and no CPU is clear there
-pub record StaysAt (h : List Change) (slots : List Slot) (marks : List (List Mark)) (next : List ℕ) (p : ℕ) (e : Entry) : Type 0 where
-  pub retired : slot_at slots e.slot ≡ Retired e
-  pub link : Leads h p e.number (slice_index_or next e.slot 0)
-  pub unclear : (c : ℕ) → (mark_at marks e.slot c).clear ≡ false
-
--- all changes are counted but the last at most; an entry whose end isn't counted stays, with its link; and each link leads to one of so many slots
-pub record ChangesShow (size : ℕ) (h : List Change) (slots : List Slot) (marks : List (List Mark)) (next : List ℕ) (changes : ℕ) : Type 0 where
-  pub within : changes ≤ length h
-  pub near : length h ≤ suc changes
-  pub uncounted : (p : ℕ) (e : Entry) → IsAttached h e → EndsAt h e.number p → changes < p → StaysAt h slots marks next p e
-  pub links : (t : ℕ) → slice_index_or next t 0 ≤ size
+-- each live word is 0, or the number of the slot's live entry
+abbrev pub LivesShow : List Slot → List ℕ → Type 0
+LivesShow slots lives = (t : ℕ) → is_honest (live_at lives t) (slot_at slots t) ≡ true
 
 pub record KeeperShown (g : State) (k : KeeperView) : Type 0 where
   pub is : k ≡ keeper_view g (keeper_own k)
@@ -237,7 +210,7 @@ pub record KeeperShown (g : State) (k : KeeperView) : Type 0 where
   pub gives_up : (t : ℕ) (e : Entry) → slot_at g.slots t ≡ Retired e → GivesUp g k.given_up t e.number
   pub later : (n : ℕ) → length g.history < n → number_at k.given_up n ≡ 0
   pub beyond : (c t : ℕ) → g.settings.cpus ≤ c → (mark_at g.marks t c).collected ≡ false
-  pub counted : ChangesShow g.settings.slots g.history g.slots g.marks g.next g.changes
+  pub honest : LivesShow g.slots g.lives
   pub noted_pass : IsPrefix k.noted_pass g.history
 
 pub record ReferenceShown (g : State) (v : ReferenceView) : Type 0 where
@@ -267,7 +240,7 @@ new_keeper z = record {
   next = replicate z.slots 0;
   rows = replicate z.slots no_words;
   totals = replicate z.slots bias;
-  changes = 0;
+  lives = replicate z.slots 0;
   counts = replicate z.slots (replicate MOST_CPUS 0);
   given_up = [];
   looks = 0;
@@ -286,7 +259,6 @@ new_cpu z c = record {
   begin = None;
   pass = [];
   search = None;
-  peek = None;
   found = None;
   hand = NoEntry;
   references = [];

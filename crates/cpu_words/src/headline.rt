@@ -4,7 +4,7 @@ ghost use Rattle.cpu_words.specs.Headline.{DrainedIsFree, FoundIsHeld, HeldHaveS
 ghost use Rattle.cpu_words.specs.Called.{CpuHearsLater, EndsOpenSections, KeeperHearsLater};
 ghost use Rattle.cpu_words.specs.Waiting.{WaitingEnds};
 ghost use Rattle.cpu_words.specs.Freed.{FreedByKeeper, FreedIsGone};
-ghost use Rattle.cpu_words.specs.Fresh.{LookupsAreFresh, WholeInTheList};
+ghost use Rattle.cpu_words.specs.Fresh.{HeadsAreNewest, LookupsAreFresh, RecallsAreLive, RefindsAreLive, WholeInTheList};
 ghost use Rattle.cpu_words.specs.Kept.{AttachedKeeps};
 ghost use Rattle.cpu_words.specs.Ordered.{OrderedInTime};
 ghost use Rattle.cpu_words.specs.Balance.{SeatsBalance};
@@ -14,7 +14,10 @@ ghost use Rattle.cpu_words.specs.Balance.{SeatsBalance};
 /// - `run`: some list of events leads to what the words and views show, and obeys the protocol's laws.
 /// - `held`: an entry that anything holds has its slot.
 /// - `fresh`: a search's result was the registry's between its Seek and its last load.
-/// - `whole`: Enter, Hear and a lookup by loads see the whole history.
+/// - `whole`: Enter, Hear, Recall, RecallHead, Refind and Confirm see the whole history.
+/// - `recalled`: an entry that a CPU recalled was live as its live word was loaded, by that load's place in the list.
+/// - `refound`: so was one that a CPU found again.
+/// - `newest`: the head that a CPU recalled led to the newest live entry as it was loaded, or there was none, by that load's place in the list.
 /// - `balance`: a slot's words, less biases, are its local references.
 /// - `grows`, `told`, `heard`: of two moments, what is done between them comes after all that was known at the first: what a seat does, what
 ///   the keeper does once it has heard a note of that seat, what a CPU knows once it has heard one.
@@ -31,6 +34,9 @@ pub fn running_headline()
     ensures ended { EndsOpenSections }
     ensures fresh { LookupsAreFresh }
     ensures whole { WholeInTheList }
+    ensures recalled { RecallsAreLive }
+    ensures refound { RefindsAreLive }
+    ensures newest { HeadsAreNewest }
     ensures waiting { WaitingEnds }
     ensures freed { FreedIsGone }
     ensures freed_by { FreedByKeeper }

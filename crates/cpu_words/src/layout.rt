@@ -7,9 +7,9 @@
 //! ROWS + ROW * c + PASSIVES + t      passive references of CPU c to slot t's entry     CPU c
 //! ROWS + ROW * c + COUNTS + t        count of CPU c for slot t                         CPU c, the keeper
 //! HEAD                               slot of the newest live entry plus 1, or 0        the keeper
-//! CHANGES                            how many changes are counted                      the keeper
 //! NEXTS + STRIDE * t                 slot of the next older entry plus 1, or 0         the keeper
 //! RECORDS + STRIDE * t + k           word k of the record in slot t                    the keeper
+//! LIVES + STRIDE * t                 number of slot t's live entry, or 0               the keeper
 //! TOTALS + t                         total of slot t                                   the keeper
 //! ```
 //!
@@ -17,7 +17,7 @@
 //! between these words stays 0 (`unused` of `Agrees`, specs/Rule.antt).
 
 ghost use Rattle.std.specs.Prelude.{◌≡◌, ◌<◌, ◌≤◌, ◌-◌};
-ghost use Rattle.cpu_words.specs.Spots.{section_of, passive_of, count_of, next_of, record_of, total_of, index, LinesApart, OnePlace, FirstWordsFree};
+ghost use Rattle.cpu_words.specs.Spots.{section_of, passive_of, count_of, next_of, record_of, live_of, total_of, index, LinesApart, OnePlace, FirstWordsFree};
 
 use registry_values::{MOST_CPUS, MOST_SLOTS};
 
@@ -40,16 +40,16 @@ const ROW: usize = COUNTS + MOST_SLOTS + 15;
 /// The head of the list: a line behind the rows, and a line before the links.
 pub(crate) const HEAD: usize = ROWS + ROW * MOST_CPUS + LINE;
 
-/// The count of changes, on the line of the head.
-pub(crate) const CHANGES: usize = HEAD + 1;
-
 /// The link of slot 0.
 const NEXTS: usize = HEAD + LINE;
 
 /// The first record word of slot 0.
 const RECORDS: usize = NEXTS + 1;
 
-/// From a slot's link and record to the next one's: 6 words, and 2 that no one writes.
+/// The live word of slot 0, on the line of its link and its record.
+const LIVES: usize = RECORDS + 5;
+
+/// From a slot's link, record and live word to the next one's: 7 words, and 1 that no one writes.
 const STRIDE: usize = LINE;
 
 /// The total of slot 0.
@@ -100,6 +100,13 @@ pub(crate) fn record_place(slot: usize, k: u8) -> usize
     ensures place { result ≡ index (record_of slot k) }
 {
     RECORDS + STRIDE * slot + k as usize
+}
+
+/// The place of a slot's live word.
+pub(crate) fn live_place(slot: u8) -> usize
+    ensures place { result ≡ index (live_of slot) }
+{
+    LIVES + STRIDE * slot as usize
 }
 
 /// The place of a slot's total.

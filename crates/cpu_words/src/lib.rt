@@ -20,7 +20,4 @@ pub use headline::{honest_marks, running_headline};
 pub use law::{Domain, RegistryRule, Words};
 pub use layout::layout_law;
 pub use seat::{CpuSeat, KeeperSeat, NoteSeat, ReferenceSeat};
-pub use view::{
-    CpuView, InHand, KeeperView, LogItem, Logged, Looked, PeekPlace, Peeking, ReferenceView,
-    Teller, View,
-};
+pub use view::{CpuView, InHand, KeeperView, LogItem, Logged, Looked, ReferenceView, Teller, View};

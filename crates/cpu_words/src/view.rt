@@ -1,8 +1,8 @@
 //! What the seats know. Contracts alone speak of these types: no value of them is ever made, so their lists take no memory and their
 //! counts have no last value.
 
-use protocol::{Due, Event, RecordWords, Reply, Search, SearchPlace};
-use registry_values::{Change, Entry, Key, Mark, Settings, Slot};
+use protocol::{Due, Event, RecordWords, Reply, Search};
+use registry_values::{Change, Entry, Mark, Settings, Slot};
 use std::collections::LinkedList;
 
 /// What is in a CPU's hand, by entry. The ids that the core gives its references are in no view.
@@ -14,8 +14,7 @@ pub enum InHand {
     Giving(Entry),
     /// The count word was found collected, so the reference gets its seat again.
     Back(Entry),
-    /// The CPU's passive word of this entry's slot was counted up, and it's no reference yet. The entry is what the CPU's lookup by loads made
-    /// of the words that it loaded: if a change was counted meanwhile, there need not be such an entry.
+    /// The CPU's passive word of this entry's slot was counted up, and it's no reference yet: the entry need not have its slot any more.
     Trying(Entry),
 }
 
@@ -86,8 +85,8 @@ pub struct KeeperView {
     pub rows: LinkedList<RecordWords>,
     /// By slot: its total, over the bias.
     pub totals: LinkedList<u64>,
-    /// How many changes it has counted: the word that tells the CPUs.
-    pub changes: u64,
+    /// By slot: its live word, the number of the slot's live entry or 0.
+    pub lives: LinkedList<u64>,
     /// The count words of vacant slots, as the keeper stored them; of an occupied slot this says nothing.
     pub counts: LinkedList<LinkedList<u64>>,
     /// By number: the local references given up under the interlock; one that is taken in counts before it is subtracted.
@@ -98,28 +97,6 @@ pub struct KeeperView {
     pub last_look: Option<Looked>,
     /// The pass of the note that was laid here last.
     pub noted_pass: LinkedList<Change>,
-}
-
-/// What a lookup by loads alone has come to.
-pub enum PeekPlace {
-    /// It is to load what a search loads at this place.
-    Goes(SearchPlace),
-    /// This entry has the kind and name.
-    Finds(Entry),
-    /// No entry has them.
-    Misses,
-}
-
-/// A lookup by loads alone, which needs no section. What it comes to is right if the count of changes is at its end what it was at its begin.
-pub struct Peeking {
-    /// What it seeks.
-    pub key: Key,
-    /// The count of changes that it loaded first.
-    pub number: u64,
-    /// How many changes there were then.
-    pub from: u64,
-    /// What it has come to.
-    pub place: PeekPlace,
 }
 
 /// What a CPU's seat knows: its words and its pass, and what it holds.
@@ -136,8 +113,6 @@ pub struct CpuView {
     pub pass: LinkedList<Change>,
     /// The lookup that it is in the middle of.
     pub search: Option<Search>,
-    /// The lookup by loads alone that it is in the middle of.
-    pub peek: Option<Peeking>,
     /// The entry that its last lookup in the open section found.
     pub found: Option<Entry>,
     /// The local reference that it is acquiring or releasing.

@@ -2,6 +2,7 @@
 use Rattle.std.proofs.Common.{◌≡◌, ℕ, ◌+◌, ◌<◌, ◌≤◌, nat_lt, Bool, true, false, List, set, Option, Some, None, refl, sym, ap, ◌∙◌, subst, arith}
 use Rattle.std.specs.Prelude.{if◌then◌else◌}
 use Rattle.std.proofs.lemmas.Bool.{ltb-true}
+use Rattle.passive_list.specs.declared.memory.Memory.{Memory}
 use Rattle.atomic_table.specs.Seated.{TableId}
 use Rattle.passive_list.specs.Types.{Entry, Attach, Settings, Refusal, LocalFull, NothingFound, CpuView, ReferenceView}
 use Rattle.registry_values.specs.Common.{why_uncounted, bias}
@@ -53,9 +54,9 @@ begun_of : (x : CpuView) (k : Found) → IsFoundAs x k → 0 < k.number
 begun_of x k kept = let begun = (at_within x.pass kept.entry.number (Attach kept.entry) kept.attached).0 in omega (arith, begun, kept.number)
 
 -- what its place says is its net count for that entry, which has its slot
-net_of_found : (z : TableId) (a : Settings) (t : TableId) (x : CpuView) (c w d : ℕ) (k : Found) (ps ns : List NumberedCount) (n : ℕ) (kept : IsFoundAs x k)
-    → IsOurCpu z a t x c w d k ps ns → n ≡ net_by (place_at ns k.slot) k.number → IsNetCount x kept.entry.number n
-net_of_found z a t x c w d k ps ns n kept our count =
+net_of_found : (z : TableId) (a : Settings) (t : TableId) (x : CpuView) (c w d : ℕ) (k : Found) (ps ns : List NumberedCount) (ms : Memory) (n : ℕ) (kept : IsFoundAs x k)
+    → IsOurCpu z a t x c w d k ps ns ms → n ≡ net_by (place_at ns k.slot) k.number → IsNetCount x kept.entry.number n
+net_of_found z a t x c w d k ps ns ms n kept our count =
     let e = kept.entry in
     let s = our.is_shown in
     let place : IsPlaceCount x e.slot e.number n =
@@ -63,18 +64,18 @@ net_of_found z a t x c w d k ps ns n kept our count =
     place_is s.g x e.slot e n s.shown (found_is_in x e s kept.found).1 place
 
 -- so the acquire is refused as that count is
-pub why_by_place : (z : TableId) (a : Settings) (t : TableId) (x : CpuView) (c w d : ℕ) (k : Found) (ps ns : List NumberedCount) (n limit : ℕ) (kept : IsFoundAs x k)
-    → IsOurCpu z a t x c w d k ps ns → n ≡ net_by (place_at ns k.slot) k.number → limit ≡ x.settings.count_limit → why_uncounted n (bias + limit) ≡ why_not_acquired_local x x.found
-why_by_place z a t x c w d k ps ns n limit kept our count is =
-    let net = net_of_found z a t x c w d k ps ns n kept our count in
+pub why_by_place : (z : TableId) (a : Settings) (t : TableId) (x : CpuView) (c w d : ℕ) (k : Found) (ps ns : List NumberedCount) (ms : Memory) (n limit : ℕ) (kept : IsFoundAs x k)
+    → IsOurCpu z a t x c w d k ps ns ms → n ≡ net_by (place_at ns k.slot) k.number → limit ≡ x.settings.count_limit → why_uncounted n (bias + limit) ≡ why_not_acquired_local x x.found
+why_by_place z a t x c w d k ps ns ms n limit kept our count is =
+    let net = net_of_found z a t x c w d k ps ns ms n kept our count in
     let e = kept.entry in
     uncounted_alike n (bias + limit) (number_at x.acquired e.number) (number_at x.released e.number + x.settings.count_limit) (λ lt. omega (arith, net, is, lt)) (λ ge. omega (arith, net, is, ge))
     ∙ sym (ap (why_not_acquired_local x) kept.found)
 
 -- and where it isn't, the CPU may count the entry
-pub may_count : (z : TableId) (a : Settings) (t : TableId) (x : CpuView) (c w d : ℕ) (k : Found) (ps ns : List NumberedCount)
-    → IsOurCpu z a t x c w d k ps ns → MayAcquire x k → MayCount x k.slot k.number
-may_count z a t x c w d k ps ns our may =
+pub may_count : (z : TableId) (a : Settings) (t : TableId) (x : CpuView) (c w d : ℕ) (k : Found) (ps ns : List NumberedCount) (ms : Memory)
+    → IsOurCpu z a t x c w d k ps ns ms → MayAcquire x k → MayCount x k.slot k.number
+may_count z a t x c w d k ps ns ms our may =
     let kept = may.kept in
     let n = net_by (place_at ns k.slot) k.number in
     record {
@@ -85,7 +86,7 @@ may_count z a t x c w d k ps ns our may =
       number = sym kept.number;
       count = n;
       place = place_count x ns k.slot k.number n our.net (begun_of x k kept) refl;
-      room = counted_room n (bias + x.settings.count_limit) (why_by_place z a t x c w d k ps ns n x.settings.count_limit kept our refl refl ∙ may.none);
+      room = counted_room n (bias + x.settings.count_limit) (why_by_place z a t x c w d k ps ns ms n x.settings.count_limit kept our refl refl ∙ may.none);
     }
 
 -- What the addition and the cut leave
@@ -113,25 +114,25 @@ acquired_of x y w v e found empty counted cut =
 counted_it : (x y : CpuView) (k : Found) (kept : IsFoundAs x k) → HasCounted x k.slot k.number y → HasCounted x kept.entry.slot kept.entry.number y
 counted_it x y k kept = subst (λ (p : ℕ × ℕ). HasCounted x p.0 p.1 y) (λ i. (kept.slot i, kept.number i))
 
-pub acquired_reference : (z : TableId) (a : Settings) (t : TableId) (x : CpuView) (c w d : ℕ) (k : Found) (ps ns : List NumberedCount) (y l : CpuView) (v : ReferenceView)
-    → IsOurCpu z a t x c w d k ps ns → IsFoundAs x k → HasCounted x k.slot k.number y → HasSplit y l v → IsOurReference v k.number k.slot k.kind
-acquired_reference z a t x c w d k ps ns y l v our kept counted cut =
+pub acquired_reference : (z : TableId) (a : Settings) (t : TableId) (x : CpuView) (c w d : ℕ) (k : Found) (ps ns : List NumberedCount) (ms : Memory) (y l : CpuView) (v : ReferenceView)
+    → IsOurCpu z a t x c w d k ps ns ms → IsFoundAs x k → HasCounted x k.slot k.number y → HasSplit y l v → IsOurReference v k.number k.slot k.kind
+acquired_reference z a t x c w d k ps ns ms y l v our kept counted cut =
     let left = acquired_of x y l v kept.entry kept.found our.idle.hand (counted_it x y k kept counted) cut in
     let there : IsOurReference (record { entry = kept.entry; collected = None }) k.number k.slot k.kind =
     record { number = sym kept.number; slot = sym kept.slot; kind = sym kept.kind; begun = begun_of x k kept; few = kept.few } in
     subst (λ (r : ReferenceView). IsOurReference r k.number k.slot k.kind) (sym left.is) there
 
-pub acquired_agrees : (z : TableId) (a : Settings) (t u : TableId) (x : CpuView) (c w d : ℕ) (k : Found) (ps ns : List NumberedCount) (y l : CpuView) (v : ReferenceView) (n : ℕ)
-    → IsOurCpu z a t x c w d k ps ns → IsShownCpu l → IsFoundAs x k → u ≡ t → HasCounted x k.slot k.number y → HasSplit y l v → IsNetCount x k.number n → n < bias + x.settings.count_limit
+pub acquired_agrees : (z : TableId) (a : Settings) (t u : TableId) (x : CpuView) (c w d : ℕ) (k : Found) (ps ns : List NumberedCount) (ms : Memory) (y l : CpuView) (v : ReferenceView) (n : ℕ)
+    → IsOurCpu z a t x c w d k ps ns ms → IsShownCpu l → IsFoundAs x k → u ≡ t → HasCounted x k.slot k.number y → HasSplit y l v → IsNetCount x k.number n → n < bias + x.settings.count_limit
     → IsMetAlone x k.slot k.number
-    → IsOurCpu z a u l c w d k ps (set ns k.slot (record { number = k.number; count = n + 1 }))
-acquired_agrees z a t u x c w d k ps ns y l v n our is_shown kept same counted cut net room alone =
+    → IsOurCpu z a u l c w d k ps (set ns k.slot (record { number = k.number; count = n + 1 })) ms
+acquired_agrees z a t u x c w d k ps ns ms y l v n our is_shown kept same counted cut net room alone =
     let left = acquired_of x y l v kept.entry kept.found our.idle.hand (counted_it x y k kept counted) cut in
     let view : l ≡ record x { acquired = one_more x.acquired k.number; met = with_number x.met k.slot k.number } =
     left.view ∙ (λ i. record x { acquired = one_more x.acquired (sym kept.number i); met = with_number x.met (sym kept.slot i) (sym kept.number i) }) in
     let one = one_more_same x.acquired k.number in
     let count : n + 1 + number_at x.released k.number ≡ bias + number_at (one_more x.acquired k.number) k.number = omega (arith, net, one) in
     let limit : x.settings.count_limit ≤ greatest_limit = subst (λ (b : Settings). b.count_limit ≤ greatest_limit) (sym our.settings) (ranges a our.fit).counts in
-    subst (λ (q : CpuView). IsOurCpu z a u q c w d k ps (set ns k.slot (record { number = k.number; count = n + 1 }))) (sym view)
-    (counted_agrees z a t u x c w d k ps ns (one_more x.acquired k.number) x.released k.slot k.number (n + 1) our (subst IsShownCpu view is_shown) same kept.few alone count
+    subst (λ (q : CpuView). IsOurCpu z a u q c w d k ps (set ns k.slot (record { number = k.number; count = n + 1 })) ms) (sym view)
+    (counted_agrees z a t u x c w d k ps ns ms (one_more x.acquired k.number) x.released k.slot k.number (n + 1) our (subst IsShownCpu view is_shown) same kept.few alone count
     (omega (arith, room, limit)) (λ m off. (one_more_other x.acquired k.number m off, refl)))

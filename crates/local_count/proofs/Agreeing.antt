@@ -3,6 +3,7 @@ use Rattle.std.proofs.Common.{◌≡◌, ◌≢◌, ℕ, ◌+◌, ◌<◌, ◌�
 use mathlib.Core.Logic.{dite}
 use native.Mathlib.Decide.{ℕ_discrete}
 use Rattle.std.proofs.lemmas.Bool.{eq-eqb, ne_eqb}
+use Rattle.passive_list.specs.declared.memory.Memory.{Memory}
 use Rattle.atomic_table.specs.Seated.{TableId}
 use Rattle.passive_list.specs.Types.{Settings, MOST_SLOTS, CpuView}
 use Rattle.protocol.specs.Common.{greatest_limit}
@@ -88,12 +89,12 @@ net_set x y l t n v agree lt alone met count most same = record { size = length-
 
 -- The data agree with the view after a count, up or down
 
-pub counted_agrees : (z : TableId) (a : Settings) (t u : TableId) (x : CpuView) (c w d : ℕ) (o : Found) (ps ns : List NumberedCount) (acquired released : List ℕ) (s n v : ℕ)
-    → IsOurCpu z a t x c w d o ps ns → IsShownCpu (record x { acquired = acquired; released = released; met = with_number x.met s n }) → u ≡ t → s < MOST_SLOTS → IsMetAlone x s n
+pub counted_agrees : (z : TableId) (a : Settings) (t u : TableId) (x : CpuView) (c w d : ℕ) (o : Found) (ps ns : List NumberedCount) (ms : Memory) (acquired released : List ℕ) (s n v : ℕ)
+    → IsOurCpu z a t x c w d o ps ns ms → IsShownCpu (record x { acquired = acquired; released = released; met = with_number x.met s n }) → u ≡ t → s < MOST_SLOTS → IsMetAlone x s n
     → v + number_at released n ≡ bias + number_at acquired n → v ≤ bias + greatest_limit
     → ((m : ℕ) → m ≢ n → (number_at acquired m ≡ number_at x.acquired m) × (number_at released m ≡ number_at x.released m))
-    → IsOurCpu z a u (record x { acquired = acquired; released = released; met = with_number x.met s n }) c w d o ps (set ns s (record { number = n; count = v }))
-counted_agrees z a t u x c w d o ps ns acquired released s n v our is_shown same lt alone count most others = record {
+    → IsOurCpu z a u (record x { acquired = acquired; released = released; met = with_number x.met s n }) c w d o ps (set ns s (record { number = n; count = v })) ms
+counted_agrees z a t u x c w d o ps ns ms acquired released s n v our is_shown same lt alone count most others = record {
   table = same ∙ our.table;
   settings = our.settings;
   fit = our.fit;
@@ -110,15 +111,16 @@ counted_agrees z a t u x c w d o ps ns acquired released s n v our is_shown same
     each = our.passive.each;
   };
   net = net_set x (record x { acquired = acquired; released = released; met = with_number x.met s n }) ns s n v our.net lt alone refl count most others;
+  memory = our.memory;
   is_shown = is_shown;
 }
 
 -- the seat's table and view are as they were
-pub same_agrees : (z : TableId) (a : Settings) (t u : TableId) (x y : CpuView) (c w d : ℕ) (o : Found) (ps ns : List NumberedCount) → IsOurCpu z a t x c w d o ps ns → u ≡ t → y ≡ x
-    → IsOurCpu z a u y c w d o ps ns
-same_agrees z a t u x y c w d o ps ns our same view = subst (λ (p : TableId × CpuView). IsOurCpu z a p.0 p.1 c w d o ps ns) (λ k. (sym same k, sym view k)) our
+pub same_agrees : (z : TableId) (a : Settings) (t u : TableId) (x y : CpuView) (c w d : ℕ) (o : Found) (ps ns : List NumberedCount) (ms : Memory) → IsOurCpu z a t x c w d o ps ns ms → u ≡ t → y ≡ x
+    → IsOurCpu z a u y c w d o ps ns ms
+same_agrees z a t u x y c w d o ps ns ms our same view = subst (λ (p : TableId × CpuView). IsOurCpu z a p.0 p.1 c w d o ps ns ms) (λ k. (sym same k, sym view k)) our
 
 -- a place that is told by an equation is this one
-pub stored_agrees : (z : TableId) (a : Settings) (t : TableId) (x : CpuView) (c w d : ℕ) (o : Found) (ps ns : List NumberedCount) (s : ℕ) (p q : NumberedCount) → q ≡ p
-    → IsOurCpu z a t x c w d o ps (set ns s p) → IsOurCpu z a t x c w d o ps (set ns s q)
-stored_agrees z a t x c w d o ps ns s p q is = subst (λ (r : NumberedCount). IsOurCpu z a t x c w d o ps (set ns s r)) (sym is)
+pub stored_agrees : (z : TableId) (a : Settings) (t : TableId) (x : CpuView) (c w d : ℕ) (o : Found) (ps ns : List NumberedCount) (ms : Memory) (s : ℕ) (p q : NumberedCount) → q ≡ p
+    → IsOurCpu z a t x c w d o ps (set ns s p) ms → IsOurCpu z a t x c w d o ps (set ns s q) ms
+stored_agrees z a t x c w d o ps ns ms s p q is = subst (λ (r : NumberedCount). IsOurCpu z a t x c w d o ps (set ns s r) ms) (sym is)

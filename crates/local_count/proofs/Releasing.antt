@@ -1,5 +1,6 @@
 -- A CPU releases a local reference: why it may, and what it leaves.
 use Rattle.std.proofs.Common.{◌≡◌, ℕ, ◌+◌, ◌-◌, ◌<◌, List, set, Some, refl, sym, ap, ◌∙◌, subst, arith}
+use Rattle.passive_list.specs.declared.memory.Memory.{Memory}
 use Rattle.atomic_table.specs.Seated.{TableId}
 use Rattle.passive_list.specs.Types.{Entry, Kind, Settings, CpuView, ReferenceView}
 use Rattle.registry_values.specs.Common.{bias}
@@ -18,19 +19,19 @@ pub released_of : (x y w : CpuView) (e : Entry) (s n : ℕ) → x.hand ≡ NoEnt
 released_of x y w e s n empty joined counted = counted.4 ∙ ap (λ (k : CpuView). record k { hand = NoEntry; released = one_more k.released n; met = with_number k.met s n }) joined
     ∙ (λ k. record x { hand = sym empty k; released = one_more x.released n; met = with_number x.met s n })
 
-pub released_agrees : (z : TableId) (a : Settings) (t u : TableId) (x : CpuView) (c w d : ℕ) (o : Found) (ps ns : List NumberedCount) (v : ReferenceView) (n s count : ℕ) (kind : Kind) (y k : CpuView)
-    → IsOurCpu z a t x c w d o ps ns → IsShownCpu k → IsOurReference v n s kind → u ≡ t → y ≡ with_hand x (GivingEntry v.entry) → HasCountedDown y s n k → 0 < count → count ≡ net_by (place_at ns s) n
+pub released_agrees : (z : TableId) (a : Settings) (t u : TableId) (x : CpuView) (c w d : ℕ) (o : Found) (ps ns : List NumberedCount) (ms : Memory) (v : ReferenceView) (n s count : ℕ) (kind : Kind) (y k : CpuView)
+    → IsOurCpu z a t x c w d o ps ns ms → IsShownCpu k → IsOurReference v n s kind → u ≡ t → y ≡ with_hand x (GivingEntry v.entry) → HasCountedDown y s n k → 0 < count → count ≡ net_by (place_at ns s) n
     → IsNetCount y n count → IsMetAlone y s n
-    → IsOurCpu z a u k c w d o ps (set ns s (record { number = n; count = count - 1 }))
-released_agrees z a t u x c w d o ps ns v n s count kind y k our is_shown its same joined counted floor is net alone =
+    → IsOurCpu z a u k c w d o ps (set ns s (record { number = n; count = count - 1 })) ms
+released_agrees z a t u x c w d o ps ns ms v n s count kind y k our is_shown its same joined counted floor is net alone =
     let was : count + number_at x.released n ≡ bias + number_at x.acquired n = subst (λ (q : CpuView). IsNetCount q n count) joined net in
     let here : IsMetAlone x s n = subst (λ (q : CpuView). IsMetAlone q s n) joined alone in
     let one = one_more_same x.released n in
     let after : count - 1 + number_at (one_more x.released n) n ≡ bias + number_at x.acquired n = omega (arith, was, one, floor) in
     let most = net_most x ns s n count our.net is in
     let view = released_of x y k v.entry s n our.idle.hand joined counted in
-    subst (λ (q : CpuView). IsOurCpu z a u q c w d o ps (set ns s (record { number = n; count = count - 1 }))) (sym view)
-    (counted_agrees z a t u x c w d o ps ns x.acquired (one_more x.released n) s n (count - 1) our (subst IsShownCpu view is_shown) same its.few here after (omega (arith, most))
+    subst (λ (q : CpuView). IsOurCpu z a u q c w d o ps (set ns s (record { number = n; count = count - 1 })) ms) (sym view)
+    (counted_agrees z a t u x c w d o ps ns ms x.acquired (one_more x.released n) s n (count - 1) our (subst IsShownCpu view is_shown) same its.few here after (omega (arith, most))
     (λ m off. (refl, one_more_other x.released n m off)))
 
 -- What a collected word leaves: the CPU as it was, and the reference again

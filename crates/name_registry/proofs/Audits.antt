@@ -1,4 +1,5 @@
 -- What the code of an audit makes, in any state of the views.
+use Rattle.passive_list.specs.declared.memory.Memory.{Memory}
 use Rattle.std.proofs.Common.{◌≡◌, ◌≢◌, inl, inr, ⊎_elim, ℕ, zero, suc, ◌+◌, ◌*◌, ◌<◌, ◌≤◌, ℤ, pos, ◌+ℤ◌, List, [], ◌∷◌, ◌++◌, length, get_or, map, take, cond, false, refl, sym, ap, ◌∙◌, subst, arith}
 use Rattle.std.proofs.Common.{add-one}
 use Rattle.std.specs.List.{All}
@@ -83,11 +84,11 @@ has a k rows n x t m our is there =
 -- Of one CPU
 
 -- what its place says of a number is its net count, where it met it there last
-pub net_is : (x : CpuView) (depth made : ℕ) (known_log log : List LogItem) (places : List NumberedCount) (t n w : ℕ) → NetAgree x places → 0 < n → w ≡ net_by (place_at places t) n
-    → less_bias w ≡ net_met t n (record { view = x; depth = depth; made = made; known_log = known_log; log = log })
-net_is x depth made known_log log places t n w agree begun is =
+pub net_is : (x : CpuView) (depth made : ℕ) (mm : Memory) (known_log log : List LogItem) (places : List NumberedCount) (t n w : ℕ) → NetAgree x places → 0 < n → w ≡ net_by (place_at places t) n
+    → less_bias w ≡ net_met t n (record { view = x; depth = depth; made = made; memory = mm; known_log = known_log; log = log })
+net_is x depth made mm known_log log places t n w agree begun is =
     let place = place_count x places t n w agree begun is in
-    let net = net_of n (record { view = x; depth = depth; made = made; known_log = known_log; log = log }) in
+    let net = net_of n (record { view = x; depth = depth; made = made; memory = mm; known_log = known_log; log = log }) in
     dite (ℕ_discrete (number_at x.met t) n)
     (λ (same : number_at x.met t ≡ n). omega (arith, ints, place.met same) ∙ sym (ap (λ b. cond b net (pos 0)) (eq-eqb (number_at x.met t) n same)))
     (λ (off : number_at x.met t ≢ n). omega (arith, ints, place.other off) ∙ sym (ap (λ b. cond b net (pos 0)) (ne_eqb (number_at x.met t) n off)))

@@ -68,10 +68,10 @@ detached_told a t e b has = record {
   is_before = has.is_before;
   link = has.link;
   leads = has.leads;
+  hidden = has.hidden;
   made = has.made;
   marks = has.marks;
   snapshots = has.snapshots;
-  counted = has.counted;
   view = has.view;
   slots = has.slots;
 }

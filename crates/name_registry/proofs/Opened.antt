@@ -6,7 +6,7 @@ use Rattle.atomic_table.specs.Seated.{TableId}
 use Rattle.atomic_table.proofs.Lists.{at_longer, at_last}
 use Rattle.name_registry.specs.Types.{Settings, CpuView}
 use Rattle.cpu_words.specs.Common.{AreSeats, Seated, new_cpu}
-use Rattle.passive_list.specs.Common.{OnCpu}
+use Rattle.passive_list.specs.Common.{OnCpu, no_memory}
 use Rattle.name_registry.specs.Common.{AreNewCpus}
 
 at_seam : {A : Type 0} (xs : List A) (a : A) (ys : List A) → get_elem? (xs ++ a ∷ ys) (length xs) ≡ some a
@@ -22,12 +22,12 @@ seat_after table z all before after s are is =
     let there = ap (λ (l : List (Seated CpuView)). get_elem? l n) is ∙ at_seam before s after in
     (long, some-injective _ _ (sym there ∙ are.each n long))
 
-pub more_cpus : (z : Settings) (n : ℕ) (xs : List OnCpu) (x : OnCpu) → AreNewCpus z n xs → x ≡ record { view = new_cpu z n; depth = 0; made = 0; known_log = []; log = [] }
+pub more_cpus : (z : Settings) (n : ℕ) (xs : List OnCpu) (x : OnCpu) → AreNewCpus z n xs → x ≡ record { view = new_cpu z n; depth = 0; made = 0; memory = no_memory; known_log = []; log = [] }
     → AreNewCpus z (n + 1) (xs ++ x ∷ [])
 more_cpus z n xs x are is =
     let size : length xs ≡ n = are.count in record {
       count = length-append xs (x ∷ []) ∙ ap (λ k. k + 1) size;
       each = below_more _ n
-          (λ c lt. at_longer xs (x ∷ []) c (record { view = new_cpu z c; depth = 0; made = 0; known_log = []; log = [] }) (are.each c lt))
+          (λ c lt. at_longer xs (x ∷ []) c (record { view = new_cpu z c; depth = 0; made = 0; memory = no_memory; known_log = []; log = [] }) (are.each c lt))
           (at_last xs x n size ∙ ap some is);
     }

@@ -10,6 +10,7 @@ pub mod Law
 pub mod Opening
 pub mod Advancing
 pub mod Locking
+pub mod LookingUp
 pub mod Performing
 pub mod Releasing
 pub mod Changes

@@ -6,7 +6,7 @@ use Rattle.atomic_table.specs.Seated.{TableId}
 use Rattle.name_registry.specs.Types.{Settings, MOST_CPUS, CpuView, KeeperView}
 use Rattle.registry_values.specs.Common.{are_fit}
 use Rattle.cpu_words.specs.Common.{Named, Seated, new_cpu, AreSeats, keeper_with}
-use Rattle.passive_list.specs.Common.{OnCpu}
+use Rattle.passive_list.specs.Common.{OnCpu, no_memory}
 
 -- the seats are those of a new table
 pub record IsBlank (w : Named) (k : Seated KeeperView) (xs : List (Seated CpuView)) : Type 0 where
@@ -28,4 +28,4 @@ IsBlankOf b table settings name parts = (b.table ≡ table) × (b.settings ≡ s
 -- the first n CPUs, CPU 0 first, all outside, and nothing was found, is held or was made
 pub record AreNewCpus (z : Settings) (n : ℕ) (xs : List OnCpu) : Type 0 where
   pub count : length xs ≡ n
-  pub each : (c : ℕ) → c < n → get_elem? xs c ≡ some (record { view = new_cpu z c; depth = 0; made = 0; known_log = []; log = [] })
+  pub each : (c : ℕ) → c < n → get_elem? xs c ≡ some (record { view = new_cpu z c; depth = 0; made = 0; memory = no_memory; known_log = []; log = [] })

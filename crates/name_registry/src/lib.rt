@@ -19,6 +19,7 @@ mod glancing;
 mod interlock;
 mod law;
 mod locked;
+mod looking_up;
 mod meeting;
 mod performing;
 mod registry;

@@ -9,4 +9,3 @@ pub mod Locals
 pub mod Making
 pub mod Passives
 pub mod Performing
-pub mod Tries

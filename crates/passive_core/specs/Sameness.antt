@@ -2,7 +2,7 @@
 use Rattle.std.specs.Prelude.{◌≡◌}
 use Rattle.protocol.specs.Common.{State}
 
--- the list, its slots, their marks, the history, and how much of it was counted
+-- the list, its slots, their marks, the history, and the live words
 pub record HaveSameSlots (s t : State) : Type 0 where
   pub head : s.head ≡ t.head
   pub next : s.next ≡ t.next
@@ -10,7 +10,7 @@ pub record HaveSameSlots (s t : State) : Type 0 where
   pub slots : s.slots ≡ t.slots
   pub marks : s.marks ≡ t.marks
   pub history : s.history ≡ t.history
-  pub changes : s.changes ≡ t.changes
+  pub lives : s.lives ≡ t.lives
 
 -- what counts references, and the local references
 pub record HaveSameCounts (s t : State) : Type 0 where

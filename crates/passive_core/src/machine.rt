@@ -6,8 +6,8 @@ mod grace;
 mod list;
 mod local;
 mod passive;
-mod peeks;
 mod reading;
+mod recalls;
 mod run;
 mod sameness;
 mod search;
@@ -45,7 +45,7 @@ pub struct Core {
     passive: Vec<[u64; MOST_CPUS]>,
     counts: Vec<[u64; MOST_CPUS]>,
     totals: Vec<u64>,
-    counted: u64,
+    lives: Vec<u64>,
     history: Vec<Change>,
     seated: u8,
     begins: Vec<Option<u64>>,
@@ -107,7 +107,7 @@ impl Core {
             passive: repeated(alloc, [0; MOST_CPUS], slots)?,
             counts: repeated(alloc, [0; MOST_CPUS], slots)?,
             totals: repeated(alloc, BIAS, slots)?,
-            counted: 0,
+            lives: repeated(alloc, 0, slots)?,
             history: Vec::new(alloc),
             seated: 0,
             begins: repeated(alloc, None, cpus)?,

@@ -4,6 +4,7 @@ use Rattle.std.proofs.lemmas.List.{append-nil}
 use Rattle.std.proofs.lemmas.Option.{none-some}
 use Rattle.std.specs.List.{Contains}
 use mathlib.Core.List.{IsPrefix}
+use Rattle.passive_list.specs.declared.memory.Memory.{Memory}
 use Rattle.atomic_table.specs.Seated.{TableId}
 use Rattle.passive_list.specs.Types.{Entry, Change, Attach, Settings, CpuView, Key, MOST_SLOTS, Search}
 use Rattle.registry_values.specs.Common.{are_fit, bias}
@@ -15,7 +16,8 @@ use Rattle.protocol.proofs.history.History.{at_within}
 use Rattle.cpu_words.specs.Common.{IsShownCpu, number_at, references_to, depth_of, new_cpu, HasEntered, HasExited}
 use Rattle.cpu_words.proofs.shown.CpusShown.{found_is_in, new_cpu_is_shown}
 use Rattle.cpu_words.proofs.shown.Passes.{attached_prefix}
-use Rattle.passive_list.specs.Common.{Found, NumberedCount, HasLookedUp, no_place, no_found, place_at, PassiveAgree, NetAgree, DepthAgrees, SectionAgrees, IsKept, HoldsFound, IsOurCpu}
+use Rattle.passive_list.proofs.Memories.{stays}
+use Rattle.passive_list.specs.Common.{Found, NumberedCount, HasLookedUp, no_place, no_found, place_at, PassiveAgree, NetAgree, DepthAgrees, SectionAgrees, IsKept, HoldsFound, IsOurCpu, Remembers}
 
 -- each place of a new CPU is of no entry
 blank_number : (t : ℕ) → (place_at (replicate MOST_SLOTS no_place) t).number ≡ 0
@@ -38,8 +40,8 @@ inside b = record { outside = (λ (q : Some b ≡ None). cc, λ (q : 1 ≡ 0). a
 
 -- a new CPU
 pub new_agrees : (z : TableId) (a : Settings) (t : TableId) (c : ℕ) → t ≡ z → IsTrue (are_fit a) → c < a.cpus
-    → IsOurCpu z a t (new_cpu a c) c 0 0 no_found (replicate MOST_SLOTS no_place) (replicate MOST_SLOTS no_place)
-new_agrees z a t c table fit lt = record {
+    → (ms : Memory) → Remembers a.slots [] ms → IsOurCpu z a t (new_cpu a c) c 0 0 no_found (replicate MOST_SLOTS no_place) (replicate MOST_SLOTS no_place) ms
+new_agrees z a t c table fit lt ms none = record {
   table = table;
   settings = refl;
   fit = fit;
@@ -51,6 +53,7 @@ new_agrees z a t c table fit lt = record {
   found = refl;
   passive = new_passive a c;
   net = new_net a c;
+  memory = none;
   is_shown = new_cpu_is_shown a fit c lt;
 }
 
@@ -75,15 +78,15 @@ net_same x y l met acquired released agree = record {
 }
 
 -- a section begins
-pub entered_agrees : (z : TableId) (a : Settings) (t u : TableId) (x y : CpuView) (c w d : ℕ) (e : Found) (ps ns : List NumberedCount)
-    → IsOurCpu z a t x c w d e ps ns → IsShownCpu y → u ≡ t → d ≡ 0 → w < a.section_limit → HasEntered x y → IsOurCpu z a u y c w 1 e ps ns
-entered_agrees z a t u x y c w d e ps ns our is_shown same shallow room had =
+pub entered_agrees : (z : TableId) (a : Settings) (t u : TableId) (x y : CpuView) (c w d : ℕ) (e : Found) (ps ns : List NumberedCount) (ms : Memory)
+    → IsOurCpu z a t x c w d e ps ns ms → IsShownCpu y → u ≡ t → d ≡ 0 → w < a.section_limit → HasEntered x y → IsOurCpu z a u y c w 1 e ps ns ms
+entered_agrees z a t u x y c w d e ps ns ms our is_shown same shallow room had =
     let p = y.pass in
     let longer : IsPrefix x.pass p = had.0 in
     let z0 : CpuView = record x { section = x.section + 1; begin = Some (length p); pass = p } in
     let none : depth_of x.begin ≡ 0 = ap depth_of (our.depth.outside.1 shallow) in
     let word : x.section ≡ 2 * w + depth_of x.begin = our.section.word in
-    let there : IsOurCpu z a u z0 c w 1 e ps ns = record {
+    let there : IsOurCpu z a u z0 c w 1 e ps ns ms = record {
       table = same ∙ our.table;
       settings = our.settings;
       fit = our.fit;
@@ -95,9 +98,10 @@ entered_agrees z a t u x y c w d e ps ns our is_shown same shallow room had =
       found = our.found;
       passive = passive_longer x z0 ps refl longer our.passive;
       net = net_same x z0 ns refl refl refl our.net;
+      memory = stays x.settings.slots x.pass p ms longer our.memory;
       is_shown = subst IsShownCpu had.1 is_shown;
     } in
-    subst (λ (v : CpuView). IsOurCpu z a u v c w 1 e ps ns) (sym had.1) there
+    subst (λ (v : CpuView). IsOurCpu z a u v c w 1 e ps ns ms) (sym had.1) there
 
 -- an open section
 opened : (b : Option ℕ) → b ≢ None → depth_of b ≡ 1
@@ -105,15 +109,15 @@ opened None some = absurd (some refl)
 opened (Some b) some = refl
 
 -- a section ends
-pub exited_agrees : (z : TableId) (a : Settings) (t u : TableId) (x y : CpuView) (c w d : ℕ) (e : Found) (ps ns : List NumberedCount)
-    → IsOurCpu z a t x c w d e ps ns → IsShownCpu y → u ≡ t → d ≡ 1 → HasExited x y → IsOurCpu z a u y c (w + 1) 0 (record e { number = 0 }) ps ns
-exited_agrees z a t u x y c w d e ps ns our is_shown same last had =
+pub exited_agrees : (z : TableId) (a : Settings) (t u : TableId) (x y : CpuView) (c w d : ℕ) (e : Found) (ps ns : List NumberedCount) (ms : Memory)
+    → IsOurCpu z a t x c w d e ps ns ms → IsShownCpu y → u ≡ t → d ≡ 1 → HasExited x y → IsOurCpu z a u y c (w + 1) 0 (record e { number = 0 }) ps ns ms
+exited_agrees z a t u x y c w d e ps ns ms our is_shown same last had =
     let some : x.begin ≢ None = λ q. absurd (let none : d ≡ 0 = our.depth.outside.0 q in omega arith) in
     let z0 : CpuView = record x { section = x.section + 1; begin = None; found = None } in
     let one : depth_of x.begin ≡ 1 = opened x.begin some in
     let word : x.section ≡ 2 * w + depth_of x.begin = our.section.word in
     let limit : w + depth_of x.begin ≤ a.section_limit = our.section.limit in
-    let there : IsOurCpu z a u z0 c (w + 1) 0 (record e { number = 0 }) ps ns = record {
+    let there : IsOurCpu z a u z0 c (w + 1) 0 (record e { number = 0 }) ps ns ms = record {
       table = same ∙ our.table;
       settings = our.settings;
       fit = our.fit;
@@ -125,17 +129,18 @@ exited_agrees z a t u x y c w d e ps ns our is_shown same last had =
       found = refl;
       passive = passive_longer x z0 ps refl (([], append-nil x.pass)) our.passive;
       net = net_same x z0 ns refl refl refl our.net;
+      memory = our.memory;
       is_shown = subst IsShownCpu had is_shown;
     } in
-    subst (λ (v : CpuView). IsOurCpu z a u v c (w + 1) 0 (record e { number = 0 }) ps ns) (sym had) there
+    subst (λ (v : CpuView). IsOurCpu z a u v c (w + 1) 0 (record e { number = 0 }) ps ns ms) (sym had) there
 
 -- the pass grows, another entry may be the last found one, and another note may lie beside the view
-pub seen_agrees : (z : TableId) (a : Settings) (t u : TableId) (x y : CpuView) (c w d : ℕ) (e k : Found) (f : Option Entry) (ps ns : List NumberedCount) (h : List Change)
-    → IsOurCpu z a t x c w d e ps ns → IsShownCpu y → u ≡ t → IsPrefix x.pass y.pass → y ≡ record x { pass = y.pass; found = f; noted_pass = h } → IsKept k f → IsOurCpu z a u y c w d k ps ns
-seen_agrees z a t u x y c w d e k f ps ns h our is_shown same longer is kept =
+pub seen_agrees : (z : TableId) (a : Settings) (t u : TableId) (x y : CpuView) (c w d : ℕ) (e k : Found) (f : Option Entry) (ps ns : List NumberedCount) (ms : Memory) (h : List Change)
+    → IsOurCpu z a t x c w d e ps ns ms → IsShownCpu y → u ≡ t → IsPrefix x.pass y.pass → y ≡ record x { pass = y.pass; found = f; noted_pass = h } → IsKept k f → IsOurCpu z a u y c w d k ps ns ms
+seen_agrees z a t u x y c w d e k f ps ns ms h our is_shown same longer is kept =
     let p = y.pass in
     let z0 : CpuView = record x { pass = p; found = f; noted_pass = h } in
-    let there : IsOurCpu z a u z0 c w d k ps ns = record {
+    let there : IsOurCpu z a u z0 c w d k ps ns ms = record {
       table = same ∙ our.table;
       settings = our.settings;
       fit = our.fit;
@@ -147,26 +152,27 @@ seen_agrees z a t u x y c w d e k f ps ns h our is_shown same longer is kept =
       found = kept;
       passive = passive_longer x z0 ps refl longer our.passive;
       net = net_same x z0 ns refl refl refl our.net;
+      memory = stays x.settings.slots x.pass p ms longer our.memory;
       is_shown = subst IsShownCpu is is_shown;
     } in
-    subst (λ (v : CpuView). IsOurCpu z a u v c w d k ps ns) (sym is) there
+    subst (λ (v : CpuView). IsOurCpu z a u v c w d k ps ns ms) (sym is) there
 
-pub noted_agrees : (z : TableId) (a : Settings) (t u : TableId) (x y : CpuView) (c w d : ℕ) (e : Found) (ps ns : List NumberedCount) (h : List Change)
-    → IsOurCpu z a t x c w d e ps ns → IsShownCpu y → u ≡ t → IsPrefix x.pass y.pass → y ≡ record x { pass = y.pass; noted_pass = h } → IsOurCpu z a u y c w d e ps ns
-noted_agrees z a t u x y c w d e ps ns h our is_shown same longer is = seen_agrees z a t u x y c w d e e x.found ps ns h our is_shown same longer is our.found
+pub noted_agrees : (z : TableId) (a : Settings) (t u : TableId) (x y : CpuView) (c w d : ℕ) (e : Found) (ps ns : List NumberedCount) (ms : Memory) (h : List Change)
+    → IsOurCpu z a t x c w d e ps ns ms → IsShownCpu y → u ≡ t → IsPrefix x.pass y.pass → y ≡ record x { pass = y.pass; noted_pass = h } → IsOurCpu z a u y c w d e ps ns ms
+noted_agrees z a t u x y c w d e ps ns ms h our is_shown same longer is = seen_agrees z a t u x y c w d e e x.found ps ns ms h our is_shown same longer is our.found
 
 -- a lookup is over
-pub looked_up_agrees : (z : TableId) (a : Settings) (t u : TableId) (x y : CpuView) (c w d : ℕ) (e k : Found) (f : Option Entry) (ps ns : List NumberedCount) (key : Key)
-    → IsOurCpu z a t x c w d e ps ns → IsShownCpu y → u ≡ t → IsKept k f → HasLookedUp key x y f → IsOurCpu z a u y c w d k ps ns
-looked_up_agrees z a t u x y c w d e k f ps ns key our is_shown same kept had =
+pub looked_up_agrees : (z : TableId) (a : Settings) (t u : TableId) (x y : CpuView) (c w d : ℕ) (e k : Found) (f : Option Entry) (ps ns : List NumberedCount) (ms : Memory) (key : Key)
+    → IsOurCpu z a t x c w d e ps ns ms → IsShownCpu y → u ≡ t → IsKept k f → HasLookedUp key x y f → IsOurCpu z a u y c w d k ps ns ms
+looked_up_agrees z a t u x y c w d e k f ps ns ms key our is_shown same kept had =
     let p = y.pass in
     let is : y ≡ record x { pass = p; found = f } = had.is ∙ ap (λ (s : Option Search). record x { pass = p; search = s; found = f }) (sym our.idle.search) in
-    seen_agrees z a t u x y c w d e k f ps ns x.noted_pass our is_shown same had.pass is kept
+    seen_agrees z a t u x y c w d e k f ps ns ms x.noted_pass our is_shown same had.pass is kept
 
 -- the data of a CPU agree with its view by the table and the settings that its own seat has
-pub own_agrees : (z : TableId) (a : Settings) (t : TableId) (x : CpuView) (c w d : ℕ) (e : Found) (ps ns : List NumberedCount) → IsOurCpu z a t x c w d e ps ns
-    → IsOurCpu t x.settings t x c w d e ps ns
-own_agrees z a t x c w d e ps ns our = record {
+pub own_agrees : (z : TableId) (a : Settings) (t : TableId) (x : CpuView) (c w d : ℕ) (e : Found) (ps ns : List NumberedCount) (ms : Memory) → IsOurCpu z a t x c w d e ps ns ms
+    → IsOurCpu t x.settings t x c w d e ps ns ms
+own_agrees z a t x c w d e ps ns ms our = record {
   table = refl;
   settings = refl;
   fit = subst (λ (s : Settings). IsTrue (are_fit s)) (sym our.settings) our.fit;
@@ -178,6 +184,26 @@ own_agrees z a t x c w d e ps ns our = record {
   found = our.found;
   passive = our.passive;
   net = our.net;
+  memory = our.memory;
+  is_shown = our.is_shown;
+}
+
+-- other entries of the pass are remembered
+pub memory_agrees : (z : TableId) (a : Settings) (t : TableId) (x : CpuView) (c w d : ℕ) (e : Found) (ps ns : List NumberedCount) (ms m : Memory) → IsOurCpu z a t x c w d e ps ns ms
+    → Remembers x.settings.slots x.pass m → IsOurCpu z a t x c w d e ps ns m
+memory_agrees z a t x c w d e ps ns ms m our kept = record {
+  table = our.table;
+  settings = our.settings;
+  fit = our.fit;
+  id = our.id;
+  few = our.few;
+  section = our.section;
+  idle = our.idle;
+  depth = our.depth;
+  found = our.found;
+  passive = our.passive;
+  net = our.net;
+  memory = kept;
   is_shown = our.is_shown;
 }
 

@@ -15,7 +15,7 @@ use Rattle.registry_values.proofs.Fit.{ranges}
 use Rattle.protocol.proofs.history.History.{length-after_change}
 use Rattle.protocol.proofs.keeps.ListKeeps.{live_count_set, rows_put}
 use Rattle.protocol.proofs.slots.Occupied.{in_within}
-use Rattle.cpu_words.specs.Common.{IsAttachedKeeping, LeadsBelow, MayPublish, HasPublished, To_end, To_slot, IsShown, MayWrite, keeper_after_counting, log_item}
+use Rattle.cpu_words.specs.Common.{IsAttachedKeeping, LeadsBelow, MayPublish, HasPublished, To_end, To_slot, IsShown, MayWrite, keeper_after_live, log_item}
 use Rattle.passive_list.specs.Common.{KeptSlot, OnPlainKeeper, on_keeper, row_at, states_of, IsAtRest, RowsAgree, IsOurKeeper, keeper_after_stores, keeper_after_publish, MayAttach}
 use Rattle.passive_list.proofs.Rows.{state_at, live_in, row_stays, rows_set}
 use Rattle.passive_list.proofs.Preparing.{biases_size, bias_stored}
@@ -137,7 +137,6 @@ may_publish a k rows e v asked link =
       counts = λ c cpu. bias_stored k.counts t k.settings.cpus c (get_or k.counts t []) (omega (arith, lt, count_size)) cpu;
       total = sym had.total ∙ had.unused (sym (state_at rows t) ∙ asked.vacant);
       keeps = asked.keeps;
-      counted = at.counted;
     }
 
 -- what publishing leaves, in one view
@@ -157,7 +156,7 @@ published_is k l m e v at told may =
 abbrev pub row_live : KeptSlot → Entry → KeptSlot
 row_live r e = record { state = Live e; marks = r.marks; total = r.total; keeps = r.keeps }
 
-published_at_rest : (a : Settings) (k : KeeperView) (rows : List KeptSlot) (e : Entry) (v : ℕ) → MayAttach a k rows e → IsAtRest a (keeper_after_counting (keeper_after_publish k e v))
+published_at_rest : (a : Settings) (k : KeeperView) (rows : List KeptSlot) (e : Entry) (v : ℕ) → MayAttach a k rows e → IsAtRest a (keeper_after_live (keeper_after_publish k e v) e.slot e.number)
 published_at_rest a k rows e v asked =
     let at = asked.at in
     let t = e.slot in
@@ -190,17 +189,16 @@ published_at_rest a k rows e v asked =
           let long = length-after_change k.history (Attach e) in
           let room = asked.room in
           omega (arith, more, count, long, room);
-      counted = refl;
     }
 
 -- what the keeper has agrees with what it publishes, after any step that brought its seat to the view k
-pub published_keeper : (a : Settings) (k l : KeeperView) (rows : List KeptSlot) (n : ℕ) (e : Entry) (v : ℕ) → n ≡ length k.history → MayAttach a k rows e → l ≡ keeper_after_counting (keeper_after_publish k e v) → IsShown l
+pub published_keeper : (a : Settings) (k l : KeeperView) (rows : List KeptSlot) (n : ℕ) (e : Entry) (v : ℕ) → n ≡ length k.history → MayAttach a k rows e → l ≡ keeper_after_live (keeper_after_publish k e v) e.slot e.number → IsShown l
     → IsOurKeeper a l (set rows e.slot (row_live (row_at rows e.slot) e)) (n + 1)
 published_keeper a k l rows n e v was asked change is_shown =
     let at = asked.at in
     let t = e.slot in
     let lt = asked.slot in
-    let p = keeper_after_counting (keeper_after_publish k e v) in
+    let p = keeper_after_live (keeper_after_publish k e v) e.slot e.number in
     let most = (ranges a at.fit).slots in
     let size = at.sized.slots in
     let had = asked.agree.each t lt in

@@ -42,7 +42,6 @@ with_total_at_rest a k t marks total given_up at size = record {
     count_rows = at.sized.count_rows;
   };
   room = at.room;
-  counted = at.counted;
 }
 
 pub with_total_rows : (a : Settings) (k : KeeperView) (rows : List KeptSlot) (t : ℕ) (marks : List Mark) (total : ℕ) (given_up : List ℕ) → IsAtRest a k → RowsAgree a k rows

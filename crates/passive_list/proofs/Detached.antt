@@ -1,12 +1,13 @@
 -- An entry is retired: the keeper may unlink it, and what it has agrees with what its seat knows then.
-use Rattle.std.proofs.Common.{◌≡◌, ℕ, ◌+◌, ◌<◌, List, [], length, set, replicate, Option, Some, None, refl, sym, ap, ◌∙◌, subst, arith, get_or-set_same, get_or-set_other, length-set}
+use Rattle.std.proofs.Common.{◌≡◌, ℕ, zero, suc, ◌+◌, ◌<◌, List, [], ◌∷◌, length, set, replicate, Option, Some, None, refl, sym, ap, ◌∙◌, subst, arith, get_or-set_same, get_or-set_other, length-set}
 use Rattle.passive_list.specs.Types.{Detach, Entry, Settings, Mark, Slot, Vacant, Live, Retired, MOST_CPUS, KeeperView}
 use Rattle.registry_values.specs.Common.{live_count, slot_at, no_mark}
+use Rattle.protocol.specs.Common.{live_at}
 use Rattle.protocol.proofs.slots.Cells.{slot_here, slot_other}
 use Rattle.registry_values.proofs.Fit.{ranges}
 use Rattle.protocol.proofs.history.History.{length-after_change}
 use Rattle.protocol.proofs.keeps.ListKeeps.{live_count_put, rows_put}
-use Rattle.cpu_words.specs.Common.{LeadsBelow, IsBefore, MayUnpublish, HasUnpublished, keeper_after_unpublish, keeper_after_counting, links_with, IsShown}
+use Rattle.cpu_words.specs.Common.{LeadsBelow, IsBefore, MayUnpublish, HasUnpublished, keeper_after_live, keeper_after_unpublish, links_with, IsShown}
 use Rattle.passive_list.specs.Common.{KeptSlot, row_at, states_of, IsAtRest, RowsAgree, IsOurKeeper, with_snapshots}
 use Rattle.passive_list.proofs.Rows.{state_at, live_in, row_stays, rows_set}
 use Rattle.passive_list.proofs.Attached.{LiveIn, rows_live, live_rows, leads_on}
@@ -22,22 +23,19 @@ pub leads_in : (a : Settings) (k : KeeperView) (rows : List KeptSlot) (n v : ℕ
 leads_in a k rows n v at agree was = leads_on (states_of rows) k.slots n v (rows_live a k rows agree) (live_rows a k rows at agree) was
 
 pub may_unpublish : (a : Settings) (k : KeeperView) (rows : List KeptSlot) (t : ℕ) (e : Entry) (p : Option ℕ) (v : ℕ) → IsAtRest a k → RowsAgree a k rows → (row_at rows t).state ≡ Live e
-    → IsBefore (states_of rows) e.number p → LeadsBelow (states_of rows) e.number v → MayUnpublish k t p v
-may_unpublish a k rows t e p v at agree is before link = record {
+    → IsBefore (states_of rows) e.number p → LeadsBelow (states_of rows) e.number v → live_at k.lives t ≡ 0 → MayUnpublish k t p v
+may_unpublish a k rows t e p v at agree is before link hidden = record {
   rest = at.rest;
   e = e;
   live = (live_in a k rows t e agree (state_at rows t ∙ is)).1;
   before = before_in a k rows e.number p at agree before;
   link = leads_in a k rows e.number v at agree link;
-  counted = at.counted;
+  hidden = hidden;
 }
 
--- what retiring leaves, in one view, before the changes are counted and after
+-- what retiring leaves, in one view
 abbrev pub snapped : KeeperView → ℕ → Entry → Option ℕ → ℕ → List Mark → KeeperView
 snapped k t e p v marks = with_snapshots (keeper_after_unpublish k t e p v) t marks
-
-abbrev pub detached : KeeperView → ℕ → Entry → Option ℕ → ℕ → List Mark → KeeperView
-detached k t e p v marks = keeper_after_counting (snapped k t e p v marks)
 
 pub unpublished_is : (k l : KeeperView) (t : ℕ) (e : Entry) (p : Option ℕ) (v : ℕ) → slot_at k.slots t ≡ Live e → HasUnpublished k t p v l → l ≡ keeper_after_unpublish k t e p v
 unpublished_is k l t e p v live told = told.2 ∙ ap (λ (x : Entry). keeper_after_unpublish k t x p v) (one told.0 e (sym told.1 ∙ live))
@@ -49,24 +47,51 @@ pub snapped_is : (k l m : KeeperView) (t : ℕ) (e : Entry) (p : Option ℕ) (v 
     → m ≡ snapped k t e p v marks
 snapped_is k l m t e p v marks live told taken = taken ∙ ap (λ (x : KeeperView). with_snapshots x t marks) (unpublished_is k l t e p v live told)
 
-pub detached_is : (k l m n : KeeperView) (t : ℕ) (e : Entry) (p : Option ℕ) (v : ℕ) (marks : List Mark) → slot_at k.slots t ≡ Live e → HasUnpublished k t p v l → m ≡ with_snapshots l t marks
-    → n ≡ keeper_after_counting m → n ≡ detached k t e p v marks
-detached_is k l m n t e p v marks live told taken counted = counted ∙ ap keeper_after_counting (snapped_is k l m t e p v marks live told taken)
+-- its live word is stored
 
--- the changes that are to be counted
-pub snapped_changes : (k l m : KeeperView) (c t : ℕ) (e : Entry) (p : Option ℕ) (v : ℕ) (marks : List Mark) → c ≡ length k.history → slot_at k.slots t ≡ Live e → HasUnpublished k t p v l
-    → m ≡ with_snapshots l t marks → c + 1 ≡ length m.history
-snapped_changes k l m c t e p v marks was live told taken =
-    let more = length-after_change k.history (Detach e.number) in
-    let now = ap (λ (x : KeeperView). length x.history) (snapped_is k l m t e p v marks live told taken) in
-    omega (arith, was, more, now)
+pub zero_stored : (lives : List ℕ) (t : ℕ) → live_at (set lives t 0) t ≡ 0
+zero_stored [] t = refl
+zero_stored (x ∷ xs) zero = refl
+zero_stored (x ∷ xs) (suc t) = zero_stored xs t
+
+stored_at_rest : (a : Settings) (k : KeeperView) (t v : ℕ) → IsAtRest a k → IsAtRest a (keeper_after_live k t v)
+stored_at_rest a k t v at = record {
+  settings = at.settings;
+  fit = at.fit;
+  rest = at.rest;
+  seated = at.seated;
+  sized = record {
+    slots = at.sized.slots;
+    marks = at.sized.marks;
+    mark_rows = at.sized.mark_rows;
+    keeps = at.sized.keeps;
+    next = at.sized.next;
+    rows = at.sized.rows;
+    totals = at.sized.totals;
+    counts = at.sized.counts;
+    count_rows = at.sized.count_rows;
+  };
+  room = at.room;
+}
+
+pub stored_keeper : (a : Settings) (k l : KeeperView) (rows : List KeptSlot) (n t v : ℕ) → IsOurKeeper a k rows n → l ≡ keeper_after_live k t v → IsShown l → IsOurKeeper a l rows n
+stored_keeper a k l rows n t v our change is_shown = record {
+  view = subst (IsAtRest a) (sym change) (stored_at_rest a k t v our.view);
+  is_shown = is_shown;
+  changes = our.changes ∙ sym (ap (λ (x : KeeperView). length x.history) change);
+  rows = subst (λ (x : KeeperView). RowsAgree a x rows) (sym change) (record {
+    size = our.rows.size;
+    each = λ u lt. let was = our.rows.each u lt in record { state = was.state; marks = was.marks; total = was.total; keeps = was.keeps; unused = was.unused };
+    beyond = our.rows.beyond;
+  });
+}
 
 links_size : (next : List ℕ) (p : Option ℕ) (v : ℕ) → length (links_with next p v) ≡ length next
 links_size next None v = refl
 links_size next (Some q) v = length-set next q v
 
 detached_at_rest : (a : Settings) (k : KeeperView) (t : ℕ) (e : Entry) (p : Option ℕ) (v : ℕ) (marks : List Mark) → IsAtRest a k → t < a.slots → slot_at k.slots t ≡ Live e → length marks ≡ MOST_CPUS
-    → IsAtRest a (detached k t e p v marks)
+    → IsAtRest a (snapped k t e p v marks)
 detached_at_rest a k t e p v marks at lt live size =
     let fresh = replicate MOST_CPUS no_mark in
     record {
@@ -91,7 +116,6 @@ detached_at_rest a k t e p v marks at lt live size =
           let long = length-after_change k.history (Detach e.number) in
           let room = at.room in
           omega (arith, less, long, room);
-      counted = refl;
     }
 
 abbrev pub row_retired : KeptSlot → Entry → List Mark → KeptSlot
@@ -99,12 +123,12 @@ row_retired r e marks = record { state = Retired e; marks = marks; total = r.tot
 
 pub detached_keeper : (a : Settings) (k l : KeeperView) (rows : List KeptSlot) (n t : ℕ) (e : Entry) (p : Option ℕ) (v : ℕ) (marks : List Mark) → IsOurKeeper a k rows n
     → (row_at rows t).state ≡ Live e → length marks ≡ MOST_CPUS
-    → l ≡ detached k t e p v marks → IsShown l → IsOurKeeper a l (set rows t (row_retired (row_at rows t) e marks)) (n + 1)
+    → l ≡ snapped k t e p v marks → IsShown l → IsOurKeeper a l (set rows t (row_retired (row_at rows t) e marks)) (n + 1)
 detached_keeper a k l rows n t e p v marks our is marks_size change is_shown =
     let at = our.view in
     let live = live_in a k rows t e our.rows (state_at rows t ∙ is) in
     let lt = live.0 in
-    let d = detached k t e p v marks in
+    let d = snapped k t e p v marks in
     let fresh = replicate MOST_CPUS no_mark in
     let most = (ranges a at.fit).slots in
     let size = at.sized.slots in

@@ -160,7 +160,6 @@ freed_at_rest a k t d u e at lt retired = record {
       let same : live_count (set k.slots t Vacant) + 0 ≡ live_count k.slots + 0 = live_count_put k.slots t (Retired e) Vacant (omega (arith, lt, size)) retired in
       let room = at.room in
       omega (arith, same, room);
-  counted = at.counted;
 }
 
 abbrev pub row_freed : KeptSlot → KeptSlot

@@ -366,14 +366,15 @@ gone_over x y es at = record {
 }
 
 -- to a contract
-pub walked : (a b : OnCpu) (row : List Entry) → a.view.search ≡ None → HasGoneOver a.view b.view row → b.depth ≡ a.depth → b.made ≡ a.made → b.known_log ≡ a.known_log
+pub walked : (a b : OnCpu) (row : List Entry) → a.view.search ≡ None → HasGoneOver a.view b.view row → b.depth ≡ a.depth → b.made ≡ a.made → b.memory ≡ a.memory → b.known_log ≡ a.known_log
     → HasGoneOverBy a.view.id a.view.settings.slots (length row) a.log b.log → HasWalked a b row
-walked a b row idle had depth made known_log log = record {
+walked a b row idle had depth made memory known_log log = record {
   pass = had.pass;
   is = λ i. record {
     view = (had.is ∙ ap (λ (s : Option Search). record a.view { pass = b.view.pass; search = s; found = None }) (sym idle)) i;
     depth = depth i;
     made = made i;
+    memory = memory i;
     known_log = known_log i;
     log = b.log;
   };

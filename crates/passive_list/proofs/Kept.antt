@@ -28,7 +28,6 @@ keeping_at_rest a k t v at = record {
     count_rows = at.sized.count_rows;
   };
   room = at.room;
-  counted = at.counted;
 }
 
 abbrev pub row_keeping : KeptSlot → ℕ → KeptSlot

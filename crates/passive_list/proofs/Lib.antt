@@ -1,4 +1,7 @@
+pub mod Memories
+pub mod ByMemory
 pub mod Agreeing
+pub mod Recalls
 pub mod Walking
 pub mod Searches
 pub mod Rows
@@ -20,4 +23,4 @@ pub mod Subtracting
 pub mod Freed
 pub mod GivenUp
 pub mod Kept
-pub mod ByLoads
+pub mod Sharing

@@ -48,7 +48,6 @@ marked_at_rest a k ev r t c m at = record {
     count_rows = at.sized.count_rows;
   };
   room = at.room;
-  counted = at.counted;
 }
 
 marked_rows : (a : Settings) (k : KeeperView) (rows : List KeptSlot) (ev : Event) (r : Reply) (t c : ℕ) (m : Mark) (e : Entry) → IsAtRest a k → RowsAgree a k rows
@@ -134,7 +133,6 @@ vacated_at_rest a k t e at lt retired = record {
       let same : live_count (set k.slots t Vacant) + 0 ≡ live_count k.slots + 0 = live_count_put k.slots t (Retired e) Vacant (omega (arith, lt, size)) retired in
       let room = at.room in
       omega (arith, same, room);
-  counted = at.counted;
 }
 
 pub vacated_keeper : {log : List LogItem} (a : Settings) (k l : KeeperView) (rows : List KeptSlot) (n t : ℕ) → IsOurKeeper a k rows n

@@ -34,7 +34,6 @@ new_at_rest a fit = record {
     count_rows = let none : ℕ = 0 in rows_all a.slots (replicate MOST_CPUS none) refl;
   };
   room = let none = none_live a.slots in omega (arith, none);
-  counted = refl;
 }
 
 abbrev pub first_row : KeptSlot

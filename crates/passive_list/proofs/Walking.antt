@@ -2,7 +2,7 @@
 use Rattle.std.proofs.Common.{◌≡◌, ◌≢◌, ℕ, zero, suc, ◌-◌, ◌<◌, Bool, true, false, List, ◌++◌, length, Option, Some, None, IfSome, refl, sym, ap, ◌∙◌, subst, arith, append_assoc}
 use Rattle.registry_values.specs.Common.{are_words_of}
 use mathlib.Core.List.{IsPrefix}
-use Rattle.passive_list.specs.Types.{Entry, Change, Key, MOST_SLOTS, SearchPlace, AtNext, AtNumber, AtKind, AtHigh, AtLow, AtValue, On, CpuView}
+use Rattle.passive_list.specs.Types.{Entry, Change, Key, Settings, MOST_SLOTS, SearchPlace, AtNext, AtNumber, AtKind, AtHigh, AtLow, AtValue, On, CpuView}
 use Rattle.protocol.specs.Common.{IsAttached, IsLawful, StandsOn, loaded_at, loaded_of_name, entry_with}
 use Rattle.cpu_words.specs.Common.{MayLoadLink, MayLoadSearched, IsAtWord, every_word, cpu_after_record_word, HasLoadedLink, HasLoadedWord, HasFollowed, PassTells}
 use Rattle.passive_list.specs.Common.{Seen, entry_seen, search_at, IsUnderWay, cpu_with_search_at, after_visit, HasVisitedFrom, HasVisited, HasTaken, HasMissed, IsOn, IsAtLink, HasLookedUp}
@@ -162,11 +162,16 @@ found key x y z w t n value last on had last_word =
       lawful = subst (λ (p : List Change). IsLawful p (length x.pass) (length p) key (Some e)) (sym to_z) f.lawful;
       seen = λ g (q : Some e ≡ Some g).
           let same : e ≡ g = cc in
-          subst (λ (i : Entry). (i.slot < MOST_SLOTS) × IsAttached w.pass i) same (on.slot.1, subst (λ (p : List Change). IsAttached p e) (sym to_z) f.attached);
+          subst (λ (i : Entry). (i.slot < x.settings.slots) × (i.slot < MOST_SLOTS) × IsAttached w.pass i) same (on.slot.0, on.slot.1, subst (λ (p : List Change). IsAttached p e) (sym to_z) f.attached);
       tells = subst (λ (p : List Change). PassTells x.begin (length x.pass) p) (sym (to_z ∙ to_y)) on.tells;
     }
 
 -- the slot of what a search found
+pub slots_seen : (key : Key) (x y : CpuView) (s : Option Seen) (z : Settings) → HasLookedUp key x y (entry_seen key s) → x.settings ≡ z → IfSome s (λ (r : Seen). (r.slot < MOST_SLOTS) × (r.slot < z.slots))
+slots_seen key x y None z had same = tt
+slots_seen key x y (Some r) z had same =
+    let e = had.seen (entry_with key r.slot r.number r.value) refl in (e.1, subst (λ (i : Settings). r.slot < i.slots) same e.0)
+
 pub slot_seen : (key : Key) (x y : CpuView) (s : Option Seen) → HasLookedUp key x y (entry_seen key s) → IfSome s (λ (r : Seen). r.slot < MOST_SLOTS)
 slot_seen key x y None had = tt
-slot_seen key x y (Some r) had = (had.seen (entry_with key r.slot r.number r.value) refl).0
+slot_seen key x y (Some r) had = (had.seen (entry_with key r.slot r.number r.value) refl).1

@@ -4,8 +4,6 @@ pub use Rattle.passive_list.specs.declared.links.At.{At}
 pub use Rattle.passive_list.specs.declared.lookup.Seen.{Seen}
 pub use Rattle.passive_list.specs.declared.place.Found.{Found}
 pub use Rattle.passive_list.specs.declared.place.NumberedCount.{NumberedCount}
-pub use Rattle.passive_list.specs.ByLoads.{AnswersByLoads, ComesTo, GoesBy, HasBegunByLoads, HasComeTo, HasEndedByLoads, HasFoundByLoads, HasGoneByLoads, HasLookedByLoads, HasReachedByLoads, HasVisitedByLoads, IsAtEntry, IsPeek, IsPeekingAt, IsPeekingLink}
-pub use Rattle.passive_list.specs.ByLoads.{LoadsBetweenCounts, LoadsFromCount, begun_peek}
 pub use Rattle.passive_list.specs.Cpus.{DepthAgrees, HoldsFound, IsKept, IsOurCpu, IsPlaceOf, NetAgree, OnCpu, OnPlainCpu, PassiveAgree, SectionAgrees, no_found, no_place, place_at}
 pub use Rattle.passive_list.specs.Draining.{AreHeld, HasAttachedKeeping, HasCollectedInto, HasFreed, HasGivenUp, keeper_after_collect, kept_slot}
 pub use Rattle.passive_list.specs.GoingOver.{AreStoodOn, GoesOnAt, HasGoneByFrom, HasGoneByOne, HasGoneOver, IsGoingOver, IsLiveSince, MayGoBy, view_at_link}
@@ -15,6 +13,9 @@ pub use Rattle.passive_list.specs.Logs.{GoesOnBy, HasOwnLog}
 pub use Rattle.passive_list.specs.Lookups.{HasFound, HasFoundFromOutside}
 pub use Rattle.passive_list.specs.Notes.{HasHeardOn, HeardAndTold, WasShown, as_teller, cpu_after_tell, has_heard, has_told}
 pub use Rattle.passive_list.specs.Publishing.{HasAttached, HasEntry, MayAttach, keeper_after_publish, keeper_after_stores, with_counts, with_row}
+pub use Rattle.passive_list.specs.Memories.{HasCleared, HasForgotten, IsOfRow, IsRow, KeepsOthers, Recalls, RecallsAt, Remembers, entry_of, hint_of, hinted, memo_at, memo_of, no_memo, no_memory, with_seen}
+pub use Rattle.passive_list.specs.Recalling.{HasRecalledHeadOn, HasRecalledOn, HasRefoundAs, HasRefoundOn}
+pub use Rattle.passive_list.specs.Remembering.{FindsBy, FindsInsideBy, FindsWhatStays, HasFoundAnew, HasFoundByMemory, HasFoundInside, HasFoundKept, HasFoundRemembered, HasRecalledAs, HasRecalledInVain, HasSeen, RecallsSeen, RefindsSeen, RemembersAnswer}
 pub use Rattle.passive_list.specs.Retiring.{AreFresh, AreSnapshots, HasDetached, with_snapshots}
 pub use Rattle.passive_list.specs.Searches.{GoesOnByLoads, GoesOnBySoMany, HasGoneOverBy, HasSearchedFor, HasWalkedBy, IsLoad, IsWalkLoad, SearchesOnce, nobody}
 pub use Rattle.passive_list.specs.Sections.{AnswersEnter, HasEnteredOn, HasExitedOn, may_begin}

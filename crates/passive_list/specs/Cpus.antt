@@ -6,15 +6,18 @@ use Rattle.passive_list.specs.Types.{Entry, Change, Driver, Settings, MOST_CPUS,
 use Rattle.registry_values.specs.Common.{are_fit, bias, slot_at}
 use Rattle.protocol.specs.Common.{IsAttached, IsIn, greatest_limit}
 use Rattle.cpu_words.specs.Common.{Named, number_at, references_to, depth_of, SectionMayHold, IsShownCpu, IsIdle}
+use Rattle.passive_list.specs.declared.memory.Memory.{Memory}
 use Rattle.passive_list.specs.declared.place.Found.{Found}
 use Rattle.passive_list.specs.declared.place.NumberedCount.{NumberedCount}
+use Rattle.passive_list.specs.Memories.{Remembers}
 
 -- a CPU, to a contract: what its seat knows, the depth of its section, the sum of its calls' changes in the ledger, what it has heard of
--- the keeper's log, and all that its seat did
+-- the keeper's log, all that its seat did, and the entries that it remembers
 pub record OnCpu : Type 0 where
   pub view : CpuView
   pub depth : ℕ
   pub made : ℕ
+  pub memory : Memory
   pub known_log : List LogItem
   pub log : List LogItem
 
@@ -75,7 +78,7 @@ pub record HoldsFound (x : CpuView) : Type 0 where
   pub slot : (e : Entry) → x.found ≡ Some e → IsIn e (slot_at is_shown.g.slots e.slot)
 
 -- the fields of a CPU of D's table: its seat's table and view, its number, ended sections and depth, the last found entry, and its places; some state shows the view
-pub record IsOurCpu (z : TableId) (a : Settings) (t : TableId) (x : CpuView) (c ended deep : ℕ) (last : Found) (references nets : List NumberedCount) : Type 0 where
+pub record IsOurCpu (z : TableId) (a : Settings) (t : TableId) (x : CpuView) (c ended deep : ℕ) (last : Found) (references nets : List NumberedCount) (kept : Memory) : Type 0 where
   pub table : t ≡ z
   pub settings : x.settings ≡ a
   pub fit : IsTrue (are_fit a)
@@ -87,4 +90,5 @@ pub record IsOurCpu (z : TableId) (a : Settings) (t : TableId) (x : CpuView) (c 
   pub found : IsKept last x.found
   pub passive : PassiveAgree x references
   pub net : NetAgree x nets
+  pub memory : Remembers x.settings.slots x.pass kept
   pub is_shown : IsShownCpu x

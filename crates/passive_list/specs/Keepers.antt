@@ -55,7 +55,7 @@ pub record AreSized (n : ℕ) (k : KeeperView) : Type 0 where
   pub counts : length k.counts ≡ n
   pub count_rows : AreRows k.counts
 
--- of the view alone: it is at rest, its history has room for the detach of each live entry, and all changes are counted
+-- of the view alone: it is at rest, and its history has room for the detach of each live entry
 pub record IsAtRest (a : Settings) (k : KeeperView) : Type 0 where
   pub settings : k.settings ≡ a
   pub fit : IsTrue (are_fit a)
@@ -63,7 +63,6 @@ pub record IsAtRest (a : Settings) (k : KeeperView) : Type 0 where
   pub seated : k.seated ≡ a.cpus
   pub sized : AreSized a.slots k
   pub room : length k.history + live_count k.slots ≤ a.change_limit
-  pub counted : k.changes ≡ length k.history
 
 -- of the rows: each says what the view says of its slot
 pub record RowsAgree (a : Settings) (k : KeeperView) (rows : List KeptSlot) : Type 0 where

@@ -1,5 +1,7 @@
 pub mod Common
+pub mod Memories
 pub mod Cpus
+pub mod Remembering
 pub mod Sections
 pub mod Lookups
 pub mod Notes
@@ -14,5 +16,5 @@ pub mod Logs
 pub mod Walks
 pub mod GoingOver
 pub mod Searches
-pub mod ByLoads
+pub mod Recalling
 pub mod Draining

@@ -1,9 +1,9 @@
 -- An entry is published: what changes of the keeper.
 use Rattle.std.specs.Prelude.{◌≡◌, ℕ, suc, ◌+◌, ◌<◌, ◌≤◌, List, [], length, slice_index_or, slice_set, IsTrue, false}
-use Rattle.passive_list.specs.Types.{Entry, Attach, Publish, Count, Done, Settings, RecordWords, Vacant, Live, KeeperView, Keeper}
+use Rattle.passive_list.specs.Types.{Entry, Attach, Publish, Show, Done, Settings, RecordWords, Vacant, Live, KeeperView, Keeper}
 use Rattle.protocol.specs.Common.{with_biases, kept_at, keeps_rightly, words_of, after_change}
 use Rattle.registry_values.specs.Common.{key_of, is_taken, live_count, slot_at, is_lawful}
-use Rattle.cpu_words.specs.Common.{LeadsBelow, Makes, keeper_after_counting}
+use Rattle.cpu_words.specs.Common.{LeadsBelow, Makes, keeper_after_live}
 use Rattle.passive_list.specs.declared.keeper.KeptSlot.{KeptSlot}
 use Rattle.passive_list.specs.Keepers.{OnKeeper, IsAtRest, RowsAgree, states_of}
 
@@ -44,13 +44,13 @@ pub record MayAttach (a : Settings) (k : KeeperView) (rows : List KeptSlot) (e :
   pub room : length k.history + live_count (states_of rows) + 2 ≤ a.change_limit
   pub number : e.number ≡ suc (length k.history)
 
--- exactly that, if the link leads to the newest live entry there was: all words were stored, then the event made, and then the changes counted
+-- exactly that, if the link leads to the newest live entry there was: all words were stored, then the event made, and then the entry shown
 pub record HasEntry (k : KeeperView) (e : Entry) (l : KeeperView) : Type 0 where
   pub link : ℕ
   pub leads : LeadsBelow k.slots e.number link
   pub made : Makes (Publish e.slot) Done (Keeper (keeper_after_stores k e link)) (Keeper (keeper_after_publish k e link))
-  pub counted : Makes Count Done (Keeper (keeper_after_publish k e link)) (Keeper l)
-  pub view : l ≡ keeper_after_counting (keeper_after_publish k e link)
+  pub shown : Makes (Show e.slot) Done (Keeper (keeper_after_publish k e link)) (Keeper l)
+  pub view : l ≡ keeper_after_live (keeper_after_publish k e link) e.slot e.number
 
 pub record HasAttached (a : OnKeeper) (e : Entry) (b : OnKeeper) : Type 0 where
   pub entry : HasEntry a.view e b.view

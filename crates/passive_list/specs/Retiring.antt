@@ -1,9 +1,9 @@
 -- An entry is retired: what changes of the keeper.
 use Rattle.std.specs.Prelude.{◌≡◌, ℕ, ◌<◌, List, [], length, replicate, slice_index_or, slice_set, Option}
-use Rattle.passive_list.specs.Types.{Entry, Unpublish, Count, Done, Mark, Retired, Rest, MOST_CPUS, KeeperView, Keeper}
+use Rattle.passive_list.specs.Types.{Entry, Hide, Unpublish, Done, Mark, Retired, Rest, MOST_CPUS, KeeperView, Keeper}
 use Rattle.protocol.specs.Common.{snapshot_mark}
 use Rattle.registry_values.specs.Common.{no_mark}
-use Rattle.cpu_words.specs.Common.{LeadsBelow, IsBefore, keeper_after_unpublish, keeper_after_counting, Makes}
+use Rattle.cpu_words.specs.Common.{LeadsBelow, IsBefore, keeper_after_unpublish, keeper_after_live, Makes}
 use Rattle.passive_list.specs.Keepers.{OnKeeper}
 
 -- the slot's marks are none, and it has a place for them
@@ -20,15 +20,15 @@ pub record AreSnapshots (n : ℕ) (marks : List Mark) : Type 0 where
 abbrev pub with_snapshots : KeeperView → ℕ → List Mark → KeeperView
 with_snapshots k t marks = record k { marks = slice_set k.marks t marks; due = Rest }
 
--- the entry e of the slot t is unlinked and retired, its marks are the snapshots that were taken, and then the changes are counted
+-- the entry e of the slot t is hidden, then unlinked and retired, and its marks are the snapshots that were taken
 pub record HasDetached (a : OnKeeper) (t : ℕ) (e : Entry) (b : OnKeeper) : Type 0 where
   pub before : Option ℕ
   pub is_before : IsBefore a.view.slots e.number before
   pub link : ℕ
   pub leads : LeadsBelow a.view.slots e.number link
-  pub made : Makes (Unpublish t) Done (Keeper a.view) (Keeper (keeper_after_unpublish a.view t e before link))
+  pub hidden : Makes (Hide t) Done (Keeper a.view) (Keeper (keeper_after_live a.view t 0))
+  pub made : Makes (Unpublish t) Done (Keeper (keeper_after_live a.view t 0)) (Keeper (keeper_after_unpublish (keeper_after_live a.view t 0) t e before link))
   pub marks : List Mark
   pub snapshots : AreSnapshots a.view.settings.cpus marks
-  pub counted : Makes Count Done (Keeper (with_snapshots (keeper_after_unpublish a.view t e before link) t marks)) (Keeper b.view)
-  pub view : b.view ≡ keeper_after_counting (with_snapshots (keeper_after_unpublish a.view t e before link) t marks)
+  pub view : b.view ≡ with_snapshots (keeper_after_unpublish (keeper_after_live a.view t 0) t e before link) t marks
   pub slots : b.slots ≡ slice_set a.slots t (Retired e)

@@ -16,10 +16,8 @@ pub use Rattle.registry_values.specs.declared.slot.Slot.{Slot}
 pub use Rattle.registry_values.specs.declared.slot.Slot.TheVariants.{Live, Retired, Vacant}
 pub use Rattle.protocol.specs.declared.event.Event.{Event}
 pub use Rattle.protocol.specs.declared.event.Event.TheVariants.{Collect, CountAdd, CountDown, Enter, Exit, Hear, JoinKeeper, JoinRef, Keep, KeptSub, LoadLink, LoadRecord, Look, PassiveAdd}
-pub use Rattle.protocol.specs.declared.event.Event.TheVariants.{PassiveLook, PassiveSub, Publish, Seek, Snapshot, SplitBack, SplitRef, Tell, TotalAdd, TotalSub, Unpublish, Confirm, Count, Peek, TakeBack, Try, Vacate}
+pub use Rattle.protocol.specs.declared.event.Event.TheVariants.{PassiveLook, PassiveSub, Publish, Seek, Snapshot, SplitBack, SplitRef, Tell, TotalAdd, TotalSub, Unpublish, Confirm, Hide, Recall, RecallHead, Refind, Show, TakeBack, Try, Vacate}
 pub use Rattle.protocol.specs.declared.event.RecordOf.TheVariants.{Compared, Passive}
-pub use Rattle.protocol.specs.declared.event.SharedWord.{SharedWord}
-pub use Rattle.protocol.specs.declared.event.SharedWord.TheVariants.{Changes, Field, Head, Link}
 pub use Rattle.protocol.specs.declared.event.Reply.{Reply}
 pub use Rattle.protocol.specs.declared.event.Reply.TheVariants.{Collected, Done, Found, Missed, Ref, Word}
 pub use Rattle.protocol.specs.declared.state.Due.{Due}
@@ -28,13 +26,10 @@ pub use Rattle.protocol.specs.declared.state.Loaded.TheVariants.{On}
 pub use Rattle.protocol.specs.declared.state.RecordWords.{RecordWords}
 pub use Rattle.protocol.specs.declared.state.Search.{Search}
 pub use Rattle.protocol.specs.declared.state.SearchPlace.{SearchPlace}
-pub use Rattle.protocol.specs.declared.state.SearchPlace.TheVariants.{AtHead, AtHigh, AtKind, AtLow, AtNext, AtNumber, AtValue}
+pub use Rattle.protocol.specs.declared.state.SearchPlace.TheVariants.{AtHigh, AtKind, AtLow, AtNext, AtNumber, AtValue}
 pub use Rattle.cpu_words.specs.declared.view.CpuView.{CpuView}
 pub use Rattle.cpu_words.specs.declared.view.KeeperView.{KeeperView}
 pub use Rattle.cpu_words.specs.declared.view.LogItem.{LogItem}
-pub use Rattle.cpu_words.specs.declared.view.PeekPlace.{PeekPlace}
-pub use Rattle.cpu_words.specs.declared.view.PeekPlace.TheVariants.{Finds, Goes, Misses}
-pub use Rattle.cpu_words.specs.declared.view.Peeking.{Peeking}
 pub use Rattle.cpu_words.specs.declared.view.ReferenceView.{ReferenceView}
 pub use Rattle.cpu_words.specs.declared.view.Teller.{Teller}
 pub use Rattle.cpu_words.specs.declared.view.View.TheVariants.{Cpu, Keeper, Reference}

@@ -75,5 +75,5 @@ pub record HasLookedUp (key : Key) (x y : CpuView) (answer : Option Entry) : Typ
   pub pass : IsPrefix x.pass y.pass
   pub is : y ≡ record x { pass = y.pass; search = None; found = answer }
   pub lawful : IsLawful y.pass (length x.pass) (length y.pass) key answer
-  pub seen : (e : Entry) → answer ≡ Some e → (e.slot < MOST_SLOTS) × IsAttached y.pass e
+  pub seen : (e : Entry) → answer ≡ Some e → (e.slot < x.settings.slots) × (e.slot < MOST_SLOTS) × IsAttached y.pass e
   pub tells : PassTells x.begin (length x.pass) y.pass

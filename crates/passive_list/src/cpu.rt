@@ -3,6 +3,7 @@
 ghost use Rattle.std.specs.Prelude.{◌≡◌, ◌≢◌, ◌↔◌, ◌<◌, IsTrue, None};
 ghost use Rattle.cpu_words.specs.Common.{new_cpu};
 ghost use Rattle.passive_list.specs.Cpus.{HoldsFound};
+ghost use Rattle.passive_list.specs.Memories.{no_memory};
 ghost use Rattle.registry_values.specs.Common.{are_fit};
 
 use crate::plain_cpu::PlainCpu;
@@ -45,7 +46,7 @@ impl<D: Domain> Cpu<D> {
         requires table { (seat.table ≡ D.table) × IsTrue (are_fit D.settings) × (id < D.settings.cpus) }
         requires new { seat.view ≡ new_cpu D.settings id }
         requires part { share.parts ≡ 1 }
-        ensures { result ≡ record { view = new_cpu D.settings id; depth = 0; made = share.amount; known_log = seat.known_log; log = seat.log } }
+        ensures { result ≡ record { view = new_cpu D.settings id; depth = 0; made = share.amount; memory = no_memory; known_log = seat.known_log; log = seat.log } }
     {
         Cpu {
             plain: PlainCpu::of_seat(seat, id),

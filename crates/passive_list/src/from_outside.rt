@@ -22,7 +22,7 @@ pub fn find_from_outside(words: &Words, cpu: &mut PlainCpu, kind: Kind, name: Na
     requires outside { cpu.old.cpu.depth ≡ 0 }
     requires room { IsTrue (may_begin cpu.old.cpu.view) }
     ensures found { HasFoundFromOutside (key_with kind name) cpu.old.cpu cpu.new.cpu (entry_seen (key_with kind name) result) }
-    ensures slot { IfSome result (λ seen. seen.slot < MOST_SLOTS) }
+    ensures slot { IfSome result (λ seen. (seen.slot < MOST_SLOTS) × (seen.slot < cpu.old.words.settings.slots)) }
     ensures words { cpu.new.words ≡ cpu.old.words }
 {
     steps::enter(words, &mut cpu.seat, cpu.id);

@@ -8,7 +8,6 @@
 //! collections into totals, references given up, interfaces and the drivers that they keep.
 #![tactic(auto)]
 
-mod by_loads;
 mod collecting;
 mod cpu;
 mod freeing;
@@ -22,17 +21,19 @@ mod links;
 mod looking;
 mod lookup;
 mod marked;
+mod memory;
 mod notes;
 mod place;
 mod plain_cpu;
 mod publishing;
+mod recalling;
+mod remembering;
 mod retiring;
 mod sections;
 mod shown;
 mod vacating;
 mod walks;
 
-pub use by_loads::{begin_by_loads, end_by_loads, find_by_loads};
 pub use collecting::{collect, collected, total};
 pub use cpu::Cpu;
 pub use freeing::free_iface;
@@ -44,10 +45,13 @@ pub use keeper_notes::{hear_keeper, tell_keeper};
 pub use keeping::publish_keeping;
 pub use looking::look_passive;
 pub use lookup::{Seen, find, find_on};
+pub use memory::{Memo, Memory};
 pub use notes::{Note, hear, hear_on, tell, tell_on};
 pub use place::{Found, NumberedCount};
 pub use plain_cpu::PlainCpu;
 pub use publishing::publish;
+pub use recalling::{recall_head_on, recall_on, refind_on};
+pub use remembering::{find_by_memory, find_inside, find_inside_on, find_remembered, remembered};
 pub use retiring::retire;
 pub use sections::{enter, enter_on, exit, exit_on, may_begin_on};
 pub use vacating::vacate;

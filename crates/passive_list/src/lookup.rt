@@ -41,8 +41,22 @@ pub fn find_on(words: &Words, cpu: &mut PlainCpu, kind: Kind, name: &Name) -> Op
     ensures words { cpu.new.words ≡ cpu.old.words }
 {
     let name = *name;
+    let seen = find_seen(words, cpu, kind, name);
+    entry_of(seen, kind, name)
+}
+
+/// `find_on`, which returns the words of the entry. Conditions: the words are the CPU's table's; inside.
+#[inline(always)]
+pub fn find_seen(words: &Words, cpu: &mut PlainCpu, kind: Kind, name: Name) -> Option<Seen>
+    requires words { AreWordsOf words.now cpu.old.words.table cpu.old.words.settings }
+    requires inside { cpu.old.cpu.view.begin ≢ None }
+    ensures found { HasFound (key_with kind name) cpu.old.cpu cpu.new.cpu (entry_seen (key_with kind name) result) }
+    ensures slot { IfSome result (λ seen. (seen.slot < MOST_SLOTS) × (seen.slot < cpu.old.words.settings.slots)) }
+    ensures words { cpu.new.words ≡ cpu.old.words }
+{
     let seen = look_up(words, &mut cpu.seat, cpu.id, kind, name);
-    keep(&mut cpu.found, seen, kind, name)
+    keep(&mut cpu.found, seen, kind, name);
+    seen
 }
 
 /// The words of an entry that a search found.
@@ -56,20 +70,30 @@ pub struct Seen {
     pub value: u64,
 }
 
-/// Keeps what a search found, and returns it. The entry is put together here, once and from words: it has bytes between its fields, and
-/// handing it on from call to call takes longer than the search.
-fn keep(found: &mut Found, seen: Option<Seen>, kind: Kind, name: Name) -> Option<Entry>
+/// Keeps what a search found as the last found entry.
+pub(crate) fn keep(found: &mut Found, seen: Option<Seen>, kind: Kind, name: Name)
     requires slot { IfSome seen (λ s. s.slot < MOST_SLOTS) }
-    ensures kept { IsKept found.new result }
-    ensures entry { result ≡ entry_seen (key_with kind name) seen }
+    ensures { IsKept found.new (entry_seen (key_with kind name) seen) }
 {
+    // The contract alone speaks of the name.
+    let _name = name;
     let Some(seen) = seen else {
         found.number = 0;
-        return None;
+        return;
     };
     found.number = seen.number;
     found.slot = seen.slot as u8;
     found.kind = kind;
+}
+
+/// The entry of these words. It is put together here, once: it has bytes between its fields, and handing it on from call to call takes longer
+/// than a search.
+#[inline(always)]
+pub fn entry_of(seen: Option<Seen>, kind: Kind, name: Name) -> Option<Entry>
+    requires slot { IfSome seen (λ s. s.slot < MOST_SLOTS) }
+    ensures { result ≡ entry_seen (key_with kind name) seen }
+{
+    let seen = seen?;
     let rec = Record {
         kind,
         name,

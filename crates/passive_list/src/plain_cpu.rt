@@ -4,7 +4,9 @@ ghost use Rattle.std.specs.Prelude.{◌≡◌, ◌≢◌, ◌↔◌, ◌<◌, Is
 ghost use Rattle.registry_values.specs.Common.{are_fit};
 ghost use Rattle.cpu_words.specs.Common.{new_cpu};
 ghost use Rattle.passive_list.specs.Cpus.{HoldsFound};
+ghost use Rattle.passive_list.specs.Memories.{no_memory};
 
+use crate::memory::Memory;
 use crate::place::{Found, NumberedCount};
 use cpu_words::CpuSeat;
 use registry_values::MOST_SLOTS;
@@ -27,6 +29,8 @@ pub struct PlainCpu {
     pub passive: [NumberedCount; MOST_SLOTS],
     /// By slot: its net count of local references, over the bias.
     pub net: [NumberedCount; MOST_SLOTS],
+    /// The entries that it has found.
+    pub memory: Memory,
 }
 
 impl Model for PlainCpu {
@@ -34,9 +38,9 @@ impl Model for PlainCpu {
 
     ghost Value = { OnPlainCpu };
 
-    ghost view = { λ c. record { words = record { table = c.seat.table; settings = c.seat.view.settings }; cpu = record { view = c.seat.view; depth = c.depth; made = 0; known_log = c.seat.known_log; log = c.seat.log } } };
+    ghost view = { λ c. record { words = record { table = c.seat.table; settings = c.seat.view.settings }; cpu = record { view = c.seat.view; depth = c.depth; made = 0; memory = c.memory; known_log = c.seat.known_log; log = c.seat.log } } };
 
-    ghost invariant = { λ c. IsOurCpu c.seat.table c.seat.view.settings c.seat.table c.seat.view c.id c.ended c.depth c.found c.passive c.net };
+    ghost invariant = { λ c. IsOurCpu c.seat.table c.seat.view.settings c.seat.table c.seat.view c.id c.ended c.depth c.found c.passive c.net c.memory };
 }
 
 impl PlainCpu {
@@ -46,7 +50,7 @@ impl PlainCpu {
         requires fit { IsTrue (are_fit seat.view.settings) × (id < seat.view.settings.cpus) }
         requires new { seat.view ≡ new_cpu seat.view.settings id }
         ensures words { result.words ≡ record { table = seat.table; settings = seat.view.settings } }
-        ensures cpu { result.cpu ≡ record { view = seat.view; depth = 0; made = 0; known_log = seat.known_log; log = seat.log } }
+        ensures cpu { result.cpu ≡ record { view = seat.view; depth = 0; made = 0; memory = no_memory; known_log = seat.known_log; log = seat.log } }
     {
         PlainCpu {
             seat,
@@ -56,6 +60,7 @@ impl PlainCpu {
             found: Found::NONE,
             passive: [NumberedCount::NONE; MOST_SLOTS],
             net: [NumberedCount::NONE; MOST_SLOTS],
+            memory: Memory::new(),
         }
     }
 

@@ -1,4 +1,4 @@
-//! An entry is published: all words of its slot are stored, and then the head, so that searches find it. Then the changes are counted.
+//! An entry is published: all words of its slot are stored, and then the head, so that searches find it. Then it is shown.
 
 ghost use Rattle.std.specs.Prelude.{◌≡◌, ℕ, ◌<◌, ◌≤◌, ◌+◌, suc, Some, IsTrue, false, length};
 ghost use Rattle.passive_list.specs.Types.{Vacant};
@@ -61,7 +61,7 @@ pub(crate) fn publish_entry(
     let link = link_below(rows, entry.number);
     prepare(words, seat, entry, words.settings().cpus, link);
     steps::publish(words, seat, entry.slot);
-    steps::count_changes(words, seat, entry.number);
+    steps::show(words, seat, entry.slot, entry.number);
 }
 
 /// Stores all words of the entry's slot: its record, its counts and its link.

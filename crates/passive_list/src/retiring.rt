@@ -1,4 +1,4 @@
-//! An entry is retired: it is unlinked, and the section word of each CPU is taken as its snapshot. Then the changes are counted.
+//! An entry is retired: it is hidden, then unlinked, and the section word of each CPU is taken as its snapshot.
 
 ghost use Rattle.std.specs.Prelude.{◌≡◌, ◌<◌, ◌≤◌, None};
 ghost use Rattle.passive_list.specs.Types.{Entry, Live, Snapshots};
@@ -25,6 +25,7 @@ pub fn retire(words: &Words, keeper: &mut Keeper, slot: u8) -> Entry
     let SlotState::Live(entry) = row.state else {
         unreachable!()
     };
+    steps::hide(words, &mut keeper.seat, slot);
     let before = slot_above(&keeper.rows, entry.number);
     let link = link_below(&keeper.rows, entry.number);
     steps::unpublish(words, &mut keeper.seat, slot, before, link);
@@ -35,7 +36,6 @@ pub fn retire(words: &Words, keeper: &mut Keeper, slot: u8) -> Entry
         ..row
     };
     keeper.changes += 1;
-    steps::count_changes(words, &mut keeper.seat, keeper.changes);
     entry
 }
 

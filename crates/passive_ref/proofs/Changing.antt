@@ -3,6 +3,7 @@ use Rattle.std.proofs.Common.{◌≡◌, ◌≢◌, ⊎_elim, ℕ, ◌+◌, ◌-
 use Rattle.std.proofs.lemmas.Bool.{cases_eq}
 use Rattle.std.proofs.lemmas.List.{length-set}
 use Rattle.std.specs.List.{Contains}
+use Rattle.passive_list.specs.declared.memory.Memory.{Memory}
 use Rattle.atomic_table.specs.Seated.{TableId}
 use Rattle.passive_list.specs.Types.{Entry, Settings, MOST_SLOTS, CpuView}
 use Rattle.protocol.specs.Common.{IsAttached}
@@ -134,10 +135,10 @@ less_passive x ps e t n agree at among = record { size = length-set ps t new ∙
         (old.0, old.1, same_number f.slot ∙ old.2, old.3)
 
 -- a CPU with other references, and places that agree with them
-with_references : (z : TableId) (a : Settings) (t u : TableId) (x : CpuView) (c w d : ℕ) (o : Found) (ps qs ns : List NumberedCount) (references : List Entry)
-    → IsOurCpu z a t x c w d o ps ns → u ≡ t → IsShownCpu (record x { references = references }) → PassiveAgree (record x { references = references }) qs
-    → IsOurCpu z a u (record x { references = references }) c w d o qs ns
-with_references z a t u x c w d o ps qs ns references our same is_shown agree = record {
+with_references : (z : TableId) (a : Settings) (t u : TableId) (x : CpuView) (c w d : ℕ) (o : Found) (ps qs ns : List NumberedCount) (ms : Memory) (references : List Entry)
+    → IsOurCpu z a t x c w d o ps ns ms → u ≡ t → IsShownCpu (record x { references = references }) → PassiveAgree (record x { references = references }) qs
+    → IsOurCpu z a u (record x { references = references }) c w d o qs ns ms
+with_references z a t u x c w d o ps qs ns ms references our same is_shown agree = record {
   table = same ∙ our.table;
   settings = our.settings;
   fit = our.fit;
@@ -149,22 +150,23 @@ with_references z a t u x c w d o ps qs ns references our same is_shown agree = 
   found = our.found;
   passive = agree;
   net = net_same x (record x { references = references }) ns refl refl refl our.net;
+  memory = our.memory;
   is_shown = is_shown;
 }
 
 -- a reference was added
-pub added_agrees : (z : TableId) (a : Settings) (t u : TableId) (x y : CpuView) (c w d : ℕ) (o : Found) (ps ns : List NumberedCount) (s n m : ℕ)
-    → IsOurCpu z a t x c w d o ps ns → u ≡ t → IsShownCpu y → HasAdded x s n y → s < MOST_SLOTS → IsAloneAt x s n → m ≡ references_to n x.references
-    → IsOurCpu z a u y c w d o (set ps s (record { number = n; count = m + 1 })) ns
-added_agrees z a t u x y c w d o ps ns s n m our same is_shown had few alone is = subst (λ (v : CpuView). IsOurCpu z a u v c w d o (set ps s (record { number = n; count = m + 1 })) ns) (sym had.3)
-    (with_references z a t u x c w d o ps (set ps s (record { number = n; count = m + 1 })) ns (had.0 ∷ x.references) our same (subst IsShownCpu had.3 is_shown)
+pub added_agrees : (z : TableId) (a : Settings) (t u : TableId) (x y : CpuView) (c w d : ℕ) (o : Found) (ps ns : List NumberedCount) (ms : Memory) (s n m : ℕ)
+    → IsOurCpu z a t x c w d o ps ns ms → u ≡ t → IsShownCpu y → HasAdded x s n y → s < MOST_SLOTS → IsAloneAt x s n → m ≡ references_to n x.references
+    → IsOurCpu z a u y c w d o (set ps s (record { number = n; count = m + 1 })) ns ms
+added_agrees z a t u x y c w d o ps ns ms s n m our same is_shown had few alone is = subst (λ (v : CpuView). IsOurCpu z a u v c w d o (set ps s (record { number = n; count = m + 1 })) ns ms) (sym had.3)
+    (with_references z a t u x c w d o ps (set ps s (record { number = n; count = m + 1 })) ns ms (had.0 ∷ x.references) our same (subst IsShownCpu had.3 is_shown)
     (added_passive x ps had.0 s n m our.passive had.1 had.2 few alone is))
 
 -- a reference was taken away
-pub less_agrees : (z : TableId) (a : Settings) (t u : TableId) (x y : CpuView) (c w d : ℕ) (o : Found) (ps ns : List NumberedCount) (e : Entry) (s n : ℕ)
-    → IsOurCpu z a t x c w d o ps ns → u ≡ t → IsShownCpu y → IsAt e s n → Contains x.references e → HasSubtracted x n y
-    → IsOurCpu z a u y c w d o (set ps s (record { number = (place_at ps s).number; count = (place_at ps s).count - 1 })) ns
-less_agrees z a t u x y c w d o ps ns e s n our same is_shown at among had =
-    subst (λ (v : CpuView). IsOurCpu z a u v c w d o (set ps s (record { number = (place_at ps s).number; count = (place_at ps s).count - 1 })) ns) (sym had)
-    (with_references z a t u x c w d o ps (set ps s (record { number = (place_at ps s).number; count = (place_at ps s).count - 1 })) ns (without n x.references) our same
+pub less_agrees : (z : TableId) (a : Settings) (t u : TableId) (x y : CpuView) (c w d : ℕ) (o : Found) (ps ns : List NumberedCount) (ms : Memory) (e : Entry) (s n : ℕ)
+    → IsOurCpu z a t x c w d o ps ns ms → u ≡ t → IsShownCpu y → IsAt e s n → Contains x.references e → HasSubtracted x n y
+    → IsOurCpu z a u y c w d o (set ps s (record { number = (place_at ps s).number; count = (place_at ps s).count - 1 })) ns ms
+less_agrees z a t u x y c w d o ps ns ms e s n our same is_shown at among had =
+    subst (λ (v : CpuView). IsOurCpu z a u v c w d o (set ps s (record { number = (place_at ps s).number; count = (place_at ps s).count - 1 })) ns ms) (sym had)
+    (with_references z a t u x c w d o ps (set ps s (record { number = (place_at ps s).number; count = (place_at ps s).count - 1 })) ns ms (without n x.references) our same
     (subst IsShownCpu had is_shown) (less_passive x ps e s n our.passive at among))

@@ -2,4 +2,5 @@ pub mod Places
 pub mod Changing
 pub mod Copying
 pub mod Records
-pub mod GetsByLoads
+pub mod Gets
+pub mod Sharing

@@ -1,115 +1,141 @@
-//! A get by loads: a passive reference (psref(9)) without a section, for an addition to a word of the CPU's own. The lookup and its last load
-//! write nothing. If no change was counted from the first load to the last, the addition is a reference. Else it is taken back, and the caller
+//! A get by memory: a passive reference (psref(9)) without a section, to an entry that the CPU has seen, for an addition to a word of the CPU's
+//! own and one load of the slot's live word. If that is the entry's number, the addition is a reference. Else it is taken back, and the caller
 //! goes the usual way, by a section.
 
-ghost use Rattle.std.specs.Prelude.{◌≡◌, ◌<◌};
+ghost use Rattle.std.specs.Prelude.{◌≡◌, ◌<◌, IfSome, Some, length};
+ghost use Rattle.protocol.specs.Common.{IsLookup, entry_with};
 ghost use Rattle.cpu_words.specs.Common.{AreWordsOf, IsShownCpu, MayTry, key_with};
-ghost use Rattle.passive_ref.specs.Gets.{counted_for, HasGotByLoads, HasSeen, HasTriedOnSeat, TriesSeen};
+ghost use Rattle.passive_list.specs.Common.{HasSeen as HasSeenOf};
+ghost use Rattle.passive_ref.specs.Gets.{counted_for, entry_got, HasGotByMemory, HasGotOn, HasGotRemembered, HasSeen, HasTriedOnSeat};
 
 use crate::psref::Psref;
-use cpu_words::{CpuSeat, Words, steps};
-use passive_list::{NumberedCount, PlainCpu, Seen, begin_by_loads, end_by_loads};
-use registry_values::{Kind, MOST_CPUS, Name};
+use cpu_words::{CpuSeat, Domain, Words, steps};
+use passive_list::{Cpu, NumberedCount, PlainCpu, Seen, remembered};
+use registry_values::{Entry, Kind, MOST_CPUS, MOST_SLOTS, Name, Record};
 
-/// Looks an entry up by loads alone and acquires a passive reference to it, inside a section or outside. Returns the entry's words and the
-/// reference, or that there is no such entry: `Some(None)`. So the registry was at some point from the first load to the last, however old the
-/// CPU's pass was.
+/// Acquires a passive reference to the entry with `number`, which this CPU has seen in `slot`, inside a section or outside, if it is live: at
+/// the load it is the registry's answer at that very point of the history.
 ///
-/// `None` says nothing, and nothing is held: a change was counted meanwhile, the lookup went by more entries than there are slots, or the CPU
-/// has `passive_limit` references to an entry of that slot.
-/// Condition: the words are the CPU's table's.
+/// `None` says nothing, and nothing is held: the entry isn't live or its keeper hides it, or the CPU has `passive_limit` references to an entry
+/// of that slot.
+/// Conditions: the words are the CPU's table's; the entry is in the CPU's pass.
 /// It is inlined with what it calls: a result in memory would be copied after the addition.
 #[inline(always)]
-pub fn get_by_loads(
-    words: &Words,
-    cpu: &mut PlainCpu,
-    kind: Kind,
-    name: Name,
-) -> Option<Option<(Seen, Psref)>>
+pub fn get_on(words: &Words, cpu: &mut PlainCpu, slot: u8, number: u64) -> Option<Psref>
     requires words { AreWordsOf words.now cpu.old.words.table cpu.old.words.settings }
-    ensures got { HasGotByLoads (key_with kind name) cpu.old.cpu cpu.new.cpu result }
+    requires slot { slot < MOST_SLOTS }
+    requires seen { HasSeen cpu.old.cpu.view slot number }
+    ensures got { HasGotOn slot number cpu.old.cpu cpu.new.cpu result }
     ensures words { cpu.new.words ≡ cpu.old.words }
 {
-    let (first, found) = begin_by_loads(words, cpu, kind, name);
-    match found {
-        Some(Some(seen)) => match try_seen(words, cpu, kind, name, first, seen) {
-            Some(psref) => Some(Some((seen, psref))),
-            None => None,
-        },
-        Some(None) => {
-            let last = end_by_loads(words, cpu);
-            if last == first { Some(None) } else { None }
-        }
-        None => {
-            end_by_loads(words, cpu);
-            None
-        }
-    }
-}
-
-/// Acquires a reference to the entry that the CPU's lookup by loads has seen, if no change was counted since the lookup loaded `first`.
-#[inline(always)]
-fn try_seen(
-    words: &Words,
-    cpu: &mut PlainCpu,
-    kind: Kind,
-    name: Name,
-    first: u64,
-    seen: Seen,
-) -> Option<Psref>
-    requires words { AreWordsOf words.now cpu.old.words.table cpu.old.words.settings }
-    requires seen { HasSeen cpu.old.cpu.view (key_with kind name) first seen }
-    ensures tried { TriesSeen (key_with kind name) first seen cpu.old.cpu cpu.new.cpu result }
-    ensures words { cpu.new.words ≡ cpu.old.words }
-{
-    let place = cpu.passive[seen.slot as usize];
+    let place = cpu.passive[slot as usize];
     if place.count >= words.settings().passive_limit {
-        end_by_loads(words, cpu);
         return None;
     }
-    let done = try_on_seat(words, &mut cpu.seat, cpu.id, kind, name, first, seen);
+    let done = try_on_seat(words, &mut cpu.seat, cpu.id, slot, number);
     if done {
-        cpu.passive[seen.slot as usize] = NumberedCount {
-            number: seen.number,
-            count: counted_for(place, seen.number) + 1,
+        cpu.passive[slot as usize] = NumberedCount {
+            number,
+            count: counted_for(place, number) + 1,
         };
         return Some(Psref {
             cpu: cpu.id,
-            hint: seen.slot as u8,
-            number: seen.number,
+            hint: slot,
+            number,
         });
     }
     None
 }
 
-/// Counts up, loads the count of changes, and counts down again if it isn't `first`.
+/// Acquires a passive reference to the entry that the CPU remembers with this kind and name, if it is live (`get_on`). Returns the entry's words,
+/// too. Conditions: the words are the CPU's table's.
 #[inline(always)]
-fn try_on_seat(
+pub fn get_by_memory(
     words: &Words,
-    seat: &mut CpuSeat,
-    cpu: u8,
+    cpu: &mut PlainCpu,
     kind: Kind,
     name: Name,
-    first: u64,
-    seen: Seen,
-) -> bool
+) -> Option<(Seen, Psref)>
+    requires words { AreWordsOf words.now cpu.old.words.table cpu.old.words.settings }
+    ensures got { HasGotByMemory (key_with kind name) cpu.old.cpu cpu.new.cpu result }
+    ensures slot { IfSome result (λ got. got.0.slot < MOST_SLOTS) }
+    ensures words { cpu.new.words ≡ cpu.old.words }
+{
+    let seen = remembered(cpu, kind, name)?;
+    let psref = get_seen(words, cpu, kind, name, seen)?;
+    Some((seen, psref))
+}
+
+/// `get_by_memory` on a CPU of the table that D names, which returns the entry.
+pub fn get_remembered<D: Domain>(
+    words: &Words,
+    cpu: &mut Cpu<D>,
+    kind: Kind,
+    name: &Name,
+) -> Option<(Entry, Psref)>
+    requires words { AreWordsOf words.now D.table D.settings }
+    ensures { HasGotRemembered (key_with kind name.now) cpu.old cpu.new result }
+{
+    let name = *name;
+    let got = get_by_memory(words, &mut cpu.plain, kind, name);
+    with_entry(got, kind, name)
+}
+
+/// The reference with its entry, in place of the entry's words.
+fn with_entry(got: Option<(Seen, Psref)>, kind: Kind, name: Name) -> Option<(Entry, Psref)>
+    requires { IfSome got (λ got. got.0.slot < MOST_SLOTS) }
+    ensures { result ≡ entry_got (key_with kind name) got }
+{
+    match got {
+        Some((seen, psref)) => {
+            let rec = Record {
+                kind,
+                name,
+                value: seen.value,
+            };
+            let entry = Entry {
+                number: seen.number,
+                slot: seen.slot as u8,
+                rec,
+            };
+            Some((entry, psref))
+        }
+        None => None,
+    }
+}
+
+/// `get_on` of an entry with this kind and name that the CPU has seen.
+#[inline(always)]
+fn get_seen(words: &Words, cpu: &mut PlainCpu, kind: Kind, name: Name, seen: Seen) -> Option<Psref>
+    requires words { AreWordsOf words.now cpu.old.words.table cpu.old.words.settings }
+    requires seen { HasSeenOf cpu.old (key_with kind name) seen }
+    ensures got { HasGotOn seen.slot seen.number cpu.old.cpu cpu.new.cpu result }
+    ensures answered { IfSome result (λ _. IsLookup cpu.new.cpu.view.pass (length cpu.new.cpu.view.pass) (key_with kind name) (Some (entry_with (key_with kind name) seen.slot seen.number seen.value))) }
+    ensures words { cpu.new.words ≡ cpu.old.words }
+{
+    // The contract alone speaks of the key. Reading the number opens what the CPU says of itself: its table's settings are its view's.
+    let _key = (kind, name, cpu.id);
+    get_on(words, cpu, seen.slot as u8, seen.number)
+}
+
+/// Counts up, loads the slot's live word, and counts down again if it isn't `number`.
+#[inline(always)]
+fn try_on_seat(words: &Words, seat: &mut CpuSeat, cpu: u8, slot: u8, number: u64) -> bool
     requires table { seat.old.table ≡ words.now.table }
     requires cpu { (cpu < MOST_CPUS) × (seat.old.view.id ≡ cpu) }
-    requires seen { HasSeen seat.old.view (key_with kind name) first seen }
-    requires may { MayTry seat.old.view seen.slot seen.number }
+    requires slot { slot < MOST_SLOTS }
+    requires may { MayTry seat.old.view slot number }
     ensures table { seat.new.table ≡ seat.old.table }
-    ensures tried { HasTriedOnSeat (key_with kind name) first seen seat.old.view seat.new.view seat.old.log seat.new.log result }
+    ensures tried { HasTriedOnSeat slot number seat.old.view seat.new.view seat.old.log seat.new.log result }
     ensures is_shown { IsShownCpu seat.new.view }
     ensures known_log { seat.new.known_log ≡ seat.old.known_log }
 {
-    // The contract alone speaks of the key.
-    let _key = (kind, name);
-    steps::begin_try(words, seat, cpu, seen.slot as u8, seen.number);
-    let last = steps::end_try(words, seat, cpu, first);
-    if first == last {
+    steps::begin_try(words, seat, cpu, slot, number);
+    let live = steps::end_try(words, seat, cpu, slot, number);
+    if live == number {
         return true;
     }
-    steps::take_back(words, seat, cpu, seen.slot as u8);
+    steps::take_back(words, seat, cpu, slot);
     false
 }
 

@@ -3,9 +3,8 @@ pub use Rattle.protocol.specs.declared.event.Counted.{Counted}
 pub use Rattle.protocol.specs.declared.event.Event.{Event}
 pub use Rattle.protocol.specs.declared.event.Event.TheVariants.{Collect, CountAdd, CountDown, Enter, Exit, Hear, JoinKeeper, JoinRef, Keep, KeptSub, LoadLink, LoadRecord, Look, PassiveAdd}
 pub use Rattle.protocol.specs.declared.event.Event.TheVariants.{PassiveLook, PassiveSub, Publish, Seat, Seek, Snapshot, SplitBack, SplitRef, StoreNext, StoreSlot, Tell, TotalAdd, TotalSub, Unpublish}
-pub use Rattle.protocol.specs.declared.event.Event.TheVariants.{Confirm, Count, Peek, TakeBack, Try, Vacate}
+pub use Rattle.protocol.specs.declared.event.Event.TheVariants.{Confirm, Hide, Recall, RecallHead, Refind, Show, TakeBack, Try, Vacate}
 pub use Rattle.protocol.specs.declared.event.RecordOf.{RecordOf}
-pub use Rattle.protocol.specs.declared.event.SharedWord.{SharedWord}
 pub use Rattle.protocol.specs.declared.event.Reply.{Reply}
 pub use Rattle.protocol.specs.declared.event.Reply.TheVariants.{Collected, Done, Found, Missed, Ref, Word}
 pub use Rattle.protocol.specs.declared.state.Due.{Due}
@@ -28,16 +27,17 @@ pub use Rattle.protocol.specs.Events.{is_prepared, is_snapshot_due, keeps_rightl
 pub use Rattle.protocol.specs.Events.{look, may_add, may_collect, may_count, may_enter, may_examine, may_exit, may_glance, may_join, may_join_keeper, may_keep, may_look_passive, may_publish, may_seat}
 pub use Rattle.protocol.specs.Events.{may_seek, may_sub, may_vacate, may_write, number_standing, outcome_of, room_of, search_over, snapshot, snapshot_mark, some_outcome, split_back, split_ref}
 pub use Rattle.protocol.specs.Events.{state_after, step, store_slot, tell, total_add, total_sub, unpublish, with_link_past, with_local, with_retired, with_search_at, with_some, with_word, word}
-pub use Rattle.protocol.specs.Events.{after_confirm, after_counting, after_take_back, after_tried, after_try, compared_slot, confirm, is_detach, is_last_detach, may_confirm, may_peek, may_try, peek}
-pub use Rattle.protocol.specs.Events.{shared_word, take_back, words_of}
-pub use Rattle.protocol.specs.History.{EndsAt, IsAttached, IsLawful, IsLegal, IsLiveAt, IsLookup, MayHold, after_change}
+pub use Rattle.protocol.specs.Events.{after_confirm, after_live_store, after_take_back, after_taking, after_tried, after_try, compared_slot, confirm, is_honest, has_live, may_confirm, may_hide, may_recall, may_try, show}
+pub use Rattle.protocol.specs.Events.{after_refind, may_recall_head, may_refind, refind, take_back, words_of}
+pub use Rattle.protocol.specs.History.{EndsAt, IsAttached, IsLawful, IsLegal, IsLiveAt, IsLookup, IsNewestAt, MayHold, after_change}
 pub use Rattle.protocol.specs.Invariant.{AllBelow, AreRows, Balances, CountsHold, DriversKept, DueHolds, FoundHold, HandHolds, HasShape, HeldStay, Holds, IsCounting, IsIn, IsSnapshotDue, Leads}
 pub use Rattle.protocol.specs.Invariant.{LinksStay, ListShows, MarksHold, Occupies, PassiveShow, PlaceHolds, ReferencesHold, RowsShow, SearchHolds, SearchesHold, SeatsShow, SectionsShow, SlotsShow}
 pub use Rattle.protocol.specs.Invariant.{SnapshotsStand, StandsOn, To_end, To_entry, addition_due_at, greatest_limit, held_at, in_hand, is_adding_at, itself, kept_of, one_if, one_if_used, standing_of}
 pub use Rattle.protocol.specs.Invariant.{subtraction_due_at}
 pub use Rattle.protocol.specs.Laws.{AnswersLawfully, BalanceAtRest, BalancesAtRest, DriversOutlive, EndsByExit, EveryRunKeeps, GraceLaw, HasBegun, HasExit, HasMoved, Headline, InvariantSuffices}
 pub use Rattle.protocol.specs.Laws.{IsAllowed, IsAnswered, IsBalanced, IsLoadOf, IsSafe, LawfulAnswers, ObeysLaws, OutliveInterfaces, ReusesSafely, SafeReuse, after, after_event, answer_of}
-pub use Rattle.protocol.specs.Laws.{AnswersFreshly, FreshAnswers, HasTry, IsFreshAnswer, IsNoSeek, IsTry, SeeksNone, SeesAll, UntriedRuns, WholePasses, destroyed_slot, given_slot, held_of, occupant_of, seek_for}
+pub use Rattle.protocol.specs.Laws.{NewestRecalls, RecallsNewest}
+pub use Rattle.protocol.specs.Laws.{AnswersFreshly, FreshAnswers, HasTry, IsFreshAnswer, IsNoSeek, IsTry, SeeksNone, SeesAll, RecallsLive, LiveRecalls, UntriedRuns, WholePasses, destroyed_slot, given_slot, held_of, occupant_of, seek_for}
 pub use Rattle.protocol.specs.Loaded.{SlotWithin, entry_with, loaded_at, loaded_of_name, row_of_place}
 pub use Rattle.protocol.specs.Marking.{AllClear, AllCollected, AllPassed, MarksGrow, SameElsewhere}
 pub use Rattle.protocol.specs.Model.{Acquires, Answers, Attaches, Copies, Counts, Detaches, Enters, Exits, Gives_up, Goes_on, IsDriverHere, IsModelRun, IsModelStep, IsUnheld, Lookup, Model, Releases}
@@ -46,6 +46,6 @@ pub use Rattle.protocol.specs.Picture.{EveryRunIsModelRun, HasConfirm, IsConfirm
 pub use Rattle.protocol.specs.Rows.{CollectRace, TryRace, FrozenLink, Gives, all_three, attaches, detaches, done_replies, first, has_found, loads, search_begins, search_case, search_goes_on, try_replies}
 pub use Rattle.protocol.specs.Rows.{two_cpus, unlinked_case, wm0, wm1, wm2}
 pub use Rattle.protocol.specs.Run.{Run, empty_run, run_of_events, run_with_event}
-pub use Rattle.protocol.specs.State.{State, at_rest, begin_at, cell, count_at, depth_at, found_at, hand_at, is_empty, kept_at, local_at, mark_at, no_words, opening, passive_at, row_at, search_at}
+pub use Rattle.protocol.specs.State.{State, at_rest, begin_at, cell, count_at, depth_at, found_at, hand_at, is_empty, kept_at, live_at, local_at, mark_at, no_words, opening, passive_at, row_at, search_at}
 pub use Rattle.protocol.specs.State.{section_at, seen_at, total_at, trying_at, trying_of, with_biases, with_cell}
 pub use Rattle.protocol.specs.Taken.{Keeps, Steps, WantsMemory}

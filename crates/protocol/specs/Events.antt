@@ -5,11 +5,9 @@ use Rattle.std.specs.List.{list_all}
 use Rattle.protocol.specs.Types.{MOST_CPUS, Room, Kind, Iface, Driver, Entry, Change, Attach, Detach, Key, Slot, Vacant, Live, Retired, Mark}
 use Rattle.protocol.specs.declared.event.Event.{Event}
 use Rattle.protocol.specs.declared.event.Event.TheVariants.{Seat, Enter, Exit, Seek, LoadLink, LoadRecord, StoreSlot, StoreNext, Publish, Unpublish, Tell, Hear, Snapshot, Look, PassiveAdd, PassiveSub}
-use Rattle.protocol.specs.declared.event.Event.TheVariants.{PassiveLook, CountAdd, SplitRef, JoinRef, CountDown, SplitBack, Collect, TotalAdd, JoinKeeper, TotalSub, Keep, KeptSub, Vacate, Count, Peek, Try, Confirm, TakeBack}
+use Rattle.protocol.specs.declared.event.Event.TheVariants.{PassiveLook, CountAdd, SplitRef, JoinRef, CountDown, SplitBack, Collect, TotalAdd, JoinKeeper, TotalSub, Keep, KeptSub, Vacate, Show, Hide, Recall, RecallHead, Refind, Try, Confirm, TakeBack}
 use Rattle.protocol.specs.declared.event.RecordOf.{RecordOf}
 use Rattle.protocol.specs.declared.event.RecordOf.TheVariants.{Search as OfSearch, Passive as OfPassive, Local as OfLocal, Compared as OfCompared}
-use Rattle.protocol.specs.declared.event.SharedWord.{SharedWord}
-use Rattle.protocol.specs.declared.event.SharedWord.TheVariants.{Changes, Head, Link, Field}
 use Rattle.protocol.specs.declared.event.Reply.{Reply}
 use Rattle.protocol.specs.declared.event.Reply.TheVariants.{Done, Word, Found, Missed, Ref, Collected}
 use Rattle.protocol.specs.declared.state.RecordWords.{RecordWords}
@@ -24,13 +22,13 @@ use Rattle.protocol.specs.declared.state.LocalPlace.{LocalPlace}
 use Rattle.protocol.specs.declared.state.LocalPlace.TheVariants.{Free, Standing, Lifted}
 use Rattle.protocol.specs.declared.state.Due.{Due}
 use Rattle.protocol.specs.declared.state.Due.TheVariants.{Rest, Snapshots, Adding, Subtracting}
-use Rattle.protocol.specs.History.{after_change, change_at}
+use Rattle.protocol.specs.History.{after_change}
 use Rattle.protocol.specs.Loaded.{loaded_at, row_of_place}
 use Rattle.registry_values.specs.Answers as answers
 use Rattle.registry_values.specs.Common.{key_of, slot_at, kind_word, is_iface, is_driver, is_vacant, is_retired, is_taken, live_count, slot_of, slot_before, bias, no_mark, have_passed, are_clear}
 use Rattle.registry_values.specs.Common.{are_collected, is_some_collected, mark_after_passive_look, mark_after_collect, mark_after_look}
 use Rattle.registry_values.specs.Names.{are_name_words}
-use Rattle.protocol.specs.State.{State, with_cell, section_at, begin_at, depth_at, seen_at, search_at, found_at, hand_at, row_at, mark_at, passive_at, count_at, total_at, kept_at, local_at, is_empty}
+use Rattle.protocol.specs.State.{State, with_cell, section_at, begin_at, depth_at, seen_at, search_at, found_at, hand_at, row_at, mark_at, passive_at, count_at, total_at, live_at, kept_at, local_at, is_empty}
 use Rattle.protocol.specs.State.{at_rest}
 
 -- what an event leaves and answers
@@ -495,24 +493,54 @@ may_vacate s t = is_none (kept_at s.keeps t) && is_drained s t
 abbrev pub after_vacate : State → ℕ → State
 after_vacate s t = record s { slots = slice_set s.slots t Vacant }
 
--- How many changes there are, and loads outside sections
+-- Live words: which entries CPUs may recall
 
-abbrev pub after_counting : State → State
-after_counting s = record s { changes = length s.history }
+abbrev pub after_live_store : State → ℕ → ℕ → State
+after_live_store s t v = record s { lives = slice_set s.lives t v }
 
--- the shared word of this name, if the settings have it
-abbrev pub shared_word : State → SharedWord → Option ℕ
-shared_word s Changes = Some s.changes
-shared_word s Head = Some s.head
-shared_word s (Link t) = if nat_lt t s.settings.slots then Some (slice_index_or s.next t 0) else None
-shared_word s (Field t k) = if nat_lt t s.settings.slots && nat_lt k 5 then Some (word (row_at s.rows t) k) else None
+-- the number of the slot's live entry is stored
+abbrev pub show : State → ℕ → Slot → Option Outcome
+show s t Vacant = None
+show s t (Live e) = guard (at_rest s.due) (some_outcome (after_live_store s t e.number) Done)
+show s t (Retired e) = None
 
-abbrev pub may_peek : State → ℕ → Bool
-may_peek s c = nat_lt c s.seated && is_none (search_at s c)
+abbrev pub may_hide : State → ℕ → Bool
+may_hide s t = at_rest s.due && nat_lt t s.settings.slots
 
--- a load outside a section sees all of the history, as the load of a link does
-abbrev pub peek : State → ℕ → SharedWord → Option Outcome
-peek s c w = with_some (shared_word s w) (λ v. guard (may_peek s c) (some_outcome (after_seeing s c) (Word v)))
+-- the number n is that of the slot's live entry
+abbrev pub has_live : ℕ → Slot → Bool
+has_live n Vacant = false
+has_live n (Live e) = e.number == n
+has_live n (Retired e) = false
+
+-- the live word n of a slot is 0, or the number of the slot's live entry
+abbrev pub is_honest : ℕ → Slot → Bool
+is_honest zero x = true
+is_honest (suc n) x = has_live (suc n) x
+
+abbrev pub may_recall : State → ℕ → ℕ → Bool
+may_recall s c t = nat_lt c s.seated && (is_none (search_at s c) && (nat_lt t s.settings.slots && is_honest (live_at s.lives t) (slot_at s.slots t)))
+
+-- the load of a live word sees all of the history, as the load of a link does
+abbrev pub recall : State → ℕ → ℕ → Option Outcome
+recall s c t = guard (may_recall s c t) (some_outcome (after_seeing s c) (Word (live_at s.lives t)))
+
+-- the head of the list is loaded outside of any search
+abbrev pub may_recall_head : State → ℕ → Bool
+may_recall_head s c = nat_lt c s.seated && is_none (search_at s c)
+
+-- inside a section, with no search; the slot's live entry has the number n, and its live word says so
+abbrev pub may_refind : State → ℕ → ℕ → ℕ → Entry → Bool
+may_refind s c t n e = nat_lt c s.seated && (is_none (search_at s c) && (is_inside s c && (e.number == n && live_at s.lives t == n)))
+
+-- all of the history is seen, and e is the last found entry
+abbrev pub after_refind : State → ℕ → Entry → State
+after_refind s c e = record (after_seeing s c) { found = slice_set s.found c (Some e) }
+
+abbrev pub refind : State → ℕ → ℕ → ℕ → Slot → Option Outcome
+refind s c t n Vacant = None
+refind s c t n (Live e) = guard (may_refind s c t n e) (some_outcome (after_refind s c e) (Word (live_at s.lives t)))
+refind s c t n (Retired e) = None
 
 -- A passive reference without a section
 
@@ -526,30 +554,24 @@ may_try s c t = is_idle s c && (nat_lt t s.settings.slots && nat_lt (passive_at 
 abbrev pub after_try : State → ℕ → ℕ → ℕ → State
 after_try s c t n = after_tried s c t (passive_at s.passive c t + 1) (Trying t n)
 
-abbrev pub is_detach : ℕ → Option Change → Bool
-is_detach n None = false
-is_detach n (Some (Attach e)) = false
-is_detach n (Some (Detach m)) = m == n
+-- no search is under way, and the entry that is tried is live
+abbrev pub may_confirm : State → ℕ → ℕ → Slot → Bool
+may_confirm s c n x = is_none (search_at s c) && has_live n x
 
--- the detach of n is the last change
-abbrev pub is_last_detach : List Change → ℕ → Bool
-is_last_detach h n = is_detach n (change_at h (length h))
+-- what was tried is a reference
+abbrev pub after_taking : State → ℕ → State
+after_taking s c = record s { hands = slice_set s.hands c Empty }
 
--- the slot t has the entry n: live, or detached by the last change, and c isn't clear for t
-abbrev pub may_confirm : State → ℕ → ℕ → ℕ → Slot → Bool
-may_confirm s c t n Vacant = false
-may_confirm s c t n (Live e) = e.number == n
-may_confirm s c t n (Retired e) = e.number == n && (is_last_detach s.history n && not (mark_at s.marks t c).clear)
-
+-- and all of the history is seen
 abbrev pub after_confirm : State → ℕ → State
-after_confirm s c = record s { hands = slice_set s.hands c Empty }
+after_confirm s c = after_seeing (after_taking s c) c
 
 abbrev pub confirm : State → ℕ → Hand → Option Outcome
 confirm s c Empty = None
 confirm s c (Taking n) = None
 confirm s c (Giving n id) = None
 confirm s c (Back n id) = None
-confirm s c (Trying t n) = guard (may_confirm s c t n (slot_at s.slots t)) (some_outcome (after_confirm s c) (Word s.changes))
+confirm s c (Trying t n) = guard (may_confirm s c n (slot_at s.slots t)) (some_outcome (after_confirm s c) (Word (live_at s.lives t)))
 
 abbrev pub after_take_back : State → ℕ → ℕ → State
 after_take_back s c t = after_tried s c t (passive_at s.passive c t - 1) Empty
@@ -598,8 +620,11 @@ step s (TotalSub t) = total_sub s t s.due
 step s (Keep t id) = keep s t id
 step s (KeptSub t) = kept_sub s t
 step s (Vacate t) = guard (may_vacate s t) (some_outcome (after_vacate s t) Done)
-step s Count = guard (at_rest s.due) (some_outcome (after_counting s) Done)
-step s (Peek c w) = peek s c w
+step s (Show t) = show s t (slot_at s.slots t)
+step s (Hide t) = guard (may_hide s t) (some_outcome (after_live_store s t 0) Done)
+step s (Recall c t) = recall s c t
+step s (RecallHead c) = guard (may_recall_head s c) (some_outcome (after_seeing s c) (Word s.head))
+step s (Refind c t n) = refind s c t n (slot_at s.slots t)
 step s (Try c t n) = guard (may_try s c t) (some_outcome (after_try s c t n) (Word (passive_at s.passive c t)))
 step s (Confirm c) = confirm s c (hand_at s c)
 step s (TakeBack c) = take_back s c (hand_at s c)

@@ -1,5 +1,5 @@
 -- The history of changes: which entry is live when, what a lookup may answer, what a section may hold.
-use Rattle.std.specs.Prelude.{◌≡◌, ℕ, zero, suc, ◌<◌, ◌≤◌, List, ◌∷◌, [], ◌++◌, Option, Some, None, slice_get}
+use Rattle.std.specs.Prelude.{◌≡◌, ℕ, zero, suc, ◌<◌, ◌≤◌, List, ◌∷◌, [], ◌++◌, length, Option, Some, None, slice_get}
 use Rattle.protocol.specs.Types.{Entry, Change, Attach, Detach, Key}
 use Rattle.registry_values.specs.Common.{key_of}
 
@@ -42,6 +42,11 @@ pub record MayHold (h : List Change) (b : ℕ) (e : Entry) : Type 0 where
 abbrev pub IsLookup : List Change → ℕ → Key → Option Entry → Type 0
 IsLookup h k key None = (e : Entry) → IsLiveAt h k e → key_of e ≡ key → ⊥
 IsLookup h k key (Some e) = IsLiveAt h k e × (key_of e ≡ key)
+
+-- w is 0 and no entry is live after all changes of h, or w is a slot plus 1, and the newest entry that is live there has that slot
+pub record IsNewestAt (h : List Change) (w : ℕ) : Type 0 where
+  pub none : w ≡ 0 → (e : Entry) → IsLiveAt h (length h) e → ⊥
+  pub newest : (t : ℕ) → w ≡ suc t → (e : Entry) × IsLiveAt h (length h) e × (e.slot ≡ t) × ((f : Entry) → IsLiveAt h (length h) f → f.number ≤ e.number)
 
 -- the answer is the registry's at some point from `from` up to `to`
 pub record IsLawful (h : List Change) (from to : ℕ) (key : Key) (answer : Option Entry) : Type 0 where

@@ -39,6 +39,7 @@ pub record HasShape (s : State) : Type 0 where
   pub counts : length s.counts ≡ s.settings.slots
   pub count_rows : AreRows s.counts
   pub totals : length s.totals ≡ s.settings.slots
+  pub lives : length s.lives ≡ s.settings.slots
   pub begins : length s.begins ≡ s.settings.cpus
   pub depths : length s.depths ≡ s.settings.cpus
   pub seen : length s.seen ≡ s.settings.cpus

@@ -3,15 +3,15 @@ use Rattle.std.specs.List.{AllByRecursion}
 use Rattle.std.specs.Prelude.{◌≡◌, ℕ, suc, ◌+◌, ◌*◌, ◌%◌, ◌<◌, ◌≤◌, ◌⊎◌, IsTrue, IsSome, List, [], ◌∷◌, ◌++◌, length, sum_by, Option, Some, None, true, slice_index_or}
 use Rattle.protocol.specs.Types.{Iface, Driver, Entry, Change, Settings, Key}
 use Rattle.protocol.specs.declared.event.Event.{Event}
-use Rattle.protocol.specs.declared.event.Event.TheVariants.{Enter, Exit, Hear, Seek, LoadLink, LoadRecord, StoreSlot, StoreNext, Publish, Keep, KeptSub, Vacate, Peek, Try}
+use Rattle.protocol.specs.declared.event.Event.TheVariants.{Enter, Exit, Hear, Seek, LoadLink, LoadRecord, StoreSlot, StoreNext, Publish, Keep, KeptSub, Vacate, Recall, RecallHead, Refind, Confirm, Try}
 use Rattle.protocol.specs.declared.event.RecordOf.TheVariants.{Search as OfSearch}
 use Rattle.protocol.specs.declared.event.Reply.{Reply}
 use Rattle.protocol.specs.declared.event.Reply.TheVariants.{Done, Word, Found, Missed, Ref, Collected}
-use Rattle.protocol.specs.declared.event.SharedWord.{SharedWord}
+use Rattle.protocol.specs.declared.state.Hand.TheVariants.{Trying}
 use Rattle.protocol.specs.declared.state.Search.{Search}
 use Rattle.registry_values.specs.Common.{are_fit, bias, key_of, slot_at}
-use Rattle.protocol.specs.History.{IsAttached, EndsAt, IsLiveAt, IsLawful}
-use Rattle.protocol.specs.State.{State, opening, section_at, begin_at, seen_at, search_at, count_at, total_at, kept_at, trying_at, at_rest}
+use Rattle.protocol.specs.History.{IsAttached, EndsAt, IsLiveAt, IsLawful, IsNewestAt}
+use Rattle.protocol.specs.State.{State, opening, section_at, begin_at, seen_at, search_at, found_at, hand_at, count_at, total_at, live_at, kept_at, trying_at, at_rest}
 use Rattle.protocol.specs.Events.{Outcome, step, state_after}
 use Rattle.protocol.specs.Invariant.{Holds, IsIn, IsCounting, kept_of, held_at, one_if_used, itself}
 use Rattle.protocol.specs.Run.{run_of_events, empty_run}
@@ -173,19 +173,43 @@ abbrev pub AnswersFreshly : State → Type 0
 AnswersFreshly s = (c : ℕ) (key : Key) (since : List Event) (event : Event) (o : Outcome) (answer : Option Entry) → IsAllowed s (seek_for c key) → SeeksNone c since → IsLoadOf c event
     → step (after (after_event s (seek_for c key)) since) event ≡ Some o → answer_of o.reply ≡ Some answer → IsFreshAnswer s.history o.state.history (seen_at o.state c) key answer
 
--- a CPU that has just entered a section, heard a note, or made a load of a lookup by loads, has seen the whole history
+-- a CPU that has just entered a section, heard a note, or recalled an entry or the head, has seen the whole history
 pub record SeesAll (s : State) : Type 0 where
   pub entered : (c : ℕ) → IsAllowed s (Enter c) → seen_at (after_event s (Enter c)) c ≡ length s.history
   pub heard : (c : ℕ) → IsAllowed s (Hear (Some c)) → seen_at (after_event s (Hear (Some c))) c ≡ length s.history
-  pub peeked : (c : ℕ) (w : SharedWord) → IsAllowed s (Peek c w) → seen_at (after_event s (Peek c w)) c ≡ length s.history
+  pub recalled : (c t : ℕ) → IsAllowed s (Recall c t) → seen_at (after_event s (Recall c t)) c ≡ length s.history
+  pub headed : (c : ℕ) → IsAllowed s (RecallHead c) → seen_at (after_event s (RecallHead c)) c ≡ length s.history
+  pub refound : (c t n : ℕ) → IsAllowed s (Refind c t n) → seen_at (after_event s (Refind c t n)) c ≡ length s.history
+  pub confirmed : (c : ℕ) → IsAllowed s (Confirm c) → seen_at (after_event s (Confirm c)) c ≡ length s.history
+
+-- what a CPU recalls, finds again, or confirms, is live at that very point of the history
+pub record RecallsLive (s : State) : Type 0 where
+  -- the word that is loaded is 0, or the number of the entry, of all that were ever attached, that is live in the slot
+  pub recalled : (c t : ℕ) (e : Entry) → IsAllowed s (Recall c t) → IsAttached s.history e → e.number ≡ live_at s.lives t → IsLiveAt s.history (length s.history) e × (e.slot ≡ t)
+  pub confirmed : (c t : ℕ) (e : Entry) → hand_at s c ≡ Trying t e.number → IsAllowed s (Confirm c) → IsAttached s.history e → IsLiveAt s.history (length s.history) e × (e.slot ≡ t)
+  -- and what is found again is the last found entry
+  pub refound : (c t : ℕ) (e : Entry) → IsAllowed s (Refind c t e.number) → IsAttached s.history e
+      → IsLiveAt s.history (length s.history) e × (e.slot ≡ t) × (found_at (after_event s (Refind c t e.number)) c ≡ Some e)
+
+-- the head that a CPU recalls leads to the newest live entry, at that very point of the history
+abbrev pub RecallsNewest : State → Type 0
+RecallsNewest s = (c w : ℕ) (n : State) → step s (RecallHead c) ≡ Some (record { state = n; reply = Word w }) → IsNewestAt s.history w
 
 -- each answer of a lookup is fresh
 abbrev pub FreshAnswers : Type 0
 FreshAnswers = Always AnswersFreshly
 
--- and a pass is whole as a section begins, as a note is heard, and as a lookup by loads loads a word
+-- and a pass is whole as a section begins, as a note is heard, and as an entry is recalled
 abbrev pub WholePasses : Type 0
 WholePasses = Always SeesAll
+
+-- and what is recalled is live
+abbrev pub LiveRecalls : Type 0
+LiveRecalls = Always RecallsLive
+
+-- and what the head tells is the newest
+abbrev pub NewestRecalls : Type 0
+NewestRecalls = Always RecallsNewest
 
 -- Balance
 
@@ -268,6 +292,8 @@ pub record ObeysLaws (s : State) : Type 0 where
   pub answers : AnswersLawfully s
   pub fresh : AnswersFreshly s
   pub whole : SeesAll s
+  pub live : RecallsLive s
+  pub newest : RecallsNewest s
   pub balance : at_rest s.due ≡ true → BalancesAtRest s
   pub grace : EndsByExit s
   -- the invariant goes on, and so does the run of the model

@@ -1,7 +1,7 @@
 -- The registry without words: a history, sections, holders, lookups and occupants, the steps that are lawful, and their runs.
 use Rattle.std.specs.Prelude.{◌≡◌, ℕ, suc, ◌+◌, ◌-◌, ◌<◌, ◌≤◌, ◌==◌, List, [], length, Option, Some, None, true, if◌then◌else◌}
 use Rattle.protocol.specs.Types.{Driver, Entry, Change, Attach, Detach, Key}
-use Rattle.protocol.specs.History.{after_change, IsAttached, EndsAt, IsLegal, MayHold, IsLawful}
+use Rattle.protocol.specs.History.{after_change, IsAttached, EndsAt, IsLiveAt, IsLegal, MayHold, IsLawful}
 use Rattle.protocol.specs.Events.{keeps_rightly}
 
 -- f with x at i
@@ -95,8 +95,8 @@ pub data IsModelStep (MayTake : Type 0) (m : Model) : Model → Type 0 where
       → IsModelStep MayTake m (with_passive m c n (m.passive c n + 1))
   Releases : (c n : ℕ) → 0 < m.passive c n
       → IsModelStep MayTake m (with_passive m c n (m.passive c n - 1))
-  -- a passive reference without a section, to an entry that has its slot and is live, or whose detach is the last change
-  Takes : (c t : ℕ) (e : Entry) → IsAttached m.history e → m.occupants t ≡ Some e.number → ((p : ℕ) → EndsAt m.history e.number p → p ≡ length m.history) → MayTake
+  -- a passive reference without a section, to a live entry
+  Takes : (c t : ℕ) (e : Entry) → IsLiveAt m.history (length m.history) e → m.occupants t ≡ Some e.number → MayTake
       → IsModelStep MayTake m (with_passive m c e.number (m.passive c e.number + 1))
   -- a local reference to the last found entry; its release, by anyone
   Counts : (c : ℕ) (e : Entry) → m.found c ≡ Some e

@@ -4,7 +4,7 @@ use Rattle.std.specs.Prelude.{◌≡◌, ℕ, ◌-◌, List, ◌∷◌, [], ◌+
 use Rattle.protocol.specs.Types.{Driver, Entry, Name, Settings, MOST_CPUS, Attach, Detach, Vacant, Live, Retired, Mark}
 use Rattle.protocol.specs.declared.event.Event.{Event}
 use Rattle.protocol.specs.declared.event.Event.TheVariants.{Seat, Enter, Exit, Seek, LoadLink, LoadRecord, StoreSlot, StoreNext, Publish, Unpublish, Tell, Hear, Snapshot, Look, PassiveLook, CountAdd}
-use Rattle.protocol.specs.declared.event.Event.TheVariants.{SplitRef, JoinRef, CountDown, SplitBack, Collect, TotalAdd, JoinKeeper, TotalSub, Vacate, PassiveAdd, PassiveSub, Try, Confirm, TakeBack}
+use Rattle.protocol.specs.declared.event.Event.TheVariants.{SplitRef, JoinRef, CountDown, SplitBack, Collect, TotalAdd, JoinKeeper, TotalSub, Vacate, PassiveAdd, PassiveSub, Show, Hide, Recall, RecallHead, Refind, Try, Confirm, TakeBack}
 use Rattle.protocol.specs.declared.event.RecordOf.TheVariants.{Search as OfSearch}
 use Rattle.protocol.specs.declared.event.Reply.{Reply}
 use Rattle.protocol.specs.declared.event.Reply.TheVariants.{Done, Word, Found, Ref, Collected}
@@ -202,17 +202,25 @@ refused = None ∷ []
 abbrev pub fourth : Entry
 fourth = driver 5 2 wm2 13
 
--- CPU 0 tries wm2: it is busy until it confirms, and then has a reference
+-- wm2 is shown, and CPU 0 tries it: it is busy until it confirms, and then has a reference
 abbrev pub take_events : List Event
-take_events = Try 0 2 3 ∷ PassiveAdd 0 3 ∷ Confirm 0 ∷ PassiveSub 0 3 ∷ []
+take_events = Show 2 ∷ Recall 0 2 ∷ Try 0 2 3 ∷ PassiveAdd 0 3 ∷ Confirm 0 ∷ PassiveSub 0 3 ∷ []
 
--- wm2 is detached between
+-- wm2 is hidden and detached between: CPU 0 comes too late
 abbrev pub detach_between : List Event
-detach_between = Try 0 2 3 ∷ Unpublish 2 ∷ Snapshot (Some 2) 0 ∷ Snapshot (Some 2) 1 ∷ Confirm 0 ∷ PassiveSub 0 3 ∷ []
+detach_between = Try 0 2 3 ∷ Hide 2 ∷ Unpublish 2 ∷ Snapshot (Some 2) 0 ∷ Snapshot (Some 2) 1 ∷ Confirm 0 ∷ Recall 0 2 ∷ TakeBack 0 ∷ []
 
--- wm2 is detached between, and then wm1: CPU 0 comes too late
-abbrev pub detach_two_between : List Event
-detach_two_between = Try 0 2 3 ∷ Unpublish 2 ∷ Snapshot (Some 2) 0 ∷ Snapshot (Some 2) 1 ∷ Unpublish 1 ∷ Snapshot (Some 1) 0 ∷ Snapshot (Some 1) 1 ∷ Confirm 0 ∷ TakeBack 0 ∷ []
+-- wm2 is detached and wasn't hidden: its live word isn't honest, and can't be recalled
+abbrev pub detach_unhidden : List Event
+detach_unhidden = Unpublish 2 ∷ Snapshot (Some 2) 0 ∷ Snapshot (Some 2) 1 ∷ Recall 0 2 ∷ []
+
+-- wm2 is the newest live entry, until it is detached
+abbrev pub head_events : List Event
+head_events = RecallHead 0 ∷ Unpublish 2 ∷ Snapshot (Some 2) 0 ∷ Snapshot (Some 2) 1 ∷ RecallHead 0 ∷ []
+
+-- wm2 is shown, and CPU 0 finds it again, in a section alone, and by its number
+abbrev pub refind_events : List Event
+refind_events = Show 2 ∷ Refind 0 2 3 ∷ Enter 0 ∷ Refind 0 2 2 ∷ PassiveAdd 0 3 ∷ Refind 0 2 3 ∷ PassiveAdd 0 3 ∷ PassiveSub 0 3 ∷ Exit 0 ∷ []
 
 -- CPU 0 tries a slot for which it is clear, and the slot is freed
 abbrev pub free_between : List Event
@@ -221,18 +229,20 @@ free_between = Look (Some 2) 0 ∷ Look (Some 2) 1 ∷ PassiveLook 2 0 ∷ Passi
 -- the slot is given again, and no reference to the next occupant is got; its look finds what is tried
 abbrev pub give_between : List Event
 give_between = attach_events 1 fourth 2 (StoreSlot 2 5 bias ∷ StoreSlot 2 6 bias ∷ [])
-    ++ Confirm 0 ∷ Unpublish 2 ∷ Snapshot (Some 2) 0 ∷ Snapshot (Some 2) 1 ∷ Look (Some 2) 0 ∷ Look (Some 2) 1 ∷ PassiveLook 2 0 ∷ PassiveLook 2 1 ∷ Collect 2 0 ∷ TakeBack 0 ∷ PassiveLook 2 0
+    ++ Show 2 ∷ Confirm 0 ∷ Recall 0 2 ∷ Hide 2 ∷ Unpublish 2 ∷ Snapshot (Some 2) 0 ∷ Snapshot (Some 2) 1 ∷ Look (Some 2) 0 ∷ Look (Some 2) 1 ∷ PassiveLook 2 0 ∷ PassiveLook 2 1 ∷ Collect 2 0 ∷ TakeBack 0 ∷ PassiveLook 2 0
     ∷ Collect 2 0 ∷ []
 
 -- the row try-race
 pub record TryRace : Type 0 where
-  pub tries : replies all_three take_events ≡ loads 0 ++ refused ++ loads 0 ++ loads 1
+  pub tries : replies all_three take_events ≡ done_replies 1 ++ loads 3 ++ loads 0 ++ refused ++ loads 3 ++ loads 1
   -- what is tried is no reference, and what is confirmed is one
   pub tried : (picture (after all_three (Try 0 2 3 ∷ []))).passive 0 3 ≡ 0
   pub confirmed : (picture (after all_three (Try 0 2 3 ∷ Confirm 0 ∷ []))).passive 0 3 ≡ 1
-  pub detached : replies (after all_three take_events) detach_between ≡ loads 0 ++ done_replies 1 ++ loads 0 ++ loads 0 ++ loads 0 ++ loads 1
-  pub detached_before : replies all_three detach_two_between ≡ loads 0 ++ done_replies 1 ++ loads 0 ++ loads 0 ++ done_replies 1 ++ loads 0 ++ loads 0 ++ refused ++ loads 1
+  pub detached : replies (after all_three take_events) detach_between ≡ loads 0 ++ done_replies 2 ++ loads 0 ++ loads 0 ++ refused ++ loads 0 ++ loads 1
+  pub headed : replies all_three head_events ≡ loads 3 ++ done_replies 1 ++ loads 0 ++ loads 0 ++ loads 2
+  pub refound : replies all_three refind_events ≡ done_replies 1 ++ refused ++ done_replies 1 ++ refused ++ refused ++ loads 3 ++ loads 0 ++ loads 1 ++ done_replies 1
+  pub unhidden : replies (after all_three take_events) detach_unhidden ≡ done_replies 1 ++ loads 0 ++ loads 0 ++ refused
   pub freed : replies (after all_three (take_events ++ detach_between)) free_between
       ≡ loads 0 ++ loads 0 ++ loads 0 ++ loads 0 ++ loads 0 ++ refused ++ loads bias ++ done_replies 1 ++ loads bias ++ done_replies 2 ++ refused
   pub given : replies (after all_three (take_events ++ (detach_between ++ free_between))) give_between
-      ≡ done_replies 11 ++ refused ++ done_replies 1 ++ loads 0 ++ loads 0 ++ loads 0 ++ loads 0 ++ loads 1 ++ loads 0 ++ refused ++ loads 1 ++ loads 0 ++ loads bias
+      ≡ done_replies 12 ++ refused ++ loads 5 ++ done_replies 2 ++ loads 0 ++ loads 0 ++ loads 0 ++ loads 0 ++ loads 1 ++ loads 0 ++ refused ++ loads 1 ++ loads 0 ++ loads bias

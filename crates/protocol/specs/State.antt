@@ -21,8 +21,8 @@ pub record State : Type 0 where
   pub passive : List (List ℕ)
   pub counts : List (List ℕ)
   pub totals : List ℕ
-  -- how many changes the keeper has counted
-  pub changes : ℕ
+  -- one for each slot: the number of its live entry, or 0
+  pub lives : List ℕ
   -- beside them
   pub history : List Change
   pub seated : ℕ
@@ -86,6 +86,10 @@ count_at counts c t = cell 0 counts t c
 abbrev pub total_at : List ℕ → ℕ → ℕ
 total_at totals t = slice_index_or totals t 0
 
+-- the live word of the slot t
+abbrev pub live_at : List ℕ → ℕ → ℕ
+live_at lives t = slice_index_or lives t 0
+
 abbrev pub kept_at : List (Option ℕ) → ℕ → Option ℕ
 kept_at keeps t = slice_index_or keeps t None
 
@@ -103,7 +107,7 @@ opening z = record {
   passive = replicate z.slots (replicate MOST_CPUS 0);
   counts = replicate z.slots (replicate MOST_CPUS 0);
   totals = replicate z.slots bias;
-  changes = 0;
+  lives = replicate z.slots 0;
   history = [];
   seated = 0;
   begins = replicate z.cpus None;

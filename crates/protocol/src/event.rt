@@ -16,19 +16,6 @@ pub enum RecordOf {
     Compared(u8),
 }
 
-/// A shared word that a CPU may load outside a section, too.
-#[derive(Clone, Copy, Debug, PartialEq, Eq)]
-pub enum SharedWord {
-    /// How many changes the keeper has counted.
-    Changes,
-    /// The head of the list.
-    Head,
-    /// The link of this slot.
-    Link(u8),
-    /// Of the record of this slot word k, from 0 to 4.
-    Field(u8, u8),
-}
-
 /// One atomic step. CPUs and slots count from 0, entries' numbers from 1, local references' ids from 0.
 #[derive(Clone, Copy, Debug, PartialEq, Eq)]
 pub enum Event {
@@ -90,13 +77,20 @@ pub enum Event {
     KeptSub(u8),
     /// A retired entry's slot is vacant.
     Vacate(u8),
-    /// The keeper stores how many changes there are.
-    Count,
-    /// The CPU, which has no search under way, loads a shared word, inside a section or outside, and sees the whole history.
-    Peek(u8, SharedWord),
+    /// The keeper stores the number of the slot's live entry in the slot's live word: CPUs that remember the entry may answer by it.
+    Show(u8),
+    /// The keeper stores 0 in the slot's live word.
+    Hide(u8),
+    /// The CPU, which has no search under way, loads the slot's live word, inside a section or outside, and sees the whole history: the word is
+    /// 0, or the number of the slot's live entry. The CPU, the slot.
+    Recall(u8, u8),
+    /// The CPU, which has no search under way, loads the head of the list, inside a section or outside, and sees the whole history.
+    RecallHead(u8),
+    /// The CPU, inside a section and with no search, finds the slot's live entry again by its live word. The CPU, the slot, the number.
+    Refind(u8, u8, u64),
     /// The CPU counts its passive word of the slot up, to get a reference to the entry with this number. The CPU, the slot, the number.
     Try(u8, u8, u64),
-    /// What the CPU has counted up is a reference: its entry has the slot, and is live, or was detached by the last change.
+    /// What the CPU has counted up is a reference: its entry is the slot's live one. The slot's live word is loaded.
     Confirm(u8),
     /// The CPU counts down again what it has counted up.
     TakeBack(u8),

@@ -1,7 +1,7 @@
 //! The laws of the core, over every list of events and of every state with the core invariant: functions that do nothing, whose contracts are
 //! the laws.
 
-ghost use Rattle.protocol.specs.Laws.{BalanceAtRest, DriversOutlive, EveryRunKeeps, FreshAnswers, GraceLaw, Headline, InvariantSuffices, LawfulAnswers, SafeReuse, UntriedRuns, WholePasses};
+ghost use Rattle.protocol.specs.Laws.{BalanceAtRest, DriversOutlive, EveryRunKeeps, FreshAnswers, GraceLaw, Headline, InvariantSuffices, LawfulAnswers, LiveRecalls, NewestRecalls, SafeReuse, UntriedRuns, WholePasses};
 ghost use Rattle.protocol.specs.Picture.{EveryRunIsModelRun};
 ghost use Rattle.protocol.specs.Rows.{CollectRace, FrozenLink, TryRace};
 
@@ -45,10 +45,14 @@ pub fn lawful_answers()
 ///
 /// - `fresh`: it is the registry's at some point from the search's Seek on, to the CPU's new pass, even if the CPU's pass was older. So an
 ///   entry that was live at the Seek and isn't detached yet is found, and one that was detached before the Seek isn't.
-/// - `whole`: a CPU that has just entered a section, heard a note, or made a load of a lookup by loads, has seen the whole history.
+/// - `whole`: a CPU that has just entered a section, heard a note, or recalled an entry or the head, has seen the whole history.
+/// - `live`: an entry that a CPU recalls, finds again, or confirms a reference to, is live at that very point of the history.
+/// - `newest`: the head that a CPU recalls leads to the newest entry that is live at that very point, or no entry is.
 pub fn fresh_answers()
     ensures fresh { FreshAnswers }
     ensures whole { WholePasses }
+    ensures live { LiveRecalls }
+    ensures newest { NewestRecalls }
 {}
 
 /// Theorem, no effect at run time: at rest the balance of each slot is its local references held.
@@ -77,8 +81,8 @@ pub fn invariant_suffices()
 ///
 /// - `frozen_link`: a search goes on along the frozen link of an unlinked entry.
 /// - `collect_race`: a reference is given back while its count is collected.
-/// - `try_race`: a CPU gets a passive reference without a section, then one to an entry that is detached meanwhile, and comes too late for
-///   a slot that is freed and given again.
+/// - `try_race`: a CPU recalls an entry and gets a passive reference to it without a section; it comes too late for an entry that is
+///   detached meanwhile, and for a slot that is freed and given again. It recalls the head, and finds an entry again in a section alone.
 pub fn worked_run()
     ensures frozen_link { FrozenLink }
     ensures collect_race { CollectRace }

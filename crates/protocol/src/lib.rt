@@ -18,7 +18,7 @@ mod event;
 mod laws;
 mod state;
 
-pub use event::{Counted, Event, RecordOf, Reply, SharedWord, Short, StepFault};
+pub use event::{Counted, Event, RecordOf, Reply, Short, StepFault};
 pub use laws::{
     balance_at_rest, every_run_keeps, grace_law, headline, invariant_suffices, lawful_answers,
     safe_reuse, worked_run,

@@ -112,7 +112,7 @@
  *
  * The reason: all steps on the registry's shared words are sequentially consistent atomics.
  *
- * - An attach stores the list's head last. A find loads the head, and links that were stored before the head.
+ * - An attach stores the list's head, and then a word that says that the entry is live. A find loads the head and links stored before it, or that word.
  * - An exit adds to the CPU's section word. The keeper loads that word before it counts the CPU's section as ended.
  * - A release subtracts from the CPU's passive word, which the keeper loads. A local release exchanges the CPU's count word, which the keeper swaps.
  *
@@ -122,8 +122,9 @@
  * THE LIMITS
  *
  * Each build of the library is proved for its limits: the numbers of registry_limits.h. The sizes of structs depend on two of them, the most CPUs and
- * the most slots. A program that was compiled for other CPUs or slots doesn't link with the library or start with it: the linker or the loader names
- * the missing symbol, such as registry_for_8_cpus_32_slots. If only other limits differ, registry_open returns REGISTRY_OTHER_LIMITS.
+ * the most slots. A program that was compiled for other CPUs or slots, or with the header of another version, doesn't link with the library or start
+ * with it: the linker or the loader names the missing symbol, such as registry_for_8_cpus_32_slots_v0_1. That has the major and the minor version, or
+ * from 1 on the major one. If only other limits differ, registry_open returns REGISTRY_OTHER_LIMITS.
  *
  * THE PLATFORM
  *
@@ -147,7 +148,7 @@
 extern "C" {
 #endif
 
-/* The version of this header and of the library, libkupaldiz. It is written only here: clients/install.mk reads it. */
+/* The version of this header and of the library, libkupaldiz. It is written only here: packaging/install.mk reads it. */
 #define REGISTRY_VERSION_MAJOR	0
 #define REGISTRY_VERSION_MINOR	1
 #define REGISTRY_VERSION_PATCH	0
@@ -215,7 +216,7 @@ enum {
 	REGISTRY_DRIVER = 2
 };
 
-/* How far the destruction of a retired entry has come: the first thing that holds it. `what` says which CPU, how many, or which slot. */
+/* How far the destruction of a retired entry has come: what a turn met first. `what` says which CPU, how many, or which slot. */
 enum {
 	REGISTRY_GRACE = 0,	/* a section of this CPU may hold it */
 	REGISTRY_PASSIVE = 1,	/* this CPU has a passive reference to it, or is in a registry_get that may be acquiring one */
@@ -366,9 +367,9 @@ const char *registry_version(void);
 void registry_limits(struct registry_limits *limits);
 
 /*
- * Compares the limits that a program was compiled for with the library's. registry_open calls it. Its name in the library has the most CPUs and the
- * most slots, such as registry_for_8_cpus_32_slots. So no program links or starts with a library whose structs have other sizes. It is C: tested, not
- * proved.
+ * Compares the limits that a program was compiled for with the library's. registry_open calls it. Its name in the library has the most CPUs, the most
+ * slots and the version, such as registry_for_8_cpus_32_slots_v0_1. So no program links or starts with a library whose structs or calls are others. It is
+ * C: tested, not proved.
  * Returns REGISTRY_NULL if `limits` is NULL, REGISTRY_OTHER_LIMITS if any of them differs.
  */
 registry_answer REGISTRY_BUILT_FOR(const struct registry_limits *limits) REGISTRY_CHECKED;
@@ -562,10 +563,11 @@ registry_answer registry_release(struct registry_cpu *cpu, uint64_t number) REGI
 /* ---- The usual path in one call. Each is the calls that it names, in their order. The caller runs on the CPU. ---- */
 
 /*
- * registry_look_up - enter, find and exit, or loads alone: a copy of the live entry with this kind and name
+ * registry_look_up - enter, find and exit, or one load: a copy of the live entry with this kind and name
  *
- * Outside any section the call first searches by loads alone: no section begins, and no shared word is written. If an attach or a detach is made
- * meanwhile, if `name` is NULL or `kind` is no kind, and inside an open section, it makes an enter, a find and an exit.
+ * A CPU remembers the entries that its lookups found. Outside any section one load tells whether such an entry is still live: then no section begins, and
+ * no shared word is written. Otherwise, if no entry has the name, if `name` is NULL or `kind` is no kind, and inside an open section, the call makes an
+ * enter, a find and an exit.
  * The result is what the registry had at one moment during the call, as with registry_find: it finds an entry whose attach returned before the call
  * began, unless that entry is detached before the call returns. It doesn't find an entry whose detach returned before the call began.
  * Outside any section nothing holds the entry afterwards. `found` is a copy. When the call returns, the entry may be freed, and so may the memory that
@@ -581,14 +583,14 @@ registry_answer registry_look_up(struct registry_cpu *cpu, uint64_t kind, const 
     REGISTRY_NONNULL(1) REGISTRY_CHECKED;
 
 /*
- * registry_get - enter, find, acquire and exit, or loads and one addition: a passive reference to the live entry with this kind and name
+ * registry_get - enter, find, acquire and exit, or an addition and a load: a passive reference to the live entry with this kind and name
  *
  * The number in `found` is the reference. The entry keeps its slot until that number is released by registry_release. Until then the memory that its
  * `value` points to may be used. It finds what registry_look_up finds.
- * Outside any section the call first searches by loads alone, and adds the reference to a word of the CPU's own: no section begins, and no other shared
- * word is written. If an attach or a detach is made meanwhile, if `name` is NULL or `kind` is no kind, if the CPU has passive_limit references to the
- * entry, and inside an open section, it makes an enter, a find, an acquire and an exit. Until the call returns, a turn of the keeper's may write
- * REGISTRY_PASSIVE of this CPU for a retired entry. The CPU need not have a reference then.
+ * Outside any section, if the CPU remembers the entry, the call adds the reference to a word of the CPU's own, and loads one that says whether the entry
+ * is still live. If so, no section begins, and no other shared word is written. Otherwise it makes an enter, a find, an acquire and an exit, as
+ * registry_look_up makes its calls. So it does if the CPU has passive_limit references to the entry. Until the call returns, a turn of the keeper's may
+ * write REGISTRY_PASSIVE of this CPU for a retired entry. The CPU need not have a reference then.
  * `found` may be NULL, for a caller that knows the number already, such as the one that attached the entry. The reference is acquired all the same.
  * Inside an open section the call is nested in it, as registry_look_up is.
  * Returns the errors of registry_look_up in their order, then REGISTRY_PASSIVE_FULL. With REGISTRY_PASSIVE_FULL nothing is acquired, but inside an open
@@ -712,7 +714,7 @@ registry_answer registry_detach(struct registry_keeper *keeper, struct registry_
 /*
  * registry_advance - one turn of the work on the retired entry with this number
  *
- * The first thing that holds the entry is written to `met`. If nothing holds it, REGISTRY_FREED and its slot are written: the slot is vacant from then
+ * What the turn met first is written to `met`. If it met nothing, nothing holds the entry. REGISTRY_FREED and its slot are written: it is vacant from then
  * on, and the entry is gone permanently, as after registry_destroy returns REGISTRY_DONE. `met` may be NULL: once the entry is freed, the next call with
  * its number returns REGISTRY_NOT_RETIRED. The order of what is written:
  *
@@ -736,8 +738,8 @@ registry_answer registry_advance(struct registry_keeper *keeper, uint64_t number
  * the entry, too: while it keeps one, no turn returns REGISTRY_DONE.
  * With REGISTRY_DONE the entry is gone permanently, on every CPU, now and later: no section may hold it, no passive and no local reference to it is
  * held, and no slot keeps it. REGISTRY_FREED and the slot that it had are written to `met`, which may be NULL.
- * Returns REGISTRY_EMPTY_HANDLE for either handle, REGISTRY_INSIDE, REGISTRY_NOT_RETIRED, REGISTRY_STILL_HELD. With REGISTRY_STILL_HELD the first thing
- * that holds the entry is written to `met`. What the turn learned and collected stays.
+ * Returns REGISTRY_EMPTY_HANDLE for either handle, REGISTRY_INSIDE, REGISTRY_NOT_RETIRED, REGISTRY_STILL_HELD. With REGISTRY_STILL_HELD what the turn met
+ * first is written to `met`. What the turn learned and collected stays.
  */
 registry_answer registry_destroy(struct registry_keeper *keeper, struct registry_cpu *cpu, uint64_t number, struct registry_stage *met)
     REGISTRY_NONNULL(1, 2) REGISTRY_CHECKED;

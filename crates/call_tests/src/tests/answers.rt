@@ -10,13 +10,11 @@ pub(crate) enum Answer {
     Refused(Refusal),
     /// Nothing was found.
     Nothing,
-    /// Loads alone told nothing: a change was counted meanwhile, or a get met the limit of references.
-    Vain,
     /// The entry with this number, in this slot.
     At(u64, u8),
     /// How the destruction of an entry has come on.
     Come(Stage),
-    /// The number of a slot.
+    /// The number of a slot, or how many there are.
     Number(u64),
     /// Whether it is so.
     Is(bool),

@@ -3,12 +3,12 @@
 
 mod answers;
 mod bench;
-mod by_loads;
 mod keepers;
 mod memory_tests;
 mod readers;
 mod records;
 mod registry_rows;
+mod remembered;
 mod sizes;
 mod table;
 mod threads;

@@ -6,8 +6,8 @@ use super::answers::{Answer, at, done};
 use super::records::{WM, Wanted, record};
 use cpu_words::{Domain, Words};
 use local_count::{LocalRef, acquire_local};
-use passive_list::{Cpu, enter, exit, find, find_by_loads, walk};
-use passive_ref::{Psref, acquire, copy, get_by_loads, held, read, release};
+use passive_list::{Cpu, enter, exit, find, find_remembered, may_begin_on, recall_on, walk};
+use passive_ref::{Psref, acquire, copy, get_remembered, held, read, release};
 use registry_values::{Entry, MOST_SLOTS, Record, Refusal};
 use std::process::Abort;
 
@@ -17,10 +17,14 @@ pub(crate) enum Reader {
     Enter,
     Exit,
     Find(Wanted),
-    /// It looks up by loads alone.
-    Loads(Wanted),
-    /// It looks up by loads alone, and acquires a passive reference to what it finds.
+    /// From outside, it looks up by memory.
+    LookUp(Wanted),
+    /// From outside, it gets a passive reference by memory.
     Get(Wanted),
+    /// Whether the slot's live entry has this number.
+    Recall(u8, u64),
+    /// How many sections it has ended.
+    Ended,
     /// It walks over all entries, and meets these numbers with their records. The last found entry is then none.
     Walk(&'static [(u64, Wanted)]),
     /// It acquires a local reference to what it found last.
@@ -127,8 +131,13 @@ pub(crate) fn by_reader<D: Domain, R: Abort>(
         Reader::Enter => done(enter(words, cpu)),
         Reader::Exit => exited(rt, words, cpu),
         Reader::Find(wanted) => found(rt, words, cpu, record(rt, wanted)),
-        Reader::Loads(wanted) => found_by_loads(rt, words, cpu, record(rt, wanted)),
-        Reader::Get(wanted) => got_by_loads(rt, words, cpu, refs, record(rt, wanted)),
+        Reader::LookUp(wanted) => looked_up(rt, words, cpu, record(rt, wanted)),
+        Reader::Get(wanted) => got(rt, words, cpu, refs, record(rt, wanted)),
+        Reader::Recall(slot, number) => {
+            assert!(rt; usize::from(slot) < MOST_SLOTS && slot < words.settings().slots);
+            Answer::Is(recall_on(words, &mut cpu.plain, slot, number))
+        }
+        Reader::Ended => Answer::Number(cpu.plain.ended),
         Reader::Walk(met) => meets(rt, words, cpu, met),
         Reader::Count => kept(rt, &mut refs.local, acquire_local(words, cpu)),
         Reader::Acquire => kept(rt, &mut refs.passive, acquire(words, cpu)),
@@ -167,8 +176,8 @@ fn found<D: Domain, R: Abort>(rt: &R, words: &Words, cpu: &mut Cpu<D>, rec: Reco
     }
 }
 
-/// The CPU looks the record's kind and name up by loads alone.
-pub(crate) fn found_by_loads<D: Domain, R: Abort>(
+/// The CPU looks the record's kind and name up by memory.
+pub(crate) fn looked_up<D: Domain, R: Abort>(
     rt: &R,
     words: &Words,
     cpu: &mut Cpu<D>,
@@ -176,19 +185,27 @@ pub(crate) fn found_by_loads<D: Domain, R: Abort>(
 ) -> Answer
     requires words { AreWordsOf words.now D.table D.settings }
 {
-    match find_by_loads(words, &mut cpu.plain, rec.kind, rec.name) {
-        Some(Some(seen)) => {
-            assert_eq!(rt; seen.value, rec.value);
-            assert!(rt; seen.slot < MOST_SLOTS as u64);
-            Answer::At(seen.number, seen.slot as u8)
-        }
-        Some(None) => Answer::Nothing,
-        None => Answer::Vain,
+    match look_up(rt, words, cpu, rec) {
+        Some(entry) => at(rt, entry, rec),
+        None => Answer::Nothing,
     }
 }
 
-/// The CPU gets a passive reference to the entry with the record's kind and name, without a section.
-fn got_by_loads<D: Domain, R: Abort>(
+/// A lookup by memory, of the record's kind and name.
+fn look_up<D: Domain, R: Abort>(
+    rt: &R,
+    words: &Words,
+    cpu: &mut Cpu<D>,
+    rec: Record,
+) -> Option<Entry>
+    requires words { AreWordsOf words.now D.table D.settings }
+{
+    assert!(rt; may_begin_on(words, &cpu.plain));
+    find_remembered(words, cpu, rec.kind, &rec.name)
+}
+
+/// The CPU gets a passive reference to the entry with the record's kind and name.
+fn got<D: Domain, R: Abort>(
     rt: &R,
     words: &Words,
     cpu: &mut Cpu<D>,
@@ -197,16 +214,36 @@ fn got_by_loads<D: Domain, R: Abort>(
 ) -> Answer
     requires words { AreWordsOf words.now D.table D.settings }
 {
-    match get_by_loads(words, &mut cpu.plain, rec.kind, rec.name) {
-        Some(Some((seen, psref))) => {
-            assert_eq!(rt; (seen.number, seen.value), (psref.number(), rec.value));
-            assert!(rt; seen.slot < MOST_SLOTS as u64);
+    match get(rt, words, cpu, rec) {
+        Ok((entry, psref)) => {
+            assert_eq!(rt; (entry.number, entry.rec), (psref.number(), rec));
             put(rt, &mut refs.passive, psref);
             Answer::Done
         }
-        Some(None) => Answer::Nothing,
-        None => Answer::Vain,
+        Err(refusal) => Answer::Refused(refusal),
     }
+}
+
+/// A get by memory, of the record's kind and name. Between a lookup and the get of what that found, the entry may be detached, and another one attached:
+/// a hundred times at most.
+fn get<D: Domain, R: Abort>(
+    rt: &R,
+    words: &Words,
+    cpu: &mut Cpu<D>,
+    rec: Record,
+) -> Result<(Entry, Psref), Refusal>
+    requires words { AreWordsOf words.now D.table D.settings }
+{
+    for _ in 0..100 {
+        let got = get_remembered(words, cpu, rec.kind, &rec.name);
+        if let Some(answer) = got {
+            return Ok(answer);
+        }
+        if look_up(rt, words, cpu, rec).is_none() {
+            return Err(Refusal::NotFound);
+        }
+    }
+    Err(Refusal::PassiveFull)
 }
 
 /// The CPU walks in its open section. The numbers fall, and past them the row is as it was.

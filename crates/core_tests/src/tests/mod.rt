@@ -7,7 +7,7 @@ mod data;
 mod event_rows;
 mod give;
 mod memory_tests;
-mod peek_rows;
+mod recall_rows;
 mod try_rows;
 mod twins;
 mod values;

@@ -2,6 +2,7 @@
 
 use super::bench::{Ask, Line, Row, Told, run_rows};
 use super::data::{A, ATTACH_WM, ENTER, EXIT, USUAL, VGA, WM};
+use super::recall_rows::{DETACH_WM, FREED, RECALL, SHOW};
 use super::twins::{core_after, same_after};
 use passive_core::{Counted, Event, Refusal, Reply, Settings, Stage, run_events};
 use std::process::Abort;
@@ -14,22 +15,11 @@ const CONFIRM: Ask = Ask::Step(Event::Confirm(0));
 
 const TAKE_BACK: Ask = Ask::Step(Event::TakeBack(0));
 
-const COUNT: Ask = Ask::Step(Event::Count);
-
-/// CPU 1 attaches the driver vga beside wm, and detaches the two.
-const ATTACH_VGA: Line = (1, Ask::Attach(VGA), Ok(Told::Entry(2, 1, 8)));
-
-const DETACH_VGA: Line = (1, Ask::Detach(VGA), Ok(Told::Entry(2, 1, 8)));
-
-const DETACH_WM: Line = (1, Ask::Detach(WM), Ok(Told::Entry(1, 0, 7)));
-
-/// CPU 0 is in the way of the destruction of wm, or nothing is.
+/// CPU 0 is in the way of the destruction of wm.
 const IN_THE_WAY: Line = (1, Ask::Advance(1), Ok(Told::Stage(Stage::Passive(0))));
 
-const FREED: Line = (1, Ask::Advance(1), Ok(Told::Stage(Stage::Freed(0))));
-
-const ROWS: [Row; 10] = [
-    // Between the two events the CPU makes no other step of its own. What it confirms is a reference as any other.
+const ROWS: [Row; 8] = [
+    // Between the two events the CPU makes no other step that needs an idle CPU. What it confirms is a reference as any other.
     Row {
         name: "tried and confirmed",
         settings: USUAL,
@@ -47,38 +37,23 @@ const ROWS: [Row; 10] = [
             (0, Ask::Held(A), Ok(Told::Is(true))),
             (0, Ask::Read(A), Ok(Told::Record(7))),
             (0, Ask::Copy(A), Ok(Told::Psref(A))),
+            SHOW,
             (0, TRY, Ok(Told::Word(2))),
-            (0, CONFIRM, Ok(Told::Word(0))),
+            (0, CONFIRM, Ok(Told::Word(1))),
             (0, Ask::Release(A), Ok(Told::Done)),
             (0, Ask::Release(A), Ok(Told::Done)),
             (0, Ask::Release(A), Ok(Told::Done)),
             (0, Ask::Release(A), Err(Refusal::NotHeld)),
         ],
     },
-    // A Confirm replies the count of changes, as it was stored last.
-    Row {
-        name: "the count of changes",
-        settings: USUAL,
-        lines: &[
-            ATTACH_WM,
-            (0, COUNT, Ok(Told::Done)),
-            (0, TRY, Ok(Told::Word(0))),
-            (0, CONFIRM, Ok(Told::Word(1))),
-            ATTACH_VGA,
-            (0, Ask::Step(Event::Try(0, 1, 2)), Ok(Told::Word(0))),
-            (0, CONFIRM, Ok(Told::Word(1))),
-            (0, TRY, Ok(Told::Word(1))),
-            (0, COUNT, Ok(Told::Done)),
-            (0, CONFIRM, Ok(Told::Word(2))),
-        ],
-    },
-    // What is taken back was no reference.
+    // What is taken back was no reference. A load of a live word that isn't the number tried is a Recall.
     Row {
         name: "tried and taken back",
         settings: USUAL,
         lines: &[
             ATTACH_WM,
             (0, TRY, Ok(Told::Word(0))),
+            (0, RECALL, Ok(Told::Word(0))),
             (0, TAKE_BACK, Ok(Told::Word(1))),
             (0, TAKE_BACK, Ok(Told::NotAllowed)),
             (0, Ask::Held(A), Ok(Told::Is(false))),
@@ -89,7 +64,7 @@ const ROWS: [Row; 10] = [
             FREED,
         ],
     },
-    // The entry may be detached between the two events.
+    // What is detached isn't confirmed. The CPU is in the way until it takes its addition back.
     Row {
         name: "detached between",
         settings: USUAL,
@@ -97,24 +72,8 @@ const ROWS: [Row; 10] = [
             ATTACH_WM,
             (0, TRY, Ok(Told::Word(0))),
             DETACH_WM,
-            (0, CONFIRM, Ok(Told::Word(0))),
-            (0, Ask::Read(A), Ok(Told::Record(7))),
-            IN_THE_WAY,
-            (0, Ask::Release(A), Ok(Told::Done)),
-            FREED,
-        ],
-    },
-    // After a second change the CPU comes too late, even if its slot has the entry. It is in the way until it takes its addition back.
-    Row {
-        name: "a change too late",
-        settings: USUAL,
-        lines: &[
-            ATTACH_WM,
-            ATTACH_VGA,
-            (0, TRY, Ok(Told::Word(0))),
-            DETACH_WM,
-            DETACH_VGA,
             (0, CONFIRM, Ok(Told::NotAllowed)),
+            (0, RECALL, Ok(Told::Word(0))),
             IN_THE_WAY,
             (
                 1,
@@ -224,20 +183,23 @@ fn rows_of_tries(rt: HostRuntime) -> Result<(), Fail> {
     run_rows(&rt, &ROWS)
 }
 
-/// A list of events has them as any other.
+/// A list of events has them as any other, and those of the live words.
 #[test]
 fn list_of_tries(rt: HostRuntime) -> Result<(), Fail> {
     let mut core = core_after(&rt, &[])?;
     let events = [
-        Event::Count,
+        Event::Show(0),
         Event::Try(0, 0, 2),
         Event::Confirm(0),
+        Event::Recall(0, 0),
         Event::TakeBack(0),
+        Event::Hide(0),
         Event::Try(0, 0, 1),
+        Event::Show(0),
         Event::Confirm(0),
     ];
     let expected = Counted {
-        taken: 5,
+        taken: 8,
         refused: 1,
         last: Some(Reply::Word(1)),
     };
@@ -259,7 +221,7 @@ fn holds_after(rt: &(impl Abort + AllocGlobal), events: &[Event]) -> Result<bool
     Ok(core.held(0, A))
 }
 
-/// What is tried is held from its Confirm on.
+/// What is tried is held from its Confirm on. Taken back, or released, it leaves the core as it was.
 #[test]
 fn held_once_confirmed(rt: HostRuntime) -> Result<(), Fail> {
     assert!(rt; !holds_after(&rt, &[])?, "nothing was tried");
@@ -273,25 +235,11 @@ fn held_once_confirmed(rt: HostRuntime) -> Result<(), Fail> {
         holds_after(&rt, &[TRIED, CONFIRMED, TRIED])?,
         "the first is confirmed"
     );
-    Ok(())
-}
-
-/// What is taken back, or confirmed and released, leaves the core as it was.
-#[test]
-fn nothing_is_left(rt: HostRuntime) -> Result<(), Fail> {
-    let released = [TRIED, CONFIRMED, Event::PassiveSub(0, 1)];
-    assert!(rt; !same_after(&rt, &[TRIED], &[])?, "a word is counted up");
-    assert!(rt;
-        !same_after(&rt, &[TRIED, CONFIRMED], &[TRIED])?,
-        "the hand is empty"
-    );
     assert!(rt;
         same_after(&rt, &[TRIED, Event::TakeBack(0)], &[])?,
-        "the addition is taken back"
+        "taken back"
     );
-    assert!(rt;
-        same_after(&rt, &released, &[])?,
-        "the reference is released"
-    );
+    let released = [TRIED, CONFIRMED, Event::PassiveSub(0, 1)];
+    assert!(rt; same_after(&rt, &released, &[])?, "released");
     Ok(())
 }

@@ -13,8 +13,8 @@ use Rattle.registry_values.proofs.Fit.{ranges}
 use Rattle.protocol.proofs.slots.Cells.{get_or_all, row_here, row_other, cell_here, cell_other}
 use Rattle.protocol.proofs.history.History.{at_within, one_entry}
 use Rattle.protocol.proofs.slots.Occupied.{not_vacant, one_in, one_number, attached_in}
-use Rattle.cpu_words.specs.Common.{InHand, CpuView, Spot, section_of, passive_of, count_of, head_word, changes_word, next_of, record_of, total_of, word_at, index, number_at, with_number, one_more, own_of, cpu_view}
-use Rattle.cpu_words.specs.Common.{SameHand, HandFits, depth_of, collected_net, collected_one, GivesUp, CpuShown, PeekShows, trying_in, Agrees, Good, IsNetCount, IsPlaceCount, IsMetAlone}
+use Rattle.cpu_words.specs.Common.{InHand, CpuView, Spot, section_of, passive_of, count_of, head_word, live_of, next_of, record_of, total_of, word_at, index, number_at, with_number, one_more, own_of, cpu_view}
+use Rattle.cpu_words.specs.Common.{SameHand, HandFits, depth_of, collected_net, collected_one, GivesUp, CpuShown, trying_in, Agrees, Good, IsNetCount, IsPlaceCount, IsMetAlone}
 use Rattle.cpu_words.proofs.shown.Placing.{agrees_set}
 use Rattle.cpu_words.proofs.by_cpu.CpuSteps.{CpuLists, lists_of, with_lists, LeavesOthers}
 use Rattle.cpu_words.proofs.shown.Seeing.{seen_of}
@@ -137,7 +137,7 @@ count_words words g c t w v h locals good agrees lt there =
     other (passive_of d u) ne = refl
     other (count_of d u) ne = cell_other 0 g.counts t c w u d (λ a b. ne (λ k. count_of (b k) (a k)))
     other head_word ne = refl
-    other changes_word ne = refl
+    other (live_of u) ne = refl
     other (next_of u) ne = refl
     other (record_of u k) ne = refl
     other (total_of u) ne = refl
@@ -222,6 +222,5 @@ shown_count g x e t w v h locals k acquired released good had here lt count same
       there = there_on g x e t good had here;
       found = λ f is. subst (λ (p : List Change). IsAttached p f) seen.pass (had.found f (seen.found ∙ is));
       references = λ f among. subst (λ (p : List Change). IsAttached p f) seen.pass (had.references f among);
-      peek = subst (λ (p : List Change). PeekShows p g.changes x.peek) seen.pass had.peek;
       noted_pass = had.noted_pass;
     }

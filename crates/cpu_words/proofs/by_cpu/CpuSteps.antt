@@ -7,12 +7,11 @@ use Rattle.cpu_words.specs.Types.{Entry, Change, Settings, Event, Reply, Vacant,
 use Rattle.protocol.specs.Common.{IsAttached, State, section_at, begin_at, depth_at, seen_at, search_at, found_at, hand_at, passive_at, count_at, step, standing_of}
 use Rattle.registry_values.specs.Common.{slot_at}
 use Rattle.protocol.proofs.keeps.Keeping.{step_holds}
-use Rattle.cpu_words.specs.Common.{CpuView, View, Keeper, Cpu, Reference, Note, Spent, CpuOwn, own_of, cpu_view, SameHand, depth_of, GivesUp, CpuShown, PeekShows, Agrees, IsFresh, Good, Ruled, GoesOn, by_number}
+use Rattle.cpu_words.specs.Common.{CpuView, View, Keeper, Cpu, Reference, Note, Spent, CpuOwn, own_of, cpu_view, SameHand, depth_of, GivesUp, CpuShown, Agrees, IsFresh, Good, Ruled, GoesOn, by_number}
 use Rattle.cpu_words.specs.Common.{did, Makes}
 use Rattle.cpu_words.proofs.shown.Showing.{standing_in, Stay, shows_set}
 use Rattle.cpu_words.proofs.laws.Reaching.{more}
-use Rattle.cpu_words.proofs.shown.Passes.{attached_longer, prefix_longer}
-use Rattle.cpu_words.proofs.shown.Peeks.{peek_longer}
+use Rattle.cpu_words.proofs.shown.Passes.{attached_longer}
 
 -- what an event of a CPU can change in the core
 pub record CpuLists : Type 0 where
@@ -80,7 +79,6 @@ other_view g l c d own leaves ne n = record {
   begin = sym (leaves.begins d ne) n;
   pass = take (sym (leaves.seen d ne) n) g.history;
   search = sym (leaves.searches d ne) n;
-  peek = own.peek;
   found = sym (leaves.found d ne) n;
   hand = own.hand;
   references = own.references;
@@ -100,7 +98,7 @@ cpu_stays g l c seat i leaves mine j (Keeper k) ne sits shown backed = record {
   gives_up = λ t e here. leaves.gives_up k.given_up t e here (shown.gives_up t e here);
   later = shown.later;
   beyond = shown.beyond;
-  counted = shown.counted;
+  honest = shown.honest;
   noted_pass = shown.noted_pass;
 }
 cpu_stays g l c seat i leaves mine j (Cpu y) ne sits shown backed =
@@ -118,7 +116,6 @@ cpu_stays g l c seat i leaves mine j (Cpu y) ne sits shown backed =
       there = shown.there;
       found = shown.found;
       references = shown.references;
-      peek = shown.peek;
       noted_pass = shown.noted_pass;
     }
 cpu_stays g l c seat i leaves mine j (Reference v) ne sits shown backed = record { attached = shown.attached; collected = shown.collected }
@@ -211,10 +208,6 @@ shown_on g x l had hands passive nets depth more within found = record {
   found = found;
   references = λ e among. attached_longer g.history (seen_at g x.id) (get_or l.seen x.id 0) e more within
       (subst (λ (p : List Change). IsAttached p e) (ap (λ (v : CpuView). v.pass) had.is) (had.references e among));
-  peek = peek_longer (take (seen_at g x.id) g.history) (take (get_or l.seen x.id 0) g.history) g.changes g.changes x.peek
-      (prefix_longer g.history (seen_at g x.id) (get_or l.seen x.id 0) more within)
-      (omega arith)
-      (subst (λ (p : List Change). PeekShows p g.changes x.peek) (ap (λ (v : CpuView). v.pass) had.is) had.peek);
   noted_pass = had.noted_pass;
 }
 

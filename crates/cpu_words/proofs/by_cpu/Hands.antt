@@ -12,7 +12,7 @@ use Rattle.protocol.proofs.counts.Sums.{one_at, local_changed, local_added, stan
 use Rattle.cpu_words.proofs.laws.Reaching.{more}
 use Rattle.cpu_words.proofs.logs.Seats.{tells_nothing, names_nobody, seat_cut, seat_join}
 use Rattle.cpu_words.proofs.shown.Standing.{standing_place}
-use Rattle.cpu_words.specs.Common.{InHand, CpuView, ReferenceView, LogItem, Logged, View, Cpu, Reference, Spent, Spot, section_of, passive_of, count_of, head_word, changes_word, next_of, record_of, total_of}
+use Rattle.cpu_words.specs.Common.{InHand, CpuView, ReferenceView, LogItem, Logged, View, Cpu, Reference, Spent, Spot, section_of, passive_of, count_of, head_word, live_of, next_of, record_of, total_of}
 use Rattle.cpu_words.specs.Common.{word_at, is_to, SameHand, HandFits, IsCollectedFor, CpuShown, ReferenceShown, cpu_of, reference_of, reference_to, Good, number_or_none, number_of_id, by_number, did}
 use Rattle.cpu_words.specs.Common.{log_of_events, the_cpu, maker, LoggedRuled, logged_after_split, no_log, no_teller, fresh, joined_seat, spent_seat, leaves_hand, cuts_off, takes_in, SplitsBy}
 use Rattle.cpu_words.specs.Common.{JoinsBy, SplitsOn, JoinsOn, IsIdle, with_hand, reference_in, with_empty_hand, reference_of_hand, with_reference_in_hand, IsTaking, IsBack, IsTrying, trying_in}
@@ -51,7 +51,7 @@ same_words g c h locals (section_of d) = refl
 same_words g c h locals (passive_of d t) = refl
 same_words g c h locals (count_of d t) = refl
 same_words g c h locals head_word = refl
-same_words g c h locals changes_word = refl
+same_words g c h locals (live_of u) = refl
 same_words g c h locals (next_of t) = refl
 same_words g c h locals (record_of t k) = refl
 same_words g c h locals (total_of t) = refl
@@ -124,7 +124,6 @@ shown_hand g x h locals k good had same fits tries =
       there = had.there;
       found = had.found;
       references = had.references;
-      peek = had.peek;
       noted_pass = had.noted_pass;
     }
 

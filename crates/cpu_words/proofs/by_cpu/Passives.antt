@@ -15,8 +15,8 @@ use Rattle.protocol.proofs.history.History.{one_entry}
 use Rattle.protocol.proofs.slots.Cells.{cell_here, cell_other}
 use Rattle.protocol.proofs.slots.Occupied.{attached_in, one_in, in_within, one_number, slot_occupied, slot_found}
 use Rattle.protocol.proofs.slots.Numbers.{slot_number}
-use Rattle.cpu_words.specs.Common.{CpuView, LogItem, View, Cpu, Spot, section_of, passive_of, count_of, head_word, changes_word, next_of, record_of, total_of, word_at, index, CpuOwn, own_of, cpu_view, depth_of}
-use Rattle.cpu_words.specs.Common.{references_to, trying_in, without, CpuShown, PeekShows, cpu_of, Agrees, Good, Ruled, GoesOn, by_number, did, Makes, CpuMay, IsIdle, MayAdd, MayUse, HasSubtracted, IsAloneAt, tells_added}
+use Rattle.cpu_words.specs.Common.{CpuView, LogItem, View, Cpu, Spot, section_of, passive_of, count_of, head_word, live_of, next_of, record_of, total_of, word_at, index, CpuOwn, own_of, cpu_view, depth_of}
+use Rattle.cpu_words.specs.Common.{references_to, trying_in, without, CpuShown, cpu_of, Agrees, Good, Ruled, GoesOn, by_number, did, Makes, CpuMay, IsIdle, MayAdd, MayUse, HasSubtracted, IsAloneAt, tells_added}
 use Rattle.cpu_words.specs.Common.{tells_subtracted, tells_passive}
 use Rattle.cpu_words.proofs.shown.Placing.{agrees_set}
 use Rattle.cpu_words.proofs.shown.Passes.{attached_prefix, taken_is_prefix}
@@ -118,7 +118,7 @@ put_words words g c t m good lt within is agrees = agrees_set words g (with_list
     other (passive_of d u) ne = cell_other 0 g.passive t c m u d (λ (one : u ≡ t) (two : d ≡ c). ne (ap (λ (k : ℕ). passive_of k u) two ∙ ap (passive_of c) one))
     other (count_of d u) ne = refl
     other head_word ne = refl
-    other changes_word ne = refl
+    other (live_of u) ne = refl
     other (next_of u) ne = refl
     other (record_of u k) ne = refl
     other (total_of u) ne = refl
@@ -149,7 +149,6 @@ put_shown g x e references m good had idle known is others attached = record {
   there = had.there;
   found = λ f found. subst (λ (p : List Change). IsAttached p f) pass (had.found f (ap (λ (v : CpuView). v.found) had.is ∙ found));
   references = λ f among. subst (λ (p : List Change). IsAttached p f) pass (attached f among);
-  peek = subst (λ (p : List Change). PeekShows p g.changes x.peek) pass had.peek;
   noted_pass = had.noted_pass;
 }
   where

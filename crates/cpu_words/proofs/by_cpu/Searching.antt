@@ -22,7 +22,7 @@ use Rattle.protocol.proofs.history.History.{at_within}
 use Rattle.protocol.proofs.keeps.SearchKeeps.{IsAnswer, AnswersLookup, record_answers}
 use Rattle.protocol.proofs.slots.Cells.{one_in}
 use Rattle.protocol.proofs.keeps.Searching.{Walks, stands_in, words_stand, search_walks, LinkTells, link_tells, head_ahead, at_next_ahead}
-use Rattle.cpu_words.specs.Common.{CpuView, View, Cpu, Spot, section_of, passive_of, count_of, head_word, changes_word, next_of, record_of, total_of, word_at, index, own_of, cpu_view, cpu_of, depth_of, CpuShown}
+use Rattle.cpu_words.specs.Common.{CpuView, View, Cpu, Spot, section_of, passive_of, count_of, head_word, live_of, next_of, record_of, total_of, word_at, index, own_of, cpu_view, cpu_of, depth_of, CpuShown}
 use Rattle.cpu_words.specs.Common.{Agrees, Good, Ruled, GoesOn, did, Makes, CpuMay, sought, MaySeek, key_with, search_for, cpu_after_seek, search_with_place, MayLoadLink, link_answer, cpu_after_link}
 use Rattle.cpu_words.specs.Common.{LinkHolds, MayStandOn, Descends, SkipsNone, PassTells, HasFollowed, HasLoadedLink, HasSought, IsAtWord, MayLoadSearched, every_word, loaded_of, loaded_answer}
 use Rattle.cpu_words.specs.Common.{cpu_after_record_word, FoundHolds, HasSearched, HasLoadedWord, tells_compared}
@@ -45,7 +45,7 @@ loaded_words words g l i m found agrees section passive counts =
     same (passive_of d t) = ap (λ (p : List (List ℕ)). word_at (record g { passive = p }) (passive_of d t)) passive
     same (count_of d t) = ap (λ (p : List (List ℕ)). word_at (record g { counts = p }) (count_of d t)) counts
     same head_word = refl
-    same changes_word = refl
+    same (live_of u) = refl
     same (next_of t) = refl
     same (record_of t k) = refl
     same (total_of t) = refl

@@ -6,7 +6,7 @@ use Rattle.std.specs.Prelude.{slice_index}
 use mathlib.Core.List.{IsPrefix}
 use Rattle.cpu_words.specs.Types.{Change, Settings, Enter, Exit, Done}
 use Rattle.protocol.specs.Common.{State, section_at, begin_at, depth_at, seen_at, step}
-use Rattle.cpu_words.specs.Common.{CpuView, Cpu, Spot, section_of, passive_of, count_of, head_word, changes_word, next_of, record_of, total_of, word_at, index, own_of, cpu_view, depth_of, CpuShown, Agrees, Good}
+use Rattle.cpu_words.specs.Common.{CpuView, Cpu, Spot, section_of, passive_of, count_of, head_word, live_of, next_of, record_of, total_of, word_at, index, own_of, cpu_view, depth_of, CpuShown, Agrees, Good}
 use Rattle.cpu_words.specs.Common.{did, Makes, CpuMay, MayEnter, HasEntered, MayExit, HasExited}
 use Rattle.cpu_words.proofs.shown.Placing.{agrees_set}
 use Rattle.cpu_words.proofs.shown.Passes.{prefix_longer, take_whole}
@@ -25,7 +25,7 @@ section_words words g x l m seen good agrees passive counts is =
     other (passive_of d t) ne = ap (λ (p : List (List ℕ)). word_at (record g { passive = p }) (passive_of d t)) passive
     other (count_of d t) ne = ap (λ (p : List (List ℕ)). word_at (record g { counts = p }) (count_of d t)) counts
     other head_word ne = refl
-    other changes_word ne = refl
+    other (live_of u) ne = refl
     other (next_of t) ne = refl
     other (record_of t k) ne = refl
     other (total_of t) ne = refl

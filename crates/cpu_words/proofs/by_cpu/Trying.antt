@@ -1,36 +1,35 @@
 -- Passive references without a section, on the words.
-use Rattle.std.proofs.Common.{◌≡◌, ◌≢◌, inl, inr, ⊎_elim, ℕ, ◌+◌, ◌-◌, ◌%◌, ◌^◌, ◌<◌, ◌≤◌, ◌&&◌, ◌==◌, nat_le, Bool, true, false, not, if◌then◌else◌, List, [], ◌∷◌, length, set, Option, Some, None, IsTrue, refl, sym, ap}
+use Rattle.std.proofs.Common.{◌≡◌, ◌≢◌, inl, inr, ⊎_elim, ℕ, ◌+◌, ◌-◌, ◌%◌, ◌^◌, ◌<◌, ◌≤◌, ◌&&◌, ◌==◌, nat_le, Bool, true, false, if◌then◌else◌, List, [], ◌∷◌, length, set, take, get_or, Some, None, is_none, IsTrue, refl, sym, ap}
 use Rattle.std.proofs.Common.{◌∙◌, subst, arith, leb-true, get_or-set_same, get_or-set_other}
 use Rattle.std.proofs.lemmas.Bool.{and_from, and_parts, lt-ltb, eq-eqb, ne_eqb, cases_eq, cases_lt}
-use Rattle.std.proofs.lemmas.List.{length-take-le}
-use Rattle.std.proofs.lemmas.Option.{same_Some}
 use Rattle.std.specs.List.{Contains}
 use Rattle.std.specs.Prelude.{slice_index}
 use mathlib.Core.Option.{some}
+use mathlib.Core.List.{IsPrefix}
 use lib.ListN.{get_elem?}
 use Rattle.atomic_table.specs.Table.{State as Table, keeps, stepped}
-use Rattle.cpu_words.specs.Types.{MOST_COUNT, MOST_SECTIONS, Entry, Change, Detach, Settings, Slot, Vacant, Live, Retired, Event, Try, Confirm, TakeBack, Peek, Changes, Word, Hand, Empty, Trying, Key}
-use Rattle.registry_values.specs.Common.{are_fit, are_limits_fit, are_sizes_fit, is_within, key_of, slot_at}
-use Rattle.protocol.specs.Common.{IsAttached, EndsAt, IsLawful, IsLiveAt, State, with_cell, seen_at, hand_at, mark_at, passive_at, trying_of, step, guard, some_outcome, IsIn, Occupies, StandsOn}
-use Rattle.protocol.specs.Common.{after_confirm, confirm, is_detach, is_last_detach, may_confirm, take_back}
-use Rattle.protocol.specs.History.{change_at}
-use Rattle.protocol.proofs.Either.{either}
-use Rattle.protocol.proofs.history.Lookup.{Ended, Unended, end_by, found_lawful}
+use Rattle.cpu_words.specs.Types.{MOST_COUNT, MOST_SECTIONS, Entry, Change, Settings, Slot, Vacant, Live, Retired, Event, Try, Confirm, TakeBack, Recall, Word, Hand, Empty, Trying}
+use Rattle.registry_values.specs.Common.{are_fit, are_limits_fit, are_sizes_fit, is_within, slot_at}
+use Rattle.protocol.specs.Common.{IsAttached, IsLiveAt, State, with_cell, seen_at, search_at, hand_at, passive_at, trying_of, step, guard, some_outcome, IsIn, Occupies}
+use Rattle.protocol.specs.Common.{after_confirm, confirm, is_honest, has_live, live_at, may_confirm, take_back}
+use Rattle.protocol.proofs.history.History.{at_within, one_entry}
 use Rattle.protocol.proofs.keeps.CountKeeps.{trying_tells}
+use Rattle.protocol.proofs.runs.Fresh.{honest_tells, live_is}
 use Rattle.protocol.proofs.slots.Cells.{cell_other}
 use Rattle.protocol.proofs.slots.Occupied.{one_in, one_number}
 use Rattle.cpu_words.specs.declared.view.InHand.TheVariants.{Empty as NoEntry, Trying as TryingEntry}
-use Rattle.cpu_words.specs.Common.{InHand, CpuView, View, Cpu, passive_of, changes_word, index, CpuOwn, own_of, cpu_view, depth_of, SameHand, HandFits, trying_in, references_to, PeekHolds, PeekShows, Finds, Peeking}
-use Rattle.cpu_words.specs.Common.{ChangesShow, StaysAt, CpuShown, cpu_of, Agrees, Good, Ruled, GoesOn, did, Makes, CpuMay, IsIdle}
-use Rattle.cpu_words.specs.Common.{EndTold, HasConfirmed, HasTakenBack, HasTried, IsTrying, MayEndTry, MayTakeBack, MayTry, event_by, is_hear, maker, the_cpu}
+use Rattle.cpu_words.specs.Common.{InHand, CpuView, View, Cpu, passive_of, live_of, index, CpuOwn, own_of, cpu_view, depth_of, SameHand, HandFits, trying_in, references_to}
+use Rattle.cpu_words.specs.Common.{CpuShown, cpu_of, Agrees, Good, Ruled, GoesOn, did, Makes, CpuMay, IsIdle}
+use Rattle.cpu_words.specs.Common.{EndTold, HasConfirmed, HasTakenBack, HasTried, IsTrying, MayEndTry, MayTakeBack, MayTry, TriedTold, event_by, is_hear, maker, the_cpu}
+use Rattle.cpu_words.proofs.shown.Passes.{attached_longer, attached_prefix, prefix_longer, take_whole, taken_is_prefix}
 use Rattle.cpu_words.proofs.shown.Placing.{agrees_same}
 use Rattle.cpu_words.proofs.shown.ReferenceLists.{to_same, to_other, in_cons, some_of}
 use Rattle.cpu_words.proofs.shown.Seeing.{Seen, seen_of, idle_of, empty_hand, idle_tries, trying_here, trying_elsewhere}
-use Rattle.cpu_words.proofs.by_cpu.CpuSteps.{CpuLists, lists_of, with_lists, LeavesOthers, cpu_makes}
+use Rattle.cpu_words.proofs.by_cpu.CpuSteps.{CpuLists, lists_of, with_lists, LeavesOthers, found_on, cpu_makes}
 use Rattle.cpu_words.proofs.by_cpu.Hands.{handed, same_words, trying_hand}
 use Rattle.cpu_words.proofs.by_cpu.Passives.{held_known, known_in, alone, put, put_here, put_words}
-use Rattle.cpu_words.proofs.by_cpu.Peeking.{counted_in, peek_in_pass, shown_peek, Stays, slot_stays, end_at_count}
-use Rattle.cpu_words.proofs.by_cpu.Searching.{found_in_pass, loaded_words}
+use Rattle.cpu_words.proofs.by_cpu.Recalling.{honest_in, recall_may}
+use Rattle.cpu_words.proofs.by_cpu.Searching.{loaded_words}
 
 -- Other passive words of the CPU c, and another hand of it
 
@@ -62,12 +61,12 @@ tried_words words g x t m h good seen within agrees =
     (λ q there. same_words g' x.id h g.locals q)
 
 -- what the CPU's view shows then
-retried : (g : State) (x : CpuView) (passive : List (List ℕ)) (h : Hand) (k : InHand) (references : List Entry) (o : Option Peeking) → Good g → CpuShown g x → SameHand h k
+retried : (g : State) (x : CpuView) (passive : List (List ℕ)) (h : Hand) (k : InHand) (references : List Entry) → Good g → CpuShown g x → SameHand h k
     → HandFits g.history g.slots g.marks x.id k
     → ((t : ℕ) (f : Entry) → IsIn f (slot_at g.slots t) → passive_at passive x.id t ≡ references_to f.number references + trying_in t k)
-    → ((n : ℕ) → (Occupies g.slots n → ⊥) → references_to n references ≡ 0) → ((f : Entry) → Contains references f → IsAttached x.pass f) → PeekShows x.pass g.changes o
-    → CpuShown (with_lists g (try_lists g x.id passive h)) (cpu_view (with_lists g (try_lists g x.id passive h)) x.id (record (own_of x) { hand = k; references = references; peek = o }))
-retried g x passive h k references o good had same fits counts gone attached shows =
+    → ((n : ℕ) → (Occupies g.slots n → ⊥) → references_to n references ≡ 0) → ((f : Entry) → Contains references f → IsAttached x.pass f)
+    → CpuShown (with_lists g (try_lists g x.id passive h)) (cpu_view (with_lists g (try_lists g x.id passive h)) x.id (record (own_of x) { hand = k; references = references }))
+retried g x passive h k references good had same fits counts gone attached =
     let seen = seen_of g x good had in record {
       seated = had.seated;
       is = refl;
@@ -82,7 +81,6 @@ retried g x passive h k references o good had same fits counts gone attached sho
       there = had.there;
       found = λ f found. subst (λ (p : List Change). IsAttached p f) seen.pass (had.found f (seen.found ∙ found));
       references = λ f among. subst (λ (p : List Change). IsAttached p f) seen.pass (attached f among);
-      peek = subst (λ (p : List Change). PeekShows p g.changes o) seen.pass shows;
       noted_pass = had.noted_pass;
     }
 
@@ -148,11 +146,11 @@ tried_counts g x e m good had idle within is t f here =
     (cases_eq t e.slot)
 
 -- the step, for an entry
-try_at : (z : Settings) (x : CpuView) (e : Entry) → IsIdle x → e.slot < x.settings.slots → (q : Peeking) → x.peek ≡ Some q → q.place ≡ Finds e
+try_at : (z : Settings) (x : CpuView) (e : Entry) → IsIdle x → e.slot < x.settings.slots → IsAttached x.pass e
     → ((f : Entry) → Contains x.references f → f.slot ≡ e.slot → references_to f.number x.references < x.settings.passive_limit)
     → CpuMay z x (index (passive_of x.id e.slot)) (λ m. (m + 1) % 2 ^ 64) (λ m. did (Try x.id e.slot e.number) (Word m))
-    (λ v m y. Makes (Try x.id e.slot e.number) (Word m) (Cpu v) (Cpu y) × HasTried v y)
-try_at z x e idle inside q under finds room s r i at fits =
+    (λ v m y. Makes (Try x.id e.slot e.number) (Word m) (Cpu v) (Cpu y) × TriedTold (Try x.id e.slot e.number) v y)
+try_at z x e idle inside attached room s r i at fits =
     let g = r.g in
     let had : CpuShown g x = (r.shows.fits i (Cpu x) at).1 in
     let seen = seen_of g x r.good had in
@@ -171,25 +169,20 @@ try_at z x e idle inside q under finds room s r i at fits =
     rw (idle_of g x seen had idle, lt-ltb e.slot g.settings.slots within, lt-ltb old g.settings.passive_limit below)
     (λ k. Some (record { state = with_lists g (try_lists g x.id (with_cell g.passive e.slot x.id (sym next k)) h); reply = Word (sym stands k) })) in
     let leaves = tries_leave g x.id passive h (λ d t ne. cell_other 0 g.passive e.slot x.id m t d (λ _ same. ne same)) in
-    let shown = retried g x passive h (TryingEntry e) x.references x.peek r.good had (refl, refl) tt (tried_counts g x e m r.good had idle within next) had.gone had.references had.peek in
+    let shown = retried g x passive h (TryingEntry e) x.references r.good had (refl, refl) tt (tried_counts g x e m r.good had idle within next) had.gone had.references in
     let words = tried_words s.words g x e.slot m h r.good seen within r.words in
     let done = cpu_makes z s r i x (index (passive_of x.id e.slot)) m l (Try x.id e.slot e.number) (Word word) own at made leaves (λ k. refl) refl shown words in
     let y = cpu_view (with_lists g l) x.id own in
     let change : y ≡ record x { hand = TryingEntry e } = ap (λ (v : CpuView). record v { hand = TryingEntry e }) (sym had.is) in
-    let told : HasTried x y = λ p f is place.
-    let one : e ≡ f = found_one e f (sym finds ∙ ap (λ (u : Peeking). u.place) (same_Some q p (sym under ∙ is)) ∙ place) in
-    change ∙ ap (λ (j : Entry). record x { hand = TryingEntry j }) one in
+    let told : HasTried x e.number y = λ f is number. change ∙ ap (λ (j : Entry). record x { hand = TryingEntry j }) (one_entry x.pass e f attached is (sym number)) in
     (Cpu y, done.0, (refl, (done.1, told)))
-  where
-    found_one : (e f : Entry) → Finds e ≡ Finds f → e ≡ f
-    found_one e f is = cc
 
 -- the step, for a slot and a number
 pub try_may : (z : Settings) (x : CpuView) (c t n : ℕ) → x.id ≡ c → MayTry x t n
-    → CpuMay z x (index (passive_of c t)) (λ m. (m + 1) % 2 ^ 64) (λ m. did (Try c t n) (Word m)) (λ v m y. Makes (Try c t n) (Word m) (Cpu v) (Cpu y) × HasTried v y)
+    → CpuMay z x (index (passive_of c t)) (λ m. (m + 1) % 2 ^ 64) (λ m. did (Try c t n) (Word m)) (λ v m y. Makes (Try c t n) (Word m) (Cpu v) (Cpu y) × TriedTold (Try c t n) v y)
 try_may z x c t n id may = subst (λ (p : ℕ × ℕ × ℕ). CpuMay z x (index (passive_of p.0 p.1)) (λ m. (m + 1) % 2 ^ 64) (λ m. did (Try p.0 p.1 p.2) (Word m))
-    (λ v m y. Makes (Try p.0 p.1 p.2) (Word m) (Cpu v) (Cpu y) × HasTried v y)) (λ k. (id k, may.at.slot k, may.at.number k))
-    (try_at z x may.entry may.idle (subst (λ (u : ℕ). u < x.settings.slots) (sym may.at.slot) may.slot) may.peek may.under_way may.finds (λ f among same. may.room f among (same ∙ may.at.slot)))
+    (λ v m y. Makes (Try p.0 p.1 p.2) (Word m) (Cpu v) (Cpu y) × TriedTold (Try p.0 p.1 p.2) v y)) (λ k. (id k, may.at.slot k, may.at.number k))
+    (try_at z x may.entry may.idle (subst (λ (u : ℕ). u < x.settings.slots) (sym may.at.slot) may.slot) may.attached (λ f among same. may.room f among (same ∙ may.at.slot)))
 
 -- Back
 
@@ -235,7 +228,7 @@ back_at z x e trying s r i at fits =
     ap (take_back g x.id) hand ∙ (λ k. Some (record { state = with_lists g (try_lists g x.id (with_cell g.passive e.slot x.id (sym next k)) Empty); reply = Word (sym stands k) })) in
     let leaves = tries_leave g x.id passive Empty (λ d t ne. cell_other 0 g.passive e.slot x.id m t d (λ _ same. ne same)) in
     let counts = back_counts g x e m r.good had trying within (omega (arith, next, some_one)) in
-    let shown = retried g x passive Empty NoEntry x.references x.peek r.good had tt tt counts had.gone had.references had.peek in
+    let shown = retried g x passive Empty NoEntry x.references r.good had tt tt counts had.gone had.references in
     let words = tried_words s.words g x e.slot m Empty r.good seen within r.words in
     let done = cpu_makes z s r i x (index (passive_of x.id e.slot)) m l (TakeBack x.id) (Word word) own at made leaves (λ k. refl) refl shown words in
     let y = cpu_view (with_lists g l) x.id own in
@@ -249,27 +242,7 @@ back_may z x c t id may = subst (λ (p : ℕ × ℕ). CpuMay z x (index (passive
     (λ v m y. Makes (TakeBack p.0) (Word m) (Cpu v) (Cpu y) × HasTakenBack v y)) (λ k. (id k, may.slot k))
     (back_at z x may.entry may.trying)
 
--- The last load, where it finds the count that the lookup began with
-
--- the core allows the Confirm: the entry is live, or its end isn't counted, and then it is the last change and no mark there is clear
-may_test : (g : State) (c number from : ℕ) (e : Entry) → Good g → ChangesShow g.settings.slots g.history g.slots g.marks g.next g.changes → number ≡ g.changes → number ≤ from
-    → StandsOn g.history from (length g.history) e.slot e → may_confirm g c e.slot e.number (slot_at g.slots e.slot) ≡ true
-may_test g c number from e good counted same le stands = either (end_by g.history e.number (length g.history)) gone lives
-  where
-    gone : Ended g.history e.number (length g.history) → may_confirm g c e.slot e.number (slot_at g.slots e.slot) ≡ true
-    gone ended =
-        let past : from < ended.0 = stands.unended ended.0 ended.2 in
-        let stays : StaysAt g.history g.slots g.marks g.next ended.0 e = counted.uncounted ended.0 e stands.attached ended.2 (omega (arith, same, le, past)) in
-        let last : ended.0 ≡ length g.history = omega (arith, ended.1, counted.near, same, le, past) in
-        let at_end : change_at g.history (length g.history) ≡ Some (Detach e.number) = subst (EndsAt g.history e.number) last ended.2 in
-        let test : is_last_detach g.history e.number ≡ true = ap (is_detach e.number) at_end ∙ eq-eqb e.number e.number refl in
-        ap (may_confirm g c e.slot e.number) stays.retired ∙ and_from (e.number == e.number) (is_last_detach g.history e.number && not (mark_at g.marks e.slot c).clear) (eq-eqb e.number e.number refl)
-        (and_from (is_last_detach g.history e.number) (not (mark_at g.marks e.slot c).clear) test (ap not (stays.unclear c)))
-
-    lives : Unended g.history e.number (length g.history) → may_confirm g c e.slot e.number (slot_at g.slots e.slot) ≡ true
-    lives unended =
-        let live : IsLiveAt g.history (length g.history) e = record { attached = stands.attached; begun = stands.begun; unended = unended } in
-        ap (may_confirm g c e.slot e.number) (good.holds.slots.placed e live) ∙ eq-eqb e.number e.number refl
+-- The last load, where it finds the number of the entry
 
 -- what was tried is a reference
 confirmed_counts : (g : State) (x : CpuView) (e : Entry) → Good g → CpuShown g x → IsTrying x e → IsIn e (slot_at g.slots e.slot)
@@ -288,105 +261,139 @@ confirmed_counts g x e good had trying here t f there =
     omega (arith, count, tried, other, zero_))
     (cases_eq t e.slot)
 
--- what was found is lawful in the CPU's own pass
-lawful_in_pass : (g : State) (x : CpuView) (from : ℕ) (key : Key) (e : Entry) → Good g → CpuShown g x → from ≤ length x.pass → StandsOn x.pass from (length x.pass) e.slot e
-    → StandsOn g.history from (length g.history) e.slot e → key_of e ≡ key → IsLawful x.pass from (length x.pass) key (Some e) × IsAttached x.pass e
-lawful_in_pass g x from key e good had le mine stands same =
+-- the hand is empty, and all is seen
+abbrev confirm_lists : State → ℕ → CpuLists
+confirm_lists g c = record (lists_of g) { hands = set g.hands c Empty; seen = set g.seen c (length g.history) }
+
+confirms_leave : (g : State) (c : ℕ) → LeavesOthers g c (confirm_lists g c)
+confirms_leave g c = record {
+  section = λ d ne. refl;
+  begins = λ d ne. refl;
+  depths = λ d ne. refl;
+  seen = λ d ne. get_or-set_other g.seen c d _ 0 ne;
+  searches = λ d ne. refl;
+  found = λ d ne. refl;
+  hands = λ d ne. get_or-set_other g.hands c d Empty Empty ne;
+  passive = λ d t ne. refl;
+  nets = λ d t ne. refl;
+  vacant = λ d t vacant. refl;
+  gives_up = λ given_up t e here p. p;
+}
+
+-- what the CPU's view shows then
+confirmed_shown : (g : State) (x : CpuView) (e : Entry) → Good g → CpuShown g x → IsTrying x e → IsIn e (slot_at g.slots e.slot) → IsAttached x.pass e → seen_at g x.id ≤ get_or (confirm_lists g x.id).seen x.id 0
+    → get_or (confirm_lists g x.id).seen x.id 0 ≤ length g.history
+    → CpuShown (with_lists g (confirm_lists g x.id)) (cpu_view (with_lists g (confirm_lists g x.id)) x.id (record (own_of x) { hand = NoEntry; references = e ∷ x.references }))
+confirmed_shown g x e good had trying here attached more within =
     let seen = seen_of g x good had in
-    let size : length x.pass ≡ seen_at g x.id = ap (λ (p : List Change). length p) seen.pass ∙ length-take-le (seen_at g x.id) g.history seen.within in
-    let there : StandsOn g.history from (seen_at g x.id) e.slot e = record { attached = stands.attached; at = stands.at; begun = omega (arith, mine.begun, size); unended = stands.unended } in
-    let lawful = found_lawful g.history good.holds.legal from (seen_at g x.id) e.slot e key (omega (arith, le, size)) there same in
-    subst (λ (p : List Change). IsLawful p from (length p) key (Some e) × IsAttached p e) (sym seen.pass) (found_in_pass g.history from (seen_at g x.id) key e seen.within lawful)
+    let on : (f : Entry) → IsAttached x.pass f → IsAttached (take (get_or (confirm_lists g x.id).seen x.id 0) g.history) f = λ f was.
+    attached_longer g.history (seen_at g x.id) (get_or (confirm_lists g x.id).seen x.id 0) f more within (subst (λ (p : List Change). IsAttached p f) seen.pass was) in record {
+      seated = had.seated;
+      is = refl;
+      hand = subst (λ j. SameHand j NoEntry) (sym (get_or-set_same g.hands x.id Empty Empty seen.in_hands)) tt;
+      in_hand = tt;
+      depth = had.depth ∙ ap depth_of seen.begin;
+      passive = confirmed_counts g x e good had trying here;
+      gone = λ k none. to_other k e x.references (λ is. none (e.slot, e, here, is)) ∙ had.gone k none;
+      nets = had.nets;
+      later = had.later;
+      met = had.met;
+      there = had.there;
+      found = found_on g x (get_or (confirm_lists g x.id).seen x.id 0) had more within;
+      references = λ f among. ⊎_elim
+          (λ (first : e ≡ f). on f (subst (IsAttached x.pass) first attached))
+          (λ (later : Contains x.references f). on f (had.references f later))
+          (in_cons e f x.references among);
+      noted_pass = had.noted_pass;
+    }
 
 -- what the last load must leave and tell, where it found m and made the event
-abbrev Ends : (z : Settings) (s : Table ℕ View) → Ruled z s → ℕ → CpuView → ℕ → ℕ → Event → Type 0
-Ends z s r i x n m event = (w : View) × GoesOn z s r (did event (Word m)) (stepped s (index changes_word) m i [] w keeps)
-    × ((w ≡ Cpu (cpu_of w)) × EndTold n (Confirm x.id) (Peek x.id Changes) x m (cpu_of w))
+abbrev Ends : (z : Settings) (s : Table ℕ View) → Ruled z s → ℕ → CpuView → ℕ → ℕ → ℕ → Event → Type 0
+Ends z s r i x t n m event = (w : View) × GoesOn z s r (did event (Word m)) (stepped s (index (live_of t)) m i [] w keeps)
+    × ((w ≡ Cpu (cpu_of w)) × EndTold n (Confirm x.id) (Recall x.id t) x m (cpu_of w))
 
-confirms : (z : Settings) (s : Table ℕ View) (r : Ruled z s) (i : ℕ) (x : CpuView) (n : ℕ) → MayEndTry x n → get_elem? s.views i ≡ some (Cpu x) → slice_index s.words (index changes_word) ≡ n
-    → Ends z s r i x n (slice_index s.words (index changes_word)) (Confirm x.id)
-confirms z s r i x n may at same =
+confirms : (z : Settings) (s : Table ℕ View) (r : Ruled z s) (i : ℕ) (x : CpuView) (e : Entry) → x.search ≡ None → IsTrying x e → IsAttached x.pass e → e.slot < x.settings.slots
+    → get_elem? s.views i ≡ some (Cpu x) → slice_index s.words (index (live_of e.slot)) ≡ e.number → Ends z s r i x e.slot e.number (slice_index s.words (index (live_of e.slot))) (Confirm x.id)
+confirms z s r i x e idle trying attached inside at same =
     let g = r.g in
-    let m = slice_index s.words (index changes_word) in
-    let found : m ≡ g.changes = r.words.at changes_word tt in
+    let t = e.slot in
+    let m = slice_index s.words (index (live_of t)) in
     let had : CpuShown g x = (r.shows.fits i (Cpu x) at).1 in
-    let q = may.peek in
-    let e = may.entry in
-    let counted = counted_in z s r in
-    let number : q.number ≡ g.changes = may.number ∙ (sym same ∙ found) in
-    let own = peek_in_pass g x q had may.under_way in
-    let whole = shown_peek g x q had may.under_way in
-    let right = own.2 number in
-    let finds : PeekHolds x.pass q.from q.key (Finds e) = subst (PeekHolds x.pass q.from q.key) may.finds right.1 in
-    let stands : PeekHolds g.history q.from q.key (Finds e) = subst (PeekHolds g.history q.from q.key) may.finds (whole.2 number).1 in
-    let stays : Stays g q.from e.slot e = slot_stays g q.number q.from e.slot e r.good counted number right.0 whole.1 stands.0 in
-    let known = known_in g x e r.good had stays.here finds.0.attached in
-    let test = may_test g x.id q.number q.from e r.good counted number right.0 stands.0 in
-    let l = try_lists g x.id g.passive Empty in
-    let fresh : CpuOwn = record (own_of x) { hand = NoEntry; references = e ∷ x.references; peek = None } in
-    let made : step g (Confirm x.id) ≡ Some (record { state = with_lists g l; reply = Word m }) =
-    ap (confirm g x.id) (trying_hand g x e had may.trying) ∙ (ap (λ (b : Bool). guard b (some_outcome (after_confirm g x.id) (Word g.changes))) test
-    ∙ (λ k. Some (record { state = with_lists g l; reply = Word (sym found k) }))) in
-    let shown = retried g x g.passive Empty NoEntry (e ∷ x.references) None r.good had tt tt (confirmed_counts g x e r.good had may.trying stays.here)
-    (λ k none. to_other k e x.references (λ is. none (e.slot, e, stays.here, is)) ∙ had.gone k none)
-    (λ f among. ⊎_elim
-    (λ (first : e ≡ f). subst (IsAttached x.pass) first finds.0.attached)
-    (λ (later : Contains x.references f). had.references f later)
-    (in_cons e f x.references among))
-    tt in
-    let words = loaded_words s.words g l (index changes_word) m refl r.words refl refl refl in
-    let done = cpu_makes z s r i x (index changes_word) m l (Confirm x.id) (Word m) fresh at made (tries_leave g x.id g.passive Empty (λ d t ne. refl)) (λ k. refl) refl shown words in
+    let seen = seen_of g x r.good had in
+    let within : t < g.settings.slots = subst (λ (a : Settings). t < a.slots) seen.settings inside in
+    let stands : m ≡ live_at g.lives t = r.words.at (live_of t) within in
+    let known : IsAttached g.history e = attached_prefix x.pass g.history e (subst (λ (p : List Change). IsPrefix p g.history) (sym seen.pass) (taken_is_prefix (seen_at g x.id) g.history)) attached in
+    let some_one : 0 < e.number = (at_within g.history e.number _ known).0 in
+    let number : live_at g.lives t ≡ e.number = sym stands ∙ same in
+    let honest : is_honest e.number (slot_at g.slots t) ≡ true = ap (λ (k : ℕ). is_honest k (slot_at g.slots t)) (sym number) ∙ honest_in z s r t in
+    let still : has_live e.number (slot_at g.slots t) ≡ true = honest_tells e.number (slot_at g.slots t) some_one honest in
+    let live : IsLiveAt g.history (length g.history) e = (live_is g t e.number e r.good.holds still known refl).0 in
+    let here : IsIn e (slot_at g.slots t) = inl (r.good.holds.slots.placed e live) in
+    let none : search_at g x.id ≡ None = sym seen.search ∙ idle in
+    let test : may_confirm g x.id e.number (slot_at g.slots t) ≡ true = and_from (is_none (search_at g x.id)) (has_live e.number (slot_at g.slots t)) (ap is_none none) still in
+    let l : CpuLists = confirm_lists g x.id in
+    let fresh : CpuOwn = record (own_of x) { hand = NoEntry; references = e ∷ x.references } in
     let y = cpu_view (with_lists g l) x.id fresh in
-    let change : y ≡ record x { peek = None; hand = NoEntry; references = e ∷ x.references } =
-    ap (λ (v : CpuView). record v { peek = None; hand = NoEntry; references = e ∷ x.references }) (sym had.is) in
-    let lawful = lawful_in_pass g x q.from q.key e r.good had own.1 finds.0 stands.0 finds.1 in
+    let n = length g.history in
+    let sees : get_or l.seen x.id 0 ≡ n = get_or-set_same g.seen x.id n 0 seen.in_seen in
+    let more : seen_at g x.id ≤ get_or l.seen x.id 0 = omega (arith, seen.within, sees) in
+    let few : get_or l.seen x.id 0 ≤ n = omega (arith, sees) in
+    let passes : y.pass ≡ g.history = ap (λ k. take k g.history) sees ∙ take_whole g.history in
+    let made : step g (Confirm x.id) ≡ Some (record { state = with_lists g l; reply = Word m }) =
+    ap (confirm g x.id) (trying_hand g x e had trying) ∙ (ap (λ (b : Bool). guard b (some_outcome (after_confirm g x.id) (Word (live_at g.lives t)))) test
+    ∙ (λ k. Some (record { state = with_lists g l; reply = Word (sym stands k) }))) in
+    let shown = confirmed_shown g x e r.good had trying here attached more few in
+    let words = loaded_words s.words g l (index (live_of t)) m refl r.words refl refl refl in
+    let done = cpu_makes z s r i x (index (live_of t)) m l (Confirm x.id) (Word m) fresh at made (confirms_leave g x.id) (λ k. refl) refl shown words in
+    let change : y ≡ record x { pass = y.pass; hand = NoEntry; references = e ∷ x.references } =
+    ap (λ (v : CpuView). record v { pass = y.pass; hand = NoEntry; references = e ∷ x.references }) (sym had.is) in
     let confirmed : HasConfirmed x y = record {
-      peek = q;
-      under_way = may.under_way;
       entry = e;
-      finds = may.finds;
+      trying = trying;
       is = change;
-      from = own.1;
-      lawful = lawful.0;
-      attached = lawful.1;
-      alone = alone g x e e.slot e.number r.good had known refl refl;
+      longer = subst (λ p. IsPrefix p y.pass) (sym seen.pass) (prefix_longer g.history (seen_at g x.id) (get_or l.seen x.id 0) more few);
+      live = subst (λ (p : List Change). IsLiveAt p (length p) e) (sym passes) live;
+      alone = alone g x e e.slot e.number r.good had (known_in g x e r.good had here attached) refl refl;
     } in
     (Cpu y, done.0, (refl, ((λ _. (done.1, confirmed)), (λ off. absurd (off same)))))
 
--- Where it finds another count, it ends the lookup
+-- Where it finds another word
 
-too_late : (z : Settings) (s : Table ℕ View) (r : Ruled z s) (i : ℕ) (x : CpuView) (n : ℕ) → MayEndTry x n → get_elem? s.views i ≡ some (Cpu x)
-    → slice_index s.words (index changes_word) < 18446744073709551616 → (slice_index s.words (index changes_word) ≡ n → ⊥)
-    → Ends z s r i x n (slice_index s.words (index changes_word)) (Peek x.id Changes)
-too_late z s r i x n may at fits off =
-    let done = end_at_count z x may.search s r i at fits in
-    (done.0, done.1, (done.2.0, ((λ same. absurd (off same)), (λ _. (done.2.1.0, done.2.1.1.is)))))
+too_late : (z : Settings) (s : Table ℕ View) (r : Ruled z s) (i : ℕ) (x : CpuView) (t n : ℕ) → x.search ≡ None → t < x.settings.slots → get_elem? s.views i ≡ some (Cpu x)
+    → slice_index s.words (index (live_of t)) < 18446744073709551616 → (slice_index s.words (index (live_of t)) ≡ n → ⊥)
+    → Ends z s r i x t n (slice_index s.words (index (live_of t))) (Recall x.id t)
+too_late z s r i x t n idle inside at fits off =
+    let done = recall_may z x x.id t refl (record { search = idle; slot = inside }) s r i at fits in
+    (done.0, done.1, (done.2.0, ((λ same. absurd (off same)), (λ _. (done.2.1.0, done.2.1.1.0.is)))))
 
-end_at : (z : Settings) (x : CpuView) (n : ℕ) → MayEndTry x n
-    → CpuMay z x (index changes_word) (λ m. m) (λ m. did (event_by n (Confirm x.id) (Peek x.id Changes) m) (Word m)) (EndTold n (Confirm x.id) (Peek x.id Changes))
-end_at z x n may s r i at fits =
-    let m = slice_index s.words (index changes_word) in ⊎_elim
-    (λ (same : m ≡ n). subst (Ends z s r i x n m) (sym (ap (λ (b : Bool). if b then Confirm x.id else Peek x.id Changes) (eq-eqb m n same))) (confirms z s r i x n may at same))
-    (λ (off : m ≡ n → ⊥). subst (Ends z s r i x n m) (sym (ap (λ (b : Bool). if b then Confirm x.id else Peek x.id Changes) (ne_eqb m n off))) (too_late z s r i x n may at fits off))
+end_at : (z : Settings) (x : CpuView) (e : Entry) → x.search ≡ None → IsTrying x e → IsAttached x.pass e → e.slot < x.settings.slots
+    → CpuMay z x (index (live_of e.slot)) (λ m. m) (λ m. did (event_by e.number (Confirm x.id) (Recall x.id e.slot) m) (Word m)) (EndTold e.number (Confirm x.id) (Recall x.id e.slot))
+end_at z x e idle trying attached inside s r i at fits =
+    let t = e.slot in
+    let n = e.number in
+    let m = slice_index s.words (index (live_of t)) in ⊎_elim
+    (λ (same : m ≡ n). subst (Ends z s r i x t n m) (sym (ap (λ (b : Bool). if b then Confirm x.id else Recall x.id t) (eq-eqb m n same))) (confirms z s r i x e idle trying attached inside at same))
+    (λ (off : m ≡ n → ⊥). subst (Ends z s r i x t n m) (sym (ap (λ (b : Bool). if b then Confirm x.id else Recall x.id t) (ne_eqb m n off))) (too_late z s r i x t n idle inside at fits off))
     (cases_eq m n)
 
-pub end_try_may : (z : Settings) (x : CpuView) (c n : ℕ) → x.id ≡ c → MayEndTry x n
-    → CpuMay z x (index changes_word) (λ m. m) (λ m. did (event_by n (Confirm c) (Peek c Changes) m) (Word m)) (EndTold n (Confirm c) (Peek c Changes))
-end_try_may z x c n id may =
-    subst (λ (d : ℕ). CpuMay z x (index changes_word) (λ m. m) (λ m. did (event_by n (Confirm d) (Peek d Changes) m) (Word m)) (EndTold n (Confirm d) (Peek d Changes))) id (end_at z x n may)
+pub end_try_may : (z : Settings) (x : CpuView) (c t n : ℕ) → x.id ≡ c → MayEndTry x t n
+    → CpuMay z x (index (live_of t)) (λ m. m) (λ m. did (event_by n (Confirm c) (Recall c t) m) (Word m)) (EndTold n (Confirm c) (Recall c t))
+end_try_may z x c t n id may =
+    subst (λ (p : ℕ × ℕ × ℕ). CpuMay z x (index (live_of p.1)) (λ m. m) (λ m. did (event_by p.2 (Confirm p.0) (Recall p.0 p.1) m) (Word m)) (EndTold p.2 (Confirm p.0) (Recall p.0 p.1)))
+    (λ k. (id k, may.at.slot k, may.at.number k)) (end_at z x may.entry may.search may.trying may.attached (subst (λ (u : ℕ). u < x.settings.slots) (sym may.at.slot) may.slot))
 
 -- both events are the CPU's, and neither hears
 
-pub end_is_own : (x : CpuView) (c n m : ℕ) → x.id ≡ c → maker (event_by n (Confirm c) (Peek c Changes) m) ≡ the_cpu x.id
-end_is_own x c n m id = by (m == n) ∙ ap the_cpu (sym id)
+pub end_is_own : (x : CpuView) (c t n m : ℕ) → x.id ≡ c → maker (event_by n (Confirm c) (Recall c t) m) ≡ the_cpu x.id
+end_is_own x c t n m id = by (m == n) ∙ ap the_cpu (sym id)
   where
-    by : (b : Bool) → maker (if b then Confirm c else Peek c Changes) ≡ the_cpu c
+    by : (b : Bool) → maker (if b then Confirm c else Recall c t) ≡ the_cpu c
     by true = refl
     by false = refl
 
-pub end_is_quiet : (c n m : ℕ) → is_hear (event_by n (Confirm c) (Peek c Changes) m) ≡ false
-end_is_quiet c n m = by (m == n)
+pub end_is_quiet : (c t n m : ℕ) → is_hear (event_by n (Confirm c) (Recall c t) m) ≡ false
+end_is_quiet c t n m = by (m == n)
   where
-    by : (b : Bool) → is_hear (if b then Confirm c else Peek c Changes) ≡ false
+    by : (b : Bool) → is_hear (if b then Confirm c else Recall c t) ≡ false
     by true = refl
     by false = refl

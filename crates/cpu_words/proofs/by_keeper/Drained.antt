@@ -63,7 +63,6 @@ vacating g t totals keeps = record (keeper_lists g) { totals = totals; slots = s
 pub vacated_leaves : (g : State) (t : ℕ) (e : Entry) (totals : List ℕ) (keeps : List (Option ℕ)) → Good g → Drained g t e → LeavesCpus g (vacating g t totals keeps)
 vacated_leaves g t e totals keeps good drained = record {
   seated = omega arith;
-  grow = omega arith;
   more = ([], sym (append-nil g.history));
   stay = λ u f here. inl ((in_vacated g.slots t u e f drained.retired here).1, (λ c. refl));
   go = λ u f here. ⊎_elim

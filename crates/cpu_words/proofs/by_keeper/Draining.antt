@@ -2,18 +2,17 @@
 use Rattle.std.proofs.Common.{◌≡◌, ◌≢◌, inr, ⊎_elim, ℕ, ◌<◌, List, [], length, get_or, set, Some, Bool, true, false, cond, eq-eqb, ne_eqb, refl, sym, ap, ◌∙◌, subst, arith}
 use Rattle.std.proofs.lemmas.Bool.{lt-ltb, cases_eq}
 use Rattle.std.specs.Prelude.{slice_index}
-use Rattle.cpu_words.specs.Types.{Entry, Change, Settings, Slot, Vacant, Retired, Mark, Rest, Adding, PassiveLook, Collect, Word}
+use Rattle.cpu_words.specs.Types.{Entry, Settings, Slot, Vacant, Retired, Mark, Rest, Adding, PassiveLook, Collect, Word}
 use Rattle.protocol.specs.Common.{State, cell, with_cell, mark_at, passive_at, count_at, step, addition_due_at, is_adding_at}
 use Rattle.registry_values.specs.Common.{no_mark, have_passed, are_clear, mark_after_passive_look, mark_after_collect, slot_at}
 use Rattle.registry_values.proofs.Fit.{ranges}
 use Rattle.protocol.proofs.slots.Cells.{cell_cases, cell_here, cell_other}
 use Rattle.protocol.proofs.counts.HeldSums.{one_self, one_other}
-use Rattle.cpu_words.specs.Common.{KeeperView, Keeper, Spot, section_of, passive_of, count_of, head_word, changes_word, next_of, record_of, total_of, word_at, index, KeeperOwn, keeper_own, keeper_view, KeeperShown}
+use Rattle.cpu_words.specs.Common.{KeeperView, Keeper, Spot, section_of, passive_of, count_of, head_word, live_of, next_of, record_of, total_of, word_at, index, KeeperOwn, keeper_own, keeper_view, KeeperShown}
 use Rattle.cpu_words.specs.Common.{GivesUp, collected_net, collected_one, Agrees, Good, did, Makes, KeeperMay, MayLook, keeper_after_look, MayPassiveLook, LookedPassiveTold, MayCollect, CollectTold}
 use Rattle.cpu_words.proofs.shown.Placing.{agrees_set}
 use Rattle.cpu_words.proofs.by_keeper.KeeperSteps.{KeeperLists, keeper_lists, with_keeper, leaves_all, keeper_makes}
 use Rattle.cpu_words.proofs.by_keeper.KeeperSees.{SeenByKeeper, seen_by_keeper, loads}
-use Rattle.cpu_words.proofs.shown.Changes.{all_counted, counted_marked}
 use Rattle.cpu_words.proofs.by_keeper.Marked.{due_alike, same_collected, shown_marked, sum_here, sum_off}
 use Rattle.protocol.proofs.slots.Occupied.{in_within}
 
@@ -51,14 +50,12 @@ passive_look_may z k t c may s r i at fits =
     let w = slice_index s.words place in
     let found : w ≡ passive_at g.passive c t = r.words.at (passive_of c t) (here.cpu, here.slot) in
     let passed : have_passed g.settings.cpus (get_or g.marks t []) ≡ true = row_told have_passed g k t seen may.passed in
-    let all : g.changes ≡ length g.history = sym seen.changes ∙ may.counted ∙ ap (λ (h : List Change). length h) seen.history in
     let m : Mark = mark_after_passive_look (mark_at g.marks t c) (passive_at g.passive c t) in
     let l : KeeperLists = record (keeper_lists g) { marks = with_cell g.marks t c m } in
     let own : KeeperOwn = keeper_own (keeper_after_look k (PassiveLook t c) (Word w)) in
     let made : step g (PassiveLook t c) ≡ Some (record { state = with_keeper g l; reply = Word w }) = rw (here.rest, here.retired, lt-ltb c g.settings.cpus here.cpu, passed, found) refl in
-    let shown : KeeperShown (with_keeper g l) (keeper_view (with_keeper g l) own) = shown_marked g k t c m g.due own r.good had here.cpu refl (due_alike g.due g.due refl) refl refl refl
-    (all_counted g.settings.slots g.history g.slots (with_cell g.marks t c m) g.next g.changes all had.counted.links) in
-    let done = keeper_makes z s r i k place w l (PassiveLook t c) (Word w) own at made (leaves_all g l (omega arith) refl refl refl refl (same_collected g t c m refl)) (λ n. refl) refl shown
+    let shown : KeeperShown (with_keeper g l) (keeper_view (with_keeper g l) own) = shown_marked g k t c m g.due own r.good had here.cpu refl (due_alike g.due g.due refl) refl refl refl in
+    let done = keeper_makes z s r i k place w l (PassiveLook t c) (Word w) own at made (leaves_all g l refl refl refl refl (same_collected g t c m refl)) (λ n. refl) refl shown
     (loads s.words g (with_keeper g l) place r.words refl (λ q _. refl)) in
     let change : keeper_view (with_keeper g l) own ≡ record (keeper_after_look k (PassiveLook t c) (Word w)) { marks = with_cell k.marks t c (mark_after_passive_look (mark_at k.marks t c) w) } =
     ap (λ n. record (keeper_view g own) { marks = with_cell g.marks t c (mark_after_passive_look (mark_at g.marks t c) n) }) (sym found)
@@ -116,7 +113,7 @@ shown_collected g k t c good had here still = record {
       (let e = at.1 in omega (arith, e, past, here.cpu)))
       (λ (off : cell no_mark (with_cell g.marks t c (mark_after_collect (mark_at g.marks t c))) u d ≡ cell no_mark g.marks u d). ap (λ (x : Mark). x.collected) off ∙ had.beyond d u past)
       (cell_cases no_mark g.marks t c (mark_after_collect (mark_at g.marks t c)) u d);
-  counted = counted_marked g.settings.slots g.history g.slots g.marks g.next g.changes t c (mark_after_collect (mark_at g.marks t c)) (λ was. was) had.counted;
+  honest = had.honest;
   noted_pass = had.noted_pass;
 }
 
@@ -143,7 +140,7 @@ collect_words words g t c good here agrees =
     other (passive_of d u) ne = refl
     other (count_of d u) ne = cell_other 0 g.counts t c 0 u d (λ a b. ne (λ i. count_of (b i) (a i)))
     other head_word ne = refl
-    other changes_word ne = refl
+    other (live_of u) ne = refl
     other (next_of u) ne = refl
     other (record_of u j) ne = refl
     other (total_of u) ne = refl
@@ -165,7 +162,7 @@ collect_may z k t c may s r i at fits =
     let own : KeeperOwn = keeper_own k in
     let made : step g (Collect t c) ≡ Some (record { state = with_keeper g l; reply = Word w }) = rw (here.rest, here.retired, lt-ltb c g.settings.cpus here.cpu, passed, clear, still, found) refl in
     let shown = shown_collected g k t c r.good had here still in
-    let done = keeper_makes z s r i k place 0 l (Collect t c) (Word w) own at made (leaves_all g l (omega arith) refl refl refl refl (still_collected g t c)) (λ n. refl) refl shown
+    let done = keeper_makes z s r i k place 0 l (Collect t c) (Word w) own at made (leaves_all g l refl refl refl refl (still_collected g t c)) (λ n. refl) refl shown
     (collect_words s.words g t c r.good here r.words) in
     let change : keeper_view (with_keeper g l) own ≡ record k { marks = with_cell k.marks t c (mark_after_collect (mark_at k.marks t c)); due = Adding t w } =
     ap (λ n. record (keeper_view g own) { marks = with_cell g.marks t c (mark_after_collect (mark_at g.marks t c)); due = Adding t n }) (sym found)

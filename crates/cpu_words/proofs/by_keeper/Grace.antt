@@ -10,7 +10,6 @@ use Rattle.cpu_words.specs.Common.{KeeperView, Keeper, section_of, index, Keeper
 use Rattle.cpu_words.specs.Common.{due_next, LookTold, keeper_after_look}
 use Rattle.cpu_words.proofs.by_keeper.KeeperSteps.{KeeperLists, keeper_lists, with_keeper, leaves_all, keeper_makes}
 use Rattle.cpu_words.proofs.by_keeper.KeeperSees.{seen_by_keeper, loads}
-use Rattle.cpu_words.proofs.shown.Changes.{counted_marked}
 use Rattle.cpu_words.proofs.by_keeper.Marked.{DueAlike, due_alike, same_collected, shown_marked}
 
 pub look_may : (z : Settings) (k : KeeperView) (t c : ℕ) → MayLook k t c
@@ -29,9 +28,8 @@ look_may z k t c may s r i at fits =
     let l : KeeperLists = record (keeper_lists g) { marks = with_cell g.marks t c m } in
     let own : KeeperOwn = keeper_own (keeper_after_look k (Look (Some t) c) (Word w)) in
     let made : step g (Look (Some t) c) ≡ Some (record { state = with_keeper g l; reply = Word w }) = rw (rest, retired, lt-ltb c g.settings.cpus lt, found) refl in
-    let shown : KeeperShown (with_keeper g l) (keeper_view (with_keeper g l) own) = shown_marked g k t c m g.due own r.good had lt refl (due_alike g.due g.due refl) refl refl refl
-    (counted_marked g.settings.slots g.history g.slots g.marks g.next g.changes t c m (λ was. was) had.counted) in
-    let done = keeper_makes z s r i k (index (section_of c)) w l (Look (Some t) c) (Word w) own at made (leaves_all g l (omega arith) refl refl refl refl (same_collected g t c m refl)) (λ n. refl) refl shown
+    let shown : KeeperShown (with_keeper g l) (keeper_view (with_keeper g l) own) = shown_marked g k t c m g.due own r.good had lt refl (due_alike g.due g.due refl) refl refl refl in
+    let done = keeper_makes z s r i k (index (section_of c)) w l (Look (Some t) c) (Word w) own at made (leaves_all g l refl refl refl refl (same_collected g t c m refl)) (λ n. refl) refl shown
     (loads s.words g (with_keeper g l) (index (section_of c)) r.words refl (λ q _. refl)) in
     let change : keeper_view (with_keeper g l) own ≡ record (keeper_after_look k (Look (Some t) c) (Word w)) { marks = with_cell k.marks t c (mark_after_look (mark_at k.marks t c) w) } =
     ap (λ n. record (keeper_view g own) { marks = with_cell g.marks t c (mark_after_look (mark_at g.marks t c) n) }) (sym found)
@@ -63,10 +61,10 @@ glance_may z k c e may steps s r i at fits =
       gives_up = had.gives_up;
       later = had.later;
       beyond = had.beyond;
-      counted = had.counted;
+      honest = had.honest;
       noted_pass = had.noted_pass;
     } in
-    let done = keeper_makes z s r i k (index (section_of c)) w l e (Word w) own at made (leaves_all g l (omega arith) refl refl refl refl (λ t d is. is)) (λ n. refl) refl shown
+    let done = keeper_makes z s r i k (index (section_of c)) w l e (Word w) own at made (leaves_all g l refl refl refl refl (λ t d is. is)) (λ n. refl) refl shown
     (loads s.words g (with_keeper g l) (index (section_of c)) r.words refl (λ q _. refl)) in (
       Keeper (keeper_view (with_keeper g l) own),
       subst (λ (f : Event). GoesOn z s r (did f (Word w)) (stepped s (index (section_of c)) w i [] (Keeper (keeper_view (with_keeper g l) own)) keeps)) steps_here.1 done.0,
@@ -106,9 +104,8 @@ snapshot_may z k t c may s r i at fits =
     let fresh : false ≡ (mark_at g.marks t c).collected = sym (r.good.holds.balance.fresh c t c due) in
     let made : step g (Snapshot (Some t) c) ≡ Some (record { state = with_keeper g l; reply = Word w }) = rw (due, eq-eqb t t refl, eq-eqb c c refl, found) refl in
     let shown : KeeperShown (with_keeper g l) (keeper_view (with_keeper g l) own) =
-    shown_marked g k t c m (due_next g.settings t c) own r.good had lt fresh (alike_after g.settings t c g.due due) refl refl refl
-    (counted_marked g.settings.slots g.history g.slots g.marks g.next g.changes t c m (λ was. refl) had.counted) in
-    let done = keeper_makes z s r i k (index (section_of c)) w l (Snapshot (Some t) c) (Word w) own at made (leaves_all g l (omega arith) refl refl refl refl (same_collected g t c m fresh)) (λ n. refl) refl shown
+    shown_marked g k t c m (due_next g.settings t c) own r.good had lt fresh (alike_after g.settings t c g.due due) refl refl refl in
+    let done = keeper_makes z s r i k (index (section_of c)) w l (Snapshot (Some t) c) (Word w) own at made (leaves_all g l refl refl refl refl (same_collected g t c m fresh)) (λ n. refl) refl shown
     (loads s.words g (with_keeper g l) (index (section_of c)) r.words refl (λ q _. refl)) in
     let change : keeper_view (with_keeper g l) own ≡ record k { marks = with_cell k.marks t c (snapshot_mark w); due = due_next k.settings t c } =
     ap (λ n. record (keeper_view g own) { marks = with_cell g.marks t c (snapshot_mark n); due = due_next g.settings t c }) (sym found)

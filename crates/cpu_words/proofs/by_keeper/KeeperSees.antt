@@ -20,7 +20,7 @@ pub record SeenByKeeper (g : State) (k : KeeperView) : Type 0 where
   pub next : k.next ≡ g.next
   pub rows : k.rows ≡ g.rows
   pub totals : k.totals ≡ g.totals
-  pub changes : k.changes ≡ g.changes
+  pub lives : k.lives ≡ g.lives
 
 pub seen_by_keeper : (g : State) (k : KeeperView) → Good g → KeeperShown g k → SeenByKeeper g k
 seen_by_keeper g k good had = record {
@@ -36,7 +36,7 @@ seen_by_keeper g k good had = record {
   next = ap (λ (v : KeeperView). v.next) had.is;
   rows = ap (λ (v : KeeperView). v.rows) had.is;
   totals = ap (λ (v : KeeperView). v.totals) had.is;
-  changes = ap (λ (v : KeeperView). v.changes) had.is;
+  lives = ap (λ (v : KeeperView). v.lives) had.is;
 }
 
 -- the words after a load

@@ -14,11 +14,10 @@ use Rattle.protocol.proofs.keeps.Keeping.{step_holds}
 use Rattle.cpu_words.proofs.laws.Reaching.{more}
 use Rattle.cpu_words.proofs.shown.Standing.{standing_place}
 use Rattle.cpu_words.specs.Common.{InHand, CpuView, KeeperView, ReferenceView, View, Keeper, Cpu, Reference, Note, Spent, KeeperOwn, own_of, cpu_view, keeper_view, references_to, is_to, SameHand}
-use Rattle.cpu_words.specs.Common.{HandFits, CpuShown, KeeperShown, Spot, section_of, passive_of, count_of, head_word, changes_word, next_of, record_of, total_of, word_at, Agrees, IsFresh, Good, Ruled, GoesOn}
+use Rattle.cpu_words.specs.Common.{HandFits, CpuShown, KeeperShown, Spot, section_of, passive_of, count_of, head_word, live_of, next_of, record_of, total_of, word_at, Agrees, IsFresh, Good, Ruled, GoesOn}
 use Rattle.cpu_words.specs.Common.{by_number, did, Makes}
 use Rattle.cpu_words.specs.declared.view.InHand.TheVariants.{Empty as NoEntry, Taking as TakingEntry, Giving as GivingEntry, Back as BackEntry, Trying as TryingEntry}
 use Rattle.cpu_words.proofs.shown.Showing.{standing_in, IsBacked, Stay, shows_set}
-use Rattle.cpu_words.proofs.shown.Peeks.{peek_counted}
 use Rattle.cpu_words.proofs.shown.Seeing.{tries}
 use Rattle.cpu_words.proofs.shown.Passes.{attached_on, attached_prefix, prefix_on, take_on}
 
@@ -29,7 +28,7 @@ pub record KeeperLists : Type 0 where
   pub rows : List RecordWords
   pub counts : List (List ℕ)
   pub totals : List ℕ
-  pub changes : ℕ
+  pub lives : List ℕ
   pub history : List Change
   pub seated : ℕ
   pub nets : List (List ℕ)
@@ -46,7 +45,7 @@ keeper_lists g = record {
   rows = g.rows;
   counts = g.counts;
   totals = g.totals;
-  changes = g.changes;
+  lives = g.lives;
   history = g.history;
   seated = g.seated;
   nets = g.nets;
@@ -64,7 +63,7 @@ with_keeper g l = record g {
   rows = l.rows;
   counts = l.counts;
   totals = l.totals;
-  changes = l.changes;
+  lives = l.lives;
   history = l.history;
   seated = l.seated;
   nets = l.nets;
@@ -82,10 +81,9 @@ Stayed g l t e = IsIn e (slot_at g.slots t) × ((c : ℕ) → count_at l.nets c 
 abbrev pub Came : State → KeeperLists → ℕ → Entry → Type 0
 Came g l t e = (length g.history < e.number) × ((c : ℕ) → passive_at g.passive c t ≡ trying_at g.hands c t) × ((c : ℕ) → c < g.settings.cpus → count_at l.nets c t ≡ bias)
 
--- no CPU gets its seat, the history grows and so does the count of changes, who comes is new, and who goes leaves no passive reference: at most what is tried; what was collected stays so
+-- no CPU gets its seat, the history grows, who comes is new, and who goes leaves no passive reference: at most what is tried; what was collected stays so
 pub record LeavesCpus (g : State) (l : KeeperLists) : Type 0 where
   pub seated : l.seated ≡ g.seated
-  pub grow : g.changes ≤ l.changes
   pub more : (zs : List Change) × (l.history ≡ g.history ++ zs)
   pub stay : (t : ℕ) (e : Entry) → IsIn e (slot_at l.slots t) → Stayed g l t e ⊎ Came g l t e
   pub go : (t : ℕ) (e : Entry) → IsIn e (slot_at g.slots t) → IsIn e (slot_at l.slots t) ⊎ ((c : ℕ) → passive_at g.passive c t ≡ trying_at g.hands c t)
@@ -171,7 +169,6 @@ cpu_shown_on g l y good after leaves had =
       there = λ t some_one. let e = had.there t some_one in (e.0, attached_prefix g.history l.history e.0 (zs, sym more) e.1, e.2, e.3);
       found = had.found;
       references = had.references;
-      peek = peek_counted y.pass g.changes l.changes y.peek leaves.grow had.peek;
       noted_pass = subst (IsPrefix y.noted_pass) (sym more) (prefix_on y.noted_pass g.history zs had.noted_pass);
     }
   where
@@ -248,11 +245,10 @@ keeper_makes z s r i k word m l e rep own at made leaves count noted_pass shown 
     )
 
 -- a step that leaves the history, the slots, the counts and what was collected
-pub leaves_all : (g : State) (l : KeeperLists) → g.changes ≤ l.changes → l.history ≡ g.history → l.seated ≡ g.seated → l.slots ≡ g.slots → l.nets ≡ g.nets
+pub leaves_all : (g : State) (l : KeeperLists) → l.history ≡ g.history → l.seated ≡ g.seated → l.slots ≡ g.slots → l.nets ≡ g.nets
     → ((t c : ℕ) → (mark_at g.marks t c).collected ≡ true → (mark_at l.marks t c).collected ≡ true) → LeavesCpus g l
-leaves_all g l grow history seated slots nets collected = record {
+leaves_all g l history seated slots nets collected = record {
   seated = seated;
-  grow = grow;
   more = ([], history ∙ sym (append-nil g.history));
   stay = λ t e here. inl (subst (λ (x : List Slot). IsIn e (slot_at x t)) slots here, (λ c. ap (λ (n : List (List ℕ)). count_at n c t) nets));
   go = λ t e here. inl (subst (λ (x : List Slot). IsIn e (slot_at x t)) (sym slots) here);
@@ -281,7 +277,6 @@ cpu_beside_shown g n locals due kept y more shown = record {
   there = shown.there;
   found = shown.found;
   references = shown.references;
-  peek = shown.peek;
   noted_pass = shown.noted_pass;
 }
 
@@ -297,7 +292,7 @@ beside_words g locals due kept (section_of d) = refl
 beside_words g locals due kept (passive_of d u) = refl
 beside_words g locals due kept (count_of d u) = refl
 beside_words g locals due kept head_word = refl
-beside_words g locals due kept changes_word = refl
+beside_words g locals due kept (live_of u) = refl
 beside_words g locals due kept (next_of u) = refl
 beside_words g locals due kept (record_of u j) = refl
 beside_words g locals due kept (total_of u) = refl

@@ -50,7 +50,7 @@ keep_makes k t v may g good had ref backs =
       names = ap (λ (x : LocalPlace). number_or_none (number_standing x)) place.1;
       after = with_keeper g l;
       made = made;
-      good_after = keeper_good_after g l (Keep t id) Done good (leaves_all g l (omega arith) refl refl refl refl (λ u d on. on)) made;
+      good_after = keeper_good_after g l (Keep t id) Done good (leaves_all g l refl refl refl refl (λ u d on. on)) made;
       shown = record {
         is = ap (λ (x : KeeperView). keeper_after_keep x t v) had.is;
         counts = had.counts;
@@ -60,7 +60,7 @@ keep_makes k t v may g good had ref backs =
         gives_up = had.gives_up;
         later = had.later;
         beyond = had.beyond;
-        counted = had.counted;
+        honest = had.honest;
         noted_pass = had.noted_pass;
       };
       count = λ m. let a = local_changed m g.locals id (Standing n) Free (standing_within g.locals id n place.1) place.1 in omega arith;

@@ -8,7 +8,7 @@ use Rattle.protocol.proofs.slots.Occupied.{slot_has}
 use Rattle.protocol.proofs.counts.Bounds.{driver_positive}
 use Rattle.cpu_words.specs.Common.{KeeperView, Keeper, total_of, index, KeeperOwn, keeper_own, keeper_view, one_more, KeeperShown, GivesUp, Agrees, Good, did, Makes, KeeperMay, MayKeptSub, HasKeptSub}
 use Rattle.cpu_words.specs.Common.{KeptSubTold}
-use Rattle.cpu_words.proofs.shown.Changes.{counted_vacated}
+use Rattle.cpu_words.proofs.shown.Lives.{honest_retired}
 use Rattle.cpu_words.proofs.by_keeper.KeeperSteps.{KeeperLists, with_keeper, keeper_makes}
 use Rattle.cpu_words.proofs.by_keeper.KeeperSees.{seen_by_keeper}
 use Rattle.cpu_words.proofs.by_keeper.Drained.{Drained, drained_of, vacating, vacated_leaves, vacated_counts, stood}
@@ -69,7 +69,7 @@ shown_kept_sub g k t d u e good had x = record {
       omega (arith, was, less);
   later = later_less g k u x.driver good had x.here;
   beyond = had.beyond;
-  counted = counted_vacated g.settings.slots g.history g.slots g.marks g.next g.changes t 0 x.drained.clear had.counted;
+  honest = honest_retired g.slots g.lives t e Vacant x.drained.retired had.honest;
   noted_pass = had.noted_pass;
 }
 

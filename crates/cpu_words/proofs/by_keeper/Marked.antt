@@ -9,7 +9,7 @@ use Rattle.registry_values.specs.Common.{no_mark, slot_at}
 use Rattle.protocol.proofs.slots.Cells.{cell_cases, row_here, row_other}
 use Rattle.registry_values.proofs.Fit.{ranges}
 use mathlib.Core.List.{IsPrefix}
-use Rattle.cpu_words.specs.Common.{KeeperView, number_at, KeeperOwn, keeper_view, KeeperShown, GivesUp, collected_net, collected_one, ChangesShow, Good}
+use Rattle.cpu_words.specs.Common.{KeeperView, number_at, KeeperOwn, keeper_view, KeeperShown, GivesUp, collected_net, collected_one, Good}
 use Rattle.protocol.proofs.slots.Occupied.{in_within}
 
 -- a sum over the marks and net counts of a slot, as one mark changes
@@ -90,9 +90,9 @@ gives_up_marked g t c m due given_up good lt same alike u e here was =
 
 -- what the keeper's view shows after such a change
 pub shown_marked : (g : State) (k : KeeperView) (t c : ℕ) (m : Mark) (due : Due) (own : KeeperOwn) → Good g → KeeperShown g k → c < g.settings.cpus → m.collected ≡ (mark_at g.marks t c).collected
-    → DueAlike due g.due → own.counts ≡ k.counts → own.given_up ≡ k.given_up → own.noted_pass ≡ k.noted_pass → ChangesShow g.settings.slots g.history g.slots (with_cell g.marks t c m) g.next g.changes
+    → DueAlike due g.due → own.counts ≡ k.counts → own.given_up ≡ k.given_up → own.noted_pass ≡ k.noted_pass
     → KeeperShown (record g { marks = with_cell g.marks t c m; due = due }) (keeper_view (record g { marks = with_cell g.marks t c m; due = due }) own)
-shown_marked g k t c m due own good had lt same alike counts given_up noted_pass counted = record {
+shown_marked g k t c m due own good had lt same alike counts given_up noted_pass = record {
   is = refl;
   counts = λ d u vacant. had.counts d u vacant ∙ ap (λ (x : List (List ℕ)). count_at x d u) (sym counts);
   sized = ap length counts ∙ had.sized;
@@ -104,6 +104,6 @@ shown_marked g k t c m due own good had lt same alike counts given_up noted_pass
       (λ (here : (u ≡ t) × (d ≡ c) × (cell no_mark (with_cell g.marks t c m) u d ≡ m)). absurd (let e = here.1 in omega (arith, e, past, lt)))
       (λ (off : cell no_mark (with_cell g.marks t c m) u d ≡ cell no_mark g.marks u d). ap (λ (x : Mark). x.collected) off ∙ had.beyond d u past)
       (cell_cases no_mark g.marks t c m u d);
-  counted = counted;
+  honest = had.honest;
   noted_pass = subst (λ (x : List Change). IsPrefix x g.history) (sym noted_pass) had.noted_pass;
 }

@@ -11,10 +11,10 @@ use Rattle.protocol.proofs.slots.Cells.{cell_in_new, cell_in_old}
 use Rattle.registry_values.proofs.Fit.{ranges}
 use Rattle.protocol.proofs.history.History.{length-after_change}
 use Rattle.protocol.proofs.slots.Occupied.{slot_cases, in_other, in_published, not_vacant}
-use Rattle.cpu_words.specs.Common.{KeeperView, Keeper, Spot, section_of, passive_of, count_of, head_word, changes_word, next_of, record_of, total_of, IsSpot, word_at, index, keeper_own, keeper_view, KeeperShown}
+use Rattle.cpu_words.specs.Common.{KeeperView, Keeper, Spot, section_of, passive_of, count_of, head_word, live_of, next_of, record_of, total_of, IsSpot, word_at, index, keeper_own, keeper_view, KeeperShown}
 use Rattle.cpu_words.specs.Common.{number_at, collected_net, collected_one, Agrees, Good, did, Makes, KeeperStores, LeadsBelow, MayPublish, HasPublished, PublishTold}
 use Rattle.cpu_words.proofs.shown.Passes.{prefix_on}
-use Rattle.cpu_words.proofs.shown.Changes.{counted_attached}
+use Rattle.cpu_words.proofs.shown.Lives.{honest_vacant}
 use Rattle.cpu_words.proofs.shown.Placing.{agrees_set}
 use Rattle.cpu_words.proofs.by_keeper.KeeperSteps.{KeeperLists, keeper_lists, with_keeper, LeavesCpus, Came, keeper_makes}
 use Rattle.cpu_words.proofs.by_keeper.KeeperSees.{seen_by_keeper}
@@ -38,7 +38,6 @@ pub record Publishes (g : State) (t : ℕ) (e : Entry) : Type 0 where
   pub counts : (c : ℕ) → c < g.settings.cpus → count_at g.counts c t ≡ bias
   pub total : total_at g.totals t ≡ bias
   pub keeps : keeps_rightly (kept_at g.keeps t) e.rec.kind ≡ true
-  pub counted : g.changes ≡ length g.history
 
 pub publishes : (g : State) (k : KeeperView) (t : ℕ) (e : Entry) → Good g → KeeperShown g k → MayPublish k t e → Publishes g t e
 publishes g k t e good had may =
@@ -65,7 +64,6 @@ publishes g k t e good had may =
       counts = λ c lt. had.counts c t vacant ∙ may.counts c (omega (arith, lt, cpus));
       total = ap (λ (x : List ℕ). total_at x t) (sym seen.totals) ∙ may.total;
       keeps = ap (λ (x : List (Option ℕ)). keeps_rightly (kept_at x t) e.rec.kind) (sym seen.keeps) ∙ may.keeps;
-      counted = sym seen.changes ∙ may.counted ∙ long;
     }
 
 -- a row whose first words are the bias
@@ -100,7 +98,6 @@ leaves_published g t e good may =
     let in_nets : t < length g.nets = omega (arith, may.slot, good.holds.shape.nets) in
     record {
       seated = omega arith;
-      grow = omega arith;
       more = (Attach e ∷ [], refl);
       stay = λ u f here. ⊎_elim
           (λ (new : (u ≡ t) × (f ≡ e)). inr (subst (λ (p : ℕ × Entry). Came g (publish_lists g t e) p.0 p.1) (λ i. (sym new.0 i, sym new.1 i)) (
@@ -150,7 +147,7 @@ shown_published g k t e good had may =
           (slot_cases g.slots t (Live e) u may.within);
       later = λ n above. had.later n (omega (arith, above, longer));
       beyond = had.beyond;
-      counted = counted_attached g.settings.slots g.history g.slots g.marks g.next g.changes t e may.counted had.counted;
+      honest = honest_vacant g.slots g.lives t (Live e) may.vacant had.honest;
       noted_pass = prefix_on k.noted_pass g.history (Attach e ∷ []) had.noted_pass;
     }
 
@@ -173,7 +170,7 @@ publish_may z k t e may s r i at fits =
     others g (passive_of c u) here off = refl
     others g (count_of c u) here off = refl
     others g head_word here off = absurd (off refl)
-    others g changes_word here off = refl
+    others g (live_of u) here off = refl
     others g (next_of u) here off = refl
     others g (record_of u j) here off = refl
     others g (total_of u) here off = refl

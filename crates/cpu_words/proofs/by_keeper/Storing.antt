@@ -8,9 +8,8 @@ use Rattle.registry_values.specs.Common.{slot_at}
 use Rattle.protocol.proofs.slots.Cells.{by_cell, cell_here, cell_other}
 use Rattle.protocol.proofs.keeps.ListKeeps.{rows_cell}
 use Rattle.registry_values.proofs.Fit.{ranges}
-use Rattle.cpu_words.specs.Common.{KeeperView, Keeper, Spot, section_of, passive_of, count_of, head_word, changes_word, next_of, record_of, total_of, IsSpot, word_at, index, KeeperOwn, keeper_own, keeper_view}
+use Rattle.cpu_words.specs.Common.{KeeperView, Keeper, Spot, section_of, passive_of, count_of, head_word, live_of, next_of, record_of, total_of, IsSpot, word_at, index, KeeperOwn, keeper_own, keeper_view}
 use Rattle.cpu_words.specs.Common.{KeeperShown, Agrees, Good, did, Makes, KeeperStores, MayWrite, HasRecordWord, HasCountWord, HasLink}
-use Rattle.cpu_words.proofs.shown.Changes.{counted_linked}
 use Rattle.cpu_words.proofs.shown.Placing.{agrees_set}
 use Rattle.cpu_words.proofs.by_keeper.KeeperSteps.{KeeperLists, keeper_lists, with_keeper, leaves_all, keeper_makes}
 use Rattle.cpu_words.proofs.by_keeper.KeeperSees.{SeenByKeeper, seen_by_keeper}
@@ -43,7 +42,7 @@ link_words words g t v good slot agrees = agrees_set words g (with_keeper g (rec
     other (passive_of c u) here ne = refl
     other (count_of c u) here ne = refl
     other head_word here ne = refl
-    other changes_word here ne = refl
+    other (live_of u) here ne = refl
     other (next_of u) here ne = get_or-set_other g.next t u v 0 (λ is. ne (ap next_of is))
     other (record_of u j) here ne = refl
     other (total_of u) here ne = refl
@@ -54,7 +53,6 @@ store_next_may z k t v leads may s r i at fits =
     let g = r.g in
     let had : KeeperShown g k = (r.shows.fits i (Keeper k) at).1 in
     let on = stores_of g k t r.good had may in
-    let few : v ≤ g.settings.slots = subst (λ (a : Settings). v ≤ a.slots) on.seen.settings leads in
     let l : KeeperLists = record (keeper_lists g) { next = set g.next t v } in
     let own = keeper_own k in
     let made : step g (StoreNext t v) ≡ Some (record { state = with_keeper g l; reply = Done }) = rw (on.rest, lt-ltb t g.settings.slots on.slot, on.vacant) refl in
@@ -68,10 +66,10 @@ store_next_may z k t v leads may s r i at fits =
       gives_up = had.gives_up;
       later = had.later;
       beyond = had.beyond;
-      counted = counted_linked g.settings.slots g.history g.slots g.marks g.next g.changes t v few on.vacant had.counted;
+      honest = had.honest;
       noted_pass = had.noted_pass;
     } in
-    let done = keeper_makes z s r i k (index (next_of t)) v l (StoreNext t v) Done own at made (leaves_all g l (omega arith) refl refl refl refl (λ u d is. is)) (λ n. refl) refl shown
+    let done = keeper_makes z s r i k (index (next_of t)) v l (StoreNext t v) Done own at made (leaves_all g l refl refl refl refl (λ u d is. is)) (λ n. refl) refl shown
     (link_words s.words g t v r.good on.slot r.words) in
     (Keeper (keeper_view (with_keeper g l) own), done.0, (refl, (done.1, ap (λ (x : KeeperView). record x { next = set x.next t v }) (sym had.is))))
 
@@ -127,7 +125,7 @@ record_words words g t j v good slot lt agrees = agrees_set words g (with_keeper
     other (passive_of c u) there ne = refl
     other (count_of c u) there ne = refl
     other head_word there ne = refl
-    other changes_word there ne = refl
+    other (live_of u) there ne = refl
     other (next_of u) there ne = refl
     other (record_of u i) there ne = ⊎_elim
         (λ (is : u ≡ t). subst (λ w. word (row_at (set g.rows t (with_word (row_at g.rows t) j v)) w) i ≡ word (row_at g.rows w) i) (sym is)
@@ -155,10 +153,10 @@ store_record_may z k t j v lt may s r i at fits =
       gives_up = had.gives_up;
       later = had.later;
       beyond = had.beyond;
-      counted = had.counted;
+      honest = had.honest;
       noted_pass = had.noted_pass;
     } in
-    let done = keeper_makes z s r i k (index (record_of t j)) v l (StoreSlot t j v) Done own at made (leaves_all g l (omega arith) refl refl refl refl (λ u d is. is)) (λ n. refl) refl shown
+    let done = keeper_makes z s r i k (index (record_of t j)) v l (StoreSlot t j v) Done own at made (leaves_all g l refl refl refl refl (λ u d is. is)) (λ n. refl) refl shown
     (record_words s.words g t j v r.good on.slot lt r.words) in
     (Keeper (keeper_view (with_keeper g l) own), done.0, (refl, (done.1, ap (λ (x : KeeperView). record x { rows = set x.rows t (with_word (row_at x.rows t) j v) }) (sym had.is))))
 
@@ -183,7 +181,7 @@ count_words words g t c v good slot lt agrees =
     other (passive_of d u) there ne = refl
     other (count_of d u) there ne = cell_other 0 g.counts t c v u d (λ at_slot at_cpu. ne ((λ k. count_of (at_cpu k) u) ∙ ap (count_of c) at_slot))
     other head_word there ne = refl
-    other changes_word there ne = refl
+    other (live_of u) there ne = refl
     other (next_of u) there ne = refl
     other (record_of u i) there ne = refl
     other (total_of u) there ne = refl
@@ -224,10 +222,10 @@ store_count_may z k t c v within may s r i at fits =
       gives_up = had.gives_up;
       later = had.later;
       beyond = had.beyond;
-      counted = had.counted;
+      honest = had.honest;
       noted_pass = had.noted_pass;
     } in
-    let done = keeper_makes z s r i k (index (count_of c t)) v l (StoreSlot t (5 + c) v) Done own at made (leaves_all g l (omega arith) refl refl refl refl (λ u d is. is)) (λ n. refl) refl shown
+    let done = keeper_makes z s r i k (index (count_of c t)) v l (StoreSlot t (5 + c) v) Done own at made (leaves_all g l refl refl refl refl (λ u d is. is)) (λ n. refl) refl shown
     (count_words s.words g t c v r.good on.slot lt r.words) in (
       Keeper (keeper_view (with_keeper g l) own),
       done.0,

@@ -20,7 +20,7 @@ use Rattle.protocol.proofs.slots.Numbers.{slot_number}
 use Rattle.protocol.proofs.slots.MarkRows.{any_within}
 use Rattle.protocol.proofs.counts.Sums.{local_changed, standing_within}
 use Rattle.protocol.proofs.counts.Bounds.{adding_range, adding_within, subtracting_range}
-use Rattle.cpu_words.specs.Common.{KeeperView, ReferenceView, Logged, View, Keeper, Reference, Spent, Spot, section_of, passive_of, count_of, head_word, changes_word, next_of, record_of, total_of, word_at, index}
+use Rattle.cpu_words.specs.Common.{KeeperView, ReferenceView, Logged, View, Keeper, Reference, Spent, Spot, section_of, passive_of, count_of, head_word, live_of, next_of, record_of, total_of, word_at, index}
 use Rattle.cpu_words.specs.Common.{KeeperOwn, keeper_own, keeper_view, number_at, one_more, is_to, IsCollectedFor, KeeperShown, ReferenceShown, GivesUp, keeper_of, reference_of, Agrees, Good}
 use Rattle.cpu_words.specs.Common.{number_or_none, did, log_of_events, Makes, JoinsBy, JoinsOn, KeeperMay, KeeperStores, MayTotalAdd, TotalAddTold, MayTotalSub, TotalSubTold, MayJoinKeeper}
 use Rattle.cpu_words.specs.Common.{keeper_after_join, with_given_up, LoggedRuled, joined_seat, spent_seat, gives_up}
@@ -49,8 +49,8 @@ one_more_at l n m = ⊎_elim
 
 -- the words after a total was written
 pub total_words : (words : List ℕ) (g : State) (l : KeeperLists) (t v : ℕ) → Good g → t < g.settings.slots → Agrees words g
-    → l.head ≡ g.head → l.changes ≡ g.changes → l.next ≡ g.next → l.rows ≡ g.rows → l.counts ≡ g.counts → l.totals ≡ set g.totals t v → Agrees (set words (index (total_of t)) v) (with_keeper g l)
-total_words words g l t v good slot agrees head changes next rows counts totals = agrees_set words g (with_keeper g l) (total_of t) v good.holds.fit agrees refl slot
+    → l.head ≡ g.head → l.lives ≡ g.lives → l.next ≡ g.next → l.rows ≡ g.rows → l.counts ≡ g.counts → l.totals ≡ set g.totals t v → Agrees (set words (index (total_of t)) v) (with_keeper g l)
+total_words words g l t v good slot agrees head lives next rows counts totals = agrees_set words g (with_keeper g l) (total_of t) v good.holds.fit agrees refl slot
     (ap (λ (x : List ℕ). total_at x t) totals ∙ total_here g.totals t v (omega (arith, slot, good.holds.shape.totals))) (λ q _ ne. other q ne)
   where
     other : (q : Spot) → (q ≡ total_of t → ⊥) → word_at (with_keeper g l) q ≡ word_at g q
@@ -58,7 +58,7 @@ total_words words g l t v good slot agrees head changes next rows counts totals 
     other (passive_of d u) ne = refl
     other (count_of d u) ne = ap (λ (x : List (List ℕ)). word_at (record g { counts = x }) (count_of d u)) counts
     other head_word ne = head
-    other changes_word ne = changes
+    other (live_of u) ne = ap (λ (x : List ℕ). get_or x u 0) lives
     other (next_of u) ne = ap (λ (x : List ℕ). get_or x u 0) next
     other (record_of u j) ne = λ i. word_at (record g { rows = rows i }) (record_of u j)
     other (total_of u) ne = ap (λ (x : List ℕ). total_at x u) totals ∙ total_other g.totals t v u (λ e. ne (ap total_of e))
@@ -80,7 +80,7 @@ shown_added g k t old good had due = record {
   gives_up = λ u e retired. each u e (had.gives_up u e retired);
   later = had.later;
   beyond = had.beyond;
-  counted = had.counted;
+  honest = had.honest;
   noted_pass = had.noted_pass;
 }
   where
@@ -125,7 +125,7 @@ total_add_may z k t old value may s r i at fits =
     let words : Agrees (set s.words (index (total_of t)) value) (with_keeper g l) =
     subst (λ n. Agrees (set s.words (index (total_of t)) n) (with_keeper g l)) (sym is)
     (total_words s.words g l t v r.good (adding_within g t old r.good.holds due) r.words refl refl refl refl refl refl) in
-    let done = keeper_makes z s r i k (index (total_of t)) value l (TotalAdd t) Done own at made (leaves_all g l (omega arith) refl refl refl refl (λ u d on. on)) (λ n. refl) refl
+    let done = keeper_makes z s r i k (index (total_of t)) value l (TotalAdd t) Done own at made (leaves_all g l refl refl refl refl (λ u d on. on)) (λ n. refl) refl
     (shown_added g k t old r.good had due) words in
     let change : keeper_view (with_keeper g l) own ≡ record k { totals = set k.totals t value; due = Rest } =
     ap (λ n. record (keeper_view g own) { totals = set g.totals t n; due = Rest }) (sym is) ∙ ap (λ (x : KeeperView). record x { totals = set x.totals t value; due = Rest }) (sym had.is) in
@@ -213,7 +213,7 @@ shown_subtracted g k t e good had retired due =
           omega (arith, was, less u, d.0, d.1, d.2);
       later = had.later;
       beyond = had.beyond;
-      counted = had.counted;
+      honest = had.honest;
       noted_pass = had.noted_pass;
     }
 
@@ -236,7 +236,7 @@ total_sub_may z k t may s r i at fits =
     let made : step g (TotalSub t) ≡ Some (record { state = with_keeper g l; reply = Done }) = ap (total_sub g t) due ∙ rw (eq-eqb t t refl) refl in
     let words : Agrees (set s.words (index (total_of t)) ((w + (2 ^ 64 - 1)) % 2 ^ 64)) (with_keeper g l) =
     subst (λ n. Agrees (set s.words (index (total_of t)) n) (with_keeper g l)) (sym next) (total_words s.words g l t v r.good range.0 r.words refl refl refl refl refl refl) in
-    let done = keeper_makes z s r i k (index (total_of t)) ((w + (2 ^ 64 - 1)) % 2 ^ 64) l (TotalSub t) Done own at made (leaves_all g l (omega arith) refl refl refl refl (λ u d on. on)) (λ n. refl) refl
+    let done = keeper_makes z s r i k (index (total_of t)) ((w + (2 ^ 64 - 1)) % 2 ^ 64) l (TotalSub t) Done own at made (leaves_all g l refl refl refl refl (λ u d on. on)) (λ n. refl) refl
     (shown_subtracted g k t e r.good had gone.1 due) words in
     let change : keeper_view (with_keeper g l) own ≡ record k { totals = set k.totals t (total_at k.totals t - 1); due = Rest } =
     ap (λ (x : KeeperView). record x { totals = set x.totals t (total_at x.totals t - 1); due = Rest }) (sym had.is) in
@@ -302,7 +302,7 @@ join_keeper_law k v may g good had ref backs =
       names = ap (λ (x : LocalPlace). number_or_none (number_standing x)) place.1;
       after = with_keeper g l;
       made = made;
-      good_after = keeper_good_after g l (JoinKeeper id) Done good (leaves_all g l (omega arith) refl refl refl refl (λ u d on. on)) made;
+      good_after = keeper_good_after g l (JoinKeeper id) Done good (leaves_all g l refl refl refl refl (λ u d on. on)) made;
       shown = record {
         is = ap (λ (x : KeeperView). record x { due = Subtracting t; given_up = one_more x.given_up n }) had.is;
         counts = had.counts;
@@ -320,7 +320,7 @@ join_keeper_law k v may g good had ref backs =
             omega (arith, was, given, d.0, d.1, d.2);
         later = later_less g k t v.entry good had (inr there.retired);
         beyond = had.beyond;
-        counted = had.counted;
+        honest = had.honest;
         noted_pass = had.noted_pass;
       };
       count = λ m. let a = local_changed m g.locals id (Standing n) Free (standing_within g.locals id n place.1) place.1 in omega arith;

@@ -1,19 +1,19 @@
 -- Unpublish on the words.
-use Rattle.std.proofs.Common.{◌≡◌, inl, inr, ⊎_elim, ℕ, zero, suc, ◌<◌, ◌≤◌, List, [], ◌∷◌, length, replicate, get_or, set, sum_by, Option, Some, None, refl, sym, ap, ◌∙◌, subst, arith, get_or-set_same}
+use Rattle.std.proofs.Common.{◌≡◌, inl, inr, ⊎_elim, ℕ, zero, suc, ◌<◌, List, [], ◌∷◌, length, replicate, get_or, set, sum_by, Option, Some, None, refl, sym, ap, ◌∙◌, subst, arith, get_or-set_same}
 use Rattle.std.proofs.Common.{get_or-set_other}
 use Rattle.std.specs.List.{zip}
 use Rattle.std.proofs.lemmas.List.Sums.{sum_by-cons}
-use Rattle.cpu_words.specs.Types.{Entry, Change, Detach, Settings, MOST_CPUS, Slot, Vacant, Live, Retired, Mark, Due, Rest, Snapshots, Unpublish, Done}
-use Rattle.protocol.specs.Common.{after_change, State, at_rest, step, guard, some_outcome, unpublish, after_unpublish, with_link_past, with_retired, IsIn}
+use Rattle.cpu_words.specs.Types.{Entry, Detach, Settings, MOST_CPUS, Slot, Vacant, Live, Retired, Mark, Due, Rest, Snapshots, Unpublish, Done}
+use Rattle.protocol.specs.Common.{after_change, State, at_rest, live_at, step, guard, some_outcome, unpublish, after_unpublish, with_link_past, with_retired, IsIn}
 use Rattle.registry_values.specs.Common.{no_mark, slot_at, slot_before}
-use Rattle.protocol.proofs.slots.Cells.{cell_in_old, get_or_all, place_put}
+use Rattle.protocol.proofs.slots.Cells.{cell_in_old, get_or_all}
 use Rattle.protocol.proofs.history.History.{length-after_change}
 use Rattle.protocol.proofs.slots.Occupied.{place_cases, slot_cases, in_unpublished, in_within, live_one}
-use Rattle.cpu_words.specs.Common.{KeeperView, Keeper, Spot, section_of, passive_of, count_of, head_word, changes_word, next_of, record_of, total_of, word_at, keeper_own, keeper_view, KeeperShown, GivesUp}
+use Rattle.cpu_words.specs.Common.{KeeperView, Keeper, Spot, section_of, passive_of, count_of, head_word, live_of, next_of, record_of, total_of, word_at, keeper_own, keeper_view, KeeperShown, GivesUp}
 use Rattle.cpu_words.specs.Common.{collected_net, collected_one, Agrees, Good, did, Makes, KeeperStores, LeadsBelow, IsBefore, MayUnpublish, HasUnpublished, UnpublishTold, keeper_after_unpublish}
 use Rattle.cpu_words.specs.Common.{link_index, head_with, links_with}
 use Rattle.cpu_words.proofs.shown.Passes.{prefix_on}
-use Rattle.cpu_words.proofs.shown.Changes.{counted_detached}
+use Rattle.cpu_words.proofs.shown.Lives.{honest_changed}
 use Rattle.cpu_words.proofs.shown.Placing.{agrees_set}
 use Rattle.cpu_words.proofs.by_keeper.KeeperSteps.{KeeperLists, keeper_lists, with_keeper, LeavesCpus, keeper_makes}
 use Rattle.cpu_words.proofs.by_keeper.KeeperSees.{seen_by_keeper}
@@ -40,27 +40,12 @@ pub record Unpublishes (g : State) (t : ℕ) (e : Entry) (p : Option ℕ) (v : �
   pub place : (q : ℕ) → p ≡ Some q → q < g.settings.slots
   pub before : slot_before g.slots g.next t ≡ p
   pub link : get_or g.next t 0 ≡ v
-  -- the link that is stored is another's
-  pub other : get_or (links_with g.next p v) t 0 ≡ get_or g.next t 0
-  pub counted : g.changes ≡ length g.history
+  pub hidden : live_at g.lives t ≡ 0
 
 -- the slot before is live
 before_within : (slots : List Slot) (n : ℕ) (p : Option ℕ) → IsBefore slots n p → (q : ℕ) → p ≡ Some q → q < length slots
 before_within slots n None before q is = absurd (let a : ◌≡◌ {A = Option ℕ} None (Some q) = is in cc)
 before_within slots n (Some r) before q is = let a : r ≡ q = cc in subst (λ (u : ℕ). u < length slots) a (in_within slots r before.0 (inl before.1))
-
--- the slot before is another one
-links_other : (slots : List Slot) (next : List ℕ) (t : ℕ) (e : Entry) (p : Option ℕ) (v : ℕ) → slot_at slots t ≡ Live e → IsBefore slots e.number p → get_or (links_with next p v) t 0 ≡ get_or next t 0
-links_other slots next t e None v live before = refl
-links_other slots next t e (Some q) v live before = get_or-set_other next q t v 0 (λ same.
-    let one : before.0 ≡ e = let x : Live before.0 ≡ Live e = sym before.1 ∙ ap (slot_at slots) (sym same) ∙ live in cc in
-    let number : before.0.number ≡ e.number = ap (λ (i : Entry). i.number) one in
-    omega (arith, before.2, number))
-
--- each link leads to a slot
-links_within : (next : List ℕ) (p : Option ℕ) (t v size : ℕ) → get_or next t 0 ≡ v → ((u : ℕ) → get_or next u 0 ≤ size) → (u : ℕ) → get_or (links_with next p v) u 0 ≤ size
-links_within next None t v size link few u = few u
-links_within next (Some q) t v size link few u = place_put {X = ℕ} 0 next q v (λ w x. x ≤ size) u (subst (λ (x : ℕ). x ≤ size) link (few t)) (few u)
 
 pub unpublishes : (g : State) (k : KeeperView) (t : ℕ) (p : Option ℕ) (v : ℕ) → Good g → KeeperShown g k → (may : MayUnpublish k t p v) → Unpublishes g t may.e p v
 unpublishes g k t p v good had may =
@@ -79,8 +64,7 @@ unpublishes g k t p v good had may =
       place = λ q is. let lt = before_within g.slots e.number p before q is in omega (arith, lt, shape.slots);
       before = slot_before_is g.history g.slots g.head g.next t e p good.holds.slots good.holds.list (shape.links ∙ sym shape.slots) live before;
       link = sym (one_link g.history g.slots e.number v (get_or g.next t 0) good.holds.slots below (good.holds.list.links t e live));
-      other = links_other g.slots g.next t e p v live before;
-      counted = sym seen.changes ∙ may.counted ∙ ap (λ (h : List Change). length h) seen.history;
+      hidden = ap (λ (x : List ℕ). live_at x t) (sym seen.lives) ∙ may.hidden;
     }
 
 -- the store to the link, by where it is
@@ -101,7 +85,6 @@ made_unpublish g t e p v may =
 pub leaves_unlinked : (g : State) (t : ℕ) (e : Entry) (p : Option ℕ) (v : ℕ) → Unpublishes g t e p v → LeavesCpus g (unpublish_lists g t e p v)
 leaves_unlinked g t e p v may = record {
   seated = omega arith;
-  grow = omega arith;
   more = (Detach e.number ∷ [], refl);
   stay = λ u f here. inl (in_unpublished g.slots t u e f may.live here, λ c. refl);
   go = λ u f here. inl (⊎_elim
@@ -174,8 +157,7 @@ shown_unlinked g k t e p v good had may =
           (λ (off : (u ≡ t → ⊥) × (get_or (set g.marks t (replicate MOST_CPUS no_mark)) u [] ≡ get_or g.marks u [])).
           ap (λ (row : List Mark). (get_or row c no_mark).collected) off.1 ∙ had.beyond c u past)
           (place_cases [] g.marks t (replicate MOST_CPUS no_mark) u may.in_marks);
-      counted = counted_detached g.settings.slots g.history g.slots g.marks g.next (links_with g.next p v) g.changes t e may.counted good.holds.slots (good.holds.list.links t e may.live) may.live
-          may.in_marks may.other (links_within g.next p t v g.settings.slots may.link had.counted.links);
+      honest = honest_changed g.slots g.lives t (Retired e) may.hidden had.honest;
       noted_pass = prefix_on k.noted_pass g.history (Detach e.number ∷ []) had.noted_pass;
     }
 
@@ -185,7 +167,7 @@ others_head g t e v (section_of c) off = refl
 others_head g t e v (passive_of c u) off = refl
 others_head g t e v (count_of c u) off = refl
 others_head g t e v head_word off = absurd (off refl)
-others_head g t e v changes_word off = refl
+others_head g t e v (live_of u) off = refl
 others_head g t e v (next_of u) off = refl
 others_head g t e v (record_of u j) off = refl
 others_head g t e v (total_of u) off = refl
@@ -195,7 +177,7 @@ others_link g t e p v (section_of c) off = refl
 others_link g t e p v (passive_of c u) off = refl
 others_link g t e p v (count_of c u) off = refl
 others_link g t e p v head_word off = refl
-others_link g t e p v changes_word off = refl
+others_link g t e p v (live_of u) off = refl
 others_link g t e p v (next_of u) off = get_or-set_other g.next p u v 0 (λ same. off (ap next_of same))
 others_link g t e p v (record_of u j) off = refl
 others_link g t e p v (total_of u) off = refl

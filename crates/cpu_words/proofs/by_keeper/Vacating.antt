@@ -12,7 +12,7 @@ use Rattle.cpu_words.specs.Common.{KeeperView, LogItem, View, Keeper, keeper_of,
 use Rattle.cpu_words.specs.Common.{keeper_after_vacate, VacateTold, head_word, index}
 use Rattle.cpu_words.proofs.laws.Reaching.{goes_both}
 use Rattle.cpu_words.proofs.seats.Notes.{hear_keeper_may}
-use Rattle.cpu_words.proofs.shown.Changes.{counted_vacated}
+use Rattle.cpu_words.proofs.shown.Lives.{honest_retired}
 use Rattle.cpu_words.proofs.by_keeper.KeeperSteps.{KeeperLists, with_keeper, keeper_makes}
 use Rattle.cpu_words.proofs.by_keeper.Drained.{Drained, drained_of, vacating, vacated_leaves, vacated_counts, stood}
 use Rattle.cpu_words.proofs.by_keeper.KeeperSees.{seen_by_keeper, loads}
@@ -32,7 +32,7 @@ shown_vacated g k t e had drained = record {
   gives_up = λ u f gone. had.gives_up u f (stood g t u e f (Retired f) drained gone (inr refl));
   later = had.later;
   beyond = had.beyond;
-  counted = counted_vacated g.settings.slots g.history g.slots g.marks g.next g.changes t 0 drained.clear had.counted;
+  honest = honest_retired g.slots g.lives t e Vacant drained.retired had.honest;
   noted_pass = had.noted_pass;
 }
 

@@ -5,21 +5,23 @@ use Rattle.std.specs.List.{AllByRecursion}
 use Rattle.std.proofs.lemmas.Bool.{cases_eq}
 use Rattle.std.proofs.lemmas.List.{append-nil, take_at}
 use Rattle.std.proofs.Math.Seq.{take-append-add}
+use mathlib.Core.Option.{some}
+use lib.ListN.{get_elem?}
 use Rattle.atomic_table.specs.Table.{State as Table}
 use Rattle.atomic_table.proofs.Lists.{at_map}
-use Rattle.cpu_words.specs.Types.{Key, Entry, Change, Settings, Event, Enter, Hear, Peek, LoadLink, LoadRecord, RecordOf, Passive, Local, Compared, Reply, Ref}
+use Rattle.cpu_words.specs.Types.{Key, Entry, Change, Settings, Event, Enter, Hear, Recall, RecallHead, Refind, Confirm, Word, LoadLink, LoadRecord, RecordOf, Passive, Local, Compared, Reply, Ref}
 use Rattle.registry_values.specs.Common.{are_fit}
 use Rattle.protocol.specs.declared.event.RecordOf.TheVariants.{Search as OfSearch}
-use Rattle.protocol.specs.Common.{State, opening, Outcome, step, state_after, Holds, seen_at, after, after_event, IsAllowed, IsLoadOf, answer_of, IsNoSeek, SeeksNone, IsFreshAnswer, seek_for}
+use Rattle.protocol.specs.Common.{State, opening, Outcome, step, state_after, Holds, live_at, seen_at, may_recall, after_seeing, after, after_event, IsAllowed, IsLoadOf, answer_of, IsNoSeek, SeeksNone, IsFreshAnswer, seek_for}
 use Rattle.protocol.proofs.keeps.Keeping.{opening_holds, step_keeps, after_keeps}
 use Rattle.protocol.proofs.runs.Answers.{history_grows}
-use Rattle.protocol.proofs.runs.Fresh.{answers_freshly, sees_all}
+use Rattle.protocol.proofs.runs.Fresh.{answers_freshly, one_word, recalls_live, recalls_newest, sees_all}
 use Rattle.protocol.proofs.runs.Steps.{after_more}
-use Rattle.cpu_words.specs.Common.{LogItem, Logged, by_number, reply_without_id, maker, IsSeatOf, AreByOwn, part, has_heard_from, IsStanding, RunsAsLogged, Sits}
-use Rattle.cpu_words.specs.Common.{has_sought, until_reply, with_reply, LookupsAreFresh, history_length, PassesAreWhole, WholeInTheList}
+use Rattle.cpu_words.specs.Common.{Cpu, CpuView, LogItem, Logged, by_number, reply_without_id, maker, IsSeatOf, AreByOwn, part, has_heard_from, IsStanding, RunsAsLogged, Sits}
+use Rattle.cpu_words.specs.Common.{has_sought, until_reply, with_reply, HeadsAreNewest, LookupsAreFresh, history_length, PassesAreWhole, RecallsAreLive, RefindsAreLive, WholeInTheList, log_item}
 use Rattle.cpu_words.proofs.laws.Waiting.{own_first, part_placed, fewer_acts, cut_at}
 use Rattle.cpu_words.proofs.logs.Changes.{run_as_logged}
-use Rattle.cpu_words.proofs.logs.Loads.{same_event, part_same, part_off, place}
+use Rattle.cpu_words.proofs.logs.Loads.{is_whole, same_event, part_same, part_off, place}
 use Rattle.cpu_words.proofs.logs.Parts.{part_append}
 use Rattle.cpu_words.proofs.logs.Runs.{Follows, after_append, follows_after, follows_holds, cut}
 
@@ -221,10 +223,22 @@ passes_are_whole z s r = record {
       let m = at_moment z s r first (Hear (Some c) ∷ rest) are in
       ap (λ (n : State). seen_at n c) (after_append (opening z) first (Hear (Some c) ∷ []) ∙ one_after (after (opening z) first) (Hear (Some c)))
       ∙ (sees_all (after (opening z) first) m.on).heard c (first_made (after (opening z) first) m.acts (Hear (Some c)) rest m.t m.run);
-  peeked = λ c w first rest are.
-      let m = at_moment z s r first (Peek c w ∷ rest) are in
-      ap (λ (n : State). seen_at n c) (after_append (opening z) first (Peek c w ∷ []) ∙ one_after (after (opening z) first) (Peek c w))
-      ∙ (sees_all (after (opening z) first) m.on).peeked c w (first_made (after (opening z) first) m.acts (Peek c w) rest m.t m.run);
+  recalled = λ c t first rest are.
+      let m = at_moment z s r first (Recall c t ∷ rest) are in
+      ap (λ (n : State). seen_at n c) (after_append (opening z) first (Recall c t ∷ []) ∙ one_after (after (opening z) first) (Recall c t))
+      ∙ (sees_all (after (opening z) first) m.on).recalled c t (first_made (after (opening z) first) m.acts (Recall c t) rest m.t m.run);
+  headed = λ c first rest are.
+      let m = at_moment z s r first (RecallHead c ∷ rest) are in
+      ap (λ (n : State). seen_at n c) (after_append (opening z) first (RecallHead c ∷ []) ∙ one_after (after (opening z) first) (RecallHead c))
+      ∙ (sees_all (after (opening z) first) m.on).headed c (first_made (after (opening z) first) m.acts (RecallHead c) rest m.t m.run);
+  refound = λ c t n first rest are.
+      let m = at_moment z s r first (Refind c t n ∷ rest) are in
+      ap (λ (g : State). seen_at g c) (after_append (opening z) first (Refind c t n ∷ []) ∙ one_after (after (opening z) first) (Refind c t n))
+      ∙ (sees_all (after (opening z) first) m.on).refound c t n (first_made (after (opening z) first) m.acts (Refind c t n) rest m.t m.run);
+  confirmed = λ c first rest are.
+      let m = at_moment z s r first (Confirm c ∷ rest) are in
+      ap (λ (n : State). seen_at n c) (after_append (opening z) first (Confirm c ∷ []) ∙ one_after (after (opening z) first) (Confirm c))
+      ∙ (sees_all (after (opening z) first) m.on).confirmed c (first_made (after (opening z) first) m.acts (Confirm c) rest m.t m.run);
   told = λ c i h first rest earlier later are cut_is few.
       let item = has_heard_from (Some c) (Some h) in
       let come : h.events ≤ length (part (r.run.seat h.cpu) first) = (r.told i item first rest are).before.events in
@@ -239,3 +253,97 @@ passes_are_whole z s r = record {
 
 pub whole_in_the_list : WholeInTheList
 whole_in_the_list z s r = passes_are_whole z s r
+
+-- What is recalled
+
+-- a run that begins with the event e, a load that found n
+record Loads (s : State) (e : Event) (n : ℕ) (es : List Event) : Type 0 where
+  later : List Event
+  are : es ≡ e ∷ later
+  left : State
+  made : step s e ≡ Some (record { state = left; reply = Word n })
+
+replied_by : (r : Reply) (n : ℕ) → Word n ≡ reply_without_id r → r ≡ Word n
+replied_by (Ref id) n is = absurd (let q : Word n ≡ Ref 0 = is in cc)
+replied_by r n is = sym is
+
+loads : (s : State) (i n : ℕ) (e : Event) (more : List (ℕ × LogItem)) (es : List Event) (u : State) → is_whole e ≡ true → Follows s ((i, log_item e (Word n)) ∷ more) es u → Loads s e n es
+loads s i n e more [] u whole run = absurd run
+loads s i n e more (d ∷ es) u whole run =
+    let same : e ≡ d = same_event s d e (ap (λ (k : LogItem). k.event) run.2) whole in
+    let reply : run.0.reply ≡ Word n = replied_by run.0.reply n (ap (λ (k : LogItem). k.reply) run.2) in
+    record {
+      later = es;
+      are = ap (λ (f : Event). f ∷ es) (sym same);
+      left = run.0.state;
+      made = ap (step s) same ∙ (run.1 ∙ ap (λ (r : Reply). Some (record { state = run.0.state; reply = r })) reply);
+    }
+
+-- the load's place in the list of all events: the CPU c had done just so much before it
+record Loaded {z : Settings} {s : Table ℕ Logged} (r : RunsAsLogged z s) (c : ℕ) (e : Event) (n : ℕ) (before : List LogItem) : Type 0 where
+  first : List Event
+  later : List Event
+  are : r.run.events ≡ first ++ e ∷ later
+  own : part (r.run.seat c) (take (length first) r.acts) ≡ before
+  on : Holds (after (opening z) first)
+  left : State
+  made : step (after (opening z) first) e ≡ Some (record { state = left; reply = Word n })
+
+loaded : (z : Settings) (s : Table ℕ Logged) (r : RunsAsLogged z s) (i : ℕ) (l : Logged) (x : CpuView) (e : Event) (n : ℕ) (before after_it : List LogItem) → get_elem? s.views i ≡ some l → l.view ≡ Cpu x
+    → l.log ≡ before ++ log_item e (Word n) ∷ after_it → is_whole e ≡ true → Loaded r x.id e n before
+loaded z s r i l x e n before after_it at is are whole =
+    let run = r.run in
+    let item = log_item e (Word n) in
+    let g = after (opening z) run.events in
+    let sits : i ≡ run.seat x.id = subst (Sits run.seat i) is (run.shows.fits i l.view (at_map (λ (k : Logged). k.view) s.views i l at)).0 in
+    let mine : part i r.acts ≡ before ++ item ∷ after_it = sym (r.logs i l at (subst IsStanding (sym is) tt)) ∙ are in
+    let p = place i r.acts before after_it item mine in
+    let k = cut (opening z) p.first ((i, item) ∷ p.second) run.events g (subst (λ (d : List (ℕ × LogItem)). Follows (opening z) d run.events g) p.are (run_as_logged z s r)) in
+    let b = loads k.between i n e p.second k.later g whole k.since in
+    let fit : IsTrue (are_fit z) = subst (λ (w : Settings). IsTrue (are_fit w)) run.settings run.good.holds.fit in
+    let there : k.between ≡ after (opening z) k.earlier = follows_after (opening z) p.first k.earlier k.between k.before in
+    let own : part i (take (length k.earlier) r.acts) ≡ before =
+    ap (part i) (ap (take (length k.earlier)) p.are ∙ take_at p.first ((i, item) ∷ p.second) (length k.earlier) (sym k.size)) ∙ part_placed i r.acts before after_it item mine p in
+    record {
+      first = k.earlier;
+      later = b.later;
+      are = k.are ∙ ap (λ (d : List Event). k.earlier ++ d) b.are;
+      own = subst (λ (m : ℕ). part m (take (length k.earlier) r.acts) ≡ before) sits own;
+      on = subst Holds there (follows_holds (opening z) p.first k.earlier k.between k.before (opening_holds z fit));
+      left = b.left;
+      made = subst (λ (m : State). step m e ≡ Some (record { state = b.left; reply = Word n })) there b.made;
+    }
+
+is_allowed : (s t : State) (e : Event) (r : Reply) → step s e ≡ Some (record { state = t; reply = r }) → IsAllowed s e
+is_allowed s t e r made = subst (λ (o : Option Outcome). IsSome o) (sym made) refl
+
+pub recalls_are_live : RecallsAreLive
+recalls_are_live z s r i l x t n at is a =
+    let b = loaded z s r i l x (Recall x.id t) n a.before a.after at is a.are refl in
+    let g = after (opening z) b.first in
+    let word : live_at g.lives t ≡ n = one_word (may_recall g x.id t) (after_seeing g x.id) b.left (live_at g.lives t) n b.made in record {
+      first = b.first;
+      later = b.later;
+      are = b.are;
+      own = b.own;
+      live = λ e attached number. (recalls_live g b.on).recalled x.id t e (is_allowed g b.left (Recall x.id t) (Word n) b.made) attached (number ∙ sym word);
+    }
+
+pub refinds_are_live : RefindsAreLive
+refinds_are_live z s r i l x t n at is a =
+    let b = loaded z s r i l x (Refind x.id t n) n a.before a.after at is a.are refl in
+    let g = after (opening z) b.first in record {
+      first = b.first;
+      later = b.later;
+      are = b.are;
+      own = b.own;
+      live = λ e attached number.
+          let allowed : IsAllowed g (Refind x.id t e.number) = subst (λ (m : ℕ). IsAllowed g (Refind x.id t m)) (sym number) (is_allowed g b.left (Refind x.id t n) (Word n) b.made) in
+          let live = (recalls_live g b.on).refound x.id t e allowed attached in
+          (live.0, live.1);
+    }
+
+pub heads_are_newest : HeadsAreNewest
+heads_are_newest z s r i l x w at is a =
+    let b = loaded z s r i l x (RecallHead x.id) w a.before a.after at is a.are refl in
+    record { first = b.first; later = b.later; are = b.are; own = b.own; newest = recalls_newest (after (opening z) b.first) b.on x.id w b.left b.made }

@@ -10,7 +10,7 @@ use Rattle.protocol.specs.Common.{State, opening, row_at, at_rest, Outcome, guar
 use Rattle.protocol.specs.Common.{Holds, empty_run, after}
 use Rattle.protocol.proofs.history.History.{length-after_change}
 use Rattle.protocol.proofs.keeps.Keeping.{step_holds}
-use Rattle.protocol.proofs.runs.Steps.{Sort, Refused, Left, Entered, Exited, Sought, Heard, Peeked, Searched, Published, Unpublished, Kept, Gave_up, Vacated, step_sort}
+use Rattle.protocol.proofs.runs.Steps.{Sort, Refused, Left, Entered, Exited, Sought, Heard, Recalled, Searched, Published, Unpublished, Kept, Gave_up, Vacated, step_sort}
 use Rattle.cpu_words.specs.Common.{LogItem, Logged, by_number, log_of_events, changes_of, changes_in, part, untold, maker, IsSeatOf, AreByOwn, LoggedRuled, RunsAsLogged}
 use Rattle.cpu_words.proofs.logs.Runs.{Follows, follows}
 
@@ -57,7 +57,7 @@ sorted s _ _ (Entered c may) other p is = ap (λ (q : Outcome). q.state.history)
 sorted s _ _ (Exited c may) other p is = ap (λ (q : Outcome). q.state.history) (sym (same_Some _ p is))
 sorted s _ _ (Sought c kind name may) other p is = ap (λ (q : Outcome). q.state.history) (sym (same_Some _ p is))
 sorted s _ _ (Heard c may) other p is = ap (λ (q : Outcome). q.state.history) (sym (same_Some _ p is))
-sorted s _ _ (Peeked c v w may) other p is = ap (λ (q : Outcome). q.state.history) (sym (same_Some _ p is))
+sorted s _ _ (Recalled e c w hands found none) other p is = ap (λ (q : Outcome). q.state.history) (sym (same_Some _ p is))
 sorted s _ _ (Searched e c q o of under loads answers) other p is = ap (λ (q : Outcome). q.state.history) (sym (same_Some o p is)) ∙ loads.history
 sorted s _ _ (Published t e row may) other p is = absurd (let q : true ≡ false = other in cc)
 sorted s _ _ (Unpublished t e n at gone) other p is = absurd (let q : true ≡ false = other in cc)

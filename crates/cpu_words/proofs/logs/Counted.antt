@@ -4,7 +4,7 @@ use Rattle.std.proofs.Common.{eq-eqb, ne_eqb, refl, sym, ap, ◌∙◌, subst, a
 use Rattle.std.proofs.lemmas.Bool.{and_parts, cases_eq, eqb-true}
 use Rattle.cpu_words.specs.Types.{Entry, Mark, Settings, MOST_CPUS, Slot, Vacant, Live, Retired, Event, Seat, Enter, Exit, Seek, LoadLink, LoadRecord, StoreSlot, StoreNext, Publish, Unpublish, Tell}
 use Rattle.cpu_words.specs.Types.{Hear, Snapshot, Look, PassiveAdd, PassiveSub, PassiveLook, CountAdd, SplitRef, JoinRef, CountDown, SplitBack, Collect, TotalAdd, JoinKeeper, TotalSub, Keep, KeptSub}
-use Rattle.cpu_words.specs.Types.{Vacate, Count, Peek, Try, Confirm, TakeBack, RecordOf, Passive, Local, Compared, Reply, Done, Word, Ref, Due, Rest, Snapshots, Adding, Subtracting, Hand, Empty, Taking, Giving, Back, Trying, Search, Loaded, On, Over}
+use Rattle.cpu_words.specs.Types.{Vacate, Show, Hide, Recall, RecallHead, Refind, Try, Confirm, TakeBack, RecordOf, Passive, Local, Compared, Reply, Done, Word, Ref, Due, Rest, Snapshots, Adding, Subtracting, Hand, Empty, Taking, Giving, Back, Trying, Search, Loaded, On, Over}
 use Rattle.registry_values.specs.Common.{bias, no_mark, mark_after_look, mark_after_passive_look, mark_after_collect, is_retired, is_taken, key_of, slot_at, slot_of, slot_before}
 use Rattle.protocol.specs.declared.event.RecordOf.TheVariants.{Search as OfSearch}
 use Rattle.protocol.specs.Common.{State, opening, with_cell, section_at, search_at, found_at, hand_at, row_at, mark_at, passive_at, count_at, kept_at, local_at, loaded_at, row_of_place, Outcome}
@@ -283,6 +283,14 @@ back_counted s c (Giving n id) = tt
 back_counted s c (Back n id) = (λ u. refl, λ u d. refl)
 back_counted s c (Trying t n) = tt
 
+show_counted : (s : State) (t : ℕ) (x : Slot) → Counted s (Show t) (Events.show s t x)
+show_counted s t (Live e) = on_made s (Show t) _ _ _ (λ may. (λ u. refl, λ u d. refl))
+show_counted s t x = tt
+
+refind_counted : (s : State) (c t n : ℕ) (x : Slot) → Counted s (Refind c t n) (Events.refind s c t n x)
+refind_counted s c t n (Live e) = on_made s (Refind c t n) _ _ _ (λ may. (λ u. refl, λ u d. refl))
+refind_counted s c t n x = tt
+
 confirm_counted : (s : State) (c : ℕ) (h : Hand) → Counted s (Confirm c) (Events.confirm s c h)
 confirm_counted s c (Trying t n) = on_made s (Confirm c) _ _ _ (λ may. (λ u. refl, λ u d. refl))
 confirm_counted s c h = tt
@@ -345,9 +353,12 @@ step_counted s (KeptSub t) on =
     on_some s (KeptSub t) (kept_at s.keeps t) _ (λ d keeps. on_some s (KeptSub t) (slot_of s.slots d) _ (λ u of. on_made s (KeptSub t) (Events.is_iface_slot (slot_at s.slots t) && is_drained s t) _ _
     (λ may. vacated_does s (Events.after_kept_sub s t u) t on (and_parts (Events.is_iface_slot (slot_at s.slots t)) (is_drained s t) may).1 refl refl refl)))
 step_counted s (Vacate t) on = on_made s (Vacate t) (Events.may_vacate s t) _ _ (λ may. vacated_does s (Events.after_vacate s t) t on (and_parts _ (is_drained s t) may).1 refl refl refl)
-step_counted s Count on = on_made s Count _ _ _ (λ may. (λ u. refl, λ u d. refl))
-step_counted s (Peek c w) on = on_some s (Peek c w) (Events.shared_word s w) _ (λ v of. on_made s (Peek c w) _ _ _ (λ may. (λ u. refl, λ u d. refl)))
+step_counted s (Show t) on = show_counted s t (slot_at s.slots t)
+step_counted s (Hide t) on = on_made s (Hide t) _ _ _ (λ may. (λ u. refl, λ u d. refl))
+step_counted s (Recall c t) on = on_made s (Recall c t) _ _ _ (λ may. (λ u. refl, λ u d. refl))
 step_counted s (Try c t n) on = on_made s (Try c t n) _ _ _ (λ may. (λ u. refl, λ u d. refl))
+step_counted s (RecallHead c) on = on_made s (RecallHead c) _ _ _ (λ may. (λ u. refl, λ u d. refl))
+step_counted s (Refind c t n) on = refind_counted s c t n (slot_at s.slots t)
 step_counted s (Confirm c) on = confirm_counted s c (hand_at s c)
 step_counted s (TakeBack c) on = take_back_counted s c (hand_at s c)
 

@@ -2,7 +2,7 @@
 use Rattle.std.proofs.Common.{◌≡◌, ℕ, zero, suc, nat_lt, ◌+◌, ◌==◌, ◌&&◌, ◌-◌, Bool, true, false, if◌then◌else◌, set, Option, Some, None, refl, ap, ◌∙◌}
 use Rattle.std.proofs.lemmas.Bool.{and_parts, eqb-true}
 use Rattle.cpu_words.specs.Types.{Entry, Slot, Vacant, Live, Retired, Event, Seat, Enter, Exit, Seek, LoadLink, LoadRecord, StoreSlot, StoreNext, Publish, Unpublish, Tell, Hear, Snapshot, Look}
-use Rattle.cpu_words.specs.Types.{PassiveAdd, PassiveSub, PassiveLook, CountAdd, SplitRef, JoinRef, CountDown, SplitBack, Collect, TotalAdd, JoinKeeper, TotalSub, Keep, KeptSub, Vacate, Count, Peek, Try, Confirm, TakeBack, RecordOf}
+use Rattle.cpu_words.specs.Types.{PassiveAdd, PassiveSub, PassiveLook, CountAdd, SplitRef, JoinRef, CountDown, SplitBack, Collect, TotalAdd, JoinKeeper, TotalSub, Keep, KeptSub, Vacate, Show, Hide, Recall, RecallHead, Refind, Try, Confirm, TakeBack, RecordOf}
 use Rattle.cpu_words.specs.Types.{Passive, Local, Compared, Reply, Done, Word, Due, Rest, Snapshots, Adding, Subtracting, Hand, Empty, Taking, Giving, Back, Trying, Search, Loaded, On, Over}
 use Rattle.registry_values.specs.Common.{bias, slot_at, slot_of, slot_before}
 use Rattle.protocol.specs.declared.event.RecordOf.TheVariants.{Search as OfSearch}
@@ -129,6 +129,10 @@ back_dues s c (Giving n id) = tt
 back_dues s c (Back n id) = (refl, λ u d is. is, (refl, refl))
 back_dues s c (Trying t n) = tt
 
+refind_dues : (s : State) (c t n : ℕ) (x : Slot) → Dues s (Refind c t n) (Events.refind s c t n x)
+refind_dues s c t n (Live e) = on_made s (Refind c t n) _ _ _ refl (λ may u d is. is) (λ may. (refl, refl))
+refind_dues s c t n x = tt
+
 confirm_dues : (s : State) (c : ℕ) (h : Hand) → Dues s (Confirm c) (Events.confirm s c h)
 confirm_dues s c (Trying t n) = on_made s (Confirm c) _ _ _ refl (λ may u d is. is) (λ may. (refl, refl))
 confirm_dues s c h = tt
@@ -156,6 +160,10 @@ store_dues s t k v = on_if s (StoreSlot t k v) (nat_lt k 5) (guard (Events.may_w
     (guard (Events.may_write s t && nat_lt (k - 5) s.settings.cpus) (some_outcome (Events.after_count_store s t (k - 5) v) Done))
     (on_made s (StoreSlot t k v) (Events.may_write s t) (Events.after_row_store s t k v) Done refl (λ may u d is. is) (λ may. (refl, refl)))
     (on_made s (StoreSlot t k v) (Events.may_write s t && nat_lt (k - 5) s.settings.cpus) (Events.after_count_store s t (k - 5) v) Done refl (λ may u d is. is) (λ may. (refl, refl)))
+
+show_dues : (s : State) (t : ℕ) (x : Slot) → Dues s (Show t) (Events.show s t x)
+show_dues s t (Live e) = on_made s (Show t) _ _ _ refl (λ may u d is. is) (λ may. (refl, refl))
+show_dues s t x = tt
 
 pub step_dues : (s : State) (e : Event) → Dues s e (step s e)
 step_dues s (Seat c) = on_made s (Seat c) _ _ _ refl (λ may u d is. is) (λ may. (refl, refl))
@@ -194,8 +202,11 @@ step_dues s (KeptSub t) = on_some s (KeptSub t) (kept_at s.keeps t) _
     (λ d keeps. on_some s (KeptSub t) (slot_of s.slots d) _ (λ u of. on_made s (KeptSub t) (Events.is_iface_slot (slot_at s.slots t) && is_drained s t) _ _ refl (λ may v c is. is)
     (λ may. (d, u, keeps, of, (and_parts (Events.is_iface_slot (slot_at s.slots t)) (is_drained s t) may).1, refl, refl))))
 step_dues s (Vacate t) = on_made s (Vacate t) _ _ _ refl (λ may u d is. is) (λ may. (refl, refl))
-step_dues s Count = on_made s Count _ _ _ refl (λ may u d is. is) (λ may. (refl, refl))
-step_dues s (Peek c w) = on_some s (Peek c w) (Events.shared_word s w) _ (λ v of. on_made s (Peek c w) _ _ _ refl (λ may u d is. is) (λ may. (refl, refl)))
+step_dues s (Show t) = show_dues s t (slot_at s.slots t)
+step_dues s (Hide t) = on_made s (Hide t) _ _ _ refl (λ may u d is. is) (λ may. (refl, refl))
+step_dues s (Recall c t) = on_made s (Recall c t) _ _ _ refl (λ may u d is. is) (λ may. (refl, refl))
 step_dues s (Try c t n) = on_made s (Try c t n) _ _ _ refl (λ may u d is. is) (λ may. (refl, refl))
+step_dues s (RecallHead c) = on_made s (RecallHead c) _ _ _ refl (λ may u d is. is) (λ may. (refl, refl))
+step_dues s (Refind c t n) = refind_dues s c t n (slot_at s.slots t)
 step_dues s (Confirm c) = confirm_dues s c (hand_at s c)
 step_dues s (TakeBack c) = take_back_dues s c (hand_at s c)

@@ -6,7 +6,7 @@ use Rattle.cpu_words.specs.Types.{Event, Enter, Exit, Done}
 use Rattle.protocol.specs.Common.{State, section_at, begin_at, Outcome, guard, some_outcome, step, is_idle, is_outside, is_inside, may_enter, may_exit, after_enter, after_exit, Holds}
 use Rattle.protocol.proofs.keeps.Keeping.{step_holds}
 use Rattle.protocol.proofs.keeps.SectionKeeps.{idle_parts}
-use Rattle.protocol.proofs.runs.Steps.{Sort, Refused, Left, Entered, Exited, Sought, Heard, Peeked, Searched, Published, Unpublished, Kept, Gave_up, Vacated, step_sort}
+use Rattle.protocol.proofs.runs.Steps.{Sort, Refused, Left, Entered, Exited, Sought, Heard, Recalled, Searched, Published, Unpublished, Kept, Gave_up, Vacated, step_sort}
 use Rattle.cpu_words.specs.Common.{LogItem, HasNone, is_border, maker, the_cpu, by_number, part, IsSeatOf, AreByOwn}
 use Rattle.cpu_words.proofs.logs.Loads.{part_same, part_off}
 use Rattle.cpu_words.proofs.logs.Runs.{Follows}
@@ -44,7 +44,7 @@ begins_stay s _ _ (Entered c may) other p is = absurd (let q : true ≡ false = 
 begins_stay s _ _ (Exited c may) other p is = absurd (let q : true ≡ false = other in cc)
 begins_stay s _ _ (Sought c kind name may) other p is = ap (λ (q : Outcome). q.state.begins) (sym (same_Some _ p is))
 begins_stay s _ _ (Heard c may) other p is = ap (λ (q : Outcome). q.state.begins) (sym (same_Some _ p is))
-begins_stay s _ _ (Peeked c v w may) other p is = ap (λ (q : Outcome). q.state.begins) (sym (same_Some _ p is))
+begins_stay s _ _ (Recalled e c w hands found none) other p is = ap (λ (q : Outcome). q.state.begins) (sym (same_Some _ p is))
 begins_stay s _ _ (Searched e c q o of under loads answers) other p is = ap (λ (q : Outcome). q.state.begins) (sym (same_Some o p is)) ∙ loads.begins
 begins_stay s _ _ (Published t e row may) other p is = ap (λ (q : Outcome). q.state.begins) (sym (same_Some _ p is))
 begins_stay s _ _ (Unpublished t e n at gone) other p is = ap (λ (q : Outcome). q.state.begins) (sym (same_Some _ p is)) ∙ gone.begins

@@ -9,7 +9,7 @@ use Rattle.protocol.specs.Events
 use Rattle.registry_values.specs.Common.{slot_at, slot_of}
 use Rattle.protocol.proofs.keeps.ListKeeps.{may_write_tells}
 use Rattle.protocol.proofs.keeps.Searching.{within_some}
-use Rattle.protocol.proofs.runs.Steps.{Sort, Refused, Left, Entered, Exited, Sought, Heard, Peeked, Searched, Published, Unpublished, Kept, Gave_up, Vacated, step_sort}
+use Rattle.protocol.proofs.runs.Steps.{Sort, Refused, Left, Entered, Exited, Sought, Heard, Recalled, Searched, Published, Unpublished, Kept, Gave_up, Vacated, step_sort}
 use Rattle.cpu_words.specs.Common.{LogItem, Teller, number_or_none, by_number, keeps_next, keeping_from, keeping, maker, IsSeatOf}
 use Rattle.cpu_words.proofs.logs.Runs.{item_of}
 
@@ -31,7 +31,7 @@ kept_left s _ _ (Entered c may) other p is = ap (λ (q : Outcome). q.state.keeps
 kept_left s _ _ (Exited c may) other p is = ap (λ (q : Outcome). q.state.keeps) (sym (same_Some _ p is))
 kept_left s _ _ (Sought c kind name may) other p is = ap (λ (q : Outcome). q.state.keeps) (sym (same_Some _ p is))
 kept_left s _ _ (Heard c may) other p is = ap (λ (q : Outcome). q.state.keeps) (sym (same_Some _ p is))
-kept_left s _ _ (Peeked c v w may) other p is = ap (λ (q : Outcome). q.state.keeps) (sym (same_Some _ p is))
+kept_left s _ _ (Recalled e c w hands found none) other p is = ap (λ (q : Outcome). q.state.keeps) (sym (same_Some _ p is))
 kept_left s _ _ (Searched e c q o of under loads answers) other p is = ap (λ (x : Outcome). x.state.keeps) (sym (same_Some o p is)) ∙ loads.keeps
 kept_left s _ _ (Published t e row may) other p is = ap (λ (q : Outcome). q.state.keeps) (sym (same_Some _ p is))
 kept_left s _ _ (Unpublished t e n at gone) other p is = ap (λ (q : Outcome). q.state.keeps) (sym (same_Some _ p is)) ∙ gone.keeps

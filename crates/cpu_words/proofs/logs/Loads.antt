@@ -7,7 +7,7 @@ use Rattle.cpu_words.specs.Types.{Event, LoadRecord, Snapshot, Look, JoinRef, Jo
 use Rattle.protocol.specs.Common.{State, section_at, begin_at, Outcome, guard, some_outcome, step, state_after, is_idle, is_outside, is_inside, after_enter, after_exit, may_glance, Holds}
 use Rattle.protocol.proofs.keeps.Keeping.{step_holds}
 use Rattle.protocol.proofs.keeps.SectionKeeps.{idle_parts}
-use Rattle.protocol.proofs.runs.Steps.{Sort, Refused, Left, Entered, Exited, Sought, Heard, Peeked, Searched, Published, Unpublished, Kept, Gave_up, Vacated, step_sort}
+use Rattle.protocol.proofs.runs.Steps.{Sort, Refused, Left, Entered, Exited, Sought, Heard, Recalled, Searched, Published, Unpublished, Kept, Gave_up, Vacated, step_sort}
 use Rattle.cpu_words.specs.Common.{LogItem, by_number, reply_without_id, changes_of, has_taken, has_found, part}
 use Rattle.cpu_words.proofs.logs.Changes.{Grows, step_grows, changes_up}
 use Rattle.cpu_words.proofs.logs.Runs.{item_of, Follows, same_first, same_rest}
@@ -66,7 +66,7 @@ stepped_since c s _ _ (Exited j may) on =
     (cases_eq c j)
 stepped_since c s _ _ (Sought j kind name may) on = (still (section_at s c), inl (refl, refl))
 stepped_since c s _ _ (Heard j may) on = (still (section_at s c), inl (refl, refl))
-stepped_since c s _ _ (Peeked j v w may) on = (still (section_at s c), inl (refl, refl))
+stepped_since c s _ _ (Recalled e j w hands found none) on = (still (section_at s c), inl (refl, refl))
 stepped_since c s _ _ (Searched e j q o of under loads answers) on = lists_same c s o.state loads.section loads.begins
 stepped_since c s _ _ (Published u e row may) on = (still (section_at s c), inl (refl, refl))
 stepped_since c s _ _ (Unpublished u e n at gone) on = lists_same c s n gone.section gone.begins

@@ -6,7 +6,7 @@ use Rattle.std.proofs.lemmas.List.{get_or_past, set_past}
 use Rattle.std.proofs.lemmas.Option.{none-some, same_Some}
 use Rattle.cpu_words.specs.Types.{Mark, Slot, Vacant, Live, Retired, Settings, MOST_CPUS, Event, Seat, Enter, Exit, Seek, LoadLink, LoadRecord, StoreSlot, StoreNext, Publish, Unpublish, Tell, Hear}
 use Rattle.cpu_words.specs.Types.{Snapshot, Look, PassiveAdd, PassiveSub, PassiveLook, CountAdd, SplitRef, JoinRef, CountDown, SplitBack, Collect, TotalAdd, JoinKeeper, TotalSub, Keep, KeptSub}
-use Rattle.cpu_words.specs.Types.{Vacate, Count, Peek, Try, Confirm, TakeBack, RecordOf, Passive, Local, Compared, Reply, Done, Word, Due, Rest, Snapshots, Adding, Subtracting, Hand, Empty, Taking, Giving, Back, Trying, Search, Loaded, On, Over}
+use Rattle.cpu_words.specs.Types.{Vacate, Show, Hide, Recall, RecallHead, Refind, Try, Confirm, TakeBack, RecordOf, Passive, Local, Compared, Reply, Done, Word, Due, Rest, Snapshots, Adding, Subtracting, Hand, Empty, Taking, Giving, Back, Trying, Search, Loaded, On, Over}
 use Rattle.registry_values.specs.Common.{no_mark, is_even, has_changed, mark_after_look, mark_after_passive_look, mark_after_collect, slot_at, slot_of, slot_before}
 use Rattle.protocol.specs.declared.event.RecordOf.TheVariants.{Search as OfSearch}
 use Rattle.protocol.specs.Common.{State, with_cell, section_at, search_at, found_at, hand_at, row_at, mark_at, kept_at, local_at, opening, loaded_at, row_of_place, Outcome, guard, some_outcome}
@@ -118,6 +118,14 @@ back_marks s c (Giving n id) = tt
 back_marks s c (Back n id) = (refl, tt)
 back_marks s c (Trying t n) = tt
 
+show_marks : (s : State) (t : ℕ) (x : Slot) → Marks s (Show t) (Events.show s t x)
+show_marks s t (Live e) = on_made s (Show t) _ _ _ refl tt
+show_marks s t x = tt
+
+refind_marks : (s : State) (c t n : ℕ) (x : Slot) → Marks s (Refind c t n) (Events.refind s c t n x)
+refind_marks s c t n (Live e) = on_made s (Refind c t n) _ _ _ refl tt
+refind_marks s c t n x = tt
+
 confirm_marks : (s : State) (c : ℕ) (h : Hand) → Marks s (Confirm c) (Events.confirm s c h)
 confirm_marks s c (Trying t n) = on_made s (Confirm c) _ _ _ refl tt
 confirm_marks s c h = tt
@@ -175,9 +183,12 @@ step_marks s (TotalSub t) = subtracted_marks s t s.due
 step_marks s (Keep t id) = on_some s (Keep t id) (Events.number_standing (local_at s.locals id)) _ (λ n. on_some s (Keep t id) (slot_of s.slots n) _ (λ u. on_made s (Keep t id) _ _ _ refl tt))
 step_marks s (KeptSub t) = on_some s (KeptSub t) (kept_at s.keeps t) _ (λ d. on_some s (KeptSub t) (slot_of s.slots d) _ (λ u. on_made s (KeptSub t) _ _ _ refl tt))
 step_marks s (Vacate t) = on_made s (Vacate t) _ _ _ refl tt
-step_marks s Count = on_made s Count _ _ _ refl tt
-step_marks s (Peek c w) = on_some s (Peek c w) (Events.shared_word s w) _ (λ v. on_made s (Peek c w) _ _ _ refl tt)
+step_marks s (Show t) = show_marks s t (slot_at s.slots t)
+step_marks s (Hide t) = on_made s (Hide t) _ _ _ refl tt
+step_marks s (Recall c t) = on_made s (Recall c t) _ _ _ refl tt
 step_marks s (Try c t n) = on_made s (Try c t n) _ _ _ refl tt
+step_marks s (RecallHead c) = on_made s (RecallHead c) _ _ _ refl tt
+step_marks s (Refind c t n) = refind_marks s c t n (slot_at s.slots t)
 step_marks s (Confirm c) = confirm_marks s c (hand_at s c)
 step_marks s (TakeBack c) = take_back_marks s c (hand_at s c)
 

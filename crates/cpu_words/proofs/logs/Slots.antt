@@ -10,7 +10,7 @@ use Rattle.protocol.specs.Common.{with_link_past, after_unpublish, is_drained, H
 use Rattle.protocol.proofs.keeps.ListKeeps.{may_write_tells}
 use Rattle.protocol.proofs.keeps.MarkKeeps.{is_drained_tells}
 use Rattle.protocol.proofs.keeps.Unlinking.{within_live, within_retired}
-use Rattle.protocol.proofs.runs.Steps.{Sort, Refused, Left, Entered, Exited, Sought, Heard, Peeked, Searched, Published, Unpublished, Kept, Gave_up, Vacated, step_sort}
+use Rattle.protocol.proofs.runs.Steps.{Sort, Refused, Left, Entered, Exited, Sought, Heard, Recalled, Searched, Published, Unpublished, Kept, Gave_up, Vacated, step_sort}
 use Rattle.protocol.proofs.slots.Cells.{get_or_all}
 use Rattle.protocol.proofs.slots.Occupied.{live_one, not_vacant, retired_one, slot_cases}
 use Rattle.cpu_words.specs.Common.{LogItem, Teller, by_number, changes_in, HasPassedOn, AreMarksOf, Standing, nothing, attached, detached, number_of, standing, is_change_at, AreSlotsOf, maker}
@@ -33,7 +33,7 @@ slots_left s _ _ (Entered c may) other p is = inl (ap (λ (q : Outcome). q.state
 slots_left s _ _ (Exited c may) other p is = inl (ap (λ (q : Outcome). q.state.slots) (sym (same_Some _ p is)))
 slots_left s _ _ (Sought c kind name may) other p is = inl (ap (λ (q : Outcome). q.state.slots) (sym (same_Some _ p is)))
 slots_left s _ _ (Heard c may) other p is = inl (ap (λ (q : Outcome). q.state.slots) (sym (same_Some _ p is)))
-slots_left s _ _ (Peeked c v w may) other p is = inl (ap (λ (q : Outcome). q.state.slots) (sym (same_Some _ p is)))
+slots_left s _ _ (Recalled e c w hands found none) other p is = inl (ap (λ (q : Outcome). q.state.slots) (sym (same_Some _ p is)))
 slots_left s _ _ (Searched e c q o of under loads answers) other p is = inl (ap (λ (x : Outcome). x.state.slots) (sym (same_Some o p is)) ∙ loads.slots)
 slots_left s _ _ (Published t e row may) other p is = absurd (let q : true ≡ false = other in cc)
 slots_left s _ _ (Unpublished t e n at gone) other p is = absurd (let q : true ≡ false = other in cc)

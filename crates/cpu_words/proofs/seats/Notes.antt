@@ -152,7 +152,6 @@ cpu_beside x h = record {
     there = had.there;
     found = had.found;
     references = had.references;
-    peek = had.peek;
     noted_pass = told;
   };
   owner = refl;
@@ -171,7 +170,7 @@ keeper_beside k h = record {
     gives_up = had.gives_up;
     later = had.later;
     beyond = had.beyond;
-    counted = had.counted;
+    honest = had.honest;
     noted_pass = told;
   };
   owner = refl;
@@ -241,10 +240,10 @@ hear_keeper_may z k may s r i at fits =
       gives_up = had.gives_up;
       later = had.later;
       beyond = had.beyond;
-      counted = had.counted;
+      honest = had.honest;
       noted_pass = had.noted_pass;
     } in
-    let done = keeper_makes z s r i k (index head_word) (slice_index s.words (index head_word)) l (Hear None) Done own at made (leaves_all g l (omega arith) refl refl refl refl (λ t d is. is))
+    let done = keeper_makes z s r i k (index head_word) (slice_index s.words (index head_word)) l (Hear None) Done own at made (leaves_all g l refl refl refl refl (λ t d is. is))
     (λ n. refl) refl shown (loads s.words g (with_keeper g l) (index head_word) r.words refl (λ q _. refl)) in
     (Keeper (keeper_view (with_keeper g l) own), done.0, (refl, (done.1, (had.noted_pass, sym had.is))))
 

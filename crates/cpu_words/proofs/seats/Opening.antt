@@ -10,15 +10,14 @@ use Rattle.atomic_table.specs.Table.{opening as opening_table}
 use Rattle.atomic_table.proofs.Lists.{at_longer, at_last}
 use Rattle.cpu_words.specs.Types.{Entry, Settings, MOST_CPUS, RecordWords, Vacant, Mark}
 use Rattle.registry_values.specs.Common.{are_fit, bias, no_mark, slot_at}
-use Rattle.protocol.specs.Common.{no_words, opening, word, IsIn}
+use Rattle.protocol.specs.Common.{no_words, opening, word, is_honest, IsIn}
 use Rattle.registry_values.proofs.Fit.{ranges}
 use Rattle.protocol.proofs.slots.Cells.{get_or_all}
 use Rattle.protocol.proofs.keeps.MarkKeeps.{cell_all, rows_all}
 use Rattle.protocol.proofs.keeps.Keeping.{opening_holds}
-use Rattle.cpu_words.specs.Common.{CpuView, Logged, View, Spot, section_of, passive_of, count_of, head_word, changes_word, next_of, record_of, total_of, index, IsSpot, word_at, Seated, new_keeper, first_view}
+use Rattle.cpu_words.specs.Common.{CpuView, Logged, View, Spot, section_of, passive_of, count_of, head_word, live_of, next_of, record_of, total_of, index, IsSpot, word_at, Seated, new_keeper, first_view}
 use Rattle.cpu_words.specs.Common.{Shown, Sits, Good, Ruled, IsStanding, Knows, HasItsSections, LoggedRuled, first_logged, HasComeIf, AreOpening, AreSeats, cpu_seat}
 use Rattle.cpu_words.proofs.logs.Told.{no_act}
-use Rattle.cpu_words.proofs.shown.Changes.{all_counted}
 use Rattle.protocol.proofs.slots.Occupied.{not_vacant}
 
 -- no entry is in a slot at the start
@@ -51,7 +50,7 @@ first_words z words fit are (section_of c) here = are.unused (index (section_of 
 first_words z words fit are (passive_of c t) here = are.unused (index (passive_of c t)) (omega (arith, ranges z fit, here)) ∙ sym (cell_all {X = ℕ} z.slots MOST_CPUS 0 t c)
 first_words z words fit are (count_of c t) here = are.unused (index (count_of c t)) (omega (arith, ranges z fit, here)) ∙ sym (cell_all {X = ℕ} z.slots MOST_CPUS 0 t c)
 first_words z words fit are head_word here = are.unused (index head_word) (omega arith)
-first_words z words fit are changes_word here = are.unused (index changes_word) (omega arith)
+first_words z words fit are (live_of t) here = are.unused (index (live_of t)) (omega (arith, ranges z fit)) ∙ sym (get_or_all {X = ℕ} z.slots 0 t)
 first_words z words fit are (next_of t) here = are.unused (index (next_of t)) (omega (arith, ranges z fit)) ∙ sym (get_or_all {X = ℕ} z.slots 0 t)
 first_words z words fit are (record_of t k) here =
     are.unused (index (record_of t k)) (omega (arith, ranges z fit, here)) ∙ sym (ap (λ (r : RecordWords). word r k) (get_or_all z.slots no_words t) ∙ no_word k)
@@ -69,7 +68,7 @@ first_shown z = record {
   gives_up = λ t e is. absurd (none_in z t e (inr is));
   later = λ n above. refl;
   beyond = λ c t past. ap (λ (m : Mark). m.collected) (cell_all z.slots MOST_CPUS no_mark t c);
-  counted = all_counted z.slots [] (replicate z.slots Vacant) (replicate z.slots (replicate MOST_CPUS no_mark)) (replicate z.slots 0) 0 refl (λ t. omega (arith, get_or_all {X = ℕ} z.slots 0 t));
+  honest = λ t. ap (λ (n : ℕ). is_honest n (slot_at (replicate z.slots Vacant) t)) (get_or_all {X = ℕ} z.slots 0 t);
   noted_pass = ([], refl);
 }
 

@@ -7,7 +7,7 @@ use Rattle.cpu_words.specs.Types.{Entry, Settings, Seat, Done, Hand, Rest}
 use Rattle.protocol.specs.Common.{State, begin_at, found_at, at_rest, step, Holds}
 use Rattle.protocol.proofs.keeps.Keeping.{step_holds}
 use Rattle.cpu_words.specs.declared.view.InHand.TheVariants.{Empty as NoEntry}
-use Rattle.cpu_words.specs.Common.{CpuView, KeeperView, Logged, View, Keeper, Cpu, Reference, Note, Spent, Spot, section_of, passive_of, count_of, head_word, changes_word, next_of, record_of, total_of, word_at}
+use Rattle.cpu_words.specs.Common.{CpuView, KeeperView, Logged, View, Keeper, Cpu, Reference, Note, Spent, Spot, section_of, passive_of, count_of, head_word, live_of, next_of, record_of, total_of, word_at}
 use Rattle.cpu_words.specs.Common.{SameHand, own_of, cpu_view, new_cpu, CpuShown, KeeperShown, Shown, cpu_of, keeper_of, Sits, ShowsViews, IsFresh, Good, did, SplitsBy, SplitsOn, MaySeat, one_seated}
 use Rattle.cpu_words.specs.Common.{with_cpu_seated, next_seat, the_cpu, LoggedRuled, logged_after_split, no_log, no_teller, fresh, seats_next}
 use Rattle.cpu_words.proofs.laws.Reaching.{more}
@@ -47,7 +47,7 @@ same_words g (section_of d) = refl
 same_words g (passive_of d t) = refl
 same_words g (count_of d t) = refl
 same_words g head_word = refl
-same_words g changes_word = refl
+same_words g (live_of u) = refl
 same_words g (next_of t) = refl
 same_words g (record_of t k) = refl
 same_words g (total_of t) = refl
@@ -88,7 +88,6 @@ new_shown g good lt =
       there = λ t some_one. absurd (some_one refl);
       found = λ e is. absurd (let q : ◌≡◌ {A = Option Entry} None (Some e) = is in cc);
       references = λ e among. let lt : among.0 < 0 = among.1 in absurd (omega arith);
-      peek = tt;
       noted_pass = (g.history, refl);
     }
   where
@@ -108,7 +107,7 @@ keeper_shown g k had = record {
   gives_up = had.gives_up;
   later = had.later;
   beyond = had.beyond;
-  counted = had.counted;
+  honest = had.honest;
   noted_pass = had.noted_pass;
 }
 

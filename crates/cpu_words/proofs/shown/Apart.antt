@@ -4,7 +4,7 @@ use Rattle.std.proofs.lemmas.Bool.{cases_order}
 use Rattle.cpu_words.specs.Types.{Settings, MOST_CPUS, MOST_SLOTS}
 use Rattle.registry_values.specs.Common.{are_fit}
 use Rattle.registry_values.proofs.Fit.{ranges}
-use Rattle.cpu_words.specs.Common.{Spot, section_of, passive_of, count_of, head_word, changes_word, next_of, record_of, total_of, index, IsSpot, owner, AreApart, LinesApart, OnePlace, FirstWordsFree}
+use Rattle.cpu_words.specs.Common.{Spot, section_of, passive_of, count_of, head_word, live_of, next_of, record_of, total_of, index, IsSpot, owner, AreApart, LinesApart, OnePlace, FirstWordsFree}
 use Rattle.cpu_words.proofs.shown.Placing.{same_spot}
 
 -- a CPU's words lie in its row, and the shared ones behind all rows
@@ -18,7 +18,7 @@ lies_in z fit (section_of c) here = let r = ranges z fit in (omega (arith, r, he
 lies_in z fit (passive_of c t) here = let r = ranges z fit in (omega (arith, r, here), omega arith, omega (arith, r, here))
 lies_in z fit (count_of c t) here = let r = ranges z fit in (omega (arith, r, here), omega arith, omega (arith, r, here))
 lies_in z fit head_word here = omega arith
-lies_in z fit changes_word here = omega arith
+lies_in z fit (live_of t) here = omega arith
 lies_in z fit (next_of t) here = omega arith
 lies_in z fit (record_of t k) here = omega arith
 lies_in z fit (total_of t) here = omega arith
@@ -43,7 +43,7 @@ first_words_free z fit (section_of c) here = omega arith
 first_words_free z fit (passive_of c t) here = omega arith
 first_words_free z fit (count_of c t) here = omega arith
 first_words_free z fit head_word here = omega arith
-first_words_free z fit changes_word here = omega arith
+first_words_free z fit (live_of t) here = omega arith
 first_words_free z fit (next_of t) here = omega arith
 first_words_free z fit (record_of t k) here = omega arith
 first_words_free z fit (total_of t) here = omega arith

@@ -1,10 +1,10 @@
 -- A CPU's view that some good state shows: a new seat's, and what such a view tells of its section and of the last found entry.
-use Rattle.std.proofs.Common.{◌≡◌, ℕ, ◌<◌, ◌≤◌, Bool, true, false, List, length, take, Option, Some, None, IsTrue, refl, sym, ap, ◌∙◌, subst, arith, get_or-set_same}
-use Rattle.std.proofs.lemmas.Option.{none-some, same_Some}
-use Rattle.cpu_words.specs.Types.{Settings, Change, Entry, Enter, Done, Word, Peek, Changes, Key, AtHead}
+use Rattle.std.proofs.Common.{◌≡◌, ℕ, ◌<◌, Bool, true, false, List, length, take, Some, IsTrue, refl, sym, ap, ◌∙◌, subst, arith, get_or-set_same}
+use Rattle.std.proofs.lemmas.Option.{none-some}
+use Rattle.cpu_words.specs.Types.{Settings, Change, Entry, Enter, Done}
 use Rattle.registry_values.specs.Common.{are_fit, slot_at}
-use Rattle.protocol.specs.Common.{Outcome, guard, some_outcome, with_some, may_enter, after_enter, may_peek, shared_word, after_seeing, IsIn, State, seen_at}
-use Rattle.cpu_words.specs.Common.{CpuView, Cpu, new_cpu, SectionMayHold, keeper_with, IsShownCpu, HasWholePass, HasBegunPeek, PeekShows, Goes, Makes}
+use Rattle.protocol.specs.Common.{Outcome, guard, some_outcome, may_enter, after_enter, IsIn, State, seen_at}
+use Rattle.cpu_words.specs.Common.{CpuView, Cpu, new_cpu, SectionMayHold, keeper_with, IsShownCpu, HasWholePass, Makes}
 use Rattle.cpu_words.proofs.shown.KeepersShown.{seated_is_shown}
 use Rattle.cpu_words.proofs.shown.Passes.{take_whole}
 use Rattle.cpu_words.proofs.shown.Seeing.{seen_of}
@@ -35,35 +35,6 @@ entered_whole c x y id made =
     let pass : y.pass ≡ take (seen_at made.after y.id) made.after.history = (seen_of made.after y made.good_after made.shown).pass in (
       record { g = made.after; good = made.good_after; shown = made.shown },
       pass ∙ (ap (λ d. take (seen_at made.after d) made.after.history) (made.same.1 ∙ id) ∙ (ap (λ n. take n made.after.history) sees ∙ take_whole made.after.history)),
-    )
-
--- only one state is left by a load of a shared word, which tells the word
-peeked_by : (o : Option ℕ) (b : Bool) (s t : State) (n : ℕ) → with_some o (λ v. guard b (some_outcome s (Word v))) ≡ Some (record { state = t; reply = Word n }) → (t ≡ s) × (o ≡ Some n)
-peeked_by (Some v) true s t n q =
-    let same : ◌≡◌ {A = Outcome} (record { state = s; reply = Word v }) (record { state = t; reply = Word n }) = cc in
-    let word : Word v ≡ Word n = ap (λ (o : Outcome). o.reply) same in
-    (sym (ap (λ (o : Outcome). o.state) same), ap Some (let v_is : v ≡ n = cc in v_is))
-peeked_by (Some v) false s t n q = absurd (none-some _ q)
-peeked_by None b s t n q = absurd (none-some _ q)
-
--- as a lookup by loads loads the count of changes, the pass is the whole history, and these changes are in it
-pub begun_whole : (c n : ℕ) (key : Key) (x y : CpuView) → x.id ≡ c → Makes (Peek c Changes) (Word n) (Cpu x) (Cpu y) → HasBegunPeek key x n y → HasWholePass y × (n ≤ length y.pass)
-begun_whole c n key x y id made begun =
-    let g = made.g in
-    let by = peeked_by (shared_word g Changes) (may_peek g c) (after_seeing g c) made.after n made.made in
-    let history : made.after.history ≡ g.history = ap (λ (s : State). s.history) by.0 in
-    let within : c < length g.seen = subst (λ d. d < length g.seen) id (seen_of g x made.good made.before).in_seen in
-    let sees : seen_at made.after c ≡ length made.after.history =
-    ap (λ (s : State). seen_at s c) by.0 ∙ (get_or-set_same g.seen c (length g.history) 0 within ∙ ap (λ (h : List Change). length h) (sym history)) in
-    let pass : y.pass ≡ take (seen_at made.after y.id) made.after.history = (seen_of made.after y made.good_after made.shown).pass in
-    let counted : n ≡ made.after.changes = sym (same_Some g.changes n by.1) ∙ ap (λ (s : State). s.changes) (sym by.0) in
-    let shows : PeekShows y.pass made.after.changes (Some (record { key = key; number = n; from = length y.pass; place = Goes AtHead })) =
-    subst (PeekShows y.pass made.after.changes) (ap (λ (v : CpuView). v.peek) begun.1) made.shown.peek in (
-      (
-        record { g = made.after; good = made.good_after; shown = made.shown },
-        pass ∙ (ap (λ d. take (seen_at made.after d) made.after.history) (made.same.1 ∙ id) ∙ (ap (λ n. take n made.after.history) sees ∙ take_whole made.after.history)),
-      ),
-      (shows.2 counted).0,
     )
 
 -- the last found entry may be held by the open section, and has its slot

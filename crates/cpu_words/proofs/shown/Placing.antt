@@ -6,7 +6,7 @@ use Rattle.cpu_words.specs.Types.{Settings}
 use Rattle.registry_values.specs.Common.{are_fit}
 use Rattle.protocol.specs.Common.{State}
 use Rattle.registry_values.proofs.Fit.{ranges}
-use Rattle.cpu_words.specs.Common.{Spot, section_of, passive_of, count_of, head_word, changes_word, next_of, record_of, total_of, index, IsSpot, word_at, Agrees, IsUnused, WORDS}
+use Rattle.cpu_words.specs.Common.{Spot, section_of, passive_of, count_of, head_word, live_of, next_of, record_of, total_of, index, IsSpot, word_at, Agrees, IsUnused, WORDS}
 
 -- two words at one place are one word
 pub same_spot : (z : Settings) → IsTrue (are_fit z) → (p q : Spot) → IsSpot z p → IsSpot z q → index q ≡ index p → q ≡ p
@@ -14,7 +14,7 @@ same_spot z fit (section_of c) (section_of c') here there e = let i : c' ≡ c =
 same_spot z fit (section_of c) (passive_of c' t') here there e = absurd (omega (arith, ranges z fit))
 same_spot z fit (section_of c) (count_of c' t') here there e = absurd (omega (arith, ranges z fit))
 same_spot z fit (section_of c) head_word here there e = absurd (omega (arith, ranges z fit))
-same_spot z fit (section_of c) changes_word here there e = absurd (omega (arith, ranges z fit))
+same_spot z fit (section_of c) (live_of t') here there e = absurd (omega (arith, ranges z fit))
 same_spot z fit (section_of c) (next_of t') here there e = absurd (omega (arith, ranges z fit))
 same_spot z fit (section_of c) (record_of t' k') here there e = absurd (omega (arith, ranges z fit))
 same_spot z fit (section_of c) (total_of t') here there e = absurd (omega (arith, ranges z fit))
@@ -23,7 +23,7 @@ same_spot z fit (passive_of c t) (passive_of c' t') here there e =
     let r = ranges z fit in let i : c' ≡ c = omega (arith, r, here, there) in let j : t' ≡ t = omega (arith, i, r, here, there) in ap (λ k. passive_of k t') i ∙ ap (passive_of c) j
 same_spot z fit (passive_of c t) (count_of c' t') here there e = absurd (omega (arith, ranges z fit))
 same_spot z fit (passive_of c t) head_word here there e = absurd (omega (arith, ranges z fit))
-same_spot z fit (passive_of c t) changes_word here there e = absurd (omega (arith, ranges z fit))
+same_spot z fit (passive_of c t) (live_of t') here there e = absurd (omega (arith, ranges z fit))
 same_spot z fit (passive_of c t) (next_of t') here there e = absurd (omega (arith, ranges z fit))
 same_spot z fit (passive_of c t) (record_of t' k') here there e = absurd (omega (arith, ranges z fit))
 same_spot z fit (passive_of c t) (total_of t') here there e = absurd (omega (arith, ranges z fit))
@@ -32,7 +32,7 @@ same_spot z fit (count_of c t) (passive_of c' t') here there e = absurd (omega (
 same_spot z fit (count_of c t) (count_of c' t') here there e =
     let r = ranges z fit in let i : c' ≡ c = omega (arith, r, here, there) in let j : t' ≡ t = omega (arith, i, r, here, there) in ap (λ k. count_of k t') i ∙ ap (count_of c) j
 same_spot z fit (count_of c t) head_word here there e = absurd (omega (arith, ranges z fit))
-same_spot z fit (count_of c t) changes_word here there e = absurd (omega (arith, ranges z fit))
+same_spot z fit (count_of c t) (live_of t') here there e = absurd (omega (arith, ranges z fit))
 same_spot z fit (count_of c t) (next_of t') here there e = absurd (omega (arith, ranges z fit))
 same_spot z fit (count_of c t) (record_of t' k') here there e = absurd (omega (arith, ranges z fit))
 same_spot z fit (count_of c t) (total_of t') here there e = absurd (omega (arith, ranges z fit))
@@ -40,23 +40,23 @@ same_spot z fit head_word (section_of c') here there e = absurd (omega (arith, r
 same_spot z fit head_word (passive_of c' t') here there e = absurd (omega (arith, ranges z fit))
 same_spot z fit head_word (count_of c' t') here there e = absurd (omega (arith, ranges z fit))
 same_spot z fit head_word head_word here there e = refl
-same_spot z fit head_word changes_word here there e = absurd (omega (arith, ranges z fit))
+same_spot z fit head_word (live_of t') here there e = absurd (omega (arith, ranges z fit))
 same_spot z fit head_word (next_of t') here there e = absurd (omega (arith, ranges z fit))
 same_spot z fit head_word (record_of t' k') here there e = absurd (omega (arith, ranges z fit))
 same_spot z fit head_word (total_of t') here there e = absurd (omega (arith, ranges z fit))
-same_spot z fit changes_word (section_of c') here there e = absurd (omega (arith, ranges z fit))
-same_spot z fit changes_word (passive_of c' t') here there e = absurd (omega (arith, ranges z fit))
-same_spot z fit changes_word (count_of c' t') here there e = absurd (omega (arith, ranges z fit))
-same_spot z fit changes_word head_word here there e = absurd (omega (arith, ranges z fit))
-same_spot z fit changes_word changes_word here there e = refl
-same_spot z fit changes_word (next_of t') here there e = absurd (omega (arith, ranges z fit))
-same_spot z fit changes_word (record_of t' k') here there e = absurd (omega (arith, ranges z fit))
-same_spot z fit changes_word (total_of t') here there e = absurd (omega (arith, ranges z fit))
+same_spot z fit (live_of t) (section_of c') here there e = absurd (omega (arith, ranges z fit))
+same_spot z fit (live_of t) (passive_of c' t') here there e = absurd (omega (arith, ranges z fit))
+same_spot z fit (live_of t) (count_of c' t') here there e = absurd (omega (arith, ranges z fit))
+same_spot z fit (live_of t) head_word here there e = absurd (omega (arith, ranges z fit))
+same_spot z fit (live_of t) (live_of t') here there e = let i : t' ≡ t = omega arith in ap live_of i
+same_spot z fit (live_of t) (next_of t') here there e = absurd (omega (arith, ranges z fit))
+same_spot z fit (live_of t) (record_of t' k') here there e = absurd (omega (arith, ranges z fit))
+same_spot z fit (live_of t) (total_of t') here there e = absurd (omega (arith, ranges z fit))
 same_spot z fit (next_of t) (section_of c') here there e = absurd (omega (arith, ranges z fit))
 same_spot z fit (next_of t) (passive_of c' t') here there e = absurd (omega (arith, ranges z fit))
 same_spot z fit (next_of t) (count_of c' t') here there e = absurd (omega (arith, ranges z fit))
 same_spot z fit (next_of t) head_word here there e = absurd (omega (arith, ranges z fit))
-same_spot z fit (next_of t) changes_word here there e = absurd (omega (arith, ranges z fit))
+same_spot z fit (next_of t) (live_of t') here there e = absurd (omega (arith, ranges z fit))
 same_spot z fit (next_of t) (next_of t') here there e = let i : t' ≡ t = omega arith in ap next_of i
 same_spot z fit (next_of t) (record_of t' k') here there e = absurd (omega (arith, ranges z fit))
 same_spot z fit (next_of t) (total_of t') here there e = absurd (omega (arith, ranges z fit))
@@ -64,7 +64,7 @@ same_spot z fit (record_of t k) (section_of c') here there e = absurd (omega (ar
 same_spot z fit (record_of t k) (passive_of c' t') here there e = absurd (omega (arith, ranges z fit))
 same_spot z fit (record_of t k) (count_of c' t') here there e = absurd (omega (arith, ranges z fit))
 same_spot z fit (record_of t k) head_word here there e = absurd (omega (arith, ranges z fit))
-same_spot z fit (record_of t k) changes_word here there e = absurd (omega (arith, ranges z fit))
+same_spot z fit (record_of t k) (live_of t') here there e = absurd (omega (arith, ranges z fit))
 same_spot z fit (record_of t k) (next_of t') here there e = absurd (omega (arith, ranges z fit))
 same_spot z fit (record_of t k) (record_of t' k') here there e =
     let r = ranges z fit in let i : t' ≡ t = omega (arith, r, here, there) in let j : k' ≡ k = omega (arith, i, r, here, there) in ap (λ k. record_of k k') i ∙ ap (record_of t) j
@@ -73,7 +73,7 @@ same_spot z fit (total_of t) (section_of c') here there e = absurd (omega (arith
 same_spot z fit (total_of t) (passive_of c' t') here there e = absurd (omega (arith, ranges z fit))
 same_spot z fit (total_of t) (count_of c' t') here there e = absurd (omega (arith, ranges z fit))
 same_spot z fit (total_of t) head_word here there e = absurd (omega (arith, ranges z fit))
-same_spot z fit (total_of t) changes_word here there e = absurd (omega (arith, ranges z fit))
+same_spot z fit (total_of t) (live_of t') here there e = absurd (omega (arith, ranges z fit))
 same_spot z fit (total_of t) (next_of t') here there e = absurd (omega (arith, ranges z fit))
 same_spot z fit (total_of t) (record_of t' k') here there e = absurd (omega (arith, ranges z fit))
 same_spot z fit (total_of t) (total_of t') here there e = let i : t' ≡ t = omega arith in ap total_of i
@@ -83,7 +83,7 @@ below_size z fit (section_of c) here = omega (arith, ranges z fit)
 below_size z fit (passive_of c t) here = omega (arith, ranges z fit, here)
 below_size z fit (count_of c t) here = omega (arith, ranges z fit, here)
 below_size z fit head_word here = omega arith
-below_size z fit changes_word here = omega arith
+below_size z fit (live_of t) here = omega (arith, ranges z fit)
 below_size z fit (next_of t) here = omega (arith, ranges z fit)
 below_size z fit (record_of t k) here = omega (arith, ranges z fit, here)
 below_size z fit (total_of t) here = omega (arith, ranges z fit)

@@ -21,8 +21,7 @@ use std::marker::Brand;
 
 /// Looks at the passive word of CPU `cpu` for the retired entry in `slot`: the CPU is clear if the word is 0. Returns the word, and is
 /// counted as a look.
-/// Condition: the keeper is at rest, the slot's entry is retired, the CPU is one of the table's, all CPUs have passed for the slot, and all
-/// changes are counted.
+/// Condition: the keeper is at rest, the slot's entry is retired, the CPU is one of the table's, and all CPUs have passed for the slot.
 pub fn passive_look(words: &Words, keeper: &mut KeeperSeat, slot: u8, cpu: u8) -> u64
     requires table { keeper.old.table ≡ words.now.table }
     requires place { cpu < MOST_CPUS }

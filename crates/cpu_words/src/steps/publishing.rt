@@ -1,20 +1,21 @@
 //! The list of live entries, newest first: an entry is published by one store to the head, and unpublished by one store to the link
-//! that leads to it. After each of the two all changes are counted, by one store.
+//! that leads to it. In between its slot's live word has its number: shown after the one, and hidden before the other.
 
 ghost use Rattle.std.specs.Prelude.{◌≡◌, ℕ, ◌<◌, Some, None, suc, length};
-ghost use Rattle.cpu_words.specs.Types.{Entry, Publish, Unpublish, Count, Done, Rest};
+ghost use Rattle.cpu_words.specs.Types.{Entry, Publish, Unpublish, Show, Hide, Done};
 ghost use Rattle.cpu_words.specs.declared.view.View.TheVariants.{Keeper};
 ghost use Rattle.protocol.specs.Common.{kept_at};
 ghost use Rattle.cpu_words.specs.KeeperLog.{IsAttachedKeeping};
 ghost use Rattle.cpu_words.specs.Steps.{SeatMakes};
-ghost use Rattle.cpu_words.specs.Changes.{keeper_after_counting};
+ghost use Rattle.cpu_words.specs.Lives.{MayHide, MayShow, keeper_after_live};
 ghost use Rattle.cpu_words.specs.Publishing.{MayPublish, HasPublished, MayUnpublish, HasUnpublished, IsLinkPlace, link_index};
 
 use crate::law::Words;
-use crate::layout::{CHANGES, HEAD, next_place};
+use crate::layout::{HEAD, live_place, next_place};
 use crate::operations::by_keeper;
 use crate::seat::KeeperSeat;
 use protocol::Event;
+use registry_values::MOST_SLOTS;
 use std::marker::Brand;
 
 /// Publishes the entry whose words the vacant slot `slot` has: the head is stored, from now on searches find the entry, and the history
@@ -26,8 +27,7 @@ use std::marker::Brand;
 /// - the slot's record has the next number (from 1), and a kind and name that no live entry has;
 /// - its link leads to the newest live entry, and its count words and its total count no reference;
 /// - it keeps a driver exactly if the entry is an interface;
-/// - the history has room for this change and for the detaches of all live entries, the new one too;
-/// - all changes before are counted.
+/// - the history has room for this change and for the detaches of all live entries, the new one too.
 pub fn publish(words: &Words, keeper: &mut KeeperSeat, slot: u8)
     requires table { keeper.old.table ≡ words.now.table }
     requires may { (e : Entry) × MayPublish keeper.old.view slot e }
@@ -43,7 +43,7 @@ pub fn publish(words: &Words, keeper: &mut KeeperSeat, slot: u8)
 /// stays as it is, and the snapshots of all CPUs are due.
 /// `before` is the slot of the live entry with the least greater number, or none where the entry is the newest; `link` is the slot (from
 /// 0) plus 1 of the live entry with the greatest smaller number, or 0 where there is none.
-/// Condition: the keeper is at rest, the slot's entry is live, and all changes before are counted.
+/// Condition: the keeper is at rest, and the slot's entry is live and hidden.
 pub fn unpublish(words: &Words, keeper: &mut KeeperSeat, slot: u8, before: Option<u8>, link: u64)
     requires table { keeper.old.table ≡ words.now.table }
     requires place { IsLinkPlace before }
@@ -60,17 +60,28 @@ pub fn unpublish(words: &Words, keeper: &mut KeeperSeat, slot: u8, before: Optio
     );
 }
 
-/// Counts the changes: stores `changes`, how many there are. A CPU that loads this number twice, and finds the same, knows that no slot that
-/// it went by meanwhile was vacated.
-/// Condition: the keeper is at rest.
-pub fn count_changes(words: &Words, keeper: &mut KeeperSeat, changes: u64)
+/// Shows the live entry in `slot`: stores its number in the slot's live word. From now on a CPU that remembers the entry finds it by one load.
+/// Condition: the keeper is at rest, and that is the number of the slot's live entry.
+pub fn show(words: &Words, keeper: &mut KeeperSeat, slot: u8, number: u64)
     requires table { keeper.old.table ≡ words.now.table }
-    requires rest { keeper.old.view.due ≡ Rest }
-    requires all { changes ≡ length keeper.old.view.history }
-    ensures step { SeatMakes Keeper Count Done keeper.old keeper.new }
-    ensures change { keeper.new.view ≡ keeper_after_counting keeper.old.view }
+    requires place { slot < MOST_SLOTS }
+    requires may { MayShow keeper.old.view slot number }
+    ensures step { SeatMakes Keeper (Show slot) Done keeper.old keeper.new }
+    ensures change { keeper.new.view ≡ keeper_after_live keeper.old.view slot number }
 {
-    by_keeper::store::<Brand>(words, keeper, CHANGES, changes, Event::Count);
+    by_keeper::store::<Brand>(words, keeper, live_place(slot), number, Event::Show(slot));
+}
+
+/// Hides the entry in `slot`: stores 0 in the slot's live word.
+/// Condition: the keeper is at rest, and the slot is one of the table's.
+pub fn hide(words: &Words, keeper: &mut KeeperSeat, slot: u8)
+    requires table { keeper.old.table ≡ words.now.table }
+    requires place { slot < MOST_SLOTS }
+    requires may { MayHide keeper.old.view slot }
+    ensures step { SeatMakes Keeper (Hide slot) Done keeper.old keeper.new }
+    ensures change { keeper.new.view ≡ keeper_after_live keeper.old.view slot 0 }
+{
+    by_keeper::store::<Brand>(words, keeper, live_place(slot), 0, Event::Hide(slot));
 }
 
 /// The place of the link of the slot before, or of the head.

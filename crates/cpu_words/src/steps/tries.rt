@@ -1,55 +1,55 @@
-//! A passive reference without a section, by a CPU's seat. The passive word of the slot is counted up for the entry that the CPU's lookup by
-//! loads found, and then the count of changes is loaded once more. If no change was counted meanwhile, that is a reference. Else it is taken
-//! back.
+//! A passive reference without a section, by a CPU's seat. The passive word of the slot is counted up for an entry that the CPU remembers, and
+//! then the slot's live word is loaded. If it is the entry's number, that is a reference. Else it is taken back.
 
-ghost use Rattle.std.specs.Prelude.{◌≡◌, ◌≢◌, ◌<◌, None};
-ghost use Rattle.cpu_words.specs.Types.{Try, Confirm, TakeBack, Peek, Changes, Word};
+ghost use Rattle.std.specs.Prelude.{◌≡◌, ◌≢◌, ◌<◌};
+ghost use Rattle.cpu_words.specs.Types.{Try, Confirm, TakeBack, Recall, Word};
 ghost use Rattle.cpu_words.specs.declared.view.View.TheVariants.{Cpu};
 ghost use Rattle.cpu_words.specs.Rule.{did};
 ghost use Rattle.cpu_words.specs.Steps.{Makes, SeatGoesOn, SeatMakes};
-ghost use Rattle.cpu_words.specs.Peeks.{HasPeeked};
+ghost use Rattle.cpu_words.specs.Recalls.{HasSeenMore};
 ghost use Rattle.cpu_words.specs.Tries.{event_by, HasConfirmed, HasTakenBack, HasTried, MayEndTry, MayTakeBack, MayTry};
 
 use crate::law::Words;
-use crate::layout::{CHANGES, passive_place};
+use crate::layout::{live_place, passive_place};
 use crate::operations::by_cpu;
 use crate::seat::CpuSeat;
-use protocol::{Event, SharedWord};
-use registry_values::MOST_CPUS;
+use protocol::Event;
+use registry_values::{MOST_CPUS, MOST_SLOTS};
 use std::marker::Brand;
 
 /// CPU `cpu` counts its passive word of `slot` up, to get a reference to the entry with `number`: one addition. Returns the word as it was.
-/// Condition: the seat is that CPU's and idle, and its lookup by loads has come to that entry. The slot is one of the table's, and the CPU has
-/// fewer references into it than the passive limit.
+/// Condition: the seat is that CPU's and idle, and that entry of the slot is in its pass. The slot is one of the table's, and the CPU has fewer
+/// references into it than the passive limit.
 pub fn begin_try(words: &Words, seat: &mut CpuSeat, cpu: u8, slot: u8, number: u64) -> u64
     requires table { seat.old.table ≡ words.now.table }
     requires cpu { (cpu < MOST_CPUS) × (seat.old.view.id ≡ cpu) }
     requires may { MayTry seat.old.view slot number }
     ensures step { SeatMakes Cpu (Try cpu slot number) (Word result) seat.old seat.new }
-    ensures change { HasTried seat.old.view seat.new.view }
+    ensures change { HasTried seat.old.view number seat.new.view }
 {
     let word = passive_place(cpu, slot);
     by_cpu::add::<Brand>(words, seat, word, 1, Event::Try(cpu, slot, number))
 }
 
-/// CPU `cpu` loads the count of changes, and returns it. If it is `number`, with which its lookup by loads began, what it counted up is a
-/// reference to the entry that the lookup found. Else the lookup is over, and what was counted up is still to be taken back.
-/// Condition: the seat is that CPU's. It has counted up for that entry, and no search is under way.
-pub fn end_try(words: &Words, seat: &mut CpuSeat, cpu: u8, number: u64) -> u64
+/// CPU `cpu` loads the live word of `slot`, and returns it. If it is `number`, what the CPU counted up is a reference to that entry, which is
+/// live. Else what was counted up is still to be taken back. Either way its pass is the whole history.
+/// Condition: the seat is that CPU's. It has counted up for that entry of its pass, and no search is under way.
+pub fn end_try(words: &Words, seat: &mut CpuSeat, cpu: u8, slot: u8, number: u64) -> u64
     requires table { seat.old.table ≡ words.now.table }
     requires cpu { (cpu < MOST_CPUS) × (seat.old.view.id ≡ cpu) }
-    requires may { MayEndTry seat.old.view number }
-    ensures step { SeatGoesOn (did (event_by number (Confirm cpu) (Peek cpu Changes) result) (Word result)) seat.old seat.new }
+    requires place { slot < MOST_SLOTS }
+    requires may { MayEndTry seat.old.view slot number }
+    ensures step { SeatGoesOn (did (event_by number (Confirm cpu) (Recall cpu slot) result) (Word result)) seat.old seat.new }
     ensures confirmed { result ≡ number → Makes (Confirm cpu) (Word result) (Cpu seat.old.view) (Cpu seat.new.view) × HasConfirmed seat.old.view seat.new.view }
-    ensures late { result ≢ number → Makes (Peek cpu Changes) (Word result) (Cpu seat.old.view) (Cpu seat.new.view) × HasPeeked seat.old.view None seat.new.view }
+    ensures late { result ≢ number → Makes (Recall cpu slot) (Word result) (Cpu seat.old.view) (Cpu seat.new.view) × HasSeenMore seat.old.view seat.new.view }
 {
     by_cpu::load_either::<Brand>(
         words,
         seat,
-        CHANGES,
+        live_place(slot),
         number,
         Event::Confirm(cpu),
-        Event::Peek(cpu, SharedWord::Changes),
+        Event::Recall(cpu, slot),
     )
 }
 

@@ -19,7 +19,7 @@ impl Core {
             && self.has_same_cpus(other)
     }
 
-    /// Whether the list, the slots, their marks, the history and the count of changes are the same.
+    /// Whether the list, the slots, their marks, the history and the live words are the same.
     fn has_same_slots(&self, other: &Core) -> bool
         ensures { Decides result (HaveSameSlots self.now other.now) }
     {
@@ -29,7 +29,7 @@ impl Core {
             && are_same(&self.slots, &other.slots)
             && are_same(&self.marks, &other.marks)
             && are_same(&self.history, &other.history)
-            && self.counted == other.counted
+            && are_same(&self.lives, &other.lives)
     }
 
     /// Whether what counts references, and the local references, are the same.

@@ -1,5 +1,5 @@
 -- The events on local references keep the invariant.
-use Rattle.std.proofs.Common.{Bool, List, Some, [], ap, arith, false, get_or, get_or-set_other, get_or-set_same, inl, inr, length, length-set, ltb-true, not, refl, set, subst, sym, true, ℕ, ◌&&◌, ◌+◌, ◌-◌, ◌<◌, ◌∙◌, ◌≡◌, ◌==◌, ◌≤◌, ◌⊎◌}
+use Rattle.std.proofs.Common.{Bool, List, None, Some, [], ap, arith, false, get_or, get_or-set_other, get_or-set_same, inl, inr, length, length-set, ltb-true, not, refl, set, subst, sym, true, ℕ, ◌&&◌, ◌+◌, ◌-◌, ◌<◌, ◌∙◌, ◌≡◌, ◌==◌, ◌≤◌}
 use Rattle.std.proofs.lemmas.Bool.{and_parts, cases_Bool, cases_eq, cases_lt, eq-eqb, eqb-true}
 use Rattle.std.proofs.lemmas.List.{get_or_past}
 use Rattle.std.specs.Prelude.{if◌then◌else◌, is_none, nat_lt}
@@ -13,9 +13,9 @@ use Rattle.protocol.proofs.keeps.Passive.{found_not_passed, passive_hand, passiv
 use Rattle.protocol.proofs.keeps.Drivers.{drivers_keep}
 use Rattle.protocol.proofs.keeps.References.{back_holds, due_adding, due_subtracting, giving_holds, hand_seated, references_collect, references_collected, references_count_add, references_count_down}
 use Rattle.protocol.proofs.keeps.References.{references_join, references_join_keeper, references_keep, references_split, references_split_back, references_total, references_unheld, seats_hand}
-use Rattle.protocol.proofs.keeps.SectionKeeps.{idle_parts, idle_tells, none_from}
-use Rattle.protocol.specs.Common.{after_collect, after_collected, after_count_add, after_count_down, after_count_store, after_hand, after_join_keeper, after_keep, after_split, after_total, after_confirm, after_take_back, after_try, exchange}
-use Rattle.protocol.specs.Common.{is_drainable, is_driver_slot, is_idle, is_number, may_collect, may_count, may_examine, may_join, may_join_keeper, may_keep, may_write, may_try, may_confirm, is_last_detach, some_outcome, Holds}
+use Rattle.protocol.proofs.keeps.SectionKeeps.{idle_parts, idle_tells, none_from, see_keeps}
+use Rattle.protocol.specs.Common.{after_collect, after_collected, after_count_add, after_count_down, after_count_store, after_hand, after_join_keeper, after_keep, after_split, after_total, after_confirm, after_taking, after_take_back, after_try, exchange}
+use Rattle.protocol.specs.Common.{is_drainable, is_driver_slot, is_idle, is_number, may_collect, may_count, may_examine, may_join, may_join_keeper, may_keep, may_write, may_try, may_confirm, has_live, search_at, some_outcome, Holds}
 use Rattle.protocol.specs.Common.{IsCounting, IsIn, SeatsShow, SnapshotsStand, at_rest, State, count_at, found_at, hand_at, kept_at, local_at, mark_at, passive_at, total_at, trying_at, trying_of, with_cell, Keeps, Collected, Word, Due, Adding}
 use Rattle.protocol.specs.Common.{Rest, Snapshots, Subtracting, Hand, Back, Empty, Giving, Taking, Trying, Lifted, Standing}
 use Rattle.registry_values.specs.Common.{mark_after_collect, are_clear, have_passed, is_clear, is_some_collected, no_mark, is_retired, slot_of, slot_at, bias}
@@ -288,20 +288,16 @@ take_back_keeps s c t n on hand =
       references_unheld s.settings.cpus s.slots s.hands s.due s.locals c Empty tt on.references,
     )
 
--- what the test of a Confirm tells: the slot has the entry, and the CPU isn't clear for it
-pub confirm_tells : (s : State) (c t n : ℕ) (x : Slot) → may_confirm s c t n x ≡ true
-    → (e : Entry) × (e.number ≡ n) × ((x ≡ Live e) ⊎ ((x ≡ Retired e) × (is_last_detach s.history n ≡ true) × ((mark_at s.marks t c).clear ≡ false)))
-confirm_tells s c t n Vacant may = absurd (let q : ◌≡◌ {A = Bool} false true = may in cc)
-confirm_tells s c t n (Live e) may = (e, eqb-true e.number n may, inl refl)
-confirm_tells s c t n (Retired e) may =
-    let p = and_parts (e.number == n) (is_last_detach s.history n && not (mark_at s.marks t c).clear) may in
-    let q = and_parts (is_last_detach s.history n) (not (mark_at s.marks t c).clear) p.1 in
-    (e, eqb-true e.number n p.0, inr (refl, q.0, false_from (mark_at s.marks t c).clear q.1))
+-- what the test of a live word tells: the slot's entry is live
+pub live_tells : (n : ℕ) (x : Slot) → has_live n x ≡ true → (e : Entry) × (e.number ≡ n) × (x ≡ Live e)
+live_tells n Vacant may = absurd (let q : ◌≡◌ {A = Bool} false true = may in cc)
+live_tells n (Live e) may = (e, eqb-true e.number n may, refl)
+live_tells n (Retired e) may = absurd (let q : ◌≡◌ {A = Bool} false true = may in cc)
 
-pub confirm_keeps : (s : State) (c t n : ℕ) → Holds s → hand_at s c ≡ Trying t n → may_confirm s c t n (slot_at s.slots t) ≡ true → Holds (after_confirm s c)
-confirm_keeps s c t n on hand may =
+pub taking_keeps : (s : State) (c t n : ℕ) → Holds s → hand_at s c ≡ Trying t n → has_live n (slot_at s.slots t) ≡ true → Holds (after_taking s c)
+taking_keeps s c t n on hand may =
     let told = trying_tells s c t n on hand in
-    let is = confirm_tells s c t n (slot_at s.slots t) may in
+    let is = live_tells n (slot_at s.slots t) may in
     let full = hand_full s c Empty (Trying t n) on hand (λ is. let q : Trying t n ≡ Empty = is in cc) in
     assumption (
       full.1,
@@ -313,12 +309,8 @@ confirm_keeps s c t n on hand may =
           either (cases_eq u t)
           (λ same. inr (
             omega (arith, none),
-            λ vacant. either is.2
-                (λ live. let q : Live is.0 ≡ Vacant = sym live ∙ (ap (slot_at s.slots) (sym same) ∙ vacant) in cc)
-                (λ gone. let q : Retired is.0 ≡ Vacant = sym gone.0 ∙ (ap (slot_at s.slots) (sym same) ∙ vacant) in cc),
-            λ e at clear. either is.2
-                (λ live. let q : Live is.0 ≡ Retired e = sym live ∙ (ap (slot_at s.slots) (sym same) ∙ at) in cc)
-                (λ gone. let q : ◌≡◌ {A = Bool} false true = sym gone.2 ∙ (ap (λ (k : ℕ). (mark_at s.marks k c).clear) (sym same) ∙ (ap (λ (k : ℕ). (mark_at s.marks u k).clear) (sym here) ∙ clear)) in cc),
+            λ vacant. (let q : Live is.0 ≡ Vacant = sym is.2 ∙ (ap (slot_at s.slots) (sym same) ∙ vacant) in cc),
+            λ e at clear. (let q : Live is.0 ≡ Retired e = sym is.2 ∙ (ap (slot_at s.slots) (sym same) ∙ at) in cc),
           ))
           (λ off. inl (omega (arith, none, tries, trying_none t n u (λ k. off (sym k))))))
           (λ away. inl (ap (trying_of u) (get_or-set_other s.hands c d Empty Empty away))))
@@ -326,3 +318,11 @@ confirm_keeps s c t n on hand may =
       C.hand_unheld on.balance c (Trying t n) Empty full.0 hand (λ m. refl) (λ m. refl),
       references_unheld s.settings.cpus s.slots s.hands s.due s.locals c Empty tt on.references,
     )
+
+-- what the test of a Confirm tells: the entry is live
+pub confirm_tells : (s : State) (c n : ℕ) (x : Slot) → may_confirm s c n x ≡ true → (search_at s c ≡ None) × (has_live n x ≡ true)
+confirm_tells s c n x may = let p = and_parts (is_none (search_at s c)) (has_live n x) may in (none_from (search_at s c) p.0, p.1)
+
+pub confirm_keeps : (s : State) (c t n : ℕ) → Holds s → hand_at s c ≡ Trying t n → may_confirm s c n (slot_at s.slots t) ≡ true → Holds (after_confirm s c)
+confirm_keeps s c t n on hand may =
+    see_keeps (after_taking s c) c (taking_keeps s c t n on hand (confirm_tells s c n (slot_at s.slots t) may).1) (trying_tells s c t n on hand).0

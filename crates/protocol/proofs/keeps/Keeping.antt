@@ -1,5 +1,5 @@
 -- Each event keeps the core invariant.
-use Rattle.std.proofs.Common.{◌≡◌, ℕ, ◌-◌, inr, List, [], ◌∷◌, get_or, take, Option, Some, None, Bool, true, false, ◌&&◌, ◌==◌, IsTrue, refl, ap, subst, sym, ◌∙◌, arith, ltb-true}
+use Rattle.std.proofs.Common.{◌≡◌, ℕ, ◌-◌, inr, List, [], ◌∷◌, length-set, get_or, take, Option, Some, None, Bool, true, false, ◌&&◌, ◌==◌, IsTrue, refl, ap, subst, sym, ◌∙◌, arith, ltb-true}
 use Rattle.std.specs.Prelude.{if◌then◌else◌, is_none, nat_lt}
 use Rattle.std.specs.List.{list_all}
 use Rattle.std.proofs.lemmas.Bool.{and_parts, eqb-true}
@@ -16,15 +16,15 @@ use Rattle.protocol.proofs.slots.Occupied.{in_within, at_rest_tells}
 use Rattle.protocol.proofs.keeps.References.{references_kept_sub, references_opening, references_publish, references_snapshot, references_unpublish, references_vacate, standing_tells}
 use Rattle.protocol.proofs.keeps.References.{snapshot_due_tells}
 use Rattle.protocol.proofs.keeps.SearchKeeps.{link_keeps, record_keeps, seek_keeps}
-use Rattle.protocol.proofs.keeps.SectionKeeps.{enter_keeps, exit_keeps, hear_keeps, peek_keeps, seat_keeps}
+use Rattle.protocol.proofs.keeps.SectionKeeps.{enter_keeps, exit_keeps, hear_keeps, recall_head_keeps, recall_keeps, refind_keeps, seat_keeps}
 use Rattle.protocol.specs.Common.{Outcome, after_count_store, after_kept_sub, after_look, after_look_passive, after_publish, after_row_store, after_snapshot, after_unpublish, after_vacate, count_down}
 use Rattle.protocol.specs.Common.{compared_slot, entry_of, exchange, guard, hear, is_bias, is_drained, is_iface_slot, is_idle, is_snapshot_due, kept_sub, load_record, look, may_add, may_collect, may_count}
 use Rattle.protocol.specs.Common.{may_enter, may_examine, may_exit, may_glance, may_join_keeper, may_keep, may_look_passive, may_publish, may_seat, may_seek, may_sub, may_vacate, may_write, snapshot}
 use Rattle.protocol.specs.Common.{confirm, may_confirm, may_try, take_back}
-use Rattle.protocol.specs.Common.{shared_word, after_counting, may_peek, peek, snapshot_mark, split_back, split_ref, number_standing, state_after, step, store_slot, some_outcome, tell, total_add, total_sub, unpublish, with_some, Holds, held_at}
+use Rattle.protocol.specs.Common.{after_live_store, may_hide, may_recall, may_recall_head, may_refind, refind, show, snapshot_mark, split_back, split_ref, number_standing, state_after, step, store_slot, some_outcome, tell, total_add, total_sub, unpublish, with_some, Holds, held_at}
 use Rattle.protocol.specs.Common.{Run, run_of_events, run_with_event, at_rest, State, found_at, hand_at, kept_at, local_at, mark_at, opening, passive_at, row_at, search_at, section_at, total_at}
 use Rattle.protocol.specs.Common.{Keeps, Event, Seat, Enter, Exit, Seek, LoadLink, LoadRecord, StoreSlot, StoreNext, Publish, Unpublish, Tell, Hear, Snapshot, Look, PassiveAdd, PassiveSub}
-use Rattle.protocol.specs.Common.{PassiveLook, CountAdd, SplitRef, JoinRef, CountDown, SplitBack, Collect, TotalAdd, JoinKeeper, TotalSub, Keep, KeptSub, Vacate, Count, Peek, Try, Confirm, TakeBack, RecordOf, SharedWord, Reply, Done, Due, Adding}
+use Rattle.protocol.specs.Common.{PassiveLook, CountAdd, SplitRef, JoinRef, CountDown, SplitBack, Collect, TotalAdd, JoinKeeper, TotalSub, Keep, KeptSub, Vacate, Show, Hide, Recall, RecallHead, Refind, Try, Confirm, TakeBack, RecordOf, Reply, Done, Due, Adding}
 use Rattle.protocol.specs.Common.{Snapshots, Subtracting, Hand, Back, Giving, Taking, Trying, Standing}
 use Rattle.registry_values.specs.Common.{mark_after_passive_look, mark_after_look, slot_of, slot_at, are_fit, bias}
 use Rattle.protocol.specs.Types.{Entry, Settings, Slot, Live, Retired}
@@ -165,15 +165,20 @@ kept_sub_one_keeps : (s : State) (t : ℕ) → Holds s → Keeps (kept_sub s t)
 kept_sub_one_keeps s t on = some_keeps (kept_at s.keeps t) _ (λ d is. some_keeps (slot_of s.slots d) _ (λ u of. guard_keeps (is_iface_slot (slot_at s.slots t) && is_drained s t) _ (λ may.
     kept_sub_keeps s t d u on is of (and_parts (is_iface_slot (slot_at s.slots t)) (is_drained s t) may).1)))
 
--- no clause speaks of how many changes were counted
-counting_keeps : (s : State) → Holds s → Holds (after_counting s)
-counting_keeps s on = assumption
+-- no clause speaks of the live words, but for their number
+live_store_keeps : (s : State) (t v : ℕ) → Holds s → Holds (after_live_store s t v)
+live_store_keeps s t v on = assumption (length-set s.lives t v ∙ on.shape.lives)
 
-peek_one_keeps : (s : State) (c : ℕ) (w : SharedWord) → Holds s → Keeps (peek s c w)
-peek_one_keeps s c w on = some_keeps (shared_word s w) _ (λ v is. guard_keeps (may_peek s c) _ (λ may. peek_keeps s c on may))
+show_keeps : (s : State) (t : ℕ) (x : Slot) → Holds s → Keeps (show s t x)
+show_keeps s t (Live e) on = guard_keeps (at_rest s.due) _ (λ rest. live_store_keeps s t e.number on)
+show_keeps s t _ on = tt
+
+refind_slot_keeps : (s : State) (c t n : ℕ) (x : Slot) → Holds s → slot_at s.slots t ≡ x → Keeps (refind s c t n x)
+refind_slot_keeps s c t n (Live e) on is = guard_keeps (may_refind s c t n e) _ (λ may. refind_keeps s c t n e on is may)
+refind_slot_keeps s c t n _ on is = tt
 
 confirm_hand_keeps : (s : State) (c : ℕ) (h : Hand) → Holds s → hand_at s c ≡ h → Keeps (confirm s c h)
-confirm_hand_keeps s c (Trying t n) on is = guard_keeps (may_confirm s c t n (slot_at s.slots t)) _ (λ may. confirm_keeps s c t n on is may)
+confirm_hand_keeps s c (Trying t n) on is = guard_keeps (may_confirm s c n (slot_at s.slots t)) _ (λ may. confirm_keeps s c t n on is may)
 confirm_hand_keeps s c _ on is = tt
 
 take_back_hand_keeps : (s : State) (c : ℕ) (h : Hand) → Holds s → hand_at s c ≡ h → Keeps (take_back s c h)
@@ -210,8 +215,11 @@ step_keeps s (TotalSub t) on = total_sub_due_keeps s t s.due on refl
 step_keeps s (Keep t id) on = standing_keeps s id _ (λ n at. some_keeps (slot_of s.slots n) _ (λ u of. guard_keeps (may_keep s t u) _ (λ may. keep_keeps s t id n u on at of may)))
 step_keeps s (KeptSub t) on = kept_sub_one_keeps s t on
 step_keeps s (Vacate t) on = guard_keeps (may_vacate s t) _ (λ may. vacate_keeps s t on may)
-step_keeps s Count on = guard_keeps (at_rest s.due) _ (λ rest. counting_keeps s on)
-step_keeps s (Peek c w) on = peek_one_keeps s c w on
+step_keeps s (Show t) on = show_keeps s t (slot_at s.slots t) on
+step_keeps s (Hide t) on = guard_keeps (may_hide s t) _ (λ may. live_store_keeps s t 0 on)
+step_keeps s (Recall c t) on = guard_keeps (may_recall s c t) _ (λ may. recall_keeps s c t on may)
+step_keeps s (RecallHead c) on = guard_keeps (may_recall_head s c) _ (λ may. recall_head_keeps s c on may)
+step_keeps s (Refind c t n) on = refind_slot_keeps s c t n (slot_at s.slots t) on refl
 step_keeps s (Try c t n) on = guard_keeps (may_try s c t) _ (λ may. try_keeps s c t n on may)
 step_keeps s (Confirm c) on = confirm_hand_keeps s c (hand_at s c) on refl
 step_keeps s (TakeBack c) on = take_back_hand_keeps s c (hand_at s c) on refl

@@ -221,6 +221,7 @@ opening_holds z fit counts references drivers =
         counts = length-replicate z.slots (replicate MOST_CPUS 0);
         count_rows = rows_all z.slots (replicate MOST_CPUS 0) refl;
         totals = length-replicate z.slots bias;
+        lives = length-replicate z.slots 0;
         begins = length-replicate z.cpus None;
         depths = length-replicate z.cpus 0;
         seen = length-replicate z.cpus 0;

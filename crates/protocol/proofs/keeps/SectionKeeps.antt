@@ -1,9 +1,12 @@
 -- Seats, sections and notes keep the invariant.
-use Rattle.std.proofs.Common.{◌≡◌, ℕ, ◌+◌, ◌*◌, ◌<◌, length, Option, Some, None, Bool, true, false, ◌&&◌, is_none, is_some, nat_eq, nat_lt, refl, sym, subst, ◌∙◌, arith, length-set, ltb-true}
+use Rattle.std.proofs.Common.{◌≡◌, ℕ, ◌+◌, ◌*◌, ◌<◌, ◌≤◌, length, Option, Some, None, Bool, true, false, ◌&&◌, is_none, is_some, nat_eq, nat_lt, refl, sym, subst, ◌∙◌, arith, length-set, ltb-true}
 use Rattle.std.proofs.Common.{eqb-true}
 use Rattle.std.proofs.lemmas.Bool.{and_parts}
-use Rattle.protocol.specs.Common.{Hand, Empty, State, section_at, begin_at, depth_at, search_at, hand_at, at_rest, is_empty, is_idle, is_outside, is_inside, may_peek, may_seat, after_seat, may_enter}
-use Rattle.protocol.specs.Common.{after_enter, may_exit, after_exit, after_seeing, SeatsShow, Holds}
+use Rattle.protocol.specs.Common.{Hand, Empty, State, section_at, begin_at, depth_at, search_at, hand_at, at_rest, is_empty, is_idle, is_outside, is_inside, may_recall, may_recall_head, may_refind, may_seat, after_seat, may_enter}
+use Rattle.protocol.specs.Common.{after_enter, may_exit, after_exit, after_refind, after_seeing, MayHold, is_honest, live_at, SeatsShow, Holds}
+use Rattle.protocol.specs.Types.{Entry, Live}
+use Rattle.registry_values.specs.Common.{slot_at}
+use Rattle.protocol.proofs.keeps.Searching.{found_some}
 use Rattle.protocol.proofs.keeps.Sections.{seats_seat, seats_begin, sections_enter, held_enter, links_enter, marks_enter, searches_enter, found_enter, sections_exit, held_exit, links_exit, marks_exit}
 use Rattle.protocol.proofs.keeps.Sections.{searches_exit, found_exit, sections_see, searches_see}
 
@@ -102,10 +105,48 @@ see_keeps s c on lt =
       searches_see s.settings s.history s.section s.begins s.depths s.seen s.searches c cw on.sections on.searches,
     )
 
-pub peek_keeps : (s : State) (c : ℕ) → Holds s → may_peek s c ≡ true → Holds (after_seeing s c)
-peek_keeps s c on ok =
-    let seated = ltb-true c s.seated (and_parts (nat_lt c s.seated) (is_none (search_at s c)) ok).0 in
-    see_keeps s c on (omega (arith, seated, on.seats.within))
+-- the CPU is seated and has no search, the slot is in range, and its live word is honest
+pub recall_tells : (s : State) (c t : ℕ) → may_recall s c t ≡ true → (c < s.seated) × (search_at s c ≡ None) × (t < s.settings.slots) × (is_honest (live_at s.lives t) (slot_at s.slots t) ≡ true)
+recall_tells s c t ok =
+    let p = and_parts (nat_lt c s.seated) _ ok in
+    let q = and_parts (is_none (search_at s c)) _ p.1 in
+    let r = and_parts (nat_lt t s.settings.slots) (is_honest (live_at s.lives t) (slot_at s.slots t)) q.1 in
+    (ltb-true c s.seated p.0, none_from (search_at s c) q.0, ltb-true t s.settings.slots r.0, r.1)
+
+pub recall_keeps : (s : State) (c t : ℕ) → Holds s → may_recall s c t ≡ true → Holds (after_seeing s c)
+recall_keeps s c t on ok = let seated = (recall_tells s c t ok).0 in see_keeps s c on (omega (arith, seated, on.seats.within))
+
+-- and so of a recall of the head
+pub recall_head_tells : (s : State) (c : ℕ) → may_recall_head s c ≡ true → (c < s.seated) × (search_at s c ≡ None)
+recall_head_tells s c ok = let p = and_parts (nat_lt c s.seated) (is_none (search_at s c)) ok in (ltb-true c s.seated p.0, none_from (search_at s c) p.1)
+
+pub recall_head_keeps : (s : State) (c : ℕ) → Holds s → may_recall_head s c ≡ true → Holds (after_seeing s c)
+recall_head_keeps s c on ok = let seated = (recall_head_tells s c ok).0 in see_keeps s c on (omega (arith, seated, on.seats.within))
+
+-- the CPU is inside too, and the slot's live entry has the number
+pub refind_tells : (s : State) (c t n : ℕ) (e : Entry) → may_refind s c t n e ≡ true
+    → (c < s.seated) × (search_at s c ≡ None) × ((b : ℕ) × (begin_at s c ≡ Some b)) × (e.number ≡ n) × (live_at s.lives t ≡ n)
+refind_tells s c t n e ok =
+    let p = and_parts (nat_lt c s.seated) _ ok in
+    let q = and_parts (is_none (search_at s c)) _ p.1 in
+    let r = and_parts (is_inside s c) _ q.1 in
+    let u = and_parts (nat_eq e.number n) (nat_eq (live_at s.lives t) n) r.1 in
+    (ltb-true c s.seated p.0, none_from (search_at s c) q.0, some_from (begin_at s c) r.0, eqb-true e.number n u.0, eqb-true (live_at s.lives t) n u.1)
+
+-- a live entry hasn't ended, so the open section may hold it
+pub refind_keeps : (s : State) (c t n : ℕ) (e : Entry) → Holds s → slot_at s.slots t ≡ Live e → may_refind s c t n e ≡ true → Holds (after_refind s c e)
+refind_keeps s c t n e on at ok =
+    let told = refind_tells s c t n e ok in
+    let lt : c < s.settings.cpus = omega (arith, told.0, on.seats.within) in
+    let seen : Holds (after_seeing s c) = see_keeps s c on lt in
+    let live = (on.slots.live t e at).0 in
+    let begun : told.2.0 ≤ length s.history = omega (arith, on.sections.begun c told.2.0 told.2.1, on.sections.prefix c) in
+    let may : MayHold s.history told.2.0 e = record { attached = live.attached; unended = λ p x. omega (arith, live.unended p x, begun) } in
+    let on = seen in
+    assumption (
+      length-set s.found c (Some e) ∙ seen.shape.found,
+      found_some s.history s.begins s.found c told.2.0 e (omega (arith, lt, seen.shape.found)) told.2.1 may seen.last_found,
+    )
 
 pub hear_keeps : (s : State) (c : ℕ) → Holds s → is_idle s c ≡ true → Holds (after_seeing s c)
 hear_keeps s c on ok = see_keeps s c on (idle_tells s c on ok).0

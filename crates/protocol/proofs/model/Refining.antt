@@ -3,9 +3,9 @@ use Rattle.std.proofs.Common.{inl, inr, ◌≡◌, ℕ, ◌+◌, ◌-◌, List, 
 use Rattle.std.proofs.lemmas.Bool.{and_parts}
 use Rattle.protocol.specs.Types.{Entry, Settings, MOST_CPUS, Slot, Vacant, Live}
 use Rattle.protocol.specs.Common.{Event, Seat, Enter, Exit, Seek, LoadLink, LoadRecord, StoreSlot, StoreNext, Publish, Unpublish, Tell, Hear, Snapshot, Look, PassiveAdd, PassiveSub, PassiveLook}
-use Rattle.protocol.specs.Common.{CountAdd, SplitRef, JoinRef, CountDown, SplitBack, Collect, TotalAdd, JoinKeeper, TotalSub, Keep, KeptSub, Vacate, Count, Peek, Try, Confirm, TakeBack, RecordOf, Reply, Done, Word, Collected, Hand}
+use Rattle.protocol.specs.Common.{CountAdd, SplitRef, JoinRef, CountDown, SplitBack, Collect, TotalAdd, JoinKeeper, TotalSub, Keep, KeptSub, Vacate, Show, Hide, Recall, RecallHead, Refind, Try, Confirm, TakeBack, RecordOf, Reply, Done, Word, Collected, Hand}
 use Rattle.protocol.specs.Common.{Empty, Taking, Giving, Back, Trying, Lifted, Due, Adding, Subtracting, State, opening, section_at, search_at, found_at, row_at, passive_at, count_at, total_at, hand_at}
-use Rattle.protocol.specs.Common.{kept_at, local_at, at_rest, Outcome, guard, some_outcome, step, Run, run_with_event, run_of_events, empty_run, Holds, Model, empty_model, IsModelRun, Stays}
+use Rattle.protocol.specs.Common.{kept_at, live_at, local_at, at_rest, Outcome, guard, some_outcome, step, Run, run_with_event, run_of_events, empty_run, Holds, Model, empty_model, IsModelRun, Stays}
 use Rattle.protocol.specs.Common.{passive_in, lookup_of, number_in, picture, EveryRunIsModelRun, HasConfirm, IsConfirm}
 use Rattle.protocol.specs.declared.event.RecordOf.TheVariants.{Search as OfSearch, Passive as OfPassive, Local as OfLocal, Compared as OfCompared}
 use Rattle.registry_values.specs.Common.{bias, slot_at, slot_of}
@@ -17,7 +17,7 @@ use Rattle.protocol.proofs.keeps.MarkKeeps.{cell_all}
 use Rattle.protocol.proofs.slots.Cells.{get_or_all}
 use Rattle.protocol.proofs.counts.HeldSums.{number_of, no_hand}
 use Rattle.protocol.proofs.model.Picturing.{Makes, makes_guard, makes_some, same_model, join_runs, widen_run}
-use Rattle.protocol.proofs.model.RefiningSections.{seat_refines, enter_refines, exit_refines, hear_refines, peek_refines, seek_refines, link_makes, record_makes}
+use Rattle.protocol.proofs.model.RefiningSections.{seat_refines, enter_refines, exit_refines, hear_refines, recall_head_refines, recall_refines, refind_refines, seek_refines, link_makes, record_makes}
 use Rattle.protocol.proofs.model.RefiningReferences.{confirm_refines, take_back_refines, try_refines}
 use Rattle.protocol.proofs.model.RefiningReferences.{add_refines, sub_refines, count_add_refines, split_refines, join_refines, count_down_refines, collected_refines, split_back_refines}
 use Rattle.protocol.proofs.model.RefiningReferences.{snapshot_refines, look_refines, look_passive_refines, collect_refines, total_add_refines, total_sub_refines, join_keeper_refines}
@@ -136,8 +136,17 @@ kept_sub_makes s t on =
 
 confirm_makes : (s : State) (c : ℕ) (h : Hand) → Holds s → hand_at s c ≡ h → Makes (Unit {0}) (picture s) (Events.confirm s c h)
 confirm_makes s c (Trying t n) on hand =
-    makes_guard (Unit {0}) (picture s) (Events.may_confirm s c t n (slot_at s.slots t)) (some_outcome (Events.after_confirm s c) (Word s.changes)) (λ ok now. confirm_refines s c t n on hand ok)
+    makes_guard (Unit {0}) (picture s) (Events.may_confirm s c n (slot_at s.slots t)) (some_outcome (Events.after_confirm s c) (Word (live_at s.lives t))) (λ ok now. confirm_refines s c t n on hand ok)
 confirm_makes s c _ on hand = tt
+
+show_makes : (s : State) (t : ℕ) (x : Slot) → Makes ⊥ (picture s) (Events.show s t x)
+show_makes s t (Live e) = stays_make s (Events.after_live_store s t e.number) (at_rest s.due) Done Stays
+show_makes s t _ = tt
+
+refind_makes : (s : State) (c t n : ℕ) (x : Slot) → Holds s → slot_at s.slots t ≡ x → Makes ⊥ (picture s) (Events.refind s c t n x)
+refind_makes s c t n (Live e) on at =
+    makes_guard ⊥ (picture s) (Events.may_refind s c t n e) (some_outcome (Events.after_refind s c e) (Word (live_at s.lives t))) (λ ok now. refind_refines s c t n e on at ok)
+refind_makes s c t n _ on at = tt
 
 take_back_makes : (s : State) (c : ℕ) (h : Hand) → Holds s → hand_at s c ≡ h → Makes ⊥ (picture s) (Events.take_back s c h)
 take_back_makes s c (Trying t n) on hand = λ now. take_back_refines s c t n on hand
@@ -181,10 +190,12 @@ step_makes s (TotalSub t) on = total_sub_makes s t s.due on refl
 step_makes s (Keep t id) on = keep_makes s t id on
 step_makes s (KeptSub t) on = kept_sub_makes s t on
 step_makes s (Vacate t) on = makes_guard ⊥ (picture s) (Events.may_vacate s t) (some_outcome (Events.after_vacate s t) Done) (λ ok now. vacate_refines s t on now ok)
-step_makes s Count on = stays_make s (Events.after_counting s) (at_rest s.due) Done Stays
-step_makes s (Peek c w) on =
-    makes_some ⊥ (picture s) (Events.shared_word s w) (λ v. guard (Events.may_peek s c) (some_outcome (Events.after_seeing s c) (Word v)))
-    (λ v is. makes_guard ⊥ (picture s) (Events.may_peek s c) (some_outcome (Events.after_seeing s c) (Word v)) (λ ok now. peek_refines s c on ok))
+step_makes s (Show t) on = show_makes s t (slot_at s.slots t)
+step_makes s (Hide t) on = stays_make s (Events.after_live_store s t 0) (Events.may_hide s t) Done Stays
+step_makes s (Recall c t) on =
+    makes_guard ⊥ (picture s) (Events.may_recall s c t) (some_outcome (Events.after_seeing s c) (Word (live_at s.lives t))) (λ ok now. recall_refines s c t on ok)
+step_makes s (RecallHead c) on = makes_guard ⊥ (picture s) (Events.may_recall_head s c) (some_outcome (Events.after_seeing s c) (Word s.head)) (λ ok now. recall_head_refines s c on ok)
+step_makes s (Refind c t n) on = refind_makes s c t n (slot_at s.slots t) on refl
 step_makes s (Try c t n) on =
     makes_guard ⊥ (picture s) (Events.may_try s c t) (some_outcome (Events.after_try s c t n) (Word (passive_at s.passive c t))) (λ ok now. try_refines s c t n on ok)
 step_makes s (Confirm c) on = confirm_makes s c (hand_at s c) on refl

@@ -1,27 +1,26 @@
 -- The events of passive and local references make steps of the model.
 use Rattle.std.proofs.Common.{◌≡◌, ℕ, ◌+◌, ◌-◌, ◌<◌, inl, inr, List, [], length, get_or, set, Option, Some, None, Bool, true, false, ◌&&◌, ◌||◌, ◌==◌, nat_lt, if◌then◌else◌, refl, sym, ap, subst, ◌∙◌}
 use Rattle.std.proofs.Common.{arith, ltb-true, get_or-set_same, get_or-set_other}
-use Rattle.std.proofs.lemmas.Bool.{and_parts, or_cases, eqb-true}
-use Rattle.protocol.specs.Types.{Entry, Change, Attach, Detach, Slot, Retired}
+use Rattle.std.proofs.lemmas.Bool.{and_parts, or_cases}
+use Rattle.protocol.specs.Types.{Entry, Slot, Retired}
 use Rattle.protocol.specs.Common.{Hand, Empty, Taking, Giving, Back, Trying, LocalPlace, Free, Standing, Lifted, Due, Rest, Snapshots, Adding, Subtracting, State, with_cell, found_at, hand_at, passive_at}
 use Rattle.protocol.specs.Common.{count_at, local_at, is_idle, is_number, may_add, after_add, may_sub, after_sub, may_count, after_count_add, least_id, with_local, after_split, after_hand}
 use Rattle.protocol.specs.Common.{after_count_down, after_collected, is_snapshot_due, after_snapshot, due_after, after_look, after_look_passive, may_collect, after_collect, after_total}
 use Rattle.protocol.specs.Common.{may_join_keeper, may_join, after_join_keeper, Holds, DueHolds, one_if, put, IsModelRun, Stays, passive_in, number_in, subtractions_due, locals_of, picture}
-use Rattle.protocol.specs.Common.{after_confirm, after_take_back, after_tried, after_try, may_confirm, may_try, is_detach, is_last_detach, cell, trying_at, trying_of, in_hand, EndsAt, IsIn}
-use Rattle.protocol.specs.History.{change_at}
+use Rattle.protocol.specs.Common.{after_confirm, after_take_back, after_taking, after_tried, after_try, has_live, may_confirm, may_try, cell, trying_at, trying_of, in_hand, IsIn}
 use Rattle.registry_values.specs.Common.{slot_at, slot_of, has_number}
 use Rattle.protocol.specs.Model
 use Rattle.protocol.proofs.slots.Cells.{cell_here, cell_other}
-use Rattle.protocol.proofs.slots.Occupied.{attached_in, one_in, slot_has, is_retired_tells, at_rest_tells}
+use Rattle.protocol.proofs.slots.Occupied.{one_in, slot_has, is_retired_tells, at_rest_tells}
 use Rattle.protocol.proofs.slots.Numbers.{slot_number}
-use Rattle.protocol.proofs.history.History.{at_within, one_end}
 use Rattle.protocol.proofs.keeps.SectionKeeps.{idle_tells}
 use Rattle.protocol.proofs.keeps.MarkKeeps.{cpus_fit, may_examine_tells}
 use Rattle.protocol.proofs.keeps.Passive.{found_number, shifted_back, shifted_try, trying_none, trying_one, trying_stays}
 use Rattle.protocol.proofs.keeps.References.{snapshot_due_tells, giving_holds, back_holds}
 use Rattle.protocol.proofs.counts.Sums.{one_at, none_at, standing_within, lifted_within, local_changed, hand_changed, local_added}
-use Rattle.protocol.proofs.model.Picturing.{Alike, no_step, one_step, put_is, put_twice}
-use Rattle.protocol.proofs.keeps.CountKeeps.{confirm_tells, hand_full, passive_place, trying_tells}
+use Rattle.protocol.proofs.model.Picturing.{Alike, join_runs, no_step, one_step, put_is, put_twice, widen_run}
+use Rattle.protocol.proofs.model.RefiningSections.{seeing_refines}
+use Rattle.protocol.proofs.keeps.CountKeeps.{confirm_tells, hand_full, live_tells, passive_place, taking_keeps, trying_tells}
 use Rattle.protocol.proofs.Either.{either}
 
 -- Passive references
@@ -145,15 +144,6 @@ take_back_refines s c t n on hand =
     let lt : c < length s.hands = omega (arith, told.0, on.shape.hands) in
     tried_refines s c t (passive_at s.passive c t - 1) (Trying t n) Empty lt hand (λ m. refl) (λ m. refl) (shifted_back s.passive s.hands c t n place.0 place.1 lt hand told.2)
 
--- what tells that the detach of n is the last change
-last_detach : (h : List Change) (n : ℕ) → is_last_detach h n ≡ true → EndsAt h n (length h)
-last_detach h n is = tells (change_at h (length h)) is
-  where
-    tells : (x : Option Change) → is_detach n x ≡ true → x ≡ Some (Detach n)
-    tells None test = absurd (let q : ◌≡◌ {A = Bool} false true = test in cc)
-    tells (Some (Attach e)) test = absurd (let q : ◌≡◌ {A = Bool} false true = test in cc)
-    tells (Some (Detach m)) test = ap (λ (k : ℕ). Some (Detach k)) (eqb-true m n test)
-
 -- what c is trying elsewhere is nothing, and stays so
 untried_beside : (s : State) (c t n : ℕ) (o : Option ℕ) → c < length s.hands → hand_at s c ≡ Trying t n → ((u : ℕ) → o ≡ Some u → u ≡ t → ⊥)
     → passive_in s.passive s.hands c o ≡ passive_in s.passive (set s.hands c Empty) c o
@@ -181,20 +171,16 @@ confirmed s c t n on hand is =
     (λ m off. untried_beside s c t n (slot_of s.slots m) lt hand (λ u at same. off (one_slot s.slots m n t is (at ∙ ap (λ (k : ℕ). Some k) same))))
     (λ j m off. passive_tries s.passive s.hands (set s.hands c Empty) j (slot_of s.slots m) (λ u. ap (trying_of u) (get_or-set_other s.hands c j Empty Empty off)))
 
-pub confirm_refines : (s : State) (c t n : ℕ) → Holds s → hand_at s c ≡ Trying t n → may_confirm s c t n (slot_at s.slots t) ≡ true → IsModelRun (Unit {0}) (picture s) (picture (after_confirm s c))
-confirm_refines s c t n on hand ok =
-    let is = confirm_tells s c t n (slot_at s.slots t) ok in
+taking_refines : (s : State) (c t n : ℕ) → Holds s → hand_at s c ≡ Trying t n → has_live n (slot_at s.slots t) ≡ true → IsModelRun (Unit {0}) (picture s) (picture (after_taking s c))
+taking_refines s c t n on hand ok =
+    let is = live_tells n (slot_at s.slots t) ok in
     let e : Entry = is.0 in
-    let in_ : IsIn e (slot_at s.slots t) = either is.2 (λ live. inl live) (λ gone. inr gone.0) in
-    let attached = (attached_in s.history s.slots t e on.slots in_).0 in
+    let in_ : IsIn e (slot_at s.slots t) = inl is.2 in
     let of : slot_of s.slots e.number ≡ Some t = slot_number s.history s.slots e t on.slots in_ in
     let same : Trying t n ≡ Trying t e.number = ap (λ (k : ℕ). Trying t k) (sym is.1) in
     let told = trying_tells s c t n on hand in
-    let occupant : number_in (slot_at s.slots t) ≡ Some e.number = either in_ (λ live. ap number_in live) (λ gone. ap number_in gone) in
-    one_step (picture s) _ (picture (after_confirm s c)) (Model.Takes c t e attached occupant
-    (λ p ends. either is.2
-    (λ live. absurd (omega (arith, (on.slots.live t e live).0.unended p ends, (at_within s.history p (Detach e.number) ends).1)))
-    (λ gone. one_end s.history on.legal e.number p (length s.history) ends (subst (λ (k : ℕ). EndsAt s.history k (length s.history)) (sym is.1) (last_detach s.history n gone.1)))) tt) (record {
+    let occupant : number_in (slot_at s.slots t) ≡ Some e.number = ap number_in is.2 in
+    one_step (picture s) _ (picture (after_taking s c)) (Model.Takes c t e (on.slots.live t e is.2).0 occupant tt) (record {
       history = refl;
       sections = λ j. refl;
       passes = λ j. refl;
@@ -205,6 +191,14 @@ confirm_refines s c t n on hand ok =
       occupants = λ u. refl;
       keeps = λ u. refl;
     })
+
+-- what was tried is a reference, and then the pass grows
+pub confirm_refines : (s : State) (c t n : ℕ) → Holds s → hand_at s c ≡ Trying t n → may_confirm s c n (slot_at s.slots t) ≡ true → IsModelRun (Unit {0}) (picture s) (picture (after_confirm s c))
+confirm_refines s c t n on hand ok =
+    let live = (confirm_tells s c n (slot_at s.slots t) ok).1 in
+    join_runs (picture s) (picture (after_taking s c)) (picture (after_confirm s c)) (taking_refines s c t n on hand live)
+    (widen_run (λ none. absurd none) (picture (after_taking s c)) (picture (after_confirm s c))
+    (seeing_refines (after_taking s c) c (taking_keeps s c t n on hand live) (trying_tells s c t n on hand).0))
 
 -- Local references
 

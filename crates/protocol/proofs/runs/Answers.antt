@@ -6,7 +6,7 @@ use Rattle.protocol.specs.Common.{Event, Seek, Reply, Found, Missed, Search, IsL
 use Rattle.protocol.specs.Common.{HasBegun, AnswersLawfully, LawfulAnswers}
 use Rattle.protocol.proofs.slots.Occupied.{written_cases}
 use Rattle.protocol.proofs.keeps.SearchKeeps.{IsAnswer}
-use Rattle.protocol.proofs.runs.Steps.{IsOn, Sort, Refused, Left, Entered, Sought, Heard, Peeked, Searched, Published, Unpublished, step_sort}
+use Rattle.protocol.proofs.runs.Steps.{IsOn, Sort, Refused, Left, Entered, Sought, Heard, Recalled, Searched, Published, Unpublished, step_sort}
 use Rattle.protocol.proofs.runs.Reuse.{every_run_keeps}
 use Rattle.protocol.proofs.Either.{either}
 
@@ -85,7 +85,7 @@ passes : (s : State) (e : Event) (o : Option Outcome) (c : ℕ) → Holds s → 
 passes s _ _ c on (Left e o same) = pass_same s o.state c same.seen
 passes s _ _ c on (Entered j may) = pass_sees s c j on
 passes s _ _ c on (Heard j may) = pass_sees s c j on
-passes s _ _ c on (Peeked j v w may) = pass_sees s c j on
+passes s _ _ c on (Recalled e j w hands found none) = pass_sees s c j on
 passes s _ _ c on (Searched e j q o of under loads answers) = either loads.seen
     (λ same. pass_same s o.state c same)
     (λ sees. subst (λ (xs : List ℕ). seen_at s c ≤ get_or xs c 0) (sym sees) (pass_sees s c j on))

@@ -1,24 +1,26 @@
 -- Fresh lookups: a search goes on from the history as it was at its Seek, whatever other events come between.
-use Rattle.std.proofs.Common.{◌≡◌, ℕ, zero, suc, ◌<◌, ◌≤◌, ◌⊎◌, inl, inr, List, [], ◌∷◌, ◌++◌, length, get_or, set, Option, Some, None, Bool, true, false, refl, sym, ap, subst, ◌∙◌, arith, get_or-set_other, nat_lt}
+use Rattle.std.proofs.Common.{◌≡◌, ℕ, zero, suc, ◌<◌, ◌≤◌, ◌⊎◌, inl, inr, List, [], ◌∷◌, ◌++◌, length, get_or, set, Option, Some, None, Bool, true, false, refl, sym, ap, subst, ◌∙◌, arith, get_or-set_other}
 use Rattle.std.proofs.Common.{get_or-set_same, IsSome, append_assoc}
-use Rattle.std.proofs.lemmas.Bool.{and_parts, cases_eq, ltb-true}
+use Rattle.std.proofs.lemmas.Bool.{and_parts, cases_eq}
 use Rattle.std.proofs.lemmas.List.{append-nil}
 use Rattle.std.proofs.lemmas.Option.{none-some, same_Some}
-use Rattle.protocol.specs.Types.{Entry, Change, Attach, Detach, Key}
+use Rattle.protocol.specs.Types.{Entry, Change, Attach, Detach, Key, Slot, Live}
+use Rattle.protocol.specs.Common.{Leads, To_end, To_entry, IsNewestAt, RecallsNewest, NewestRecalls, Refind, after_refind, found_at, may_recall_head, may_refind, refind}
 use Rattle.protocol.specs.Common.{Event, Seek, Reply, Done, Word, Found, Missed, Search, SearchPlace, AtHead, AtNumber, Loaded, On, Over}
 use Rattle.protocol.specs.Common.{EndsAt, IsLiveAt, IsLawful, IsLegal, IsLookup, State, opening, seen_at, search_at, begin_at, Outcome, step, state_after, guard, is_idle, is_inside}
-use Rattle.protocol.specs.Common.{may_enter, may_seek, may_peek, shared_word, after_seek, after_enter, after_seeing, after_change, with_some, link_at, link_loaded, load_link, load_searched, outcome_of, some_outcome}
+use Rattle.protocol.specs.Common.{may_enter, may_seek, may_recall, may_confirm, confirm, is_honest, has_live, live_at, hand_at, Hand, Trying, IsAttached, after_confirm, after_seek, after_enter, after_seeing, after_change, with_some, link_at, link_loaded, load_link, load_searched, outcome_of, some_outcome}
 use Rattle.protocol.specs.Common.{Holds, PlaceHolds, after, after_event, IsAllowed, IsLoadOf, answer_of, loaded_at, row_of_place}
 use Rattle.protocol.specs.History.{change_at}
-use Rattle.registry_values.specs.Common.{key_of}
-use Rattle.protocol.specs.Common.{seek_for, IsNoSeek, SeeksNone, AnswersFreshly, SeesAll, FreshAnswers, WholePasses}
-use Rattle.protocol.proofs.history.History.{at_within, at_prefix, one_live, length-after_change}
+use Rattle.registry_values.specs.Common.{key_of, slot_at}
+use Rattle.protocol.specs.Common.{seek_for, IsNoSeek, SeeksNone, AnswersFreshly, SeesAll, RecallsLive, FreshAnswers, WholePasses, LiveRecalls}
+use Rattle.protocol.proofs.history.History.{at_within, at_prefix, one_entry, one_live, length-after_change}
 use Rattle.protocol.proofs.history.Growing.{place_old}
 use Rattle.protocol.proofs.keeps.Keeping.{step_keeps, after_keeps}
-use Rattle.protocol.proofs.keeps.SectionKeeps.{idle_parts, none_from, some_from}
+use Rattle.protocol.proofs.keeps.SectionKeeps.{idle_parts, recall_head_tells, recall_tells, refind_tells, some_from}
+use Rattle.protocol.proofs.keeps.CountKeeps.{confirm_tells, live_tells, trying_tells}
 use Rattle.protocol.proofs.keeps.Searching.{Walks, Steps, IsStep, load_link_steps, load_searched_steps, weight, placed, within_some, seen_now, searching_within}
 use Rattle.protocol.proofs.runs.Answers.{history_grows}
-use Rattle.protocol.proofs.runs.Steps.{Sort, Refused, Left, Entered, Exited, Sought, Heard, Peeked, Searched, Published, Unpublished, IsOn, step_sort, after_more}
+use Rattle.protocol.proofs.runs.Steps.{Sort, Refused, Left, Entered, Exited, Sought, Heard, Recalled, Searched, Published, Unpublished, IsOn, step_sort, after_more}
 use Rattle.protocol.proofs.runs.Reuse.{every_run_keeps}
 use Rattle.protocol.proofs.Either.{either}
 
@@ -154,8 +156,8 @@ goes_on s c from key _ _ on off_seek going (Sought j kind name may) made = eithe
 goes_on s c from key _ _ on off_seek going (Heard j may) made = either (cases_eq c j)
     (λ same. going_none _ c from key (ap (search_at s) same ∙ (idle_parts s j may).1))
     (λ off. going_same s _ c from key refl refl (get_or-set_other s.seen j c _ 0 off) refl going)
-goes_on s c from key _ _ on off_seek going (Peeked j v w may) made = either (cases_eq c j)
-    (λ same. going_none _ c from key (ap (search_at s) same ∙ none_from (search_at s j) (and_parts (nat_lt j s.seated) _ may).1))
+goes_on s c from key _ _ on off_seek going (Recalled e j w hands found none) made = either (cases_eq c j)
+    (λ same. going_none _ c from key (ap (search_at s) same ∙ none))
     (λ off. going_same s _ c from key refl refl (get_or-set_other s.seen j c _ 0 off) refl going)
 goes_on s c from key _ _ on off_seek going (Searched e j q o of under loads answers) made = either (cases_eq c j)
     (λ same.
@@ -280,11 +282,32 @@ answers_freshly s on c key since event o answer allowed none of made reply =
       left = λ e p end found. left_as s.history o.state.history more (seen_at o.state c) key answer e p grown lawful lawful.answered end found;
     }
 
--- a load of a lookup by loads
-peeked_state : (s n : State) (o : Option ℕ) (b : Bool) → IsSome (with_some o (λ v. guard b (some_outcome n (Word v)))) → (b ≡ true) × (state_after s (with_some o (λ v. guard b (some_outcome n (Word v)))) ≡ n)
-peeked_state s n None b is = absurd (let q : ◌≡◌ {A = Bool} false true = is in cc)
-peeked_state s n (Some v) true is = (refl, refl)
-peeked_state s n (Some v) false is = absurd (let q : ◌≡◌ {A = Bool} false true = is in cc)
+-- an allowed Confirm: the hand is trying an entry that is live
+record Confirms (s : State) (c : ℕ) (h : Hand) : Type 0 where
+  slot : ℕ
+  number : ℕ
+  hand : h ≡ Trying slot number
+  may : may_confirm s c number (slot_at s.slots slot) ≡ true
+  state : state_after s (confirm s c h) ≡ after_confirm s c
+
+confirms : (s : State) (c : ℕ) (h : Hand) → IsSome (confirm s c h) → Confirms s c h
+confirms s c (Trying t n) allowed =
+    let may : may_confirm s c n (slot_at s.slots t) ≡ true = allowed_guard (may_confirm s c n (slot_at s.slots t)) _ allowed in
+    record { slot = t; number = n; hand = refl; may = may; state = guarded s (after_confirm s c) (may_confirm s c n (slot_at s.slots t)) (Word (live_at s.lives t)) may }
+confirms s c _ allowed = absurd (let q : ◌≡◌ {A = Bool} false true = allowed in cc)
+
+-- an allowed Refind: the slot has a live entry
+record Refinds (s : State) (c t n : ℕ) (x : Slot) : Type 0 where
+  entry : Entry
+  live : x ≡ Live entry
+  may : may_refind s c t n entry ≡ true
+  state : state_after s (refind s c t n x) ≡ after_refind s c entry
+
+refinds : (s : State) (c t n : ℕ) (x : Slot) → IsSome (refind s c t n x) → Refinds s c t n x
+refinds s c t n (Live e) allowed =
+    let may : may_refind s c t n e ≡ true = allowed_guard (may_refind s c t n e) _ allowed in
+    record { entry = e; live = refl; may = may; state = guarded s (after_refind s c e) (may_refind s c t n e) (Word (live_at s.lives t)) may }
+refinds s c t n _ allowed = absurd (let q : ◌≡◌ {A = Bool} false true = allowed in cc)
 
 pub sees_all : (s : State) → Holds s → SeesAll s
 sees_all s on = record {
@@ -298,14 +321,98 @@ sees_all s on = record {
       let seated = (idle_parts s c may).0 in
       ap (λ (n : State). seen_at n c) (guarded s (after_seeing s c) (is_idle s c) Done may)
       ∙ get_or-set_same s.seen c (length s.history) 0 (omega (arith, seated, on.shape.seen, on.seats.within));
-  peeked = λ c w allowed.
-      let made = peeked_state s (after_seeing s c) (shared_word s w) (may_peek s c) allowed in
-      let seated : c < s.seated = ltb-true c s.seated (and_parts (nat_lt c s.seated) _ made.0).0 in
-      ap (λ (n : State). seen_at n c) made.1 ∙ get_or-set_same s.seen c (length s.history) 0 (omega (arith, seated, on.shape.seen, on.seats.within));
+  recalled = λ c t allowed.
+      let may : may_recall s c t ≡ true = allowed_guard (may_recall s c t) _ allowed in
+      let seated = (recall_tells s c t may).0 in
+      ap (λ (n : State). seen_at n c) (guarded s (after_seeing s c) (may_recall s c t) (Word (live_at s.lives t)) may)
+      ∙ get_or-set_same s.seen c (length s.history) 0 (omega (arith, seated, on.shape.seen, on.seats.within));
+  headed = λ c allowed.
+      let may : may_recall_head s c ≡ true = allowed_guard (may_recall_head s c) _ allowed in
+      let seated = (recall_head_tells s c may).0 in
+      ap (λ (n : State). seen_at n c) (guarded s (after_seeing s c) (may_recall_head s c) (Word s.head) may)
+      ∙ get_or-set_same s.seen c (length s.history) 0 (omega (arith, seated, on.shape.seen, on.seats.within));
+  refound = λ c t n allowed.
+      let made = refinds s c t n (slot_at s.slots t) allowed in
+      let seated = (refind_tells s c t n made.entry made.may).0 in
+      ap (λ (n : State). seen_at n c) made.state ∙ get_or-set_same s.seen c (length s.history) 0 (omega (arith, seated, on.shape.seen, on.seats.within));
+  confirmed = λ c allowed.
+      let made = confirms s c (hand_at s c) allowed in
+      let low = (trying_tells s c made.slot made.number on made.hand).0 in
+      ap (λ (n : State). seen_at n c) made.state ∙ get_or-set_same s.seen c (length s.history) 0 (omega (arith, low, on.shape.seen));
 }
+
+-- the entry of the history with the number of the slot's live entry is that one
+pub live_is : (s : State) (t n : ℕ) (e : Entry) → Holds s → has_live n (slot_at s.slots t) ≡ true → IsAttached s.history e → e.number ≡ n → IsLiveAt s.history (length s.history) e × (e.slot ≡ t)
+live_is s t n e on test attached number =
+    let is = live_tells n (slot_at s.slots t) test in
+    let shown = on.slots.live t is.0 is.2 in
+    let same : is.0 ≡ e = one_entry s.history is.0 e shown.0.attached attached (is.1 ∙ sym number) in
+    subst (λ (f : Entry). IsLiveAt s.history (length s.history) f × (f.slot ≡ t)) same shown
+
+pub honest_tells : (n : ℕ) (x : Slot) → 0 < n → is_honest n x ≡ true → has_live n x ≡ true
+honest_tells zero x some test = absurd (omega arith)
+honest_tells (suc n) x some test = test
+
+trying_slot : (t n u m : ℕ) → Trying t n ≡ Trying u m → t ≡ u
+trying_slot t n u m same = cc
+
+trying_number : (t n u m : ℕ) → Trying t n ≡ Trying u m → n ≡ m
+trying_number t n u m same = cc
+
+pub recalls_live : (s : State) → Holds s → RecallsLive s
+recalls_live s on = record {
+  recalled = λ c t e allowed attached number.
+      let may : may_recall s c t ≡ true = allowed_guard (may_recall s c t) _ allowed in
+      let some : 0 < live_at s.lives t = let within = at_within s.history e.number (Attach e) attached in omega (arith, within.0, number) in
+      live_is s t (live_at s.lives t) e on (honest_tells (live_at s.lives t) (slot_at s.slots t) some (recall_tells s c t may).3) attached number;
+  confirmed = λ c t e hand allowed attached.
+      let made = confirms s c (hand_at s c) allowed in
+      let same : Trying made.slot made.number ≡ Trying t e.number = sym made.hand ∙ hand in
+      let slot : made.slot ≡ t = trying_slot made.slot made.number t e.number same in
+      let number : made.number ≡ e.number = trying_number made.slot made.number t e.number same in
+      let found = live_is s made.slot made.number e on (confirm_tells s c made.number (slot_at s.slots made.slot) made.may).1 attached (sym number) in
+      (found.0, found.1 ∙ slot);
+  refound = λ c t e allowed attached.
+      let made = refinds s c t e.number (slot_at s.slots t) allowed in
+      let told = refind_tells s c t e.number made.entry made.may in
+      let shown = on.slots.live t made.entry made.live in
+      let same : made.entry ≡ e = one_entry s.history made.entry e shown.0.attached attached told.3 in
+      let lt = told.0 in
+      let found : found_at (after_refind s c made.entry) c ≡ Some made.entry =
+      get_or-set_same s.found c (Some made.entry) None (omega (arith, lt, on.shape.found, on.seats.within)) in
+      let now : found_at (after_event s (Refind c t e.number)) c ≡ Some made.entry = ap (λ (n : State). found_at n c) made.state ∙ found in
+      subst (λ (f : Entry). IsLiveAt s.history (length s.history) f × (f.slot ≡ t) × (found_at (after_event s (Refind c t e.number)) c ≡ Some f)) same (shown.0, shown.1, now);
+}
+
+-- the head leads to the newest live entry
+pub head_newest : (h : List Change) (w : ℕ) → Leads h (length h) (suc (length h)) w → IsNewestAt h w
+head_newest h _ (To_end all) = record {
+  none = λ _ e live. all e live (omega (arith, live.begun));
+  newest = λ t is. absurd (let q : ◌≡◌ {A = ℕ} 0 (suc t) = is in omega (arith, q));
+}
+head_newest h _ (To_entry e live below above) = record {
+  none = λ is. absurd (let q : ◌≡◌ {A = ℕ} (suc e.slot) 0 = is in omega (arith, q));
+  newest = λ t is. (e, live, omega (arith, is), λ f at. above f at (omega (arith, at.begun)));
+}
+
+-- only one word is replied
+pub one_word : (b : Bool) (s n : State) (m w : ℕ) → guard b (some_outcome s (Word m)) ≡ Some (record { state = n; reply = Word w }) → m ≡ w
+one_word true s n m w is = let same : ◌≡◌ {A = Outcome} (record { state = s; reply = Word m }) (record { state = n; reply = Word w }) = same_Some _ _ is in
+    let words : Word m ≡ Word w = ap (λ (x : Outcome). x.reply) same in
+    (let number : m ≡ w = cc in number)
+one_word false s n m w is = absurd (none-some _ is)
+
+pub recalls_newest : (s : State) → Holds s → RecallsNewest s
+recalls_newest s on c w n made = subst (IsNewestAt s.history) (one_word (may_recall_head s c) (after_seeing s c) n s.head w made) (head_newest s.history s.head on.list.first)
 
 pub fresh_answers : FreshAnswers
 fresh_answers z events fit = answers_freshly (after (opening z) events) (every_run_keeps z events fit)
 
 pub whole_passes : WholePasses
 whole_passes z events fit = sees_all (after (opening z) events) (every_run_keeps z events fit)
+
+pub live_recalls : LiveRecalls
+live_recalls z events fit = recalls_live (after (opening z) events) (every_run_keeps z events fit)
+
+pub newest_recalls : NewestRecalls
+newest_recalls z events fit = recalls_newest (after (opening z) events) (every_run_keeps z events fit)

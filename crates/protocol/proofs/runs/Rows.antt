@@ -3,7 +3,6 @@ use Rattle.std.proofs.Common.{refl, ◌++◌, ◌∷◌, [], Some}
 use Rattle.protocol.specs.Common.{Found, opening, FrozenLink, CollectRace, TryRace, Gives, two_cpus, attaches, done_replies, loads, try_replies, first, all_three, search_begins, wm0, wm1, wm2, search_case}
 use Rattle.protocol.specs.Common.{detaches, unlinked_case, search_goes_on, has_found}
 use Rattle.registry_values.specs.Names.{are_name_words}
-use Rattle.protocol.specs.History.{change_at}
 
 attached : Gives (opening two_cpus) attaches (done_replies 35) all_three
 unfolding are_name_words
@@ -26,5 +25,5 @@ unfolding are_name_words
 collect_race = record { detached = refl; race = refl; counted = refl }
 
 pub try_race : TryRace
-unfolding are_name_words change_at
-try_race = record { tries = refl; tried = refl; confirmed = refl; detached = refl; detached_before = refl; freed = refl; given = refl }
+unfolding are_name_words
+try_race = record { tries = refl; tried = refl; confirmed = refl; detached = refl; headed = refl; refound = refl; unhidden = refl; freed = refl; given = refl }

@@ -4,7 +4,7 @@ use Rattle.protocol.proofs.keeps.Keeping.{ran_keeps}
 use Rattle.protocol.proofs.runs.Headline.{is_safe}
 use Rattle.protocol.proofs.runs.Drivers.{reuses_safely, outlive_interfaces}
 use Rattle.protocol.proofs.runs.Answers.{answers_lawfully}
-use Rattle.protocol.proofs.runs.Fresh.{answers_freshly, sees_all}
+use Rattle.protocol.proofs.runs.Fresh.{answers_freshly, sees_all, recalls_live, recalls_newest}
 use Rattle.protocol.proofs.runs.Balance.{balances_at_rest}
 use Rattle.protocol.proofs.runs.Grace.{ends_by_exit}
 use Rattle.protocol.proofs.model.Refining.{ran_refines}
@@ -17,6 +17,8 @@ obeys_laws s on = record {
   answers = answers_lawfully s on;
   fresh = answers_freshly s on;
   whole = sees_all s on;
+  live = recalls_live s on;
+  newest = recalls_newest s on;
   balance = λ rest. balances_at_rest s on rest;
   grace = ends_by_exit s on;
   keeps = λ later. ran_keeps (empty_run s) later on;

@@ -3,15 +3,17 @@ use Rattle.std.proofs.Common.{◌≡◌, ℕ, zero, suc, ◌⊎◌, inl, inr, Li
 use Rattle.std.proofs.lemmas.Bool.{and_parts}
 use Rattle.protocol.specs.Types.{Kind, Entry, Detach, Name, Slot, Live, Retired}
 use Rattle.protocol.specs.Common.{Event, Seat, Enter, Exit, Seek, LoadLink, LoadRecord, StoreSlot, StoreNext, Publish, Unpublish, Tell, Hear, Snapshot, Look, PassiveAdd, PassiveSub, PassiveLook}
-use Rattle.protocol.specs.Common.{CountAdd, SplitRef, JoinRef, CountDown, SplitBack, Collect, TotalAdd, JoinKeeper, TotalSub, Keep, KeptSub, Vacate, Count, Peek, Try, Confirm, TakeBack, RecordOf, SharedWord, Reply, Done, Word, Hand, Taking, Giving, Back, Trying}
+use Rattle.protocol.specs.Common.{CountAdd, SplitRef, JoinRef, CountDown, SplitBack, Collect, TotalAdd, JoinKeeper, TotalSub, Keep, KeptSub, Vacate, Show, Hide, Recall, RecallHead, Refind, Try, Confirm, TakeBack, RecordOf, Reply, Done, Word, Hand, Empty, Taking, Giving, Back, Trying}
 use Rattle.protocol.specs.Common.{Due, Adding, Subtracting, Loaded, On, Over, SearchPlace, AtNumber, Search, after_change, State, search_at, found_at, hand_at, row_at, count_at, kept_at, local_at}
 use Rattle.protocol.specs.Common.{loaded_at, row_of_place, Outcome, guard, some_outcome, with_some, step, state_after, is_idle, may_enter, after_enter, may_exit, after_exit, may_seek, after_seek}
 use Rattle.protocol.specs.Common.{after_seeing, link_loaded, entry_of, may_publish, after_publish, with_link_past, with_retired, after_unpublish, may_keep, after_keep, is_drained, after_kept_sub}
-use Rattle.protocol.specs.Common.{may_peek, may_vacate, after_vacate, Holds, Run, run_of_events, empty_run, run_with_event, after, after_event, answer_of, IsLoadOf}
+use Rattle.protocol.specs.Common.{live_at, may_vacate, after_vacate, Holds, Run, run_of_events, empty_run, run_with_event, after, after_event, answer_of, IsLoadOf}
 use Rattle.protocol.specs.declared.event.RecordOf.TheVariants.{Search as OfSearch, Passive as OfPassive, Local as OfLocal, Compared as OfCompared}
 use Rattle.registry_values.specs.Common.{slot_at, slot_of, slot_before}
 use Rattle.protocol.specs.Events
 use Rattle.protocol.proofs.keeps.SearchKeeps.{AnswersLookup, link_answers, record_answers}
+use Rattle.protocol.proofs.keeps.SectionKeeps.{recall_head_tells, recall_tells, refind_tells}
+use Rattle.protocol.proofs.keeps.CountKeeps.{confirm_tells}
 
 -- all of them stay, and the reply is no answer
 pub record Leaves (s : State) (o : Outcome) : Type 0 where
@@ -56,7 +58,8 @@ pub data Sort (s : State) : Event → Option Outcome → Type 0 where
   Exited : (c : ℕ) → may_exit s c ≡ true → Sort s (Exit c) (some_outcome (after_exit s c) Done)
   Sought : (c : ℕ) (kind : Kind) (name : Name) → may_seek s c ≡ true → Sort s (Seek c kind name) (some_outcome (after_seek s c (record { kind = kind; name = name })) Done)
   Heard : (c : ℕ) → is_idle s c ≡ true → Sort s (Hear (Some c)) (some_outcome (after_seeing s c) Done)
-  Peeked : (c v : ℕ) (w : SharedWord) → may_peek s c ≡ true → Sort s (Peek c w) (some_outcome (after_seeing s c) (Word v))
+  -- a load by the CPU c, which has no search: beside its pass only its hand and its last found entry change
+  Recalled : (e : Event) (c w : ℕ) (hands : List Hand) (found : List (Option Entry)) → search_at s c ≡ None → Sort s e (some_outcome (record (after_seeing s c) { hands = hands; found = found }) (Word w))
   Searched : (e : Event) (c : ℕ) (q : Search) (o : Outcome) → IsLoadOf c e → search_at s c ≡ Some q → Loads s c q o.state → AnswersLookup c q (Some o) → Sort s e (Some o)
   Published : (t : ℕ) (e : Entry) → entry_of t (row_at s.rows t) ≡ Some e → may_publish s t e ≡ true → Sort s (Publish t) (some_outcome (after_publish s t e) Done)
   Unpublished : (t : ℕ) (e : Entry) (n : State) → slot_at s.slots t ≡ Live e → Retires s t e n → Sort s (Unpublish t) (some_outcome n Done)
@@ -185,9 +188,20 @@ total_sub_sort s t (Subtracting u) =
     sort_guard s (TotalSub t) _ _ (λ may. left s _ (TotalSub t) Done (record { history = refl; slots = refl; keeps = refl; section = refl; begins = refl; seen = refl; searches = refl; reply = refl }))
 total_sub_sort s t _ = Refused (TotalSub t)
 
-confirm_sort : (s : State) (c : ℕ) (h : Hand) → Sort s (Confirm c) (Events.confirm s c h)
-confirm_sort s c (Trying t n) = sort_guard s (Confirm c) _ _ (λ may. left s _ (Confirm c) _ (record { history = refl; slots = refl; keeps = refl; section = refl; begins = refl; seen = refl; searches = refl; reply = refl }))
-confirm_sort s c _ = Refused (Confirm c)
+confirm_sort : (s : State) (c : ℕ) (h : Hand) → hand_at s c ≡ h → Sort s (Confirm c) (Events.confirm s c h)
+confirm_sort s c (Trying t n) hand =
+    sort_guard s (Confirm c) _ _ (λ may. Recalled (Confirm c) c (live_at s.lives t) (set s.hands c Empty) s.found (confirm_tells s c n (slot_at s.slots t) may).0)
+confirm_sort s c _ hand = Refused (Confirm c)
+
+refind_sort : (s : State) (c t n : ℕ) (x : Slot) → Sort s (Refind c t n) (Events.refind s c t n x)
+refind_sort s c t n (Live e) =
+    sort_guard s (Refind c t n) _ _ (λ may. Recalled (Refind c t n) c (live_at s.lives t) s.hands (set s.found c (Some e)) (refind_tells s c t n e may).1)
+refind_sort s c t n _ = Refused (Refind c t n)
+
+show_sort : (s : State) (t : ℕ) (x : Slot) → Sort s (Show t) (Events.show s t x)
+show_sort s t (Live e) =
+    sort_guard s (Show t) _ _ (λ may. left s _ (Show t) Done (record { history = refl; slots = refl; keeps = refl; section = refl; begins = refl; seen = refl; searches = refl; reply = refl }))
+show_sort s t _ = Refused (Show t)
 
 take_back_sort : (s : State) (c : ℕ) (h : Hand) → Sort s (TakeBack c) (Events.take_back s c h)
 take_back_sort s c (Trying t n) = left s _ (TakeBack c) _ (record { history = refl; slots = refl; keeps = refl; section = refl; begins = refl; seen = refl; searches = refl; reply = refl })
@@ -242,11 +256,14 @@ step_sort s (Keep t id) on =
 step_sort s (KeptSub t) on = sort_some s (KeptSub t) (kept_at s.keeps t) _
     (λ d is. sort_some s (KeptSub t) (slot_of s.slots d) _ (λ u of. sort_guard s (KeptSub t) _ _ (λ may. Gave_up t d u is of (and_parts _ (is_drained s t) may).1)))
 step_sort s (Vacate t) on = sort_guard s (Vacate t) _ _ (λ may. Vacated t may)
-step_sort s Count on =
-    sort_guard s Count _ _ (λ may. left s _ Count Done (record { history = refl; slots = refl; keeps = refl; section = refl; begins = refl; seen = refl; searches = refl; reply = refl }))
-step_sort s (Peek c w) on = sort_some s (Peek c w) (Events.shared_word s w) _ (λ v is. sort_guard s (Peek c w) _ _ (λ may. Peeked c v w may))
+step_sort s (Show t) on = show_sort s t (slot_at s.slots t)
+step_sort s (Hide t) on =
+    sort_guard s (Hide t) _ _ (λ may. left s _ (Hide t) Done (record { history = refl; slots = refl; keeps = refl; section = refl; begins = refl; seen = refl; searches = refl; reply = refl }))
+step_sort s (Recall c t) on = sort_guard s (Recall c t) _ _ (λ may. Recalled (Recall c t) c (live_at s.lives t) s.hands s.found (recall_tells s c t may).1)
+step_sort s (RecallHead c) on = sort_guard s (RecallHead c) _ _ (λ may. Recalled (RecallHead c) c s.head s.hands s.found (recall_head_tells s c may).1)
+step_sort s (Refind c t n) on = refind_sort s c t n (slot_at s.slots t)
 step_sort s (Try c t n) on = sort_guard s (Try c t n) _ _ (λ may. left s _ (Try c t n) _ (record { history = refl; slots = refl; keeps = refl; section = refl; begins = refl; seen = refl; searches = refl; reply = refl }))
-step_sort s (Confirm c) on = confirm_sort s c (hand_at s c)
+step_sort s (Confirm c) on = confirm_sort s c (hand_at s c) refl
 step_sort s (TakeBack c) on = take_back_sort s c (hand_at s c)
 
 -- Runs

@@ -2,7 +2,7 @@
 use Rattle.std.proofs.Common.{◌≡◌, ℕ, zero, suc, inl, inr, List, [], ◌∷◌, set, Option, Some, None, Bool, true, false, ◌==◌, nat_lt, if◌then◌else◌, refl, ap, ◌∙◌}
 use Rattle.protocol.specs.Types.{Entry, Slot, Live}
 use Rattle.protocol.specs.Common.{Event, Seat, Enter, Exit, Seek, LoadLink, LoadRecord, StoreSlot, StoreNext, Publish, Unpublish, Tell, Hear, Snapshot, Look, PassiveAdd, PassiveSub, PassiveLook}
-use Rattle.protocol.specs.Common.{CountAdd, SplitRef, JoinRef, CountDown, SplitBack, Collect, TotalAdd, JoinKeeper, TotalSub, Keep, KeptSub, Vacate, Count, Peek, Try, Confirm, TakeBack, RecordOf}
+use Rattle.protocol.specs.Common.{CountAdd, SplitRef, JoinRef, CountDown, SplitBack, Collect, TotalAdd, JoinKeeper, TotalSub, Keep, KeptSub, Vacate, Show, Hide, Recall, RecallHead, Refind, Try, Confirm, TakeBack, RecordOf}
 use Rattle.protocol.specs.Common.{Hand, Empty, Taking, Giving, Back, Trying, Due, Adding, Subtracting, Loaded, On, Over, Search, State, hand_at, opening, trying_at, trying_of, Outcome, guard, some_outcome, with_some, step, Reply}
 use Rattle.protocol.specs.Common.{count_at, found_at, kept_at, local_at, row_at, search_at, loaded_at, number_standing, row_of_place}
 use Rattle.protocol.specs.Common.{Run, run_of_events, run_with_event, empty_run, with_link_past, with_retired, link_loaded, IsTry, HasTry, UntriedRuns}
@@ -106,6 +106,14 @@ confirm_untried : (s : State) (c : ℕ) (h : Hand) → Untried s.hands → Leave
 confirm_untried s c (Trying t n) un = untried_guard _ _ _ (untried_hand s.hands c Empty (λ u. refl) un)
 confirm_untried s c _ un = Refused
 
+show_untried : (s : State) (t : ℕ) (x : Slot) → Untried s.hands → LeavesUntried (Events.show s t x)
+show_untried s t (Live e) un = untried_guard _ _ _ un
+show_untried s t _ un = Refused
+
+refind_untried : (s : State) (c t n : ℕ) (x : Slot) → Untried s.hands → LeavesUntried (Events.refind s c t n x)
+refind_untried s c t n (Live e) un = untried_guard _ _ _ un
+refind_untried s c t n _ un = Refused
+
 take_back_untried : (s : State) (c : ℕ) (h : Hand) → Untried s.hands → LeavesUntried (Events.take_back s c h)
 take_back_untried s c (Trying t n) un = untried_one _ _ (untried_hand s.hands c Empty (λ u. refl) un)
 take_back_untried s c _ un = Refused
@@ -142,8 +150,11 @@ step_untried s (TotalSub t) none un = total_sub_untried s t s.due un
 step_untried s (Keep t id) none un = untried_some (number_standing (local_at s.locals id)) _ (λ n. untried_some (slot_of s.slots n) _ (λ u. untried_guard _ _ _ un))
 step_untried s (KeptSub t) none un = untried_some (kept_at s.keeps t) _ (λ d. untried_some (slot_of s.slots d) _ (λ u. untried_guard _ _ _ un))
 step_untried s (Vacate t) none un = untried_guard _ _ _ un
-step_untried s Count none un = untried_guard _ _ _ un
-step_untried s (Peek c w) none un = untried_some (Events.shared_word s w) _ (λ v. untried_guard _ _ _ un)
+step_untried s (Show t) none un = show_untried s t (slot_at s.slots t) un
+step_untried s (Hide t) none un = untried_guard _ _ _ un
+step_untried s (Recall c t) none un = untried_guard _ _ _ un
+step_untried s (RecallHead c) none un = untried_guard _ _ _ un
+step_untried s (Refind c t n) none un = refind_untried s c t n (slot_at s.slots t) un
 step_untried s (Try c t n) none un = absurd (none tt)
 step_untried s (Confirm c) none un = confirm_untried s c (hand_at s c) un
 step_untried s (TakeBack c) none un = take_back_untried s c (hand_at s c) un

@@ -1,3 +1,4 @@
+-- `advance_for`: what it returns.
 use Rattle.std.proofs.Common.{subst}
 use Rattle.passive_list.specs.Common.{OnPlainCpu, OnPlainKeeper}
 use Rattle.c_calls.specs.KeeperCalls.{AdvancesFor}

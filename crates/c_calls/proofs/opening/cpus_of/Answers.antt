@@ -1,3 +1,5 @@
+-- `cpus_of`: what it returns; what `of_seat` and `of` require; that each turn of its loop keeps the invariants; that nothing overflows.
+use Rattle.passive_list.specs.Common.{no_memory}
 use Rattle.std.proofs.Common.{◌≡◌, ◌∙◌, ◌+◌, ◌-◌, ◌<◌, ◌∷◌, [], length, length-append, ap, arith, rules, subst, sym, IsTrue}
 use Rattle.c_calls.specs.Types.{Settings, CpuView}
 use Rattle.registry_values.specs.Common.{are_fit}
@@ -60,6 +62,7 @@ loop-seat-preserved c =
       view = (ap (λ (s : Seated CpuView). s.view) taken.last) i;
       depth = 0;
       made = 0;
+      memory = no_memory;
       known_log = ap (λ (s : Seated CpuView). s.known_log) taken.last i;
       log = ap (λ (s : Seated CpuView). s.log) taken.last i;
     }) in

@@ -1,3 +1,4 @@
+-- `acquire`: what it returns.
 use Rattle.std.proofs.Common.{Ok, Err, refl, subst, ◌∙◌}
 use Rattle.passive_list.specs.Common.{OnPlainCpu}
 use Rattle.c_calls.specs.LocalCalls.{LocalAcquires}

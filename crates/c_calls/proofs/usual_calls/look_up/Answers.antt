@@ -1,4 +1,5 @@
-use Rattle.c_calls.proofs.UsualCalls.{between, found_same, in_section, unentered}
+-- `look_up`: its clause `call`.
+use Rattle.c_calls.proofs.UsualCalls.{between, found_same, unentered}
 use Rattle.c_calls.proofs.usual_calls.look_up.Goals as goal
 
 pub returns-then-entered-ne-DONE-clause-call : goal.returns-then-entered-ne-DONE-clause-call
@@ -7,6 +8,5 @@ returns-then-entered-ne-DONE-clause-call c = unentered _ _ _ _ _ _ c.enter_insid
 pub returns-clause-call : goal.returns-clause-call
 returns-clause-call c =
     let finds = c.look-looked.ensures.call _ _ _ c.tell.ensures.told in
-    in_section _ _ _ _ _ _ _
-    (between _ _ _ _ _ _ _ _ _ c.enter_inside-entered.ensures.call c.if-entered-ne-DONE.false (c.enter_inside-entered.ensures.inside c.if-entered-ne-DONE.false)
-    finds (found_same _ _ _ _ _ _ _ finds) c.exit.ensures)
+    between _ _ _ _ _ _ _ _ _ c.enter_inside-entered.ensures.call c.if-entered-ne-DONE.false (c.enter_inside-entered.ensures.inside c.if-entered-ne-DONE.false)
+    finds (found_same _ _ _ _ _ _ _ finds) c.exit.ensures

@@ -1,3 +1,4 @@
+-- `begin_body`: what it returns.
 use Rattle.std.proofs.Common.{◌≡◌, length, replicate, rules, subst}
 use Rattle.passive_list.specs.Common.{OnPlainCpu, OnPlainKeeper}
 use Rattle.passive_list.proofs.Rows.{keeper_is}

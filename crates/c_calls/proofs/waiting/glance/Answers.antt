@@ -1,3 +1,4 @@
+-- `glance`: its clause `glanced`.
 use Rattle.std.proofs.Common.{Bool, List, ℕ, ap, subst}
 use Rattle.name_registry.specs.Common.{HasGlanced}
 use Rattle.c_calls.proofs.waiting.glance.Goals as goal

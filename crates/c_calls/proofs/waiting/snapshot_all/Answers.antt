@@ -1,3 +1,4 @@
+-- `snapshot_all`: that each turn of its loop keeps the invariants.
 use Rattle.std.proofs.Common.{◌∙◌, None, ap, arith, length-set}
 use Rattle.c_calls.specs.Types.{Snapshot, Settings}
 use Rattle.registry_values.proofs.Fit.{ranges}

@@ -1,3 +1,4 @@
+-- `take_snapshots`: its clauses `own` and `hold`.
 use Rattle.std.proofs.Common.{subst}
 use Rattle.c_calls.specs.Types.{Settings}
 use Rattle.passive_list.specs.Common.{HasOwnLog}

@@ -1,3 +1,4 @@
+-- `turn_body`: what it returns.
 use Rattle.std.proofs.Common.{◌∙◌, ap, not, refl, subst}
 use Rattle.cpu_words.specs.Common.{Named}
 use Rattle.passive_list.specs.Common.{OnPlainCpu, OnPlainKeeper}

@@ -1,8 +1,9 @@
+-- `running_headline`: its clauses `run`, `held`, `waiting`, `freed`, `kept`, `balance`, `freed_by`, `fresh` and others.
 use Rattle.cpu_words.proofs.laws.Safety.{running_headline}
 use Rattle.cpu_words.proofs.laws.Holders.{held_have_slots}
 use Rattle.cpu_words.proofs.laws.Waiting.{waiting_ends}
 use Rattle.cpu_words.proofs.laws.Freed.{freed_by_keeper, freed_is_gone}
-use Rattle.cpu_words.proofs.laws.Fresh.{lookups_are_fresh, whole_in_the_list}
+use Rattle.cpu_words.proofs.laws.Fresh.{heads_are_newest, lookups_are_fresh, recalls_are_live, refinds_are_live, whole_in_the_list}
 use Rattle.cpu_words.proofs.laws.Kept.{attached_keeps}
 use Rattle.cpu_words.proofs.laws.Ordered.{ordered_in_time}
 use Rattle.cpu_words.proofs.laws.Balance.{seats_balance}
@@ -35,6 +36,15 @@ returns-clause-fresh c = lookups_are_fresh
 
 pub returns-clause-whole : goal.returns-clause-whole
 returns-clause-whole c = whole_in_the_list
+
+pub returns-clause-recalled : goal.returns-clause-recalled
+returns-clause-recalled c = recalls_are_live
+
+pub returns-clause-refound : goal.returns-clause-refound
+returns-clause-refound c = refinds_are_live
+
+pub returns-clause-newest : goal.returns-clause-newest
+returns-clause-newest c = heads_are_newest
 
 pub returns-clause-grows : goal.returns-clause-grows
 returns-clause-grows c = ordered_in_time

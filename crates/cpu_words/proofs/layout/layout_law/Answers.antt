@@ -1,3 +1,4 @@
+-- `layout_law`: its clauses `lines_apart`, `one_place` and `first_words_free`.
 use Rattle.cpu_words.proofs.shown.Apart.{lines_apart, one_place, first_words_free}
 use Rattle.cpu_words.proofs.layout.layout_law.Goals as goal
 

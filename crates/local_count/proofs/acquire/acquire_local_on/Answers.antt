@@ -14,7 +14,7 @@ count_add-word-requires-clause-place c =
 
 pub count_add-word-requires-clause-may : goal.count_add-word-requires-clause-may
 count_add-word-requires-clause-may c =
-    may_count _ _ _ _ _ _ _ _ _ _ c.cpu.invariant (may_acquire _ _ _ _ c.cpu.invariant.is_shown c.cpu.invariant.found
+    may_count _ _ _ _ _ _ _ _ _ _ _ c.cpu.invariant (may_acquire _ _ _ _ c.cpu.invariant.is_shown c.cpu.invariant.found
     (ap (λ (o : OnPlainCpu). o.cpu.view) c.cpu.view_is) c.why_not_acquired_local.ensures c.in_default.not-Some)
 
 pub bounds-cpu-inside-found : goal.bounds-cpu-inside-found
@@ -24,12 +24,12 @@ bounds-cpu-inside-found c =
 pub invariant_of-result : goal.invariant_of-result
 invariant_of-result c =
     let may = may_acquire _ _ _ _ c.cpu.invariant.is_shown c.cpu.invariant.found (ap (λ (o : OnPlainCpu). o.cpu.view) c.cpu.view_is) c.why_not_acquired_local.ensures c.in_default.not-Some in
-    acquired_reference _ _ _ _ _ _ _ _ _ _ _ _ _ c.cpu.invariant may.kept c.count_add-word.ensures.change c.split_ref-seat.ensures.change
+    acquired_reference _ _ _ _ _ _ _ _ _ _ _ _ _ _ c.cpu.invariant may.kept c.count_add-word.ensures.change c.split_ref-seat.ensures.change
 
 pub invariant_of-cpu : goal.invariant_of-cpu
 invariant_of-cpu c =
     let may = may_acquire _ _ _ _ c.cpu.invariant.is_shown c.cpu.invariant.found (ap (λ (o : OnPlainCpu). o.cpu.view) c.cpu.view_is) c.why_not_acquired_local.ensures c.in_default.not-Some in
-    stored_agrees _ _ _ _ _ _ _ _ _ _ _ _ _ c.set_net.ensures (own_agrees _ _ _ _ _ _ _ _ _ _
-    (acquired_agrees _ _ _ _ _ _ _ _ _ _ _ _ _ _ _ c.cpu.invariant (cut_is_shown c.split_ref-seat.ensures.event (step_is_shown c.count_add-word.ensures.step.event)) may.kept
+    stored_agrees _ _ _ _ _ _ _ _ _ _ _ _ _ _ c.set_net.ensures (own_agrees _ _ _ _ _ _ _ _ _ _ _
+    (acquired_agrees _ _ _ _ _ _ _ _ _ _ _ _ _ _ _ _ c.cpu.invariant (cut_is_shown c.split_ref-seat.ensures.event (step_is_shown c.count_add-word.ensures.step.event)) may.kept
     (c.split_ref-seat.ensures.step.table ∙ c.count_add-word.ensures.step.table) c.count_add-word.ensures.change c.split_ref-seat.ensures.change c.count_add-word.ensures.word
     c.count_add-word.ensures.room c.count_add-word.ensures.alone))

@@ -22,4 +22,4 @@ returns c =
     let kept = found_as _ _ c.cpu.invariant.is_shown c.cpu.invariant.found c.if-found-eq0.false in
     c.why_uncounted.ensures.value
     ∙ subst (λ (o : OnPlainCpu). why_uncounted c.net_count-count.result (bias + c.settings.result.count_limit) ≡ why_not_acquired_local o.cpu.view o.cpu.view.found) c.cpu.view_is
-    (why_by_place _ _ _ _ _ _ _ _ _ _ _ _ kept c.cpu.invariant c.net_count-count.ensures limit)
+    (why_by_place _ _ _ _ _ _ _ _ _ _ _ _ _ kept c.cpu.invariant c.net_count-count.ensures limit)

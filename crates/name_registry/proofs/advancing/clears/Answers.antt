@@ -1,3 +1,4 @@
+-- `clears`: its clauses `leaves` and `sees`; what `look_passive` requires.
 use Rattle.std.proofs.Common.{◌∙◌, sym}
 use Rattle.name_registry.proofs.Seen.{sees_passive}
 use Rattle.name_registry.proofs.Worked.{looked_none, look_leaves, cleared_grows, all_passed}

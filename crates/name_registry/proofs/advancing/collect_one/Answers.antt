@@ -1,3 +1,4 @@
+-- `collect_one`: its clauses `leaves` and `collected`; what `collect` requires.
 use Rattle.name_registry.proofs.Worked.{worked_none, collection_leaves, collection_marks, all_passed, all_clear}
 use Rattle.name_registry.proofs.advancing.collect_one.Goals as goal
 

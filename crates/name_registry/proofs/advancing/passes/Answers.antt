@@ -1,3 +1,4 @@
+-- `passes`: its clauses `leaves` and `sees`.
 use Rattle.std.proofs.Common.{◌∙◌, sym}
 use Rattle.name_registry.proofs.Seen.{sees_section}
 use Rattle.name_registry.proofs.Worked.{looked_none, look_leaves, looked_grows}

@@ -1,3 +1,4 @@
+-- `retired_place`: its clauses `value` and `works`.
 use Rattle.std.proofs.Common.{◌∙◌, sym}
 use Rattle.passive_list.proofs.Rows.{keeper_is}
 use Rattle.name_registry.proofs.Placed.{retired_in_rows, place_works}

@@ -1,3 +1,4 @@
+-- `settle`: its clause `settles`; what `total` and `free` require.
 use Rattle.std.proofs.Common.{sym, subst}
 use Rattle.name_registry.specs.Types.{Stage}
 use Rattle.passive_list.specs.Common.{OnKeeper, IsDrainedOn}

@@ -1,3 +1,4 @@
+-- `attach_iface_in`: its clauses `answer`, `refused` and `ok`; what `publish_iface` requires.
 use Rattle.std.proofs.Common.{◌≡◌, ◌∙◌, ◌+◌, ◌<◌, ◌≤◌, length, Result, Ok, IfOk, refl, sym, ap, subst}
 use Rattle.name_registry.specs.Types.{Entry, Refusal, KeeperView, Vacant}
 use Rattle.registry_values.specs.Common.{attach_answer, is_iface, live_count, slot_at}

@@ -1,3 +1,4 @@
+-- `attach_in`: its clauses `answer` and `ok`; what `publish` requires.
 use Rattle.std.proofs.Common.{◌≡◌, ◌∙◌, ◌+◌, ◌<◌, ◌≤◌, length, Result, Ok, IfOk, sym, ap, subst}
 use Rattle.name_registry.specs.Types.{Entry, Refusal, KeeperView, Vacant}
 use Rattle.registry_values.specs.Common.{attach_answer, live_count, slot_at}

@@ -13,7 +13,7 @@ is_collected-requires c = (c.requires.0, c.cpu.invariant.few)
 pub returns-else-is_collected-clause-value : goal.returns-else-is_collected-clause-value
 returns-else-is_collected-clause-value c =
     let id = ap (λ (x : OnPlainCpu). x.cpu.view.id) (sym c.cpu.view_is) ∙ c.cpu.invariant.id in
-    let net = net_is _ c.cpu.inside.depth 0 c.cpu.inside.seat.known_log c.cpu.inside.seat.log _ _ _ _ c.cpu.invariant.net c.requires.1 c.net_count.ensures in
+    let net = net_is _ c.cpu.inside.depth 0 c.cpu.inside.memory c.cpu.inside.seat.known_log c.cpu.inside.seat.log _ _ _ _ c.cpu.invariant.net c.requires.1 c.net_count.ensures in
     let says = subst (λ (x : OnPlainCpu). c.less_bias.result ≡ net_met c.args.t c.args.number x.cpu) c.cpu.view_is (c.less_bias.ensures ∙ net) in
     omega (arith, ints, local_is c.args.keeper.now.keeper c.args.cpu.now.cpu _ _ _ _ id (sym c.is_collected.ensures ∙ c.if-is_collected.false) says, c.less_bias.type_inv)
 

@@ -1,9 +1,10 @@
+-- `seat_cpus`: what `of_seat` requires; that each turn of its loop keeps the invariants.
 use Rattle.std.proofs.Common.{◌∙◌, ◌≤◌, ◌+◌, ◌∷◌, ◌++◌, List, [], length, length-append, ap, sym, subst, arith, append_assoc}
 use Rattle.std.specs.Vec.Iter.{into_iter_items}
 use Rattle.registry_values.proofs.Fit.{ranges}
 use Rattle.name_registry.specs.Types.{CpuView}
 use Rattle.cpu_words.specs.Common.{Seated, new_cpu}
-use Rattle.passive_list.specs.Common.{OnCpu}
+use Rattle.passive_list.specs.Common.{OnCpu, no_memory}
 use Rattle.name_registry.specs.Common.{AreNewCpus}
 use Rattle.name_registry.proofs.Opened.{seat_after, more_cpus}
 use Rattle.name_registry.proofs.blank.seat_cpus.Goals as goal
@@ -33,6 +34,7 @@ loop-seat-preserved g c =
       view = new_cpu z ((c.len-id.ensures ∙ i.2) j);
       depth = 0;
       made = c.split_off-share.ensures.amount j;
+      memory = no_memory;
       known_log = ap (λ (s : Seated CpuView). s.known_log) after.1 j;
       log = ap (λ (s : Seated CpuView). s.log) after.1 j;
     }) in

@@ -1,3 +1,4 @@
+-- `advance_for`: its clauses `answer` and `turn`.
 use Rattle.std.proofs.Common.{subst}
 use Rattle.name_registry.specs.Types.{Settings}
 use Rattle.name_registry.specs.Common.{HasAdvancedFor}

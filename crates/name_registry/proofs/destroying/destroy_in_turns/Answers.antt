@@ -1,3 +1,4 @@
+-- `destroy_in_turns`: what it returns.
 use Rattle.std.proofs.Common.{◌<◌, ℕ, suc, arith}
 use Rattle.registry_values.proofs.Answers.{handed_on}
 use Rattle.name_registry.proofs.Destroyed.{ends_unretired}

@@ -1,3 +1,4 @@
+-- `detach_in`: its clauses `answer` and `ok`; what `retire` requires.
 use Rattle.std.proofs.Common.{◌∙◌, sym, ap, subst}
 use Rattle.name_registry.specs.Types.{Key}
 use Rattle.registry_values.specs.Common.{slot_at}

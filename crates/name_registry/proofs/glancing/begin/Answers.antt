@@ -1,3 +1,4 @@
+-- `begin`: its clause `begun`.
 use Rattle.std.proofs.Common.{subst}
 use Rattle.name_registry.specs.Types.{Settings}
 use Rattle.name_registry.specs.Common.{HasBegun, SnapshotsBelow}

@@ -1,3 +1,4 @@
+-- `glance_at_all`: its clause `glanced`.
 use Rattle.std.proofs.Common.{◌≡◌, not, subst}
 use Rattle.name_registry.specs.Types.{Settings}
 use Rattle.registry_values.specs.Common.{least_below}

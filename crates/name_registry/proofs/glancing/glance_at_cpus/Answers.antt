@@ -1,3 +1,4 @@
+-- `glance_at_cpus`: that each turn of its loop keeps the invariants.
 use Rattle.std.proofs.Common.{◌∙◌, Bool, false, ap, subst, arith, length-set}
 use Rattle.std.proofs.lemmas.List.{get_or-set_other}
 use Rattle.name_registry.specs.Types.{Settings}

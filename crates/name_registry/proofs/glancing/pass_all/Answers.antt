@@ -1,3 +1,4 @@
+-- `pass_all`: its clause `passed`.
 use Rattle.std.proofs.Common.{subst}
 use Rattle.name_registry.specs.Types.{Settings}
 use Rattle.name_registry.specs.Common.{HasPassedAll}

@@ -1,3 +1,4 @@
+-- `release_for`: its clauses `change` and `known`; what `release_under` requires.
 use Rattle.std.proofs.Common.{sym, subst}
 use Rattle.passive_list.specs.Common.{OnKeeper}
 use Rattle.cpu_words.specs.Common.{IsFoundCollected}

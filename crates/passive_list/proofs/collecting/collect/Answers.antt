@@ -1,3 +1,4 @@
+-- `collect`: its clause `change`; what `total_add` requires; the invariant of `keeper`; that nothing overflows; that an index is in range.
 use Rattle.std.proofs.Common.{refl, arith}
 use Rattle.passive_list.proofs.Rows.{keeper_is}
 use Rattle.passive_list.proofs.Collections.{collection_tells, collected_keeper, collected_into}

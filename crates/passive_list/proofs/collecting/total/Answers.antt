@@ -1,3 +1,4 @@
+-- `total`: its clauses `value` and `held`; that nothing overflows.
 use Rattle.passive_list.proofs.Collections.{total_tells}
 use Rattle.passive_list.proofs.collecting.total.Goals as goal
 

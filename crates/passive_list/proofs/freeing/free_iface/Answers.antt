@@ -1,3 +1,4 @@
+-- `free_iface`: its clause `change`; what `kept_sub` requires; the invariant of `keeper`; that nothing overflows; that what is unreachable isn't reached.
 use Rattle.std.proofs.Common.{sym, ◌∙◌, arith}
 use Rattle.cpu_words.proofs.shown.KeepersShown.{step_is_shown}
 use Rattle.passive_list.specs.Common.{row_at}

@@ -1,3 +1,4 @@
+-- `give_up`: its clause `change`; what `join_keeper` requires; the invariant of `keeper`; that nothing overflows.
 use Rattle.std.proofs.Common.{refl, arith}
 use Rattle.passive_list.proofs.Rows.{keeper_is}
 use Rattle.passive_list.proofs.GivenUp.{may_take_in, given_row, given_keeper, has_given_up}

@@ -28,7 +28,7 @@ invariant_of-keeper c =
     let has = c.publish_entry.ensures.change in
     published_keeper inside.settings k l (rows_keeping inside.rows c.args.slot c.args.number) inside.changes e has.link
     (c.keeper.invariant.changes ∙ same_history inside.seat.view k e.slot c.args.reference.view c.keep.ensures.change) asked has.view
-    (step_is_shown has.counted)
+    (step_is_shown has.shown)
 
 pub returns-clause-change : goal.returns-clause-change
 returns-clause-change c =

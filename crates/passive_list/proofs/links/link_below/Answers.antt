@@ -1,3 +1,4 @@
+-- `link_below`: what it returns.
 use Rattle.std.proofs.Common.{◌≡◌, ◌∙◌, sym, ap, subst, arith}
 use Rattle.cpu_words.specs.Common.{LeadsBelow}
 use Rattle.passive_list.specs.Common.{states_of, link_to}

@@ -1,3 +1,4 @@
+-- `slot_above`: its clauses `before` and `place`.
 use Rattle.std.proofs.Common.{◌≡◌, ◌∙◌, sym, ap, subst, arith}
 use Rattle.cpu_words.specs.Common.{IsBefore, IsLinkPlace}
 use Rattle.passive_list.specs.Common.{states_of, place_of}

@@ -5,4 +5,4 @@ use Rattle.passive_list.proofs.notes.hear_on.Goals as goal
 
 pub invariant_of-cpu : goal.invariant_of-cpu
 invariant_of-cpu c =
-    own_agrees _ _ _ _ _ _ _ _ _ _ (noted_agrees _ _ _ _ _ _ _ _ _ _ _ _ _ c.cpu.invariant (step_is_shown c.hear.ensures.event) c.hear.ensures.table c.hear.ensures.change.0 c.hear.ensures.change.1)
+    own_agrees _ _ _ _ _ _ _ _ _ _ _ (noted_agrees _ _ _ _ _ _ _ _ _ _ _ _ _ _ c.cpu.invariant (step_is_shown c.hear.ensures.event) c.hear.ensures.table c.hear.ensures.change.0 c.hear.ensures.change.1)

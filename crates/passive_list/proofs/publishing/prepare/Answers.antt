@@ -1,3 +1,4 @@
+-- `prepare`: its clause `prepared`; what `store_counts` and `store_next` require.
 use Rattle.std.proofs.Common.{◌∙◌, ◌≤◌, sym, ap, subst}
 use Rattle.passive_list.specs.Types.{Settings, KeeperView, MOST_SLOTS}
 use Rattle.protocol.specs.Common.{words_of}

@@ -1,3 +1,4 @@
+-- `publish`: its clause `change`; what `publish_entry` requires; the invariant of `keeper`.
 use Rattle.std.proofs.Common.{◌+◌, ◌∙◌, sym, ap, subst, set}
 use Rattle.std.proofs.lemmas.List.{map-set}
 use Rattle.passive_list.specs.Types.{Entry, Settings}
@@ -22,7 +23,7 @@ invariant_of-keeper c =
     let asked = ask _ _ _ _ c.args.slot c.args.rec _ c.keeper.invariant c.keeper.view_is c.requires.vacant c.requires.keeps c.requires.name c.requires.free c.requires.room in
     let has = c.publish_entry.ensures.change in
     published_keeper inside.settings k c.publish_entry.new.seat.view inside.rows inside.changes e has.link
-    c.keeper.invariant.changes asked has.view (step_is_shown has.counted)
+    c.keeper.invariant.changes asked has.view (step_is_shown has.shown)
 
 pub returns-clause-change : goal.returns-clause-change
 returns-clause-change c =

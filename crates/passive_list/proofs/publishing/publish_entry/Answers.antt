@@ -1,7 +1,10 @@
-use Rattle.std.proofs.Common.{◌∙◌, length, sym, ap, subst, arith}
-use Rattle.passive_list.specs.Types.{Attach, Settings, Publish, Count, Done, KeeperView, Keeper}
-use Rattle.protocol.proofs.history.History.{length-after_change}
-use Rattle.cpu_words.specs.Common.{MayPublish, Makes, keeper_after_counting}
+-- `publish_entry`: its clauses `change` and `attached`; what `prepare`, `publish` and `show` require.
+use Rattle.std.proofs.Common.{◌∙◌, refl, sym, ap, subst, arith}
+use Rattle.passive_list.specs.Types.{Entry, Settings, Slot, Publish, Show, Live, Done, KeeperView, Keeper}
+use Rattle.registry_values.specs.Common.{slot_at}
+use Rattle.registry_values.proofs.Fit.{ranges}
+use Rattle.protocol.proofs.slots.Cells.{slot_here}
+use Rattle.cpu_words.specs.Common.{MayPublish, Makes, keeper_after_live}
 use Rattle.passive_list.specs.Common.{states_of, keeper_after_publish}
 use Rattle.passive_list.proofs.Attached.{attached_as, keeping_more, may_publish, published_is, leads_on, leads_within, rows_live, live_rows}
 use Rattle.passive_list.proofs.publishing.publish_entry.Goals as goal
@@ -27,23 +30,25 @@ publish-requires-clause-may c =
           (may_publish c.args.words.now.settings c.args.seat.now.view c.args.rows.now e c.link_below-link.result c.requires.may c.link_below-link.ensures),
     )
 
-pub count_changes-requires-clause-rest : goal.count_changes-requires-clause-rest
-count_changes-requires-clause-rest c =
-    let k = c.args.seat.now.view in
-    let e = c.args.entry.now in
-    let v = c.link_below-link.result in
-    let may = may_publish c.args.words.now.settings k c.args.rows.now e v c.requires.may c.link_below-link.ensures in
-    let is = published_is k c.prepare.new.seat.view c.publish.new.keeper.view e v c.prepare.ensures.prepared c.publish.ensures.change may in
-    ap (λ (x : KeeperView). x.due) is ∙ c.requires.may.at.rest
+pub show-requires-clause-place : goal.show-requires-clause-place
+show-requires-clause-place c = omega (arith, c.requires.may.slot, (ranges c.args.words.now.settings c.requires.may.at.fit).slots)
 
-pub count_changes-requires-clause-all : goal.count_changes-requires-clause-all
-count_changes-requires-clause-all c =
+pub show-requires-clause-may : goal.show-requires-clause-may
+show-requires-clause-may c =
     let k = c.args.seat.now.view in
     let e = c.args.entry.now in
     let v = c.link_below-link.result in
-    let may = may_publish c.args.words.now.settings k c.args.rows.now e v c.requires.may c.link_below-link.ensures in
+    let asked = c.requires.may in
+    let may = may_publish c.args.words.now.settings k c.args.rows.now e v asked c.link_below-link.ensures in
     let is = published_is k c.prepare.new.seat.view c.publish.new.keeper.view e v c.prepare.ensures.prepared c.publish.ensures.change may in
-    c.requires.may.number ∙ (sym (length-after_change k.history (Attach e)) ∙ sym (ap (λ (x : KeeperView). length x.history) is))
+    let lt = asked.slot in
+    let size = asked.at.sized.slots in
+    record {
+      rest = ap (λ (x : KeeperView). x.due) is ∙ asked.at.rest;
+      entry = e;
+      live = ap (λ (x : KeeperView). slot_at x.slots e.slot) is ∙ slot_here k.slots e.slot (Live e) (omega (arith, lt, size));
+      number = refl;
+    }
 
 pub returns-clause-change : goal.returns-clause-change
 returns-clause-change c =
@@ -60,8 +65,8 @@ returns-clause-change c =
       leads = leads_on (states_of rows) k.slots e.number v (rows_live a k rows asked.agree) (live_rows a k rows asked.at asked.agree) c.link_below-link.ensures;
       made = subst (λ (x : KeeperView). Makes (Publish e.slot) Done (Keeper x) (Keeper (keeper_after_publish k e v))) c.prepare.ensures.prepared
           (subst (λ (x : KeeperView). Makes (Publish e.slot) Done (Keeper c.prepare.new.seat.view) (Keeper x)) is c.publish.ensures.step.event);
-      counted = subst (λ (x : KeeperView). Makes Count Done (Keeper x) (Keeper c.count_changes.new.keeper.view)) is c.count_changes.ensures.step.event;
-      view = c.count_changes.ensures.change ∙ ap keeper_after_counting is;
+      shown = subst (λ (x : KeeperView). Makes (Show e.slot) Done (Keeper x) (Keeper c.show.new.keeper.view)) is c.show.ensures.step.event;
+      view = c.show.ensures.change ∙ ap (λ (x : KeeperView). keeper_after_live x e.slot e.number) is;
     }
 
 pub returns-clause-attached : goal.returns-clause-attached
@@ -69,4 +74,4 @@ returns-clause-attached c d keeps =
     let e = c.args.entry.now in
     let first = attached_as c.args.seat.now.view c.prepare.new.seat.view e c.link_below-link.result d c.publish.new.keeper.log c.prepare.ensures.prepared
     c.requires.may.number (λ is. c.publish.ensures.attached d is) keeps in
-    keeping_more e.slot e.number d c.publish.new.keeper.log c.count_changes.new.keeper.log (_, sym c.count_changes.ensures.step.log) first
+    keeping_more e.slot e.number d c.publish.new.keeper.log c.show.new.keeper.log (_, sym c.show.ensures.step.log) first

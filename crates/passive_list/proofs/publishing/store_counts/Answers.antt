@@ -1,3 +1,4 @@
+-- `store_counts`: that each turn of its loop keeps the invariants.
 use Rattle.std.proofs.Common.{◌∙◌, arith}
 use Rattle.passive_list.proofs.Preparing.{counts_next}
 use Rattle.passive_list.proofs.publishing.store_counts.Goals as goal

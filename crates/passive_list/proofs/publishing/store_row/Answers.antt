@@ -1,3 +1,4 @@
+-- `store_row`: its clause `row`.
 use Rattle.protocol.specs.Common.{row_at, with_word}
 use Rattle.registry_values.specs.Common.{kind_word}
 use Rattle.passive_list.proofs.Preparing.{row_next}

@@ -1,3 +1,4 @@
+-- `snapshots`: that each turn of its loop keeps the invariants.
 use Rattle.std.proofs.Common.{◌∙◌, arith}
 use Rattle.cpu_words.proofs.shown.KeepersShown.{step_is_shown}
 use Rattle.passive_list.proofs.Taking.{none_taken, one_taken, taking_first, taking_next}

@@ -8,4 +8,4 @@ use Rattle.passive_list.proofs.sections.end.Goals as goal
 pub invariant_of-cpu : goal.invariant_of-cpu
 invariant_of-cpu c =
     let last : c.cpu.inside.depth ≡ 1 = ap (λ (o : OnPlainCpu). o.cpu.depth) c.cpu.view_is ∙ c.requires.last in
-    own_agrees _ _ _ _ _ _ _ _ _ _ (exited_agrees _ _ _ _ _ _ _ _ _ _ _ _ c.cpu.invariant (step_is_shown c.exit.ensures.step.event) c.exit.ensures.step.table last c.exit.ensures.change)
+    own_agrees _ _ _ _ _ _ _ _ _ _ _ (exited_agrees _ _ _ _ _ _ _ _ _ _ _ _ _ c.cpu.invariant (step_is_shown c.exit.ensures.step.event) c.exit.ensures.step.table last c.exit.ensures.change)

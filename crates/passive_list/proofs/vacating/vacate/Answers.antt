@@ -1,3 +1,4 @@
+-- `vacate`: its clause `change`; what `vacate` requires; the invariant of `keeper`.
 use Rattle.std.proofs.Common.{◌∙◌, sym, ap, subst}
 use Rattle.protocol.specs.Common.{kept_at}
 use Rattle.cpu_words.proofs.shown.KeepersShown.{step_is_shown}

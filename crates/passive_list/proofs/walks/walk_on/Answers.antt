@@ -12,15 +12,15 @@ invariant_of-cpu c =
     let y = c.go_over-count.new.seat.view in
     let had = c.go_over-count.ensures.change in
     let is : y ≡ record x { pass = y.pass; found = None } = had.is ∙ ap (λ (s : Option Search). record x { pass = y.pass; search = s; found = None }) (sym c.cpu.invariant.idle.search) in
-    own_agrees _ _ _ _ _ _ _ _ _ _ (seen_agrees _ _ _ _ x y _ _ _ _ _ None _ _ x.noted_pass c.cpu.invariant c.go_over-count.ensures.is_shown c.go_over-count.ensures.table had.pass is refl)
+    own_agrees _ _ _ _ _ _ _ _ _ _ _ (seen_agrees _ _ _ _ x y _ _ _ _ _ None _ _ _ x.noted_pass c.cpu.invariant c.go_over-count.ensures.is_shown c.go_over-count.ensures.table had.pass is refl)
 
 pub returns-clause-walked : goal.returns-clause-walked
 returns-clause-walked c =
     let x = c.cpu.inside.seat in
     let y = c.go_over-count.new.seat in
-    let a : OnCpu = record { view = x.view; depth = c.cpu.inside.depth; made = 0; known_log = x.known_log; log = x.log } in
-    let b : OnCpu = record { view = y.view; depth = c.cpu.inside.depth; made = 0; known_log = y.known_log; log = y.log } in
+    let a : OnCpu = record { view = x.view; depth = c.cpu.inside.depth; made = 0; memory = c.cpu.inside.memory; known_log = x.known_log; log = x.log } in
+    let b : OnCpu = record { view = y.view; depth = c.cpu.inside.depth; made = 0; memory = c.cpu.inside.memory; known_log = y.known_log; log = y.log } in
     let row = take c.go_over-count.result c.go_over-count.new.row in
     let log = subst (λ (i : ℕ). HasGoneOverBy i x.view.settings.slots (length row) x.log y.log) (sym c.cpu.invariant.id) c.go_over-count.ensures.log in
     subst (λ (v : OnPlainCpu). HasWalked v.cpu b row) c.cpu.view_is
-    (walked a b row c.cpu.invariant.idle.search c.go_over-count.ensures.change refl refl c.go_over-count.ensures.known_log log)
+    (walked a b row c.cpu.invariant.idle.search c.go_over-count.ensures.change refl refl refl c.go_over-count.ensures.known_log log)

@@ -10,5 +10,5 @@ use Rattle.passive_ref.proofs.acquiring.add.Goals as goal
 pub invariant_of-cpu : goal.invariant_of-cpu
 invariant_of-cpu c =
     let count = c.count_of-count.ensures ∙ ap (λ (o : OnPlainCpu). references_to c.args.number o.cpu.view.references) (sym c.cpu.view_is) in
-    own_agrees _ _ _ _ _ _ _ _ _ _ (added_agrees _ _ _ _ _ _ _ _ _ _ _ _ _ _ _ c.cpu.invariant c.passive_add.ensures.step.table
+    own_agrees _ _ _ _ _ _ _ _ _ _ _ (added_agrees _ _ _ _ _ _ _ _ _ _ _ _ _ _ _ _ c.cpu.invariant c.passive_add.ensures.step.table
     (step_is_shown c.passive_add.ensures.step.event) c.passive_add.ensures.change c.requires.known.few c.passive_add.ensures.alone count)

@@ -10,5 +10,5 @@ use Rattle.passive_ref.proofs.acquiring.subtract.Goals as goal
 pub invariant_of-cpu : goal.invariant_of-cpu
 invariant_of-cpu c =
     let held = subst (λ (o : OnPlainCpu). IsHeldAt o.cpu.view c.args.slot c.args.number) (sym c.cpu.view_is) c.requires.held in
-    own_agrees _ _ _ _ _ _ _ _ _ _ (less_agrees _ _ _ _ _ _ _ _ _ _ _ _ held.entry _ _ c.cpu.invariant c.passive_sub.ensures.step.table
+    own_agrees _ _ _ _ _ _ _ _ _ _ _ (less_agrees _ _ _ _ _ _ _ _ _ _ _ _ _ held.entry _ _ c.cpu.invariant c.passive_sub.ensures.step.table
     (step_is_shown c.passive_sub.ensures.step.event) held.at held.held c.passive_sub.ensures.change)

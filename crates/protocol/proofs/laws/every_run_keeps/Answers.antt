@@ -1,3 +1,4 @@
+-- `every_run_keeps`: its clauses `keeps`, `modelled` and `untried`.
 use Rattle.protocol.proofs.runs.Reuse.{every_run_keeps}
 use Rattle.protocol.proofs.model.Refining.{every_run_is_model_run}
 use Rattle.protocol.proofs.runs.Untried.{untried_runs}

@@ -1,3 +1,4 @@
+-- `worked_run`: its clauses `frozen_link`, `collect_race` and `try_race`.
 use Rattle.protocol.proofs.runs.Rows.{frozen_link, collect_race, try_race}
 use Rattle.protocol.proofs.laws.worked_run.Goals as goal
 

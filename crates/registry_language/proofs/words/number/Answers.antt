@@ -1,3 +1,4 @@
+-- `number`: what it returns; that each turn of its loop keeps the invariants.
 use Rattle.std.proofs.Common.{◌≡◌, true, rules}
 use Rattle.registry_language.specs.Words.{is_numeral}
 use Rattle.registry_language.proofs.Numbers.{gone_on, all_read, below}

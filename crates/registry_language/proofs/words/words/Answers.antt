@@ -1,3 +1,4 @@
+-- `words`: what it returns.
 use Rattle.std.proofs.Common.{rules, ap, ◌∙◌}
 use Rattle.std.specs.Slice.Iter.{split_rest, split_done, split_callee}
 use borrow.Author.Tests.{tests}

@@ -1,3 +1,4 @@
+-- `run_live_on`: its clause `references`.
 use Rattle.std.proofs.Common.{ap, ◌∙◌, rules}
 use Rattle.registry_live.specs.Labels.{Lent, unlabelled}
 use Rattle.registry_live.proofs.Labelled.{given_back}

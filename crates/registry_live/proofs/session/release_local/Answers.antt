@@ -1,3 +1,4 @@
+-- `release_local`: its clauses `all` and `local`.
 use Rattle.std.proofs.Common.{get_or}
 use Rattle.registry_values.proofs.Fit.{ranges}
 use Rattle.registry_live.proofs.LetGo.{lets_go}

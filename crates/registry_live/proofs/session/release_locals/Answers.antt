@@ -1,3 +1,4 @@
+-- `release_locals`: its clause `locals`.
 use Rattle.std.proofs.Common.{◌≡◌, length, rules, arith}
 use Rattle.registry_live.proofs.LetGo.{all_gone, gone_next, none_gone}
 use Rattle.registry_live.proofs.session.release_locals.Goals as goal

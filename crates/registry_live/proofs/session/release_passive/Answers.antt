@@ -1,3 +1,4 @@
+-- `release_passive`: its clauses `all`, `released`, `labels` and `only`.
 use Rattle.std.proofs.Common.{arith, get_or}
 use Rattle.registry_live.proofs.Labelled.{place_missing, place_released}
 use Rattle.registry_live.proofs.LiveCpus.{all_with, one_back, released_id}

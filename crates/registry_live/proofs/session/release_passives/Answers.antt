@@ -1,3 +1,4 @@
+-- `release_passives`: its clauses `released` and `only`.
 use Rattle.std.proofs.Common.{◌≡◌, length, rules, arith}
 use Rattle.registry_live.proofs.Labelled.{all_released, none_left, released_next}
 use Rattle.registry_live.proofs.Releasing.{all_then}

@@ -1,3 +1,4 @@
+-- `report_laws`: its clauses `modelled`, `lookups`, `ends` and `least`.
 use Rattle.registry_report.proofs.Lookups.{lookup_is, end_is, end_tells}
 use Rattle.registry_report.proofs.sound.Commands.{report_runs}
 use Rattle.registry_report.proofs.Below.{least_iff}

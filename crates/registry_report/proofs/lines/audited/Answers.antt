@@ -1,3 +1,4 @@
+-- `audited`: that each turn of its loop keeps the invariants.
 use Rattle.std.proofs.Common.{List, ℕ, ◌++◌, ◌∙◌, ap, map, sym, take}
 use Rattle.registry_values.specs.Common.{tally_shown}
 use Rattle.registry_report.specs.Types.{Balance}

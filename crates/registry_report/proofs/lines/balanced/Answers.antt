@@ -1,3 +1,4 @@
+-- `balanced`: its clause `line`.
 use Rattle.std.proofs.Common.{List, ℤ, ℕ, [], ◌∷◌, ◌++◌, ◌∙◌, ap, map, sym}
 use Rattle.std.specs.Prelude.{codes}
 use Rattle.std.specs.Fmt.{decimal, signed_decimal}

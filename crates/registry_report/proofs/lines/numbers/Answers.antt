@@ -1,3 +1,4 @@
+-- `numbers`: that each turn of its loop keeps the invariants.
 use Rattle.std.proofs.Common.{List, ℕ, ◌++◌, ◌∙◌, ap, map, pos, sym, take}
 use Rattle.std.specs.Fmt.{signed_decimal}
 use Rattle.registry_report.specs.Common.{spaced_words}

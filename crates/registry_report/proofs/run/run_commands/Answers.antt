@@ -1,3 +1,4 @@
+-- `run_commands`: its clauses `err`, `ok`, `front` and `run`; that each turn of its loop keeps the invariants.
 use Rattle.std.proofs.Common.{[], get_or, refl, subst, sym, ◌∙◌}
 use Rattle.registry_report.specs.Common.{IsLineOf, WritesFront, AppendsPrefix}
 use Rattle.registry_report.specs.Report.{report_from}

@@ -1,3 +1,4 @@
+-- `run_core`: its clauses `err` and `ok`; what `run_on` requires.
 use Rattle.std.proofs.Common.{List, OnErr, OnOk, ap, subst, ◌∙◌}
 use Rattle.std.specs.Io.KnownBytes.{Appends}
 use Rattle.registry_report.specs.Types.{Command}

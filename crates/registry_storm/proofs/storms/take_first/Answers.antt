@@ -1,3 +1,4 @@
+-- `take_first`: what it returns.
 use Rattle.std.proofs.Common.{ap, arith}
 use Rattle.name_registry.specs.Types.{Settings}
 use Rattle.registry_storm.proofs.storms.take_first.Goals as goal

@@ -1,3 +1,4 @@
+-- `join_all`: that each turn of its loop keeps the invariants.
 use Rattle.std.proofs.Common.{rules, arith, ◌≡◌, ◌+◌, ◌*◌, ℕ, ap, ◌∙◌}
 use Rattle.std.specs.Vec.Iter.{into_iter_len}
 use Rattle.registry_storm.proofs.workers.join_all.Goals as goal

@@ -1,3 +1,4 @@
+-- `sum`: that each turn of its loop keeps the invariants.
 use Rattle.std.proofs.Common.{arith}
 use Rattle.std.proofs.lemmas.Int.{ints, to_z-of_z}
 use Rattle.std.proofs.lemmas.List.Sums.{fold_more}

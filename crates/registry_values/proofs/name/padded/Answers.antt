@@ -1,3 +1,4 @@
+-- `padded`: what it returns.
 use Rattle.std.proofs.Common.{◌≡◌, ◌-◌, ℕ, List, ◌++◌, length, take, drop, replicate, ap, ap₂, sym, ◌∙◌, arith, take-append-drop, take_all}
 use Rattle.std.proofs.lemmas.List.{drop-replicate}
 use Rattle.registry_values.specs.Common.{padded_bytes}

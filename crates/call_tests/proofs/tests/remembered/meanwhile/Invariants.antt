@@ -1,5 +1,5 @@
 use Rattle.registry_values.specs.declared.limits.TheConstants.{MOST_CPUS}
-use Rattle.call_tests.proofs.tests.by_loads.gets_meanwhile.Given as goal
+use Rattle.call_tests.proofs.tests.remembered.meanwhile.Given as goal
 
 -- the registry that was just made
 abbrev pub ghosts-beside-D-Domain : goal.ghosts-beside-D-Domain

@@ -1,5 +1,5 @@
 use Rattle.registry_values.specs.declared.limits.TheConstants.{MOST_CPUS}
-use Rattle.call_tests.proofs.tests.by_loads.run.Given as goal
+use Rattle.call_tests.proofs.tests.remembered.run.Given as goal
 
 -- the registry that was just made
 abbrev pub ghosts-follow-D-Domain : goal.ghosts-follow-D-Domain

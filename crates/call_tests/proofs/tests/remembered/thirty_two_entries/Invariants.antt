@@ -1,5 +1,5 @@
 use Rattle.registry_values.specs.declared.limits.TheConstants.{MOST_CPUS}
-use Rattle.call_tests.proofs.tests.by_loads.thirty_two_entries.Given as goal
+use Rattle.call_tests.proofs.tests.remembered.thirty_two_entries.Given as goal
 
 -- the registry that was just made
 abbrev pub ghosts-full-D-Domain : goal.ghosts-full-D-Domain

@@ -1,3 +1,4 @@
+-- `compare_exchange`: what `compare_exchange` requires.
 use mathlib.Core.Option.{none}
 use prog.Atomic.{either}
 use Rattle.std.proofs.Common.{ℕ, ◌==◌, sym, ap, ◌∙◌, arith}

@@ -1,3 +1,4 @@
+-- `load`: what `load` requires.
 use mathlib.Core.Option.{none}
 use Rattle.std.proofs.Common.{ℕ, sym, ap, ◌∙◌, arith}
 use Rattle.cpu_words.specs.Common.{Named, Seated, CpuView}

@@ -1,3 +1,4 @@
+-- `swap`: what `swap` requires.
 use mathlib.Core.Option.{none}
 use Rattle.std.proofs.Common.{ℕ, sym, ap, ◌∙◌, arith}
 use Rattle.cpu_words.specs.Common.{Named, Seated, KeeperView}

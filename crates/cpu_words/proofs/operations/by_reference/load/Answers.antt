@@ -1,3 +1,4 @@
+-- `load`: what `load` requires.
 use mathlib.Core.Option.{none}
 use Rattle.std.proofs.Common.{sym, ap, ◌∙◌, arith}
 use Rattle.cpu_words.specs.Common.{Named, Seated, ReferenceView}

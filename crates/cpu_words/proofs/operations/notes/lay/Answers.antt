@@ -1,3 +1,4 @@
+-- `lay`: its clause `log`; what `join_seat` requires.
 use Rattle.std.proofs.Common.{rules, arith, ap, ◌∙◌, ℕ}
 use Rattle.atomic_table.specs.Table.{Me}
 use Rattle.cpu_words.specs.Common.{Logged, CpuView, Seated}

@@ -1,3 +1,4 @@
+-- `lay_by_keeper`: its clause `log`; what `join_seat` requires.
 use Rattle.std.proofs.Common.{rules, arith, ap, ◌∙◌, ℕ}
 use Rattle.atomic_table.specs.Table.{Me}
 use Rattle.cpu_words.specs.Common.{Logged, KeeperView, Seated}

@@ -1,3 +1,4 @@
+-- `kept_sub`: its clauses `change` and `freed`; what `subtract` requires.
 use Rattle.std.proofs.Common.{refl}
 use Rattle.cpu_words.proofs.by_keeper.KeptDrivers.{kept_sub_may, kept_sub_change}
 use Rattle.cpu_words.proofs.logs.OwnLog.{freed_by}

@@ -1,3 +1,4 @@
+-- `count_down`: its clauses `floor`, `net`, `alone`, `counted` and `collected`; what `compare_exchange` requires.
 use Rattle.std.proofs.Common.{refl, sym, ap}
 use Rattle.cpu_words.proofs.by_cpu.Locals.{count_down_may}
 use Rattle.cpu_words.specs.Common.{the_cpu}

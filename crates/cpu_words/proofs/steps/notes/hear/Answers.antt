@@ -1,3 +1,4 @@
+-- `hear`: its clauses `event`, `told`, `change` and `counts`; what `listen` requires.
 use Rattle.std.proofs.Common.{ap, ◌∙◌}
 use Rattle.cpu_words.specs.Common.{CpuView}
 use Rattle.cpu_words.proofs.seats.Notes.{cpu_heard, heard_event, laid_idle}

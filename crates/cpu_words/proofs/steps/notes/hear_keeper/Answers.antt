@@ -1,3 +1,4 @@
+-- `hear_keeper`: its clauses `told`, `change` and `own_log`; what `hear_noted` requires.
 use Rattle.std.proofs.Common.{ap, ◌∙◌}
 use Rattle.cpu_words.specs.Common.{KeeperView}
 use Rattle.cpu_words.proofs.logs.OwnLog.{own_with_note}

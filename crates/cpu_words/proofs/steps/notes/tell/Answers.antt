@@ -1,3 +1,4 @@
+-- `tell`: its clause `event`; what `split_seat` requires.
 use Rattle.std.proofs.Common.{rules, arith, ap, ℕ}
 use Rattle.atomic_table.specs.Table.{Me}
 use Rattle.cpu_words.specs.Common.{CpuView, Logged, Seated}

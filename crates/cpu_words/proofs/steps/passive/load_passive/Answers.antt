@@ -1,3 +1,4 @@
+-- `load_passive`: its clauses `word`, `alone` and `name`; what `load` requires.
 use Rattle.std.proofs.Common.{refl, sym, ap}
 use Rattle.cpu_words.proofs.by_cpu.Passives.{load_may}
 use Rattle.cpu_words.specs.Common.{the_cpu}

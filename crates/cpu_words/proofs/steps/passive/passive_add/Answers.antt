@@ -1,3 +1,4 @@
+-- `passive_add`: its clauses `change`, `slot`, `count` and `alone`; what `add` requires.
 use Rattle.std.proofs.Common.{refl, sym, ap}
 use Rattle.cpu_words.proofs.by_cpu.Passives.{add_may}
 use Rattle.cpu_words.specs.Common.{the_cpu}

@@ -1,3 +1,4 @@
+-- `passive_sub`: its clauses `change`, `count` and `alone`; what `subtract` requires.
 use Rattle.std.proofs.Common.{refl, sym, ap}
 use Rattle.cpu_words.proofs.by_cpu.Passives.{sub_may}
 use Rattle.cpu_words.specs.Common.{the_cpu}

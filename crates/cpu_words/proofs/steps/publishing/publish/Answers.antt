@@ -1,3 +1,4 @@
+-- `publish`: its clause `attached`; what `store` requires.
 use Rattle.std.proofs.Common.{refl}
 use Rattle.cpu_words.proofs.by_keeper.Publishing.{publish_may}
 use Rattle.cpu_words.proofs.logs.OwnLog.{attached_by}

@@ -1,3 +1,4 @@
+-- `load_local`: its clauses `event`, `word` and `name`; what `load` requires.
 use Rattle.std.proofs.Common.{ℕ, refl, sym, subst}
 use Rattle.cpu_words.specs.Types.{LoadRecord, Local, Word}
 use Rattle.cpu_words.specs.Common.{ReferenceView, Reference, Makes}

@@ -1,3 +1,4 @@
+-- `load_compared`: its clause `value`; what `load` requires.
 use Rattle.std.proofs.Common.{refl, sym, ap}
 use Rattle.cpu_words.proofs.by_cpu.Searching.{load_compared_may}
 use Rattle.cpu_words.specs.Common.{the_cpu}

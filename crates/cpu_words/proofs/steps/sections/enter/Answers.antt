@@ -1,3 +1,4 @@
+-- `enter`: what `add` requires.
 use Rattle.std.proofs.Common.{refl, sym, ap}
 use Rattle.cpu_words.proofs.by_cpu.Sections.{enter_may}
 use Rattle.cpu_words.specs.Common.{the_cpu}

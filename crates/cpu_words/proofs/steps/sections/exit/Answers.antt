@@ -1,3 +1,4 @@
+-- `exit`: what `add` requires.
 use Rattle.std.proofs.Common.{refl, sym, ap}
 use Rattle.cpu_words.proofs.by_cpu.Sections.{exit_may}
 use Rattle.cpu_words.specs.Common.{the_cpu}

@@ -1,3 +1,4 @@
+-- `begin_try`: what `add` requires.
 use Rattle.std.proofs.Common.{refl, sym, ap}
 use Rattle.cpu_words.proofs.by_cpu.Trying.{try_may}
 use Rattle.cpu_words.specs.Common.{the_cpu}

@@ -1,3 +1,4 @@
+-- `take_back`: what `subtract` requires.
 use Rattle.std.proofs.Common.{refl, sym, ap}
 use Rattle.cpu_words.proofs.by_cpu.Trying.{back_may}
 use Rattle.cpu_words.specs.Common.{the_cpu}

@@ -1,3 +1,4 @@
+-- `vacate`: its clause `freed`; what `listen_by_keeper` requires.
 use Rattle.std.proofs.Common.{refl}
 use Rattle.cpu_words.proofs.by_keeper.Vacating.{vacating_may}
 use Rattle.cpu_words.proofs.logs.OwnLog.{freed_by}

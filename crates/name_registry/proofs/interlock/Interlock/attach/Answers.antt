@@ -1,3 +1,4 @@
+-- `Interlock::attach`: its clauses `may`, `ok` and `made`.
 use Rattle.std.proofs.Common.{◌≡◌, Ok, subst}
 use Rattle.name_registry.specs.Types.{Attach}
 use Rattle.passive_list.specs.Common.{OnCpu}

@@ -1,3 +1,4 @@
+-- `Interlock::attach_iface`: its clauses `may`, `ok`, `made`, `keeping` and `refused`.
 use Rattle.std.proofs.Common.{◌≡◌, Ok, Err, ap, sym, subst}
 use Rattle.name_registry.specs.Types.{Attach, ReferenceView}
 use Rattle.cpu_words.specs.Common.{IsAttachedKeeping}

@@ -1,3 +1,4 @@
+-- `Interlock::detach`: its clauses `may`, `ok` and `made`.
 use Rattle.std.proofs.Common.{Ok, subst}
 use Rattle.name_registry.specs.Types.{Detach, Key}
 use Rattle.passive_list.specs.Common.{OnCpu}

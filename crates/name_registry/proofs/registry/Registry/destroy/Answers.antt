@@ -1,3 +1,4 @@
+-- `Registry::destroy`: its clauses `made`, `learned`, `freed`, `refused`, `gone` and `answer`.
 use Rattle.std.proofs.Common.{◌≡◌, ◌∙◌, false, sym}
 use Rattle.name_registry.specs.Common.{is_inside}
 use Rattle.name_registry.proofs.Attached.{inside_is}

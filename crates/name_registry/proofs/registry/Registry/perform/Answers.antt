@@ -1,3 +1,4 @@
+-- `Registry::perform`: its clauses `made`, `learned`, `done`, `refused` and `waited`.
 use Rattle.std.proofs.Common.{◌≡◌, ◌∙◌, false, Result, IfErr, sym, subst}
 use Rattle.name_registry.specs.Types.{Refusal}
 use Rattle.name_registry.specs.Common.{IsPerformRefusal, is_inside}

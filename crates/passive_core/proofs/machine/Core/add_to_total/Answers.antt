@@ -1,3 +1,4 @@
+-- `Core::add_to_total`: the invariant of `self`; that nothing overflows.
 use Rattle.std.proofs.Common.{◌≡◌, true, refl, sym, ap, ◌∙◌, arith, nat_eq, eq-eqb}
 use Rattle.protocol.specs.Common.{State, total_at}
 use Rattle.passive_core.specs.Common.{state_shown}

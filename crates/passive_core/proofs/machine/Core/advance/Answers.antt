@@ -1,3 +1,4 @@
+-- `Core::advance`: its clauses `holders`, `answer`, `ready` and `made`; what `advance_slot` requires.
 use Rattle.std.proofs.Common.{◌≡◌, true, sym, ap, subst, ◌∙◌, Ok}
 use Rattle.passive_core.specs.Types.{Retired, Stage}
 use Rattle.passive_core.specs.Common.{first_obstacle, stage_in, may_act}

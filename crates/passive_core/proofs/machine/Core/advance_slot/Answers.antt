@@ -1,3 +1,4 @@
+-- `Core::advance_slot`: its clauses `stage` and `made`.
 use Rattle.std.proofs.Common.{◌≡◌, ap, ◌∙◌, None}
 use Rattle.passive_core.specs.Types.{Retired}
 use Rattle.protocol.specs.Common.{State, held_at}

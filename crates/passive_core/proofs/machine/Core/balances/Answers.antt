@@ -1,3 +1,4 @@
+-- `Core::balances`: its clause `tally`; that each turn of its loop keeps the invariants.
 use Rattle.std.proofs.Common.{◌≡◌, ◌∙◌, ap, arith, subst}
 use Rattle.protocol.specs.Common.{State, Holds}
 use Rattle.passive_core.specs.Common.{tallies_below}

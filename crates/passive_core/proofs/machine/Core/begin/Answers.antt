@@ -1,3 +1,4 @@
+-- `Core::begin`: its clauses `idle` and `ready`.
 use Rattle.std.proofs.Common.{◌≡◌, subst, sym, true}
 use Rattle.protocol.specs.Common.{State, is_idle, Holds}
 use Rattle.passive_core.specs.Common.{may_act}

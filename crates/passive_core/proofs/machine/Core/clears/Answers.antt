@@ -1,3 +1,4 @@
+-- `Core::clears`: its clauses `answer`, `marks`, `others` and `made`; what `make` requires.
 use Rattle.std.proofs.Common.{◌≡◌, inr, refl, sym, ap, subst, ◌∙◌}
 use Rattle.passive_core.specs.Types.{Mark, PassiveLook}
 use Rattle.passive_core.specs.Common.{MarksClear, SameBut, IsPassiveLookFor}

@@ -1,3 +1,4 @@
+-- `Core::collect`: its clauses `gathered`, `collected` and `made`; what `make` requires.
 use Rattle.std.proofs.Common.{◌≡◌, inl, inr, refl, false, sym, ap, subst, ◌∙◌}
 use Rattle.passive_core.specs.Types.{Mark, Collect, TotalAdd, Done}
 use Rattle.protocol.specs.Common.{may_collect, step, Holds, mark_at}

@@ -1,3 +1,4 @@
+-- `Core::count_down`: its clauses `value`, `kept` and `made`; what it returns; what `make` requires.
 use Rattle.std.proofs.Common.{[], ◌∷◌, ◌∙◌, ap, subst, sym}
 use Rattle.protocol.specs.Common.{Holds, step}
 use Rattle.passive_core.specs.Common.{is_counting, with_count_less}

@@ -1,3 +1,4 @@
+-- `Core::detach`: its clauses `settings`, `ready`, `answer` and `made`; what `retire`, `take_snapshots` and `make` require.
 use Rattle.std.proofs.Common.{refl, sym, subst}
 use Rattle.passive_core.specs.Types.{Key}
 use Rattle.registry_values.proofs.Answers.{handed_on}

@@ -1,3 +1,4 @@
+-- `Core::exchange`: the invariant of `self` and `self-else-word-net`; that nothing overflows.
 use Rattle.std.proofs.Common.{◌≡◌, ◌<◌, length, [], true, false, refl, sym, ap, ◌∙◌, arith, rules, nat_eq, eq-eqb, ne_eqb}
 use Rattle.std.proofs.lemmas.List.{get_or_read}
 use Rattle.protocol.specs.Common.{State, hand_at, count_at}

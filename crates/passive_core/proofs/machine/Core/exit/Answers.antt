@@ -1,3 +1,4 @@
+-- `Core::exit`: its clause `made`; what `set_depth` requires; that nothing overflows.
 use Rattle.std.proofs.Common.{[], ◌∷◌, subst, arith}
 use Rattle.protocol.specs.Common.{Holds}
 use Rattle.passive_core.proofs.Entering.{depth_range}

@@ -1,3 +1,4 @@
+-- `Core::free`: its clauses `after` and `made`; what `make` requires.
 use Rattle.std.proofs.Common.{◌≡◌, inl, inr, refl, sym, subst, ◌∙◌, Some, None}
 use Rattle.passive_core.specs.Types.{Done, KeptSub, Vacate}
 use Rattle.protocol.specs.Common.{after_kept_sub, after_vacate, may_vacate, step, Holds, kept_at}

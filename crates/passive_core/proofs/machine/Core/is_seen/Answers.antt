@@ -1,3 +1,4 @@
+-- `Core::is_seen`: its clause `seen`.
 use Rattle.std.proofs.Common.{ℕ, ap, subst, ◌∙◌}
 use Rattle.protocol.specs.Common.{Holds, section_at}
 use Rattle.registry_values.specs.Common.{is_out}

@@ -1,3 +1,4 @@
+-- `Core::live_entry`: its clauses `answer` and `live`; what it returns.
 use Rattle.std.proofs.Common.{sym, subst, ◌∙◌}
 use Rattle.passive_core.specs.Common.{IsLookupNow}
 use Rattle.protocol.specs.Common.{Holds}

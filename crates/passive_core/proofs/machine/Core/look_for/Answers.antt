@@ -1,3 +1,4 @@
+-- `Core::look_for`: the invariant of `self`.
 use Rattle.std.proofs.Common.{◌<◌, length, [], Some, refl, sym, ap, ◌∙◌, rules}
 use Rattle.std.proofs.lemmas.List.{get_or_read}
 use Rattle.protocol.specs.Common.{State, section_at, mark_at, may_examine}

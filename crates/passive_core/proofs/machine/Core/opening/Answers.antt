@@ -1,3 +1,4 @@
+-- `Core::opening`: its clause `value`; the invariant of `result`.
 use Rattle.std.proofs.Common.{refl}
 use Rattle.passive_core.proofs.machine.Core.opening.Goals as goal
 use Rattle.protocol.proofs.keeps.Keeping.{opening_holds}
@@ -20,6 +21,7 @@ invariant_of-result c = rw (
   c.in_ok-repeated-14.ensures,
   c.in_ok-repeated-15.ensures,
   c.in_ok-repeated-16.ensures,
+  c.in_ok-repeated-17.ensures,
   c.new.ensures.items,
   c.new-2.ensures.items,
 ) (opening_holds c.args.settings c.requires)
@@ -35,6 +37,7 @@ returns-clause-value c = rw (
   c.in_ok-repeated-7.ensures,
   c.in_ok-repeated-8.ensures,
   c.in_ok-repeated-9.ensures,
+) (rw (
   c.in_ok-repeated-10.ensures,
   c.in_ok-repeated-11.ensures,
   c.in_ok-repeated-12.ensures,
@@ -42,6 +45,7 @@ returns-clause-value c = rw (
   c.in_ok-repeated-14.ensures,
   c.in_ok-repeated-15.ensures,
   c.in_ok-repeated-16.ensures,
+  c.in_ok-repeated-17.ensures,
   c.new.ensures.items,
   c.new-2.ensures.items,
-) refl
+) refl)

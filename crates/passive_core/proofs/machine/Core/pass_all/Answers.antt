@@ -1,3 +1,4 @@
+-- `Core::pass_all`: its clause `passed`; that each turn of its loop keeps the invariants.
 use Rattle.std.proofs.Common.{refl, ◌≡◌, ℕ, ◌<◌, ◌≤◌, true, sym, ap, subst, ◌∙◌, arith, length, inr}
 use Rattle.std.proofs.lemmas.Bool.{cases_eq}
 use Rattle.protocol.specs.Common.{AllPassed, Holds, State, mark_at}

@@ -1,3 +1,4 @@
+-- `Core::passive_of`: what it returns; that nothing overflows.
 use Rattle.std.proofs.Common.{◌-◌, ap, subst, ◌∙◌, arith}
 use Rattle.protocol.specs.Common.{Holds, passive_in}
 use Rattle.passive_core.proofs.machine.Core.passive_of.Goals as goal

@@ -1,3 +1,4 @@
+-- `Core::perform`: its clauses `ready`, `answer`, `after` and `made`; what `pass_all` requires.
 use Rattle.std.proofs.Common.{◌≡◌, ◌<◌, true, false, refl, sym, ap, subst, ◌∙◌, None}
 use Rattle.registry_values.specs.Common.{wait_answer, least_below, retired_number, is_retired, slot_at}
 use Rattle.passive_core.specs.Common.{all_seated, may_act, AllOutside, OnlyPasses, IsWaiting}

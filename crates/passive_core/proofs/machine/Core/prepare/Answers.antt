@@ -1,3 +1,4 @@
+-- `Core::prepare`: its clause `made`.
 use Rattle.std.proofs.Common.{◌≡◌, ℕ, [], ◌∷◌, ◌++◌, Some, ap, subst, ◌∙◌}
 use Rattle.protocol.specs.Common.{State, step}
 use Rattle.passive_core.specs.Types.{StoreNext}

@@ -1,3 +1,4 @@
+-- `Core::put_back`: the invariant of `self`.
 use Rattle.std.proofs.Common.{refl, ap, ◌∙◌}
 use Rattle.protocol.specs.Common.{State, hand_at}
 use Rattle.passive_core.specs.Common.{state_shown}

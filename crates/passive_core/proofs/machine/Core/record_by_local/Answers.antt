@@ -1,3 +1,4 @@
+-- `Core::record_by_local`: its clauses `record` and `made`; what `load_word` and `record_from` require.
 use Rattle.std.proofs.Common.{◌≡◌, ◌∙◌, ℕ, Option, Some, refl, subst, sym}
 use Rattle.protocol.specs.Common.{State, load_local, Holds}
 use Rattle.passive_core.proofs.Locals.{local_shows}

@@ -1,3 +1,4 @@
+-- `Core::record_by_passive`: its clauses `record` and `made`; what `load_word` and `record_from` require.
 use Rattle.std.proofs.Common.{◌∙◌, ℕ, refl, subst}
 use Rattle.protocol.specs.Common.{State, load_passive, Holds}
 use Rattle.passive_core.proofs.Passives.{ShowsRecord, load_ok, lawful_words, passive_shows, word_is}

@@ -1,3 +1,4 @@
+-- `Core::release_local`: its clauses `ready` and `made`.
 use Rattle.std.proofs.Common.{Bool, [], ◌∷◌, ◌∙◌, ◌≡◌, subst, sym, true}
 use Rattle.std.specs.Prelude.{if◌then◌else◌}
 use Rattle.passive_core.specs.Types.{CountDown, JoinRef, SplitBack}

@@ -1,3 +1,4 @@
+-- `Core::release_under`: its clause `made`; what `make` requires; that what is unreachable isn't reached.
 use Rattle.std.proofs.Common.{ℕ, [], ◌∷◌, Option, ◌∙◌, refl, subst, sym}
 use Rattle.protocol.specs.Common.{Holds, step}
 use Rattle.passive_core.specs.Types.{JoinKeeper, TotalSub}

@@ -1,3 +1,4 @@
+-- `Core::see`: the invariant of `self`.
 use Rattle.std.proofs.Common.{length, Some, refl, sym, ap, ◌∙◌}
 use Rattle.protocol.specs.Common.{State, is_idle}
 use Rattle.passive_core.specs.Common.{state_shown}

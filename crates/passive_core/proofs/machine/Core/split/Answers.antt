@@ -1,3 +1,4 @@
+-- `Core::split`: the invariant of `self`.
 use Rattle.std.proofs.Common.{refl, sym, ap, ◌∙◌}
 use Rattle.protocol.specs.Common.{State, hand_at, least_id}
 use Rattle.passive_core.specs.Common.{state_shown}

@@ -1,3 +1,4 @@
+-- `Core::split_in_place`: the invariant of `self`.
 use Rattle.std.proofs.Common.{◌≡◌, ◌∙◌, ap, lt-ltb, length, nat_lt, refl, subst, sym, true}
 use Rattle.protocol.specs.Common.{State, hand_at, least_id}
 use Rattle.passive_core.specs.Common.{state_shown}

@@ -1,3 +1,4 @@
+-- `Core::step_count_add`: the invariant of `self`; that nothing overflows.
 use Rattle.std.proofs.Common.{◌<◌, length, [], refl, sym, ap, ◌∙◌, arith, rules}
 use Rattle.std.proofs.lemmas.List.{get_or_read}
 use Rattle.protocol.specs.Common.{State, found_at, count_at, may_count}

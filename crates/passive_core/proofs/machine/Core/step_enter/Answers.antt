@@ -1,3 +1,4 @@
+-- `Core::step_enter`: the invariant of `self`.
 use Rattle.std.proofs.Common.{length, refl, sym, ap, ◌∙◌}
 use Rattle.protocol.specs.Common.{State, section_at, may_enter}
 use Rattle.passive_core.specs.Common.{state_shown}

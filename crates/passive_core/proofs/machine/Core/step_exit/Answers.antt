@@ -1,3 +1,4 @@
+-- `Core::step_exit`: the invariant of `self`.
 use Rattle.std.proofs.Common.{refl, sym, ap, ◌∙◌}
 use Rattle.protocol.specs.Common.{State, section_at, may_exit}
 use Rattle.passive_core.specs.Common.{state_shown}

@@ -1,3 +1,4 @@
+-- `Core::step_join_ref`: the invariant of `self`.
 use Rattle.std.proofs.Common.{refl, sym, ap, ◌∙◌}
 use Rattle.protocol.specs.Common.{State, local_at, is_idle, number_standing}
 use Rattle.passive_core.specs.Common.{state_shown}

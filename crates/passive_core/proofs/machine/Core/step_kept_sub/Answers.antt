@@ -1,3 +1,4 @@
+-- `Core::step_kept_sub`: the invariant of `self`; that nothing overflows.
 use Rattle.std.proofs.Common.{refl, sym, ap, ◌∙◌, arith}
 use Rattle.protocol.specs.Common.{State, total_at, kept_at, is_drained, is_iface_slot}
 use Rattle.registry_values.specs.Common.{slot_at, slot_of}

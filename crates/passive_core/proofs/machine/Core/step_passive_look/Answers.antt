@@ -1,3 +1,4 @@
+-- `Core::step_passive_look`: the invariant of `self`.
 use Rattle.std.proofs.Common.{◌<◌, length, [], refl, sym, ap, ◌∙◌, rules}
 use Rattle.std.proofs.lemmas.List.{get_or_read}
 use Rattle.protocol.specs.Common.{State, mark_at, passive_at, may_look_passive}

@@ -1,3 +1,4 @@
+-- `Core::step_publish`: what it returns; the invariant of `self`.
 use Rattle.std.proofs.Common.{refl, sym, ap, ◌∙◌}
 use Rattle.protocol.specs.Common.{State, row_at, may_publish, entry_of}
 use Rattle.passive_core.specs.Common.{state_shown}

@@ -1,3 +1,4 @@
+-- `Core::step_seek`: the invariant of `self`.
 use Rattle.std.proofs.Common.{refl, sym, ap, ◌∙◌}
 use Rattle.protocol.specs.Common.{State, seen_at, may_seek}
 use Rattle.passive_core.specs.Common.{state_shown}

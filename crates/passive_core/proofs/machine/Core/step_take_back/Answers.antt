@@ -1,3 +1,4 @@
+-- `Core::step_take_back`: what `passive_at` and `index_mut` require; the invariant of `self`; that nothing overflows.
 use Rattle.std.proofs.Common.{◌<◌, length, [], refl, sym, ap, subst, ◌∙◌, arith, rules}
 use Rattle.std.proofs.lemmas.List.{get_or_read}
 use Rattle.protocol.specs.Common.{State, Holds, hand_at, passive_at}

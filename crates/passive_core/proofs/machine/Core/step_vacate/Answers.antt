@@ -1,3 +1,4 @@
+-- `Core::step_vacate`: the invariant of `self`.
 use Rattle.std.proofs.Common.{refl, sym, ap, ◌∙◌}
 use Rattle.protocol.specs.Common.{State, may_vacate}
 use Rattle.passive_core.specs.Common.{state_shown}

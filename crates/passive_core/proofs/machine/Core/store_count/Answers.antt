@@ -1,3 +1,4 @@
+-- `Core::store_count`: the invariant of `self`.
 use Rattle.std.proofs.Common.{◌≡◌, ◌-◌, ◌<◌, length, [], true, false, refl, sym, ap, ◌∙◌, arith, rules, nat_lt}
 use Rattle.std.proofs.lemmas.List.{get_or_read}
 use Rattle.protocol.specs.Common.{State, may_write}

@@ -1,3 +1,4 @@
+-- `Core::store_record`: the invariant of `self`.
 use Rattle.std.proofs.Common.{◌≡◌, true, refl, sym, ap, ◌∙◌, nat_lt, lt-ltb}
 use Rattle.protocol.specs.Common.{State, row_at, may_write}
 use Rattle.passive_core.specs.Common.{state_shown}

@@ -1,3 +1,4 @@
+-- `Core::store_record_words`: its clauses `after` and `made`.
 use Rattle.std.proofs.Common.{[], ◌∷◌}
 use Rattle.protocol.specs.Common.{row_at, with_word}
 use Rattle.registry_values.specs.Common.{kind_word}

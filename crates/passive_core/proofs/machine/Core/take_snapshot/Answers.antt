@@ -1,3 +1,4 @@
+-- `Core::take_snapshot`: the invariant of `self`.
 use Rattle.std.proofs.Common.{◌<◌, length, [], Some, refl, sym, ap, ◌∙◌, rules}
 use Rattle.std.proofs.lemmas.List.{get_or_read}
 use Rattle.protocol.specs.Common.{State, section_at, is_snapshot_due, due_after}

@@ -1,3 +1,4 @@
+-- `Core::wait_for_sections`: its clause `answer`.
 use Rattle.std.proofs.Common.{◌<◌, false, not, ap, subst, ◌∙◌, slice_index_or}
 use Rattle.registry_values.specs.Common.{least_below}
 use Rattle.protocol.specs.Common.{is_inside, State}

@@ -1,3 +1,4 @@
+-- `Keeper::is_drained`: what it returns.
 use Rattle.std.proofs.Common.{◌∙◌, ◌<◌, refl, sym, subst}
 use Rattle.passive_list.specs.Common.{OnPlainKeeper, IsDrainedOn}
 use Rattle.passive_list.proofs.Marks.{drained_tells, drained_from}

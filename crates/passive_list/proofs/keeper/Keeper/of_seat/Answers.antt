@@ -1,3 +1,4 @@
+-- `Keeper::of_seat`: the invariant of `result`.
 use Rattle.std.proofs.Common.{sym, ap, subst, arith, length, replicate}
 use Rattle.passive_list.specs.Types.{KeeperView, MOST_SLOTS}
 use Rattle.cpu_words.specs.Common.{IsShown}

@@ -1,3 +1,4 @@
+-- `LiveSession::give_back`: its clauses `released`, `locals` and `ended`.
 use Rattle.registry_live.proofs.Ended.{all_ended}
 use Rattle.registry_live.proofs.LetGo.{still}
 use Rattle.registry_live.proofs.Labelled.{released_later}

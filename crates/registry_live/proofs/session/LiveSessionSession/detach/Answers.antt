@@ -1,3 +1,4 @@
+-- `LiveSessionSession::detach`: its clause `kept`; the invariant of `self`.
 use Rattle.registry_live.proofs.LiveCpus.{all_with, detached_stays}
 use Rattle.std.proofs.Common.{get_or, refl}
 use Rattle.registry_live.proofs.Labelled.{goes_on, lent}

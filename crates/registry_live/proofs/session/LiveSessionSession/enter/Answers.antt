@@ -1,3 +1,4 @@
+-- `LiveSessionSession::enter`: its clause `kept`; the invariant of `self`.
 use Rattle.registry_live.proofs.LiveCpus.{all_with, entered_stays}
 use Rattle.std.proofs.Common.{get_or, refl}
 use Rattle.registry_live.proofs.Labelled.{goes_on, lent}

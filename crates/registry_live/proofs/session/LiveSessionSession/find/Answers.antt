@@ -1,3 +1,4 @@
+-- `LiveSessionSession::find`: its clause `kept`; the invariant of `self`.
 use Rattle.registry_live.proofs.LiveCpus.{all_with}
 use Rattle.std.proofs.Common.{refl}
 use Rattle.registry_live.proofs.Labelled.{goes_on, lent}

@@ -1,3 +1,4 @@
+-- `LiveSessionSession::perform`: its clauses `kept` and `made`; the invariant of `self`.
 use Rattle.registry_live.proofs.LiveCpus.{all_with, learned_stays, on_one}
 use Rattle.registry_live.specs.Calls.{PerformsBy}
 use Rattle.std.proofs.Common.{get_or, refl}

@@ -1,3 +1,4 @@
+-- `LiveSessionSession::release`: its clause `kept`; the invariant of `self`.
 use Rattle.std.proofs.Common.{◌<◌, length, refl, rules, arith}
 use Rattle.registry_live.proofs.LiveCpus.{all_with}
 use Rattle.registry_live.proofs.Labelled.{lent, named_id, lets_go}

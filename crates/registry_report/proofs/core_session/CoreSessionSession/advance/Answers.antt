@@ -1,3 +1,4 @@
+-- `CoreSessionSession::advance`: its clauses `answer` and `shows`.
 use Rattle.registry_report.proofs.calls.Done.{advance_does}
 use Rattle.registry_report.proofs.core_session.CoreSessionSession.advance.Goals as goal
 

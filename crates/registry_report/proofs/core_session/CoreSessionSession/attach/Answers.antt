@@ -1,3 +1,4 @@
+-- `CoreSessionSession::attach`: its clauses `answer`, `shows` and `hitch`.
 use Rattle.registry_report.proofs.calls.Done.{attach_does}
 use Rattle.registry_language.specs.declared.command.Command.TheVariants.{Attach}
 use Rattle.registry_report.proofs.calls.Hitches.{attach_hitch, attach_refused}

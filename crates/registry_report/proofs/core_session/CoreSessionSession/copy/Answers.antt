@@ -1,3 +1,4 @@
+-- `CoreSessionSession::copy`: its clauses `answer` and `shows`; the invariant of `self`.
 use Rattle.std.proofs.Common.{None, ◌<◌, ap, subst, sym, ◌∙◌, Ok, Some, length-set, slice_set}
 use Rattle.std.specs.Prelude.{slice_index_or}
 use Rattle.registry_report.specs.Common.{SessionState}

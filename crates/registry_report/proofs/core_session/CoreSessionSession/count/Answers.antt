@@ -1,3 +1,4 @@
+-- `CoreSessionSession::count`: its clauses `shows` and `answer`; what `number` requires; the invariant of `self`.
 use Rattle.std.proofs.Common.{None, ap, subst, sym, ◌<◌, ◌∙◌}
 use Rattle.protocol.specs.Common.{State}
 use Rattle.registry_report.proofs.calls.Sessions.{counted_locals, new_live, taken_up}

@@ -1,3 +1,4 @@
+-- `CoreSessionSession::destroy`: its clauses `answer`, `shows` and `hitch`.
 use Rattle.registry_report.proofs.calls.Done.{destroy_does}
 use Rattle.registry_report.specs.Types.{Destroy}
 use Rattle.registry_report.proofs.calls.Hitches.{destroy_refused, hitch_is}

@@ -1,3 +1,4 @@
+-- `CoreSessionSession::detach`: its clauses `answer` and `shows`; the invariant of `self`.
 use Rattle.std.proofs.Common.{ap, ◌∙◌}
 use Rattle.protocol.specs.Common.{State}
 use Rattle.registry_report.proofs.calls.Done.{detach_does, detach_places}

@@ -1,3 +1,4 @@
+-- `CoreSessionSession::enter`: its clauses `shows` and `hitch`.
 use Rattle.std.proofs.Common.{◌<◌, subst, sym}
 use Rattle.registry_report.specs.Common.{SessionState}
 use Rattle.registry_report.proofs.calls.Done.{enter_does}

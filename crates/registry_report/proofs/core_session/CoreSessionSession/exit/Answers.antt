@@ -1,3 +1,4 @@
+-- `CoreSessionSession::exit`: its clause `shows`; the invariant of `self`.
 use Rattle.std.proofs.Common.{ap, ◌∙◌, ◌<◌, subst, sym}
 use Rattle.protocol.specs.Common.{State}
 use Rattle.registry_report.proofs.calls.Sessions.{exited_locals, same_places}

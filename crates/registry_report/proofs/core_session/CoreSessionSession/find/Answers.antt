@@ -1,3 +1,4 @@
+-- `CoreSessionSession::find`: its clauses `answer` and `shows`.
 use Rattle.std.proofs.Common.{◌<◌, subst, sym, ◌∙◌}
 use Rattle.registry_report.specs.Common.{SessionState}
 use Rattle.registry_report.proofs.calls.Done.{find_does}

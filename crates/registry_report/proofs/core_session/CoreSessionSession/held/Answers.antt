@@ -1,3 +1,4 @@
+-- `CoreSessionSession::held`: its clause `answer`.
 use Rattle.std.proofs.Common.{None, ap, sym, ◌∙◌}
 use Rattle.std.specs.Prelude.{slice_index_or}
 use Rattle.registry_report.specs.Common.{SessionState}

@@ -1,3 +1,4 @@
+-- `CoreSessionSession::perform`: its clauses `answer`, `shows` and `hitch`.
 use Rattle.registry_report.proofs.calls.Done.{perform_does}
 use Rattle.registry_report.specs.Types.{Perform}
 use Rattle.registry_report.proofs.calls.Hitches.{hitch_is, perform_refused}

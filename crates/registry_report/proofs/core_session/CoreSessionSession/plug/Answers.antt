@@ -1,3 +1,4 @@
+-- `CoreSessionSession::plug`: its clauses `shows`, `answer` and `hitch`; the invariant of `self`.
 use Rattle.std.proofs.Common.{Err, None, ap, sym, ◌∙◌}
 use Rattle.std.specs.Prelude.{slice_index_or}
 use Rattle.protocol.specs.Common.{State}

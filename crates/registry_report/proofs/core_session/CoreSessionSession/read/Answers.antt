@@ -1,3 +1,4 @@
+-- `CoreSessionSession::read`: its clauses `answer` and `shows`.
 use Rattle.std.proofs.Common.{None, ap, sym, ◌∙◌}
 use Rattle.std.specs.Prelude.{slice_index_or}
 use Rattle.registry_report.specs.Common.{SessionState, read_answer}

@@ -1,3 +1,4 @@
+-- `CoreSessionSession::reference`: its clause `shows`.
 use Rattle.std.proofs.Common.{None, ◌<◌, ap, subst, sym, ◌∙◌}
 use Rattle.std.specs.Prelude.{slice_index_or}
 use Rattle.registry_report.specs.Common.{SessionState}

@@ -1,3 +1,4 @@
+-- `CoreSessionSession::release`: its clauses `answer` and `shows`.
 use Rattle.std.proofs.Common.{None, ◌<◌, ap, subst, sym, ◌∙◌}
 use Rattle.std.specs.Prelude.{slice_index_or}
 use Rattle.registry_report.specs.Common.{SessionState}

@@ -1,3 +1,4 @@
+-- `CoreSessionSession::uncount`: its clause `shows`; the invariant of `self`.
 use Rattle.std.proofs.Common.{None, ap, subst, sym, ◌<◌, ◌∙◌}
 use Rattle.std.specs.Prelude.{slice_index_or}
 use Rattle.protocol.specs.Common.{State}

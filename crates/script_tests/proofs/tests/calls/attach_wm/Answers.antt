@@ -1,3 +1,4 @@
+-- `attach_wm`: what it returns.
 use Rattle.std.proofs.Common.{◌<◌, arith, get_or}
 use Rattle.registry_live.proofs.LiveCpus.{all_with, attached_stays}
 use Rattle.script_tests.proofs.tests.calls.attach_wm.Goals as goal

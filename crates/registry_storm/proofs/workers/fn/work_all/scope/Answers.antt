@@ -1,3 +1,4 @@
+-- `scope`: what it returns.
 use Rattle.std.proofs.Common.{arith, ◌≡◌, ◌+◌, ◌*◌, ℕ, ap, vec_len}
 use Rattle.registry_storm.proofs.workers.fn.work_all.scope.Goals as goal
 

@@ -1,0 +1,48 @@
+-- What a lookup and a get answer and leave: by memory from outside, else by the calls that they take the place of, one after the other.
+use Rattle.std.specs.Prelude.{◌≡◌, ◌⊎◌, Option, Some, None, Result, Ok, Err, IsTrue}
+use Rattle.name_registry.specs.Types.{Entry, Key, Refusal, NotFound}
+use Rattle.passive_list.specs.Common.{AnswersEnter, FindsWhatStays, HasExitedOn, HasFoundInside, HasFoundRemembered, OnCpu, may_begin}
+use Rattle.passive_ref.specs.Psrefs.{IsAcquired, OnPsref, why_not_acquired}
+use Rattle.passive_ref.specs.Gets.{HasGotRemembered}
+
+-- the result of a lookup that found so
+abbrev pub found_or : Option Entry → Result Entry Refusal
+found_or None = Err NotFound
+found_or (Some e) = Ok e
+
+-- P in a section, between an enter and an exit; an enter that is refused is the result, and nothing else is done
+pub record InSection {X : Type 0} (a b : OnCpu) (r : Result X Refusal) (P : OnCpu → OnCpu → Type 0) : Type 0 where
+  pub first : OnCpu
+  pub entered : Result (Unit {0}) Refusal
+  pub enters : AnswersEnter a first entered
+  pub refused : (f : Refusal) → entered ≡ Err f → (r ≡ Err f) × (b ≡ first)
+  pub inside : entered ≡ Ok tt → (last : OnCpu) × P first last × HasExitedOn last b
+
+-- a CPU that is outside, with a section left
+abbrev pub MayBegin : OnCpu → Type 0
+MayBegin a = (a.depth ≡ 0) × IsTrue (may_begin a.view)
+
+pub record LooksUp (key : Key) (a b : OnCpu) (r : Result Entry Refusal) : Type 0 where
+  pub by_memory : MayBegin a → (found : Option Entry) × (r ≡ found_or found) × HasFoundRemembered key a b found × FindsWhatStays key a.view.pass b.view.pass found
+  pub by_calls : (MayBegin a → ⊥) → InSection a b r (λ x y. (found : Option Entry) × (r ≡ found_or found) × HasFoundInside key x y found)
+
+-- A find, and an acquire of what it found. What is refused is the result, and nothing is acquired.
+pub record FindsAndAcquires (key : Key) (a b : OnCpu) (r : Result (Entry × OnPsref) Refusal) : Type 0 where
+  pub found : Option Entry
+  pub middle : OnCpu
+  pub finds : HasFoundInside key a middle found
+  pub none : found ≡ None → (r ≡ Err NotFound) × (b ≡ middle)
+  pub some : (e : Entry) → found ≡ Some e
+      → ((f : Refusal) × (why_not_acquired middle.view middle.view.found ≡ Some f) × (r ≡ Err f) × (b ≡ middle)) ⊎ ((p : OnPsref) × (r ≡ Ok (e, p)) × IsAcquired middle b p)
+
+abbrev pub GetsInSection : Key → OnCpu → OnCpu → Result (Entry × OnPsref) Refusal → Type 0
+GetsInSection key a b r = InSection a b r (λ x y. FindsAndAcquires key x y r)
+
+-- what follows a get by memory: nothing where it got a reference, else the calls
+abbrev pub GetsAfter : Key → OnCpu → OnCpu → Option (Entry × OnPsref) → Result (Entry × OnPsref) Refusal → Type 0
+GetsAfter key c b None r = GetsInSection key c b r
+GetsAfter key c b (Some got) r = (r ≡ Ok got) × (b ≡ c)
+
+pub record Gets (key : Key) (a b : OnCpu) (r : Result (Entry × OnPsref) Refusal) : Type 0 where
+  pub by_memory : MayBegin a → (got : Option (Entry × OnPsref)) × (c : OnCpu) × HasGotRemembered key a c got × GetsAfter key c b got r
+  pub by_calls : (MayBegin a → ⊥) → GetsInSection key a b r

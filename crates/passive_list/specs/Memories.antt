@@ -1,0 +1,85 @@
+-- What a CPU remembers of the entries that it has found: a row for each slot, and by hint of a name the two slots where one with that hint was found last.
+use Rattle.std.specs.Prelude.{◌≡◌, ◌≢◌, ◌⊎◌, ℕ, ◌+◌, ◌%◌, ◌==◌, ◌<◌, if◌then◌else◌, List, length, set, replicate, slice_index_or, Option, Some, None, IfSome}
+use Rattle.passive_list.specs.Types.{Change, Entry, Iface, Key, Name, MOST_SLOTS}
+use Rattle.protocol.specs.Common.{IsAttached, entry_with}
+use Rattle.passive_list.specs.declared.lookup.Seen.{Seen}
+use Rattle.passive_list.specs.declared.memory.Memo.{Memo}
+use Rattle.passive_list.specs.declared.memory.Memory.{Memory}
+use Rattle.passive_list.specs.declared.memory.TheConstants.{HINTS}
+
+abbrev pub no_memo : Memo
+no_memo = record { number = 0; value = 0; kind = Iface; name = record { high = 0; low = 0 } }
+
+-- of no entry
+abbrev pub no_memory : Memory
+no_memory = record { rows = replicate MOST_SLOTS no_memo; last = replicate HINTS 0; older = replicate HINTS 0 }
+
+abbrev pub memo_at : List Memo → ℕ → Memo
+memo_at rows t = slice_index_or rows t no_memo
+
+abbrev pub memo_of : Key → Seen → Memo
+memo_of key s = record { number = s.number; value = s.value; kind = key.kind; name = key.name }
+
+-- the entry of the row m of the slot t
+abbrev pub entry_of : ℕ → Memo → Entry
+entry_of t m = entry_with (record { kind = m.kind; name = m.name }) t m.number m.value
+
+-- all rows and hints are there; each row is of no entry, or of an entry that was attached in that slot by the end of h
+pub record Remembers (slots : ℕ) (h : List Change) (m : Memory) : Type 0 where
+  pub size : length m.rows ≡ MOST_SLOTS
+  pub last : length m.last ≡ HINTS
+  pub older : length m.older ≡ HINTS
+  pub each : (t : ℕ) → (memo_at m.rows t).number ≢ 0 → (t < slots) × IsAttached h (entry_of t (memo_at m.rows t))
+
+-- the row is of an entry with this key
+pub record IsRow (key : Key) (m : Memo) : Type 0 where
+  pub some : m.number ≢ 0
+  pub kind : m.kind ≡ key.kind
+  pub name : m.name ≡ key.name
+
+-- s is what the row of its slot says, which has the key
+pub record IsOfRow (rows : List Memo) (key : Key) (s : Seen) : Type 0 where
+  pub few : s.slot < MOST_SLOTS
+  pub some : s.number ≢ 0
+  pub is : memo_at rows s.slot ≡ memo_of key s
+
+-- What is remembered of a key
+
+abbrev pub hint_of : Name → ℕ
+hint_of n = (n.high % 251 + n.low % 241) % HINTS
+
+-- the slot that the hint of the name leads to
+abbrev pub hinted : List ℕ → Name → ℕ
+hinted hints n = slice_index_or hints (hint_of n) MOST_SLOTS
+
+-- what the row of the slot t says of the key
+abbrev pub RecallsAt : List Memo → Key → ℕ → Option Seen → Type 0
+RecallsAt rows key t None = t < MOST_SLOTS → IsRow key (memo_at rows t) → ⊥
+RecallsAt rows key t (Some s) = (s.slot ≡ t) × IsOfRow rows key s
+
+-- what the CPU remembers of the key: by the newer one of its name's hints, else by the older one
+abbrev pub Recalls : Memory → Key → Option Seen → Type 0
+Recalls m key found = ((s : Seen) × (found ≡ Some s) × RecallsAt m.rows key (hinted m.last key.name) found) ⊎ (RecallsAt m.rows key (hinted m.last key.name) None × RecallsAt m.rows key (hinted m.older key.name) found)
+
+-- s is remembered, as the newer one
+abbrev pub with_seen : Memory → Key → Seen → Memory
+with_seen m key s = record {
+  rows = set m.rows s.slot (memo_of key s);
+  last = if hinted m.last key.name == s.slot then m.last else set m.last (hint_of key.name) s.slot;
+  older = if hinted m.last key.name == s.slot then m.older else set m.older (hint_of key.name) (hinted m.last key.name);
+}
+
+-- What is remembered of other keys stays: of those that don't share the hint, and not the slot t, if there is one.
+abbrev pub KeepsOthers : Key → Option ℕ → Memory → Memory → Type 0
+KeepsOthers key t m n = (other : Key) (s : Seen) → hint_of other.name ≢ hint_of key.name → IfSome t (λ u. s.slot ≢ u) → Recalls m other (Some s) → Recalls n other (Some s)
+
+-- The row of the slot t doesn't have the key, if it is there. Each row is as before, but for some that had the key and are of no entry now.
+pub record HasCleared (key : Key) (t : ℕ) (m n : Memory) : Type 0 where
+  pub is : n ≡ record m { rows = n.rows }
+  pub size : length n.rows ≡ length m.rows
+  pub none : RecallsAt n.rows key t None
+  pub each : (u : ℕ) → (memo_at n.rows u ≡ memo_at m.rows u) ⊎ (IsRow key (memo_at m.rows u) × (memo_at n.rows u ≡ no_memo))
+
+-- both hints of the key's name lead to no row with the key
+abbrev pub HasForgotten : Key → Memory → Memory → Type 0
+HasForgotten key m n = (c : Memory) × HasCleared key (hinted m.last key.name) m c × HasCleared key (hinted m.older key.name) c n

@@ -1,0 +1,90 @@
+-- A lookup by memory: what the CPU remembers of the key decides whether its live word is loaded, and what it finds in a section it remembers.
+use Rattle.std.specs.Prelude.{◌≡◌, ◌≢◌, ◌⊎◌, ℕ, ◌<◌, Bool, true, false, List, ◌++◌, length, Option, Some, None}
+use mathlib.Core.List.{IsPrefix}
+use Rattle.passive_list.specs.Types.{Change, Entry, Key, MOST_SLOTS, Recall, Word}
+use Rattle.registry_values.specs.Common.{key_of}
+use Rattle.protocol.specs.Common.{EndsAt, IsAttached, IsLookup, entry_with}
+use Rattle.cpu_words.specs.Common.{HasWholePass, did}
+use Rattle.passive_list.specs.declared.lookup.Seen.{Seen}
+use Rattle.passive_list.specs.declared.memory.Memory.{Memory}
+use Rattle.passive_list.specs.Cpus.{OnCpu, OnPlainCpu}
+use Rattle.passive_list.specs.Lookups.{HasFound, HasFoundFromOutside}
+use Rattle.passive_list.specs.Memories.{KeepsOthers, Recalls}
+use Rattle.passive_list.specs.Recalling.{HasRefoundAs}
+use Rattle.passive_list.specs.Walking.{entry_seen}
+
+-- s is of an entry of the CPU's pass, with the key
+pub record HasSeen (o : OnPlainCpu) (key : Key) (s : Seen) : Type 0 where
+  pub few : s.slot < MOST_SLOTS
+  pub slots : s.slot < o.words.settings.slots
+  pub attached : IsAttached o.cpu.view.pass (entry_with key s.slot s.number s.value)
+
+-- One load of the slot's live word, and nothing else, and the pass is the whole history. The entry e is what the registry answers for the key at its end: at this load.
+pub record HasRecalledAs (key : Key) (a b : OnCpu) (e : Entry) : Type 0 where
+  pub pass : IsPrefix a.view.pass b.view.pass
+  pub is : b ≡ record a { view = record a.view { pass = b.view.pass }; log = b.log }
+  pub whole : HasWholePass b.view
+  pub answered : IsLookup b.view.pass (length b.view.pass) key (Some e)
+  pub log : b.log ≡ a.log ++ did (Recall a.view.id e.slot) (Word e.number)
+
+-- one load of the live word of the slot of s, which isn't the number of s, and the pass has grown
+pub record HasRecalledInVain (s : Seen) (a b : OnCpu) : Type 0 where
+  pub pass : IsPrefix a.view.pass b.view.pass
+  pub is : b ≡ record a { view = record a.view { pass = b.view.pass }; log = b.log }
+  pub word : ℕ
+  pub other : word ≢ s.number
+  pub log : b.log ≡ a.log ++ did (Recall a.view.id s.slot) (Word word)
+
+abbrev pub RecallsSeen : Key → Seen → OnCpu → OnCpu → Bool → Type 0
+RecallsSeen key s a b true = HasRecalledAs key a b (entry_with key s.slot s.number s.value)
+RecallsSeen key s a b false = HasRecalledInVain s a b
+
+-- what is remembered of the key is the answer; of keys with other hints and slots it is as before
+abbrev pub RemembersAnswer : Key → Memory → Memory → Option Seen → Type 0
+RemembersAnswer key m n None = Recalls n key None × KeepsOthers key None m n
+RemembersAnswer key m n (Some s) = Recalls n key (Some s) × KeepsOthers key (Some s.slot) m n
+
+-- it finds the answer as `Finds` says, and remembers it
+pub record FindsAndRemembers (Finds : OnCpu → Option Entry → Type 0) (key : Key) (a b : OnCpu) (answer : Option Seen) : Type 0 where
+  pub left : OnCpu
+  pub finds : Finds left (entry_seen key answer)
+  pub is : b ≡ record left { memory = b.memory }
+  pub remembers : RemembersAnswer key a.memory b.memory answer
+
+abbrev pub HasFoundAnew : Key → OnCpu → OnCpu → Option Seen → Type 0
+HasFoundAnew key a b answer = FindsAndRemembers (HasFoundFromOutside key a) key a b answer
+
+-- in the open section
+abbrev pub HasFoundKept : Key → OnCpu → OnCpu → Option Seen → Type 0
+HasFoundKept key a b answer = FindsAndRemembers (HasFound key a) key a b answer
+
+abbrev pub RefindsSeen : Key → Seen → OnCpu → OnCpu → Bool → Type 0
+RefindsSeen key s a b true = HasRefoundAs key a b (entry_with key s.slot s.number s.value)
+RefindsSeen key s a b false = HasRecalledInVain s a b
+
+-- what a lookup does there by what the CPU remembers of the key: nothing, or s
+abbrev pub FindsInsideBy : Option Seen → Key → OnCpu → OnCpu → Option Seen → Type 0
+FindsInsideBy None key a b answer = HasFoundKept key a b answer
+FindsInsideBy (Some s) key a b answer = ((answer ≡ Some s) × HasRefoundAs key a b (entry_with key s.slot s.number s.value)) ⊎ ((c : OnCpu) × HasRecalledInVain s a c × HasFoundKept key c b answer)
+
+abbrev pub FindsInside : Key → OnCpu → OnCpu → Option Seen → Type 0
+FindsInside key a b answer = (kept : Option Seen) × Recalls a.memory key kept × FindsInsideBy kept key a b answer
+
+abbrev pub HasFoundInside : Key → OnCpu → OnCpu → Option Entry → Type 0
+HasFoundInside key a b answer = (seen : Option Seen) × (answer ≡ entry_seen key seen) × FindsInside key a b seen
+
+-- what a lookup does by what the CPU remembers of the key: nothing, or s
+abbrev pub FindsBy : Option Seen → Key → OnCpu → OnCpu → Option Seen → Type 0
+FindsBy None key a b answer = HasFoundAnew key a b answer
+FindsBy (Some s) key a b answer = ((answer ≡ Some s) × HasRecalledAs key a b (entry_with key s.slot s.number s.value)) ⊎ ((c : OnCpu) × HasRecalledInVain s a c × HasFoundAnew key c b answer)
+
+-- By one load, if the CPU remembers an entry with the key and its slot's live word is its number. Else in a section of its own.
+abbrev pub HasFoundByMemory : Key → OnCpu → OnCpu → Option Seen → Type 0
+HasFoundByMemory key a b answer = (kept : Option Seen) × Recalls a.memory key kept × FindsBy kept key a b answer
+
+abbrev pub HasFoundRemembered : Key → OnCpu → OnCpu → Option Entry → Type 0
+HasFoundRemembered key a b answer = (seen : Option Seen) × (answer ≡ entry_seen key seen) × HasFoundByMemory key a b seen
+
+-- An entry with the key that was attached in h, and isn't detached in g, is the answer.
+abbrev pub FindsWhatStays : Key → List Change → List Change → Option Entry → Type 0
+FindsWhatStays key h g answer = (e : Entry) → IsAttached h e → key_of e ≡ key → ((p : ℕ) → EndsAt g e.number p → ⊥) → answer ≡ Some e

@@ -1,0 +1,36 @@
+-- The data agree with the view, whether the CPU has its reference or not.
+use Rattle.std.proofs.Common.{inl, inr, rules, refl, sym, subst}
+use Rattle.passive_list.specs.Common.{OnPlainCpu}
+use Rattle.passive_ref.specs.Gets.{HasSeen, HasTriedOnSeat, IsFullAt}
+use Rattle.passive_ref.proofs.Gets.{full_at, given_on, got_on, may_try, taken_agrees, vain_agrees}
+use Rattle.passive_ref.proofs.getting.get_on.Goals as goal
+
+pub try_on_seat-done-requires-clause-may : goal.try_on_seat-done-requires-clause-may
+try_on_seat-done-requires-clause-may c =
+    let seen = subst (λ (o : OnPlainCpu). HasSeen o.cpu.view c.args.slot c.args.number) (sym c.cpu.view_is) c.requires.seen in
+    may_try _ _ _ _ seen c.cpu.invariant.idle c.cpu.invariant.passive (search rules)
+
+pub invariant_of-cpu : goal.invariant_of-cpu
+invariant_of-cpu c =
+    let had = subst (HasTriedOnSeat c.args.slot c.args.number _ _ _ _) c.if-done.true c.try_on_seat-done.ensures.tried in
+    taken_agrees _ _ _ _ _ _ _ _ _ _ _ _ _ _ _ _ c.cpu.invariant c.try_on_seat-done.ensures.is_shown c.try_on_seat-done.ensures.table c.requires.slot had.0 c.counted_for.ensures
+
+pub invariant_of-cpu-else-done : goal.invariant_of-cpu-else-done
+invariant_of-cpu-else-done c =
+    let had = subst (HasTriedOnSeat c.args.slot c.args.number _ _ _ _) c.if-done.false c.try_on_seat-done.ensures.tried in
+    vain_agrees _ _ _ _ _ _ _ _ _ _ _ _ _ c.cpu.invariant c.try_on_seat-done.ensures.is_shown c.try_on_seat-done.ensures.table had.0
+
+pub returns-then-place-settings-clause-got : goal.returns-then-place-settings-clause-got
+returns-then-place-settings-clause-got c =
+    let i = c.cpu.inside in
+    inl (refl, subst (λ (o : OnPlainCpu). IsFullAt o.cpu.view c.args.slot) c.cpu.view_is (full_at i.seat.view i.passive c.args.slot c.cpu.invariant.passive (search rules)))
+
+pub returns-then-done-clause-got : goal.returns-then-done-clause-got
+returns-then-done-clause-got c =
+    let had = subst (HasTriedOnSeat c.args.slot c.args.number _ _ _ _) c.if-done.true c.try_on_seat-done.ensures.tried in
+    got_on _ _ _ _ _ _ _ _ _ _ _ _ _ c.cpu.view_is had.0 had.1 c.try_on_seat-done.ensures.known_log (sym c.cpu.invariant.id) refl
+
+pub returns-clause-got : goal.returns-clause-got
+returns-clause-got c =
+    let had = subst (HasTriedOnSeat c.args.slot c.args.number _ _ _ _) c.if-done.false c.try_on_seat-done.ensures.tried in
+    inr (given_on _ _ _ _ _ _ _ _ _ _ _ _ c.cpu.view_is had.0 had.1 c.try_on_seat-done.ensures.known_log)
