@@ -44,7 +44,8 @@ struct bench_found {
 	uint64_t switches;	/* from one thread to another */
 	uint64_t points;
 	uint64_t barred;	/* points at which a thread, after 200 without another one, didn't go on */
-	bool exhausted;		/* every schedule was tried, or is the same as one that was */
+	bool complete;		/* the search through all came to its end */
+	bool exhausted;		/* and left nothing out: every schedule of the points was tried, or is the same as one that was */
 	int bound;		/* every schedule with at most so many preemptions was tried; -1 where none */
 	uint64_t random;	/* runs by random priorities */
 	uint64_t first;		/* how many runs it took until the fault; 0 where none was found */

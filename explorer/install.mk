@@ -1,47 +1,47 @@
-# The bench, which is installed beside the libraries of ../install.mk: libkupaldiz_bench has the calls of the pages' names, too, so a program is linked
+# The bench, which is installed beside the libraries of packaging/install.mk: libkupaldiz_bench has the calls of the pages' names, too, so a program is linked
 # with it or with libkupaldiz_netbsd. It is for x86_64 alone: a switch from stack to stack is made of that processor's instructions.
 
-include bench/parts.mk
+include explorer/parts.mk
 
 BENCH_SONAME = libkupaldiz_bench$(BUILD).so.$(MAJOR)
 BENCH_SHARED = libkupaldiz_bench$(BUILD).so.$(VERSION)
 BENCH_FOLDER = $(OUT)/installed-bench
-BENCH_HEADERS = bench/bench.h $(wildcard bench/src/*.h netbsd/src/*.h) $(addprefix netbsd/,$(NETBSD_HEADERS)) $(FACE)
+BENCH_HEADERS = explorer/bench.h $(wildcard explorer/src/*.h netbsd/src/*.h) $(addprefix netbsd/include/,$(NETBSD_HEADERS)) $(FACE)
 BENCH_LAYER = $(filter-out $(BENCH_INSTEAD:%=netbsd/src/%.c),$(wildcard netbsd/src/*.c))
-BENCH_OWN = $(wildcard bench/src/*.c)
-BENCH_OBJECTS = $(BENCH_OWN:bench/src/%.c=$(BENCH_FOLDER)/bench-%.o) $(BENCH_LAYER:netbsd/src/%.c=$(BENCH_FOLDER)/layer-%.o)
-BENCH_COMPILED = $(CPPFLAGS) $(filter-out -flto%,$(CFLAGS)) $(BENCH_STRICT) -fPIC -Ibench -Inetbsd -Inetbsd/src -I$(HEADER)
+BENCH_OWN = $(wildcard explorer/src/*.c)
+BENCH_OBJECTS = $(BENCH_OWN:explorer/src/%.c=$(BENCH_FOLDER)/bench-%.o) $(BENCH_LAYER:netbsd/src/%.c=$(BENCH_FOLDER)/layer-%.o)
+BENCH_COMPILED = $(CPPFLAGS) $(filter-out -flto%,$(CFLAGS)) $(BENCH_STRICT) -fPIC -Iexplorer -Inetbsd/include -Inetbsd/src -I$(HEADER)
 BENCH_LINKED = $(filter-out $(LINKED_$(PROCESSOR)),$(LINKED))
-BENCH_MADE_BY = places.mk install.mk bench/parts.mk bench/install.mk
+BENCH_MADE_BY = packaging/places.mk packaging/install.mk explorer/parts.mk explorer/install.mk
 
 ifeq ($(PROCESSOR),x86_64)
 library: $(OUT)/libkupaldiz_bench.a $(OUT)/$(BENCH_SHARED)
 install: install_bench
 endif
 
-$(BENCH_FOLDER)/names: bench/src/calls.c bench/src/more_calls.c bench/src/made.c
+$(BENCH_FOLDER)/names: explorer/src/calls.c explorer/src/more_calls.c explorer/src/xcalls.c explorer/src/made.c
 	mkdir -p $(BENCH_FOLDER)
 	$(BENCH_WRAPPED)
 
-$(BENCH_OWN:bench/src/%.c=$(BENCH_FOLDER)/bench-%.o): $(BENCH_FOLDER)/bench-%.o: bench/src/%.c $(BENCH_HEADERS) $(BENCH_FOLDER)/names $(BENCH_MADE_BY)
+$(BENCH_OWN:explorer/src/%.c=$(BENCH_FOLDER)/bench-%.o): $(BENCH_FOLDER)/bench-%.o: explorer/src/%.c $(BENCH_HEADERS) $(BENCH_FOLDER)/names $(BENCH_MADE_BY)
 	$(CC) $(BENCH_COMPILED) -c -o $@ $<
 
 # What the bench wraps is called layer_.. in it.
 $(BENCH_LAYER:netbsd/src/%.c=$(BENCH_FOLDER)/layer-%.o): $(BENCH_FOLDER)/layer-%.o: netbsd/src/%.c $(BENCH_HEADERS) $(BENCH_FOLDER)/names $(BENCH_MADE_BY)
-	$(CC) $(BENCH_COMPILED) -Ibench/src -include bench/src/shim.h -c -o $@.own $<
+	$(CC) $(BENCH_COMPILED) -Iexplorer/src -include explorer/src/shim.h -c -o $@.own $<
 	$(OBJCOPY) --redefine-syms=$(BENCH_FOLDER)/names $@.own $@
 	rm -f $@.own
 
 # One object, from which the calls of its map are seen, and no other name.
-$(OUT)/libkupaldiz_bench.a: $(BENCH_OBJECTS) bench/bench.map
+$(OUT)/libkupaldiz_bench.a: $(BENCH_OBJECTS) explorer/bench.map
 	rm -f $@ $(OUT)/kupaldiz_bench.o
 	$(CC) -r -nostdlib -o $(OUT)/kupaldiz_bench.o $(BENCH_OBJECTS)
-	sed -n 's/^\t\t\([a-z][a-z0-9_]*\*\?\);$$/\1/p' bench/bench.map >$(BENCH_FOLDER)/shown
+	sed -n 's/^\t\t\([a-z][a-z0-9_]*\*\?\);$$/\1/p' explorer/bench.map >$(BENCH_FOLDER)/shown
 	$(OBJCOPY) --wildcard --keep-global-symbols=$(BENCH_FOLDER)/shown $(OUT)/kupaldiz_bench.o
 	$(AR) rcsD $@ $(OUT)/kupaldiz_bench.o
 
-$(OUT)/$(BENCH_SHARED): $(OUT)/libkupaldiz_bench.a $(OUT)/$(SHARED) bench/bench.map $(BENCH_MADE_BY)
-	$(CC) $(BENCH_LINKED) $(if $(RUNPATH),-Wl$(comma)-rpath$(comma)'$(RUNPATH)') -o $@ -Wl,-soname,$(BENCH_SONAME) -Wl,--version-script=bench/bench.map \
+$(OUT)/$(BENCH_SHARED): $(OUT)/libkupaldiz_bench.a $(OUT)/$(SHARED) explorer/bench.map $(BENCH_MADE_BY)
+	$(CC) $(BENCH_LINKED) $(if $(RUNPATH),-Wl$(comma)-rpath$(comma)'$(RUNPATH)') -o $@ -Wl,-soname,$(BENCH_SONAME) -Wl,--version-script=explorer/bench.map \
 	    -Wl,--whole-archive $(OUT)/libkupaldiz_bench.a -Wl,--no-whole-archive $(OUT)/$(SHARED) -pthread
 
 install_bench: library
@@ -51,8 +51,8 @@ install_bench: library
 	$(INSTALL) -m 755 $(OUT)/$(BENCH_SHARED) $(DESTDIR)$(LIBDIR)/$(BENCH_SHARED)
 	ln -sf $(BENCH_SHARED) $(DESTDIR)$(LIBDIR)/$(BENCH_SONAME)
 	ln -sf $(BENCH_SONAME) $(DESTDIR)$(LIBDIR)/libkupaldiz_bench.so
-	$(INSTALL) -m 644 bench/bench.h $(DESTDIR)$(INCLUDEDIR)/kupaldiz/bench.h
-	$(filled) bench/kupaldiz-bench.pc.in >$(DESTDIR)$(PKGCONFIGDIR)/kupaldiz-bench.pc
+	$(INSTALL) -m 644 explorer/bench.h $(DESTDIR)$(INCLUDEDIR)/kupaldiz/bench.h
+	$(filled) explorer/kupaldiz-bench.pc.in >$(DESTDIR)$(PKGCONFIGDIR)/kupaldiz-bench.pc
 	$(INSTALL) -m 644 man/kupaldiz_bench.7 $(DESTDIR)$(MANDIR)/man7/kupaldiz_bench.7
 
 # Before the folders are taken away, what is in them.

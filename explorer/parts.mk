@@ -1,4 +1,4 @@
-# What the bench is made of: for ../install.mk, which installs it, and for Makefile, which tests it.
+# What the bench is made of: for packaging/install.mk, which installs it, and for Makefile, which tests it.
 
 # A shadow stack knows nothing of a switch from stack to stack, so nothing says that the bench may run with one.
 BENCH_STRICT = -std=gnu11 -D_GNU_SOURCE $(filter-out -Wpedantic,$(WARNINGS)) -fcf-protection=none

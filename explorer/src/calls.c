@@ -67,7 +67,7 @@ static bool steps_off(const struct routine *me, const kmutex_t *mutex)
 }
 
 /* Whether a mutex is free, and the CPU too where the mutex spins. What isn't a mutex, or is the thread's already, is for the layer to judge. */
-static bool can_take(const struct routine *me)
+bool can_take(const struct routine *me)
 {
 	const kmutex_t *mutex = me->of;
 	if (!is_mutex(mutex) || mutex->mtx_word == (uintptr_t)me->self || steps_off(me, mutex))
@@ -81,7 +81,7 @@ static void at_mutex(const char *call, kmutex_t *mutex, guard_fn *guard, unsigne
 	struct routine *me = here(call);
 	point(call, NULL, guard, mutex);
 	want_live(call, mutex, sizeof(*mutex));
-	touch(ON_LOCK, mutex, 0, WRITES | (how == TAKES && steps_off(me, mutex) ? TRIES : how));
+	touch(ON_LOCK, mutex, 0, WRITES | (how == TAKES && steps_off(me, mutex) ? 0 : how));
 	if (mutex->mtx_spins)
 		touch(ON_LOCK, &cpu_here(me)->hold, 0, WRITES | how);
 }

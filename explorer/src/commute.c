@@ -1,9 +1,16 @@
 /*
- * commute.c - which steps commute, and which others of a step must be tried for it
+ * commute.c - which steps commute, and which threads must be tried at a step for those that don't
  *
- * A step comes after another one where they touch the same and don't commute, and after what that one comes after. Two steps of different threads that are
- * next to each other in this order, and might come the other way round, are a race. For each race the search plans the other way round: at the
- * earlier step some thread goes on that leads to the later one first. This is dynamic partial-order reduction, with source sets.
+ * This is dynamic partial-order reduction with source sets and sleep sets: Abdulla, Aronis, Jonsson, Sagonas, "Source Sets: A Foundation for Optimal
+ * Dynamic Partial Order Reduction", Journal of the ACM 64(4), 2017. That paper begins with threads which no other thread disables. Here a lock, a
+ * wake-up, a soft interrupt or the end of a handler disables others, and so two rules are from Flanagan, Godefroid, "Dynamic Partial-Order Reduction for
+ * Model Checking Software", POPL 2005: the search looks back from a step to the last one at which its thread was enabled, and it does so from the
+ * step that a disabled thread would make next, too.
+ *
+ * A step comes after another one if they conflict, and after what that one comes after. A guard's reads are among the accesses of its step, so a
+ * step that enables or disables another one conflicts with it. Two conflicting steps of different threads are a race if the later one's thread might
+ * have gone on before the earlier step. For each race the search adds a backtrack point: at the earlier step a thread is planned that leads to the later
+ * step first.
  */
 #include <string.h>
 
@@ -24,50 +31,43 @@ static bool do_clash(const struct access *one, const struct access *other)
 	return one->address == other->address && (one->cpu == other->cpu || one->cpu == ANY || other->cpu == ANY);
 }
 
-/* Whether the first of two that clash is what lets the second come at all. */
-static bool is_before(const struct access *first, const struct access *second)
+/* Whether the second can't come before the first, if its thread isn't enabled there. */
+static bool does_enable(const struct access *first, const struct access *second)
 {
 	return ((first->how | second->how) & ORDERS) != 0 || ((first->how & (TAKES | GIVES)) == GIVES && (second->how & TAKES) != 0);
 }
 
-static bool do_both_take(const struct access *first, const struct access *second)
-{
-	return (first->how & (TAKES | TRIES)) != 0 && (second->how & (TAKES | TRIES)) != 0;
-}
+/* How a step is to a later one: they commute; they never change places; it does nothing to the later one but enable it; or they conflict otherwise. */
+enum relation { COMMUTE, ORDERED, ENABLES, CONFLICTS };
 
-enum clash { NONE, ORDER, RACE, LOCKED };
-
-static enum clash clash_of_two(const struct access *first, const struct access *second)
+static enum relation relation_to(const struct access *first, const struct set *second)
 {
-	if (!do_clash(first, second))
-		return NONE;
-	return is_before(first, second) ? ORDER : do_both_take(first, second) ? LOCKED : RACE;
-}
-
-static enum clash clash_with(const struct access *first, const struct set *second)
-{
-	enum clash found = NONE;
+	enum relation found = COMMUTE;
 	for (uint32_t at = 0; at < second->count; at++) {
-		enum clash clash = clash_of_two(first, &second->of[at]);
-		found = clash > found ? clash : found;
+		if (!do_clash(first, &second->of[at]))
+			continue;
+		if (!does_enable(first, &second->of[at]))
+			return CONFLICTS;
+		found = ENABLES;
 	}
 	return found;
 }
 
-/* How two steps are to each other: they commute; the first has to come first; they may change places; both take one lock. */
-static enum clash clash_of(const struct set *first, const struct set *second)
+static enum relation relation_of(const struct set *first, const struct set *second)
 {
-	enum clash found = first->full || second->full ? RACE : NONE;
-	for (uint32_t at = 0; at < first->count; at++) {
-		enum clash clash = clash_with(&first->of[at], second);
-		found = clash > found ? clash : found;
+	enum relation found = first->barrier || second->barrier ? ORDERED : COMMUTE;
+	if (first->full || second->full)
+		return CONFLICTS;
+	for (uint32_t at = 0; at < first->count && found != CONFLICTS; at++) {
+		enum relation relation = relation_to(&first->of[at], second);
+		found = relation > found ? relation : found;
 	}
 	return found;
 }
 
 bool do_conflict(const struct set *one, const struct set *other)
 {
-	return clash_of(one, other) != NONE;
+	return relation_of(one, other) != COMMUTE;
 }
 
 /* ---- The order of the steps of a run. ---- */
@@ -125,46 +125,84 @@ static uint32_t beginners(unsigned earlier, unsigned later)
 	return found;
 }
 
-/* Plans that the later step comes first. */
+/*
+ * Adds a backtrack point to the earlier step, unless a thread is planned there that leads to the later step without it
+ *
+ * One that is asleep there needs none: what begins with it was tried.
+ */
 static void plan(unsigned earlier, unsigned later)
 {
 	struct step *step = &board->steps[earlier];
 	uint32_t can = beginners(earlier, later) & step->enabled & ~step->barred, own = UINT32_C(1) << board->steps[later].chosen;
-	if (can == 0 || (can & (step->planned | step->done | UINT32_C(1) << step->chosen)) != 0)
+	if (can == 0 || (can & (step->planned | step->done | step->asleep | UINT32_C(1) << step->chosen)) != 0)
 		return;
 	step->planned |= (can & own) != 0 ? own : can & (~can + 1);
 }
 
-/* Sets the step among those before it. The races that it has, in a list: how many. */
-static unsigned order_step(unsigned at, unsigned *races)
+/* What is known of an earlier step, where a later one is looked back from. */
+enum then { WAS_DISABLED, WAS_ENABLED, WAS_ELSEWHERE };
+
+/* Whether the thread of a step, which its step before has left at its guard, was enabled at an earlier step of another thread. */
+static enum then thread_then(unsigned earlier, unsigned later, int before)
+{
+	const struct step *step = &board->steps[later];
+	if ((int)earlier <= before)
+		return step->guarded ? WAS_ELSEWHERE : WAS_ENABLED;
+	return (board->steps[earlier].enabled >> step->chosen & 1) != 0 ? WAS_ENABLED : WAS_DISABLED;
+}
+
+/*
+ * Sets a step among the first `upto`. The races that it has, in a list: how many.
+ *
+ * `covered` has what comes before a race at which the step's thread was enabled: once the two have changed places, the search looks back further. A step
+ * that was never made comes after no barrier.
+ */
+static unsigned order_step(unsigned at, unsigned upto, unsigned *races)
 {
 	struct step *step = &board->steps[at];
-	uint32_t base[THREADS];
+	clocks base = {0}, covered;
 	unsigned count = 0;
 	int before = step_before(at);
-	memset(base, 0, sizeof(base));
 	if (before >= 0)
 		memcpy(base, board->steps[before].clock, sizeof(base));
 	memcpy(step->clock, base, sizeof(base));
-	for (int other = (int)at - 1; other >= 0; other--) {
+	memcpy(covered, base, sizeof(base));
+	for (int other = (int)upto - 1; other >= 0; other--) {
 		const struct step *found = &board->steps[other];
 		if (comes_after(base, (unsigned)other) || found->chosen == step->chosen)
 			continue;
-		bool covered = comes_after(step->clock, (unsigned)other);
-		enum clash clash = clash_of(&found->set, &step->set);
-		if ((clash == RACE && !covered) || clash == LOCKED)
-			races[count++] = (unsigned)other;
-		if (clash != NONE)
-			join(step->clock, found->clock);
+		enum relation relation = relation_of(&found->set, &step->set);
+		if (relation == COMMUTE || (relation == ORDERED && at == board->length))
+			continue;
+		enum then then = thread_then((unsigned)other, at, before);
+		join(step->clock, found->clock);
+		if (relation == ORDERED || comes_after(covered, (unsigned)other) || (relation == ENABLES && then != WAS_ENABLED))
+			continue;
+		races[count++] = (unsigned)other;
+		if (then == WAS_ENABLED)
+			join(covered, found->clock);
 	}
 	step->clock[step->chosen] = at + 1;
 	return count;
 }
 
-/* Sets the step among those before it, and plans what it asks for. */
-void judge_step(unsigned at)
+/* Sets a step among the first `upto`, and adds the backtrack points that it asks for. */
+static void judge(unsigned at, unsigned upto)
 {
-	unsigned *races = beside->races, count = order_step(at, races);
+	unsigned *races = beside->races, count = order_step(at, upto, races);
 	for (unsigned place = 0; place < count; place++)
 		plan(races[place], at);
+}
+
+void judge_step(unsigned at)
+{
+	judge(at, at);
+}
+
+/* The same of the step that a thread which is disabled after the first `upto` would have made, as far as its guard says: it has these accesses. */
+void judge_disabled(unsigned thread, const struct set *set, unsigned upto)
+{
+	unsigned at = board->length;
+	board->steps[at] = (struct step){.chosen = (uint8_t)thread, .guarded = true, .set = *set};
+	judge(at, upto);
 }

@@ -65,13 +65,15 @@ static void run_setup(void *arg)
 	start_routines();
 	run.phase = RUNNING;
 	point("finish", NULL, all_have_ended, NULL);
-	for (unsigned number = 1; number < run.count; number++)
-		touch(ON_THREAD, &run.routines[number], 0, ORDERS | WRITES | TAKES);
+	run.finish = run.step - 1;
+	make_barrier();
+	take_all_clocks();
 	run.phase = FINISHING;
 	if (options.finish != NULL)
 		options.finish();
 	end_of_thread(kupaldiz_self);
 	judge_end();
+	judge_end_of_run();
 	leave_run(ENDED_WELL);
 }
 
@@ -205,8 +207,9 @@ static bool is_wrong(void)
 static void run_bounded(void)
 {
 	for (unsigned bound = 0; bound <= options.preemptions && !is_wrong(); bound++) {
+		uint64_t barred = board->found.barred;
 		begin_search(BOUNDED, options.bounded, bound);
-		if (!run_all())
+		if (!run_all() || board->found.barred > barred)
 			return;
 		board->found.bound = (int)bound;
 	}
@@ -221,10 +224,12 @@ static uint64_t random_number(void)
 	return board->seed = at;
 }
 
+/* Those that fall do so below all that were drawn. */
 static void draw_priorities(void)
 {
+	board->lowest = POINTS + 16;
 	for (unsigned at = 0; at < THREADS; at++)
-		board->priorities[at] = 16 + (unsigned)(random_number() >> 33 & 0xffffff);
+		board->priorities[at] = board->lowest + (unsigned)(random_number() >> 33 & 0xffffff);
 }
 
 /* The points at which they fall. */
@@ -252,8 +257,9 @@ static void run_random(void)
 static void search(void)
 {
 	begin_search(options.whole ? WHOLE : REDUCED, options.schedules, 0);
-	board->found.exhausted = run_all();
-	if (board->found.exhausted || is_wrong() || options.whole)
+	board->found.complete = run_all();
+	board->found.exhausted = board->found.complete && board->found.barred == 0;
+	if (board->found.complete || is_wrong() || options.whole)
 		return;
 	run_bounded();
 	if (!is_wrong())
@@ -393,7 +399,7 @@ static void explore(struct bench_found *found)
 	if (end != FAILED)
 		return;
 	found->first = board->runs;
-	found->exhausted = false;
+	found->complete = found->exhausted = false;
 	keep_schedule(found);
 	cut_down(found);
 	/* The steps that are shown are those of the schedule that is told. */

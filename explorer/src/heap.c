@@ -9,13 +9,13 @@
 #include <sys/mman.h>
 
 #include "inside.h"
+#include "stand_ins.h"
 
 void __asan_poison_memory_region(const volatile void *at, size_t size) __attribute__((weak));
 void __asan_unpoison_memory_region(const volatile void *at, size_t size) __attribute__((weak));
 
 enum { PART = 4 * 1024 * 1024, FENCE = 32, NEW = 0xa5, FREED = 0xdf, BEHIND = 0xfd };
 
-static unsigned block_count;
 static size_t used[THREADS];
 static unsigned char *parts;
 struct beside *beside;
@@ -66,14 +66,12 @@ void *allocate(size_t size, size_t align, bool judged)
 {
 	unsigned number = run.now_runs == NULL ? 0 : run.now_runs->number;
 	const struct thread *self = kupaldiz_self;
-	if (block_count == BLOCKS)
-		refuse("the code takes more than %d blocks of memory in one run", BLOCKS);
 	unsigned char *at = take_room(number, size, align < 16 ? 16 : align);
 	allow(at, size + FENCE);
 	memset(at, NEW, size);
 	memset(at + size, BEHIND, FENCE);
 	forbid(at + size, FENCE);
-	beside->blocks[block_count++] = (struct block){.at = at, .size = size, .live = true, .judged = judged, .by = number, .call = called(self),
+	*(struct block *)new_row(BLOCKS) = (struct block){.at = at, .size = size, .live = true, .judged = judged, .by = number, .call = called(self),
 	    .place = self == NULL ? NULL : self->place};
 	return at;
 }
@@ -84,9 +82,10 @@ static struct block *block_at(const volatile void *address)
 	const volatile unsigned char *at = address;
 	if (at < parts || at >= parts + (size_t)THREADS * PART)
 		return NULL;
-	for (unsigned place = block_count; place-- > 0;)
-		if (at >= beside->blocks[place].at && at < beside->blocks[place].at + beside->blocks[place].size + FENCE)
-			return &beside->blocks[place];
+	struct block *rows = rows_of(BLOCKS);
+	for (size_t place = run.rows[BLOCKS]; place-- > 0;)
+		if (at >= rows[place].at && at < rows[place].at + rows[place].size + FENCE)
+			return &rows[place];
 	return NULL;
 }
 
@@ -136,35 +135,59 @@ static void judge_block(const struct block *block)
 	if (!is_filled(block->at + block->size, FENCE, BEHIND))
 		fail("something was written behind a block of %zu bytes, taken by %s%s", block->size, block->call,
 		    at_or_nothing(block->place, where, sizeof(where)));
-	if (!block->live && !is_filled(block->at, block->size, FREED))
+	if (!block->live && !block->hidden && !is_filled(block->at, block->size, FREED))
 		fail("something was written to freed memory: thread \"%s\" gave it back by %s%s", run.routines[block->freed_by].name, block->freed_call,
 		    at_or_nothing(block->freed_place, where, sizeof(where)));
 	forbid(block->at + (block->live ? block->size : 0), FENCE + (block->live ? 0 : block->size));
 }
 
-void release(void *address)
+/* Nobody may use it any more. */
+static void end_block(struct block *block)
 {
-	struct block *block = block_at(address);
 	const struct thread *self = kupaldiz_self;
-	if (address == NULL)
-		return;
-	if (block == NULL || block->at != address)
-		fail("%s: no block of memory", called(self));
-	judge_block(block);
 	block->live = false;
 	block->freed_by = run.now_runs->number;
 	block->freed_call = called(self);
 	block->freed_place = self == NULL ? NULL : self->place;
+}
+
+void release(void *address)
+{
+	struct block *block = block_at(address);
+	if (address == NULL)
+		return;
+	if (block == NULL || block->at != address)
+		fail("%s: no block of memory", called(kupaldiz_self));
+	judge_block(block);
+	end_block(block);
 	memset(block->at, FREED, block->size);
 	forbid(block->at, block->size);
+}
+
+/* An object of a cache that nobody uses: no call may, until it is got again. */
+void bench_hide(void *at)
+{
+	struct block *block = block_at(at);
+	end_block(block);
+	block->hidden = true;
+	forbid(at, block->size - (size_t)((unsigned char *)at - block->at));
+}
+
+void bench_unhide(void *at)
+{
+	struct block *block = block_at(at);
+	block->live = true;
+	block->hidden = false;
+	allow(at, block->size - (size_t)((unsigned char *)at - block->at));
 }
 
 void *resize(void *address, size_t size)
 {
 	const struct block *block = address == NULL ? NULL : block_at(address);
+	size_t before = block == NULL ? 0 : block->size;
 	void *made = allocate(size, 16, false);
-	if (block != NULL) {
-		memcpy(made, address, block->size < size ? block->size : size);
+	if (address != NULL) {
+		memcpy(made, address, before < size ? before : size);
 		release(address);
 	}
 	return made;
@@ -175,9 +198,9 @@ void judge_heap(void)
 {
 	char where[256];
 	unsigned left = 0;
-	const struct block *first = NULL;
-	for (unsigned place = 0; place < block_count; place++) {
-		const struct block *block = &beside->blocks[place];
+	const struct block *first = NULL, *rows = rows_of(BLOCKS);
+	for (size_t place = 0; place < run.rows[BLOCKS]; place++) {
+		const struct block *block = &rows[place];
 		judge_block(block);
 		if (!block->live || !block->judged)
 			continue;

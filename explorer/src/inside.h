@@ -12,8 +12,6 @@ enum { THREADS = BENCH_THREADS, POINTS = BENCH_POINTS, ACCESSES = 12, ANY = 0xff
 
 /* A routine's stack. With more CPUs and slots some calls need more of it. */
 enum { CELLS = REGISTRY_MOST_CPUS * REGISTRY_MOST_SLOTS, STACK = (64 + (CELLS > 256 ? CELLS / 32 : 0)) * 4096 };
-enum { TARGETS = REGISTRY_MOST_SLOTS, LOCKS = 64 };
-
 #define NEVER	INT64_MAX
 
 /* ---- What a step touches. ---- */
@@ -30,7 +28,10 @@ enum kind {
 	ON_MEMORY,
 	ON_THREAD,
 	ON_PENDING,	/* soft interrupts of a CPU */
+	ON_XCALL,	/* the queue of calls of xcall(9) */
+	ON_BOUND,	/* how many threads are bound to a CPU */
 	ON_TIME,
+	ON_DEADLINE,	/* of a thread: the clock's next step depends on them all */
 	ON_WAKE		/* of a thread that waits */
 };
 
@@ -38,8 +39,7 @@ enum {
 	WRITES = 1,
 	TAKES = 2,	/* what others gave comes before it */
 	GIVES = 4,
-	ORDERS = 8,	/* the other step can't come first */
-	TRIES = 16	/* takes it where it is free, and else goes on */
+	ORDERS = 8	/* the later step waits for the earlier one */
 };
 
 struct access {
@@ -52,10 +52,14 @@ struct access {
 struct set {
 	uint32_t count;
 	bool full;		/* there was more: it commutes with nothing */
+	bool barrier;		/* nobody else was enabled, nor will be before: all that ran comes before it, and all that will run after it */
 	struct access of[ACCESSES];
 };
 
 /* ---- A run: it is begun anew with the program's memory. ---- */
+
+/* What grows with the code: its rows lie in memory that stays, and each run fills it anew. */
+enum table { BLOCKS, GIVEN, PLAIN, MADE, MISSED, RELEASED, TABLES };
 
 struct routine;
 typedef bool guard_fn(const struct routine *routine);
@@ -99,28 +103,36 @@ struct run {
 	struct routine *now_runs;
 	enum phase phase;
 	unsigned step;		/* the number of steps begun */
+	unsigned finish;	/* of them, those before all threads had ended */
 	int64_t time;
 	unsigned ticks;
 	uint64_t arrivals;
 	uint64_t ends[ALL_CPUS];	/* of sections */
 	uint64_t handlers;		/* that have ended */
-	struct {
-		const void *target;
-		uint64_t count;
-	} releases[TARGETS];
 	bool own_memory;	/* what is taken now is the layer's own */
-	struct made {
-		const void *lock;	/* that was initialised and not destroyed; NULL where there is none */
-		const char *call;
-	} made[LOCKS];
-	struct missed {
-		const void *cv;
-		const char *call, *place;
-	} missed[TARGETS];		/* the last wake-up of each that nobody waited for */
+	size_t rows[TABLES];	/* of each table that this run has filled */
 	char outcome[BENCH_TEXT];
 };
 
 extern struct run run;
+
+/* A lock that was initialised and not destroyed; NULL where there is none. */
+struct made {
+	const void *lock;
+	const char *call;
+};
+
+/* The last wake-up that nobody waited for. */
+struct missed {
+	const void *cv;
+	const char *call, *place;
+};
+
+/* How often a reference to a target was released. */
+struct released {
+	const void *target;
+	uint64_t count;
+};
 
 /* ---- The search: it lies in memory that the parent shares. ---- */
 
@@ -128,6 +140,7 @@ extern struct run run;
 struct step {
 	uint32_t enabled, planned, done, asleep, barred;	/* a bit for each thread */
 	uint8_t chosen, cpu;
+	bool guarded;		/* its thread waited for something, or had to look whether it waits */
 	uint16_t preemptions;	/* up to it */
 	uint16_t switches;	/* the same */
 	uint16_t turns;		/* of the thread without another one between */
@@ -153,7 +166,7 @@ struct board {
 	unsigned prefix;	/* so many steps are given */
 	unsigned fresh;		/* those from here on are new */
 	unsigned length;	/* of the run */
-	unsigned priorities[THREADS], changes[3];
+	unsigned priorities[THREADS], lowest, changes[3];
 	uint64_t seed;
 	uint64_t runs;
 	struct bench_found found;
@@ -168,21 +181,19 @@ extern struct bench_options options;
 
 /* ---- What a run needs and the next one needn't find empty: it lies in memory of its own. ---- */
 
-enum { BLOCKS = 512, GIVEN = 256, PLAIN = 256 };
-
 /* A block of memory of the code's. */
 struct block {
 	unsigned char *at;
 	size_t size;
 	bool live, judged;
+	bool hidden;		/* it was given back to a cache, and stays as it is */
 	unsigned by, freed_by;
 	const char *call, *place, *freed_call, *freed_place;
 };
 
 /* What was left at a thing. */
 struct given {
-	uint64_t run;
-	uintptr_t of;
+	uintptr_t of;		/* 0 where the row is free */
 	clocks clock;
 };
 
@@ -196,10 +207,11 @@ struct plain {
 };
 
 struct beside {
-	struct block blocks[BLOCKS];
-	struct given given[GIVEN];
-	struct plain plain[PLAIN];
-	unsigned list[POINTS], races[POINTS];
+	struct {
+		void *rows;
+		size_t room;	/* in rows */
+	} tables[TABLES];
+	unsigned list[POINTS + 1], races[POINTS + 1];
 };
 
 extern struct beside *beside;
@@ -222,6 +234,9 @@ void wait_here(guard_fn *guard, const void *of);
 void touch(enum kind kind, const volatile void *address, unsigned cpu, unsigned how);
 void touch_memory(const volatile void *address, size_t size, unsigned how);
 void touch_all(void);
+void touch_deadlines(unsigned thread, unsigned how);
+void make_barrier(void);
+void judge_end_of_run(void);
 void start_routines(void);
 struct routine *here(const char *call);
 bool is_enabled(const struct routine *routine);
@@ -250,11 +265,15 @@ const struct missed *missed_by(const void *cv);
 /* ---- What guards are: locks.c. ---- */
 
 bool is_free(const struct routine *me);
+bool can_take(const struct routine *me);
 bool was_woken(const struct routine *me);
 bool has_ended_section(const struct routine *me);
 bool was_released(const struct routine *me);
 bool has_ended_handler(const struct routine *me);
 bool has_ended(const struct routine *me);
+bool can_begin(const struct routine *me);
+bool is_made(const struct routine *me);
+const struct routine *xcaller(void);
 uint64_t *releases_of(const void *target);
 void sleep_until(int64_t time);
 
@@ -262,12 +281,19 @@ void sleep_until(int64_t time);
 
 bool do_conflict(const struct set *one, const struct set *other);
 void judge_step(unsigned at);
+void judge_disabled(unsigned thread, const struct set *set, unsigned upto);
 
 /* ---- words.c ---- */
 
 void give_clock(enum kind kind, const volatile void *address, unsigned cpu);
 void take_clock(enum kind kind, const volatile void *address, unsigned cpu);
 void inherit_clock(struct routine *made);
+void take_all_clocks(void);
+
+/* ---- tables.c ---- */
+
+void *rows_of(enum table table);
+void *new_row(enum table table);
 
 /* ---- heap.c ---- */
 

@@ -55,7 +55,7 @@ struct thread *lock_owner(const uintptr_t *word)
 
 bool lock_try(uintptr_t *word, struct thread *me)
 {
-	touch(ON_LOCK, word, 0, WRITES | TRIES);
+	touch(ON_LOCK, word, 0, WRITES);
 	if (*word != 0)
 		return false;
 	*word = (uintptr_t)me;
@@ -126,22 +126,40 @@ bool was_woken(const struct routine *me)
 	return me->retake == NULL || !is_live(me->retake) || me->retake->mtx_word == 0;
 }
 
+static void set_deadline(struct routine *me, int64_t deadline)
+{
+	if (deadline != me->deadline)
+		touch_deadlines(me->number, WRITES);
+	me->deadline = deadline;
+}
+
+/* The wake-up alone has enabled it, unless its time is over. */
+static void leave_queue(struct routine *me, const void *of)
+{
+	touch(ON_WAKE, me, 0, WRITES | (is_late(me) ? 0 : TAKES));
+	if (me->woken)
+		take_clock(ON_WAKE, me, 0);
+	else
+		touch(ON_CV, of, 0, WRITES);
+}
+
 /* Waits to be woken for something, until a time at most. */
 static bool wait_for_wake(const void *of, int64_t deadline)
 {
 	struct routine *me = run.now_runs;
+	touch(ON_CV, of, 0, WRITES);
 	me->queue = of;
 	me->woken = false;
-	me->deadline = deadline;
 	me->arrived = ++run.arrivals;
+	set_deadline(me, deadline);
 	wait_here(was_woken, of);
 	if (me->retake != NULL)
 		want_live(me->call, me->retake, sizeof(*me->retake));
-	touch(ON_WAKE, me, 0, ORDERS | WRITES | TAKES);
+	leave_queue(me, of);
 	if (deadline != NEVER)
 		touch(ON_TIME, NULL, 0, 0);
 	me->queue = NULL;
-	me->deadline = NEVER;
+	set_deadline(me, NEVER);
 	return me->woken;
 }
 
@@ -171,7 +189,7 @@ bool bucket_wake(struct bucket *bucket, const void *of)
 	touch(ON_CV, of, 0, WRITES);
 	if (first == NULL)
 		return false;
-	touch(ON_WAKE, first, 0, ORDERS | WRITES | GIVES);
+	touch(ON_WAKE, first, 0, WRITES | GIVES);
 	first->woken = true;
 	return true;
 }
@@ -207,14 +225,16 @@ bool has_ended_section(const struct routine *me)
 	return run.ends[(uintptr_t)me->of] != me->noted;
 }
 
-/* How many references to a target were released; the last count stands for all beyond the room. */
+/* How many references to a target were released. */
 uint64_t *releases_of(const void *target)
 {
-	unsigned at = 0;
-	while (at < TARGETS - 1 && run.releases[at].target != NULL && run.releases[at].target != target)
-		at++;
-	run.releases[at].target = target;
-	return &run.releases[at].count;
+	struct released *rows = rows_of(RELEASED);
+	for (size_t at = 0; at < run.rows[RELEASED]; at++)
+		if (rows[at].target == target)
+			return &rows[at].count;
+	struct released *row = new_row(RELEASED);
+	row->target = target;
+	return &row->count;
 }
 
 bool was_released(const struct routine *me)
@@ -320,6 +340,9 @@ int bench_create(pthread_t *id, void *(*body)(void *), void *arg, const char *fi
 	struct start *start = allocate(sizeof(*start), 16, false);
 	*start = (struct start){body, arg};
 	bool daemon = strstr(file, "callout") != NULL;
+	/* It may be bound as it begins. */
+	if (!daemon)
+		touch(ON_BOUND, NULL, ANY, WRITES);
 	struct routine *made = make_routine(daemon ? "callout" : NULL, run_start, start, daemon);
 	*id = (pthread_t)made->number;
 	start_routines();
@@ -345,9 +368,18 @@ void bench_exit(void)
 	end_routine();
 }
 
-int bench_cond_wait(const void *cond, const struct timespec *deadline)
+/* No step ends with one of the layer's own mutexes held, so nobody waits for one. */
+void bench_mutex_lock(const void *watched)
 {
-	return wait_for_wake(cond, time_of(deadline)) ? 0 : ETIMEDOUT;
+	if (watched != NULL)
+		touch(ON_LOCK, watched, 0, WRITES);
+}
+
+int bench_cond_wait(const void *cond, const struct timespec *deadline, const void *watched)
+{
+	bool woken = wait_for_wake(cond, time_of(deadline));
+	bench_mutex_lock(watched);
+	return woken ? 0 : ETIMEDOUT;
 }
 
 void bench_cond_broadcast(const void *cond)
@@ -357,10 +389,16 @@ void bench_cond_broadcast(const void *cond)
 
 void sleep_until(int64_t time)
 {
-	run.now_runs->deadline = time;
+	set_deadline(run.now_runs, time);
 	wait_here(is_late, NULL);
 	touch(ON_TIME, NULL, 0, 0);
-	run.now_runs->deadline = NEVER;
+	set_deadline(run.now_runs, NEVER);
+}
+
+/* Another thread may go on here. */
+void bench_yield(void)
+{
+	wait_here(NULL, NULL);
 }
 
 /* No signal ends it. */
@@ -377,6 +415,11 @@ static char line[BENCH_LINE];
 void *bench_malloc(size_t size)
 {
 	return allocate(size, 16, true);
+}
+
+void *bench_aligned_alloc(size_t align, size_t size)
+{
+	return allocate(size, align, true);
 }
 
 void *bench_calloc(size_t count, size_t size)

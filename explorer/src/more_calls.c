@@ -84,7 +84,7 @@ void kmem_intr_free(void *block, size_t size)
 	layer_kmem_intr_free(block, size);
 }
 
-/* What a pool has out is one of its words. */
+/* What a pool has out is one of its words. A cache gives out first what was given back last. */
 static void at_pool(const char *call, const struct pool *pool, unsigned how)
 {
 	point(call, NULL, NULL, NULL);
@@ -105,7 +105,7 @@ void *pool_get(struct pool *pool, int flags)
 
 void *pool_cache_get(pool_cache_t cache, int flags)
 {
-	at_pool(__func__, pool_of(cache), 0);
+	at_pool(__func__, pool_of(cache), WRITES);
 	return layer_pool_cache_get(cache, flags);
 }
 
@@ -131,7 +131,7 @@ void pool_put(struct pool *pool, void *object)
 void pool_cache_put(pool_cache_t cache, void *object)
 {
 	at_block(__func__, object, pool_of(cache)->pr_size);
-	touch_memory(&pool_of(cache)->pr_out, sizeof(size_t), 0);
+	touch_memory(&pool_of(cache)->pr_out, sizeof(size_t), WRITES);
 	layer_pool_cache_put(cache, object);
 }
 
@@ -183,7 +183,52 @@ void percpu_free(percpu_t *percpu, size_t size)
 	layer_percpu_free(percpu, size);
 }
 
-/* ---- CPUs, softint(9), xcall(9). ---- */
+/* ---- CPUs, softint(9). ---- */
+
+LAYER(int, curlwp_bind, (void));
+LAYER(void, curlwp_bindx, (int bound));
+LAYER(void, kupaldiz_bind, (unsigned cpu));
+LAYER(void, kupaldiz_unbind, (void));
+
+static void touch_bound(const struct cpu *cpu)
+{
+	touch(ON_BOUND, NULL, cpu->info.ci_index, WRITES);
+}
+
+/* These have no point. A thread looks for a CPU with fewer bound threads only if its own has some. */
+int curlwp_bind(void)
+{
+	struct routine *me = here(__func__);
+	if (me->self != NULL && (me->self->lwp.l_pflag & LP_BOUND) == 0 && cpu_here(me)->bound > 0)
+		touch(ON_BOUND, NULL, ANY, 0);
+	int bound = layer_curlwp_bind();
+	touch_bound(cpu_here(here(__func__)));
+	return bound;
+}
+
+void curlwp_bindx(int bound)
+{
+	struct routine *me = here(__func__);
+	if (!bound && me->self != NULL)
+		touch_bound(cpu_here(me));
+	layer_curlwp_bindx(bound);
+}
+
+void kupaldiz_bind(unsigned cpu)
+{
+	(void)here(__func__);
+	if (cpu < KUPALDIZ_CPUS)
+		touch_bound(&cpus[cpu]);
+	layer_kupaldiz_bind(cpu);
+}
+
+void kupaldiz_unbind(void)
+{
+	struct routine *me = here(__func__);
+	if (me->self != NULL)
+		touch_bound(cpu_here(me));
+	layer_kupaldiz_unbind();
+}
 
 LAYER(void, kpreempt_disable, (void));
 LAYER(void, kpreempt_enable, (void));
@@ -191,9 +236,6 @@ LAYER(int, kupaldiz_splraise, (int level));
 LAYER(void, splx, (int level));
 LAYER(void, softint_schedule, (void *cookie));
 LAYER(void, softint_disestablish, (void *cookie));
-LAYER(uint64_t, xc_broadcast, (unsigned flags, xcfunc_t body, void *arg_a, void *arg_b));
-LAYER(uint64_t, xc_unicast, (unsigned flags, xcfunc_t body, void *arg_a, void *arg_b, struct cpu_info *cpu));
-LAYER(void, xc_barrier, (unsigned flags));
 
 void kpreempt_disable(void)
 {
@@ -229,9 +271,7 @@ void splx(int level)
 
 void softint_schedule(void *cookie)
 {
-	struct routine *me = here(__func__);
 	at_cpu(__func__, GIVES);
-	touch(ON_PENDING, NULL, cpu_here(me)->info.ci_index, WRITES | GIVES);
 	layer_softint_schedule(cookie);
 }
 
@@ -242,41 +282,12 @@ void softint_disestablish(void *cookie)
 	layer_softint_disestablish(cookie);
 }
 
-/* A call that goes to CPUs, each of which is a point of its own. */
-static struct routine *begin_visit(const char *call)
-{
-	struct routine *me = here(call);
-	point(call, NULL, NULL, NULL);
-	me->visits = true;
-	return me;
-}
-
-uint64_t xc_broadcast(unsigned flags, xcfunc_t body, void *arg_a, void *arg_b)
-{
-	struct routine *me = begin_visit(__func__);
-	uint64_t ticket = layer_xc_broadcast(flags, body, arg_a, arg_b);
-	me->visits = false;
-	return ticket;
-}
-
-uint64_t xc_unicast(unsigned flags, xcfunc_t body, void *arg_a, void *arg_b, struct cpu_info *cpu)
-{
-	struct routine *me = begin_visit(__func__);
-	uint64_t ticket = layer_xc_unicast(flags, body, arg_a, arg_b, cpu);
-	me->visits = false;
-	return ticket;
-}
-
-void xc_barrier(unsigned flags)
-{
-	struct routine *me = begin_visit(__func__);
-	layer_xc_barrier(flags);
-	me->visits = false;
-}
-
+/* Each CPU is a point of its own. */
 void percpu_foreach_xcall(percpu_t *percpu, unsigned flags, percpu_callback_t look, void *arg)
 {
-	struct routine *me = begin_visit(__func__);
+	struct routine *me = here(__func__);
+	point(__func__, NULL, NULL, NULL);
+	me->visits = true;
 	layer_percpu_foreach_xcall(percpu, flags, look, arg);
 	me->visits = false;
 }
@@ -306,8 +317,8 @@ LAYER(int, copyout, (const void *kernel, void *user, size_t length));
 
 static void at_callout(const char *call, callout_t *callout)
 {
-	at_thing(call, ON_TIME, callout, sizeof(*callout), 0);
-	touch(ON_TIME, NULL, 0, WRITES);
+	point(call, NULL, NULL, NULL);
+	want_live(call, callout, sizeof(*callout));
 }
 
 /* The layer's own soft interrupt for callouts is never ended. */

@@ -1,4 +1,8 @@
-/* routine.c - threads as coroutines of one thread, each with a stack of its own. The switch is for x86-64. */
+/* routine.c - threads as coroutines of one thread, each with a stack of its own */
+#if !defined(__x86_64__) || !defined(__LP64__)
+#error "the bench is for x86-64 alone: it switches stacks by that processor's instructions"
+#endif
+
 #include <stdio.h>
 #include <string.h>
 #include <sys/mman.h>
@@ -32,9 +36,20 @@ static char *stack_of(unsigned number)
 	return stacks + (size_t)number * 2 * STACK + STACK;
 }
 
+/* A switch isn't a return to where the last call was made from, so a shadow stack would end the program. This instruction does nothing without one. */
+static void want_no_shadow_stack(void)
+{
+	uint64_t top = 0;
+	__asm__ volatile(".byte 0xf3, 0x48, 0x0f, 0x1e, 0xc8" : "+a"(top));	/* rdsspq %rax */
+	if (top != 0)
+		refuse("the program runs with a shadow stack, which the bench can't switch: link it with -z noshstk, or run it with "
+		       "GLIBC_TUNABLES=glibc.cpu.hwcaps=-SHSTK");
+}
+
 /* A stack for each, with as much room below that nothing may touch. */
 void prepare_stacks(void)
 {
+	want_no_shadow_stack();
 	size_t size = (size_t)THREADS * 2 * STACK;
 	stacks = mmap(NULL, size, PROT_READ | PROT_WRITE, MAP_PRIVATE | MAP_ANONYMOUS | MAP_NORESERVE, -1, 0);
 	if (stacks == MAP_FAILED)
@@ -54,7 +69,7 @@ void release_stacks(void)
 
 /* ---- Switching. ---- */
 
-/* Leaves one stack, with the registers that a call keeps, and goes on where another one was left. */
+/* Leaves one stack, with what a call keeps: six registers, MXCSR and the control word of the x87. Goes on where another one was left. */
 void bench_switch(void **left, void *to);
 __asm__(".text\n"
 	".globl bench_switch\n"
@@ -67,8 +82,14 @@ __asm__(".text\n"
 	"	pushq %r13\n"
 	"	pushq %r14\n"
 	"	pushq %r15\n"
+	"	subq $8, %rsp\n"
+	"	stmxcsr (%rsp)\n"
+	"	fnstcw 4(%rsp)\n"
 	"	movq %rsp, (%rdi)\n"
 	"	movq %rsi, %rsp\n"
+	"	ldmxcsr (%rsp)\n"
+	"	fldcw 4(%rsp)\n"
+	"	addq $8, %rsp\n"
 	"	popq %r15\n"
 	"	popq %r14\n"
 	"	popq %r13\n"
@@ -79,6 +100,9 @@ __asm__(".text\n"
 	".size bench_switch, . - bench_switch\n");
 
 enum { KEPT = 6 };	/* registers */
+
+/* What a thread begins with: the C library's own MXCSR, and above it the x87's word. */
+#define CONTROL_WORDS	(UINT64_C(0x1f80) | UINT64_C(0x037f) << 32)
 
 static void leave_stack(void **fake, const void *bottom, size_t size)
 {
@@ -154,6 +178,8 @@ struct routine *make_routine(const char *name, void (*body)(void *), void *arg, 
 	*made = (struct routine){.made = true, .daemon = daemon, .number = run.count, .name = name, .body = body, .arg = arg, .deadline = NEVER,
 	    .made_at = run.step == 0 ? -1 : (int)run.step - 1};
 	run.count++;
+	/* A thread's CPU goes by its number, that of a daemon doesn't. */
+	touch(ON_THREAD, NULL, 0, daemon ? 0 : WRITES);
 	inherit_clock(made);
 	if (__asan_unpoison_memory_region != NULL)
 		__asan_unpoison_memory_region(stack_of(made->number), STACK);
@@ -162,7 +188,8 @@ struct routine *make_routine(const char *name, void (*body)(void *), void *arg, 
 	top[0] = (uintptr_t)begin_routine;
 	top[1] = 0;
 	memset(top - KEPT, 0, KEPT * sizeof(*top));
-	made->stack = top - KEPT;
+	top[-KEPT - 1] = CONTROL_WORDS;
+	made->stack = top - KEPT - 1;
 	return made;
 }
 

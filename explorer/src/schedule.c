@@ -60,6 +60,19 @@ void touch_all(void)
 		board->steps[run.step - 1].set.full = true;
 }
 
+/* A thread's deadline, or with ANY all of them. */
+void touch_deadlines(unsigned thread, unsigned how)
+{
+	touch(ON_DEADLINE, NULL, thread, how);
+}
+
+/* All that ran comes before the step, and all that will run after it. */
+void make_barrier(void)
+{
+	if (run.step > board->fresh)
+		board->steps[run.step - 1].set.barrier = true;
+}
+
 /* ---- Who can go on. ---- */
 
 /* A thread that has its CPU can't while a soft interrupt has it. */
@@ -111,6 +124,13 @@ static unsigned lowest(uint32_t mask)
 	return (unsigned)__builtin_ctz(mask);
 }
 
+/* The next one in turn, so that several threads that spin don't keep another one off. */
+static unsigned next_after(unsigned number, uint32_t mask)
+{
+	uint32_t above = mask & ~((bit(number) << 1) - 1);
+	return lowest(above != 0 ? above : mask);
+}
+
 /* Those of another step that sleep here, too: what they would do commutes with what was done. */
 static void hand_on_sleep(const struct step *before, struct step *step)
 {
@@ -124,6 +144,9 @@ static void hand_on_sleep(const struct step *before, struct step *step)
 		step->asleep |= bit(number);
 		step->slept[number] = set;
 	}
+	/* Where no thread is enabled the clock doesn't hurry: that is another step than the one that sleeps. */
+	if (step->enabled == bit(CLOCK))
+		step->asleep = 0;
 }
 
 static unsigned highest_priority(uint32_t mask)
@@ -141,7 +164,7 @@ static unsigned choose_random(uint32_t enabled)
 	unsigned best = highest_priority(enabled);
 	for (unsigned at = 0; at < sizeof(board->changes) / sizeof(board->changes[0]); at++) {
 		if (board->changes[at] == run.step) {
-			board->priorities[best] = at;
+			board->priorities[best] = --board->lowest;
 			best = highest_priority(enabled);
 		}
 	}
@@ -156,6 +179,75 @@ static void bar(struct step *step, const struct step *before)
 	board->found.barred += step->barred != 0;
 }
 
+/* ---- What a disabled thread waits for, as accesses: a step that touches it may have disabled the thread. ---- */
+
+static void add_lock(struct set *set, const void *lock)
+{
+	add(set, (struct access){.address = (uintptr_t)lock, .size = 1, .kind = ON_LOCK, .how = WRITES});
+}
+
+static void add_pending(struct set *set, const struct cpu *cpu)
+{
+	add(set, (struct access){.size = 1, .kind = ON_PENDING, .cpu = (uint16_t)cpu->info.ci_index, .how = WRITES});
+	add_lock(set, &cpu->hold);
+}
+
+static void add_wake(struct set *set, const struct routine *me)
+{
+	add(set, (struct access){.address = (uintptr_t)me, .size = 1, .kind = ON_WAKE, .how = WRITES});
+	if (me->retake != NULL)
+		add_lock(set, me->retake);
+}
+
+static void add_mutex(struct set *set, const struct routine *me)
+{
+	add_lock(set, me->of);
+	if (me->self->cpu != NULL)
+		add_lock(set, &me->self->cpu->hold);
+}
+
+/* Other guards never become false again. */
+static struct set guard_set(const struct routine *me)
+{
+	struct set set = {0};
+	if (me->guard == can_begin)
+		add_pending(&set, me->of);
+	else if (me->guard == was_woken)
+		add_wake(&set, me);
+	else if (me->guard == can_take)
+		add_mutex(&set, me);
+	else if (me->guard == is_free)
+		add_lock(&set, me->of);
+	if (!has_its_cpu(me))
+		add_lock(&set, &me->self->cpu->hold);
+	return set;
+}
+
+static const struct set ticking = {.count = 2, .of = {{.size = 1, .kind = ON_TIME, .how = WRITES}, {.size = 1, .kind = ON_DEADLINE, .cpu = ANY}}};
+
+/* The run ends after its first `upto` steps, well or cut short. Those that are disabled then might have gone on before one of them. */
+static void judge_all_disabled(unsigned upto)
+{
+	if (!clock_may_hurry() && run.ticks < options.ticks)
+		judge_disabled(CLOCK, &ticking, upto);
+	for (unsigned number = 0; number < run.count; number++) {
+		const struct routine *routine = &run.routines[number];
+		if (routine->ended || is_enabled(routine))
+			continue;
+		const struct set set = guard_set(routine);
+		if (set.count > 0)
+			judge_disabled(number, &set, upto);
+	}
+}
+
+void judge_end_of_run(void)
+{
+	if (board->way != REDUCED)
+		return;
+	judge_step(run.step - 1);
+	judge_all_disabled(run.finish);
+}
+
 /* What is tried at a new step, beginning with the thread that runs already. */
 static unsigned choose_new(struct step *step, const struct step *before)
 {
@@ -164,20 +256,25 @@ static unsigned choose_new(struct step *step, const struct step *before)
 	step->asleep = 0;
 	step->planned = 0;
 	bar(step, before);
+	if (board->way == RANDOM && step->barred != 0)
+		board->priorities[before->chosen] = --board->lowest;
 	if (board->way == RANDOM)
-		return choose_random(enabled);
+		return choose_random(enabled & ~step->barred);
 	if (board->way == REDUCED && before != NULL)
 		hand_on_sleep(before, step);
 	can &= ~step->asleep & ~step->barred;
 	if (board->way == BOUNDED && before != NULL && before->switches >= board->most)
 		can &= bit(before->chosen);
-	if (can == 0)
+	if (can == 0) {
+		if (board->way == REDUCED)
+			judge_all_disabled(run.step);
 		leave_run(CUT);
+	}
 	bool stays = before != NULL && (can & bit(before->chosen)) != 0;
 	if (board->way == BOUNDED && stays && before->preemptions >= board->bound)
 		can = bit(before->chosen);
 	step->planned = board->way == REDUCED ? 0 : can;
-	return stays ? before->chosen : lowest(can);
+	return stays ? before->chosen : step->barred != 0 ? next_after(before->chosen, can) : lowest(can);
 }
 
 static void judge_given(const struct step *step, uint32_t enabled)
@@ -225,6 +322,7 @@ static unsigned begin_step(uint32_t enabled)
 
 static void name_step(struct step *step, const struct routine *routine)
 {
+	step->guarded = routine == NULL || routine->guard != NULL;
 	step->call = routine == NULL ? "clock" : routine->call;
 	step->place = routine == NULL ? NULL : routine->place;
 	step->cpu = routine == NULL || routine->self == NULL || routine->self->cpu == NULL ? NOBODY : (uint8_t)routine->self->cpu->info.ci_index;
@@ -238,12 +336,15 @@ static void end_step(void)
 		fail("the run doesn't end: it has come to %d points", POINTS);
 }
 
-/* Lets time go on to the next thing that waits for it. */
+/* Lets time go on to the next deadline. Once the clock may not hurry any more it waits until no thread is enabled, and so changes places with none. */
 static void tick(uint32_t enabled)
 {
+	if (run.ticks == options.ticks)
+		make_barrier();
 	run.ticks += enabled != bit(CLOCK);
 	run.time = next_time();
 	touch(ON_TIME, NULL, 0, WRITES);
+	touch_deadlines(ANY, 0);
 }
 
 /* Goes on with the thread that is chosen. */

@@ -26,18 +26,26 @@
 
 #include "stand_ins.h"
 
+/* A mutex under which steps conflict: that of the list of callouts. What is under the others is told apart by what a call touches. */
+#define WATCHED(mutex)			(__builtin_strstr(__FILE__, "callout.c") != NULL ? (const void *)(mutex) : NULL)
+
 #define malloc(size)			bench_malloc(size)
 #define calloc(count, size)		bench_calloc(count, size)
 #define realloc(block, size)		bench_realloc(block, size)
 #define free(block)			bench_free(block)
+#define aligned_alloc(align, size)	bench_aligned_alloc(align, size)
 #define posix_memalign(block, align, size)	bench_aligned(block, align, size)
 
+#define HIDE(at, size)			bench_hide(at)
+#define UNHIDE(at, size)		bench_unhide(at)
+
 #define pthread_mutex_init(mutex, attributes)	((void)(mutex))
-#define pthread_mutex_lock(mutex)	((void)(mutex))
+#define pthread_mutex_destroy(mutex)	((void)(mutex))
+#define pthread_mutex_lock(mutex)	bench_mutex_lock(WATCHED(mutex))
 #define pthread_mutex_unlock(mutex)	((void)(mutex))
 #define pthread_cond_init(cond, attributes)	((void)(cond), (void)(attributes))
-#define pthread_cond_wait(cond, mutex)	bench_cond_wait(cond, NULL)
-#define pthread_cond_timedwait(cond, mutex, deadline)	bench_cond_wait(cond, deadline)
+#define pthread_cond_wait(cond, mutex)	bench_cond_wait(cond, NULL, WATCHED(mutex))
+#define pthread_cond_timedwait(cond, mutex, deadline)	bench_cond_wait(cond, deadline, WATCHED(mutex))
 #define pthread_cond_broadcast(cond)	bench_cond_broadcast(cond)
 #define pthread_condattr_init(attributes)	((void)(attributes))
 #define pthread_condattr_setclock(attributes, clock)	((void)(attributes))
@@ -53,7 +61,7 @@
 #define pthread_exit(answer)		bench_exit()
 
 #define nanosleep(time, rest)		bench_sleep(time)
-#define sched_yield()			((void)0)
+#define sched_yield()			bench_yield()
 #define write(file, text, length)	bench_write(text, length)
 #define abort()				bench_abort()
 

@@ -1,13 +1,19 @@
 /*
  * softints.c - softint_thread.c, as the bench has it
  *
- * Each CPU has a thread for its soft interrupts. It can go on where one waits there, and nobody has the CPU or somebody at a lower level, whatever point
- * that thread is at. Whoever has the CPU goes on when the handlers have ended, or one of them waits for a lock.
+ * Each CPU has a thread for the soft interrupts of each level, as in the kernel: a handler that waits for a lock keeps no other level off. It can go on
+ * where one waits there, and nobody has the CPU or somebody at a lower level, whatever point that thread is at. Of several levels the highest goes first. Whoever has the CPU goes on when the handlers have ended, or one of them waits for a lock.
  */
 #include "inside.h"
 
-static struct routine *softints[KUPALDIZ_CPUS];
+static struct routine *softints[KUPALDIZ_CPUS][LEVELS];
 static char names[KUPALDIZ_CPUS][sizeof("softint/4294967295")];
+
+/* What a thread runs the handlers of. */
+struct queue {
+	struct cpu *cpu;
+	int level;
+};
 
 /* The thread that has a CPU; NULL where none does. */
 static struct thread *owner_of(const struct cpu *cpu)
@@ -22,11 +28,21 @@ static bool may_have(const struct cpu *cpu, int level)
 	return owner == NULL || (!owner->softint && owner->level < level);
 }
 
-/* Whether one waits on a CPU that may have it. */
-static bool can_begin(const struct routine *me)
+/* Whether a soft interrupt of a higher level waits on a CPU, and no handler of that level waits for a lock. */
+static bool has_higher(const struct cpu *cpu, int level)
+{
+	for (int above = level + 1; above < LEVELS; above++)
+		if ((cpu->pending >> above & 1) != 0 && !softints[cpu->info.ci_index][above]->off)
+			return true;
+	return false;
+}
+
+/* Whether one of the thread's level waits on a CPU that may have it. */
+bool can_begin(const struct routine *me)
 {
 	const struct cpu *cpu = me->of;
-	return cpu->pending != 0 && may_have(cpu, 31 - __builtin_clz(cpu->pending));
+	int level = (int)me->noted;
+	return (cpu->pending >> level & 1) != 0 && may_have(cpu, level) && !has_higher(cpu, level);
 }
 
 /* Whether the handler that had given the CPU back may have it again. */
@@ -40,7 +56,7 @@ static void take_cpu(struct thread *me)
 	me->lender = owner_of(me->cpu);
 	me->cpu->hold = (uintptr_t)me;
 	/* Whoever has the CPU needn't have given it. */
-	touch(ON_LOCK, &me->cpu->hold, 0, WRITES | TRIES);
+	touch(ON_LOCK, &me->cpu->hold, 0, WRITES);
 	take_clock(ON_LOCK, &me->cpu->hold, 0);
 }
 
@@ -51,14 +67,14 @@ static void give_cpu(struct thread *me)
 	me->lender = NULL;
 }
 
-/* Takes the CPU, and runs the handlers that wait on it. */
-static void run_waiting(struct thread *me, unsigned number)
+/* Takes the CPU, and runs the handlers of a level that wait on it. */
+static void run_waiting(struct thread *me, unsigned number, int level)
 {
 	touch(ON_PENDING, NULL, number, WRITES);
 	take_clock(ON_PENDING, NULL, number);
 	take_cpu(me);
 	me->holds = 1;
-	while (run_softint(me)) {
+	while (!has_higher(me->cpu, level) && run_softint(me, level)) {
 		run.handlers++;
 		touch(ON_PENDING, NULL, number, WRITES);
 	}
@@ -67,10 +83,11 @@ static void run_waiting(struct thread *me, unsigned number)
 	give_cpu(me);
 }
 
-/* Runs the handlers of a CPU for ever. */
+/* Runs the handlers of a CPU's level for ever. */
 static void run_handlers(void *of)
 {
-	struct cpu *cpu = of;
+	const struct queue queue = *(struct queue *)of;
+	struct cpu *cpu = queue.cpu;
 	struct routine *routine = run.now_runs;
 	char *name = names[cpu->info.ci_index];
 	snprintf(name, sizeof(names[0]), "softint/%u", cpu->info.ci_index);
@@ -81,19 +98,24 @@ static void run_handlers(void *of)
 	me->lwp.l_pflag = LP_BOUND | LP_INTR;
 	routine->name = name;
 	for (;;) {
+		routine->noted = (uint64_t)queue.level;
 		point("softint", NULL, can_begin, cpu);
-		run_waiting(me, cpu->info.ci_index);
+		run_waiting(me, cpu->info.ci_index, queue.level);
 	}
 }
 
-/* The thread of a CPU, which is made where there is none. */
-void want_softint_thread(struct thread *me, struct cpu *cpu)
+/* The thread of a CPU's level, which is made where there is none. */
+void want_softint_thread(struct thread *me, struct cpu *cpu, int level)
 {
-	struct routine **softint = &softints[cpu->info.ci_index];
+	struct routine **softint = &softints[cpu->info.ci_index][level];
 	(void)me;
+	/* A soft interrupt is about to wait there, for which a callout's time may have come. */
+	touch(ON_PENDING, NULL, cpu->info.ci_index, WRITES | GIVES);
 	if (*softint != NULL)
 		return;
-	*softint = make_routine("softint", run_handlers, cpu, true);
+	struct queue *queue = allocate(sizeof(*queue), 16, false);
+	*queue = (struct queue){cpu, level};
+	*softint = make_routine("softint", run_handlers, queue, true);
 	start_routines();
 }
 

@@ -13,6 +13,10 @@ void *bench_malloc(size_t size);
 void *bench_calloc(size_t count, size_t size);
 void *bench_realloc(void *block, size_t size);
 void bench_free(void *block);
+void *bench_aligned_alloc(size_t align, size_t size);
+void bench_hide(void *at);
+void bench_unhide(void *at);
+void bench_yield(void);
 int bench_aligned(void **block, size_t align, size_t size);
 int bench_create(pthread_t *id, void *(*body)(void *), void *arg, const char *file);
 int bench_join(pthread_t id);
@@ -31,7 +35,8 @@ static inline void bench_cancel_state(int state, int *before)
 }
 
 void bench_exit(void) __attribute__((noreturn));
-int bench_cond_wait(const void *cond, const struct timespec *deadline);
+void bench_mutex_lock(const void *watched);
+int bench_cond_wait(const void *cond, const struct timespec *deadline, const void *watched);
 void bench_cond_broadcast(const void *cond);
 int bench_sleep(const struct timespec *time);
 ssize_t bench_write(const void *text, size_t length);

@@ -51,6 +51,9 @@ static struct waiting waits_for(const struct routine *me)
 	} else if (me->guard == was_released) {
 		found.on = holder_on((unsigned)(uintptr_t)me->of, me->target);
 		snprintf(found.what, sizeof(found.what), "a reference of CPU %u", (unsigned)(uintptr_t)me->of);
+	} else if (me->guard == is_made) {
+		found.on = xcaller();
+		snprintf(found.what, sizeof(found.what), "the call");
 	} else if (me->guard == has_ended) {
 		found.on = me->of;
 		snprintf(found.what, sizeof(found.what), "its end");

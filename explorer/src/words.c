@@ -5,10 +5,13 @@
  * with its own. Two accesses are ordered where the later thread's clock has the earlier one's.
  */
 #include <string.h>
+#include <sys/mman.h>
 
 #include "inside.h"
 
-static unsigned plain_count;
+enum { FIRST_GIVEN = 64 };
+
+static size_t given_room, given_count;
 
 static void join(uint32_t *clock, const uint32_t *other)
 {
@@ -17,19 +20,45 @@ static void join(uint32_t *clock, const uint32_t *other)
 			clock[number] = other[number];
 }
 
-/* What was left at a thing; the last one stands for all beyond the room. */
+/* The row where a thing is, or where it belongs. */
+static struct given *find_given(uintptr_t of)
+{
+	struct given *rows = rows_of(GIVEN);
+	size_t at = (of * 0x9e3779b97f4a7c15u >> 32) % given_room;
+	while (rows[at].of != 0 && rows[at].of != of)
+		at = (at + 1) % given_room;
+	return &rows[at];
+}
+
+/* Twice as many rows as before, and those that are filled at their new places. */
+static void spread_given(void)
+{
+	size_t before = given_room;
+	given_room = before == 0 ? FIRST_GIVEN : before * 2;
+	struct given *kept = before == 0 ? NULL : mmap(NULL, before * sizeof(*kept), PROT_READ | PROT_WRITE, MAP_PRIVATE | MAP_ANONYMOUS, -1, 0);
+	if (kept == MAP_FAILED)
+		refuse("out of memory");
+	if (before > 0)
+		memcpy(kept, rows_of(GIVEN), before * sizeof(*kept));
+	for (run.rows[GIVEN] = 0; run.rows[GIVEN] < given_room;)
+		new_row(GIVEN);
+	for (size_t at = 0; at < before; at++)
+		if (kept[at].of != 0)
+			*find_given(kept[at].of) = kept[at];
+	if (before > 0)
+		munmap(kept, before * sizeof(*kept));
+}
+
+/* What was left at a thing. At most half of the rows are filled. */
 static struct given *given_at(enum kind kind, const volatile void *address, unsigned cpu)
 {
 	uintptr_t of = ((uintptr_t)address * 31 + (uintptr_t)kind) * (UINT8_MAX + 1) + cpu % (UINT8_MAX + 1) + 1;
-	uint64_t number = board->runs + 1;
-	unsigned at = (unsigned)(of * 0x9e3779b1u >> 8) % GIVEN;
-	for (unsigned turn = 0; turn < GIVEN - 1; turn++, at = (at + 1) % GIVEN)
-		if (beside->given[at].of == of || beside->given[at].run != number)
-			break;
-	if (beside->given[at].run != number)
-		beside->given[at] = (struct given){.run = number};
-	beside->given[at].of = of;
-	return &beside->given[at];
+	if (2 * given_count >= given_room)
+		spread_given();
+	struct given *row = find_given(of);
+	given_count += row->of == 0;
+	row->of = of;
+	return row;
 }
 
 void give_clock(enum kind kind, const volatile void *address, unsigned cpu)
@@ -45,6 +74,13 @@ void take_clock(enum kind kind, const volatile void *address, unsigned cpu)
 {
 	if (run.now_runs != NULL)
 		join(run.now_runs->clock, given_at(kind, address, cpu)->clock);
+}
+
+/* The running thread comes after all that the others have done. */
+void take_all_clocks(void)
+{
+	for (unsigned number = 0; number < run.count; number++)
+		join(run.now_runs->clock, run.routines[number].clock);
 }
 
 /* A new thread comes after what its maker has done. */
@@ -67,8 +103,9 @@ static const char *known(const char *place)
 
 static void want_ordered(const struct routine *me, const struct plain *now)
 {
-	for (unsigned at = 0; at < plain_count; at++) {
-		const struct plain *old = &beside->plain[at];
+	const struct plain *rows = rows_of(PLAIN);
+	for (size_t at = 0; at < run.rows[PLAIN]; at++) {
+		const struct plain *old = &rows[at];
 		if (old->thread == me->number || old->from >= now->to || now->from >= old->to)
 			continue;
 		if ((!old->writes && !now->writes) || (old->atomic && now->atomic) || me->clock[old->thread] >= old->at)
@@ -83,15 +120,15 @@ static void record(const struct routine *me, const volatile void *address, size_
 {
 	const struct plain now = {(uintptr_t)address, (uintptr_t)address + size, writes, atomic, me->number, me->clock[me->number], place};
 	want_ordered(me, &now);
-	for (unsigned at = 0; at < plain_count; at++) {
-		struct plain *old = &beside->plain[at];
+	struct plain *rows = rows_of(PLAIN);
+	for (size_t at = 0; at < run.rows[PLAIN]; at++) {
+		struct plain *old = &rows[at];
 		if (old->thread == now.thread && old->from == now.from && old->to == now.to && old->writes == writes && old->atomic == atomic) {
 			*old = now;
 			return;
 		}
 	}
-	if (plain_count < PLAIN)
-		beside->plain[plain_count++] = now;
+	*(struct plain *)new_row(PLAIN) = now;
 }
 
 /* ---- The points. ---- */

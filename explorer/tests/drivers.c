@@ -1,12 +1,12 @@
 /*
- * drivers - the seven drivers of clients/netbsd/examples, right as they are: no schedule of their threads breaks anything
+ * drivers - the seven drivers of netbsd/examples, right as they are: no schedule of their threads breaks anything
  *
  *     drivers [CASE [SCHEDULE]]
  */
 #include <string.h>
 
 #include "cases.inc"
-#include "../../c/expect.h"
+#include "../../c/examples/expect.h"
 
 int main(int count, char **words)
 {

@@ -15,9 +15,10 @@
 #include <sys/psref.h>
 #include <sys/rwlock.h>
 #include <sys/systm.h>
+#include <sys/xcall.h>
 
 #include "../bench.h"
-#include "../../c/expect.h"
+#include "../../c/examples/expect.h"
 
 static kmutex_t one, two;
 static krwlock_t rw;
@@ -419,16 +420,217 @@ static void panics(void)
 	make_two(dies, set_word);
 }
 
+static void exit_at_once(void *arg)
+{
+	(void)arg;
+	kthread_exit(0);
+}
+
 static void join_never(void *arg)
 {
 	lwp_t *made;
 	(void)arg;
-	(void)kthread_create(PRI_NONE, KTHREAD_MUSTJOIN, NULL, set_word, NULL, &made, "worker");
+	(void)kthread_create(PRI_NONE, KTHREAD_MUSTJOIN, NULL, exit_at_once, NULL, &made, "worker");
 }
 
 static void unjoined(void)
 {
 	make_two(join_never, write_once);
+}
+
+static void return_at_once(void *arg)
+{
+	(void)arg;
+}
+
+static void make_returning(void *arg)
+{
+	(void)arg;
+	(void)kthread_create(PRI_NONE, 0, NULL, return_at_once, NULL, NULL, "worker");
+}
+
+static void returning(void)
+{
+	make_two(make_returning, write_once);
+}
+
+/* ---- Soft interrupts, drains. ---- */
+
+static void *softint;
+
+static void use_in_handler(void *arg)
+{
+	(void)arg;
+	atomic_inc_uint(block);
+}
+
+/* The handler may run between the two. */
+static void free_and_disestablish(void *arg)
+{
+	(void)arg;
+	softint_schedule(softint);
+	kmem_free(block, sizeof(*block));
+	softint_disestablish(softint);
+}
+
+static void freed_before_disestablish(void)
+{
+	make_block();
+	softint = softint_establish(SOFTINT_NET | SOFTINT_MPSAFE, use_in_handler, NULL);
+	make_two(free_and_disestablish, write_once);
+}
+
+static struct localcount local;
+static unsigned slot;	/* 1: the old driver, 2: the new one. Under `one` */
+static bool detaching;
+
+/* The drain gives the lock up, also where nobody has a reference: what another thread attaches meanwhile is lost. */
+static void clear_after_drain(void *arg)
+{
+	(void)arg;
+	mutex_enter(&one);
+	slot = 0;
+	detaching = true;
+	localcount_drain(&local, &cv, &one);
+	slot = 0;
+	mutex_exit(&one);
+	localcount_fini(&local);
+}
+
+static void attach_meanwhile(void *arg)
+{
+	(void)arg;
+	mutex_enter(&one);
+	bool attached = slot == 0 && detaching;
+	if (attached)
+		slot = 2;
+	mutex_exit(&one);
+	mutex_enter(&one);
+	KASSERT(!attached || slot == 2);
+	mutex_exit(&one);
+}
+
+static void cleared_after_drain(void)
+{
+	localcount_init(&local);
+	slot = 1;
+	make_two(clear_after_drain, attach_meanwhile);
+}
+
+static void use_argument(void *arg, void *other)
+{
+	(void)other;
+	atomic_inc_uint(arg);
+}
+
+/* The call may still be made on some CPU. */
+static void wait_never(void *arg)
+{
+	(void)arg;
+	(void)xc_broadcast(0, use_argument, block, NULL);
+	kmem_free(block, sizeof(*block));
+}
+
+static void wait_for_call(void *arg)
+{
+	(void)arg;
+	xc_wait(xc_broadcast(0, use_argument, block, NULL));
+	KASSERT(atomic_load_relaxed(block) == KUPALDIZ_CPUS);
+	kmem_free(block, sizeof(*block));
+}
+
+static void unwaited(void)
+{
+	make_block();
+	make_two(wait_never, write_once);
+}
+
+static void waited(void)
+{
+	make_block();
+	make_two(wait_for_call, write_once);
+}
+
+/* NetBSD's key.c releases so: a kernel takes the lock, and sleeps if it must. */
+static void release_in_handler(void *arg)
+{
+	(void)arg;
+	localcount_release(&local, &cv, &one);
+}
+
+static void schedule_release(void *arg)
+{
+	(void)arg;
+	softint_schedule(softint);
+}
+
+static void drain_local(void *arg)
+{
+	(void)arg;
+	mutex_enter(&one);
+	localcount_drain(&local, &cv, &one);
+	mutex_exit(&one);
+	localcount_fini(&local);
+	softint_disestablish(softint);
+}
+
+static void released_in_handler(void)
+{
+	localcount_init(&local);
+	localcount_acquire(&local);
+	softint = softint_establish(SOFTINT_NET | SOFTINT_MPSAFE, release_in_handler, NULL);
+	make_two(schedule_release, drain_local);
+}
+
+/* One level's handler waits for the lock of a thread, and the thread for another level's handler. */
+static kmutex_t soft_lock;
+static void *levels[2];
+
+static void lock_softly(void *arg)
+{
+	(void)arg;
+	mutex_enter(&soft_lock);
+	mutex_exit(&soft_lock);
+}
+
+static void wake_softly(void *arg)
+{
+	(void)arg;
+	atomic_store_relaxed(&flag, true);
+}
+
+static void wait_for_level(void *arg)
+{
+	(void)arg;
+	kupaldiz_bind(0);
+	mutex_enter(&soft_lock);
+	softint_schedule(levels[0]);
+	softint_schedule(levels[1]);
+	for (unsigned turn = 0; turn < 3 && !atomic_load_relaxed(&flag); turn++)
+		kpause("level", false, 1, NULL);
+	KASSERT(atomic_load_relaxed(&flag));
+	mutex_exit(&soft_lock);
+	for (unsigned at = 0; at < 2; at++)
+		softint_disestablish(levels[at]);
+	kupaldiz_unbind();
+}
+
+static void set_up_levels(unsigned blocked, unsigned wakes)
+{
+	mutex_init(&soft_lock, MUTEX_DEFAULT, IPL_SOFTCLOCK);
+	levels[0] = softint_establish(blocked | SOFTINT_MPSAFE, lock_softly, NULL);
+	levels[1] = softint_establish(wakes | SOFTINT_MPSAFE, wake_softly, NULL);
+	make_two(wait_for_level, write_once);
+}
+
+static void higher_waits(void)
+{
+	set_up_levels(SOFTINT_SERIAL, SOFTINT_CLOCK);
+}
+
+static void lower_waits(void)
+{
+	set_up_levels(SOFTINT_CLOCK, SOFTINT_NET);
 }
 
 /* ---- What is left at the end. ---- */
@@ -444,8 +646,6 @@ static void left_pserialize(void)
 	psz = pserialize_create();
 	make_two(write_once, write_once);
 }
-
-static struct localcount local;
 
 static void count_in(void *arg)
 {
@@ -550,6 +750,14 @@ static const struct find {
 	{"an assertion", "KASSERTMSG: not so: ", asserts, NULL},
 	{"a panic", "panic: out of luck, at", panics, NULL},
 	{"a thread that isn't joined", "taken by kthread_create", unjoined, NULL},
+	{"a thread that returns", "kthread_create: the body returned without kthread_exit", returning, NULL},
+	{"freed before its handler is ended", "use of freed memory", freed_before_disestablish, NULL},
+	{"an attach that a drain loses", "KASSERT: not so: !attached || slot == 2", cleared_after_drain, NULL},
+	{"a cross call that isn't waited for", "use of freed memory", unwaited, NULL},
+	{"a cross call that is", NULL, waited, NULL},
+	{"a release in a soft interrupt", NULL, released_in_handler, NULL},
+	{"a higher level's handler that waits", NULL, higher_waits, NULL},
+	{"a lower level's handler that waits", NULL, lower_waits, NULL},
 	{"a class that is left", "taken by psref_class_create", left_class, NULL},
 	{"a pserialize that is left", "taken by pserialize_create", left_pserialize, NULL},
 	{"a lock object that is left", "taken by mutex_obj_alloc", left_object, NULL},
@@ -578,7 +786,7 @@ static bool is_found(const struct find *find)
 	struct bench_options options = {.quiet = true, .found = &found, .frees = true, .finish = find->finish};
 	bool wrong = bench_explore(find->setup, &options) != 0;
 	if (find->line == NULL)
-		return !wrong && found.exhausted;
+		return !wrong && found.complete;
 	options.found = &again;
 	options.replay = found.schedule;
 	return wrong && is_line(found.line, find->line) && bench_explore(find->setup, &options) == 1 && strcmp(found.line, again.line) == 0;

@@ -1,5 +1,5 @@
 /*
- * in_bench.h - read by the compiler before misuse.c, misuse_kernel.c, misuse_locks.c, sleepers.c and unmade.c of clients/netbsd/tests, in place of their
+ * in_bench.h - read by the compiler before misuse.c, misuse_kernel.c, misuse_locks.c, sleepers.c and unmade.c of netbsd/tests, in place of their
  * stops.h: each case runs in the bench, which must find its line. All threads are called as the program is, as there. The case of a fork is left out: each
  * run of the bench is in a child.
  */
@@ -18,7 +18,7 @@
 #include <kupaldiz/kernel.h>
 
 #include "../bench.h"
-#include "../../c/expect.h"
+#include "../../c/examples/expect.h"
 #include "../../netbsd/tests/places.h"
 
 struct stop_case {

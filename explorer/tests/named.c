@@ -1,4 +1,4 @@
-/* named - clients/netbsd/tests/names.c in a thread of the bench: each name does what its page says there, too */
+/* named - netbsd/tests/names.c in a thread of the bench: each name does what its page says there, too */
 #include "../../netbsd/tests/names.c"
 
 #include "../bench.h"

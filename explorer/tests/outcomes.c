@@ -4,6 +4,7 @@
  * A program is a text for each thread, and each letter of it is a thing to do. Some programs are written here, others are made by a random generator.
  *
  *     outcomes [FIRST COUNT]        the random programs with these seeds
+ *     outcomes for SECONDS FIRST    short ones, from this seed on, as many as there is time for
  *     outcomes print FIRST COUNT    each program with each outcome, a line each: for a comparison with real threads
  */
 #include <string.h>
@@ -11,6 +12,7 @@
 #include <sys/callout.h>
 #include <sys/condvar.h>
 #include <sys/intr.h>
+#include <sys/kmem.h>
 #include <sys/localcount.h>
 #include <sys/lwp.h>
 #include <sys/mutex.h>
@@ -18,9 +20,10 @@
 #include <sys/psref.h>
 #include <sys/rwlock.h>
 #include <sys/systm.h>
+#include <time.h>
 
 #include "../bench.h"
-#include "../../c/expect.h"
+#include "../../c/examples/expect.h"
 
 enum { MOST = 4, LONGEST = 16 };
 
@@ -36,7 +39,10 @@ static bool flag, gone;
 static pserialize_t psz;
 static struct psref_class *things;
 static struct psref_target target;
-static void *softint;
+static struct localcount local;
+static bool drained;
+static void *softint, *own_softints[MOST];
+static unsigned *blocks[MOST];
 static callout_t callout;
 static char seen[MOST][LONGEST + 1];
 static unsigned count[MOST];
@@ -59,9 +65,18 @@ static void ring(void *arg)
 	atomic_store_relaxed(&words[0], 25);
 }
 
-static bool has_letter(char letter)
+static void change_block(void *arg)
 {
-	return strchr(texts[0], letter) != NULL || strchr(texts[1], letter) != NULL || strchr(texts[2], letter) != NULL;
+	atomic_store_relaxed(&words[0], atomic_inc_uint_nv(blocks[(char(*)[LONGEST])arg - texts]) + 20);
+}
+
+/* Whether the program does one of these things: what it doesn't need isn't made. */
+static bool does(const char *letters)
+{
+	for (unsigned at = 0; at < MOST; at++)
+		if (strpbrk(texts[at], letters) != NULL)
+			return true;
+	return false;
 }
 
 static void try_lock(unsigned thread)
@@ -78,6 +93,59 @@ static void wait_for_flag(void)
 	while (!flag)
 		cv_wait(&cv, &locks[0]);
 	mutex_exit(&locks[0]);
+}
+
+/* Waits for the flag for a tick at most. */
+static void wait_for_a_tick(unsigned thread)
+{
+	mutex_enter(&locks[0]);
+	if (!flag)
+		see(thread, cv_timedwait(&cv, &locks[0], 1) == 0 ? 1 : 2);
+	mutex_exit(&locks[0]);
+}
+
+/* Ends the thread's own soft interrupt: with `frees`, what its handler uses is freed first. */
+static void end_softint(unsigned thread, bool frees)
+{
+	if (own_softints[thread] == NULL)
+		return;
+	if (frees)
+		kmem_free(blocks[thread], sizeof(unsigned));
+	softint_disestablish(own_softints[thread]);
+	if (!frees)
+		kmem_free(blocks[thread], sizeof(unsigned));
+	own_softints[thread] = NULL;
+}
+
+static void schedule_own(unsigned thread)
+{
+	if (own_softints[thread] != NULL)
+		softint_schedule(own_softints[thread]);
+}
+
+/* Acquires a local reference where the count isn't drained, and looks at a word while it has it. */
+static void count_in(unsigned thread)
+{
+	int s = pserialize_read_enter();
+	bool found = !atomic_load_acquire(&drained);
+	if (found)
+		localcount_acquire(&local);
+	pserialize_read_exit(s);
+	see(thread, found);
+	if (found) {
+		see(thread, atomic_load_relaxed(&words[1]));
+		localcount_release(&local, &cv, &locks[1]);
+	}
+}
+
+static void drain(void)
+{
+	mutex_enter(&locks[1]);
+	atomic_store_release(&drained, true);
+	pserialize_perform(psz);
+	localcount_drain(&local, &cv, &locks[1]);
+	mutex_exit(&locks[1]);
+	localcount_fini(&local);
 }
 
 static void set_flag(void)
@@ -150,6 +218,15 @@ static void act(unsigned thread, char letter, unsigned value)
 	case 'O': (void)callout_halt(&callout, NULL); break;
 	case 'c': kupaldiz_bind(0); break;
 	case 'k': (void)kpause("outcomes", false, 1, NULL); break;
+	case 'T': wait_for_a_tick(thread); break;
+	case 'S': cv_signal(&cv); break;
+	case 'j': schedule_own(thread); break;
+	case 'e': end_softint(thread, false); break;
+	case 'f': end_softint(thread, true); break;
+	case 'l': (void)splnet(); break;
+	case 'L': splx(IPL_NONE); break;
+	case 'q': count_in(thread); break;
+	case 'Q': drain(); break;
 	default: EXPECT(!"a letter");
 	}
 }
@@ -162,50 +239,89 @@ static void run_text(void *arg)
 		act(thread, text[at], thread * 8 + at + 1);
 }
 
+#define WITH_LOCKS	"()[]twsTSqQ"
+#define WITH_CV		"wsTSqQ"
+#define WITH_SECTIONS	"<>PgDqQ"
+
 static void begin(void)
 {
 	static const char *const names[] = {"one", "two", "three", "four"};
-	mutex_init(&locks[0], MUTEX_DEFAULT, IPL_NONE);
-	mutex_init(&locks[1], MUTEX_DEFAULT, IPL_NONE);
-	rw_init(&rw);
-	cv_init(&cv, "flag");
-	psz = pserialize_create();
-	things = psref_class_create("thing", IPL_SOFTNET);
-	psref_target_init(&target, things);
-	softint = softint_establish(SOFTINT_NET | SOFTINT_MPSAFE, handle, NULL);
-	if (has_letter('o') || has_letter('O'))
+	for (unsigned at = 0; at < 2 && does(WITH_LOCKS); at++)
+		mutex_init(&locks[at], MUTEX_DEFAULT, IPL_NONE);
+	if (does("rW"))
+		rw_init(&rw);
+	if (does(WITH_CV))
+		cv_init(&cv, "flag");
+	if (does(WITH_SECTIONS))
+		psz = pserialize_create();
+	if (does("gD")) {
+		things = psref_class_create("thing", IPL_SOFTNET);
+		psref_target_init(&target, things);
+	}
+	if (does("i"))
+		softint = softint_establish(SOFTINT_NET | SOFTINT_MPSAFE, handle, NULL);
+	if (does("oO"))
 		callout_init(&callout, 0);
-	for (unsigned at = 0; at < MOST; at++)
+	if (does("qQ"))
+		localcount_init(&local);
+	for (unsigned at = 0; at < MOST; at++) {
+		if (strpbrk(texts[at], "jef") != NULL) {
+			blocks[at] = kmem_zalloc(sizeof(unsigned), KM_SLEEP);
+			own_softints[at] = softint_establish(SOFTINT_NET | SOFTINT_MPSAFE, change_block, texts[at]);
+		}
 		if (texts[at][0] != '\0')
 			bench_thread(names[at], run_text, texts[at]);
+	}
+}
+
+static void end_references(void)
+{
+	if (does("qQ") && !drained)
+		drain();
+	if (does("gD") && !gone)
+		psref_target_destroy(&target, things);
+	if (does("gD"))
+		psref_class_destroy(things);
+	if (does(WITH_SECTIONS))
+		pserialize_destroy(psz);
+}
+
+static void end_locks(void)
+{
+	for (unsigned at = 0; at < 2 && does(WITH_LOCKS); at++)
+		mutex_destroy(&locks[at]);
+	if (does("rW"))
+		rw_destroy(&rw);
+	if (does(WITH_CV))
+		cv_destroy(&cv);
 }
 
 static void finish(void)
 {
 	for (unsigned at = 0; at < MOST; at++)
 		bench_outcome("%s,", seen[at]);
+	for (unsigned at = 0; at < MOST; at++)
+		end_softint(at, false);
 	/* A soft interrupt of real threads may run later. */
-	if (!has_letter('i') && !has_letter('o'))
+	if (!does("ioj"))
 		bench_outcome("%u %u", words[0], words[1]);
-	if (has_letter('o') || has_letter('O')) {
+	if (does("oO")) {
 		(void)callout_halt(&callout, NULL);
 		callout_destroy(&callout);
 	}
-	if (!gone)
-		psref_target_destroy(&target, things);
-	psref_class_destroy(things);
-	pserialize_destroy(psz);
-	softint_disestablish(softint);
-	mutex_destroy(&locks[0]);
-	mutex_destroy(&locks[1]);
-	rw_destroy(&rw);
-	cv_destroy(&cv);
+	if (does("i"))
+		softint_disestablish(softint);
+	end_references();
+	end_locks();
 }
+
+/* A program that has more schedules without the reduction is too long. */
+static uint64_t most_schedules = 15000;
 
 static struct bench_found explore(bool whole)
 {
 	struct bench_found found;
-	const struct bench_options options = {.quiet = true, .whole = whole, .schedules = 15000, .finish = finish, .found = &found, .bounded = 1,
+	const struct bench_options options = {.quiet = true, .whole = whole, .schedules = most_schedules, .finish = finish, .found = &found, .bounded = 1,
 	    .preemptions = 1, .random = 1};
 	bench_explore(begin, &options);
 	return found;
@@ -295,6 +411,7 @@ static void try(const char *first, const char *second, const char *third)
 /* ---- Random programs: balanced in their locks and sections. ---- */
 
 static uint64_t seed;
+static unsigned seconds;	/* for short programs */
 
 static unsigned pick(unsigned below)
 {
@@ -311,7 +428,8 @@ static void add(char *text, const char *more)
 static void make_text(char *text, unsigned parts)
 {
 	static const char *const pieces[] = {"a", "b", "A", "B", "+", "(a)", "[A]", "([B])", "t", "<a>", "<ab>", "P", "(A)", "r", "W", "AB", "ba", "s", "w", "g", "i",
-	    "k", "o", "oO", "<iab>", "<iA>", "<ib>"};
+	    "k", "o", "oO", "<iab>", "<iA>", "<ib>", "T", "TS", "S", "j", "je", "jAe", "jf", "lAL", "lAjL", "q",
+	    "q", "(S)", "kA"};
 	text[0] = '\0';
 	for (unsigned at = 0; at < parts; at++)
 		add(text, pieces[pick(sizeof(pieces) / sizeof(pieces[0]))]);
@@ -321,11 +439,11 @@ static void try_random(uint64_t of)
 {
 	seed = of * 2654435761u + 7;
 	memset(texts, 0, sizeof(texts));
-	unsigned threads = 2 + pick(2);
+	unsigned threads = 2 + pick(2), parts = seconds > 0 ? 1 : 2;
 	for (unsigned thread = 0; thread < threads; thread++)
-		make_text(texts[thread], threads == 2 ? 2 + pick(2) : 1 + pick(2));
+		make_text(texts[thread], threads == 2 ? parts + pick(2) : 1 + pick(parts));
 	if (pick(4) == 0)
-		add(texts[threads - 1], "D");
+		add(texts[threads - 1], pick(2) == 0 ? "D" : "Q");
 	compare();
 }
 
@@ -357,10 +475,47 @@ static void try_written(void)
 	try("c<a>A", "c<aA>", "");
 	try("c<ab>i", "cA", "B");
 	try("c(a)", "c<A>", "(a)");
+	try("T", "s", "");
+	try("T", "S", "s");
+	try("T", "T", "S");
+	try("je", "a", "");
+	try("jf", "a", "");
+	try("jAe", "ab", "");
+	try("cjlAALe", "a", "");
+	try("cjlALb", "cA", "oO");
+	try("q", "Q", "");
+	try("q", "q", "Q");
+	try("T", "jS", "k");
+	try("ba", "je", "");
+	try("TST", "S(A)", "AB");
+	try("s", "TS", "T");
+	try("lAjL", "jf", "");
+}
+
+static time_t now(void)
+{
+	struct timespec time;
+	clock_gettime(CLOCK_MONOTONIC, &time);
+	return time.tv_sec;
+}
+
+static int try_for_a_while(uint64_t first)
+{
+	most_schedules = 400;
+	for (time_t end = now() + seconds; now() < end; first++)
+		try_random(first);
+	EXPECT(2 * faults < compared);
+	printf("%u programs in %u seconds: the same outcomes by %llu schedules as by %llu; %u of them with a fault; %u others were too long\n", compared,
+	    seconds, reduceds, wholes, faults, skipped);
+	return 0;
 }
 
 int main(int count_of_words, char **given)
 {
+	if (count_of_words == 4 && strcmp(given[1], "for") == 0) {
+		seconds = (unsigned)atoi(given[2]);
+		return try_for_a_while(strtoull(given[3], NULL, 10));
+	}
 	prints = count_of_words == 4 && strcmp(given[1], "print") == 0;
 	unsigned first = count_of_words >= 3 ? (unsigned)atoi(given[count_of_words - 2]) : 1;
 	unsigned number = count_of_words >= 3 ? (unsigned)atoi(given[count_of_words - 1]) : 60;

@@ -11,7 +11,7 @@
 #include <unistd.h>
 
 #include "../bench.h"
-#include "../../c/expect.h"
+#include "../../c/examples/expect.h"
 
 static kmutex_t one, two;
 static unsigned word, other;
@@ -205,23 +205,6 @@ static void too_many_bytes(void)
 	bench_explore(make_taker, NULL);
 }
 
-static void take_often(void *arg)
-{
-	(void)arg;
-	for (unsigned at = 0; at < 600; at++)
-		(void)kmem_alloc(8, KM_SLEEP);
-}
-
-static void make_often(void)
-{
-	bench_thread("taker", take_often, NULL);
-}
-
-static void too_many_blocks(void)
-{
-	bench_explore(make_often, NULL);
-}
-
 static const struct refusal {
 	const char *name, *line;
 	void (*body)(void);
@@ -238,7 +221,6 @@ static const struct refusal {
 	{"a run inside of a run", "bench: bench_explore inside of a run\n", inside_of_run},
 	{"too many threads", "bench: there are more than 15 threads\n", too_many_threads},
 	{"too many bytes", "bench: the code takes more than 4194304 bytes in one run\n", too_many_bytes},
-	{"too many blocks", "bench: the code takes more than 512 blocks of memory in one run\n", too_many_blocks},
 	{"a picture that can't be written", "bench: /no/such/folder/picture.svg can't be written\n", nowhere_to_draw},
 	{"a schedule that is too long", "bench: the schedule is too long\n", too_long},
 	{"a schedule with a huge number", "bench: the schedule is too long\n", huge_turn},

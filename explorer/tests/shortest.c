@@ -15,7 +15,7 @@
 #include <unistd.h>
 
 #include "../bench.h"
-#include "../../c/expect.h"
+#include "../../c/examples/expect.h"
 
 enum { LONGEST = 9, FAULT = 10 };
 

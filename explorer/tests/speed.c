@@ -3,7 +3,7 @@
 #include <sys/resource.h>
 
 #include "../bench.h"
-#include "../../c/expect.h"
+#include "../../c/examples/expect.h"
 
 static unsigned words[2];
 

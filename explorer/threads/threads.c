@@ -1,5 +1,5 @@
 /*
- * threads.c - bench.h on real threads, to compare the bench with: the same tests, linked with this and with clients/netbsd
+ * threads.c - bench.h on real threads, to compare the bench with: the same tests, linked with this and with netbsd
  *
  * Each run has a process of its own, in which all threads begin at once. A run is wrong where its process ends by a signal or with another status than 0,
  * or takes more than five seconds. At each point stands a full barrier, and with BENCH_YIELD a chance to lose the processor: the bench's orders are those

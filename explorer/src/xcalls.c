@@ -1,0 +1,122 @@
+/*
+ * xcalls.c - xcall(9) is asynchronous: a thread of the bench's own goes to the CPUs, while the caller goes on until its xc_wait
+ *
+ * The thread makes one call after another, each by the layer's own xc_broadcast or xc_unicast.
+ */
+#include "inside.h"
+
+LAYER(uint64_t, xc_broadcast, (unsigned flags, xcfunc_t body, void *arg_a, void *arg_b));
+LAYER(uint64_t, xc_unicast, (unsigned flags, xcfunc_t body, void *arg_a, void *arg_b, struct cpu_info *cpu));
+LAYER(void, xc_wait, (uint64_t ticket));
+LAYER(void, xc_barrier, (unsigned flags));
+
+/* A call that was asked for. */
+struct xcall {
+	struct xcall *next;
+	unsigned flags;
+	xcfunc_t body;
+	void *arg_a, *arg_b;
+	struct cpu_info *cpu;	/* NULL for all */
+	const char *place;
+};
+
+static struct xcall *first, **last = &first;
+static uint64_t asked, made;
+static struct routine *caller;
+
+static bool is_asked(const struct routine *me)
+{
+	(void)me;
+	return first != NULL;
+}
+
+bool is_made(const struct routine *me)
+{
+	return made >= me->noted;
+}
+
+const struct routine *xcaller(void)
+{
+	return caller;
+}
+
+static void make_call(const struct xcall *xcall)
+{
+	/* xc_broadcast takes a place, and xc_unicast none. */
+	if (xcall->cpu == NULL) {
+		kupaldiz_at(xcall->place);
+		layer_xc_broadcast(xcall->flags, xcall->body, xcall->arg_a, xcall->arg_b);
+	} else {
+		layer_xc_unicast(xcall->flags, xcall->body, xcall->arg_a, xcall->arg_b, xcall->cpu);
+	}
+}
+
+static void make_calls(void *arg)
+{
+	(void)arg;
+	(void)named_thread("xcall", "xcall");
+	for (;;) {
+		point("xcall", NULL, is_asked, NULL);
+		touch(ON_XCALL, NULL, 0, WRITES | TAKES);
+		const struct xcall *xcall = first;
+		first = xcall->next;
+		if (first == NULL)
+			last = &first;
+		run.now_runs->visits = true;
+		make_call(xcall);
+		run.now_runs->visits = false;
+		made++;
+		touch(ON_XCALL, NULL, 0, WRITES | GIVES);
+	}
+}
+
+/* Asks for a call. What xc_wait takes. */
+static uint64_t ask(const struct xcall *asked_for)
+{
+	struct xcall *xcall = allocate(sizeof(*xcall), 16, false);
+	if (caller == NULL)
+		caller = make_routine("xcall", make_calls, NULL, true);
+	start_routines();
+	*xcall = *asked_for;
+	*last = xcall;
+	last = &xcall->next;
+	touch(ON_XCALL, NULL, 0, WRITES | GIVES);
+	return ++asked;
+}
+
+uint64_t xc_broadcast(unsigned flags, xcfunc_t body, void *arg_a, void *arg_b)
+{
+	point(__func__, NULL, NULL, NULL);
+	const struct thread *me = begin_call(__func__);
+	want_sleepable(me);
+	return ask(&(struct xcall){.flags = flags, .body = body, .arg_a = arg_a, .arg_b = arg_b, .place = me->place});
+}
+
+uint64_t xc_unicast(unsigned flags, xcfunc_t body, void *arg_a, void *arg_b, struct cpu_info *cpu)
+{
+	point(__func__, NULL, NULL, NULL);
+	want_sleepable(begin_plain(__func__));
+	return ask(&(struct xcall){.flags = flags, .body = body, .arg_a = arg_a, .arg_b = arg_b, .cpu = cpu});
+}
+
+void xc_wait(uint64_t ticket)
+{
+	struct routine *me = here(__func__);
+	const struct thread *self = begin_plain(__func__);
+	want_sleepable(self);
+	if (ticket == 0 || ticket > asked)
+		stop(self, "no such call");
+	me->noted = ticket;
+	point(__func__, NULL, is_made, NULL);
+	touch(ON_XCALL, NULL, 0, TAKES);
+}
+
+/* It goes to each CPU in turn: each is a point of its own. */
+void xc_barrier(unsigned flags)
+{
+	struct routine *me = here(__func__);
+	point(__func__, NULL, NULL, NULL);
+	me->visits = true;
+	layer_xc_barrier(flags);
+	me->visits = false;
+}
