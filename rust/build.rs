@@ -8,7 +8,7 @@
 //! Where none is there, the crate is only checked: what links says how to get one.
 //!
 //! The limits that the archive was built for are in registry_limits.h: beside it, with the installed headers, or else in this crate. They are constants of
-//! the crate.
+//! the crate. The header also names the archive's version: over one of another version the crate doesn't compile.
 //!
 //! The calls of the archive that tests/common/watched.rs names are led there in the programs of the tests, which watch who is in which call.
 
@@ -43,7 +43,11 @@ impl Archive {
 fn main() {
     let here = PathBuf::from(env::var_os("CARGO_MANIFEST_DIR").unwrap());
     let found = find(&here);
-    if !found.path().exists() {
+    let target = |what: &str| env::var(format!("CARGO_CFG_TARGET_{what}")).unwrap_or_default();
+    let built_for = [("linux", "gnu", "x86_64"), ("linux", "gnu", "aarch64")];
+    if !built_for.contains(&(&target("OS"), &target("ENV"), &target("ARCH"))) {
+        println!("cargo:warning=the archive is built for Linux on x86-64 and aarch64 with glibc alone: here the crate is only checked");
+    } else if !found.path().exists() {
         println!(
             "cargo:warning=there is no {}: tools/build-archive.sh makes it, a release has it, and REGISTRY_LIB_DIR names another folder that has it",
             found.path().display()
@@ -105,7 +109,18 @@ fn variable(name: &str) -> Option<PathBuf> {
     said.status.success().then(|| PathBuf::from(folder.trim()))
 }
 
-/// Writes limits.rs, which src/ffi.rs includes: the limits of the header as constants, and the call whose name has two of them.
+/// What this crate and its archive have in common: the major and the minor version, or from 1 on the major one.
+fn version() -> Vec<String> {
+    let major = env::var("CARGO_PKG_VERSION_MAJOR").unwrap();
+    let minor = env::var("CARGO_PKG_VERSION_MINOR").unwrap();
+    if major == "0" {
+        vec![major, minor]
+    } else {
+        vec![major]
+    }
+}
+
+/// Writes limits.rs, which src/ffi.rs includes: the limits of the header as constants, the version, and the call whose name has two limits and the version.
 fn write_limits(header: &Path) {
     println!("cargo:rerun-if-changed={}", header.display());
     let text = fs::read_to_string(header).unwrap_or_else(|fault| panic!("{}: {fault}", header.display()));
@@ -129,8 +144,16 @@ fn write_limits(header: &Path) {
     ] {
         limits += &format!("pub const MOST_{name}: {kind} = {};\n", said(&format!("MOST_{name}")));
     }
+    let (built_for, name) = (said("BUILT_FOR"), version().join("_"));
+    assert!(
+        built_for.ends_with(&format!("_slots_v{name}")),
+        "{}: the library is {built_for}, of another version than this crate, {}",
+        header.display(),
+        env::var("CARGO_PKG_VERSION").unwrap()
+    );
+    limits += &format!("pub const VERSION: &str = \"{}.\";\n", version().join("."));
     let call = "pub fn registry_built_for(limits: *const Limits) -> u32;";
-    limits += &format!("extern \"C\" {{\n    #[link_name = \"{}\"]\n    {call}\n}}\n", said("BUILT_FOR"));
+    limits += &format!("extern \"C\" {{\n    #[link_name = \"{built_for}\"]\n    {call}\n}}\n");
     let to = Path::new(&env::var_os("OUT_DIR").unwrap()).join("limits.rs");
     fs::write(&to, limits).unwrap_or_else(|fault| panic!("{}: {fault}", to.display()));
 }

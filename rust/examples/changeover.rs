@@ -3,7 +3,7 @@
 //! Entries carry an `Arc`, so both registries have the same objects. A lock has the newest registry. A thread that sees a new one takes a CPU there, and
 //! drops its CPU of the old one. `changeover [MOVES]` moves so often, 20 times if no number is given, and says how many lookups went wrong.
 
-use registry::{Cpu, Kind, Name, Patience, Refusal, Registry, Settings};
+use kupaldiz::{Cpu, Kind, Name, Patience, Refusal, Registry, Settings};
 use std::env;
 use std::error::Error;
 use std::sync::atomic::{AtomicBool, AtomicU64, Ordering};

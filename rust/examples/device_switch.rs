@@ -9,7 +9,7 @@
 
 mod common;
 
-use registry::{CpuPool, Kind, LocalRef, Name, Patience, Refusal, Refused, Registry, Settings};
+use kupaldiz::{CpuPool, DestroyError, Kind, LocalRef, Name, Patience, Refusal, Registry, Settings};
 use std::error::Error;
 use std::sync::atomic::{AtomicBool, AtomicU64, Ordering};
 use std::sync::Mutex;
@@ -161,11 +161,11 @@ impl Switch {
             let patience = Patience::at_most(Duration::from_micros(200));
             retired = match retired.destroy(&self.pool.lend(), patience) {
                 Ok(freed) => return Ok(freed.value),
-                Err(Refused {
+                Err(DestroyError {
                     refusal: Refusal::StillHeld(_),
                     given,
                 }) => given,
-                Err(refused) => return Err(refused.into_refusal()),
+                Err(refused) => return Err(refused.into()),
             };
             // Nobody uses the handed ones while it waits for them.
             self.close_handed()?;

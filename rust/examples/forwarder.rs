@@ -9,7 +9,7 @@
 
 mod common;
 
-use registry::{Cpu, Found, Kind, Name, PassiveRef, Refusal, Refused, Registry, Settings};
+use kupaldiz::{Cpu, Found, Kind, Name, PassiveRef, Refusal, Refused, Registry, Settings};
 use std::error::Error;
 use std::sync::atomic::{AtomicBool, AtomicU64, Ordering};
 use std::sync::Arc;

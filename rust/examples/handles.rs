@@ -9,7 +9,7 @@
 
 mod common;
 
-use registry::{CpuPool, Kind, LocalRef, Mapped, Name, Patience, Refusal, Refused, Registry, Settings};
+use kupaldiz::{CpuPool, DestroyError, Kind, LocalRef, Mapped, Name, Patience, Refusal, Registry, Settings};
 use std::error::Error;
 use std::sync::atomic::{AtomicBool, AtomicU64, Ordering};
 use std::sync::Mutex;
@@ -172,7 +172,7 @@ impl Desk {
         loop {
             retired = match retired.destroy(&self.pool.lend(), Patience::at_most(Duration::from_millis(1))) {
                 Ok(freed) => return Ok(freed.value),
-                Err(Refused { given, .. }) => given,
+                Err(DestroyError { given, .. }) => given,
             };
             // Whoever left a handle there doesn't come back for it.
             self.left().clear();

@@ -3,7 +3,7 @@
 //! A sender looks the interface up for each packet and keeps it while it sends, which may sleep. The fourth CPU detaches the interface and
 //! waits until nobody holds it: from then on nobody sends by it, though no sender took a lock.
 
-use registry::{Cpu, Found, Kind, Name, Patience, Refusal, Registry, Settings};
+use kupaldiz::{Cpu, Found, Kind, Name, Patience, Refusal, Registry, Settings};
 use std::error::Error;
 use std::sync::atomic::{AtomicBool, AtomicU32, Ordering};
 use std::thread;

@@ -9,7 +9,7 @@
 
 mod common;
 
-use registry::{Cpu, Found, Kind, Name, PassiveRc, PassiveRef, Patience, Refusal, Registry, Section, Settings};
+use kupaldiz::{Cpu, Found, Kind, Name, PassiveRc, Patience, Refusal, Registry, Section, Settings};
 use std::error::Error;
 use std::rc::Rc;
 use std::sync::atomic::{AtomicBool, AtomicU64, Ordering};
@@ -119,10 +119,9 @@ impl Router {
             .judge(way_in.place == packet % PORTS.len() && way_in.place != way_out.place);
         if packet % 16 == 0 {
             // The way in was found before the way out: both are acquired, unless one was detached meanwhile.
-            match (Found::acquire(&way_in), Found::acquire(&way_out)) {
+            match (Found::acquire(&way_in), cpu.get_rc(Kind::Iface, &Found::entry(&way_out).name)) {
                 (Ok(back), Ok(held)) => {
                     self.tally.judge(back.place == way_in.place && held.place == way_out.place);
-                    let held = PassiveRef::into_rc(held, &self.cpu)?;
                     self.waiting.push((way_out.place, held));
                 }
                 (Err(refusal), _) | (_, Err(refusal)) => {

@@ -1,7 +1,7 @@
 //! A whole program on one page: it opens a registry with two CPUs, attaches an entry, looks it up and takes it away. Dropping the handles closes
 //! the registry.
 
-use registry::{Kind, Name, Patience, Registry, Settings};
+use kupaldiz::{Kind, Name, Patience, Registry, Settings};
 use std::error::Error;
 
 fn main() -> Result<(), Box<dyn Error>> {

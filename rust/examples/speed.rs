@@ -6,7 +6,7 @@
 //! `dropped` drops it unbound and has the CPU release it then.
 //! The operations are those of `bench/` of the repository, whose README says what one is. It prints a line as the programs there do.
 
-use registry::{Cpu, Found, Kind, LocalRef, Name, PassiveRef, Refusal, Registry, Section, Settings, LIMITS};
+use kupaldiz::{Cpu, Found, Kind, LocalRef, Name, PassiveRef, Refusal, Registry, Section, Settings, LIMITS};
 use std::error::Error;
 use std::sync::Barrier;
 use std::thread;
@@ -139,15 +139,6 @@ fn drops(cpu: &Cpu<u64>, names: &[Name], count: u64) -> Result<u64, Refusal> {
     Ok(count)
 }
 
-fn guards(cpu: &Cpu<u64>, names: &[Name], count: u64) -> Result<u64, Refusal> {
-    let section = cpu.enter()?;
-    let found = section.find(Kind::Driver, &names[0]).ok_or(Refusal::NotFound)?;
-    for _ in 0..count {
-        drop(LocalRef::guard(Found::acquire_local(&found)?, cpu)?);
-    }
-    Ok(count)
-}
-
 /// The nanoseconds that an operation takes its thread: the time from the first thread's first to the last thread's last, over the operations
 /// of one thread. Each thread makes some before, which don't count, and begins when all have.
 fn nanoseconds_each(cpus: &mut [Cpu<u64>], names: &[Name], make: Operations, count: u64) -> Result<f64, Refusal> {
@@ -189,7 +180,7 @@ fn run(threads: u8, entries: u8, count: u64) -> Result<(), Box<dyn Error>> {
     print!(" plain {:.2} walk {:.2}", time(plain_lookups)?, time(walks)?);
     print!(" read {:.2}", time(reads)?);
     print!(" look_up {:.2} get {:.2}", time(lookups_at_once)?, time(gets)?);
-    println!(" guarded {:.2} dropped {:.2}", time(guards)?, time(drops)?);
+    println!(" dropped {:.2}", time(drops)?);
     Ok(())
 }
 

@@ -6,8 +6,9 @@
 //! released, audited and destroyed on CPU 0. It prints what `registry_run storm` prints; `wrong` counts each answer that wasn't the one
 //! expected.
 
-use registry::{
-    Cpu, Entry, Found, Holder, Kind, LocalRef, Name, PassiveRef, Patience, Refusal, Refused, Registry, Retired, Settings, LIMITS,
+use kupaldiz::{
+    Cpu, DestroyError, Entry, Found, Holder, Kind, LocalRef, Name, PassiveRef, Patience, Refusal, Refused, Registry, Retired, Settings,
+    LIMITS,
 };
 use std::sync::Mutex;
 use std::{env, process, thread};
@@ -135,7 +136,7 @@ impl Storm {
         };
         match retired.advance() {
             Ok(freed) => counts.judge(freed.entry.slot == slot && freed.value < u64::from(self.turns)),
-            Err(Refused { refusal, given }) => {
+            Err(DestroyError { refusal, given }) => {
                 counts.judge(matches!(refusal, Refusal::StillHeld(Holder::Grace(_))));
                 *place = Some(given);
             }

@@ -1,6 +1,6 @@
 //! A plain table beside threads: three of them look an entry up again and again, and a fourth takes it out meanwhile.
 
-use registry::{Cpu, Kind, Name, Patience, Refusal, Registry, Settings};
+use kupaldiz::{Cpu, Kind, Name, Patience, Refusal, Registry, Settings};
 use std::error::Error;
 use std::thread;
 

@@ -3,10 +3,10 @@
 use crate::ffi;
 use crate::name::Name;
 use crate::values::{Entry, Kind};
-use alloc::boxed::Box;
-use core::fmt;
-use core::mem::MaybeUninit;
-use core::ptr;
+use std::boxed::Box;
+use std::fmt;
+use std::mem::MaybeUninit;
+use std::ptr;
 
 /// What lies in the block.
 #[repr(C)]
@@ -127,6 +127,8 @@ pub struct Plain {
     name: ffi::Name,
     slot: u8,
     kind: Kind,
+    /// Of a reference whose place is noted; else 0.
+    ticket: u32,
 }
 
 impl Plain {
@@ -170,17 +172,22 @@ impl<T> Record<T> {
                 name: entry.name,
                 slot: entry.slot as u8,
                 kind: Kind::of(entry.kind),
+                ticket: 0,
             },
             carried: Carried::of_word(entry.value),
         }
     }
 
     /// The record that a call writes where it is done; or the call's answer.
+    ///
+    /// # Safety
+    ///
+    /// If the call returns `DONE`, it has written the entry, which is of a registry whose entries carry a `T`.
     #[inline]
-    pub fn written(call: impl FnOnce(*mut ffi::Entry) -> u32) -> Result<Record<T>, u32> {
+    pub unsafe fn written(call: impl FnOnce(*mut ffi::Entry) -> u32) -> Result<Record<T>, u32> {
         let mut entry = MaybeUninit::uninit();
         match call(entry.as_mut_ptr()) {
-            // SAFETY: registry.h says of each call that is given here that it writes the entry where it is done.
+            // SAFETY: the caller says so.
             ffi::DONE => Ok(Record::of(unsafe { entry.assume_init_ref() })),
             answer => Err(answer),
         }
@@ -199,6 +206,17 @@ impl<T> Record<T> {
     #[inline]
     pub fn plain(&self) -> Plain {
         self.plain
+    }
+
+    /// The ticket of the note of its place, or 0.
+    #[inline]
+    pub fn ticket(&self) -> u32 {
+        self.plain.ticket
+    }
+
+    pub fn with_ticket(mut self, ticket: u32) -> Record<T> {
+        self.plain.ticket = ticket;
+        self
     }
 
     #[inline]
@@ -242,12 +260,13 @@ mod tests {
     use crate::values::Kind;
 
     /// Also where the value is of no size, or aligned beyond the record.
-    fn goes_and_comes_back<T: Clone + PartialEq + core::fmt::Debug>(value: T) {
+    fn goes_and_comes_back<T: Clone + PartialEq + std::fmt::Debug>(value: T) {
         let plain = Plain {
             number: 7,
             name: ffi::Name::default(),
             slot: 3,
             kind: Kind::Driver,
+            ticket: 0,
         };
         let carried = Carried::new(value.clone());
         let again = Carried::<T>::of_word(carried.word());

@@ -1,17 +1,17 @@
 //! A CPU of a registry.
 
-use crate::basket::{BY_ACQUIRE, BY_CHANGE, BY_RELEASE};
-use crate::carried::Plain;
+use crate::carried::Record;
 use crate::ffi;
+use crate::places::Hold;
 use crate::refusal::{checked, Refusal};
 use crate::registry::Registry;
 use crate::section::Section;
 use crate::shared::{Lease, Shared};
-use crate::values::Holder;
-use alloc::sync::Arc;
-use core::cell::{Cell, UnsafeCell};
-use core::fmt;
-use core::mem;
+use std::cell::{Cell, UnsafeCell};
+use std::fmt;
+use std::mem;
+use std::panic::Location;
+use std::sync::Arc;
 
 /// One of the registry's CPUs, for the thread that has it. It is a handle, not a processor. It co-owns its registry. It may be stored, and go to another
 /// thread. One thread at a time uses it. Sections and passive references borrow it, so it can't be moved or dropped while one exists.
@@ -23,7 +23,7 @@ use core::mem;
 /// lends them from a [`CpuPool`](crate::CpuPool).
 ///
 /// ```
-/// use registry::{Kind, Name, Registry, Settings};
+/// use kupaldiz::{Kind, Name, Registry, Settings};
 /// use std::thread;
 ///
 /// let (registry, mut cpus) = Registry::open(Settings::new(2, 4)).unwrap();
@@ -45,22 +45,22 @@ pub struct Cpu<T> {
     /// The share of a local reference that was released here, for the next one that is acquired.
     given_back: Cell<Option<Arc<Lease<T>>>>,
     id: u8,
-    /// How many guards of local references were bound here, by the slots of their entries: a guard's entry keeps its slot.
-    bound: [Cell<u32>; ffi::MOST_SLOTS],
-    /// How many of them are gone. Two counts, so that a bind needn't wait for the unbind before.
-    unbound: [Cell<u32>; ffi::MOST_SLOTS],
+    /// Whether places are noted.
+    is_tracked: bool,
 }
 
 impl<T> Cpu<T> {
-    pub(crate) fn new(shared: Arc<Shared<T>>, id: u8, handle: ffi::Cpu) -> Cpu<T> {
+    /// # Safety
+    ///
+    /// The handle is of the CPU with this number, of this registry.
+    pub(crate) unsafe fn new(shared: Arc<Shared<T>>, id: u8, handle: ffi::Cpu) -> Cpu<T> {
         Cpu {
             handle: UnsafeCell::new(handle),
             last: Cell::new(0),
-            lease: Arc::new(Lease { shared, id }),
+            is_tracked: shared.places().is_some(),
+            lease: Arc::new(Lease { shared }),
             given_back: Cell::new(None),
             id,
-            bound: [(); ffi::MOST_SLOTS].map(|()| Cell::new(0)),
-            unbound: [(); ffi::MOST_SLOTS].map(|()| Cell::new(0)),
         }
     }
 
@@ -76,7 +76,10 @@ impl<T> Cpu<T> {
         unsafe { mem::replace(&mut *self.handle.get(), ffi::Cpu::EMPTY) }
     }
 
-    pub(crate) fn put_back(&self, handle: ffi::Cpu) {
+    /// # Safety
+    ///
+    /// It is the handle that `take_out` has returned.
+    pub(crate) unsafe fn put_back(&self, handle: ffi::Cpu) {
         // SAFETY: as for `take_out`; the handle that is overwritten is empty.
         unsafe { *self.handle.get() = handle };
     }
@@ -103,29 +106,6 @@ impl<T> Cpu<T> {
     pub(crate) fn keep_share(&self, lease: Arc<Lease<T>>) {
         if Arc::ptr_eq(&lease, &self.lease) {
             self.given_back.set(Some(lease));
-        }
-    }
-
-    /// A guard is bound here to the entry in this slot.
-    #[inline]
-    pub(crate) fn bind(&self, slot: usize) {
-        self.bound[slot].set(self.bound[slot].get().wrapping_add(1));
-    }
-
-    /// One is bound here no more.
-    #[inline]
-    pub(crate) fn unbind(&self, slot: usize) {
-        self.unbound[slot].set(self.unbound[slot].get().wrapping_add(1));
-    }
-
-    /// What this CPU itself holds the entry by, which is retired: nobody can let that go while this thread waits.
-    pub(crate) fn holder_of(&self, entry: Plain) -> Option<Holder> {
-        let slot = entry.slot();
-        let guards = self.bound[slot].get().wrapping_sub(self.unbound[slot].get());
-        if self.holds(entry.number) {
-            Some(Holder::Passive(self.id))
-        } else {
-            (guards > 0).then(|| Holder::Local(u64::from(guards)))
         }
     }
 
@@ -159,16 +139,22 @@ impl<T> Cpu<T> {
     ///
     /// `TooDeep`, `SectionsSpent`.
     #[inline]
+    #[track_caller]
     pub fn enter(&self) -> Result<Section<'_, T>, Refusal> {
+        self.enters(Location::caller());
         // SAFETY: as for `depth`.
-        checked(unsafe { ffi::registry_enter(self.handle()) })?;
-        Ok(Section::new(self))
+        let entered = checked(unsafe { ffi::registry_enter(self.handle()) });
+        if entered.is_err() {
+            self.left();
+        }
+        // SAFETY: that was the enter.
+        entered.map(|()| unsafe { Section::new(self) })
     }
 
     /// Exits all sections that are still open. Their guards were forgotten: a guard that lives borrows the CPU.
     ///
     /// ```
-    /// use registry::{Registry, Settings};
+    /// use kupaldiz::{Registry, Settings};
     ///
     /// let (_, mut cpus) = Registry::<()>::open(Settings::new(1, 1)).unwrap();
     /// std::mem::forget(cpus[0].enter().unwrap());
@@ -179,6 +165,7 @@ impl<T> Cpu<T> {
     pub fn leave(&mut self) {
         // SAFETY: as for `depth`. No guard lives, so nothing that was found in these sections is in use.
         while unsafe { ffi::registry_exit(self.handle()) } == ffi::DONE {}
+        self.left();
     }
 
     /// Whether this CPU has a passive reference to the entry with that number: `psref_held`.
@@ -190,58 +177,69 @@ impl<T> Cpu<T> {
     }
 }
 
+/// The places that are noted, where they are.
+impl<T> Cpu<T> {
+    /// Notes where a reference to the entry was acquired.
+    #[inline]
+    pub(crate) fn noted(&self, hold: Hold, record: Record<T>, at: &'static Location<'static>) -> Record<T> {
+        if self.is_tracked {
+            self.note(hold, record, at)
+        } else {
+            record
+        }
+    }
+
+    #[cold]
+    fn note(&self, hold: Hold, record: Record<T>, at: &'static Location<'static>) -> Record<T> {
+        let places = self.shared().places();
+        record.with_ticket(places.map_or(0, |places| places.acquired(hold, self.id, record.number(), at)))
+    }
+
+    /// The CPU is about to enter a section.
+    #[inline]
+    pub(crate) fn enters(&self, at: &'static Location<'static>) {
+        if self.is_tracked {
+            self.note_section(Some(at));
+        }
+    }
+
+    /// It has exited, or hasn't entered.
+    #[inline]
+    pub(crate) fn left(&self) {
+        if self.is_tracked {
+            self.note_section(None);
+        }
+    }
+
+    #[cold]
+    fn note_section(&self, at: Option<&'static Location<'static>>) {
+        match (self.shared().places(), at) {
+            (Some(places), Some(at)) if !self.is_inside() => places.entered(self.id, at),
+            (Some(places), None) if !self.is_inside() => places.exited(self.id),
+            _ => {}
+        }
+    }
+}
+
 /// Local references that were dropped without a CPU.
 impl<T> Cpu<T> {
     /// Releases all local references that were dropped without a CPU before the call, on any thread. It may wait for the interlock,
-    /// as [`LocalRef::release`](crate::LocalRef::release) does. No program needs this call: each of [other
-    /// calls](crate::LocalRef#dropped-without-a-cpu) releases some.
+    /// as [`LocalRef::release`](crate::LocalRef::release) does. No program needs this call: [other
+    /// calls](crate::LocalRef#dropped-without-a-cpu) do it.
     pub fn release_dropped(&self) {
-        for of in self.shared().baskets().filled_from(self.id) {
-            self.release_of(of, self.shared().baskets().count(of));
+        if self.shared().baskets().has_any() {
+            // SAFETY: this thread alone has the CPU, and no code of a caller ever holds the interlock.
+            unsafe { self.shared().release_dropped(self.handle()) };
         }
     }
 
-    /// Releases some of those in all baskets, its own first.
-    pub(crate) fn release_some(&self, most: usize) {
-        // SAFETY: this thread alone has the CPU, and no code of a caller ever holds the interlock.
-        unsafe { self.shared().release_dropped(self.handle(), self.id, most) };
-    }
-
-    /// Releases some of those that this CPU acquired, before an acquire.
+    /// Releases those that are to the entry in this slot.
     #[inline]
-    pub(crate) fn before_acquire(&self) {
-        if self.shared().baskets().count(self.id) > 0 {
-            self.release_of(self.id, BY_ACQUIRE);
+    pub(crate) fn release_to(&self, slot: usize) {
+        if self.shared().baskets().has(slot) {
+            // SAFETY: as for `release_dropped`.
+            unsafe { self.shared().release_of(self.handle(), slot) };
         }
-    }
-
-    /// Releases some of those that this CPU acquired, and of those in a heavy basket, after a release.
-    #[inline]
-    pub(crate) fn after_release(&self) {
-        if !self.shared().baskets().is_at_rest(self.id) {
-            self.release_own_and_heavy();
-        }
-    }
-
-    #[cold]
-    fn release_own_and_heavy(&self) {
-        self.release_of(self.id, BY_RELEASE);
-        if let Some(other) = self.shared().baskets().heavy() {
-            self.release_of(other, BY_RELEASE);
-        }
-    }
-
-    #[inline(never)]
-    fn release_of(&self, of: u8, most: usize) {
-        // SAFETY: as for `release_some`.
-        unsafe { self.shared().release_of(self.handle(), of, most) };
-    }
-
-    /// Releases a dropped reference to the entry in this slot. Whether there was any.
-    #[cold]
-    pub(crate) fn release_one_to(&self, slot: usize) -> bool {
-        // SAFETY: as for `release_some`.
-        unsafe { self.shared().release_one_to(self.handle(), self.id, slot) }
     }
 }
 
@@ -255,9 +253,10 @@ impl<T> Drop for Cpu<T> {
     /// Leaves, and goes back to its registry. What it refers to passively by then was forgotten, and stays held.
     fn drop(&mut self) {
         self.leave();
-        self.release_of(self.id, BY_CHANGE);
+        self.release_dropped();
         let handle = self.take_out();
-        self.shared().put_cpu(self.id, handle);
+        // SAFETY: it is this CPU's, which is gone.
+        unsafe { self.shared().put_cpu(self.id, handle) };
     }
 }
 

@@ -4,9 +4,9 @@ use crate::carried::Record;
 use crate::cpu::Cpu;
 use crate::ffi;
 use crate::section::{Found, Section};
-use core::fmt;
-use core::iter::FusedIterator;
-use core::marker::PhantomData;
+use std::fmt;
+use std::iter::FusedIterator;
+use std::marker::PhantomData;
 
 /// The live entries, the newest first: what [`Section::entries`] met.
 #[must_use = "an iterator does nothing until it is asked"]
@@ -18,9 +18,10 @@ pub struct Entries<'section, 'cpu, T> {
     section: PhantomData<&'section Section<'cpu, T>>,
 }
 
-impl<'cpu, T> Entries<'_, 'cpu, T> {
-    /// Walks on the CPU, which is inside a section for as long as the value lives.
-    pub(crate) fn walk(cpu: &'cpu Cpu<T>) -> Self {
+impl<'section, 'cpu, T> Entries<'section, 'cpu, T> {
+    /// Walks in the section.
+    pub(crate) fn walk(section: &'section Section<'cpu, T>) -> Self {
+        let cpu = section.cpu();
         let mut row = [ffi::Entry::default(); ffi::MOST_SLOTS];
         let mut count = 0;
         // SAFETY: this thread alone has the CPU, whose handle isn't empty, and the row has the room that is told.
@@ -48,8 +49,8 @@ impl<'section, 'cpu, T> Iterator for Entries<'section, 'cpu, T> {
     fn next(&mut self) -> Option<Found<'section, 'cpu, T>> {
         let record = Record::of(self.left().first()?);
         self.next += 1;
-        // registry.h says of a walk, as of a find, that what it writes keeps its slot until the section ends.
-        Some(Found::new(self.cpu, record))
+        // SAFETY: registry.h says of a walk, as of a find, that what it writes keeps its slot until the section ends, which is borrowed.
+        Some(unsafe { Found::new(self.cpu, record) })
     }
 
     fn size_hint(&self) -> (usize, Option<usize>) {

@@ -2,8 +2,10 @@
 //! they keep it.
 
 use crate::limits::Limits;
-use core::ffi::c_void;
-use core::ptr;
+use std::ffi::c_void;
+use std::ffi::CStr;
+use std::os::raw::c_char;
+use std::ptr;
 
 include!(concat!(env!("OUT_DIR"), "/limits.rs"));
 
@@ -17,10 +19,11 @@ pub const HISTORY_FULL: u32 = 5;
 pub const NOT_FOUND: u32 = 6;
 pub const INSIDE: u32 = 7;
 pub const SECTIONS_SPENT: u32 = 8;
+pub const NOTHING_FOUND: u32 = 9;
 pub const PASSIVE_FULL: u32 = 10;
-pub const WRONG_CPU: u32 = 11;
 pub const NOT_HELD: u32 = 12;
 pub const LOCAL_FULL: u32 = 13;
+pub const NOT_RETIRED: u32 = 14;
 pub const MISSING_CPU: u32 = 15;
 pub const STILL_HELD: u32 = 16;
 pub const WAITING: u32 = 17;
@@ -167,7 +170,7 @@ impl Wait {
 /// A struct has so many words of 64 bits, in C as here.
 macro_rules! words {
     ($($name:ident: $words:expr),* $(,)?) => {
-        $(const _: () = assert!(core::mem::size_of::<$name>() == 8 * ($words));)*
+        $(const _: () = assert!(std::mem::size_of::<$name>() == 8 * ($words));)*
     };
 }
 
@@ -176,26 +179,21 @@ words! {
     Balance: 4 + MOST_CPUS, Wait: 2 * MOST_CPUS + MOST_SLOTS + 1,
 }
 
-/// A string of the library's, which is never freed.
-pub fn string(at: *const u8) -> &'static str {
-    let mut end = at;
-    let mut length = 0;
-    // SAFETY: registry.h says that such a string is never NULL and never freed; it ends with a zero byte.
-    while unsafe { end.read() } != 0 {
-        // SAFETY: this byte isn't the last one.
-        end = unsafe { end.add(1) };
-        length += 1;
-    }
-    // SAFETY: as above; so many bytes come before the zero.
-    let bytes = unsafe { core::slice::from_raw_parts(at, length) };
-    core::str::from_utf8(bytes).unwrap_or("")
+/// A string of the library's.
+///
+/// # Safety
+///
+/// A text of C lies there, which ends with a zero byte and is never written to or freed.
+pub unsafe fn string(at: *const c_char) -> &'static str {
+    // SAFETY: as the caller says.
+    unsafe { CStr::from_ptr(at) }.to_str().unwrap_or("")
 }
 
 extern "C" {
     #[cfg(test)]
     pub fn registry_name_parse(bytes: *const u8, length: usize, name: *mut Name, place: *mut u64) -> u32;
-    pub fn registry_strerror(answer: u32) -> *const u8;
-    pub fn registry_version() -> *const u8;
+    pub fn registry_strerror(answer: u32) -> *const c_char;
+    pub fn registry_version() -> *const c_char;
     pub fn registry_limits(limits: *mut Limits);
 
     pub fn registry_open(settings: *const Settings, keeper: *mut Keeper, cpus: *mut Cpu, count: usize) -> u32;

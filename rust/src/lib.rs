@@ -8,10 +8,11 @@
 //!
 //! # The mechanism
 //!
-//! A lookup writes one word of its own CPU when it begins and when it ends. (Unless a change is made meanwhile, [`Cpu::look_up`], which returns a copy,
-//! writes none, and [`Cpu::get`] only the word that counts its reference.) The thread that removes an entry unlinks it and records the word of each CPU. It reads the words again until each has changed or
-//! says that its CPU is outside. No lookup that began afterwards can have found the entry. References are counted on the CPU that acquires them. The
-//! counts are read, or collected, after that. Only then is the entry freed: its slot is reused, and its `T` is returned.
+//! A lookup writes one word of its own CPU when it begins and when it ends. (A CPU remembers what it found: of that [`Cpu::look_up`], which returns a
+//! copy, writes none, and [`Cpu::get`] only the word that counts its reference.) The thread that removes an entry unlinks it and records the word of each
+//! CPU. It reads the words again until each has changed or says that its CPU is outside. No lookup that began afterwards can have found the entry.
+//! References are counted on the CPU that acquires them. The counts are read, or collected, after that. Only then is the entry freed: its slot is reused,
+//! and its `T` is returned.
 //!
 //! # The terms
 //!
@@ -23,7 +24,7 @@
 //! - A [`Section`] is open on a CPU while it looks entries up. A [`Found`] borrows its section. While the section is open, the entry isn't freed and its
 //!   `T` isn't dropped. A change, a destroy or a perform on that CPU then fails with [`Refusal::Inside`].
 //! - A [`PassiveRef`] holds an entry beyond the section, on one CPU. It is cheap, and its holder may sleep. A [`PassiveRc`] co-owns the CPU instead of
-//!   borrowing it. A [`LocalRef`] may be stored and go to other threads. A [`LocalGuard`] is one that a CPU releases when it is dropped.
+//!   borrowing it. A [`LocalRef`] may be stored and go to other threads.
 //! - A [`Retired`] is an entry that was detached and isn't freed yet.
 //! - A turn is one attempt to free a retired entry, or one look at which sections have ended.
 //! - The interlock is the lock of a [`Registry`]. Each change and each turn takes it.
@@ -35,22 +36,25 @@
 //! | open | [`Registry::open`]; closing is dropping all handles |
 //! | look up | [`Cpu::enter`], [`Section::find`], and drop the section |
 //! | go over all | [`Section::entries`] in a section |
+//! | use it as a plain table, without a [`Kind`] | [`Cpu::table`] |
 //! | hold longer | [`Found::acquire`] on this CPU, [`Found::acquire_local`] for any thread |
 //! | hold once more | [`PassiveRef::try_clone`], without a lookup; [`LocalRef::try_clone`], by a lookup, which fails once the entry is detached. No call makes a [`LocalRef`] of a [`PassiveRef`]: [`Cpu::get_local`] looks the name up, and may find a newer entry |
 //! | look up by one call | [`Cpu::read`] returns the entry with its section, [`Cpu::get`], [`Cpu::get_rc`] and [`Cpu::get_local`] a reference, [`Cpu::look_up`] the record alone |
 //! | use a part | [`ReadGuard::map`], [`PassiveRef::map`], [`LocalRef::map`] |
-//! | change | [`Registry::attach`], [`Registry::attach_iface`], [`Registry::detach`] |
-//! | free | [`Retired::destroy`] waits, [`Retired::advance`] doesn't; after [`Registry::retire`] or [`Retired::defer`] later changes do it, or [`Registry::collect`]: [who gets the `T`](#what-is-dropped) |
+//! | change | [`Registry::attach`], [`Registry::attach_iface`], [`Registry::detach`]; [`Registry::detach_entry`] for what a walk listed; [`Registry::replace`] |
+//! | free | [`Retired::destroy`] waits, and [`Retired::wait`], which needs no CPU; [`Retired::advance`] doesn't wait; [`Registry::retire`] and [`Registry::collect`] return what is free by then: [who gets the `T`](#what-is-dropped) |
 //! | wait for readers alone | [`Registry::perform`] |
+//! | see who holds an entry | [`Registry::open_tracked`], then [`Registry::holders`] |
 //! | see the counts | [`Registry::audit`] |
+//! | end | [`Registry::drain`], then [`Registry::close`] |
 //! | take a CPU that was dropped | [`Registry::any_cpu`], `None` if all are taken |
-//! | share CPUs among more threads | [`CpuPool::lend`] waits for a CPU, [`CpuPool::lend_until`] up to a deadline, [`CpuPool::try_lend`] not at all |
+//! | share CPUs among more threads | [`CpuPool::lend`] waits for a CPU, [`CpuPool::lend_until`] up to a deadline, [`CpuPool::try_lend`] not at all, [`CpuPool::lend_async`] without its thread; [`CpuPool::with`] lends for one closure |
 //!
-//! No call replaces a `T`. Detach the entry and attach another one under the same name, which is free at once, also while readers still hold the old
-//! entry. A lookup between the two finds nothing.
+//! No call writes a `T` in place. [`Registry::replace`] detaches the entry and attaches another one under the same name, which is free at once, also while
+//! readers still hold the old entry. A lookup between the two finds nothing.
 //!
 //! ```
-//! use registry::{Found, Holder, Kind, Name, Refusal, Registry, Settings};
+//! use kupaldiz::{Found, Holder, Kind, Name, Refusal, Registry, Settings};
 //!
 //! #[derive(Debug)]
 //! struct Driver {
@@ -84,7 +88,7 @@
 //! `&self`.
 //!
 //! ```
-//! use registry::{Kind, Name, Patience, Registry, Settings};
+//! use kupaldiz::{Kind, Name, Patience, Registry, Settings};
 //!
 //! trait Driver: Send + Sync {
 //!     fn speed(&self) -> u32;
@@ -132,13 +136,16 @@
 //!
 //! | You call | Who gets or drops the `T` |
 //! |---|---|
-//! | [`Registry::detach`], then [`Retired::destroy`] | the call waits until nothing holds the entry, and returns the `T` as [`Freed::value`]. If the CPU that you give it has a [`PassiveRef`] or a [`LocalGuard`] of the entry, it tries once and fails with `StillHeld` |
+//! | [`Registry::detach`], then [`Retired::destroy`] | the call waits until nothing holds the entry, and returns the `T` as [`Freed::value`]. If the CPU that you give it has a [`PassiveRef`] to the entry, it tries once and fails with `StillHeld` |
 //! | [`Registry::detach`], then [`Retired::advance`] | the call tries once: it returns the `T`, or `StillHeld` with your [`Retired`] |
-//! | [`Registry::retire`], or [`Registry::detach`] and you drop the [`Retired`] | once nothing holds the entry, a later attach, detach or retire drops it, or [`Registry::collect`] returns it |
+//! | [`Registry::retire`] | if nothing holds the entry, the call returns it. Otherwise a later retire or [`Registry::collect`] returns it |
+//! | [`Registry::detach`], and you drop the [`Retired`] | if nothing holds the entry, the drop drops it. Otherwise a later retire or [`Registry::collect`] returns it, or the drop of a later [`Retired`] drops it |
 //! | nothing more, or no detach | dropping the registry's last handle drops it |
 //!
-//! In the third row, if no later change or collect is made, the `T` stays until the registry closes. The same is true after a destroy that gave up, if `?`
-//! turns its error into a [`Refusal`]: that drops the [`Retired`].
+//! So others' `T`s are dropped by the drop of a [`Retired`], after the interlock is free. Don't drop one under a lock that the drop of a `T` takes. An attach and a
+//! detach drop no `T`. An attach that needs a slot frees entries that nothing holds, and leaves their `T`s to these calls, or to the [`Retired`] that you
+//! keep. If none of these calls is made, the `T` stays until the registry closes. A destroy that gave up returns the [`Retired`] in its error. If `?` turns
+//! that into a [`Refusal`], the [`Retired`] is dropped. In a boxed error it stays.
 //!
 //! A [`LocalRef`] may be dropped on any thread. The drop takes a short lock, and the entry stays held until a later call releases the reference, such
 //! as a destroy of the entry. If memory runs out in that drop, the entry is never freed.
@@ -147,7 +154,7 @@
 //!
 //! # What is forgotten
 //!
-//! Forgetting a guard or a handle, such as by [`mem::forget`](core::mem::forget), is never unsound: no `T` is dropped that can still be used. A destroy
+//! Forgetting a guard or a handle, such as by [`mem::forget`](std::mem::forget), is never unsound: no `T` is dropped that can still be used. A destroy
 //! with [`Patience::Forever`] may then never return.
 //!
 //! | You forget | What happens |
@@ -156,11 +163,10 @@
 //! | a [`PassiveRef`] | its entry is never freed, and its `T` is never dropped. The registry can still close |
 //! | a [`LocalRef`] | its entry is never freed, its `T` is never dropped, and the registry never closes |
 //! | a [`Cpu`] or a [`Registry`] | the registry never closes |
-//! | a [`Lent`] | its CPU is lost to the pool; the rest is as for a [`Cpu`] |
-//! | a [`Retired`] | its entry keeps its slot: neither later changes nor [`Registry::collect`] free it. The registry never closes |
+//! | a [`Lent`] | its CPU is lost to the pool, and for the pool this thread has it; the rest is as for a [`Cpu`] |
+//! | a [`Retired`] | its `T` is never dropped, and the registry never closes. Its entry keeps its slot until an attach needs that |
 //!
-//! To forget a [`PassiveRc`] is to forget a [`PassiveRef`] and a [`Cpu`]; a [`LocalGuard`], a [`LocalRef`]; a [`Mapped`], the guard that it was made of.
-//! These three aren't tested.
+//! To forget a [`PassiveRc`] is to forget a [`PassiveRef`] and a [`Cpu`]; a [`Mapped`], the guard that it was made of. These two aren't tested.
 //!
 //! # What fails
 //!
@@ -168,17 +174,19 @@
 //!
 //! | Calls | On failure they return |
 //! |---|---|
-//! | [`Registry::open`], `detach`, `retire`, `perform`, `audit`; [`Cpu::enter`], `read`, `get`, `get_rc`, `get_local`, `look_up`; each `acquire`, `acquire_local` and `try_clone`; [`CpuPool::new`] | a [`Refusal`]: an `enum` that is `Copy`, `#[non_exhaustive]` and an `Error` |
-//! | [`Registry::attach`], `attach_iface`; [`Retired::destroy`], `advance`; [`LocalRef::release`], `guard`; [`PassiveRef::into_rc`] | a [`Refused`]: a [`Refusal`], and what the call was given |
+//! | [`Registry::open`], `open_tracked`, `detach`, `detach_entry`, `retire`, `drain`, `perform`, `audit`; [`Cpu::enter`], `read`, `get`, `get_rc`, `get_local`, `look_up`; each `acquire`, `acquire_local` and `try_clone`; [`CpuPool::new`] | a [`Refusal`]: an `enum` that is `Copy`, `#[non_exhaustive]` and an `Error` |
+//! | [`Registry::attach`], `attach_iface`, `replace`; [`LocalRef::release`] | a [`Refused`]: a [`Refusal`], and what the call was given |
+//! | [`Retired::destroy`], `wait`, `advance` | a [`DestroyError`]: a [`Refusal`], and the [`Retired`] |
+//! | [`Registry::close`] | a [`StillOpen`] |
 //! | [`Name::parse`], `from_bytes` | a [`NameFault`] |
 //! | [`Section::find`]; [`Registry::cpu`], `any_cpu`; [`CpuPool::try_lend`], `lend_until` | `None` |
 //! | all others, and each drop | they don't fail. If there is no memory for it, a dropped [`LocalRef`] [stays held](LocalRef#dropped-without-a-cpu) |
 //!
 //! # What panics
 //!
-//! A call panics only if code of yours that it runs panics, such as a drop of a `T` or the closure of a `map`; and [`Name::from_static`] at run time, with
-//! a text that is no name. (Some calls also assert, some only in a debug build, that the archive keeps to registry.h.) An attach, a detach and a retire
-//! first drop the `T`s of entries that were retired or deferred and that nothing holds any more. If such a drop panics, the change isn't made.
+//! A call panics only if code of yours that it runs panics, such as the closure of a `map`, or the drop of a `T` in the drop of a [`Retired`];
+//! [`Name::from_static`] at run time, with a text that is no name; and [`CpuPool::lend`], `with` and `get_local`, if they would wait while this thread itself has a CPU of the pool. (Some
+//! calls also assert that the archive keeps to registry.h.)
 //!
 //! If a thread panics, unwinding exits its sections and releases its passive references, as its ordinary end does. A [`LocalRef`] is dropped [as
 //! anywhere](LocalRef#dropped-without-a-cpu). No lock is poisoned. To call a plug-in under `catch_unwind`, wrap the closure in `AssertUnwindSafe`: a [`Cpu`],
@@ -188,10 +196,9 @@
 //!
 //! | Type | `Send` | `Sync` |
 //! |---|---|---|
-//! | [`Registry`], [`CpuPool`], [`LocalRef`], [`Retired`] | if `T` is `Send` and `Sync` | if `T` is `Send` and `Sync` |
-//! | [`Cpu`], [`Lent`] | if `T` is `Send` and `Sync` | no |
-//! | [`Section`], [`Found`], [`Entries`], [`ReadGuard`] | no | no |
-//! | [`PassiveRef`], [`PassiveRc`], [`LocalGuard`] | no | no |
+//! | [`Registry`], [`CpuPool`], [`LocalRef`], [`Retired`], [`DestroyError`], [`Drained`], [`StillOpen`] | if `T` is `Send` and `Sync` | if `T` is `Send` and `Sync` |
+//! | [`Cpu`] | if `T` is `Send` and `Sync` | no |
+//! | [`Lent`], [`Table`], [`Section`], [`Found`], [`Entries`], [`ReadGuard`], [`PassiveRef`], [`PassiveRc`] | no | no |
 //! | [`Mapped`]`<`[`LocalRef`]`<T>, U>` | if `T` is `Send` and `Sync`, and `U` is `Sync` | if `T` is `Send` and `Sync`, and `U` is `Sync` |
 //! | [`Mapped`] of another guard | no | no |
 //! | [`Freed`]`<X>`, [`Refused`]`<X>` | if `X` is `Send` | if `X` is `Sync` |
@@ -205,7 +212,7 @@
 //! Only an attach takes room from [`Settings::changes`]: for itself and for its detach. Lookups and references don't. What is left just after an attach is
 //! `changes`, less the new entry's [`number`](Entry::number), less the number of live entries, the new one among them. No call moves an entry or a reference from one registry to another. Before a call returns [`Refusal::HistoryFull`] or [`Refusal::SectionsSpent`],
 //! open a second registry, attach everything there, publish it in a lock, and retire what is in the first. A thread that sees the new one takes a CPU there
-//! by [`Registry::any_cpu`], and drops its old one. The last handle that is dropped closes the first registry. If `T` is an [`Arc`](alloc::sync::Arc), both
+//! by [`Registry::any_cpu`], and drops its old one. The last handle that is dropped closes the first registry. If `T` is an [`Arc`](std::sync::Arc), both
 //! carry the same objects. `examples/changeover.rs` does this.
 //!
 //! # What is proved
@@ -214,12 +221,11 @@
 //! reference, holds it. The proof assumes a caller that keeps the rules of registry.h. A few small calls in C aren't proved; registry.h lists them.
 //! This crate uses four of those: the text of an error, the library's version and limits, and the comparison of the limits.
 //!
-//! This crate isn't proved: it is tested. It uses `unsafe`, in some 90 blocks, 37 of them in `shared.rs` and `carried.rs`,
+//! This crate isn't proved: it is tested. It uses `unsafe`, in some 110 blocks, 38 of them in `shared.rs` and `carried.rs`,
 //!
 //! - for the calls, and for the texts that they return;
 //! - for the way from the word that an entry carries to the `T`, and to a part of it;
-//! - where its own types move what they hold, and for their `Send` and `Sync`;
-//! - for its locks without `std`.
+//! - where its own types move what they hold, and for their `Send` and `Sync`.
 //!
 //! Each use says what makes it sound. A bug there can break memory safety.
 //!
@@ -230,27 +236,15 @@
 //! - No call is made from a signal handler.
 //! - No call is made in the child after a fork with a handle that was opened before the fork.
 //! - No call is made while asynchronous cancellation of the thread is enabled.
-//!
-//! # Without the standard library
-//!
-//! The feature `std` is on unless `default-features` is false. It is needed for [`CpuPool`], for a [`Patience`] with a deadline or without an end, and
-//! for the trait `Error`. Everything else needs only `core` and `alloc`. Without `std`, [`Patience::Turns`] spins between two turns, and so do the
-//! registry's locks. The archive needs glibc in either case.
 
 #![warn(missing_docs)]
-// The crate's own tests have the standard library in any case.
-#![cfg_attr(not(any(feature = "std", test)), no_std)]
 #![deny(unsafe_op_in_unsafe_fn)]
 #![deny(clippy::undocumented_unsafe_blocks, clippy::multiple_unsafe_ops_per_block)]
-
-#[cfg(not(all(target_os = "linux", any(target_arch = "x86_64", target_arch = "aarch64"), target_env = "gnu")))]
-compile_error!("the archive libregistry.a is built for Linux on x86-64 and aarch64 with glibc alone");
-
-extern crate alloc;
 
 mod basket;
 mod carried;
 mod cpu;
+mod ending;
 mod entries;
 mod ffi;
 mod limits;
@@ -260,7 +254,7 @@ mod mapped;
 mod name;
 mod passive;
 mod patience;
-#[cfg(feature = "std")]
+mod places;
 mod pool;
 mod refusal;
 mod registry;
@@ -268,23 +262,26 @@ mod retired;
 mod section;
 mod settings;
 mod shared;
+mod table;
 mod usual;
 mod values;
 
 pub use self::registry::Registry;
 pub use cpu::Cpu;
+pub use ending::{Drained, StillOpen};
 pub use entries::Entries;
 pub use limits::{limits, version, Limits, LIMITS};
-pub use local::{LocalGuard, LocalRef};
+pub use local::LocalRef;
 pub use mapped::Mapped;
 pub use name::{Name, NameFault};
 pub use passive::{PassiveRc, PassiveRef};
 pub use patience::Patience;
-#[cfg(feature = "std")]
+pub use places::{Hold, Holders, Place};
 pub use pool::{CpuPool, Lent};
 pub use refusal::{Refusal, Refused};
-pub use retired::Retired;
+pub use retired::{DestroyError, Retired};
 pub use section::{Found, Section};
 pub use settings::Settings;
+pub use table::Table;
 pub use usual::ReadGuard;
 pub use values::{Balance, Entry, Freed, Holder, Kind};

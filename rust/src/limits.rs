@@ -1,6 +1,7 @@
 //! The limits of a build, and the library's version.
 
 use crate::ffi;
+use crate::refusal::Refusal;
 
 /// The limits of a build of the library: the largest [`Settings`](crate::Settings), and how deep a section may be nested.
 #[repr(C)]
@@ -22,10 +23,11 @@ pub struct Limits {
 }
 
 /// The limits that this crate was compiled for, by the archive's header `registry_limits.h`. With a library that has others nothing is opened:
-/// [`Registry::open`](crate::Registry::open) returns `OtherLimits`. If the most CPUs or the most slots are others, the program doesn't even link.
+/// [`Registry::open`](crate::Registry::open) returns `OtherLimits`. If the most CPUs or the most slots are others, or the version is, the program doesn't
+/// even link.
 ///
 /// ```
-/// use registry::{limits, Registry, Settings, LIMITS};
+/// use kupaldiz::{limits, Registry, Settings, LIMITS};
 ///
 /// assert_eq!(limits(), LIMITS);
 /// let (_registry, cpus) = Registry::<()>::open(Settings::default()).unwrap();
@@ -60,19 +62,38 @@ pub fn limits() -> Limits {
 /// The version of the library, such as `"0.1.0"`.
 ///
 /// ```
-/// assert_eq!(registry::version(), env!("CARGO_PKG_VERSION"));
+/// assert_eq!(kupaldiz::version(), env!("CARGO_PKG_VERSION"));
 /// ```
 #[must_use]
 pub fn version() -> &'static str {
     // SAFETY: the call needs nothing.
-    ffi::string(unsafe { ffi::registry_version() })
+    let text = unsafe { ffi::registry_version() };
+    // SAFETY: registry.h says of it: "never freed and never written to".
+    unsafe { ffi::string(text) }
+}
+
+/// The library is of this crate's version, else `OtherVersion`.
+pub(crate) fn check_version(library: &str) -> Result<(), Refusal> {
+    if library.starts_with(ffi::VERSION) {
+        Ok(())
+    } else {
+        Err(Refusal::OtherVersion)
+    }
 }
 
 #[cfg(test)]
 mod tests {
-    use super::{Limits, LIMITS};
+    use super::{check_version, version, Limits, LIMITS};
     use crate::ffi;
     use crate::refusal::{checked, Refusal};
+
+    #[test]
+    fn another_version_is_refused() {
+        assert_eq!([version(), "0.1.9", "0.1.0-rc1"].map(check_version), [Ok(()); 3]);
+        for other in ["0.2.0", "0.10.0", "0.1", "1.1.0", "00.1.0", ""] {
+            assert_eq!(check_version(other), Err(Refusal::OtherVersion), "{other}");
+        }
+    }
 
     #[test]
     fn other_limits_than_the_librarys_are_refused() {

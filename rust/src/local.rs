@@ -3,15 +3,15 @@
 use crate::carried::Record;
 use crate::cpu::Cpu;
 use crate::ffi;
-use crate::mapped::Mapped;
+use crate::mapped::{Mapped, Stays};
 use crate::refusal::{Refusal, Refused};
 use crate::shared::{Lease, Shared};
 use crate::usual::ReadGuard;
 use crate::values::Entry;
-use alloc::sync::Arc;
-use core::fmt;
-use core::mem;
-use core::ops::Deref;
+use std::fmt;
+use std::mem;
+use std::ops::Deref;
+use std::sync::Arc;
 
 /// A local reference, of localcount(9). Its entry keeps its slot and its value until the reference is released, on any CPU of the registry. It derefs
 /// to what the entry carries. It co-owns its registry. It may be stored, and other threads may use it and take it.
@@ -19,7 +19,7 @@ use core::ops::Deref;
 /// All its functions are called by the type's name, so that none hides a method of `T`.
 ///
 /// ```
-/// use registry::{Kind, LocalRef, Name, Registry, Settings};
+/// use kupaldiz::{Kind, LocalRef, Name, Registry, Settings};
 /// use std::thread;
 ///
 /// let (registry, cpus) = Registry::open(Settings::new(1, 1)).unwrap();
@@ -35,28 +35,23 @@ use core::ops::Deref;
 ///
 /// # Dropped without a CPU
 ///
-/// Dropping a reference on any thread is safe. The drop takes a short lock, and the entry stays held until a later call releases the reference. A
-/// destroy of the entry is such a call. An acquire, a drop and that release cost some 97 ns in a run in which an acquire and a release on a CPU cost
-/// 27. Dropping doesn't wait for a reader. It may wait for the interlock only if more than 64 dropped references wait on its CPU, and some CPU has no
-/// handle.
+/// Dropping a reference on any thread is safe. The drop takes a short lock, waits for no reader and not for the interlock, and leaves the entry held until
+/// a later call releases the reference. A destroy of the entry is such a call.
 ///
-/// The reason is that a release needs a CPU. [`guard`](LocalRef::guard) binds the reference to a CPU that the caller has. A reference that is dropped
-/// without one lies in the basket of the CPU that acquired it, a list under a lock. Each call releases a bounded number:
+/// The reason is that a release needs a CPU. A reference that is dropped without one lies in a list of its entry's. These calls take such a list whole, and
+/// release what is in it:
 ///
-/// | Call | releases at most |
+/// | Call | takes the lists of |
 /// |---|---|
-/// | an acquire of a local reference | 2, from its CPU's basket |
-/// | a release of a local reference on a CPU | 4, from its CPU's basket, and 4 from another's that has more than 64 |
-/// | a drop into a basket that has more than 64 | 4, from this basket, if some CPU has no handle |
-/// | an attach, a detach, a perform, each try of a destroy after the first | 64, from all baskets |
-/// | a CPU that is dropped | 64, from its own basket |
-/// | a try to free a retired entry that only local references hold | 256, of those to this entry |
+/// | an acquire or a release of a local reference on a CPU | its entry |
+/// | an attach, a detach, a retire, a perform, an audit, each try of a destroy after the first, a CPU that is dropped | all entries |
+/// | a try to free a retired entry that only local references hold | this entry |
 ///
-/// So a basket never has more references in it than the most that were held at one time, of those that its CPU acquired. Only references that are
-/// held, or were released elsewhere, bring a CPU's net count to `LocalFull`. [`Registry::dropped`](crate::Registry::dropped) returns how many dropped
-/// ones there are. A reference that is forgotten stays held, and keeps its registry open.
+/// So no more references wait than were held at one time. Only references that are held, or were released elsewhere, bring a CPU's net count to
+/// `LocalFull`. [`Registry::dropped`](crate::Registry::dropped) returns how many wait. A reference that is forgotten stays held, and keeps its registry
+/// open.
 ///
-/// If there is no memory for the basket to grow, the dropped reference stays held for good. Its entry is never freed then, and
+/// If there is no memory for the list to grow, the dropped reference stays held for good. Its entry is never freed then, and
 /// [`Retired::destroy`](crate::Retired::destroy) with [`Patience::Forever`](crate::Patience::Forever) never returns.
 #[must_use = "a reference that is dropped at once holds nothing"]
 pub struct LocalRef<T> {
@@ -68,8 +63,11 @@ pub struct LocalRef<T> {
 }
 
 impl<T> LocalRef<T> {
+    /// # Safety
+    ///
+    /// The handle is a reference to the entry, which the lease's CPU acquired.
     #[inline]
-    pub(crate) fn new(lease: Arc<Lease<T>>, record: Record<T>, handle: ffi::Local) -> LocalRef<T> {
+    pub(crate) unsafe fn new(lease: Arc<Lease<T>>, record: Record<T>, handle: ffi::Local) -> LocalRef<T> {
         LocalRef {
             record,
             handle,
@@ -81,6 +79,11 @@ impl<T> LocalRef<T> {
     #[inline]
     pub(crate) fn is_of(&self, shared: &Arc<Shared<T>>) -> bool {
         self.lease.as_ref().map_or(false, |lease| Arc::ptr_eq(&lease.shared, shared))
+    }
+
+    /// The ticket of the note of its place, or 0.
+    pub(crate) fn ticket(&self) -> u32 {
+        self.record.ticket()
     }
 
     /// The handle, for a call that may spend it.
@@ -111,6 +114,9 @@ impl<T> LocalRef<T> {
         let slot = reference.record.slot();
         let local = mem::replace(&mut reference.handle, ffi::Local::EMPTY);
         let lease = reference.lease.take();
+        if reference.record.ticket() != 0 {
+            cpu.shared().released(reference.record.ticket());
+        }
         // Nothing is left in it to drop. A drop would need its address, and so its fields in memory.
         mem::forget(reference);
         release_on(cpu, slot, local, lease);
@@ -121,7 +127,7 @@ impl<T> LocalRef<T> {
     /// that a section found.
     ///
     /// ```
-    /// use registry::{Kind, LocalRef, Name, Refusal, Registry, Settings};
+    /// use kupaldiz::{Kind, LocalRef, Name, Refusal, Registry, Settings};
     ///
     /// let (registry, cpus) = Registry::open(Settings::new(2, 1)).unwrap();
     /// let wm = Name::parse("wm").unwrap();
@@ -136,6 +142,7 @@ impl<T> LocalRef<T> {
     /// # Errors
     ///
     /// `OtherRegistry`, `TooDeep`, `SectionsSpent`, `NotFound` once the entry is detached, `LocalFull`, `NoMemory`.
+    #[track_caller]
     pub fn try_clone(reference: &Self, cpu: &Cpu<T>) -> Result<LocalRef<T>, Refusal> {
         if !reference.is_of(cpu.shared()) {
             return Err(Refusal::OtherRegistry);
@@ -149,41 +156,6 @@ impl<T> LocalRef<T> {
         }
     }
 
-    /// Binds it to this CPU, which releases it when the guard is dropped, without a basket.
-    ///
-    /// ```
-    /// use registry::{Kind, LocalRef, Name, Registry, Settings};
-    ///
-    /// let (registry, cpus) = Registry::open(Settings::new(1, 1)).unwrap();
-    /// let wm = Name::parse("wm").unwrap();
-    /// registry.attach(&cpus[0], &wm, 7).unwrap();
-    /// let reference = cpus[0].get_local(Kind::Driver, &wm).unwrap();
-    /// let guard = LocalRef::guard(reference, &cpus[0]).unwrap();
-    /// assert_eq!(*guard, 7);
-    /// ```
-    ///
-    /// # Errors
-    ///
-    /// `OtherRegistry` if the CPU is of another one. The reference is returned.
-    #[inline]
-    pub fn guard(mut reference: Self, cpu: &Cpu<T>) -> Result<LocalGuard<'_, T>, Refused<Self>> {
-        if !reference.is_of(cpu.shared()) {
-            let refusal = Refusal::OtherRegistry;
-            return Err(Refused { refusal, given: reference });
-        }
-        let (record, handle) = (reference.record, mem::replace(&mut reference.handle, ffi::Local::EMPTY));
-        let lease = reference.lease.take();
-        // As of `release`.
-        mem::forget(reference);
-        cpu.bind(record.slot());
-        Ok(LocalGuard {
-            record,
-            handle,
-            lease,
-            cpu,
-        })
-    }
-
     /// The reference to a part of what the entry carries.
     #[inline]
     pub fn map<U: ?Sized>(reference: Self, part: impl FnOnce(&T) -> &U) -> Mapped<Self, U> {
@@ -195,12 +167,15 @@ impl<T> LocalRef<T> {
 #[inline(always)]
 fn release_on<T>(cpu: &Cpu<T>, slot: usize, local: ffi::Local, lease: Option<Arc<Lease<T>>>) {
     // SAFETY: the CPU is this thread's and of the reference's registry, and no code of a caller holds the interlock.
-    unsafe { cpu.shared().release_local(cpu.handle(), cpu.id(), slot, local) };
+    unsafe { cpu.shared().release_local(cpu.handle(), slot, local) };
     if let Some(lease) = lease {
         cpu.keep_share(lease);
     }
-    cpu.after_release();
+    cpu.release_to(slot);
 }
+
+// SAFETY: the entry keeps its value until the reference is released.
+unsafe impl<T> Stays for LocalRef<T> {}
 
 impl<T> Deref for LocalRef<T> {
     type Target = T;
@@ -218,7 +193,10 @@ impl<T> Drop for LocalRef<T> {
     fn drop(&mut self) {
         let handle = mem::replace(&mut self.handle, ffi::Local::EMPTY);
         if let (false, Some(lease)) = (handle.is_empty(), &self.lease) {
-            lease.shared.drop_local(lease.id, self.record.slot(), handle);
+            if self.record.ticket() != 0 {
+                lease.shared.released(self.record.ticket());
+            }
+            lease.shared.baskets().lay(self.record.slot(), handle);
         }
     }
 }
@@ -232,89 +210,6 @@ impl<T: fmt::Display> fmt::Display for LocalRef<T> {
 impl<T: fmt::Debug> fmt::Debug for LocalRef<T> {
     fn fmt(&self, f: &mut fmt::Formatter<'_>) -> fmt::Result {
         f.debug_struct("LocalRef")
-            .field("entry", &self.record)
-            .field("value", &**self)
-            .finish()
-    }
-}
-
-/// A local reference that a CPU releases when it is dropped: [`LocalRef::guard`]. It derefs to what the entry carries, and stays on that CPU's
-/// thread.
-///
-/// All its functions are called by the type's name, so that none hides a method of `T`.
-#[must_use = "a guard that is dropped at once holds nothing"]
-pub struct LocalGuard<'cpu, T> {
-    record: Record<T>,
-    /// Empty once the reference was taken out.
-    handle: ffi::Local,
-    lease: Option<Arc<Lease<T>>>,
-    cpu: &'cpu Cpu<T>,
-}
-
-impl<'cpu, T> LocalGuard<'cpu, T> {
-    /// The entry, as it was attached.
-    #[inline]
-    #[must_use]
-    pub fn entry(guard: &Self) -> Entry {
-        guard.record.entry()
-    }
-
-    /// The CPU that releases it.
-    #[inline]
-    #[must_use]
-    pub fn cpu(guard: &Self) -> &'cpu Cpu<T> {
-        guard.cpu
-    }
-
-    /// The reference itself, which is bound to no CPU.
-    #[inline]
-    pub fn into_inner(mut guard: Self) -> LocalRef<T> {
-        guard.cpu.unbind(guard.record.slot());
-        LocalRef {
-            record: guard.record,
-            handle: mem::replace(&mut guard.handle, ffi::Local::EMPTY),
-            lease: guard.lease.take(),
-        }
-    }
-
-    /// The guard of a part of what the entry carries.
-    #[inline]
-    pub fn map<U: ?Sized>(guard: Self, part: impl FnOnce(&T) -> &U) -> Mapped<Self, U> {
-        Mapped::new(guard, part)
-    }
-}
-
-impl<T> Deref for LocalGuard<'_, T> {
-    type Target = T;
-
-    #[inline]
-    fn deref(&self) -> &T {
-        // SAFETY: as for a `LocalRef`; the guard's drop releases it, or `into_inner` takes it away from whoever has the guard.
-        unsafe { self.record.value() }
-    }
-}
-
-impl<T> Drop for LocalGuard<'_, T> {
-    #[inline]
-    fn drop(&mut self) {
-        let handle = mem::replace(&mut self.handle, ffi::Local::EMPTY);
-        if !handle.is_empty() {
-            self.cpu.unbind(self.record.slot());
-            release_on(self.cpu, self.record.slot(), handle, self.lease.take());
-        }
-    }
-}
-
-impl<T: fmt::Display> fmt::Display for LocalGuard<'_, T> {
-    fn fmt(&self, f: &mut fmt::Formatter<'_>) -> fmt::Result {
-        (**self).fmt(f)
-    }
-}
-
-impl<T: fmt::Debug> fmt::Debug for LocalGuard<'_, T> {
-    fn fmt(&self, f: &mut fmt::Formatter<'_>) -> fmt::Result {
-        f.debug_struct("LocalGuard")
-            .field("cpu", &self.cpu.id())
             .field("entry", &self.record)
             .field("value", &**self)
             .finish()

@@ -1,29 +1,20 @@
-//! The crate's locks: those of the standard library, or without it ones that spin, as each is held for one turn at most.
+//! The crate's locks: those of the standard library. Under the thread sanitizer, which doesn't see into it, ones that spin: tests/sanitized.sh.
+#![allow(unknown_lints, unexpected_cfgs)]
 
-#[cfg(feature = "std")]
-pub use self::standard::{locked, locked_mut, try_locked};
-#[cfg(feature = "std")]
+#[cfg(registry_edges)]
+pub use self::spinning::{locked, locked_mut, Mutex, MutexGuard};
+#[cfg(not(registry_edges))]
+pub use self::standard::{locked, locked_mut};
+#[cfg(not(registry_edges))]
 pub use std::sync::{Mutex, MutexGuard};
 
-#[cfg(not(feature = "std"))]
-pub use self::spinning::{locked, locked_mut, try_locked, Mutex, MutexGuard};
-
-#[cfg(feature = "std")]
+#[cfg(not(registry_edges))]
 mod standard {
-    use std::sync::{Mutex, MutexGuard, PoisonError, TryLockError};
+    use std::sync::{Mutex, MutexGuard, PoisonError};
 
     /// A lock's value. Nothing panics under our locks, and if it did, what they guard would be whole.
     pub fn locked<T>(mutex: &Mutex<T>) -> MutexGuard<'_, T> {
         mutex.lock().unwrap_or_else(PoisonError::into_inner)
-    }
-
-    /// A lock's value, unless somebody has it.
-    pub fn try_locked<T>(mutex: &Mutex<T>) -> Option<MutexGuard<'_, T>> {
-        match mutex.try_lock() {
-            Ok(guard) => Some(guard),
-            Err(TryLockError::Poisoned(poisoned)) => Some(poisoned.into_inner()),
-            Err(TryLockError::WouldBlock) => None,
-        }
     }
 
     /// The value of a lock that nobody else knows.
@@ -32,12 +23,12 @@ mod standard {
     }
 }
 
-#[cfg(not(feature = "std"))]
+#[cfg(registry_edges)]
 mod spinning {
-    use core::cell::UnsafeCell;
-    use core::hint;
-    use core::ops::{Deref, DerefMut};
-    use core::sync::atomic::{AtomicBool, Ordering};
+    use std::cell::UnsafeCell;
+    use std::hint;
+    use std::ops::{Deref, DerefMut};
+    use std::sync::atomic::{AtomicBool, Ordering};
 
     #[derive(Default)]
     pub struct Mutex<T> {
@@ -53,9 +44,6 @@ mod spinning {
         mutex: &'a Mutex<T>,
     }
 
-    // SAFETY: a shared guard gives a shared reference to the value.
-    unsafe impl<T: Sync> Sync for MutexGuard<'_, T> {}
-
     impl<T> Mutex<T> {
         pub fn new(value: T) -> Mutex<T> {
             Mutex {
@@ -67,23 +55,10 @@ mod spinning {
 
     /// A lock's value.
     pub fn locked<T>(mutex: &Mutex<T>) -> MutexGuard<'_, T> {
-        loop {
-            if let Some(guard) = try_locked(mutex) {
-                return guard;
-            }
-            while mutex.taken.load(Ordering::Relaxed) {
-                hint::spin_loop();
-            }
+        while mutex.taken.swap(true, Ordering::Acquire) {
+            hint::spin_loop();
         }
-    }
-
-    /// A lock's value, unless somebody has it.
-    pub fn try_locked<T>(mutex: &Mutex<T>) -> Option<MutexGuard<'_, T>> {
-        if mutex.taken.swap(true, Ordering::Acquire) {
-            None
-        } else {
-            Some(MutexGuard { mutex })
-        }
+        MutexGuard { mutex }
     }
 
     /// The value of a lock that nobody else knows.
@@ -111,38 +86,5 @@ mod spinning {
         fn drop(&mut self) {
             self.mutex.taken.store(false, Ordering::Release);
         }
-    }
-}
-
-#[cfg(test)]
-mod tests {
-    use super::{locked, locked_mut, try_locked, Mutex};
-    use std::thread;
-    use std::time::Duration;
-
-    #[test]
-    fn one_at_a_time_has_a_lock() {
-        let mut mutex = Mutex::new(1);
-        let mut guard = locked(&mutex);
-        *guard += 1;
-        assert!(try_locked(&mutex).is_none());
-        drop(guard);
-        assert_eq!(try_locked(&mutex).map(|guard| *guard), Some(2));
-        assert_eq!(*locked_mut(&mut mutex), 2);
-    }
-
-    /// Often enough that the lock is let go at each point of the wait.
-    #[test]
-    fn whoever_waits_gets_a_lock_that_is_let_go() {
-        let mutex = Mutex::new(0);
-        for _ in 0..100 {
-            let guard = locked(&mutex);
-            thread::scope(|scope| {
-                scope.spawn(|| *locked(&mutex) += 1);
-                thread::sleep(Duration::from_micros(100));
-                drop(guard);
-            });
-        }
-        assert_eq!(*locked(&mutex), 100);
     }
 }

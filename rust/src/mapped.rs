@@ -1,11 +1,10 @@
 //! Guards of a part of what an entry carries.
 
-use core::fmt;
-use core::ops::Deref;
+use std::fmt;
+use std::ops::Deref;
 
 /// A reference or a guard of a part of what its entry carries: `map` of [`ReadGuard`](crate::ReadGuard), [`PassiveRef`](crate::PassiveRef),
-/// [`PassiveRc`](crate::PassiveRc), [`LocalRef`](crate::LocalRef) and [`LocalGuard`](crate::LocalGuard) returns it. It derefs to the part, and
-/// dropping it drops what it was made of.
+/// [`PassiveRc`](crate::PassiveRc) and [`LocalRef`](crate::LocalRef) returns it. It derefs to the part, and dropping it drops what it was made of.
 #[must_use = "what is dropped at once holds nothing"]
 pub struct Mapped<G, U: ?Sized> {
     part: *const U,
@@ -17,8 +16,14 @@ unsafe impl<G: Send, U: ?Sized + Sync> Send for Mapped<G, U> {}
 // SAFETY: a shared one gives a `&U`, and a `&G` to nobody but whoever owns it.
 unsafe impl<G: Sync, U: ?Sized + Sync> Sync for Mapped<G, U> {}
 
-impl<G: Deref, U: ?Sized> Mapped<G, U> {
-    /// The guard is one of this crate's: what it derefs to lies in a box of its own, and stays there as long as the guard is, wherever that goes.
+/// A guard whose value stays where it is as long as the guard exists, wherever that is moved.
+///
+/// # Safety
+///
+/// What it derefs to lies in a block of its own, which nobody moves, writes or frees as long as the guard exists.
+pub unsafe trait Stays: Deref {}
+
+impl<G: Stays, U: ?Sized> Mapped<G, U> {
     #[inline]
     pub(crate) fn new(guard: G, part: impl FnOnce(&G::Target) -> &U) -> Mapped<G, U> {
         let part: *const U = part(&guard);
@@ -40,7 +45,7 @@ impl<G, U: ?Sized> Deref for Mapped<G, U> {
     #[inline]
     fn deref(&self) -> &U {
         // SAFETY: the part lies in what the guard derefs to, or lives longer, as the guard's reference to it was of any lifetime. The guard is
-        // there, and with it what it derefs to, which nobody writes.
+        // there, and so is its value: it `Stays`.
         unsafe { &*self.part }
     }
 }

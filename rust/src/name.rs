@@ -1,17 +1,15 @@
 //! Names of entries.
 
 use crate::ffi;
-use core::convert::TryFrom;
-use core::fmt;
-use core::str::{self, FromStr};
-#[cfg(feature = "std")]
 use std::error::Error;
+use std::fmt;
+use std::str::{self, FromStr};
 
 /// The name of an entry: a lower-case ASCII letter, and then lower-case letters and digits, 15 bytes at most. It is parsed once, and used in
 /// any number of lookups. Names are ordered as their texts are.
 ///
 /// ```
-/// use registry::{Name, NameFault};
+/// use kupaldiz::{Name, NameFault};
 ///
 /// const WM: Name = Name::from_static("wm");
 ///
@@ -73,7 +71,7 @@ impl Name {
     /// The name with this text, for a constant. In a constant, a text that is no name is a compile error.
     ///
     /// ```compile_fail,E0080
-    /// const WM: registry::Name = registry::Name::from_static("WM");
+    /// const WM: kupaldiz::Name = kupaldiz::Name::from_static("WM");
     /// ```
     ///
     /// # Panics
@@ -85,6 +83,46 @@ impl Name {
             Ok(name) => name,
             Err(_) => panic!("the text is no name"),
         }
+    }
+
+    /// The name of a number: `n`, and the number in digits of base 36. [`id`](Name::id) is the way back.
+    ///
+    /// ```
+    /// use kupaldiz::Name;
+    ///
+    /// const SESSION: Name = Name::from_id(1_000);
+    /// assert_eq!((SESSION.as_str(), SESSION.id()), ("nrs", Some(1_000)));
+    /// ```
+    #[must_use]
+    pub const fn from_id(id: u64) -> Name {
+        let mut digits = [0; ROOM];
+        let (mut left, mut count) = (id, 0);
+        while left > 0 || count == 0 {
+            let digit = (left % 36) as u8;
+            digits[count] = if digit < 10 { b'0' + digit } else { b'a' + digit - 10 };
+            left /= 36;
+            count += 1;
+        }
+        let mut bytes = [0; ROOM];
+        bytes[0] = b'n';
+        let mut place = 0;
+        while place < count {
+            bytes[1 + place] = digits[count - 1 - place];
+            place += 1;
+        }
+        let words = ffi::Name {
+            high: word(&bytes, 0),
+            low: word(&bytes, 8),
+        };
+        Name { words, bytes }
+    }
+
+    /// The number whose name this is, if it is what [`from_id`](Name::from_id) makes.
+    #[must_use]
+    pub fn id(&self) -> Option<u64> {
+        let digits = self.as_str().strip_prefix('n')?;
+        let id = u64::from_str_radix(digits, 36).ok()?;
+        (Name::from_id(id) == *self).then_some(id)
     }
 
     /// The name that these words of the archive are.
@@ -121,28 +159,6 @@ impl FromStr for Name {
 
     fn from_str(text: &str) -> Result<Name, NameFault> {
         Name::parse(text)
-    }
-}
-
-impl TryFrom<&str> for Name {
-    type Error = NameFault;
-
-    fn try_from(text: &str) -> Result<Name, NameFault> {
-        Name::parse(text)
-    }
-}
-
-impl TryFrom<&[u8]> for Name {
-    type Error = NameFault;
-
-    fn try_from(text: &[u8]) -> Result<Name, NameFault> {
-        Name::from_bytes(text)
-    }
-}
-
-impl AsRef<str> for Name {
-    fn as_ref(&self) -> &str {
-        self.as_str()
     }
 }
 
@@ -192,7 +208,6 @@ impl fmt::Display for NameFault {
     }
 }
 
-#[cfg(feature = "std")]
 impl Error for NameFault {}
 
 #[cfg(test)]
@@ -229,6 +244,18 @@ mod tests {
             if let Ok(name) = name {
                 assert_eq!((name.as_str().as_bytes(), Name::of_words(name.words)), (&text[..], name));
             }
+        }
+    }
+
+    #[test]
+    fn each_number_has_a_name_of_its_own() {
+        for id in (0..2_000).chain([35, 36, 36 * 36 - 1, 36 * 36, u64::MAX - 1, u64::MAX]) {
+            let name = Name::from_id(id);
+            assert_eq!((Name::parse(name.as_str()), name.id()), (Ok(name), Some(id)));
+        }
+        assert_eq!(Name::from_id(u64::MAX).as_str(), "n3w5e11264sgsf");
+        for other in ["n", "wm0", "n00", "n01", "nzzzzzzzzzzzzzz"] {
+            assert_eq!(Name::parse(other).unwrap().id(), None, "{other}");
         }
     }
 }

@@ -3,14 +3,14 @@
 use crate::carried::Record;
 use crate::cpu::Cpu;
 use crate::ffi;
-use crate::mapped::Mapped;
-use crate::refusal::{checked, Refusal, Refused};
+use crate::mapped::{Mapped, Stays};
+use crate::places::Hold;
+use crate::refusal::{checked, Refusal};
 use crate::values::Entry;
-use alloc::rc::Rc;
-use core::fmt;
-use core::mem;
-use core::ops::Deref;
-use core::ptr;
+use std::fmt;
+use std::ops::Deref;
+use std::panic::Location;
+use std::rc::Rc;
 
 /// A passive reference, of psref(9). Its entry keeps its slot and its value until the reference is dropped. It outlives the section, and its holder may
 /// sleep. It borrows its CPU, so neither can leave the thread, and it is released on that CPU. It derefs to what the entry carries.
@@ -20,7 +20,7 @@ use core::ptr;
 /// All its functions are called by the type's name, so that none hides a method of `T`.
 ///
 /// ```
-/// use registry::{Kind, Name, PassiveRef, Registry, Settings};
+/// use kupaldiz::{Kind, Name, PassiveRef, Registry, Settings};
 ///
 /// let (registry, cpus) = Registry::open(Settings::new(1, 1)).unwrap();
 /// let wm = Name::parse("wm").unwrap();
@@ -39,9 +39,11 @@ pub struct PassiveRef<'cpu, T> {
 
 /// Acquires one more on a CPU that has one: `psref_copy`.
 #[inline]
-fn copy<T>(cpu: &Cpu<T>, record: &Record<T>) -> Result<(), Refusal> {
+#[track_caller]
+fn copy<T>(cpu: &Cpu<T>, record: Record<T>) -> Result<Record<T>, Refusal> {
     // SAFETY: this thread alone has the CPU, whose handle isn't empty.
-    checked(unsafe { ffi::registry_copy(cpu.handle(), record.number()) })
+    checked(unsafe { ffi::registry_copy(cpu.handle(), record.number()) })?;
+    Ok(cpu.noted(Hold::Passive, record, Location::caller()))
 }
 
 /// Releases one.
@@ -50,11 +52,17 @@ fn release<T>(cpu: &Cpu<T>, record: &Record<T>) {
     // SAFETY: as for `copy`. One release for the one acquire that made the reference.
     let answer = unsafe { ffi::registry_release(cpu.handle(), record.number()) };
     debug_assert_eq!(answer, ffi::DONE, "the CPU has the reference");
+    if record.ticket() != 0 {
+        cpu.shared().released(record.ticket());
+    }
 }
 
 impl<'cpu, T> PassiveRef<'cpu, T> {
+    /// # Safety
+    ///
+    /// A reference to the entry was acquired on the CPU for this one.
     #[inline]
-    pub(crate) fn new(cpu: &'cpu Cpu<T>, record: Record<T>) -> PassiveRef<'cpu, T> {
+    pub(crate) unsafe fn new(cpu: &'cpu Cpu<T>, record: Record<T>) -> PassiveRef<'cpu, T> {
         PassiveRef { cpu, record }
     }
 
@@ -78,25 +86,11 @@ impl<'cpu, T> PassiveRef<'cpu, T> {
     ///
     /// `PassiveFull`.
     #[inline]
+    #[track_caller]
     pub fn try_clone(reference: &Self) -> Result<PassiveRef<'cpu, T>, Refusal> {
-        copy(reference.cpu, &reference.record)?;
-        Ok(PassiveRef::new(reference.cpu, reference.record))
-    }
-
-    /// The same reference, which co-owns its CPU instead of borrowing it: a struct may own both.
-    ///
-    /// # Errors
-    ///
-    /// `WrongCpu` if it is of another CPU. The reference is returned.
-    pub fn into_rc(reference: Self, cpu: &Rc<Cpu<T>>) -> Result<PassiveRc<T>, Refused<Self>> {
-        if !ptr::eq(reference.cpu, &**cpu) {
-            let refusal = Refusal::WrongCpu;
-            return Err(Refused { refusal, given: reference });
-        }
-        let record = reference.record;
-        // The new one releases it.
-        mem::forget(reference);
-        Ok(PassiveRc::new(Rc::clone(cpu), record))
+        let record = copy(reference.cpu, reference.record)?;
+        // SAFETY: it was acquired above.
+        Ok(unsafe { PassiveRef::new(reference.cpu, record) })
     }
 
     /// The reference to a part of what the entry carries.
@@ -111,6 +105,9 @@ impl<'cpu, T> PassiveRef<'cpu, T> {
         drop(reference);
     }
 }
+
+// SAFETY: the entry keeps its value until the reference is dropped.
+unsafe impl<T> Stays for PassiveRef<'_, T> {}
 
 impl<T> Deref for PassiveRef<'_, T> {
     type Target = T;
@@ -150,7 +147,7 @@ impl<T: fmt::Debug> fmt::Debug for PassiveRef<'_, T> {
 ///
 /// ```compile_fail,E0277
 /// fn sent<S: Send>() {}
-/// sent::<registry::PassiveRc<u64>>();
+/// sent::<kupaldiz::PassiveRc<u64>>();
 /// ```
 #[must_use = "a reference that is dropped at once holds nothing"]
 pub struct PassiveRc<T> {
@@ -159,8 +156,11 @@ pub struct PassiveRc<T> {
 }
 
 impl<T> PassiveRc<T> {
+    /// # Safety
+    ///
+    /// As of [`PassiveRef::new`].
     #[inline]
-    pub(crate) fn new(cpu: Rc<Cpu<T>>, record: Record<T>) -> PassiveRc<T> {
+    pub(crate) unsafe fn new(cpu: Rc<Cpu<T>>, record: Record<T>) -> PassiveRc<T> {
         PassiveRc { cpu, record }
     }
 
@@ -184,9 +184,11 @@ impl<T> PassiveRc<T> {
     ///
     /// `PassiveFull`.
     #[inline]
+    #[track_caller]
     pub fn try_clone(reference: &Self) -> Result<PassiveRc<T>, Refusal> {
-        copy(&reference.cpu, &reference.record)?;
-        Ok(PassiveRc::new(Rc::clone(&reference.cpu), reference.record))
+        let record = copy(&reference.cpu, reference.record)?;
+        // SAFETY: it was acquired above.
+        Ok(unsafe { PassiveRc::new(Rc::clone(&reference.cpu), record) })
     }
 
     /// The reference to a part of what the entry carries.
@@ -201,6 +203,9 @@ impl<T> PassiveRc<T> {
         drop(reference);
     }
 }
+
+// SAFETY: as for a `PassiveRef`.
+unsafe impl<T> Stays for PassiveRc<T> {}
 
 impl<T> Deref for PassiveRc<T> {
     type Target = T;

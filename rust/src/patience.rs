@@ -1,9 +1,7 @@
 //! How long a call waits, and what it does between two turns.
 
-use core::hint;
-#[cfg(feature = "std")]
+use std::hint;
 use std::thread;
-#[cfg(feature = "std")]
 use std::time::{Duration, Instant};
 
 /// How long [`Retired::destroy`](crate::Retired::destroy) and [`Registry::perform`](crate::Registry::perform) keep trying. Each tries at least once. One
@@ -14,10 +12,8 @@ use std::time::{Duration, Instant};
 /// 2. It yields 8 times: the reader's thread may wait for this processor.
 /// 3. It sleeps, for 16 microseconds at first, twice as long each time, 8 milliseconds at most.
 ///
-/// Without the feature `std` it only spins.
-///
 /// ```
-/// use registry::{Holder, Kind, Name, Patience, Refusal, Registry, Settings};
+/// use kupaldiz::{Holder, Kind, Name, Patience, Refusal, Registry, Settings};
 /// use std::time::Duration;
 ///
 /// let (registry, cpus) = Registry::open(Settings::new(2, 4)).unwrap();
@@ -38,14 +34,11 @@ pub enum Patience {
     /// Try this many times. 0 means 1.
     Turns(u32),
     /// Keep trying until this time has come. The call looks at the clock after each try that fails.
-    #[cfg(feature = "std")]
     Until(Instant),
     /// Keep trying until the call is done.
-    #[cfg(feature = "std")]
     Forever,
 }
 
-#[cfg(feature = "std")]
 impl Patience {
     /// Keep trying until this much time from now has passed. It is `Forever` if no [`Instant`] is that late.
     #[must_use]
@@ -58,20 +51,16 @@ impl Patience {
 }
 
 /// How often a wait spins before it yields.
-#[cfg(feature = "std")]
 const SPINS: u32 = 16;
 
 /// The pause instructions of the longest spin.
 const MOST_PAUSES: u32 = 256;
 
 /// How often it yields before it sleeps.
-#[cfg(feature = "std")]
 const YIELDS: u32 = 8;
 
-#[cfg(feature = "std")]
 const FIRST_SLEEP: Duration = Duration::from_micros(16);
 
-#[cfg(feature = "std")]
 const LONGEST_SLEEP: Duration = Duration::from_millis(8);
 
 /// What a wait does between two turns.
@@ -79,21 +68,17 @@ const LONGEST_SLEEP: Duration = Duration::from_millis(8);
 enum Pause {
     /// So many pause instructions.
     Spin(u32),
-    #[cfg(feature = "std")]
     Yield,
-    #[cfg(feature = "std")]
     Sleep(Duration),
 }
 
 impl Pause {
     /// After so many turns, from 1.
     fn after(made: u32) -> Pause {
-        #[cfg(feature = "std")]
         if made > SPINS + YIELDS {
             let sleep = FIRST_SLEEP * doubled(made - SPINS - YIELDS - 1);
             return Pause::Sleep(sleep.min(LONGEST_SLEEP));
         }
-        #[cfg(feature = "std")]
         if made > SPINS {
             return Pause::Yield;
         }
@@ -129,21 +114,12 @@ impl Pauses {
         self.made = self.made.saturating_add(1);
         match self.patience {
             Patience::Turns(turns) if self.made >= turns => false,
-            #[cfg(not(feature = "std"))]
-            Patience::Turns(_) => {
-                let Pause::Spin(pauses) = Pause::after(self.made);
-                spin(pauses);
-                true
-            }
-            #[cfg(feature = "std")]
             Patience::Turns(_) | Patience::Forever => self.pause(Duration::MAX),
-            #[cfg(feature = "std")]
             Patience::Until(deadline) => self.pause(deadline.saturating_duration_since(Instant::now())),
         }
     }
 
     /// Lets time pass. Where it sleeps, for so long at most. Whether there was any time.
-    #[cfg(feature = "std")]
     fn pause(&self, left: Duration) -> bool {
         if left == Duration::ZERO {
             return false;
@@ -157,18 +133,7 @@ impl Pauses {
     }
 }
 
-#[cfg(all(test, not(feature = "std")))]
-mod without_std {
-    use super::{Patience, Pauses};
-
-    #[test]
-    fn so_many_turns_are_made() {
-        let mut pauses = Pauses::new(Patience::Turns(3));
-        assert_eq!([(); 4].map(|()| pauses.another()), [true, true, false, false]);
-    }
-}
-
-#[cfg(all(test, feature = "std"))]
+#[cfg(test)]
 mod tests {
     use super::{Patience, Pause, Pauses};
     use std::time::{Duration, Instant};

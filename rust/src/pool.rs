@@ -1,11 +1,20 @@
 //! CPUs that are lent, for programs with more threads than CPUs.
 
 use crate::cpu::Cpu;
-use crate::lock::locked;
+use crate::local::LocalRef;
 use crate::refusal::Refusal;
+use crate::values::Kind;
+use crate::Name;
 use std::fmt;
+use std::future::Future;
+use std::marker::PhantomData;
+use std::mem;
 use std::ops::Deref;
+use std::panic::Location;
+use std::pin::Pin;
 use std::sync::{Condvar, Mutex, MutexGuard, PoisonError};
+use std::task::{Context, Poll, Waker};
+use std::thread::{self, ThreadId};
 use std::time::Instant;
 
 /// CPUs of one registry that any thread may borrow, each for a call or a batch of calls. Threads use the pool by reference, and a `static` may have one.
@@ -14,8 +23,11 @@ use std::time::Instant;
 /// A section or a [`PassiveRef`](crate::PassiveRef) on a lent CPU borrows the loan. As long as you keep it the CPU isn't returned, and other threads may
 /// wait for a CPU. To sleep, acquire a [`LocalRef`](crate::LocalRef), such as by [`Cpu::get_local`], and drop the loan.
 ///
+/// A thread needs one loan at a time. Name it by a `let`, and give it to each call: two loans in one expression need two CPUs, and where the pool has one
+/// the second would wait for the first for ever. [`lend`](CpuPool::lend) panics then.
+///
 /// ```
-/// use registry::{CpuPool, Kind, Name, Registry, Settings};
+/// use kupaldiz::{CpuPool, Kind, Name, Registry, Settings};
 /// use std::thread;
 ///
 /// let (registry, cpus) = Registry::open(Settings::new(2, 4)).unwrap();
@@ -34,8 +46,45 @@ use std::time::Instant;
 /// assert_eq!(pool.into_cpus().len(), 2);
 /// ```
 pub struct CpuPool<T> {
-    idle: Mutex<Vec<Cpu<T>>>,
+    state: Mutex<State<T>>,
     returned: Condvar,
+}
+
+struct State<T> {
+    idle: Vec<Cpu<T>>,
+    loans: Vec<Loan>,
+    /// Tasks that wait for a CPU: all are woken as one comes back.
+    wakers: Vec<Waker>,
+}
+
+/// A loan that isn't back. It stays on its thread.
+struct Loan {
+    cpu: u8,
+    thread: ThreadId,
+    place: &'static Location<'static>,
+}
+
+impl<T> State<T> {
+    /// A CPU for this thread, if one is there.
+    fn lend<'pool>(&mut self, pool: &'pool CpuPool<T>, place: &'static Location<'static>) -> Option<Lent<'pool, T>> {
+        let cpu = self.idle.pop()?;
+        self.loans.push(Loan {
+            cpu: cpu.id(),
+            thread: thread::current().id(),
+            place,
+        });
+        Some(Lent {
+            pool,
+            cpu: Some(cpu),
+            thread: PhantomData,
+        })
+    }
+
+    /// The first loan that this thread has.
+    fn of_this_thread(&self) -> Option<&Loan> {
+        let this = thread::current().id();
+        self.loans.iter().find(|loan| loan.thread == this)
+    }
 }
 
 impl<T> CpuPool<T> {
@@ -51,68 +100,170 @@ impl<T> CpuPool<T> {
             return Err(Refusal::OtherRegistry);
         }
         Ok(CpuPool {
-            idle: Mutex::new(cpus),
+            state: Mutex::new(State {
+                loans: Vec::with_capacity(cpus.len()),
+                wakers: Vec::new(),
+                idle: cpus,
+            }),
             returned: Condvar::new(),
         })
     }
 
     /// Lends a CPU. If all are lent, it waits until one comes back.
+    ///
+    /// # Panics
+    ///
+    /// If all are lent, and this thread has one of them: it would keep that while it waits. The text says where it was lent.
+    #[track_caller]
     pub fn lend(&self) -> Lent<'_, T> {
-        let mut idle = locked(&self.idle);
+        let place = Location::caller();
+        let mut state = self.state();
         loop {
-            match idle.pop() {
-                Some(cpu) => return self.lent(cpu),
-                None => idle = self.returned.wait(idle).unwrap_or_else(PoisonError::into_inner),
+            if let Some(lent) = state.lend(self, place) {
+                return lent;
             }
+            if let Some(&Loan { cpu, place, .. }) = state.of_this_thread() {
+                drop(state);
+                panic!("no CPU is idle, and this thread has CPU {cpu} of the pool since {place}");
+            }
+            state = self.returned.wait(state).unwrap_or_else(PoisonError::into_inner);
         }
     }
 
     /// Lends a CPU, if one is there.
+    #[track_caller]
     pub fn try_lend(&self) -> Option<Lent<'_, T>> {
-        let cpu = locked(&self.idle).pop()?;
-        Some(self.lent(cpu))
-    }
-
-    fn lent(&self, cpu: Cpu<T>) -> Lent<'_, T> {
-        let cpu = Some(cpu);
-        Lent { pool: self, cpu }
+        self.state().lend(self, Location::caller())
     }
 
     /// Lends a CPU. If all are lent, it waits until one comes back, or the time has come.
+    #[track_caller]
     pub fn lend_until(&self, deadline: Instant) -> Option<Lent<'_, T>> {
-        let mut idle = locked(&self.idle);
+        let place = Location::caller();
+        let mut state = self.state();
         loop {
-            if let Some(cpu) = idle.pop() {
-                return Some(self.lent(cpu));
+            if let Some(lent) = state.lend(self, place) {
+                return Some(lent);
             }
-            idle = self.wait_until(idle, deadline)?;
+            state = self.wait_until(state, deadline)?;
         }
     }
 
+    /// Lends a CPU for this call alone, as [`lend`](CpuPool::lend) does.
+    ///
+    /// ```
+    /// use kupaldiz::{CpuPool, Kind, Name, Registry, Settings};
+    ///
+    /// let (registry, cpus) = Registry::open(Settings::new(2, 4)).unwrap();
+    /// let pool = CpuPool::new(cpus).unwrap();
+    /// let wm = Name::parse("wm").unwrap();
+    /// pool.with(|cpu| registry.attach(cpu, &wm, 7)).unwrap();
+    /// assert_eq!(pool.with(|cpu| cpu.read(Kind::Driver, &wm).map(|driver| *driver)), Ok(7));
+    /// ```
+    ///
+    /// # Panics
+    ///
+    /// As for [`lend`](CpuPool::lend), or if the closure does.
+    #[track_caller]
+    pub fn with<R>(&self, deed: impl FnOnce(&Cpu<T>) -> R) -> R {
+        deed(&self.lend())
+    }
+
+    /// A local reference, as [`Cpu::get_local`] returns it, by a CPU that is lent for this call alone.
+    ///
+    /// ```
+    /// use kupaldiz::{CpuPool, Kind, Name, Registry, Settings};
+    ///
+    /// let (registry, cpus) = Registry::open(Settings::new(1, 4)).unwrap();
+    /// let wm = Name::parse("wm").unwrap();
+    /// registry.attach(&cpus[0], &wm, 7).unwrap();
+    /// let pool = CpuPool::new(cpus).unwrap();
+    /// let reference = pool.get_local(Kind::Driver, &wm).unwrap();
+    /// assert_eq!((*reference, pool.try_lend().is_some()), (7, true));
+    /// ```
+    ///
+    /// # Errors
+    ///
+    /// As for [`Cpu::get_local`].
+    ///
+    /// # Panics
+    ///
+    /// As for [`lend`](CpuPool::lend).
+    #[track_caller]
+    pub fn get_local(&self, kind: Kind, name: &Name) -> Result<LocalRef<T>, Refusal> {
+        self.lend().get_local(kind, name)
+    }
+
+    /// Lends a CPU, if one is there. Else the task is woken as one comes back. Another task may take that before: poll again.
+    #[track_caller]
+    pub fn poll_lend(&self, context: &mut Context<'_>) -> Poll<Lent<'_, T>> {
+        let mut state = self.state();
+        if let Some(lent) = state.lend(self, Location::caller()) {
+            return Poll::Ready(lent);
+        }
+        let waker = context.waker();
+        if !state.wakers.iter().any(|other| other.will_wake(waker)) {
+            state.wakers.push(waker.clone());
+        }
+        Poll::Pending
+    }
+
+    /// Lends a CPU to a task, which waits without occupying its thread. The loan stays on the thread that polls: release it before the next `.await`.
+    ///
+    /// ```
+    /// use kupaldiz::{CpuPool, Kind, LocalRef, Name, Registry, Settings};
+    ///
+    /// async fn local(pool: &CpuPool<u32>, wm: &Name) -> LocalRef<u32> {
+    ///     let reference = pool.lend_async().await.get_local(Kind::Driver, wm).unwrap();
+    ///     reference
+    /// }
+    /// ```
+    pub fn lend_async(&self) -> impl Future<Output = Lent<'_, T>> {
+        LendFuture { pool: self }
+    }
+
     /// Waits for a CPU to come back, for once; none where the time has come.
-    fn wait_until<'a>(&self, idle: MutexGuard<'a, Vec<Cpu<T>>>, deadline: Instant) -> Option<MutexGuard<'a, Vec<Cpu<T>>>> {
+    fn wait_until<'a>(&self, state: MutexGuard<'a, State<T>>, deadline: Instant) -> Option<MutexGuard<'a, State<T>>> {
         let left = deadline.checked_duration_since(Instant::now()).filter(|left| !left.is_zero())?;
-        let waited = self.returned.wait_timeout(idle, left);
+        let waited = self.returned.wait_timeout(state, left);
         Some(waited.unwrap_or_else(PoisonError::into_inner).0)
+    }
+
+    fn state(&self) -> MutexGuard<'_, State<T>> {
+        self.state.lock().unwrap_or_else(PoisonError::into_inner)
     }
 
     /// The CPUs, in any order, except for those whose loan was forgotten.
     #[must_use]
     pub fn into_cpus(self) -> Vec<Cpu<T>> {
-        self.idle.into_inner().unwrap_or_else(PoisonError::into_inner)
+        self.state.into_inner().unwrap_or_else(PoisonError::into_inner).idle
     }
 }
 
 impl<T> fmt::Debug for CpuPool<T> {
     fn fmt(&self, f: &mut fmt::Formatter<'_>) -> fmt::Result {
-        f.debug_struct("CpuPool").field("idle", &locked(&self.idle).len()).finish()
+        f.debug_struct("CpuPool").field("idle", &self.state().idle.len()).finish()
     }
 }
 
-/// A CPU that is lent. Dropping it returns the CPU, outside of any section. If it is forgotten, the CPU is lost to the pool and to its registry.
+/// A loan that is waited for.
+struct LendFuture<'pool, T> {
+    pool: &'pool CpuPool<T>,
+}
+
+impl<'pool, T> Future for LendFuture<'pool, T> {
+    type Output = Lent<'pool, T>;
+
+    fn poll(self: Pin<&mut Self>, context: &mut Context<'_>) -> Poll<Lent<'pool, T>> {
+        self.pool.poll_lend(context)
+    }
+}
+
+/// A CPU that is lent, for the thread that has borrowed it. Dropping it returns the CPU, outside of any section. If it is forgotten, the CPU is lost to the
+/// pool and to its registry.
 ///
 /// ```
-/// use registry::{CpuPool, Registry, Settings};
+/// use kupaldiz::{CpuPool, Registry, Settings};
 ///
 /// let (_, cpus) = Registry::<()>::open(Settings::new(1, 1)).unwrap();
 /// let pool = CpuPool::new(cpus).unwrap();
@@ -126,13 +277,15 @@ pub struct Lent<'pool, T> {
     pool: &'pool CpuPool<T>,
     /// There until it is dropped.
     cpu: Option<Cpu<T>>,
+    /// It stays on its thread, so that the pool knows which loans a thread has.
+    thread: PhantomData<*const ()>,
 }
 
 impl<T> Lent<'_, T> {
     /// Exits all sections that are still open, as [`Cpu::leave`] does: their guards were forgotten.
     ///
     /// ```
-    /// use registry::{CpuPool, Registry, Settings};
+    /// use kupaldiz::{CpuPool, Registry, Settings};
     ///
     /// let (_, cpus) = Registry::<()>::open(Settings::new(1, 1)).unwrap();
     /// let pool = CpuPool::new(cpus).unwrap();
@@ -167,7 +320,12 @@ impl<T> Drop for Lent<'_, T> {
     fn drop(&mut self) {
         if let Some(mut cpu) = self.cpu.take() {
             cpu.leave();
-            locked(&self.pool.idle).push(cpu);
+            let mut state = self.pool.state();
+            state.loans.retain(|loan| loan.cpu != cpu.id());
+            state.idle.push(cpu);
+            let wakers = mem::take(&mut state.wakers);
+            drop(state);
+            wakers.into_iter().for_each(Waker::wake);
             self.pool.returned.notify_one();
         }
     }

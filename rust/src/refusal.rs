@@ -2,15 +2,14 @@
 
 use crate::ffi;
 use crate::values::Holder;
-use core::fmt;
-#[cfg(feature = "std")]
 use std::error::Error;
+use std::fmt;
 
 /// The error that a call returns. A call that fails has changed nothing, unless it says so. Each call lists its errors in the order in which it tests
 /// them.
 ///
 /// ```
-/// use registry::{Refusal, Registry, Settings};
+/// use kupaldiz::{Refusal, Registry, Settings};
 ///
 /// let refusal = Registry::<()>::open(Settings::new(0, 1)).unwrap_err();
 /// assert_eq!((refusal, refusal.number()), (Refusal::BadSettings, 2));
@@ -37,8 +36,6 @@ pub enum Refusal {
     SectionsSpent,
     /// The CPU has as many passive references to the entry as it may.
     PassiveFull,
-    /// The reference is of another CPU. Only [`PassiveRef::into_rc`](crate::PassiveRef::into_rc) returns it.
-    WrongCpu,
     /// The CPU's net count of local references to the entry is at its limit.
     LocalFull,
     /// The CPUs aren't all CPUs of the registry, each once, or there is none.
@@ -53,12 +50,14 @@ pub enum Refusal {
     NeedsDriver,
     /// A CPU or a reference is of another registry.
     OtherRegistry,
+    /// The library is of another minor version than the crate, or from 1.0 on of another major one. It is this crate's own.
+    OtherVersion,
     /// The crate was compiled for other [limits](crate::LIMITS) than the library has.
     OtherLimits,
 }
 
 impl Refusal {
-    /// The number of the error in registry.h. It is 0 for `OtherRegistry`, which is this crate's own.
+    /// The number of the error in registry.h. It is 0 for `OtherRegistry` and `OtherVersion`, which are this crate's own.
     #[must_use]
     pub fn number(&self) -> u32 {
         match self {
@@ -71,14 +70,13 @@ impl Refusal {
             Refusal::Inside => ffi::INSIDE,
             Refusal::SectionsSpent => ffi::SECTIONS_SPENT,
             Refusal::PassiveFull => ffi::PASSIVE_FULL,
-            Refusal::WrongCpu => ffi::WRONG_CPU,
             Refusal::LocalFull => ffi::LOCAL_FULL,
             Refusal::MissingCpu => ffi::MISSING_CPU,
             Refusal::StillHeld(_) => ffi::STILL_HELD,
             Refusal::Waiting(_) => ffi::WAITING,
             Refusal::TooDeep => ffi::TOO_DEEP,
             Refusal::NeedsDriver => ffi::NEEDS_DRIVER,
-            Refusal::OtherRegistry => 0,
+            Refusal::OtherRegistry | Refusal::OtherVersion => 0,
             Refusal::OtherLimits => ffi::OTHER_LIMITS,
         }
     }
@@ -119,14 +117,16 @@ pub(crate) fn refusal_of(answer: u32) -> Refusal {
 /// What an answer says, in the archive's words.
 fn text(answer: u32) -> &'static str {
     // SAFETY: any number may be asked for, on any thread.
-    ffi::string(unsafe { ffi::registry_strerror(answer) })
+    let text = unsafe { ffi::registry_strerror(answer) };
+    // SAFETY: registry.h says of it that it is never NULL and never freed.
+    unsafe { ffi::string(text) }
 }
 
 impl fmt::Display for Refusal {
     fn fmt(&self, f: &mut fmt::Formatter<'_>) -> fmt::Result {
         match self {
-            Refusal::WrongCpu => f.write_str("the reference is of another CPU"),
             Refusal::OtherRegistry => f.write_str("a CPU or a reference is of another registry"),
+            Refusal::OtherVersion => f.write_str("the library is of another version than the crate"),
             Refusal::StillHeld(holder) => write!(f, "{}: {holder}", text(self.number())),
             Refusal::Waiting(cpu) => write!(f, "{}: cpu {cpu}", text(self.number())),
             _ => f.write_str(text(self.number())),
@@ -134,16 +134,15 @@ impl fmt::Display for Refusal {
     }
 }
 
-#[cfg(feature = "std")]
 impl Error for Refusal {}
 
 /// The error of a call that takes a value, together with that value, unchanged. It will have no other field, so a caller may take it apart.
 ///
 /// In a function that returns a [`Refusal`], `?` converts it, and drops what was given. If the error must be `Send` and `'static`, such as a boxed error,
-/// [`Refused::into_refusal`] converts it first.
+/// `Refusal::from` converts it first.
 ///
 /// ```
-/// use registry::{Cpu, Name, Refusal, Refused, Registry, Settings};
+/// use kupaldiz::{Cpu, Name, Refusal, Refused, Registry, Settings};
 /// use std::error::Error;
 /// use std::rc::Rc;
 ///
@@ -154,7 +153,7 @@ impl Error for Refusal {}
 /// assert_eq!((refusal, *given), (Refusal::NameTaken, 2));
 ///
 /// fn attach(registry: &Registry<Rc<u8>>, cpu: &Cpu<Rc<u8>>, name: &Name) -> Result<(), Box<dyn Error + Send + Sync>> {
-///     registry.attach(cpu, name, Rc::new(3)).map_err(Refused::into_refusal)?;
+///     registry.attach(cpu, name, Rc::new(3)).map_err(Refusal::from)?;
 ///     Ok(())
 /// }
 /// assert!(attach(&registry, &cpus[0], &wm).unwrap_err().is::<Refusal>());
@@ -165,14 +164,6 @@ pub struct Refused<G> {
     pub refusal: Refusal,
     /// What was given.
     pub given: G,
-}
-
-impl<G> Refused<G> {
-    /// The error alone. What was given is dropped.
-    #[must_use]
-    pub fn into_refusal(self) -> Refusal {
-        self.refusal
-    }
 }
 
 impl<G> fmt::Debug for Refused<G> {
@@ -187,7 +178,6 @@ impl<G> fmt::Display for Refused<G> {
     }
 }
 
-#[cfg(feature = "std")]
 impl<G> Error for Refused<G> {
     fn source(&self) -> Option<&(dyn Error + 'static)> {
         Some(&self.refusal)

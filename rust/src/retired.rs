@@ -1,26 +1,29 @@
 //! Entries that were detached and aren't freed yet.
 
-use crate::basket::BY_CHANGE;
 use crate::carried::{Carried, Plain};
 use crate::cpu::Cpu;
 use crate::patience::{Patience, Pauses};
-use crate::refusal::{Refusal, Refused};
+use crate::refusal::Refusal;
 use crate::registry::Registry;
 use crate::shared::Shared;
-use crate::values::{Entry, Freed, Met};
-use alloc::sync::Arc;
-use core::fmt;
-use core::mem::ManuallyDrop;
-use core::ptr;
+use crate::values::{Entry, Freed, Holder, Met};
+use std::error::Error;
+use std::fmt;
+use std::mem::ManuallyDrop;
+use std::ptr;
+use std::sync::Arc;
 
-/// An entry that was detached: [`Registry::detach`] returns it. Lookups that begin afterwards don't find it. It keeps its slot and its value until
-/// nothing holds it and it is freed. [`destroy`](Retired::destroy) waits for that, and [`advance`](Retired::advance) doesn't. Dropping it is the same as
-/// [`defer`](Retired::defer): later changes free it. That drop takes the interlock for a moment, and waits for no reader.
+/// An entry that was detached: [`Registry::detach`] returns it. Lookups that begin afterwards don't find it. It keeps its value until nothing holds it and
+/// it is freed. [`destroy`](Retired::destroy) waits for that, and [`advance`](Retired::advance) doesn't. Dropping it is the same as
+/// [`defer`](Retired::defer): it drops the value if nothing holds it, or leaves it to later calls. That waits for no reader.
+///
+/// As long as it exists its value waits for it. But it keeps no slot from others, as where it lies in a boxed error: an attach that needs the slot frees
+/// the entry, if nothing holds it.
 ///
 /// It co-owns its registry. It may be stored, and go to other threads.
 ///
 /// ```
-/// use registry::{Holder, Kind, Name, Refusal, Registry, Settings};
+/// use kupaldiz::{Holder, Kind, Name, Refusal, Registry, Settings};
 ///
 /// let (registry, cpus) = Registry::open(Settings::new(2, 4)).unwrap();
 /// let wm = Name::parse("wm").unwrap();
@@ -40,15 +43,17 @@ pub struct Retired<T> {
 }
 
 impl<T> Retired<T> {
-    /// The entry was just detached.
-    pub(crate) fn new(shared: Arc<Shared<T>>, carried: Carried<T>) -> Retired<T> {
+    /// # Safety
+    ///
+    /// The entry that carries this was just detached, and no other token is of it.
+    pub(crate) unsafe fn new(shared: Arc<Shared<T>>, carried: Carried<T>) -> Retired<T> {
         Retired { shared, carried }
     }
 
     #[inline]
     fn plain(&self) -> Plain {
-        // SAFETY: an attach noted the entry, under the interlock, before the detach. Only a turn by this token frees it, or one after this token has
-        // deferred it, and each of them is the token's end.
+        // SAFETY: an attach noted the entry, under the interlock, before the detach. Its value is taken by this token, or after this token has deferred
+        // it, and each of these is the token's end.
         unsafe { self.carried.plain() }
     }
 
@@ -72,7 +77,7 @@ impl<T> Retired<T> {
     /// `StillHeld` with the first thing that holds it. The `Retired` is returned.
     // Inlined, the token isn't moved: a turn that meets something takes a tenth less.
     #[inline(always)]
-    pub fn advance(self) -> Result<Freed<T>, Refused<Retired<T>>> {
+    pub fn advance(self) -> Result<Freed<T>, DestroyError<T>> {
         let (entry, mut kept) = (self.plain(), self.shared.kept());
         // SAFETY: no CPU is given.
         let met = unsafe { kept.turn(None, entry.number) };
@@ -88,12 +93,12 @@ impl<T> Retired<T> {
     /// Waits until nothing holds it, and frees it: `psref_target_destroy`, `localcount_drain`. What it carried is returned, and nothing holds it, now or
     /// later. The call tries again and again to free it, as long as the [`Patience`] says. After each try the CPU has seen every change so far.
     ///
-    /// If this CPU itself holds the entry, nothing can release it while this thread waits. The call then tries only once, with any patience. It can't see
-    /// what this thread holds otherwise: a local reference without a guard; on another CPU a section, a passive reference or a guard. With
+    /// If this CPU itself has a passive reference to the entry, nothing can release it while this thread waits. The call then tries only once, with any
+    /// patience. It can't see what this thread holds otherwise: a local reference; on another CPU a section or a passive reference. With
     /// [`Patience::Forever`] it waits for these for ever.
     ///
     /// ```
-    /// use registry::{Holder, Kind, Name, Patience, PassiveRef, Refusal, Registry, Settings};
+    /// use kupaldiz::{Holder, Kind, Name, Patience, PassiveRef, Refusal, Registry, Settings};
     ///
     /// let (registry, cpus) = Registry::open(Settings::new(2, 4)).unwrap();
     /// let wm = Name::parse("wm").unwrap();
@@ -108,9 +113,9 @@ impl<T> Retired<T> {
     ///
     /// # Errors
     ///
-    /// `OtherRegistry`, `Inside`, `StillHeld` with what this CPU itself holds the entry by, otherwise with what the last try met. The `Retired` is
+    /// `OtherRegistry`, `Inside`, `StillHeld` with this CPU's passive reference, otherwise with what the last try met. The `Retired` is
     /// returned.
-    pub fn destroy(self, cpu: &Cpu<T>, patience: Patience) -> Result<Freed<T>, Refused<Retired<T>>> {
+    pub fn destroy(self, cpu: &Cpu<T>, patience: Patience) -> Result<Freed<T>, DestroyError<T>> {
         let done = self.destroy_by(cpu, patience);
         self.after(done)
     }
@@ -124,49 +129,129 @@ impl<T> Retired<T> {
             // SAFETY: the CPU is this thread's and of this registry, and its handle isn't empty.
             let turned = unsafe { self.shared.turn(Some(cpu.handle()), entry) };
             let refusal = match turned.map_err(Met::refusal) {
-                Err(Refusal::StillHeld(holder)) => Refusal::StillHeld(cpu.holder_of(entry).unwrap_or(holder)),
+                Err(Refusal::StillHeld(_)) if cpu.holds(entry.number) => return Err(Refusal::StillHeld(Holder::Passive(cpu.id()))),
+                Err(refusal @ Refusal::StillHeld(_)) => refusal,
                 done => return done,
             };
-            if cpu.holder_of(entry).is_some() || !pauses.another() {
+            if !pauses.another() {
                 return Err(refusal);
             }
-            cpu.release_some(BY_CHANGE);
+            cpu.release_dropped();
+        }
+    }
+
+    /// Waits as [`destroy`](Retired::destroy) does, without a CPU: so another thread may use that meanwhile. After the call no CPU has seen more changes than
+    /// before.
+    ///
+    /// If this thread has a section open on any CPU, or any reference to the entry, [`Patience::Forever`] waits for ever.
+    ///
+    /// ```
+    /// use kupaldiz::{Kind, Name, Patience, Registry, Settings};
+    ///
+    /// let (registry, cpus) = Registry::open(Settings::new(2, 4)).unwrap();
+    /// let wm = Name::parse("wm").unwrap();
+    /// registry.attach(&cpus[0], &wm, 7).unwrap();
+    /// let retired = registry.detach(&cpus[0], Kind::Driver, &wm).unwrap();
+    /// drop(cpus);
+    /// assert_eq!(retired.wait(Patience::Forever).unwrap().value, 7);
+    /// ```
+    ///
+    /// # Errors
+    ///
+    /// `StillHeld` with what the last try met. The `Retired` is returned.
+    pub fn wait(mut self, patience: Patience) -> Result<Freed<T>, DestroyError<T>> {
+        let mut pauses = Pauses::new(patience);
+        loop {
+            match self.advance() {
+                Err(held) if pauses.another() => self = held.given,
+                done => return done,
+            }
         }
     }
 
     /// What a call returns that ended so.
     #[inline]
-    fn after(self, done: Result<Freed<T>, Refusal>) -> Result<Freed<T>, Refused<Retired<T>>> {
+    fn after(self, done: Result<Freed<T>, Refusal>) -> Result<Freed<T>, DestroyError<T>> {
         match done {
             Ok(freed) => {
                 self.spend();
                 Ok(freed)
             }
-            Err(refusal) => Err(Refused { refusal, given: self }),
+            Err(refusal) => Err(DestroyError { refusal, given: self }),
         }
     }
 
-    /// The token's end, where the entry is freed.
+    /// The token's end, where its value is taken or the entry deferred.
     fn spend(self) {
         let token = ManuallyDrop::new(self);
         // SAFETY: nobody drops the token, so this is the only share that is taken out of it.
         drop(unsafe { ptr::read(&token.shared) });
     }
 
-    /// Leaves it to later changes, as dropping it does. Each of them, and [`Registry::collect`], frees the entries that nothing holds any more, the
-    /// oldest first. A change drops what they carried, and `collect` returns it. The call takes the interlock for a moment.
+    /// Leaves it to later calls, as dropping it does. It makes one turn on each entry that was deferred, and drops what they carried that nothing holds
+    /// any more. Each later drop does the same, and [`Registry::retire`] and [`Registry::collect`] return it. A `T` is dropped after the interlock is
+    /// free, by this call: don't make it under a lock that the drop of a `T` takes.
     pub fn defer(self) {}
+
+    /// Defers it, and returns what is free.
+    pub(crate) fn deferred(self) -> Vec<Freed<T>> {
+        let freed = self.shared.defer(self.plain());
+        self.spend();
+        freed
+    }
 }
 
 impl<T> Drop for Retired<T> {
-    /// Defers it: a token whose entry is freed isn't dropped.
+    /// Defers it: a token whose value was taken isn't dropped.
     fn drop(&mut self) {
-        self.shared.defer(&mut self.shared.kept(), self.plain());
+        drop(self.shared.defer(self.plain()));
     }
 }
 
 impl<T> fmt::Debug for Retired<T> {
     fn fmt(&self, f: &mut fmt::Formatter<'_>) -> fmt::Result {
         f.debug_struct("Retired").field("entry", &self.entry()).finish_non_exhaustive()
+    }
+}
+
+/// The error of a try to free an entry, together with its [`Retired`]. Its text names the first thing that holds the entry, and in a registry that was
+/// opened by [`Registry::open_tracked`] each line that does. It will have no other field, so a caller may take it apart.
+///
+/// In a function that returns a [`Refusal`], `?` converts it, and drops the `Retired`.
+pub struct DestroyError<T> {
+    /// The error.
+    pub refusal: Refusal,
+    /// The entry, which isn't freed.
+    pub given: Retired<T>,
+}
+
+impl<T> fmt::Debug for DestroyError<T> {
+    fn fmt(&self, f: &mut fmt::Formatter<'_>) -> fmt::Result {
+        f.debug_struct("DestroyError")
+            .field("refusal", &self.refusal)
+            .finish_non_exhaustive()
+    }
+}
+
+impl<T> fmt::Display for DestroyError<T> {
+    fn fmt(&self, f: &mut fmt::Formatter<'_>) -> fmt::Result {
+        self.refusal.fmt(f)?;
+        match (self.refusal, self.given.shared.places()) {
+            (Refusal::StillHeld(_), Some(places)) => write!(f, "; {}", places.holders(&self.given.entry())),
+            _ => Ok(()),
+        }
+    }
+}
+
+impl<T> Error for DestroyError<T> {
+    fn source(&self) -> Option<&(dyn Error + 'static)> {
+        Some(&self.refusal)
+    }
+}
+
+impl<T> From<DestroyError<T>> for Refusal {
+    /// Drops the [`Retired`].
+    fn from(error: DestroyError<T>) -> Refusal {
+        error.refusal
     }
 }

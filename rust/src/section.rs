@@ -6,19 +6,21 @@ use crate::entries::Entries;
 use crate::ffi;
 use crate::local::LocalRef;
 use crate::passive::PassiveRef;
+use crate::places::Hold;
 use crate::refusal::{checked, Refusal};
 use crate::values::{Entry, Kind};
 use crate::Name;
-use core::fmt;
-use core::marker::PhantomData;
-use core::ops::Deref;
+use std::fmt;
+use std::marker::PhantomData;
+use std::ops::Deref;
+use std::panic::Location;
 
 /// An open section, or one nesting of it. An entry that is found in it keeps its slot and its value while it is open. Dropping it exits.
 ///
 /// It stays with its thread, so it isn't held across an `.await` of a future that may move to another.
 ///
 /// ```
-/// use registry::{Kind, Name, Registry, Settings};
+/// use kupaldiz::{Kind, Name, Registry, Settings};
 ///
 /// let (registry, cpus) = Registry::open(Settings::new(1, 2)).unwrap();
 /// let (wm, bge) = (Name::parse("wm").unwrap(), Name::parse("bge").unwrap());
@@ -37,8 +39,11 @@ pub struct Section<'cpu, T> {
 }
 
 impl<'cpu, T> Section<'cpu, T> {
+    /// # Safety
+    ///
+    /// An enter was made on this CPU for this guard.
     #[inline]
-    pub(crate) fn new(cpu: &'cpu Cpu<T>) -> Section<'cpu, T> {
+    pub(crate) unsafe fn new(cpu: &'cpu Cpu<T>) -> Section<'cpu, T> {
         Section { cpu }
     }
 
@@ -52,7 +57,9 @@ impl<'cpu, T> Section<'cpu, T> {
     #[inline]
     #[must_use]
     pub fn find(&self, kind: Kind, name: &Name) -> Option<Found<'_, 'cpu, T>> {
-        look_up(self.cpu, kind.number(), &name.words)
+        let record = look_up(self.cpu, kind.number(), &name.words)?;
+        // SAFETY: this section is open for as long as it is borrowed.
+        Some(unsafe { Found::new(self.cpu, record) })
     }
 
     /// All live entries, the newest first. It takes no lock, waits for no other thread, writes no word that other CPUs write, and allocates no memory.
@@ -62,7 +69,7 @@ impl<'cpu, T> Section<'cpu, T> {
     /// attached or detached during that time may be there or not. What was met can't be used past the section.
     ///
     /// ```
-    /// use registry::{Found, Name, Registry, Settings};
+    /// use kupaldiz::{Found, Name, Registry, Settings};
     ///
     /// let (registry, cpus) = Registry::open(Settings::new(1, 3)).unwrap();
     /// for (text, speed) in [("wm", 1000), ("bge", 100), ("ixl", 40_000)] {
@@ -77,7 +84,7 @@ impl<'cpu, T> Section<'cpu, T> {
     /// assert_eq!(*fast, 40_000);
     /// ```
     pub fn entries(&self) -> Entries<'_, 'cpu, T> {
-        Entries::walk(self.cpu)
+        Entries::walk(self)
     }
 
     /// The CPU that it is on.
@@ -91,14 +98,16 @@ impl<'cpu, T> Section<'cpu, T> {
     pub fn exit(self) {}
 }
 
-/// Looks a live entry up on the CPU, which is inside a section for as long as what is found lives. That is the CPU's last found entry then.
+/// Looks a live entry up on the CPU, which is inside a section. It is the CPU's last found entry then.
 #[inline]
-fn look_up<'section, 'cpu, T>(cpu: &'cpu Cpu<T>, kind: u64, name: &ffi::Name) -> Option<Found<'section, 'cpu, T>> {
+fn look_up<T>(cpu: &Cpu<T>, kind: u64, name: &ffi::Name) -> Option<Record<T>> {
     // SAFETY: this thread alone has the CPU, whose handle isn't empty.
-    match Record::written(|found| unsafe { ffi::registry_find(cpu.handle(), kind, name, found) }) {
+    let call = |found: *mut ffi::Entry| unsafe { ffi::registry_find(cpu.handle(), kind, name, found) };
+    // SAFETY: registry.h says of a find that it writes the entry.
+    match unsafe { Record::written(call) } {
         Ok(record) => {
             cpu.last.set(record.number());
-            Some(Found::new(cpu, record))
+            Some(record)
         }
         Err(answer) => {
             assert_eq!(answer, ffi::NOT_FOUND, "a lookup in a section");
@@ -113,6 +122,7 @@ impl<T> Drop for Section<'_, T> {
     fn drop(&mut self) {
         // SAFETY: as for `find`. One exit for the one enter that made the guard, so the CPU is inside.
         unsafe { ffi::registry_exit(self.cpu.handle()) };
+        self.cpu.left();
     }
 }
 
@@ -128,7 +138,7 @@ impl<T> fmt::Debug for Section<'_, T> {
 /// All its functions are called by the type's name, so that none hides a method of `T`.
 ///
 /// ```
-/// use registry::{Found, Kind, Name, Registry, Settings};
+/// use kupaldiz::{Found, Kind, Name, Registry, Settings};
 ///
 /// let (registry, cpus) = Registry::open(Settings::new(1, 1)).unwrap();
 /// let wm = Name::parse("wm").unwrap();
@@ -148,9 +158,11 @@ pub struct Found<'section, 'cpu, T> {
 }
 
 impl<'section, 'cpu, T> Found<'section, 'cpu, T> {
-    /// The CPU is inside a section for as long as it lives, in which it found the entry.
+    /// # Safety
+    ///
+    /// The CPU found the entry in a section, or an outer one, that is open for as long as the value lives.
     #[inline]
-    pub(crate) fn new(cpu: &'cpu Cpu<T>, record: Record<T>) -> Self {
+    pub(crate) unsafe fn new(cpu: &'cpu Cpu<T>, record: Record<T>) -> Self {
         Found {
             record,
             cpu,
@@ -182,16 +194,13 @@ impl<'section, 'cpu, T> Found<'section, 'cpu, T> {
     ///
     /// `NotFound` if this CPU has looked up something else since and the entry was detached, `PassiveFull`.
     #[inline]
+    #[track_caller]
     pub fn acquire(found: &Self) -> Result<PassiveRef<'cpu, T>, Refusal> {
-        if found.is_last() {
-            let mut number = 0;
-            // SAFETY: this thread alone has the CPU, whose handle isn't empty.
-            checked(unsafe { ffi::registry_acquire(found.cpu.handle(), &mut number) })?;
-            debug_assert_eq!(number, found.record.number(), "the last found entry");
-        } else {
+        if !found.is_last() || !acquire_last(found.cpu, found.record.number()) {
             acquire_again(found.cpu, found.record)?;
         }
-        Ok(PassiveRef::new(found.cpu, found.record))
+        // SAFETY: it was acquired above.
+        Ok(unsafe { PassiveRef::new(found.cpu, found.cpu.noted(Hold::Passive, found.record, Location::caller())) })
     }
 
     /// Acquires a local reference: `localcount_acquire`. The entry keeps its slot until the reference is released, on any CPU of the registry. The call
@@ -204,19 +213,21 @@ impl<'section, 'cpu, T> Found<'section, 'cpu, T> {
     /// `NotFound` if this CPU has looked up something else since and the entry was detached, `LocalFull`, `NoMemory`.
     // Inlined, the reference is never moved as a whole.
     #[inline(always)]
+    #[track_caller]
     pub fn acquire_local(found: &Self) -> Result<LocalRef<T>, Refusal> {
-        if !found.is_last() {
-            find_again(found.cpu, found.record)?;
-        }
-        found.cpu.before_acquire();
-        let mut local = ffi::Local::EMPTY;
-        // SAFETY: as for `acquire`, and the local handle is empty.
-        let answer = unsafe { ffi::registry_local_acquire(found.cpu.handle(), &mut local) };
-        if answer != ffi::DONE {
-            local = make_room(found.cpu, found.record, answer)?;
-        }
-        debug_assert_eq!(number_of(&mut local), found.record.number(), "the last found entry");
-        Ok(LocalRef::new(found.cpu.share(), found.record, local))
+        found.cpu.release_to(found.record.slot());
+        let local = match acquire_local_last(found) {
+            Some(local) => local,
+            None => acquire_local_again(found.cpu, found.record)?,
+        };
+        // SAFETY: it was acquired above.
+        Ok(unsafe {
+            LocalRef::new(
+                found.cpu.share(),
+                found.cpu.noted(Hold::Local, found.record, Location::caller()),
+                local,
+            )
+        })
     }
 
     /// The CPU's last found entry is this one.
@@ -224,6 +235,48 @@ impl<'section, 'cpu, T> Found<'section, 'cpu, T> {
     fn is_last(&self) -> bool {
         self.cpu.last.get() == self.record.number()
     }
+}
+
+/// Acquires a passive reference to the CPU's last found entry, if that is the one with this number. What the crate notes of the last found entry isn't
+/// relied on: the archive says which entry it was.
+#[inline]
+fn acquire_last<T>(cpu: &Cpu<T>, number: u64) -> bool {
+    let mut acquired = 0;
+    // SAFETY: this thread alone has the CPU, whose handle isn't empty.
+    let answer = unsafe { ffi::registry_acquire(cpu.handle(), &mut acquired) };
+    if answer == ffi::DONE && acquired != number {
+        // SAFETY: as above. It is the reference that was just acquired.
+        unsafe { ffi::registry_release(cpu.handle(), acquired) };
+    }
+    answer == ffi::DONE && acquired == number
+}
+
+/// The same for a local reference.
+#[inline]
+fn acquire_local_last<T>(found: &Found<'_, '_, T>) -> Option<ffi::Local> {
+    if !found.is_last() {
+        return None;
+    }
+    let mut local = ffi::Local::EMPTY;
+    // SAFETY: as for `acquire_last`, and the local handle is empty.
+    let answer = unsafe { ffi::registry_local_acquire(found.cpu.handle(), &mut local) };
+    (answer == ffi::DONE)
+        .then(|| of_entry(found.cpu, found.record.number(), local))
+        .flatten()
+}
+
+/// The local reference, which was just acquired on this CPU, if it is to the entry with this number. Another one is released.
+#[inline]
+fn of_entry<T>(cpu: &Cpu<T>, number: u64, mut local: ffi::Local) -> Option<ffi::Local> {
+    let mut entry = ffi::Entry::default();
+    // SAFETY: this is the only use of the reference's handle.
+    unsafe { ffi::registry_local_read(&mut local, &mut entry) };
+    if entry.number == number {
+        return Some(local);
+    }
+    // SAFETY: this thread alone has the CPU, the reference is of its registry, and no code of a caller holds the interlock.
+    unsafe { cpu.shared().release_local(cpu.handle(), entry.slot as usize, local) };
+    None
 }
 
 // What follows is seldom done. It takes its record by value, so that the record of a `Found` needn't lie in memory.
@@ -238,7 +291,7 @@ fn acquire_again<T>(cpu: &Cpu<T>, record: Record<T>) -> Result<(), Refusal> {
             let mut number = 0;
             // SAFETY: as above.
             checked(unsafe { ffi::registry_acquire(cpu.handle(), &mut number) })?;
-            debug_assert_eq!(number, record.number(), "the last found entry");
+            assert_eq!(number, record.number(), "the archive's last found entry");
             Ok(())
         }
         answer => checked(answer),
@@ -249,33 +302,35 @@ fn acquire_again<T>(cpu: &Cpu<T>, record: Record<T>) -> Result<(), Refusal> {
 #[cold]
 fn find_again<T>(cpu: &Cpu<T>, record: Record<T>) -> Result<(), Refusal> {
     let (kind, name) = record.key();
-    let again = look_up(cpu, kind, name).map(|found: Found<'_, '_, T>| found.record.number());
-    if again == Some(record.number()) {
-        Ok(())
-    } else {
-        Err(Refusal::NotFound)
+    match look_up::<T>(cpu, kind, name) {
+        Some(again) if again.number() == record.number() => Ok(()),
+        _ => Err(Refusal::NotFound),
     }
 }
 
-/// Acquires a local reference where that was refused: a full count is lowered by references to the entry that were dropped.
+/// Acquires a local reference where the last found entry was another one or the acquire failed.
 #[cold]
-fn make_room<T>(cpu: &Cpu<T>, record: Record<T>, refused: u32) -> Result<ffi::Local, Refusal> {
-    let mut local = ffi::Local::EMPTY;
-    let mut answer = refused;
-    while answer == ffi::LOCAL_FULL && cpu.release_one_to(record.slot()) {
-        // SAFETY: this thread alone has the CPU, whose handle isn't empty, and the local handle is empty.
-        answer = unsafe { ffi::registry_local_acquire(cpu.handle(), &mut local) };
+fn acquire_local_again<T>(cpu: &Cpu<T>, record: Record<T>) -> Result<ffi::Local, Refusal> {
+    let mut is_sought = cpu.last.get() != record.number();
+    if is_sought {
+        find_again(cpu, record)?;
     }
-    checked(answer)?;
-    Ok(local)
-}
-
-/// The number of the entry that a reference is to, as the archive says.
-fn number_of(local: &mut ffi::Local) -> u64 {
-    let mut entry = ffi::Entry::default();
-    // SAFETY: this is the only use of the reference's handle.
-    unsafe { ffi::registry_local_read(local, &mut entry) };
-    entry.number
+    loop {
+        let mut local = ffi::Local::EMPTY;
+        // SAFETY: this thread alone has the CPU, whose handle isn't empty, and the local handle is empty.
+        match unsafe { ffi::registry_local_acquire(cpu.handle(), &mut local) } {
+            ffi::DONE => {
+                if let Some(local) = of_entry(cpu, record.number(), local) {
+                    return Ok(local);
+                }
+            }
+            ffi::NOTHING_FOUND => {}
+            answer => checked(answer)?,
+        }
+        assert!(!is_sought, "the archive's last found entry");
+        find_again(cpu, record)?;
+        is_sought = true;
+    }
 }
 
 impl<T> Deref for Found<'_, '_, T> {
@@ -299,5 +354,37 @@ impl<T: fmt::Debug> fmt::Debug for Found<'_, '_, T> {
             .field("entry", &self.record)
             .field("value", &**self)
             .finish()
+    }
+}
+
+#[cfg(test)]
+mod tests {
+    use super::Found;
+    use crate::{Kind, Name, Registry, Settings};
+
+    /// The crate's note of the last found entry is a hint: where it is wrong, the entry that is meant is acquired all the same.
+    #[test]
+    fn a_wrong_note_misleads_nobody() {
+        let (registry, cpus) = Registry::open(Settings::new(2, 4)).unwrap();
+        let [wm, vga, pci] = ["wm", "vga", "pci"].map(Name::from_static);
+        registry.attach(&cpus[0], &wm, 7).unwrap();
+        registry.attach(&cpus[0], &vga, 8).unwrap();
+        let section = cpus[0].enter().unwrap();
+        let found = section.find(Kind::Driver, &wm).unwrap();
+        for other in [&vga, &pci] {
+            let mislead = || {
+                let _last = section.find(Kind::Driver, other);
+                cpus[0].last.set(found.record.number());
+            };
+            mislead();
+            let passive = Found::acquire(&found).unwrap();
+            assert!(*passive == 7 && cpus[0].holds(1) && !cpus[0].holds(2));
+            drop(passive);
+            assert!(!cpus[0].holds(1));
+            mislead();
+            let local = Found::acquire_local(&found).unwrap();
+            let held: Vec<i64> = registry.audit(&cpus).unwrap().iter().map(|one| one.held).collect();
+            assert_eq!((*local, held), (7, vec![1, 0]));
+        }
     }
 }

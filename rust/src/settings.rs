@@ -5,7 +5,7 @@ use crate::ffi;
 /// The size of a registry, and the limits of its counts. Each method sets one limit and returns the settings.
 ///
 /// ```
-/// use registry::{Registry, Settings};
+/// use kupaldiz::{Registry, Settings};
 ///
 /// let settings = Settings::new(2, 4).changes(100);
 /// let (registry, cpus) = Registry::<()>::open(settings).unwrap();
@@ -30,10 +30,10 @@ pub struct Settings {
 
 /// Says one limit.
 macro_rules! limit {
-    ($(#[$doc:meta])* $name:ident) => {
+    ($(#[$doc:meta])* $name:ident: $type:ty) => {
         $(#[$doc])*
         #[must_use]
-        pub const fn $name(self, most: u64) -> Settings {
+        pub const fn $name(self, most: $type) -> Settings {
             Settings { $name: most, ..self }
         }
     };
@@ -53,21 +53,42 @@ impl Settings {
         }
     }
 
+    /// The largest registry, as [`Settings::default`] has it, for the methods that follow: so no two numbers are swapped.
+    ///
+    /// ```
+    /// use kupaldiz::Settings;
+    ///
+    /// const SETTINGS: Settings = Settings::builder().cpus(2).slots(4).changes(100);
+    /// assert_eq!(SETTINGS, Settings::new(2, 4).changes(100));
+    /// ```
+    #[must_use]
+    pub const fn builder() -> Settings {
+        Settings::new(ffi::MOST_CPUS as u8, ffi::MOST_SLOTS as u8)
+    }
+
+    limit! {
+        /// This many CPUs.
+        cpus: u8
+    }
+    limit! {
+        /// This many slots.
+        slots: u8
+    }
     limit! {
         /// At most this many attaches and detaches in all.
-        changes
+        changes: u64
     }
     limit! {
         /// At most this many outermost sections of each CPU.
-        sections
+        sections: u64
     }
     limit! {
         /// At most this many passive references of each CPU to an entry.
-        passives
+        passives: u64
     }
     limit! {
         /// At most this net count of each CPU's local references to an entry.
-        locals
+        locals: u64
     }
 
     pub(crate) fn to_c(self) -> ffi::Settings {
@@ -85,6 +106,6 @@ impl Settings {
 impl Default for Settings {
     /// The largest registry: all [limits](crate::LIMITS) as far as they go.
     fn default() -> Settings {
-        Settings::new(ffi::MOST_CPUS as u8, ffi::MOST_SLOTS as u8)
+        Settings::builder()
     }
 }

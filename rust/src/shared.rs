@@ -2,18 +2,20 @@
 //!
 //! Locks are taken in the order spare, interlock, basket; no code of a caller runs under one, so no `Drop` of a `T` does.
 
-use crate::basket::{Baskets, BY_RELEASE, BY_TURN};
+use crate::basket::Baskets;
 use crate::carried::{Carried, Plain};
 use crate::ffi;
-use crate::limits::LIMITS;
-use crate::lock::{locked, locked_mut, try_locked, Mutex, MutexGuard};
+use crate::limits::{check_version, version, LIMITS};
+use crate::lock::{locked, locked_mut, Mutex, MutexGuard};
+use crate::places::Places;
 use crate::refusal::{checked, Refusal};
 use crate::settings::Settings;
 use crate::values::{Freed, Met};
-use alloc::sync::Arc;
-use alloc::vec::Vec;
-use core::mem;
-use core::sync::atomic::{AtomicUsize, Ordering};
+use std::cmp::Reverse;
+use std::mem;
+use std::sync::atomic::{AtomicUsize, Ordering};
+use std::sync::Arc;
+use std::vec::Vec;
 
 /// A place for each CPU, all of them empty.
 pub const NO_CPUS: [ffi::Cpu; ffi::MOST_CPUS] = [ffi::Cpu::EMPTY; ffi::MOST_CPUS];
@@ -21,21 +23,45 @@ pub const NO_CPUS: [ffi::Cpu; ffi::MOST_CPUS] = [ffi::Cpu::EMPTY; ffi::MOST_CPUS
 /// What the interlock guards.
 pub struct Kept<T> {
     pub keeper: ffi::Keeper,
-    /// The number of each live or retired entry, and what it carries. Its row goes as its slot is freed.
-    rows: Vec<(u64, Carried<T>)>,
+    /// Each live or retired entry, and each freed one whose value its token hasn't taken yet.
+    rows: Vec<Row<T>>,
     /// The entries that are to be freed as soon as nobody holds them, the oldest first.
     deferred: Vec<Plain>,
+    /// How many attaches and detaches there were.
+    changes: u64,
+    /// What an attach freed of these, as it needed a slot. No more than there are slots: each entry that is deferred later takes all out.
+    freed: Vec<Freed<T>>,
+}
+
+/// An entry, by its number.
+struct Row<T> {
+    number: u64,
+    carried: Carried<T>,
+    state: State,
+}
+
+#[derive(Clone, Copy, PartialEq, Eq)]
+enum State {
+    Live,
+    /// It has a token.
+    Retired,
+    /// It has none: later calls free it.
+    Deferred,
+    /// Another call than its token's has freed it. The token takes its value.
+    Freed,
 }
 
 /// One registry. Its handles own it together: it is closed as the last of them goes.
 pub struct Shared<T> {
     /// The interlock.
     kept: Mutex<Kept<T>>,
-    /// How many entries are deferred, or a little while ago.
-    deferred: AtomicUsize,
+    /// How many entries are deferred, or were freed and wait for a call that returns them; or a little while ago.
+    waiting: AtomicUsize,
     /// The handle of each CPU that nobody has; the others are empty.
     spare: Mutex<[ffi::Cpu; ffi::MOST_CPUS]>,
     baskets: Baskets,
+    /// Who holds what, if that is noted.
+    places: Option<Places>,
     settings: Settings,
 }
 
@@ -44,8 +70,6 @@ pub struct Shared<T> {
 #[repr(align(128))]
 pub struct Lease<T> {
     pub shared: Arc<Shared<T>>,
-    /// The CPU.
-    pub id: u8,
 }
 
 impl<T> Kept<T> {
@@ -57,7 +81,52 @@ impl<T> Kept<T> {
     pub unsafe fn note(&mut self, entry: Plain, carried: Carried<T>) {
         // SAFETY: as the caller says.
         unsafe { carried.note(entry) };
-        self.rows.push((entry.number, carried));
+        self.changes = entry.number;
+        self.rows.push(Row {
+            number: entry.number,
+            carried,
+            state: State::Live,
+        });
+    }
+
+    /// The row of an entry that isn't freed, or whose token is there.
+    fn row(&mut self, number: u64) -> Option<&mut Row<T>> {
+        self.rows.iter_mut().find(|row| row.number == number)
+    }
+
+    /// The live entry with this number, as it was attached.
+    pub fn live(&mut self, number: u64) -> Option<Plain> {
+        let row = self.row(number).filter(|row| row.state == State::Live)?;
+        // SAFETY: the interlock is held, and an attach noted the entry under it. Its value is taken once it is freed.
+        Some(unsafe { row.carried.plain() })
+    }
+
+    /// All live entries, the youngest first: an interface comes before its driver.
+    pub fn all_live(&self) -> Vec<Plain> {
+        let live = self.rows.iter().filter(|row| row.state == State::Live);
+        // SAFETY: as for `live`.
+        let mut entries: Vec<Plain> = live.map(|row| unsafe { row.carried.plain() }).collect();
+        entries.sort_by_key(|entry| Reverse(entry.number));
+        entries
+    }
+
+    /// Whether an entry can be attached after a detach.
+    pub fn check_room(&self, settings: &Settings) -> Result<(), Refusal> {
+        let taken = self.rows.iter().filter(|row| row.state != State::Freed).count();
+        let live = self.rows.iter().filter(|row| row.state == State::Live).count();
+        if taken >= usize::from(settings.slots) {
+            Err(Refusal::NoSlot)
+        } else if settings.changes - self.changes < live as u64 + 2 {
+            Err(Refusal::HistoryFull)
+        } else {
+            Ok(())
+        }
+    }
+
+    /// The entry was detached, and has a token.
+    pub fn retire(&mut self, number: u64) {
+        self.changes += 1;
+        self.row(number).expect("a row of each entry").state = State::Retired;
     }
 
     /// One turn of C on the retired entry with this number. With a CPU it is a turn of a destroy, which the CPU hears.
@@ -77,14 +146,14 @@ impl<T> Kept<T> {
         Met { answer, stage }
     }
 
-    /// Takes the row of an entry out.
+    /// Takes the row of an entry out, if it is there.
     ///
     /// # Safety
     ///
-    /// The turn just made has freed the entry with this number.
-    unsafe fn take(&mut self, number: u64) -> Freed<T> {
-        let place = self.rows.iter().position(|row| row.0 == number);
-        let (_, carried) = self.rows.swap_remove(place.expect("a row of each entry that isn't freed"));
+    /// A turn has freed the entry with this number, and the caller has its token, if it has one.
+    unsafe fn take(&mut self, number: u64) -> Option<Freed<T>> {
+        let place = self.rows.iter().position(|row| row.number == number)?;
+        let carried = self.rows.swap_remove(place).carried;
         self.deferred.retain(|other| other.number != number);
         // SAFETY: the interlock is held, and an attach noted the entry under it. The value is taken below.
         let entry = unsafe { carried.plain() }.entry();
@@ -93,13 +162,32 @@ impl<T> Kept<T> {
         // reference to it is held, and no slot keeps it". Each reference of Rust to the value lives as long as one of these. The number is never
         // reused, and its row is gone, so this is the only time.
         let value = unsafe { carried.take() };
-        Freed { entry, value }
+        Some(Freed { entry, value })
+    }
+
+    /// One turn on a retired entry, whoever has its token. What it frees is kept for the token, or for the next call that returns what is freed. Whether
+    /// it freed it.
+    fn work_on(&mut self, number: u64) -> bool {
+        // SAFETY: no CPU is given.
+        let is_freed = unsafe { self.turn(None, number) }.is_freed();
+        if let (true, Some(row)) = (is_freed, self.row(number)) {
+            if row.state == State::Retired {
+                row.state = State::Freed;
+            } else {
+                // SAFETY: the turn has freed it, and it has no token.
+                let freed = unsafe { self.take(number) };
+                self.freed.extend(freed);
+            }
+        }
+        is_freed
     }
 }
 
 impl<T> Shared<T> {
-    /// A new registry. Nobody has any of its CPUs. Refused: `OtherLimits`, `BadSettings`, `NoMemory`.
-    pub fn open(settings: Settings) -> Result<Shared<T>, Refusal> {
+    /// A new registry. Nobody has any of its CPUs. Refused: `OtherVersion`, `OtherLimits`, `BadSettings`,
+    /// `NoMemory`.
+    pub fn open(settings: Settings, places: Option<Places>) -> Result<Shared<T>, Refusal> {
+        check_version(version())?;
         checked(LIMITS.compared())?;
         let mut keeper = ffi::Keeper::EMPTY;
         let mut cpus = NO_CPUS;
@@ -112,16 +200,37 @@ impl<T> Shared<T> {
                 keeper,
                 rows: Vec::with_capacity(ffi::MOST_SLOTS),
                 deferred: Vec::with_capacity(ffi::MOST_SLOTS),
+                changes: 0,
+                freed: Vec::new(),
             }),
-            deferred: AtomicUsize::new(0),
+            waiting: AtomicUsize::new(0),
             spare: Mutex::new(cpus),
             baskets: Baskets::default(),
+            places,
             settings,
         })
     }
 
     pub fn settings(&self) -> Settings {
         self.settings
+    }
+
+    pub fn places(&self) -> Option<&Places> {
+        self.places.as_ref()
+    }
+
+    /// A reference whose place is noted by this ticket is released.
+    #[cold]
+    pub fn released(&self, ticket: u32) {
+        if let Some(places) = &self.places {
+            places.released(ticket);
+        }
+    }
+
+    fn note_freed(&self, number: u64) {
+        if let Some(places) = &self.places {
+            places.freed(number);
+        }
     }
 
     /// What the interlock guards, for whoever asks first.
@@ -138,7 +247,11 @@ impl<T> Shared<T> {
     }
 
     /// Puts the handle of a CPU back.
-    pub fn put_cpu(&self, id: u8, cpu: ffi::Cpu) {
+    ///
+    /// # Safety
+    ///
+    /// It is of the CPU with this number, of this registry, and its caller has no more of it.
+    pub unsafe fn put_cpu(&self, id: u8, cpu: ffi::Cpu) {
         locked(&self.spare)[usize::from(id)] = cpu;
     }
 }
@@ -162,18 +275,18 @@ impl<T> Shared<T> {
         Err(met)
     }
 
-    /// Whether more is to be done in the same turn: it freed the entry, or met local references where some were dropped.
+    /// Whether more is to be done in the same turn: the entry is freed, or it met local references where some were dropped.
     #[inline]
     pub(crate) fn goes_on(&self, met: Met) -> bool {
-        met.is_freed() || met.locals().is_some() && self.baskets.total() > 0
+        met.is_gone() || met.locals().is_some() && self.baskets.has_any()
     }
 
     /// Goes on with a turn. Apart, and all of it in registers: most turns of whoever waits end before, and the lock waits for what they store.
     ///
     /// # Safety
     ///
-    /// As of `Kept::turn`, which was just made under this lock, on the same CPU or on none, for this entry: it met so many local references, or freed
-    /// the entry.
+    /// As of `Kept::turn`, which was just made under this lock, on the same CPU or on none, for this entry: it met so many local references, or the
+    /// entry is freed. The caller has its token, if it has one.
     #[inline(never)]
     pub(crate) unsafe fn go_on(
         &self,
@@ -189,46 +302,75 @@ impl<T> Shared<T> {
             }
             // SAFETY: the caller upholds the contract for the CPU.
             let met = unsafe { kept.turn(cpu, number) };
-            if !met.is_freed() {
+            if !met.is_gone() {
                 return Err(met);
             }
         }
-        // SAFETY: the last turn freed it.
+        // SAFETY: the last turn freed it, or one before that.
         let taken = unsafe { kept.take(number) };
-        self.deferred.store(kept.deferred.len(), Ordering::Relaxed);
-        Ok(taken)
+        self.note_waiting(&kept);
+        self.note_freed(number);
+        // Only a deferred entry may have no row: another thread has freed and returned it.
+        taken.ok_or(Met::NOTHING)
     }
 
-    /// Leaves a retired entry to later changes, as the youngest.
-    pub fn defer(&self, kept: &mut Kept<T>, entry: Plain) {
+    fn note_waiting(&self, kept: &Kept<T>) {
+        self.waiting.store(kept.deferred.len() + kept.freed.len(), Ordering::Relaxed);
+    }
+
+    /// Takes a retired entry over from its token, as the youngest of those that are deferred, and frees what nobody holds.
+    pub fn defer(&self, entry: Plain) -> Vec<Freed<T>> {
+        let mut kept = self.kept();
+        if let Some(row) = kept.row(entry.number) {
+            row.state = State::Deferred;
+        }
         kept.deferred.push(entry);
-        self.deferred.store(kept.deferred.len(), Ordering::Relaxed);
-    }
-
-    /// Whether no dropped reference is to be released, and no entry deferred.
-    pub fn is_tidy(&self) -> bool {
-        self.baskets.total() == 0 && self.deferred() == 0
+        self.note_waiting(&kept);
+        drop(kept);
+        self.collect()
     }
 
     /// How many entries are deferred.
     pub fn deferred(&self) -> usize {
-        self.deferred.load(Ordering::Relaxed)
+        self.kept().deferred.len()
     }
 
     /// One turn for each deferred entry, the oldest first, and what they freed. The interlock is let go after each.
     pub fn collect(&self) -> Vec<Freed<T>> {
-        let mut freed = Vec::new();
-        if self.deferred() == 0 {
-            return freed;
+        if self.waiting.load(Ordering::Relaxed) == 0 {
+            return Vec::new();
         }
-        let entries = self.kept().deferred.clone();
+        let mut kept = self.kept();
+        let (mut freed, entries) = (mem::take(&mut kept.freed), kept.deferred.clone());
+        self.note_waiting(&kept);
+        drop(kept);
         for entry in entries {
-            // SAFETY: no CPU is given. Where another thread has freed the entry meanwhile, there is no turn.
-            if let Ok(one) = unsafe { self.turn(None, entry) } {
-                freed.push(one);
-            }
+            // SAFETY: no CPU is given.
+            freed.extend(unsafe { self.turn(None, entry) });
         }
         freed
+    }
+
+    /// One turn for each retired entry, also one that has a token. Whether any slot is vacant by that.
+    #[cold]
+    pub fn make_room(&self) -> bool {
+        let mut numbers: Vec<u64> = {
+            let kept = self.kept();
+            let retired = kept.rows.iter().filter(|row| matches!(row.state, State::Retired | State::Deferred));
+            retired.map(|row| row.number).collect()
+        };
+        // An interface goes before its driver, which is older.
+        numbers.sort_unstable_by_key(|number| Reverse(*number));
+        let mut has_room = false;
+        for number in numbers {
+            let mut kept = self.kept();
+            if kept.work_on(number) {
+                has_room = true;
+                self.note_waiting(&kept);
+                self.note_freed(number);
+            }
+        }
+        has_room
     }
 }
 
@@ -238,119 +380,62 @@ impl<T> Shared<T> {
         &self.baskets
     }
 
-    /// Takes a reference over that this CPU acquired. Where its basket is heavy, and there is a CPU that nobody has, that one lightens it.
-    pub fn drop_local(&self, cpu: u8, slot: usize, local: ffi::Local) {
-        self.baskets.lay(cpu, slot, local);
-        if !self.baskets.is_heavy(cpu) {
-            return;
-        }
-        if let Some(mut spare) = try_locked(&self.spare) {
-            if let Some(handle) = spare.iter_mut().find(|handle| !handle.is_empty()) {
-                // SAFETY: nobody has this CPU, and nobody gets it before the lock is let go. This thread holds no interlock: no handle is
-                // dropped under it.
-                unsafe { self.release_of(handle, cpu, BY_RELEASE) };
-            }
-        }
-    }
-
-    /// Releases a reference, which the CPU with this number acquired, on a CPU, or under the interlock where that CPU's count was collected.
+    /// Releases a reference to the entry in this slot on a CPU, or under the interlock where that CPU's count was collected.
     ///
     /// # Safety
     ///
     /// The handle is of a CPU of this registry, which this thread runs on, and not in use; the reference is of this registry; the caller
     /// doesn't hold the interlock.
     #[inline]
-    pub unsafe fn release_local(&self, handle: *mut ffi::Cpu, of: u8, slot: usize, mut local: ffi::Local) {
+    pub unsafe fn release_local(&self, handle: *mut ffi::Cpu, slot: usize, mut local: ffi::Local) {
         // SAFETY: the caller upholds the contract for both handles.
         if unsafe { ffi::registry_local_release(handle, &mut local) } != ffi::DONE {
             // SAFETY: the keeper is locked, and of the reference's registry.
             unsafe { ffi::registry_local_give_up(&mut self.kept().keeper, &mut local) };
         }
         if !local.is_empty() {
-            self.baskets.lay(of, slot, local);
+            self.baskets.lay(slot, local);
         }
     }
 
-    /// Releases on a CPU some of what lies in the basket of the CPU with this number, and returns how many.
+    /// Releases on a CPU what was dropped that is to the entry in this slot.
     ///
     /// # Safety
     ///
     /// As of `release_local`.
-    pub unsafe fn release_of(&self, handle: *mut ffi::Cpu, of: u8, most: usize) -> usize {
-        let mut released = 0;
-        while released < most {
-            match self.baskets.take(of) {
-                // SAFETY: the caller upholds the contract for the CPU, and what lies in this registry's baskets is of it.
-                Some((slot, local)) => unsafe { self.release_local(handle, of, slot, local) },
-                None => break,
-            }
-            released += 1;
+    pub unsafe fn release_of(&self, handle: *mut ffi::Cpu, slot: usize) {
+        for local in self.baskets.take(slot) {
+            // SAFETY: the caller upholds the contract for the CPU, and what lies in this registry's baskets is of it.
+            unsafe { self.release_local(handle, slot, local) };
         }
-        released
     }
 
-    /// Releases on a CPU some of what lies in all baskets, its own first.
+    /// Releases on a CPU all that was dropped.
     ///
     /// # Safety
     ///
     /// As of `release_local`.
-    pub unsafe fn release_dropped(&self, handle: *mut ffi::Cpu, own: u8, most: usize) {
-        let mut left = most;
-        for of in self.baskets.filled_from(own) {
+    pub unsafe fn release_dropped(&self, handle: *mut ffi::Cpu) {
+        for slot in self.baskets.slots() {
             // SAFETY: the caller upholds the contract for the CPU.
-            left -= unsafe { self.release_of(handle, of, left) };
+            unsafe { self.release_of(handle, slot) };
         }
     }
 
-    /// Releases on a CPU one of the dropped references to the entry in this slot, the ones that this CPU acquired first. Whether there was any.
-    ///
-    /// # Safety
-    ///
-    /// As of `release_local`.
-    pub unsafe fn release_one_to(&self, handle: *mut ffi::Cpu, own: u8, slot: usize) -> bool {
-        let found = self
-            .baskets
-            .filled_from(own)
-            .find_map(|of| Some((of, self.baskets.take_of(of, slot)?)));
-        match found {
-            Some((of, local)) => {
-                // SAFETY: the caller upholds the contract for the CPU, and what lies in this registry's baskets is of it.
-                unsafe { self.release_local(handle, of, slot, local) };
-                true
-            }
-            None => false,
-        }
-    }
-
-    /// Gives up, under the interlock, some of what lies in the baskets and is to the entry in this slot, whose counts were collected. Whether
-    /// any was.
-    fn give_up_dropped(&self, keeper: &mut ffi::Keeper, slot: usize) -> bool {
-        let mut given = 0;
-        for of in self.baskets.filled_from(0) {
-            given += self.give_up_of(keeper, of, slot, BY_TURN - given);
-        }
-        given > 0
-    }
-
-    /// Gives up so many at most, of those that one CPU acquired. How many it gave up.
+    /// Gives up, under the interlock, what was dropped that is to the entry in this slot, whose counts were collected. Whether there was any.
     #[cold]
-    fn give_up_of(&self, keeper: &mut ffi::Keeper, of: u8, slot: usize, most: usize) -> usize {
-        let mut given = 0;
-        while given < most {
-            let mut local = match self.baskets.take_of(of, slot) {
-                Some(local) => local,
-                None => break,
-            };
+    fn give_up_dropped(&self, keeper: &mut ffi::Keeper, slot: usize) -> bool {
+        let dropped = self.baskets.take(slot);
+        let had_any = !dropped.is_empty();
+        for mut local in dropped {
             // SAFETY: the caller holds the interlock of this registry. All references in its baskets are of this registry. This is the only use
             // of the reference's handle.
             unsafe { ffi::registry_local_give_up(keeper, &mut local) };
             if !local.is_empty() {
-                self.baskets.lay(of, slot, local);
-                break;
+                self.baskets.lay(slot, local);
             }
-            given += 1;
         }
-        given
+        had_any
     }
 }
 
@@ -363,14 +448,14 @@ impl<T> Drop for Shared<T> {
         let mut spare = mem::replace(&mut *locked(&self.spare), NO_CPUS);
         if let Some(cpu) = spare.iter_mut().find(|cpu| !cpu.is_empty()) {
             // SAFETY: nobody else has this CPU, and nobody holds the interlock.
-            unsafe { self.release_dropped(cpu, 0, self.baskets.total()) };
+            unsafe { self.release_dropped(cpu) };
         }
         let kept = locked_mut(&mut self.kept);
         let rows = mem::take(&mut kept.rows);
         let left: Vec<Carried<T>> = rows
             .into_iter()
-            .filter(|(number, _)| !spare.iter_mut().any(|cpu| holds(cpu, *number)))
-            .map(|(_, carried)| carried)
+            .filter(|row| !spare.iter_mut().any(|cpu| holds(cpu, row.number)))
+            .map(|row| row.carried)
             .collect();
         for cpu in spare.iter_mut().filter(|cpu| !cpu.is_empty()) {
             // SAFETY: nobody else has this CPU, and it was left as it became spare.

@@ -4,24 +4,26 @@ use crate::carried::Record;
 use crate::cpu::Cpu;
 use crate::ffi;
 use crate::local::LocalRef;
-use crate::mapped::Mapped;
+use crate::mapped::{Mapped, Stays};
 use crate::passive::{PassiveRc, PassiveRef};
+use crate::places::Hold;
 use crate::refusal::{refusal_of, Refusal};
 use crate::section::{Found, Section};
 use crate::values::{Entry, Kind};
 use crate::Name;
-use alloc::rc::Rc;
-use core::fmt;
-use core::ops::Deref;
+use std::fmt;
+use std::ops::Deref;
+use std::panic::Location;
+use std::rc::Rc;
 
 impl<T> Cpu<T> {
     /// A passive reference to the live entry with this kind and name, by one call: what [`enter`](Cpu::enter),
     /// [`find`](crate::Section::find), [`acquire`](crate::Found::acquire) and [`exit`](crate::Section::exit) give together. In an open
-    /// section the call is nested in it. Outside it opens none and writes only the word that counts the reference, unless a change is made
-    /// meanwhile.
+    /// section the call is nested in it. Outside it opens none and writes only the word that counts the reference, if the CPU remembers
+    /// the entry.
     ///
     /// ```
-    /// use registry::{Kind, Name, PassiveRef, Refusal, Registry, Settings};
+    /// use kupaldiz::{Kind, Name, PassiveRef, Refusal, Registry, Settings};
     ///
     /// let (registry, cpus) = Registry::open(Settings::new(1, 1)).unwrap();
     /// let wm = Name::parse("wm").unwrap();
@@ -38,14 +40,17 @@ impl<T> Cpu<T> {
     ///
     /// `TooDeep`, `SectionsSpent`, `NotFound`, `PassiveFull`.
     #[inline]
+    #[track_caller]
     pub fn get(&self, kind: Kind, name: &Name) -> Result<PassiveRef<'_, T>, Refusal> {
-        Ok(PassiveRef::new(self, self.get_record(kind, name)?))
+        let record = self.get_record(kind, name)?;
+        // SAFETY: that has acquired it.
+        Ok(unsafe { PassiveRef::new(self, record) })
     }
 
     /// The same reference, which co-owns its CPU: a struct may own both.
     ///
     /// ```
-    /// use registry::{Cpu, Kind, Name, PassiveRc, Registry, Settings};
+    /// use kupaldiz::{Cpu, Kind, Name, PassiveRc, Registry, Settings};
     /// use std::rc::Rc;
     ///
     /// struct Worker {
@@ -65,15 +70,18 @@ impl<T> Cpu<T> {
     ///
     /// `TooDeep`, `SectionsSpent`, `NotFound`, `PassiveFull`.
     #[inline]
+    #[track_caller]
     pub fn get_rc(self: &Rc<Self>, kind: Kind, name: &Name) -> Result<PassiveRc<T>, Refusal> {
-        Ok(PassiveRc::new(Rc::clone(self), self.get_record(kind, name)?))
+        let record = self.get_record(kind, name)?;
+        // SAFETY: that has acquired it.
+        Ok(unsafe { PassiveRc::new(Rc::clone(self), record) })
     }
 
     /// A local reference to the live entry with this kind and name: what [`enter`](Cpu::enter), [`find`](crate::Section::find),
     /// [`acquire_local`](crate::Found::acquire_local) and [`exit`](crate::Section::exit) give together.
     ///
     /// ```
-    /// use registry::{Kind, LocalRef, Name, Registry, Settings};
+    /// use kupaldiz::{Kind, LocalRef, Name, Registry, Settings};
     ///
     /// let (registry, cpus) = Registry::open(Settings::new(2, 1)).unwrap();
     /// let wm = Name::parse("wm").unwrap();
@@ -87,6 +95,7 @@ impl<T> Cpu<T> {
     ///
     /// `TooDeep`, `SectionsSpent`, `NotFound`, `LocalFull`, `NoMemory`.
     #[inline]
+    #[track_caller]
     pub fn get_local(&self, kind: Kind, name: &Name) -> Result<LocalRef<T>, Refusal> {
         ReadGuard::acquire_local(&self.read(kind, name)?)
     }
@@ -95,7 +104,7 @@ impl<T> Cpu<T> {
     /// [`find`](crate::Section::find) give together. In an open section the call is nested in it.
     ///
     /// ```
-    /// use registry::{Kind, Name, Refusal, Registry, Settings};
+    /// use kupaldiz::{Kind, Name, Refusal, Registry, Settings};
     ///
     /// let (registry, cpus) = Registry::open(Settings::new(1, 1)).unwrap();
     /// let wm = Name::parse("wm").unwrap();
@@ -109,23 +118,32 @@ impl<T> Cpu<T> {
     ///
     /// `TooDeep`, `SectionsSpent`, `NotFound`. The CPU is then as deep inside as before.
     #[inline]
+    #[track_caller]
     pub fn read(&self, kind: Kind, name: &Name) -> Result<ReadGuard<'_, T>, Refusal> {
         // SAFETY: this thread alone has the CPU, whose handle isn't empty.
-        let found = Record::written(|found| unsafe { ffi::registry_enter_find(self.handle(), kind.number(), &name.words, found) });
-        let record = self.found_by(found)?;
+        let call = |found: *mut ffi::Entry| unsafe { ffi::registry_enter_find(self.handle(), kind.number(), &name.words, found) };
+        self.enters(Location::caller());
+        // SAFETY: registry.h says of the call that it writes the entry.
+        let found = self.found_by(unsafe { Record::written(call) });
+        if found.is_err() {
+            self.left();
+        }
+        let record = found?;
         Ok(ReadGuard {
-            found: Found::new(self, record),
-            section: Section::new(self),
+            // SAFETY: it was found in the section of the guard, which has both.
+            found: unsafe { Found::new(self, record) },
+            // SAFETY: the call has entered.
+            section: unsafe { Section::new(self) },
         })
     }
 
     /// The record of the live entry with this kind and name, by one call: what [`enter`](Cpu::enter), [`find`](crate::Section::find) and
     /// [`exit`](crate::Section::exit) give together. The result is what the registry had at one moment during the call. Nothing holds the entry afterwards,
-    /// so the call returns the record alone, and not what the entry carries. Outside a section the call opens none and writes no shared word, unless a
-    /// change is made meanwhile.
+    /// so the call returns the record alone, and not what the entry carries. Outside a section the call opens none and writes no shared word, if the
+    /// CPU remembers the entry, or that there is none.
     ///
     /// ```
-    /// use registry::{Kind, Name, Refusal, Registry, Settings};
+    /// use kupaldiz::{Kind, Name, Refusal, Registry, Settings};
     ///
     /// let (registry, cpus) = Registry::open(Settings::new(1, 1)).unwrap();
     /// let wm = Name::parse("wm").unwrap();
@@ -140,16 +158,20 @@ impl<T> Cpu<T> {
     #[inline]
     pub fn look_up(&self, kind: Kind, name: &Name) -> Result<Entry, Refusal> {
         // SAFETY: as for `read`.
-        let looked = Record::written(|found| unsafe { ffi::registry_look_up(self.handle(), kind.number(), &name.words, found) });
-        Ok(self.found_by(looked)?.entry())
+        let call = |found: *mut ffi::Entry| unsafe { ffi::registry_look_up(self.handle(), kind.number(), &name.words, found) };
+        // SAFETY: as for `read`.
+        Ok(self.found_by(unsafe { Record::written(call) })?.entry())
     }
 
     /// Acquires a passive reference, and returns the record of its entry.
     #[inline]
+    #[track_caller]
     fn get_record(&self, kind: Kind, name: &Name) -> Result<Record<T>, Refusal> {
         // SAFETY: as for `read`.
-        let got = Record::written(|found| unsafe { ffi::registry_get(self.handle(), kind.number(), &name.words, found) });
-        self.found_by(got)
+        let call = |found: *mut ffi::Entry| unsafe { ffi::registry_get(self.handle(), kind.number(), &name.words, found) };
+        // SAFETY: as for `read`.
+        let record = self.found_by(unsafe { Record::written(call) })?;
+        Ok(self.noted(Hold::Passive, record, Location::caller()))
     }
 
     /// What such a call returned, whose find has changed the last found entry of an open section. Refused, the CPU may have found an entry that
@@ -179,7 +201,7 @@ impl<T> Cpu<T> {
 /// All its functions are called by the type's name, so that none hides a method of `T`.
 ///
 /// ```
-/// use registry::{Kind, LocalRef, Name, ReadGuard, Registry, Settings};
+/// use kupaldiz::{Kind, LocalRef, Name, ReadGuard, Registry, Settings};
 ///
 /// let (registry, cpus) = Registry::open(Settings::new(2, 1)).unwrap();
 /// let wm = Name::parse("wm").unwrap();
@@ -221,6 +243,7 @@ impl<'cpu, T> ReadGuard<'cpu, T> {
     ///
     /// As for [`Found::acquire`]: `NotFound`, `PassiveFull`.
     #[inline]
+    #[track_caller]
     pub fn acquire(guard: &Self) -> Result<PassiveRef<'cpu, T>, Refusal> {
         Found::acquire(&guard.found)
     }
@@ -231,6 +254,7 @@ impl<'cpu, T> ReadGuard<'cpu, T> {
     ///
     /// As for [`Found::acquire_local`]: `NotFound`, `LocalFull`, `NoMemory`.
     #[inline]
+    #[track_caller]
     pub fn acquire_local(guard: &Self) -> Result<LocalRef<T>, Refusal> {
         Found::acquire_local(&guard.found)
     }
@@ -238,7 +262,7 @@ impl<'cpu, T> ReadGuard<'cpu, T> {
     /// The guard of a part of what the entry carries.
     ///
     /// ```
-    /// use registry::{Kind, Name, ReadGuard, Registry, Settings};
+    /// use kupaldiz::{Kind, Name, ReadGuard, Registry, Settings};
     ///
     /// let (registry, cpus) = Registry::open(Settings::new(1, 1)).unwrap();
     /// let wm = Name::parse("wm").unwrap();
@@ -257,6 +281,9 @@ impl<'cpu, T> ReadGuard<'cpu, T> {
         drop(guard);
     }
 }
+
+// SAFETY: the entry keeps its value until the guard is dropped.
+unsafe impl<T> Stays for ReadGuard<'_, T> {}
 
 impl<T> Deref for ReadGuard<'_, T> {
     type Target = T;

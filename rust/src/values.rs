@@ -3,13 +3,13 @@
 use crate::ffi;
 use crate::name::Name;
 use crate::refusal::Refusal;
-use alloc::vec::Vec;
-use core::fmt;
+use std::fmt;
+use std::vec::Vec;
 
 /// What an entry is.
 ///
 /// ```
-/// use registry::{Kind, Registry, Settings};
+/// use kupaldiz::{Kind, Registry, Settings};
 ///
 /// let (registry, cpus) = Registry::open(Settings::new(1, 1)).unwrap();
 /// let wm = "wm".parse().unwrap();
@@ -81,10 +81,10 @@ impl fmt::Display for Entry {
 pub enum Holder {
     /// A section of this CPU may hold it.
     Grace(u8),
-    /// This CPU has a passive reference to it.
+    /// This CPU has a passive reference to it, or is in a call of [`Cpu::get`](crate::Cpu::get) that may be acquiring one.
     Passive(u8),
-    /// This many local references to it are held. It includes those that interfaces keep, and those that were dropped and aren't released yet. No call says
-    /// who has them: whoever must know records it, such as in the `T`.
+    /// This many local references to it are held. It includes those that interfaces keep, and those that were dropped and aren't released yet. Who has them
+    /// is noted in a registry that was opened by [`Registry::open_tracked`](crate::Registry::open_tracked).
     Local(u64),
 }
 
@@ -107,6 +107,12 @@ pub(crate) struct Met {
 }
 
 impl Met {
+    /// There is no such entry any more.
+    pub(crate) const NOTHING: Met = Met {
+        answer: ffi::NOT_RETIRED,
+        stage: ffi::Stage { stage: 0, what: 0 },
+    };
+
     /// So many local references hold the entry.
     pub(crate) fn local(held: u64) -> Met {
         let stage = ffi::Stage {
@@ -120,6 +126,12 @@ impl Met {
     #[inline]
     pub(crate) fn is_freed(self) -> bool {
         self.answer == ffi::DONE && self.stage.stage == ffi::FREED
+    }
+
+    /// The slot is vacant, or was before this turn.
+    #[inline]
+    pub(crate) fn is_gone(self) -> bool {
+        self.is_freed() || self.answer == ffi::NOT_RETIRED
     }
 
     /// How many local references hold the entry, where they are what was met.

@@ -1,12 +1,12 @@
-//! Which types may go to another thread, and which may be shared with one: a table of all public types, which a test walks.
+//! Which types may go to another thread, which may be shared with one, and which may be cloned: a table of all public types, which a test walks.
 //!
 //! Each type is looked at with four kinds of `T`. What a column lists are the kinds for which the type has the trait: `b` a `T` that is both `Send`
 //! and `Sync`, `y` one that is `Sync` alone, `s` one that is `Send` alone, `n` one that is neither.
-#![cfg(feature = "std")]
 
-use registry::{
-    Balance, Cpu, CpuPool, Entries, Entry, Found, Freed, Holder, Kind, Lent, Limits, LocalGuard, LocalRef, Mapped, Name, NameFault,
-    PassiveRc, PassiveRef, Patience, ReadGuard, Refusal, Refused, Registry, Retired, Section, Settings,
+use kupaldiz::{
+    Balance, Cpu, CpuPool, DestroyError, Drained, Entries, Entry, Found, Freed, Hold, Holder, Holders, Kind, Lent, Limits, LocalRef,
+    Mapped, Name, NameFault, PassiveRc, PassiveRef, Patience, Place, ReadGuard, Refusal, Refused, Registry, Retired, Section, Settings,
+    StillOpen, Table,
 };
 use std::collections::BTreeSet;
 use std::marker::PhantomData;
@@ -18,7 +18,7 @@ struct Row {
     text: &'static str,
     send: String,
     sync: String,
-    /// `Unpin`, `UnwindSafe` and `RefUnwindSafe` with a `T` that is a plain number: `p`, `u`, `r`.
+    /// `Unpin`, `UnwindSafe`, `RefUnwindSafe` and `Clone` with a `T` that is a plain number: `p`, `u`, `r`, `c`.
     others: String,
 }
 
@@ -89,6 +89,7 @@ macro_rules! table {
                             ('p', has!($type, Unpin)),
                             ('u', has!($type, UnwindSafe)),
                             ('r', has!($type, RefUnwindSafe)),
+                            ('c', has!($type, Clone)),
                         ])
                     },
                 },
@@ -100,10 +101,10 @@ macro_rules! table {
 
 table! {
     // type                                              Send    Sync    others
-    Registry: Registry<T>,                               "b",    "b",    "pur";
+    Registry: Registry<T>,                               "b",    "b",    "purc";
     Cpu: Cpu<T>,                                         "b",    "",     "pu";
     CpuPool: CpuPool<T>,                                 "b",    "b",    "pur";
-    Lent: Lent<'static, T>,                              "b",    "",     "pu";
+    Lent: Lent<'static, T>,                              "",     "",     "pu";
     Section: Section<'static, T>,                        "",     "",     "p";
     Found: Found<'static, 'static, T>,                   "",     "",     "p";
     Entries: Entries<'static, 'static, T>,               "",     "",     "p";
@@ -111,27 +112,31 @@ table! {
     PassiveRef: PassiveRef<'static, T>,                  "",     "",     "p";
     PassiveRc: PassiveRc<T>,                             "",     "",     "p";
     LocalRef: LocalRef<T>,                               "b",    "b",    "pur";
-    LocalGuard: LocalGuard<'static, T>,                  "",     "",     "p";
     Retired: Retired<T>,                                 "b",    "b",    "pur";
     Mapped: Mapped<LocalRef<T>, u8>,                     "b",    "b",    "pur";
     Mapped: Mapped<LocalRef<u8>, T>,                     "by",   "by",   "pur";
     Mapped: Mapped<ReadGuard<'static, T>, u8>,           "",     "",     "p";
     Mapped: Mapped<PassiveRef<'static, T>, u8>,          "",     "",     "p";
     Mapped: Mapped<PassiveRc<T>, u8>,                    "",     "",     "p";
-    Mapped: Mapped<LocalGuard<'static, T>, u8>,          "",     "",     "p";
-    Freed: Freed<T>,                                     "bs",   "by",   "pur";
-    Refused: Refused<T>,                                 "bs",   "by",   "pur";
-    Refused: Refused<Retired<T>>,                        "b",    "b",    "pur";
-    Balance: Balance,                                    "bysn", "bysn", "pur";
-    Entry: Entry,                                        "bysn", "bysn", "pur";
-    Holder: Holder,                                      "bysn", "bysn", "pur";
-    Kind: Kind,                                          "bysn", "bysn", "pur";
-    Limits: Limits,                                      "bysn", "bysn", "pur";
-    Name: Name,                                          "bysn", "bysn", "pur";
-    NameFault: NameFault,                                "bysn", "bysn", "pur";
-    Patience: Patience,                                  "bysn", "bysn", "pur";
-    Refusal: Refusal,                                    "bysn", "bysn", "pur";
-    Settings: Settings,                                  "bysn", "bysn", "pur";
+    Freed: Freed<T>,                                     "bs",   "by",   "purc";
+    Refused: Refused<T>,                                 "bs",   "by",   "purc";
+    Drained: Drained<T>,                                 "b",    "b",    "pur";
+    StillOpen: StillOpen<T>,                             "b",    "b",    "pur";
+    Table: Table<'static, T>,                            "",     "",     "pc";
+    DestroyError: DestroyError<T>,                       "b",    "b",    "pur";
+    Hold: Hold,                                          "bysn", "bysn", "purc";
+    Holders: Holders,                                    "bysn", "bysn", "purc";
+    Place: Place,                                        "bysn", "bysn", "purc";
+    Balance: Balance,                                    "bysn", "bysn", "purc";
+    Entry: Entry,                                        "bysn", "bysn", "purc";
+    Holder: Holder,                                      "bysn", "bysn", "purc";
+    Kind: Kind,                                          "bysn", "bysn", "purc";
+    Limits: Limits,                                      "bysn", "bysn", "purc";
+    Name: Name,                                          "bysn", "bysn", "purc";
+    NameFault: NameFault,                                "bysn", "bysn", "purc";
+    Patience: Patience,                                  "bysn", "bysn", "purc";
+    Refusal: Refusal,                                    "bysn", "bysn", "purc";
+    Settings: Settings,                                  "bysn", "bysn", "purc";
 }
 
 #[test]

@@ -1,17 +1,18 @@
 //! What entries carry: each value is dropped once, not before nobody can hold its entry, and never under a lock.
-#![cfg(feature = "std")]
 
 mod common;
 
-use common::{balances, detach, local, name, passive, with_driver, Drops, Tracked};
-use registry::{Cpu, Holder, Kind, LocalRef, Patience, Refusal, Refused, Registry, Settings};
+use common::{balances, detach, local, name, passive, patience, with_driver, Drops, Tracked, LONG};
+use kupaldiz::{Cpu, Holder, Kind, LocalRef, Patience, Refusal, Refused, Registry, Settings};
 use std::cell::{Cell, RefCell};
 use std::mem;
 use std::panic::{catch_unwind, AssertUnwindSafe};
 use std::rc::Rc;
 use std::sync::atomic::{AtomicUsize, Ordering};
+use std::sync::mpsc::channel;
 use std::sync::{Arc, Mutex};
 use std::thread;
+use std::time::Duration;
 
 #[test]
 fn a_value_comes_back_as_its_slot_is_freed() {
@@ -58,7 +59,7 @@ fn what_is_left_is_dropped_at_the_closing() {
     for i in 0..6 {
         registry.attach(&cpus[0], &name(&format!("d{i}")), drops.make(i)).unwrap();
     }
-    registry.retire(&cpus[0], Kind::Driver, &name("d0")).unwrap();
+    drop(registry.retire(&cpus[0], Kind::Driver, &name("d0")).unwrap());
     let section = cpus[1].enter().unwrap();
     let gone = detach(&registry, &cpus[0], "d1");
     registry.retire(&cpus[0], Kind::Driver, &name("d2")).unwrap();
@@ -68,6 +69,47 @@ fn what_is_left_is_dropped_at_the_closing() {
     assert_eq!(drops.dropped(), 1);
     drop(gone);
     assert_eq!((drops.made(), drops.dropped()), (6, 6));
+}
+
+/// An interface before its driver, and what is held is named.
+#[test]
+fn a_drain_frees_all_that_nobody_holds() {
+    let drops = Drops::default();
+    let (registry, cpus) = with_driver(drops.make(0));
+    let cpu = &cpus[0];
+    registry
+        .attach_iface(cpu, &name("wm0"), local(cpu, "wm"), drops.make(1))
+        .ok()
+        .unwrap();
+    registry.attach(cpu, &name("vga"), drops.make(2)).unwrap();
+    let held = local(&cpus[1], "vga");
+    let drained = registry.drain(cpu, Patience::Turns(1)).unwrap();
+    assert_eq!(drained.freed.iter().map(|one| one.value.label).collect::<Vec<_>>(), [1, 0]);
+    assert_eq!(drained.held[0].refusal, Refusal::StillHeld(Holder::Local(1)));
+    drop((held, drained));
+    assert_eq!(drops.dropped(), 3);
+    let section = cpu.enter().unwrap();
+    assert_eq!(registry.drain(cpu, Patience::Turns(1)).map(drop), Err(Refusal::Inside));
+    section.exit();
+    assert_eq!(registry.audit(&cpus).unwrap(), []);
+}
+
+#[test]
+fn a_close_waits_for_the_other_handles() {
+    let drops = Drops::default();
+    let (registry, mut cpus) = with_driver(drops.make(0));
+    let held = local(&cpus[0], "wm");
+    drop(cpus.pop());
+    let registry = registry.close(Patience::Turns(2)).unwrap_err().registry;
+    let cpu = cpus.pop().unwrap();
+    let leaving = thread::spawn(move || {
+        thread::sleep(Duration::from_millis(5));
+        drop((cpu, held));
+    });
+    assert_eq!(drops.dropped(), 0);
+    registry.close(patience()).unwrap();
+    assert_eq!(drops.dropped(), 1);
+    leaving.join().unwrap();
 }
 
 #[test]
@@ -128,10 +170,47 @@ fn what_nobody_holds_is_freed_by_later_changes() {
     LocalRef::release(two.unwrap(), reader).unwrap();
     assert_eq!(registry.retired(), 3);
     assert!(registry.attach(cpu, &name("more"), drops.make(10)).is_ok());
-    assert_eq!((registry.retired(), drops.dropped()), (1, 3));
+    assert_eq!((registry.retired(), drops.dropped()), (1, 1));
     LocalRef::release(zero.unwrap(), reader).unwrap();
     drop(detach(&registry, cpu, "more"));
-    assert_eq!((registry.retired(), drops.dropped()), (1, 4));
+    assert_eq!((registry.retired(), drops.dropped()), (0, 5));
+}
+
+/// Locks what its caller has locked.
+struct Locking(Arc<Mutex<u32>>);
+
+impl Drop for Locking {
+    fn drop(&mut self) {
+        *self.0.lock().unwrap() += 1;
+    }
+}
+
+/// An attach and a detach drop nothing, not even where the attach needs a slot.
+#[test]
+fn a_caller_may_hold_a_lock_that_a_drop_takes() {
+    let (to, from) = channel();
+    thread::spawn(move || {
+        let count = Arc::new(Mutex::new(0));
+        let (registry, cpus) = Registry::open(Settings::new(2, 2)).unwrap();
+        for text in ["d0", "d1"] {
+            registry.attach(&cpus[0], &name(text), Locking(Arc::clone(&count))).ok().unwrap();
+        }
+        let section = cpus[1].enter().unwrap();
+        registry.detach(&cpus[0], Kind::Driver, &name("d0")).unwrap().defer();
+        section.exit();
+        let locked = count.lock().unwrap();
+        let token = registry.detach(&cpus[0], Kind::Driver, &name("d1")).unwrap();
+        for text in ["d2", "d3"] {
+            registry.attach(&cpus[0], &name(text), Locking(Arc::clone(&count))).ok().unwrap();
+        }
+        drop(locked);
+        drop(token);
+        let dropped = *count.lock().unwrap();
+        drop((registry, cpus));
+        let all = *count.lock().unwrap();
+        to.send((dropped, all))
+    });
+    assert_eq!(from.recv_timeout(LONG), Ok((2, 4)));
 }
 
 #[test]
@@ -273,13 +352,12 @@ fn a_panic_of_a_drop_leaves_the_registry_whole() {
     let held = local(&cpus[0], "d1");
     registry.retire(&cpus[0], Kind::Driver, &name("d1")).unwrap();
     LocalRef::release(held, &cpus[0]).unwrap();
-    // The change before which the value is dropped is not made.
-    let ended = catch_unwind(AssertUnwindSafe(|| registry.retire(&cpus[0], Kind::Driver, &name("d0"))));
+    // The drop of a token drops it, and the token's own value.
+    let token = registry.detach(&cpus[0], Kind::Driver, &name("d0")).unwrap();
+    let ended = catch_unwind(AssertUnwindSafe(|| drop(token)));
     assert!(ended.is_err());
-    assert_eq!((registry.retired(), drops.dropped()), (0, 1));
-    registry.retire(&cpus[0], Kind::Driver, &name("d0")).unwrap();
+    assert_eq!((registry.retired(), drops.dropped()), (0, 2));
     registry.attach(&cpus[0], &name("d1"), fragile(&drops, true)).unwrap();
-    assert_eq!(drops.dropped(), 2);
     // A panic at the closing keeps nobody else from being dropped.
     let ended = catch_unwind(AssertUnwindSafe(move || drop((registry, cpus))));
     assert!(ended.is_err());
@@ -327,16 +405,13 @@ fn a_drop_may_call_the_registry() {
     let (registry, mut cpus) = Registry::open(Settings::new(2, 8)).unwrap();
     let cpu = cpus.remove(0);
     registry.attach(&cpu, &name("first"), Caller { label: 3 }).unwrap();
-    registry.retire(&cpu, Kind::Driver, &name("first")).unwrap();
     let desk = Desk {
         registry: registry.clone(),
         cpu: cpus.remove(0),
     };
     DESK.with(|place| *place.borrow_mut() = Some(desk));
-    // Each value attaches the next one as it is dropped, and retires it.
-    for _ in 0..5 {
-        drop(registry.collect());
-    }
+    // Each value attaches the next one as it is dropped, and drops its token.
+    drop(registry.retire(&cpu, Kind::Driver, &name("first")).unwrap());
     assert_eq!((registry.retired(), CALLS.with(Cell::get)), (0, 4));
     let desk = DESK.with(|place| place.borrow_mut().take());
     drop(desk);
@@ -345,7 +420,7 @@ fn a_drop_may_call_the_registry() {
 #[test]
 fn a_value_may_hold_a_reference_of_its_registry() {
     struct Port {
-        _driver: Mutex<Option<registry::LocalRef<Port>>>,
+        _driver: Mutex<Option<kupaldiz::LocalRef<Port>>>,
         dropped: Arc<AtomicUsize>,
     }
     impl Drop for Port {

@@ -3,7 +3,6 @@
 //! Each file in the folders of `compile_fail/` is a small library. As it stands the compiler takes it; with `--cfg fails`, which adds or changes a line, the
 //! compiler refuses it, with no other error than the one that the head of the file names: `// error:` and its code, or its text where it has
 //! no code. `// says:` is a text that the message of a newer compiler has too. The crate is compiled for it as metadata alone, so no archive is needed.
-#![cfg(feature = "std")]
 
 use std::env;
 use std::fs;
@@ -72,7 +71,7 @@ fn text_of(output: &Output) -> String {
 }
 
 fn compile(path: &Path, crate_at: &Path, out: &Path, more: &[&str]) -> Output {
-    let dependency = format!("registry={}", crate_at.display());
+    let dependency = format!("kupaldiz={}", crate_at.display());
     let mut command = rustc();
     command
         .arg(path)
@@ -85,10 +84,10 @@ fn compile(path: &Path, crate_at: &Path, out: &Path, more: &[&str]) -> Output {
 
 /// The crate, as metadata.
 fn crate_in(out: &Path) -> PathBuf {
-    let at = out.join("libregistry.rmeta");
+    let at = out.join("libkupaldiz.rmeta");
     let source = Path::new(env!("CARGO_MANIFEST_DIR")).join("src/lib.rs");
     let output = rustc()
-        .args(["--crate-name", "registry", "--cfg", "feature=\"std\""])
+        .args(["--crate-name", "kupaldiz"])
         .arg(source)
         .arg("-o")
         .arg(&at)
@@ -132,7 +131,7 @@ fn what_is_wrong_is_refused_for_just_that_reason() {
 }
 
 /// How many files there are.
-const FILES: usize = 61;
+const FILES: usize = 35;
 
 #[test]
 fn the_errors_of_a_message_are_told_apart() {

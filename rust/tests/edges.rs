@@ -6,7 +6,7 @@
 mod common;
 
 use common::{name, scaled, Stops};
-use registry::{Cpu, Found, Kind, LocalRef, Name, PassiveRef, ReadGuard, Refusal, Registry, Settings};
+use kupaldiz::{Cpu, Found, Kind, LocalRef, Name, PassiveRef, ReadGuard, Refusal, Registry, Settings};
 use std::cell::UnsafeCell;
 use std::sync::atomic::{AtomicBool, Ordering};
 use std::sync::Arc;
@@ -95,9 +95,8 @@ impl Yard {
     fn take_over(&self, cpu: &Cpu<Plain>) {
         for (turn, (place, local)) in self.with_handed(std::mem::take).into_iter().enumerate() {
             local.check(place);
-            match turn % 3 {
-                0 => LocalRef::release(local, cpu).map_err(registry::Refused::into_refusal).unwrap(),
-                1 => drop(LocalRef::guard(local, cpu).map_err(registry::Refused::into_refusal)),
+            match turn % 2 {
+                0 => LocalRef::release(local, cpu).map_err(Refusal::from).unwrap(),
                 _ => drop(local),
             }
         }

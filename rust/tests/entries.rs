@@ -1,10 +1,9 @@
 //! Walks over all entries of a section.
-#![cfg(feature = "std")]
 
 mod common;
 
 use common::{detach, name, patience, Drops, Stops, Tracked};
-use registry::{Cpu, Found, Kind, LocalRef, Refusal, Registry, Settings, LIMITS};
+use kupaldiz::{Cpu, Found, Kind, LocalRef, Refusal, Registry, Settings, LIMITS};
 use std::collections::BTreeSet;
 use std::env;
 use std::sync::atomic::{AtomicBool, Ordering};

@@ -1,12 +1,10 @@
 //! The calls: what each does, and each of its refusals.
-#![cfg(feature = "std")]
 
 mod common;
 
 use common::{balance, balances, detach, detach_any, local, name, passive, patience, with_driver};
-use registry::{Cpu, Found, Holder, Kind, LocalRef, Name, NameFault, PassiveRef, Patience, Refusal, Refused, Registry, Settings, LIMITS};
+use kupaldiz::{Found, Holder, Kind, LocalRef, Name, NameFault, PassiveRef, Patience, Refusal, Refused, Registry, Settings, LIMITS};
 use std::collections::{BTreeSet, HashSet};
-use std::convert::TryFrom;
 use std::error::Error;
 use std::thread;
 use std::time::{Duration, Instant};
@@ -22,7 +20,7 @@ fn names_are_judged() {
     assert_eq!(Name::parse("0"), Err(NameFault::BadByte(0)));
     assert_eq!(Name::parse("wmX"), Err(NameFault::BadByte(2)));
     assert_eq!(Name::from_bytes(b"wm\0"), Err(NameFault::BadByte(2)));
-    assert_eq!((Name::try_from("wm"), Name::try_from(&b"wm"[..])), (Ok(WM), Ok(WM)));
+    assert_eq!(("wm".parse(), Name::from_bytes(b"wm")), (Ok(WM), Ok(WM)));
 }
 
 /// Also where they differ past the eighth byte alone.
@@ -42,10 +40,7 @@ fn names_are_told_apart_and_ordered_as_their_texts() {
             .collect::<Vec<_>>(),
         texts
     );
-    assert!(names
-        .iter()
-        .zip(texts)
-        .all(|(name, text)| *name == text && *name == *text && name.as_ref() == text));
+    assert!(names.iter().zip(texts).all(|(name, text)| *name == text && *name == *text));
     assert!(WM != "wm0" && WM != *"vm");
     let (registry, cpus) = Registry::open(Settings::new(1, 8)).unwrap();
     for (value, name) in names.iter().enumerate() {
@@ -60,7 +55,7 @@ fn names_are_told_apart_and_ordered_as_their_texts() {
 
 #[test]
 fn the_library_tells_its_version_and_its_limits() {
-    assert_eq!((registry::version(), registry::limits()), (env!("CARGO_PKG_VERSION"), LIMITS));
+    assert_eq!((kupaldiz::version(), kupaldiz::limits()), (env!("CARGO_PKG_VERSION"), LIMITS));
 }
 
 #[test]
@@ -98,7 +93,7 @@ fn refusals_say_why() {
     let refused = registry.attach(&cpus[0], &WM, 8).unwrap_err();
     assert_eq!((refused.refusal, refused.given), (Refusal::NameTaken, 8));
     assert_eq!(
-        (refused, refused.into_refusal()),
+        (refused, Refusal::from(refused)),
         (
             Refused {
                 refusal: Refusal::NameTaken,
@@ -113,7 +108,6 @@ fn refusals_say_why() {
     assert_eq!(boxed.source().unwrap().to_string(), boxed.to_string());
     assert!(Refusal::StillHeld(Holder::Grace(1)).to_string().ends_with(": grace cpu 1"));
     assert!(Refusal::Waiting(3).to_string().ends_with(": cpu 3"));
-    assert_eq!(Refusal::WrongCpu.to_string(), "the reference is of another CPU");
     assert_eq!(Refusal::OtherRegistry.to_string(), "a CPU or a reference is of another registry");
 }
 
@@ -129,7 +123,6 @@ fn refusals_have_the_numbers_of_the_header() {
         (Refusal::Inside, 7),
         (Refusal::SectionsSpent, 8),
         (Refusal::PassiveFull, 10),
-        (Refusal::WrongCpu, 11),
         (Refusal::LocalFull, 13),
         (Refusal::MissingCpu, 15),
         (Refusal::StillHeld(Holder::Local(1)), 16),
@@ -137,6 +130,7 @@ fn refusals_have_the_numbers_of_the_header() {
         (Refusal::TooDeep, 18),
         (Refusal::NeedsDriver, 19),
         (Refusal::OtherRegistry, 0),
+        (Refusal::OtherVersion, 0),
         (Refusal::OtherLimits, 78),
     ];
     for (refusal, number) in numbered {
@@ -172,18 +166,20 @@ fn changes_inside_a_section_are_refused() {
     registry.attach(cpu, &name("vga"), 8).unwrap();
     let gone = detach(&registry, cpu, "vga");
     registry.attach(cpu, &name("pci"), 9).unwrap();
+    let pci = local(cpu, "pci");
     registry.retire(cpu, Kind::Driver, &name("pci")).unwrap();
-    drop(local(&cpus[1], "wm"));
+    drop((local(&cpus[1], "wm"), pci));
     let section = cpu.enter().unwrap();
     assert_eq!(registry.attach(cpu, &name("usb"), 9).unwrap_err().refusal, Refusal::Inside);
     let Refused { refusal, given } = registry.attach_iface(cpu, &name("wm0"), driver, 1500).unwrap_err();
     assert_eq!((refusal, LocalRef::entry(&given.0).number, given.1), (Refusal::Inside, 1, 1500));
     assert_eq!(registry.detach(cpu, Kind::Driver, &WM).unwrap_err(), Refusal::Inside);
     assert_eq!(registry.retire(cpu, Kind::Driver, &WM), Err(Refusal::Inside));
+    assert_eq!(registry.detach_entry(cpu, &LocalRef::entry(&given.0)).unwrap_err(), Refusal::Inside);
     let refused = gone.token().destroy(cpu, patience()).unwrap_err();
     assert_eq!(refused.refusal, Refusal::Inside);
     assert_eq!(registry.perform(cpu, patience()), Err(Refusal::Inside));
-    assert_eq!((registry.retired(), registry.dropped()), (1, 1));
+    assert_eq!((registry.retired(), registry.dropped()), (1, 2));
     section.exit();
     assert_eq!(refused.given.destroy(cpu, patience()).unwrap().value, 8);
     LocalRef::release(given.0, cpu).unwrap();
@@ -336,6 +332,57 @@ fn an_interface_is_no_driver() {
     assert_eq!(balances(&registry, &cpus)[1].0, 0);
 }
 
+/// What was listed, and another one replaced meanwhile, isn't taken out by its name; nor is an entry that differs in anything.
+#[test]
+fn the_entry_that_is_meant_is_detached() {
+    let (registry, cpus) = with_driver(7);
+    let listed = cpus[0].look_up(Kind::Driver, &WM).unwrap();
+    registry.retire(&cpus[0], Kind::Driver, &WM).unwrap();
+    let newer = registry.attach(&cpus[0], &WM, 8).unwrap();
+    let mut other = newer;
+    other.slot += 1;
+    for wrong in [listed, other] {
+        assert_eq!(registry.detach_entry(&cpus[0], &wrong).unwrap_err(), Refusal::NotFound);
+    }
+    assert_eq!(*passive(&cpus[0], "wm"), 8);
+    let retired = registry.detach_entry(&cpus[0], &newer).unwrap();
+    assert_eq!(registry.detach_entry(&cpus[0], &newer).unwrap_err(), Refusal::NotFound);
+    assert_eq!((retired.entry(), retired.destroy(&cpus[0], patience()).unwrap().value), (newer, 8));
+}
+
+/// The old entry stays with whoever holds it; on an error it stays attached.
+#[test]
+fn a_driver_is_replaced_under_one_hold_of_the_interlock() {
+    let (registry, cpus) = Registry::open(Settings::new(2, 2).changes(5)).unwrap();
+    let (cpu, vga) = (&cpus[0], name("vga"));
+    let refused = |value| registry.replace(cpu, &WM, value).map(drop).unwrap_err();
+    let Refused { refusal, given } = refused(1);
+    assert_eq!((refusal, given), (Refusal::NotFound, 1));
+    registry.attach(cpu, &WM, 7).unwrap();
+    let held = passive(&cpus[1], "wm");
+    let (made, old) = registry.replace(cpu, &WM, 8).unwrap();
+    assert_eq!((made.number, *held, *passive(&cpus[1], "wm")), (3, 7, 8));
+    // Both slots are taken, one by what is held.
+    assert_eq!(refused(9).refusal, Refusal::NoSlot);
+    drop(held);
+    // Its slot is vacant then, though it has a token; but no room is left for an attach after the detach.
+    assert_eq!(registry.attach(cpu, &vga, 1).unwrap_err().refusal, Refusal::HistoryFull);
+    let section = cpu.enter().unwrap();
+    assert_eq!(refused(9).refusal, Refusal::Inside);
+    section.exit();
+    assert_eq!((*passive(cpu, "wm"), old.wait(patience()).unwrap().value), (8, 7));
+}
+
+#[test]
+fn a_replacement_keeps_room_for_its_own_detach() {
+    let (registry, cpus) = Registry::open(Settings::new(1, 4).changes(5)).unwrap();
+    registry.attach(&cpus[0], &WM, 7).unwrap();
+    drop(registry.replace(&cpus[0], &WM, 8).unwrap());
+    let Refused { refusal, given } = registry.replace(&cpus[0], &WM, 9).map(drop).unwrap_err();
+    assert_eq!((refusal, given, *passive(&cpus[0], "wm")), (Refusal::HistoryFull, 9, 8));
+    assert_eq!(registry.retire(&cpus[0], Kind::Driver, &WM).unwrap()[0].value, 8);
+}
+
 #[test]
 fn what_is_not_there_is_not_found() {
     let (registry, cpus) = with_driver(7);
@@ -400,7 +447,7 @@ fn an_audit_takes_all_cpus_in_any_order() {
     for wrong in [vec![&cpus[0], &cpus[0]], vec![&cpus[0], &cpus[1], &cpus[0]]] {
         assert_eq!(registry.audit(wrong), Err(Refusal::MissingCpu));
     }
-    let pool = registry::CpuPool::new(cpus).unwrap();
+    let pool = kupaldiz::CpuPool::new(cpus).unwrap();
     let loans = [pool.lend(), pool.lend()];
     assert_eq!((registry.audit(&loans), registry.audit(loans)), (Ok(audited.clone()), Ok(audited)));
     assert_eq!(pool.into_cpus().len(), 2);
@@ -425,17 +472,4 @@ fn all_slots_and_names_are_told_apart() {
     for i in (0..LIMITS.slots).rev() {
         assert_eq!(detach(&registry, &cpus[0], &format!("d{i}")).freed().value, i);
     }
-}
-
-/// The handles may go where `OnceLock` and `spawn` want them.
-#[test]
-fn handles_are_owned() {
-    fn stored<T: Send + Sync + 'static>() {}
-    fn sent<T: Send + 'static>() {}
-    stored::<Registry<String>>();
-    stored::<registry::LocalRef<String>>();
-    stored::<registry::CpuPool<String>>();
-    stored::<registry::Retired<String>>();
-    sent::<Cpu<String>>();
-    sent::<registry::Lent<'static, String>>();
 }

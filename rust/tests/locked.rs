@@ -2,12 +2,11 @@
 //!
 //! The turn is held by tests/common/watched.rs, which ends the program where the keeper is used meanwhile. It is the only test of this program, since any
 //! thread's turn may be the one that is held.
-#![cfg(feature = "std")]
 
 mod common;
 
 use common::{local, name, watched, LONG};
-use registry::{Cpu, Kind, LocalRef, Patience, Registry, Retired, Settings};
+use kupaldiz::{Cpu, Kind, LocalRef, Patience, Registry, Retired, Settings};
 use std::sync::atomic::{AtomicBool, Ordering};
 use std::thread;
 use std::time::Duration;
@@ -34,13 +33,21 @@ fn opened() -> (Retired<u32>, Other) {
     let held = held.advance().unwrap_err().given;
     let retired = registry.detach(&cpus[0], Kind::Driver, &name("free")).unwrap();
     let (retired, collected) = (Some(retired), Some(collected));
-    (held, Other { registry, cpus, retired, collected })
+    (
+        held,
+        Other {
+            registry,
+            cpus,
+            retired,
+            collected,
+        },
+    )
 }
 
 /// One call, by its name.
 type Call = (&'static str, fn(&mut Other));
 
-const CALLS: [Call; 9] = [
+const CALLS: [Call; 11] = [
     ("attach", |other| {
         other.registry.attach(&other.cpus[1], &name("vga"), 3).unwrap();
     }),
@@ -64,9 +71,17 @@ const CALLS: [Call; 9] = [
     ("destroy", |other| {
         other.retired.take().unwrap().destroy(&other.cpus[1], Patience::Turns(1)).unwrap();
     }),
-    ("collect", |other| {
+    ("defer", |other| {
         other.retired.take().unwrap().defer();
-        assert_eq!(other.registry.collect().len(), 1);
+        // The other thread's entry may be deferred by now.
+        assert!(other.registry.retired() <= 1);
+    }),
+    ("retire", |other| {
+        let freed = other.registry.retire(&other.cpus[1], Kind::Driver, &name("wm")).unwrap();
+        assert_eq!(freed[0].value, 0);
+    }),
+    ("replace", |other| {
+        drop(other.registry.replace(&other.cpus[1], &name("wm"), 3).unwrap());
     }),
     ("release of what was collected", |other| {
         LocalRef::release(other.collected.take().unwrap(), &other.cpus[1]).unwrap();

@@ -1,10 +1,9 @@
 //! What memory of the crate's own is left: none after a refusal or a closing, and little after many drops. What happens where there is none.
-#![cfg(feature = "std")]
 
 mod common;
 
 use common::{local, name, scaled, watched, with_driver};
-use registry::{Found, Holder, Kind, LocalRef, Patience, Refusal, Refused, Registry, Settings, LIMITS};
+use kupaldiz::{Found, Holder, Kind, LocalRef, Patience, Refusal, Refused, Registry, Settings};
 use std::alloc::{GlobalAlloc, Layout, System};
 use std::cell::Cell;
 use std::mem;
@@ -16,12 +15,8 @@ struct Counting;
 thread_local! {
     static BYTES: Cell<isize> = const { Cell::new(0) };
     static BLOCKS: Cell<isize> = const { Cell::new(0) };
-    static LONG_BLOCKS: Cell<usize> = const { Cell::new(0) };
     static LONGEST: Cell<usize> = const { Cell::new(usize::MAX) };
 }
-
-/// A block that is so long is no vector of a few words.
-const LONG_BLOCK: usize = 256;
 
 fn count(bytes: isize, blocks: isize) {
     let _ = BYTES.try_with(|all| all.set(all.get() + bytes));
@@ -35,7 +30,6 @@ unsafe impl GlobalAlloc for Counting {
         if layout.size() > LONGEST.try_with(Cell::get).unwrap_or(usize::MAX) {
             return ptr::null_mut();
         }
-        let _ = LONG_BLOCKS.try_with(|all| all.set(all.get() + usize::from(layout.size() >= LONG_BLOCK)));
         count(layout.size() as isize, 1);
         // SAFETY: the caller sees to it.
         unsafe { System.alloc(layout) }
@@ -94,12 +88,9 @@ fn a_closing_keeps_no_memory_and_releases_what_was_dropped() {
         let retired = registry.detach(&cpus[0], Kind::Driver, &name("pci")).unwrap();
         assert_eq!(retired.advance().unwrap().value, [4]);
         registry.attach(&cpus[0], &name("vga"), Vec::new()).unwrap();
-        for count in [1, 70, 200] {
-            let held: Vec<_> = (0..count).map(|_| local(&cpus[1], "wm")).collect();
-            drop((held, local(&cpus[0], "vga")));
-        }
         registry.retire(&cpus[0], Kind::Driver, &name("vga")).unwrap();
-        assert!(registry.dropped() > 100);
+        drop((0..200).map(|_| local(&cpus[1], "wm")).collect::<Vec<_>>());
+        assert_eq!(registry.dropped(), 200);
     };
     closed();
     assert_eq!((left(closed), watched::locals()), (0, locals));
@@ -122,18 +113,13 @@ fn a_closing_closes_each_cpu_and_the_keeper() {
 fn a_reference_that_is_dropped_without_memory_stays_held() {
     let (registry, cpus) = with_driver(7);
     let (cpu, locals) = (&cpus[0], watched::locals());
-    // There is none for the rows of the basket.
-    let held = local(cpu, "wm");
-    with_blocks_of(LIMITS.slots as usize * mem::size_of::<Vec<u8>>() - 1, || drop(held));
-    assert_eq!((registry.dropped(), watched::locals()), (0, locals));
-    drop(local(cpu, "wm"));
-    // There is none for a row of more than 64.
+    // There is none for a list of more than 64.
     let held: Vec<_> = (0..100).map(|_| local(cpu, "wm")).collect();
     with_blocks_of(64 * mem::size_of::<usize>(), || drop(held));
     assert_eq!((registry.dropped(), watched::locals()), (64, locals + 64));
     let retired = registry.detach(cpu, Kind::Driver, &name("wm")).unwrap();
     assert_eq!((registry.dropped(), watched::locals()), (0, locals));
-    assert_eq!(retired.advance().unwrap_err().refusal, Refusal::StillHeld(Holder::Local(37)));
+    assert_eq!(retired.advance().unwrap_err().refusal, Refusal::StillHeld(Holder::Local(36)));
 }
 
 #[test]
@@ -152,7 +138,7 @@ fn a_destroyed_value_keeps_no_memory() {
     assert_eq!(left(|| (0..100).for_each(|_| come_and_go())), 0);
 }
 
-/// After 100,000 references are dropped at once, room stays for some of them only, and for a row of each slot. It is given back in few steps.
+/// After 100,000 references are dropped at once, no room stays for them. It is given back in one step.
 #[test]
 fn a_basket_gives_its_room_back() {
     let (registry, cpus) = Registry::open(Settings::new(1, 1)).unwrap();
@@ -166,9 +152,6 @@ fn a_basket_gives_its_room_back() {
     drop(many);
     assert_eq!(registry.dropped(), count);
     assert!(BYTES.with(Cell::get) - before >= count as isize * 8);
-    let steps = LONG_BLOCKS.with(Cell::get);
     cpus[0].release_dropped();
-    assert!(LONG_BLOCKS.with(Cell::get) - steps <= 16);
-    let rows = LIMITS.slots as usize * mem::size_of::<Vec<u8>>();
-    assert!(BYTES.with(Cell::get) - before <= rows as isize + 1280);
+    assert_eq!(BYTES.with(Cell::get), before);
 }

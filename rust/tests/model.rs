@@ -1,11 +1,11 @@
 //! Random calls beside a plain model: each answer of each call is the one that the model gives.
-#![cfg(feature = "std")]
 
 mod common;
 
 use common::{name, scaled, Dice, Drops, Tracked};
-use registry::{
-    Cpu, Entry, Found, Holder, Kind, LocalRef, Name, PassiveRef, Patience, Refusal, Refused, Registry, Retired, Section, Settings,
+use kupaldiz::{
+    Cpu, DestroyError, Entry, Found, Freed, Holder, Kind, LocalRef, Name, PassiveRef, Patience, Refusal, Registry, Retired, Section,
+    Settings,
 };
 
 const CPUS: usize = 3;
@@ -37,6 +37,10 @@ struct Bench<'cpu> {
     locals: Vec<LocalRef<Tracked>>,
     tokens: Vec<Retired<Tracked>>,
     deferred: Vec<u64>,
+    /// Deferred entries that an attach has freed.
+    waiting: Vec<u64>,
+    /// Entries with a token that an attach has freed.
+    taken: Vec<u64>,
     known: Vec<Known>,
     changes: u64,
     labels: u64,
@@ -84,34 +88,60 @@ impl<'cpu> Bench<'cpu> {
         self.deferred.retain(|other| *other != number);
     }
 
-    /// One turn for each deferred entry. What they free, in order.
+    /// The entry is freed, if nothing holds it.
+    fn is_freed(&mut self, number: u64) -> bool {
+        let is_free = self.holder(number).is_none();
+        if is_free {
+            self.forget(number);
+        }
+        is_free
+    }
+
+    /// One turn for each deferred entry. What is freed by then.
     fn collect(&mut self) -> Vec<u64> {
-        let mut freed = self.deferred.clone();
-        freed.retain(|number| {
-            let free = self.holder(*number).is_none();
-            if free {
-                self.forget(*number);
+        let mut freed = std::mem::take(&mut self.waiting);
+        for number in self.deferred.clone() {
+            if self.is_freed(number) {
+                freed.push(number);
             }
-            free
-        });
+        }
+        freed.sort_unstable();
         freed
     }
 
-    /// What a change is refused for, and what it does before that.
-    fn before_change(&mut self, cpu: usize) -> Result<(), Refusal> {
-        if self.is_inside(cpu) {
-            return Err(Refusal::Inside);
+    /// One turn for each retired entry, the youngest first.
+    fn make_room(&mut self) {
+        let mut retired: Vec<u64> = self.known.iter().filter(|one| !one.live).map(|one| one.entry.number).collect();
+        retired.sort_unstable();
+        for number in retired.into_iter().rev() {
+            let is_deferred = self.deferred.contains(&number);
+            if self.is_freed(number) {
+                let to = if is_deferred { &mut self.waiting } else { &mut self.taken };
+                to.push(number);
+            }
         }
-        self.collect();
-        Ok(())
     }
 
-    fn attached(&self, kind: Kind, name: &Name) -> Result<u8, Refusal> {
+    fn before_change(&self, cpu: usize) -> Result<(), Refusal> {
+        if self.is_inside(cpu) {
+            Err(Refusal::Inside)
+        } else {
+            Ok(())
+        }
+    }
+
+    fn vacant(&self) -> Option<u8> {
+        (0..SLOTS as u8).find(|slot| self.known.iter().all(|one| one.entry.slot != *slot))
+    }
+
+    fn attached(&mut self, kind: Kind, name: &Name) -> Result<u8, Refusal> {
         if self.live(kind, name).is_some() {
             return Err(Refusal::NameTaken);
         }
-        let vacant = (0..SLOTS as u8).find(|slot| self.known.iter().all(|one| one.entry.slot != *slot));
-        vacant.ok_or(Refusal::NoSlot)
+        if self.vacant().is_none() {
+            self.make_room();
+        }
+        self.vacant().ok_or(Refusal::NoSlot)
     }
 }
 
@@ -184,7 +214,7 @@ impl<'cpu> Bench<'cpu> {
         let expected = self.live(kind, &name).map(|one| one.entry).ok_or(Refusal::NotFound);
         match self.dice.below(4) {
             0 => assert_eq!(cpu.look_up(kind, &name), expected),
-            1 => assert_eq!(cpu.read(kind, &name).map(|guard| registry::ReadGuard::entry(&guard)), expected),
+            1 => assert_eq!(cpu.read(kind, &name).map(|guard| kupaldiz::ReadGuard::entry(&guard)), expected),
             2 => match cpu.get(kind, &name) {
                 Ok(held) => {
                     assert_eq!(Ok(PassiveRef::entry(&held)), expected);
@@ -213,8 +243,7 @@ impl<'cpu> Bench<'cpu> {
         } else if let Some(held) = self.dice.take(&mut self.locals) {
             held.check();
             match self.dice.below(4) {
-                0 => LocalRef::release(held, cpu).unwrap(),
-                1 => drop(LocalRef::guard(held, cpu).unwrap()),
+                0 | 1 => LocalRef::release(held, cpu).unwrap(),
                 2 => self.clone_local(held),
                 _ => drop(held),
             }
@@ -250,7 +279,7 @@ impl<'cpu> Bench<'cpu> {
         self.labels += 1;
         let value = self.drops.make(self.labels);
         let made = if kept.is_none() {
-            self.registry.attach(cpu, &name, value).map_err(Refused::into_refusal)
+            self.registry.attach(cpu, &name, value).map_err(Refusal::from)
         } else {
             let driver = self.locals.swap_remove(place);
             self.registry.attach_iface(cpu, &name, driver, value).map_err(|refused| {
@@ -277,25 +306,25 @@ impl<'cpu> Bench<'cpu> {
         let (kind, name) = self.any_key();
         let before = self.before_change(at);
         let expected = before.and_then(|()| self.live(kind, &name).map(|one| one.entry).ok_or(Refusal::NotFound));
-        let deferred = self.dice.below(2) == 0;
-        let gone = if deferred {
-            self.registry.retire(cpu, kind, &name)
-        } else {
-            let gone = self.registry.detach(cpu, kind, &name);
-            gone.map(|token| {
-                self.tokens.push(token);
-                self.tokens[self.tokens.len() - 1].entry()
-            })
+        let way = self.dice.below(3);
+        let gone = match (way, expected) {
+            (0, _) => self.registry.retire(cpu, kind, &name).map(|freed| (None, freed)),
+            (1, Ok(entry)) => self.registry.detach_entry(cpu, &entry).map(|token| (Some(token), Vec::new())),
+            _ => self.registry.detach(cpu, kind, &name).map(|token| (Some(token), Vec::new())),
         };
-        assert_eq!(gone, expected);
-        if let Ok(entry) = gone {
+        assert_eq!(gone.as_ref().err(), expected.as_ref().err());
+        if let (Ok((token, freed)), Ok(entry)) = (gone, expected) {
             self.changes += 1;
             let open = [0, 1, 2].map(|cpu| self.is_inside(cpu).then(|| self.begun[cpu]));
             let one = self.known.iter_mut().find(|one| one.entry == entry).unwrap();
             (one.live, one.open) = (false, open);
-            if deferred {
-                self.deferred.push(entry.number);
+            if let Some(token) = token {
+                assert_eq!(token.entry(), entry);
+                assert_eq!(self.registry.detach_entry(cpu, &entry).unwrap_err(), Refusal::NotFound);
+                return self.tokens.push(token);
             }
+            self.deferred.push(entry.number);
+            assert_eq!(numbers(&freed), self.collect());
         }
     }
 
@@ -307,7 +336,8 @@ impl<'cpu> Bench<'cpu> {
             None => return,
         };
         let number = token.entry().number;
-        let holder = self.holder(number);
+        let is_taken = self.taken.contains(&number);
+        let holder = if is_taken { None } else { self.holder(number) };
         let own = cpu.holds(number).then_some(Holder::Passive(at as u8));
         let (done, expected) = match self.dice.below(3) {
             0 => (token.advance(), holder.map(Refusal::StillHeld)),
@@ -315,16 +345,21 @@ impl<'cpu> Bench<'cpu> {
             1 => (token.destroy(cpu, Patience::Turns(1)), own.or(holder).map(Refusal::StillHeld)),
             _ => {
                 token.defer();
-                return self.deferred.push(number);
+                self.taken.retain(|other| *other != number);
+                if !is_taken {
+                    self.deferred.push(number);
+                }
+                return drop(self.collect());
             }
         };
         match done {
             Ok(freed) => {
                 assert_eq!((freed.entry.number, expected), (number, None));
                 freed.value.check();
+                self.taken.retain(|other| *other != number);
                 self.forget(number);
             }
-            Err(Refused { refusal, given }) => {
+            Err(DestroyError { refusal, given }) => {
                 assert_eq!(Some(refusal), expected);
                 self.tokens.push(given);
             }
@@ -335,8 +370,7 @@ impl<'cpu> Bench<'cpu> {
         let (at, cpu) = self.any_cpu();
         if self.dice.below(2) == 0 {
             let expected = self.collect();
-            let freed: Vec<u64> = self.registry.collect().iter().map(|freed| freed.entry.number).collect();
-            return assert_eq!(freed, expected);
+            return assert_eq!(numbers(&self.registry.collect()), expected);
         }
         let waiting = (0..CPUS).find(|other| self.is_inside(*other));
         let expected = if self.is_inside(at) {
@@ -375,8 +409,16 @@ impl<'cpu> Bench<'cpu> {
             _ => self.audit(),
         }
         assert_eq!(self.registry.retired(), self.deferred.len());
-        assert_eq!(self.drops.made() - self.drops.dropped(), self.known.len());
+        let kept = self.known.len() + self.waiting.len() + self.taken.len();
+        assert_eq!(self.drops.made() - self.drops.dropped(), kept);
     }
+}
+
+/// The numbers of what was freed, the least first.
+fn numbers(freed: &[Freed<Tracked>]) -> Vec<u64> {
+    let mut numbers: Vec<u64> = freed.iter().map(|freed| freed.entry.number).collect();
+    numbers.sort_unstable();
+    numbers
 }
 
 /// So many random calls.
@@ -394,6 +436,8 @@ fn run(seed: u64, steps: usize) {
         locals: Vec::new(),
         tokens: Vec::new(),
         deferred: Vec::new(),
+        waiting: Vec::new(),
+        taken: Vec::new(),
         known: Vec::new(),
         changes: 0,
         labels: 0,

@@ -1,10 +1,9 @@
 //! References that own a share of their CPU, parts of what an entry carries, and methods of `T` that are called as the crate's functions are.
-#![cfg(feature = "std")]
 
 mod common;
 
 use common::{detach, local, name, passive, with_driver};
-use registry::{Cpu, Found, Holder, Kind, LocalGuard, LocalRef, Mapped, PassiveRc, PassiveRef, ReadGuard, Registry};
+use kupaldiz::{Cpu, Found, Holder, Kind, LocalRef, Mapped, PassiveRc, PassiveRef, ReadGuard, Registry};
 use std::rc::Rc;
 use std::thread;
 
@@ -47,18 +46,6 @@ fn a_worker_owns_its_cpu_and_its_references() {
     assert_eq!(gone.freed().value, "gigabit");
 }
 
-#[test]
-fn a_borrowed_reference_becomes_an_owned_one() {
-    let (registry, mut cpus) = with_driver(7);
-    let cpu = Rc::new(cpus.remove(0));
-    let reference = passive(&cpu, "wm");
-    let owned = PassiveRef::into_rc(reference, &cpu).unwrap();
-    let gone = detach(&registry, &cpus[0], "wm");
-    assert_eq!((*owned, gone.holder()), (7, Some(Holder::Passive(0))));
-    drop(owned);
-    assert_eq!(gone.freed().value, 7);
-}
-
 struct Port {
     mtu: u32,
     text: String,
@@ -77,14 +64,14 @@ fn a_part_is_held_by_what_it_was_made_of() {
     let passive = PassiveRef::map(passive(&cpu, "wm"), |port| &port.mtu);
     let owned = PassiveRc::map(cpu.get_rc(Kind::Driver, &name("wm")).unwrap(), |port| &port.text);
     let plain = LocalRef::map(local(&cpu, "wm"), |port| &port.text[..]);
-    let guard = LocalGuard::map(LocalRef::guard(local(&cpu, "wm"), &cpu).unwrap(), |port| &port.text[5..]);
+    let other = LocalRef::map(local(&cpu, "wm"), |port| &port.text[5..]);
     let gone = detach(&registry, &cpus[0], "wm");
     assert_eq!(
-        (&*read, *passive, owned.len(), &*plain, &*guard),
+        (&*read, *passive, owned.len(), &*plain, &*other),
         ("port 1500", 1500, 9, "port 1500", "1500")
     );
     assert_eq!(
-        (format!("{read} {passive}"), format!("{guard:?}")),
+        (format!("{read} {passive}"), format!("{other:?}")),
         ("port 1500 1500".to_string(), "Mapped(\"1500\")".to_string())
     );
     let mut holders = vec![gone.holder()];
@@ -95,7 +82,7 @@ fn a_part_is_held_by_what_it_was_made_of() {
     assert_eq!(passive.mtu, 1500);
     drop((passive, owned));
     holders.push(gone.holder());
-    drop(guard);
+    drop(other);
     holders.push(gone.holder());
     let expected = [Holder::Grace(0), Holder::Passive(0), Holder::Local(2), Holder::Local(1)];
     assert_eq!(holders, expected.map(Some));
@@ -147,14 +134,11 @@ shadows!(
     map,
     cpu,
     try_clone,
-    into_rc,
     release,
-    guard,
     reference,
     into_inner,
     is_of,
-    handle,
-    unbind
+    handle
 );
 
 #[test]
@@ -167,11 +151,9 @@ fn no_function_hides_a_method_of_what_is_carried() {
     assert_eq!(all!(section.entries().next().unwrap()), NAMES);
     assert_eq!(all!(cpu.read(Kind::Driver, &name("wm")).unwrap()), NAMES);
     assert_eq!(all!(Found::acquire(&found).unwrap()), NAMES);
-    assert_eq!(all!(PassiveRef::into_rc(Found::acquire(&found).unwrap(), &cpu).unwrap()), NAMES);
+    assert_eq!(all!(cpu.get_rc(Kind::Driver, &name("wm")).unwrap()), NAMES);
     assert_eq!(all!(Found::acquire_local(&found).unwrap()), NAMES);
-    let guard = LocalRef::guard(Found::acquire_local(&found).unwrap(), &cpu).unwrap();
-    assert_eq!(all!(guard), NAMES);
-    let part = LocalGuard::map(guard, |shadow| shadow);
+    let part = LocalRef::map(Found::acquire_local(&found).unwrap(), |shadow| shadow);
     assert_eq!(all!(part), NAMES);
 }
 
@@ -194,7 +176,7 @@ fn no_public_function_of_a_reference_is_a_method() {
     let derefs: Vec<&str> = lines()
         .filter_map(|line| line.strip_prefix("impl")?.split(" Deref for ").nth(1)?.split('<').next())
         .collect();
-    assert_eq!(derefs.len(), 8, "{derefs:?}");
+    assert_eq!(derefs.len(), 7, "{derefs:?}");
     let (mut of, mut functions) = ("", 0);
     for line in lines() {
         of = inherent(line).unwrap_or(of);

@@ -1,16 +1,17 @@
 //! A pool lends each CPU to one thread at a time, and takes it back outside of any section.
-#![cfg(feature = "std")]
 
 mod common;
 
 use common::{balances, detach, local, name, passive, with_driver, LONG};
-use registry::{CpuPool, Kind, LocalRef};
+use kupaldiz::{CpuPool, Kind, LocalRef, Refusal};
 use std::fmt::{self, Write};
+use std::future::Future;
 use std::mem;
 use std::panic::{catch_unwind, AssertUnwindSafe};
 use std::sync::atomic::{AtomicBool, AtomicU32, Ordering};
 use std::sync::mpsc::{channel, Receiver};
 use std::sync::Arc;
+use std::task::{Context, Poll, Wake, Waker};
 use std::thread;
 use std::time::{Duration, Instant};
 
@@ -26,6 +27,88 @@ fn each_cpu_is_lent_to_one_at_a_time() {
     assert_eq!(pool.try_lend().unwrap().id(), id);
     drop(two);
     assert_eq!(pool.into_cpus().len(), 2);
+}
+
+#[test]
+fn a_cpu_is_lent_for_a_call() {
+    let (_registry, mut cpus) = with_driver(7);
+    let pool = CpuPool::new(cpus.drain(..1)).unwrap();
+    assert_eq!(pool.with(|cpu| (cpu.id(), pool.try_lend().is_none())), (0, true));
+    let reference = pool.get_local(Kind::Driver, &name("wm")).unwrap();
+    assert_eq!((*reference, pool.try_lend().is_some()), (7, true));
+    assert_eq!(pool.get_local(Kind::Iface, &name("wm")).unwrap_err(), Refusal::NotFound);
+}
+
+/// Counts how often a task is woken.
+#[derive(Default)]
+struct Woken(AtomicU32);
+
+impl Wake for Woken {
+    fn wake(self: Arc<Self>) {
+        self.0.fetch_add(1, Ordering::SeqCst);
+    }
+}
+
+#[test]
+fn a_task_is_woken_as_a_cpu_comes_back() {
+    let (_registry, mut cpus) = with_driver(7);
+    let pool = CpuPool::new(cpus.drain(..1)).unwrap();
+    let woken = Arc::new(Woken::default());
+    let waker = Waker::from(Arc::clone(&woken));
+    let mut context = Context::from_waker(&waker);
+    let held = pool.lend();
+    let mut task = Box::pin(pool.lend_async());
+    assert!(task.as_mut().poll(&mut context).is_pending());
+    assert!(pool.poll_lend(&mut context).is_pending() && woken.0.load(Ordering::SeqCst) == 0);
+    drop(held);
+    assert_eq!(woken.0.load(Ordering::SeqCst), 1);
+    // Another one may take it before.
+    let other = pool.try_lend().unwrap();
+    assert!(task.as_mut().poll(&mut context).is_pending());
+    drop(other);
+    assert_eq!(woken.0.load(Ordering::SeqCst), 2);
+    let lent = task.as_mut().poll(&mut context).map(|lent| lent.id());
+    assert_eq!(lent, Poll::Ready(0));
+    assert!(pool.poll_lend(&mut context).is_ready());
+}
+
+/// The thread would keep the first loan while it waits for the second: it is told where it has that.
+#[test]
+fn a_loan_that_its_thread_has_is_told() {
+    let (registry, mut cpus) = with_driver(7);
+    let pool = CpuPool::new(cpus.drain(..1)).unwrap();
+    let (to, from) = channel();
+    thread::spawn(move || {
+        let ended = catch_unwind(AssertUnwindSafe(|| {
+            let one = pool.lend();
+            registry.attach(&one, &name("vga"), *passive(&pool.lend(), "wm")).unwrap();
+        }));
+        // What was lent is back, and lent again.
+        to.send((ended.unwrap_err().downcast::<String>(), pool.lend().id()))
+    });
+    let (text, id) = from.recv_timeout(LONG).expect("it doesn't wait for ever");
+    let text = text.unwrap();
+    assert!(
+        text.starts_with("no CPU is idle, and this thread has CPU 0 of the pool since ") && text.contains("pool.rs:"),
+        "{text}"
+    );
+    assert_eq!(id, 0);
+}
+
+/// Nor is one that another thread has, or that is back.
+#[test]
+fn a_loan_of_another_thread_is_waited_for() {
+    let (_registry, cpus) = with_driver(7);
+    let pool = CpuPool::new(cpus).unwrap();
+    let (one, two) = (pool.lend(), pool.lend());
+    thread::scope(|scope| {
+        let other = scope.spawn(|| drop(pool.lend()));
+        thread::sleep(Duration::from_millis(5));
+        drop(one);
+        other.join().unwrap();
+        drop((pool.lend(), two));
+        drop(pool.lend());
+    });
 }
 
 #[test]

@@ -1,10 +1,10 @@
 //! Retired entries: what frees one, what holds it, and what becomes of it that nobody destroys.
-#![cfg(feature = "std")]
 
 mod common;
 
 use common::{local, name, passive, patience, with_driver, Drops, LONG};
-use registry::{CpuPool, Holder, Kind, LocalGuard, LocalRef, Patience, Refusal, Registry, Retired, Settings};
+use kupaldiz::{CpuPool, DestroyError, Holder, Kind, Patience, Refusal, Registry, Retired, Settings};
+use std::error::Error;
 use std::mem;
 use std::rc::Rc;
 use std::thread;
@@ -69,6 +69,24 @@ fn a_destroy_ends_once_the_reader_has_left() {
     assert_eq!(carried.join().unwrap(), 7);
 }
 
+/// The CPUs may be used by others meanwhile, or be gone.
+#[test]
+fn a_wait_needs_no_cpu() {
+    let (registry, mut cpus) = with_driver(7);
+    let cpu = cpus.remove(0);
+    let held = local(&cpu, "wm");
+    let retired = registry.detach(&cpu, Kind::Driver, &name("wm")).unwrap();
+    let refused = retired.wait(Patience::Turns(2)).unwrap_err();
+    assert_eq!(refused.refusal, Refusal::StillHeld(Holder::Local(1)));
+    drop(cpus);
+    let leaving = thread::spawn(move || {
+        thread::sleep(Duration::from_millis(5));
+        drop((held, cpu));
+    });
+    assert_eq!(refused.given.wait(patience()).unwrap().value, 7);
+    leaving.join().unwrap();
+}
+
 /// Nobody can let that go meanwhile, so no patience helps, nor one without an end.
 #[test]
 fn a_destroy_is_refused_at_once_where_its_own_cpu_holds_the_entry() {
@@ -77,7 +95,7 @@ fn a_destroy_is_refused_at_once_where_its_own_cpu_holds_the_entry() {
     let cpu = Rc::new(cpus.remove(0));
     let passive = passive(&cpu, "wm");
     let owned = cpu.get_rc(Kind::Driver, &name("wm")).unwrap();
-    let guards = [local(&cpu, "wm"), local(&cpus[0], "wm")].map(|local| LocalRef::guard(local, &cpu).unwrap());
+    let held = local(&cpu, "wm");
     let mut retired = registry.detach(&cpu, Kind::Driver, &name("wm")).unwrap();
     let refused = |retired: Retired<i32>, holder| {
         let refused = retired.destroy(&cpu, Patience::at_most(LONG)).unwrap_err();
@@ -90,41 +108,14 @@ fn a_destroy_is_refused_at_once_where_its_own_cpu_holds_the_entry() {
     drop(passive);
     retired = refused(retired, Holder::Passive(0));
     drop(owned);
-    retired = refused(retired, Holder::Local(2));
     drop(section);
-    let [one, two] = guards;
-    drop(one);
-    retired = refused(retired, Holder::Local(1));
     assert!(began.elapsed() < LONG);
-    // Unbound, it may be released elsewhere, so the call waits.
-    let two = LocalGuard::into_inner(two);
+    // A local reference may be released elsewhere, so the call waits.
     let (began, shortly) = (Instant::now(), Duration::from_millis(5));
     let refused = retired.destroy(&cpu, Patience::at_most(shortly)).unwrap_err();
-    assert!(began.elapsed() >= shortly);
-    drop(two);
+    assert!(refused.refusal == Refusal::StillHeld(Holder::Local(1)) && began.elapsed() >= shortly);
+    drop(held);
     assert_eq!(refused.given.destroy(&cpu, patience()).unwrap().value, 7);
-}
-
-/// A guard to another entry, or of another CPU, is waited for as anything is, and a slot that is given again starts anew.
-#[test]
-fn guards_are_counted_by_their_entries() {
-    let (registry, cpus) = with_driver(7);
-    registry.attach(&cpus[0], &name("vga"), 8).unwrap();
-    let shortly = Duration::from_millis(5);
-    for value in 9..12 {
-        for (slot, (text, other)) in (0..).zip([("wm", "vga"), ("vga", "wm")]) {
-            let to_other = LocalRef::guard(local(&cpus[0], other), &cpus[0]).unwrap();
-            let elsewhere = LocalRef::guard(local(&cpus[1], text), &cpus[1]).unwrap();
-            let retired = registry.detach(&cpus[0], Kind::Driver, &name(text)).unwrap();
-            let began = Instant::now();
-            let refused = retired.destroy(&cpus[0], Patience::at_most(shortly)).unwrap_err();
-            assert_eq!(refused.refusal, Refusal::StillHeld(Holder::Local(1)));
-            assert!(began.elapsed() >= shortly, "it didn't wait");
-            drop((to_other, elsewhere));
-            assert!(refused.given.destroy(&cpus[0], Patience::Turns(1)).is_ok());
-            assert_eq!(registry.attach(&cpus[0], &name(text), value).unwrap().slot, slot);
-        }
-    }
 }
 
 #[test]
@@ -144,7 +135,47 @@ fn what_nobody_destroys_is_deferred() {
     }
     section.exit();
     registry.attach(&cpus[0], &name("more"), drops.make(3)).unwrap();
-    assert_eq!((registry.retired(), drops.dropped()), (0, 3));
+    assert_eq!((registry.retired(), drops.dropped()), (3, 0));
+    drop(registry.detach(&cpus[0], Kind::Driver, &name("more")).unwrap());
+    assert_eq!((registry.retired(), drops.dropped()), (0, 4));
+}
+
+/// An error that is boxed and kept has the token in it. Its entry's slot is vacant all the same once an attach needs it, and its value waits for it.
+#[test]
+fn a_token_in_a_boxed_error_keeps_no_slot() {
+    let (registry, cpus) = Registry::open(Settings::new(2, 1)).unwrap();
+    registry.attach(&cpus[0], &name("wm"), 7).unwrap();
+    let section = cpus[1].enter().unwrap();
+    let destroyed = || -> Result<(), Box<dyn Error>> {
+        registry
+            .detach(&cpus[0], Kind::Driver, &name("wm"))?
+            .destroy(&cpus[0], Patience::Turns(1))?;
+        Ok(())
+    };
+    let kept = destroyed().unwrap_err();
+    assert_eq!(registry.attach(&cpus[0], &name("vga"), 8).unwrap_err().refusal, Refusal::NoSlot);
+    section.exit();
+    assert_eq!(registry.attach(&cpus[0], &name("vga"), 8).unwrap().slot, 0);
+    assert_eq!((registry.collect().len(), registry.retired()), (0, 0));
+    let kept = kept.downcast::<DestroyError<i32>>().unwrap();
+    assert_eq!(kept.given.destroy(&cpus[0], Patience::Turns(1)).unwrap().value, 7);
+}
+
+/// Also by a turn, and by a drop, which drops it.
+#[test]
+fn a_value_waits_for_its_token() {
+    let drops = Drops::default();
+    let (registry, cpus) = Registry::open(Settings::new(1, 2)).unwrap();
+    let attach = |text, label| registry.attach(&cpus[0], &name(text), drops.make(label)).unwrap();
+    let detach = |text| registry.detach(&cpus[0], Kind::Driver, &name(text)).unwrap();
+    let _made = [attach("d0", 0), attach("d1", 1)];
+    let tokens = (detach("d0"), detach("d1"));
+    let _made = [attach("d2", 2), attach("d3", 3)];
+    assert_eq!((tokens.0.entry().number, drops.dropped()), (1, 0));
+    assert_eq!(tokens.0.advance().unwrap().value.label, 0);
+    assert_eq!((drops.dropped(), registry.retired()), (1, 0));
+    drop(tokens.1);
+    assert_eq!((drops.dropped(), registry.retired()), (2, 0));
 }
 
 /// It is moved at each turn, and the interlock waits for what is stored before it.
@@ -186,13 +217,15 @@ fn a_collection_goes_on_past_what_is_held() {
         registry.attach(&cpus[0], &name(&format!("d{i}")), i).unwrap();
     }
     let held = [local(&cpus[1], "d0"), local(&cpus[1], "d2")];
+    let section = cpus[1].enter().unwrap();
     let names: Vec<_> = (0..4).map(|i| name(&format!("d{i}"))).collect();
     let tokens: Vec<_> = names
         .iter()
         .map(|name| registry.detach(&cpus[0], Kind::Driver, name).unwrap())
         .collect();
     tokens.into_iter().for_each(|token| token.defer());
-    let values = |freed: Vec<registry::Freed<i32>>| freed.into_iter().map(|one| one.value).collect::<Vec<_>>();
+    section.exit();
+    let values = |freed: Vec<kupaldiz::Freed<i32>>| freed.into_iter().map(|one| one.value).collect::<Vec<_>>();
     assert_eq!((values(registry.collect()), registry.retired()), (vec![1, 3], 2));
     drop(held);
     assert_eq!((values(registry.collect()), registry.retired()), (vec![0, 2], 0));

@@ -1,7 +1,7 @@
 #!/bin/sh
 # Runs tests/edges.rs under the thread sanitizer: it reports no race; and without either of the two edges of the memory order, of which nobody tells it
-# then, it reports one. So it would see a value that is read before its attach, or after it was freed. The crate is built without the standard
-# library's locks, into which the sanitizer doesn't see. It wants a nightly rustc, and the archive in the folder that REGISTRY_LIB_DIR names. By hand.
+# then, it reports one. So it would see a value that is read before its attach, or after it was freed. The crate has locks
+# of its own then: the sanitizer doesn't see into the standard library's. It wants a nightly rustc, and the archive in the folder that REGISTRY_LIB_DIR names. By hand.
 set -u
 cd "$(dirname "$0")/.." || exit
 export REGISTRY_LIB_DIR="${REGISTRY_LIB_DIR:-$PWD/../out}" CARGO_TARGET_DIR="${CARGO_TARGET_DIR:-$PWD/target}/sanitized"
@@ -13,7 +13,7 @@ export TSAN_OPTIONS="suppressions=$CARGO_TARGET_DIR/suppressed"
 
 # races EDGE: whether a run without this edge reports a race of a value.
 races() {
-    REGISTRY_WITHOUT=$1 cargo +nightly test -q --offline --target x86_64-unknown-linux-gnu --no-default-features --test edges >"$CARGO_TARGET_DIR/said" 2>&1
+    REGISTRY_WITHOUT=$1 cargo +nightly test -q --offline --target x86_64-unknown-linux-gnu --test edges >"$CARGO_TARGET_DIR/said" 2>&1
     status=$?
     grep -q 'data race.*edges::Plain' "$CARGO_TARGET_DIR/said"
 }

@@ -1,10 +1,9 @@
 //! Several entries in one section: each is used and acquired as if it were alone there.
-#![cfg(feature = "std")]
 
 mod common;
 
 use common::{balances, detach, with_driver};
-use registry::{Cpu, Found, Holder, Kind, LocalRef, Name, PassiveRef, ReadGuard, Refusal, Registry, Section, Settings, LIMITS};
+use kupaldiz::{Cpu, Found, Holder, Kind, LocalRef, Name, PassiveRef, ReadGuard, Refusal, Registry, Section, Settings, LIMITS};
 
 const WM: Name = Name::from_static("wm");
 const VGA: Name = Name::from_static("vga");

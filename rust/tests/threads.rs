@@ -1,10 +1,9 @@
 //! All CPUs at work at once, on values that are poisoned as they are dropped: whoever holds one finds it whole, and each is dropped once.
-#![cfg(feature = "std")]
 
 mod common;
 
 use common::{name, patience, Drops, Stops, Tracked};
-use registry::{Cpu, CpuPool, Found, Kind, LocalRef, Name, PassiveRef, Patience, Refusal, Registry, Settings};
+use kupaldiz::{Cpu, CpuPool, Found, Kind, LocalRef, Name, PassiveRef, Patience, Refusal, Registry, Settings};
 use std::env;
 use std::sync::atomic::{AtomicBool, AtomicU64, Ordering};
 use std::sync::mpsc::{sync_channel, Receiver, SyncSender};

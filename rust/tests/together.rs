@@ -1,12 +1,11 @@
 //! Random calls of threads that share a registry. Each thread alone changes its own names, so of these each answer is known; of the others' what
 //! is found is whole and has the name that was asked for.
-#![cfg(feature = "std")]
 
 mod common;
 
 use common::{name, scaled, Dice, Drops, Tracked};
-use registry::{
-    Cpu, Found, Holder, Kind, LocalRef, Name, PassiveRef, Patience, ReadGuard, Refusal, Refused, Registry, Retired, Settings, LIMITS,
+use kupaldiz::{
+    Cpu, DestroyError, Found, Holder, Kind, LocalRef, Name, PassiveRef, Patience, ReadGuard, Refusal, Registry, Retired, Settings, LIMITS,
 };
 use std::sync::Mutex;
 use std::thread;
@@ -124,8 +123,7 @@ impl<'all, const CPUS: usize, const OWN: usize> Worker<'all, CPUS, OWN> {
         if let Some(local) = handed {
             local.check();
             match self.dice.below(4) {
-                0 => LocalRef::release(local, self.cpu).unwrap(),
-                1 => drop(LocalRef::guard(local, self.cpu).unwrap()),
+                0 | 1 => LocalRef::release(local, self.cpu).unwrap(),
                 2 => match LocalRef::try_clone(&local, self.cpu) {
                     Ok(more) => assert_eq!(more.label, local.label),
                     Err(refusal) => assert_eq!(refusal, Refusal::NotFound),
@@ -151,7 +149,7 @@ impl<'all, const CPUS: usize, const OWN: usize> Worker<'all, CPUS, OWN> {
                 freed.value.check();
                 assert_eq!((freed.entry.number, freed.value.label, held), (number, label, false));
             }
-            Err(Refused { refusal, given }) => {
+            Err(DestroyError { refusal, given }) => {
                 let passive = Refusal::StillHeld(Holder::Passive(self.cpu.id()));
                 assert!(matches!(refusal, Refusal::StillHeld(_)) && (!own || refusal == passive));
                 self.tokens.push((given, label));

@@ -1,13 +1,11 @@
 //! Handles of two registries don't meet: each call that takes two handles refuses it by name, and nothing has changed.
-#![cfg(feature = "std")]
 
 mod common;
 
 use common::{balance, balances, detach, local, name, patience, with_driver};
-use registry::{Cpu, CpuPool, Kind, LocalRef, PassiveRef, Refusal, Refused};
+use kupaldiz::{CpuPool, Kind, LocalRef, Refusal, Refused};
 use std::collections::hash_map::DefaultHasher;
 use std::hash::{Hash, Hasher};
-use std::rc::Rc;
 
 fn hash_of(value: impl Hash) -> u64 {
     let mut hasher = DefaultHasher::new();
@@ -27,6 +25,11 @@ fn changes_by_a_cpu_of_another_registry_are_refused() {
         Refusal::OtherRegistry
     );
     assert_eq!(registry.retire(foreign, Kind::Driver, &name("wm")), Err(Refusal::OtherRegistry));
+    assert_eq!(registry.drain(foreign, patience()).map(drop), Err(Refusal::OtherRegistry));
+    let refused = registry.replace(foreign, &name("wm"), 9).map(drop).unwrap_err();
+    assert_eq!((refused.refusal, refused.given), (Refusal::OtherRegistry, 9));
+    let entry = cpus[0].look_up(Kind::Driver, &name("wm")).unwrap();
+    assert_eq!(registry.detach_entry(foreign, &entry).unwrap_err(), Refusal::OtherRegistry);
     for all in [balances(&registry, &cpus), balances(&other, &others)] {
         assert_eq!(all, [balance(0, &[0, 0], 0)]);
     }
@@ -72,34 +75,14 @@ fn a_clone_by_a_cpu_of_another_registry_is_refused() {
     assert_eq!(LocalRef::try_clone(&reference, &others[0]).unwrap_err(), Refusal::OtherRegistry);
 }
 
-/// Nor does a passive reference take a share of another CPU, of whichever registry.
-#[test]
-fn a_passive_reference_stays_with_its_cpu() {
-    let (_registry, cpus) = with_driver(7);
-    let (_other, others) = with_driver(7);
-    let rcs: Vec<Rc<Cpu<i32>>> = cpus.into_iter().chain(others).map(Rc::new).collect();
-    let mut reference = rcs[0].get(Kind::Driver, &name("wm")).unwrap();
-    for wrong in &rcs[1..] {
-        let Refused { refusal, given } = PassiveRef::into_rc(reference, wrong).unwrap_err();
-        assert_eq!((refusal, *given), (Refusal::WrongCpu, 7));
-        reference = given;
-    }
-    let owned = PassiveRef::into_rc(reference, &rcs[0]).unwrap();
-    assert_eq!((*owned, rcs[0].holds(1), Rc::strong_count(&rcs[0])), (7, true, 2));
-    drop(owned);
-    assert!(!rcs[0].holds(1) && !rcs[1].holds(1));
-}
-
 #[test]
 fn a_release_at_another_registry_is_refused() {
     let (registry, cpus) = with_driver(7);
     let (other, others) = with_driver(8);
     let Refused { refusal, given } = LocalRef::release(local(&cpus[0], "wm"), &others[0]).unwrap_err();
     assert_eq!((refusal, *given), (Refusal::OtherRegistry, 7));
-    let Refused { refusal, given } = LocalRef::guard(given, &others[0]).unwrap_err();
-    assert_eq!((refusal, *given), (Refusal::OtherRegistry, 7));
     assert_eq!(balances(&other, &others), [balance(0, &[0, 0], 0)]);
-    drop(LocalRef::guard(given, &cpus[1]).unwrap());
+    LocalRef::release(given, &cpus[1]).unwrap();
     assert_eq!(balances(&registry, &cpus), [balance(0, &[1, -1], 0)]);
 }
 

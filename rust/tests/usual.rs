@@ -1,10 +1,9 @@
 //! The usual path in few calls: what `Cpu::get`, `Cpu::look_up` and `Cpu::read` answer and leave.
-#![cfg(feature = "std")]
 
 mod common;
 
-use common::{detach, name, patience, with_driver, Drops, Stops, Tracked};
-use registry::{Cpu, CpuPool, Found, Holder, Kind, LocalRef, Name, PassiveRef, ReadGuard, Refusal, Registry, Settings, LIMITS};
+use common::{detach, local, name, patience, with_driver, Drops, Stops, Tracked};
+use kupaldiz::{Cpu, CpuPool, Found, Holder, Kind, LocalRef, Name, PassiveRef, ReadGuard, Refusal, Registry, Settings, LIMITS};
 use std::mem;
 use std::panic::{catch_unwind, AssertUnwindSafe};
 use std::sync::atomic::{AtomicBool, Ordering};
@@ -209,7 +208,7 @@ fn a_call_is_nested_as_deep_as_a_section() {
 }
 
 #[test]
-fn a_call_outside_counts_as_a_section_except_a_look_up_and_a_get() {
+fn a_call_outside_counts_as_a_section_except_of_an_entry_that_its_cpu_remembers() {
     let (registry, cpus) = Registry::open(Settings::new(1, 1).sections(3)).unwrap();
     let (cpu, wm) = (&cpus[0], name("wm"));
     registry.attach(cpu, &wm, 7).unwrap();
@@ -222,12 +221,10 @@ fn a_call_outside_counts_as_a_section_except_a_look_up_and_a_get() {
     section.exit();
     for _ in 0..9 {
         assert_eq!(cpu.look_up(Kind::Driver, &wm).unwrap().number, 1);
-        assert_eq!(cpu.look_up(Kind::Iface, &wm), Err(Refusal::NotFound));
         assert_eq!(*cpu.get(Kind::Driver, &wm).unwrap(), 7);
-        assert_eq!(cpu.get(Kind::Iface, &wm).unwrap_err(), Refusal::NotFound);
     }
-    assert_eq!(cpu.read(Kind::Iface, &wm).unwrap_err(), Refusal::NotFound);
-    assert_eq!(*cpu.read(Kind::Driver, &wm).unwrap(), 7);
+    assert_eq!(cpu.look_up(Kind::Iface, &wm), Err(Refusal::NotFound));
+    assert_eq!(cpu.get(Kind::Iface, &wm).unwrap_err(), Refusal::NotFound);
     assert_eq!(cpu.read(Kind::Driver, &wm).unwrap_err(), Refusal::SectionsSpent);
     assert_eq!(cpu.look_up(Kind::Driver, &wm), Err(Refusal::SectionsSpent));
     assert_eq!(cpu.get(Kind::Driver, &wm).unwrap_err(), Refusal::SectionsSpent);
@@ -287,4 +284,25 @@ fn threads_get_what_another_replaces() {
     });
     drop((changer, registry));
     assert_eq!(drops.made(), drops.dropped());
+}
+
+/// Each call names no kind, and meets no interface.
+#[test]
+fn a_plain_table_names_no_kind() {
+    let (registry, cpus) = with_driver(7);
+    let (table, wm) = (cpus[0].table(), name("wm"));
+    registry.attach_iface(&cpus[0], &name("wm0"), local(&cpus[0], "wm"), 1).unwrap();
+    assert_eq!(table.look_up(&name("wm0")).unwrap_err(), Refusal::NotFound);
+    assert_eq!(
+        (*table.get(&wm).unwrap(), *table.get_local(&wm).unwrap(), *table.read(&wm).unwrap()),
+        (7, 7, 7)
+    );
+    let made = table.attach(&name("vga"), 8).unwrap();
+    assert_eq!((table.look_up(&name("vga")), made.kind), (Ok(made), Kind::Driver));
+    assert_eq!(table.attach(&name("vga"), 9).unwrap_err().given, 9);
+    let (_, old) = table.replace(&name("vga"), 10).unwrap();
+    assert_eq!(old.advance().unwrap().value, 8);
+    assert_eq!(table.detach(&name("vga")).unwrap().advance().unwrap().value, 10);
+    assert_eq!(table.retire(&wm).unwrap(), []);
+    assert_eq!(table.detach(&wm).unwrap_err(), Refusal::NotFound);
 }

@@ -1,5 +1,4 @@
 //! The tests' own eyes: who watches the archive's calls names each that the crate makes, and sees two that are made at once.
-#![cfg(feature = "std")]
 
 mod common;
 
@@ -37,7 +36,7 @@ fn the_calls_are_led_here() {
     let before = watched::locals();
     let reference = local(&cpus[0], "wm");
     assert_eq!(watched::locals(), before + 1);
-    registry::LocalRef::release(reference, &cpus[1]).unwrap();
+    kupaldiz::LocalRef::release(reference, &cpus[1]).unwrap();
     assert_eq!(watched::locals(), before);
 }
 

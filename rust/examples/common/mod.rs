@@ -1,6 +1,6 @@
 //! What the programs have in common whose entries come and go while threads use them.
 
-use registry::Refusal;
+use kupaldiz::Refusal;
 use std::sync::atomic::{AtomicBool, AtomicU64, Ordering};
 use std::thread;
 use std::time::{Duration, Instant};

@@ -3,7 +3,7 @@
 
 pub mod watched;
 
-use registry::{Cpu, Entry, Freed, Holder, Kind, LocalRef, Name, PassiveRef, Refusal, Refused, Registry, Retired, Settings};
+use kupaldiz::{Cpu, DestroyError, Entry, Freed, Holder, Kind, LocalRef, Name, PassiveRef, Refusal, Registry, Retired, Settings};
 use std::cell::RefCell;
 use std::sync::atomic::{AtomicBool, AtomicU64, AtomicUsize, Ordering};
 use std::sync::Arc;
@@ -17,9 +17,8 @@ pub fn name(text: &str) -> Name {
 pub const LONG: Duration = Duration::from_secs(20);
 
 /// A patience that ends, so that a test fails where it would wait for ever.
-#[cfg(feature = "std")]
-pub fn patience() -> registry::Patience {
-    registry::Patience::at_most(LONG)
+pub fn patience() -> kupaldiz::Patience {
+    kupaldiz::Patience::at_most(LONG)
 }
 
 /// So many steps; few where a tool watches each access.
@@ -109,7 +108,7 @@ impl<T> Gone<T> {
     pub fn holder(&self) -> Option<Holder> {
         match self.token().advance() {
             Ok(_) => None,
-            Err(Refused {
+            Err(DestroyError {
                 refusal: Refusal::StillHeld(holder),
                 given,
             }) => {

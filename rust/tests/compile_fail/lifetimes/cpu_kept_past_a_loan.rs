@@ -1,7 +1,7 @@
 // A lent CPU isn't kept.
 // error: E0507
 
-use registry::CpuPool;
+use kupaldiz::CpuPool;
 
 pub fn lend(pool: &CpuPool<u64>) -> u8 {
     let cpu = pool.lend();

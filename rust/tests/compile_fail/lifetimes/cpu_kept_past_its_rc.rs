@@ -2,7 +2,7 @@
 // error: E0277
 // says: `Rc<Cpu<u64>>` cannot be sent between threads safely
 
-use registry::{Cpu, PassiveRc};
+use kupaldiz::{Cpu, PassiveRc};
 use std::rc::Rc;
 
 fn sent<S: Send>(_: S) {}

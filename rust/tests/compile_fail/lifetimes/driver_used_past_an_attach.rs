@@ -1,7 +1,7 @@
 // The reference to a driver is the interface's, once it is attached.
 // error: E0382
 
-use registry::{Cpu, LocalRef, Name, Registry};
+use kupaldiz::{Cpu, LocalRef, Name, Registry};
 
 pub fn attach(registry: &Registry<u64>, cpu: &Cpu<u64>, name: &Name, driver: LocalRef<u64>) {
     let _ = registry.attach_iface(cpu, name, driver, 1500);

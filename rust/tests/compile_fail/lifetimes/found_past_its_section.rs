@@ -1,7 +1,7 @@
 // What was found isn't used past its section.
 // error: E0505
 
-use registry::{Cpu, Kind, Name};
+use kupaldiz::{Cpu, Kind, Name};
 
 pub fn look(cpu: &Cpu<u64>, wm: &Name) -> Option<u64> {
     let section = cpu.enter().ok()?;

@@ -1,7 +1,7 @@
 // A reference that was got by one call is released before its CPU goes.
 // error: E0505
 
-use registry::{Cpu, Kind, Name};
+use kupaldiz::{Cpu, Kind, Name};
 
 pub fn refer(cpu: Cpu<u64>, wm: &Name) -> Option<u64> {
     let reference = cpu.get(Kind::Driver, wm).ok()?;

@@ -1,7 +1,7 @@
 // A CPU doesn't leave under a read that is in use.
 // error: E0502
 
-use registry::{Cpu, Kind, Name};
+use kupaldiz::{Cpu, Kind, Name};
 
 pub fn leave(cpu: &mut Cpu<u64>, wm: &Name) {
     let guard = cpu.read(Kind::Driver, wm);

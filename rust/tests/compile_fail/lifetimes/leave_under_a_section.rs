@@ -1,7 +1,7 @@
 // A CPU doesn't leave under a section that is in use.
 // error: E0502
 
-use registry::Cpu;
+use kupaldiz::Cpu;
 
 pub fn leave(cpu: &mut Cpu<u64>) {
     let section = cpu.enter();

@@ -1,7 +1,7 @@
 // What a walk met isn't used past the section.
 // error: E0505
 
-use registry::Cpu;
+use kupaldiz::Cpu;
 
 pub fn first(cpu: &Cpu<String>) -> Option<usize> {
     let section = cpu.enter().ok()?;

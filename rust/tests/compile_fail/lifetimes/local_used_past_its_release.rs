@@ -1,7 +1,7 @@
 // What an entry carries isn't used past the release of the local reference.
 // error: E0505
 
-use registry::{Cpu, LocalRef};
+use kupaldiz::{Cpu, LocalRef};
 
 pub fn release(reference: LocalRef<String>, cpu: &Cpu<String>) -> usize {
     let value: &String = &reference;

@@ -1,7 +1,7 @@
 // A part of what an entry carries isn't used past the CPU whose section holds it.
 // error: E0505
 
-use registry::{Cpu, Kind, Name, ReadGuard};
+use kupaldiz::{Cpu, Kind, Name, ReadGuard};
 
 pub fn look(cpu: Cpu<(u64, String)>, wm: &Name) -> Option<usize> {
     let text = ReadGuard::map(cpu.read(Kind::Driver, wm).ok()?, |driver| driver.1.as_str());

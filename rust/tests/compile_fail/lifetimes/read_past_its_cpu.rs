@@ -1,7 +1,7 @@
 // What was read by a guard ends before its CPU goes.
 // error: E0505
 
-use registry::{Cpu, Kind, Name};
+use kupaldiz::{Cpu, Kind, Name};
 
 pub fn read(cpu: Cpu<u64>, wm: &Name) -> Option<u64> {
     let guard = cpu.read(Kind::Driver, wm).ok()?;

@@ -1,7 +1,7 @@
 // A registry isn't taken for one whose entries carry something that lives shorter.
 // error: lifetime may not live long enough
 
-use registry::Registry;
+use kupaldiz::Registry;
 
 pub fn shorten<'a>(registry: Registry<&'static str>) -> Registry<&'static str> {
     registry

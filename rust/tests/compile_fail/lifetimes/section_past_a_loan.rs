@@ -1,7 +1,7 @@
 // A section ends before its CPU goes back to the pool.
 // error: E0505
 
-use registry::CpuPool;
+use kupaldiz::CpuPool;
 
 pub fn lend(pool: &CpuPool<u64>) {
     let cpu = pool.lend();

@@ -1,7 +1,7 @@
 // A section ends before its CPU goes.
 // error: E0505
 
-use registry::Cpu;
+use kupaldiz::Cpu;
 
 pub fn enter(cpu: Cpu<u64>) {
     let section = cpu.enter();

@@ -1,7 +1,7 @@
 // What an entry carries isn't used past the section that found it.
 // error: E0505
 
-use registry::{Cpu, Kind, Name};
+use kupaldiz::{Cpu, Kind, Name};
 
 pub fn look(cpu: &Cpu<String>, wm: &Name) -> Option<usize> {
     let section = cpu.enter().ok()?;

@@ -1,7 +1,7 @@
 // What is attached lives as long as the registry.
 // error: E0597
 
-use registry::{Cpu, Name, Registry};
+use kupaldiz::{Cpu, Name, Registry};
 
 pub fn attach<'a>(registry: &Registry<&'a str>, cpu: &Cpu<&'a str>, name: &Name, long: &'a str) {
     {

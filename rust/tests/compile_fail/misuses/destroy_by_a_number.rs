@@ -2,7 +2,7 @@
 // error: E0599
 // says: no method named `destroy` found
 
-use registry::{Cpu, Kind, Name, Patience, Registry};
+use kupaldiz::{Cpu, Kind, Name, Patience, Registry};
 
 pub fn destroy(registry: &Registry<u64>, cpu: &Cpu<u64>, wm: &Name) {
     if let Ok(retired) = registry.detach(cpu, Kind::Driver, wm) {

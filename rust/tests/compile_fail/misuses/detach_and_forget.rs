@@ -4,7 +4,7 @@
 
 #![cfg_attr(fails, deny(unused_must_use))]
 
-use registry::{Cpu, Kind, Name, Refusal, Registry};
+use kupaldiz::{Cpu, Kind, Name, Refusal, Registry};
 
 pub fn take_out(registry: &Registry<u64>, cpu: &Cpu<u64>, wm: &Name) -> Result<(), Refusal> {
     #[cfg(fails)]

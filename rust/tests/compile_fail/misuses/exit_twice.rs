@@ -1,7 +1,7 @@
 // A section is exited once.
 // error: E0382
 
-use registry::Cpu;
+use kupaldiz::Cpu;
 
 pub fn enter(cpu: &Cpu<u64>) {
     if let Ok(section) = cpu.enter() {

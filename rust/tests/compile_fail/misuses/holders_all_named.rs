@@ -1,7 +1,7 @@
 // An answer isn't matched as if it could have no other form.
 // error: E0004
 
-use registry::Holder;
+use kupaldiz::Holder;
 
 pub fn is_section(holder: Holder) -> bool {
     match holder {

@@ -1,7 +1,7 @@
 // The part that is mapped to lies in what the guard derefs to, or outlives it.
 // error: E0597
 
-use registry::{Cpu, Kind, Mapped, Name, ReadGuard};
+use kupaldiz::{Cpu, Kind, Mapped, Name, ReadGuard};
 
 pub fn look<'cpu>(cpu: &'cpu Cpu<String>, wm: &Name) -> Option<Mapped<ReadGuard<'cpu, String>, str>> {
     let other = String::from("other");

@@ -1,7 +1,7 @@
 // A local reference is released once.
 // error: E0382
 
-use registry::{Cpu, LocalRef};
+use kupaldiz::{Cpu, LocalRef};
 
 pub fn release(reference: LocalRef<u64>, cpu: &Cpu<u64>) {
     let _ = LocalRef::release(reference, cpu);

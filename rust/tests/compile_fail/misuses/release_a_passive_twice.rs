@@ -1,7 +1,7 @@
 // A passive reference is released once.
 // error: E0382
 
-use registry::PassiveRef;
+use kupaldiz::PassiveRef;
 
 pub fn release(reference: PassiveRef<'_, u64>) {
     PassiveRef::release(reference);

@@ -1,7 +1,7 @@
 // Settings are made by their builder: a limit that comes later breaks no caller.
 // error: E0639
 
-use registry::Settings;
+use kupaldiz::Settings;
 
 pub fn settings() -> Settings {
     #[cfg(fails)]

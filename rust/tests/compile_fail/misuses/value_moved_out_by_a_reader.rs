@@ -1,7 +1,7 @@
 // Nobody takes away what an entry carries but whoever destroys it.
 // error: E0507
 
-use registry::LocalRef;
+use kupaldiz::LocalRef;
 
 pub fn take(reference: &LocalRef<String>) -> String {
     #[cfg(fails)]

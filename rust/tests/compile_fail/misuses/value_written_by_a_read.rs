@@ -1,7 +1,7 @@
 // What an entry carries isn't written by a guard that read it: others read it, too.
 // error: E0594
 
-use registry::{Cpu, Kind, Name};
+use kupaldiz::{Cpu, Kind, Name};
 
 pub fn read(cpu: &Cpu<u64>, wm: &Name) -> Option<u64> {
     let mut guard = cpu.read(Kind::Driver, wm).ok()?;

@@ -1,0 +1,105 @@
+//! Local references that were dropped where no CPU was at hand.
+//!
+//! A CPU alone can release a reference to a live entry, and a drop has none. So what is dropped lies in a basket, a list for each slot. A call with a CPU
+//! that finds a list filled takes it whole and releases what was in it. A turn of the work on a retired entry gives up the list of that entry.
+
+use crate::ffi;
+use crate::lock::{locked, Mutex};
+use std::mem;
+use std::sync::atomic::{AtomicU64, Ordering};
+
+/// What was dropped that is to the entry in a slot. While a reference lies here the entry keeps its slot. On cache lines of its own.
+#[derive(Default)]
+#[repr(align(128))]
+struct Basket {
+    dropped: Mutex<Vec<ffi::Local>>,
+}
+
+/// A bit for each slot whose basket has something in it, or had a little while ago. On cache lines of its own, which each acquire and release reads.
+#[derive(Default)]
+#[repr(align(128))]
+struct Filled {
+    words: [AtomicU64; (ffi::MOST_SLOTS + 63) / 64],
+}
+
+/// The baskets of all slots.
+pub struct Baskets {
+    of_slot: Vec<Basket>,
+    filled: Filled,
+}
+
+impl Default for Baskets {
+    fn default() -> Baskets {
+        Baskets {
+            of_slot: (0..ffi::MOST_SLOTS).map(|_| Basket::default()).collect(),
+            filled: Filled::default(),
+        }
+    }
+}
+
+impl Baskets {
+    /// Lays a reference in, which is to the entry in this slot. Where there is no memory for it, it is held for good: nobody is misled.
+    pub fn lay(&self, slot: usize, mut local: ffi::Local) {
+        let mut dropped = locked(&self.of_slot[slot].dropped);
+        if dropped.try_reserve(1).is_err() {
+            drop(dropped);
+            // SAFETY: this is the only use of the reference's handle. What it counts stays counted.
+            unsafe { ffi::registry_local_forget(&mut local) };
+            return;
+        }
+        dropped.push(local);
+        if dropped.len() == 1 {
+            self.filled.words[slot / 64].fetch_or(1 << (slot % 64), Ordering::Relaxed);
+        }
+    }
+
+    /// Takes all out that are to the entry in this slot.
+    #[cold]
+    pub fn take(&self, slot: usize) -> Vec<ffi::Local> {
+        let mut dropped = locked(&self.of_slot[slot].dropped);
+        self.filled.words[slot / 64].fetch_and(!(1 << (slot % 64)), Ordering::Relaxed);
+        mem::take(&mut *dropped)
+    }
+
+    /// Whether there is any to the entry in this slot: at least one that was dropped before, as this thread knows it.
+    #[inline]
+    pub fn has(&self, slot: usize) -> bool {
+        self.filled.words[slot / 64].load(Ordering::Relaxed) >> (slot % 64) & 1 != 0
+    }
+
+    /// Whether there is any.
+    #[inline]
+    pub fn has_any(&self) -> bool {
+        self.filled.words.iter().any(|word| word.load(Ordering::Relaxed) != 0)
+    }
+
+    /// The slots that have something.
+    pub fn slots(&self) -> impl Iterator<Item = usize> + '_ {
+        (0..ffi::MOST_SLOTS).filter(move |slot| self.has(*slot))
+    }
+
+    /// How many lie in all baskets.
+    pub fn total(&self) -> usize {
+        self.slots().map(|slot| locked(&self.of_slot[slot].dropped).len()).sum()
+    }
+}
+
+#[cfg(test)]
+mod tests {
+    use super::Baskets;
+    use crate::ffi;
+
+    /// Also the last one, in a build with more slots than a word has bits.
+    #[test]
+    fn each_slot_has_a_list_that_is_taken_whole() {
+        let baskets = Baskets::default();
+        for slot in [0, 5, ffi::MOST_SLOTS - 1] {
+            assert!(!baskets.has_any());
+            (0..100).for_each(|_| baskets.lay(slot, ffi::Local::EMPTY));
+            assert!(baskets.has(slot) && !baskets.has((slot + 1) % ffi::MOST_SLOTS) && baskets.has_any());
+            assert_eq!((baskets.slots().collect::<Vec<_>>(), baskets.total()), (vec![slot], 100));
+            assert_eq!((baskets.take(slot).len(), baskets.total()), (100, 0));
+        }
+        assert!(!baskets.has_any());
+    }
+}

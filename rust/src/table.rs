@@ -1,0 +1,108 @@
+//! A plain table: a registry whose entries are all drivers.
+
+use crate::cpu::Cpu;
+use crate::local::LocalRef;
+use crate::passive::PassiveRef;
+use crate::refusal::{Refusal, Refused};
+use crate::retired::Retired;
+use crate::usual::ReadGuard;
+use crate::values::{Entry, Freed, Kind};
+use crate::Name;
+use std::fmt;
+
+/// A registry as a plain table, by one of its CPUs: [`Cpu::table`]. All its entries are drivers, so no call names a kind, and none takes a CPU, so none
+/// fails with `OtherRegistry`. Otherwise each does what the call of that name does.
+///
+/// ```
+/// use kupaldiz::{Name, Patience, Registry, Settings};
+///
+/// let (_registry, cpus) = Registry::open(Settings::new(2, 4)).unwrap();
+/// let (table, wm) = (cpus[0].table(), Name::parse("wm").unwrap());
+/// table.attach(&wm, 7).unwrap();
+/// assert_eq!((*table.get(&wm).unwrap(), *cpus[1].table().read(&wm).unwrap()), (7, 7));
+/// let (_, old) = table.replace(&wm, 8).unwrap();
+/// assert_eq!(old.destroy(&cpus[0], Patience::Forever).unwrap().value, 7);
+/// assert_eq!(table.retire(&wm).unwrap()[0].value, 8);
+/// ```
+pub struct Table<'cpu, T> {
+    cpu: &'cpu Cpu<T>,
+}
+
+impl<T> Cpu<T> {
+    /// The registry as a plain table, by this CPU.
+    #[must_use]
+    pub fn table(&self) -> Table<'_, T> {
+        Table { cpu: self }
+    }
+}
+
+/// Says the calls that look an entry up.
+macro_rules! looks_up {
+    ($($name:ident -> $found:ty;)*) => {$(
+        #[doc = concat!("As [`Cpu::", stringify!($name), "`] with [`Kind::Driver`].\n\n# Errors\n\nAs there.")]
+        #[inline]
+        #[track_caller]
+        pub fn $name(&self, name: &Name) -> Result<$found, Refusal> {
+            self.cpu.$name(Kind::Driver, name)
+        }
+    )*};
+}
+
+impl<'cpu, T> Table<'cpu, T> {
+    looks_up! {
+        get -> PassiveRef<'cpu, T>;
+        get_local -> LocalRef<T>;
+        read -> ReadGuard<'cpu, T>;
+        look_up -> Entry;
+    }
+
+    /// As [`Registry::attach`](crate::Registry::attach).
+    ///
+    /// # Errors
+    ///
+    /// As there.
+    pub fn attach(&self, name: &Name, value: T) -> Result<Entry, Refused<T>> {
+        self.cpu.registry().attach(self.cpu, name, value)
+    }
+
+    /// As [`Registry::replace`](crate::Registry::replace).
+    ///
+    /// # Errors
+    ///
+    /// As there.
+    pub fn replace(&self, name: &Name, value: T) -> Result<(Entry, Retired<T>), Refused<T>> {
+        self.cpu.registry().replace(self.cpu, name, value)
+    }
+
+    /// As [`Registry::detach`](crate::Registry::detach) with [`Kind::Driver`].
+    ///
+    /// # Errors
+    ///
+    /// As there.
+    pub fn detach(&self, name: &Name) -> Result<Retired<T>, Refusal> {
+        self.cpu.registry().detach(self.cpu, Kind::Driver, name)
+    }
+
+    /// As [`Registry::retire`](crate::Registry::retire) with [`Kind::Driver`].
+    ///
+    /// # Errors
+    ///
+    /// As there.
+    pub fn retire(&self, name: &Name) -> Result<Vec<Freed<T>>, Refusal> {
+        self.cpu.registry().retire(self.cpu, Kind::Driver, name)
+    }
+}
+
+impl<T> Clone for Table<'_, T> {
+    fn clone(&self) -> Self {
+        *self
+    }
+}
+
+impl<T> Copy for Table<'_, T> {}
+
+impl<T> fmt::Debug for Table<'_, T> {
+    fn fmt(&self, f: &mut fmt::Formatter<'_>) -> fmt::Result {
+        f.debug_tuple("Table").field(self.cpu).finish()
+    }
+}
