@@ -19,7 +19,7 @@ $2 == "threads" {
 }
 
 END {
-    operation_count = split("lookup batch walk passive local read look_up get", operations, " ")
+    operation_count = split("lookup batch walk passive local read look_up absent get", operations, " ")
     compare_at_once()
     for (o = 1; o <= operation_count; o++)
         for (l = 1; l <= list_count; l++)
@@ -35,6 +35,7 @@ function compare_at_once(    l) {
     for (l = 1; l <= list_count; l++) {
         beside_lookup("read", lists[l])
         beside_lookup("look_up", lists[l])
+        beside_lookup("absent", lists[l])
     }
 }
 

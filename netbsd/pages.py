@@ -1,5 +1,5 @@
 #!/usr/bin/env python3
-"""The manual pages kupaldiz_NAME(3), made from the headers in kupaldiz/ beside this file: `pages.py write` writes them to ../man, `pages.py check` compares
+"""The manual pages kupaldiz_NAME(3), made from the headers in include/kupaldiz/ beside this file: `pages.py write` writes them to ../man, `pages.py check` compares
 them with what is there, and looks for the entry of each call and of each macro with parameters. Both do the same with the program that kupaldiz_netbsd(7)
 shows: after a line that names its file, without its first comment."""
 import re
@@ -8,7 +8,7 @@ import textwrap
 from pathlib import Path
 
 HERE = Path(__file__).resolve().parent
-HEADERS_AT = HERE / "kupaldiz"
+HEADERS_AT = HERE / "include/kupaldiz"
 PAGES = HERE.parent / "man"
 DATE = "November 27, 2026"
 # Header, the names under which it is included, and what its page is about.
@@ -26,7 +26,7 @@ HEADERS = {
 UNPAGED = {"names", "registry_limits", "sys_types"}
 # The page that isn't made from a header, and where it shows a program.
 OVERVIEW = PAGES / "kupaldiz_netbsd.7"
-SHOWN = re.compile(r'(?<=^\.\\" clients/netbsd/)(\S+)(\n\.Bd -literal\n).*?(?=^\.Ed$)', re.M | re.S)
+SHOWN = re.compile(r'(?<=^\.\\" netbsd/)(\S+)(\n\.Bd -literal\n).*?(?=^\.Ed$)', re.M | re.S)
 COMMENT = re.compile(r"/\*(.*?)\*/", re.S)
 PROTOTYPE = re.compile(r"^(?:static inline )?((?:[a-z_0-9]+ )+\**)([a-z_0-9]+)\((.*?)\)(?: __attribute__.*)?;?$")
 MACRO = re.compile(r"^#define ([A-Za-z_0-9]+)(?:\((.*?)\))?")
@@ -147,7 +147,7 @@ def page_of(name):
     head = words_of(COMMENT.search(text).group(1)).split("\n\n", 1)
     calls = calls_of(text)
     names = sorted({one[1] for _, prototypes in calls for one in prototypes})
-    lines = [f'.\\" Made by clients/netbsd/pages.py from clients/netbsd/kupaldiz/{name}.h.', f".Dd {DATE}", f".Dt KUPALDIZ_{name.upper()} 3", ".Os", ".Sh NAME"]
+    lines = [f'.\\" Made by netbsd/pages.py from netbsd/include/kupaldiz/{name}.h.', f".Dd {DATE}", f".Dt KUPALDIZ_{name.upper()} 3", ".Os", ".Sh NAME"]
     lines += [f".Nm {one} ," for one in names[:-1]] + [f".Nm {names[-1]}", f".Nd {about}", ".Sh LIBRARY", ".Li -lkupaldiz_netbsd", ".Sh SYNOPSIS"]
     lines += [f".In {include}" for include in includes]
     for _, prototypes in calls:
@@ -174,12 +174,12 @@ def check():
     wrong = 0
     text = OVERVIEW.read_text()
     if with_program(text) != (text, 1):
-        print(f"{OVERVIEW.name}: doesn't show one program as it is in its file; run clients/netbsd/pages.py write")
+        print(f"{OVERVIEW.name}: doesn't show one program as it is in its file; run netbsd/pages.py write")
         wrong += 1
     for name in HEADERS:
         page = PAGES / f"kupaldiz_{name}.3"
         if not page.exists() or page.read_text() != page_of(name):
-            print(f"{page.name}: not what {name}.h says; run clients/netbsd/pages.py write")
+            print(f"{page.name}: not what {name}.h says; run netbsd/pages.py write")
             wrong += 1
         text = (HEADERS_AT / f"{name}.h").read_text()
         described = {one[1] for _, prototypes in calls_of(text) for one in prototypes}

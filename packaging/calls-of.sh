@@ -1,5 +1,5 @@
 #!/usr/bin/env bash
-# Prints the calls that headers declare, sorted, one a line: clients/calls-of.sh HEADER..
+# Prints the calls that headers declare, sorted, one a line: packaging/calls-of.sh HEADER..
 # A declaration begins a line, and what it returns is one or more words: `uint32_t registry_enter(..`, `const char *registry_strerror(..`. A call whose name
 # follows the limits is printed where registry_limits.h is given too, which has that name as REGISTRY_BUILT_FOR.
 set -euo pipefail

@@ -4,10 +4,10 @@
 #     dist.sh OUT            packs it as OUT/kupaldiz-VERSION.tar.xz
 #     dist.sh --lay FOLDER   lays it out as that folder, which isn't there yet
 #
-# It works in the repository and in the source of a release alike. The time of every file is SOURCE_DATE_EPOCH, else that of CHANGELOG.md: so the same files
+# It works in the repository and in the source of a release alike. The time of every file is SOURCE_DATE_EPOCH, else that of packaging/CHANGELOG.md: so the same files
 # make the same bytes.
 set -euo pipefail
-cd "$(dirname "$0")"
+cd "$(dirname "$0")/.."
 
 refuse() {
     echo "dist: $1" >&2
@@ -50,8 +50,8 @@ lay_archive() {
     [ -f "${archive%.a}.proved" ] || refuse "there is no ${archive%.a}.proved, the record of the archive's proof: $(remedy "$1") writes it"
     mkdir -p "$to"
     cp "$archive" "${archive%.a}.proved" "$to"
-    cp "$(first "${archive%/*}"/registry_limits.h {include,../crates/registry_c/include}/registry_limits.h)" "$to"
-    program=$(first archive/x86_64/registry_run ../crates/registry_run/out/registry_run)
+    cp "$(first "${archive%/*}"/registry_limits.h {include,crates/registry_c/include}/registry_limits.h)" "$to"
+    program=$(first archive/x86_64/registry_run crates/registry_run/out/registry_run)
     if [ "$1" = x86_64 ] && [ -n "$program" ]; then
         cp "$program" "$to/registry_run"
     fi
@@ -72,20 +72,21 @@ fill() {
 
 # lay TO: the whole source.
 lay() {
-    local to=$1 scripts
-    scripts=$(first scripts ../examples)
-    mkdir -p "$to/c" "$to/scripts"
-    # The header of the limits is a link in some folders, and a file in each of these here.
-    cp -rL Makefile ./*.mk ./*.map ./*.in ./*.sh ./*.md man netbsd bench examples debian "$to"
-    cp c/*.[ch] "$to/c"
-    cp -r "$(first include ../crates/registry_c/include)" "$to/include"
-    cp "$scripts"/*.txt "$scripts"/*.report "$to/scripts"
+    local to=$1
+    mkdir -p "$to/examples" "$to/docs"
+    cp -r Makefile c man netbsd explorer packaging "$to"
+    rm -rf "$to/packaging/debian"
+    cp -r "$(first debian packaging/debian)" "$to/debian"
+    cp packaging/INSTALL.md "$to/README.md"
+    cp docs/C.md "$to/docs"
+    cp -r "$(first include crates/registry_c/include)" "$to/include"
+    cp examples/*.txt examples/*.report "$to/examples"
     mkdir "$to/rust"
     cp -rL rust/Cargo.toml rust/README.md rust/build.rs rust/registry_limits.h rust/src rust/examples rust/tests "$to/rust"
     lay_archive x86_64 "$to"
     lay_archive aarch64 "$to"
-    [ ! -f debian/changelog.in ] || fill "$to/debian/changelog"
-    [ ! -f debian/copyright.in ] || fill "$to/debian/copyright"
+    [ ! -f "$to/debian/changelog.in" ] || fill "$to/debian/changelog"
+    [ ! -f "$to/debian/copyright.in" ] || fill "$to/debian/copyright"
     if [ -n "$(make -s licence)" ]; then
         sed -i "s|^# tools/make-release.sh writes the licence.*|license = \"$(make -s licence)\"|" "$to/rust/Cargo.toml"
     fi
@@ -107,7 +108,7 @@ lay_out() {
 pack() {
     command -v xz >/dev/null || refuse "there is no xz: apt-get install xz-utils"
     lay "$room/$name"
-    ./pack.sh "$room" "$name" "$SOURCE_DATE_EPOCH" >"$room/packed"
+    packaging/pack.sh "$room" "$name" "$SOURCE_DATE_EPOCH" >"$room/packed"
     mkdir -p "$1"
     mv "$room/packed" "$1/$name.tar.xz"
     echo "$1/$name.tar.xz"
@@ -119,7 +120,7 @@ case "$#,${1-}" in
 *) action=pack to=$1 ;;
 esac
 need_archive
-: "${SOURCE_DATE_EPOCH:=$(stat -c %Y CHANGELOG.md)}"
+: "${SOURCE_DATE_EPOCH:=$(stat -c %Y packaging/CHANGELOG.md)}"
 name=kupaldiz-$(make -s version)
 room=$(mktemp -d)
 trap 'rm -rf "$room"' EXIT

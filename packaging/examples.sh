@@ -7,24 +7,24 @@ if [ $# -ne 1 ]; then
     exit 2
 fi
 to=$(realpath -m "$1")
-cd "$(dirname "$0")"
+cd "$(dirname "$0")/.."
 umask 022
 
 # put FILE AS: the file with the names under which the headers are installed.
 put() {
     sed -E -e 's|#include "registry\.h"|#include <kupaldiz/registry.h>|' -e 's|#include "waiting\.h"|#include <kupaldiz/registry_waiting.h>|' \
-        -e 's|#include "\.\./\.\./c/expect\.h"|#include "expect.h"|' -e 's|#include "\.\./examples/drivers\.h"|#include "drivers.h"|' "$1" >"$to/$2"
+        -e 's|#include "\.\./\.\./c/examples/expect\.h"|#include "expect.h"|' -e 's|#include "\.\./examples/drivers\.h"|#include "drivers.h"|' "$1" >"$to/$2"
 }
 
 mkdir -p "$to/netbsd"
 for name in Makefile CMakeLists.txt; do
-    put "examples/$name" "$name"
+    put "c/examples/$name" "$name"
 done
 for name in smallest packet row shared storm walk forwarder device_switch; do
-    put "c/$name.c" "$name.c"
+    put "c/examples/$name.c" "$name.c"
 done
 for name in client expect edges basket workers; do
-    put "c/$name.h" "$name.h"
+    put "c/examples/$name.h" "$name.h"
 done
 for path in netbsd/examples/*.[ch] netbsd/tests/drivers.c netbsd/tests/test.h; do
     put "$path" "netbsd/$(basename "$path")"

@@ -45,7 +45,7 @@ NETBSD_SHARED = libkupaldiz_netbsd$(BUILD).so.$(VERSION)
 
 # The headers of the pages' names: those that the pages name, in sys and net, and what these are made of. What the layer is built from.
 NETBSD_FOLDERS = kupaldiz sys net
-NETBSD_HEADERS = $(patsubst netbsd/%,%,$(wildcard $(NETBSD_FOLDERS:%=netbsd/%/*.h)))
+NETBSD_HEADERS = $(patsubst netbsd/include/%,%,$(wildcard $(NETBSD_FOLDERS:%=netbsd/include/%/*.h)))
 NETBSD_OBJECTS = $(patsubst netbsd/src/%.c,$(OUT)/installed-netbsd/%.o,$(wildcard netbsd/src/*.c))
 
 # registry(3) and registry_waiting(3), and the calls that each names at its head, each of which gets a page that leads there.
@@ -62,8 +62,8 @@ LINKED = $(filter-out -flto%,$(CFLAGS)) $(LDFLAGS) -shared $(LINK_HARDENING) -Wl
 
 library: $(OUT)/libkupaldiz.a $(OUT)/$(SHARED) $(OUT)/libkupaldiz_netbsd.a $(OUT)/$(NETBSD_SHARED)
 
-$(OUT)/waiting.o: c/waiting.c c/waiting.h $(FACE) places.mk install.mk | $(OUT)
-	$(CC) $(COMPILED) -c -o $@ $<
+$(OUT)/waiting.o: c/src/waiting.c c/include/waiting.h $(FACE) packaging/places.mk packaging/install.mk | $(OUT)
+	$(CC) $(COMPILED) -Ic/include -c -o $@ $<
 
 $(OUT)/libkupaldiz.a: $(ARCHIVE) $(OUT)/waiting.o
 	rm -rf $@ $(OUT)/installed-archive
@@ -72,13 +72,13 @@ $(OUT)/libkupaldiz.a: $(ARCHIVE) $(OUT)/waiting.o
 	$(AR) rcsD $@ $(OUT)/installed-archive/*.o $(OUT)/waiting.o
 
 # A thread that has called the layer runs code of it at its end, and others may be in a call: a library stays where it is.
-$(OUT)/$(SHARED): $(OUT)/libkupaldiz.a kupaldiz.map install.mk
-	$(CC) $(LINKED) -o $@ -Wl,-soname,$(SONAME) -Wl,--version-script=kupaldiz.map \
+$(OUT)/$(SHARED): $(OUT)/libkupaldiz.a packaging/kupaldiz.map packaging/install.mk
+	$(CC) $(LINKED) -o $@ -Wl,-soname,$(SONAME) -Wl,--version-script=packaging/kupaldiz.map \
 	    -Wl,--whole-archive $(OUT)/libkupaldiz.a -Wl,--no-whole-archive -pthread
 
-$(NETBSD_OBJECTS): $(OUT)/installed-netbsd/%.o: netbsd/src/%.c netbsd/src/layer.h $(addprefix netbsd/,$(NETBSD_HEADERS)) $(FACE) places.mk install.mk
+$(NETBSD_OBJECTS): $(OUT)/installed-netbsd/%.o: netbsd/src/%.c netbsd/src/layer.h $(addprefix netbsd/include/,$(NETBSD_HEADERS)) $(FACE) packaging/places.mk packaging/install.mk
 	mkdir -p $(OUT)/installed-netbsd
-	$(CC) $(COMPILED) -Inetbsd -c -o $@ $<
+	$(CC) $(COMPILED) -Inetbsd/include -c -o $@ $<
 
 # These ask for it before any header; with other limits their header comes before that.
 $(OUT)/installed-netbsd/thread.o $(OUT)/installed-netbsd/kernel.o: override CPPFLAGS += -D_GNU_SOURCE
@@ -90,7 +90,7 @@ $(OUT)/libkupaldiz_netbsd.a: $(NETBSD_OBJECTS)
 	$(OBJCOPY) --wildcard --keep-global-symbol='kupaldiz_*' $(OUT)/kupaldiz_netbsd.o
 	$(AR) rcsD $@ $(OUT)/kupaldiz_netbsd.o
 
-$(OUT)/$(NETBSD_SHARED): $(OUT)/libkupaldiz_netbsd.a $(OUT)/$(SHARED) netbsd/netbsd.map install.mk
+$(OUT)/$(NETBSD_SHARED): $(OUT)/libkupaldiz_netbsd.a $(OUT)/$(SHARED) netbsd/netbsd.map packaging/install.mk
 	$(CC) $(LINKED) $(if $(RUNPATH),-Wl$(comma)-rpath$(comma)'$(RUNPATH)') -o $@ -Wl,-soname,$(NETBSD_SONAME) -Wl,--version-script=netbsd/netbsd.map \
 	    -Wl,--whole-archive $(OUT)/libkupaldiz_netbsd.a -Wl,--no-whole-archive $(OUT)/$(SHARED) -pthread
 
@@ -98,7 +98,7 @@ comma := ,
 
 # The public names: those of the headers, of the maps, and of what was built.
 symbols: library
-	NM=$(CROSS)nm ./symbols.sh $(HEADER) $(OUT) '$(BUILD)' $(VERSION)
+	NM=$(CROSS)nm packaging/symbols.sh $(HEADER) $(OUT) '$(BUILD)' $(VERSION)
 
 install: library
 	$(INSTALL) -d $(DESTDIR)$(PKGCONFIGDIR) $(DESTDIR)$(CMAKEDIR) $(NETBSD_FOLDERS:%=$(DESTDIR)$(INCLUDEDIR)/kupaldiz/netbsd/%) \
@@ -108,21 +108,21 @@ install: library
 	ln -sf $(SHARED) $(DESTDIR)$(LIBDIR)/$(SONAME)
 	ln -sf $(SONAME) $(DESTDIR)$(LIBDIR)/libkupaldiz.so
 	$(INSTALL) -m 644 $(FACE) $(DESTDIR)$(INCLUDEDIR)/kupaldiz/
-	$(INSTALL) -m 644 c/waiting.h $(DESTDIR)$(INCLUDEDIR)/kupaldiz/registry_waiting.h
+	$(INSTALL) -m 644 c/include/waiting.h $(DESTDIR)$(INCLUDEDIR)/kupaldiz/registry_waiting.h
 	$(INSTALL) -m 644 $(OUT)/libkupaldiz_netbsd.a $(DESTDIR)$(LIBDIR)/libkupaldiz_netbsd.a
 	$(INSTALL) -m 755 $(OUT)/$(NETBSD_SHARED) $(DESTDIR)$(LIBDIR)/$(NETBSD_SHARED)
 	ln -sf $(NETBSD_SHARED) $(DESTDIR)$(LIBDIR)/$(NETBSD_SONAME)
 	ln -sf $(NETBSD_SONAME) $(DESTDIR)$(LIBDIR)/libkupaldiz_netbsd.so
-	for header in $(NETBSD_HEADERS); do $(INSTALL) -m 644 netbsd/$$header $(DESTDIR)$(INCLUDEDIR)/kupaldiz/netbsd/$$header; done
+	for header in $(NETBSD_HEADERS); do $(INSTALL) -m 644 netbsd/include/$$header $(DESTDIR)$(INCLUDEDIR)/kupaldiz/netbsd/$$header; done
 	$(INSTALL) -m 644 $(HEADER)/registry_limits.h $(DESTDIR)$(INCLUDEDIR)/kupaldiz/netbsd/kupaldiz/registry_limits.h
-	$(filled) kupaldiz.pc.in >$(DESTDIR)$(PKGCONFIGDIR)/kupaldiz.pc
+	$(filled) packaging/kupaldiz.pc.in >$(DESTDIR)$(PKGCONFIGDIR)/kupaldiz.pc
 	$(filled) netbsd/kupaldiz-netbsd.pc.in >$(DESTDIR)$(PKGCONFIGDIR)/kupaldiz-netbsd.pc
-	$(filled) -e "s|@TO_INCLUDE@|$$(realpath -m --relative-to=$(CMAKEDIR) $(INCLUDEDIR))|" kupaldizConfig.cmake.in >$(DESTDIR)$(CMAKEDIR)/kupaldizConfig.cmake
-	$(filled) kupaldizConfigVersion.cmake.in >$(DESTDIR)$(CMAKEDIR)/kupaldizConfigVersion.cmake
+	$(filled) -e "s|@TO_INCLUDE@|$$(realpath -m --relative-to=$(CMAKEDIR) $(INCLUDEDIR))|" packaging/kupaldizConfig.cmake.in >$(DESTDIR)$(CMAKEDIR)/kupaldizConfig.cmake
+	$(filled) packaging/kupaldizConfigVersion.cmake.in >$(DESTDIR)$(CMAKEDIR)/kupaldizConfigVersion.cmake
 	$(foreach page,$(PAGES),$(call install_page,$(page),$(call named_by,$(page))))
 	$(foreach page,$(NETBSD_PAGES),$(call install_page,$(page),$(call netbsd_named_by,$(page))))
 	$(INSTALL) -m 644 man/kupaldiz_netbsd.7 $(DESTDIR)$(MANDIR)/man7/kupaldiz_netbsd.7
-	$(INSTALL) -m 644 CHANGELOG.md VERSIONS.md $(DESTDIR)$(DOCDIR)/
+	$(INSTALL) -m 644 packaging/CHANGELOG.md packaging/VERSIONS.md $(DESTDIR)$(DOCDIR)/
 
 # In a .pc file a blank is written as in a shell, and sed takes a \ of its own. Whatever umask there is, everyone may read what is installed.
 in_sed = $(subst \,\\,$(1))
@@ -144,11 +144,11 @@ umask 022; for call in $(2); do echo ".so man3/$(1).3" >$(DESTDIR)$(MANDIR)/man3
 endef
 
 install-examples:
-	./examples.sh $(DESTDIR)$(EXAMPLESDIR)
+	packaging/examples.sh $(DESTDIR)$(EXAMPLESDIR)
 
 # Builds programs over what is installed, by pkg-config alone, and runs them: with the words that `make install` had.
 installcheck:
-	CC='$(CC)' RUN='$(RUN)' ./installcheck.sh $(DESTDIR) $(LIBDIR) $(VERSION)
+	CC='$(CC)' RUN='$(RUN)' packaging/installcheck.sh $(DESTDIR) $(LIBDIR) $(VERSION)
 
 # Takes away what install has put there, and the folders that are the libraries' alone.
 uninstall:
@@ -166,7 +166,7 @@ uninstall:
 
 # The source of a release, with the archives of all processors that there are: kupaldiz-VERSION.tar.xz in out/.
 dist:
-	./dist.sh $(OUT)
+	packaging/dist.sh $(OUT)
 
 version:
 	@echo $(VERSION)
@@ -179,4 +179,4 @@ licence:
 
 .PHONY: library symbols install install-examples without_older installcheck uninstall dist version soname licence
 
-include bench/install.mk
+include explorer/install.mk

@@ -10,7 +10,7 @@ if [ $# -ne 3 ]; then
     exit 2
 fi
 stage=$1 libdir=$2 version=$3
-cd "$(dirname "$0")" || exit
+cd "$(dirname "$0")/.." || exit
 for needed in "${CC%% *}" pkg-config; do
     if ! command -v "$needed" >/dev/null; then
         echo "installcheck: there is no $needed: apt-get install ${needed/%gcc/gcc make}" >&2
@@ -33,7 +33,7 @@ try() {
     local module=$1 program=$2 line=$3 link=$4 words said
     shift 4
     if words=$(pkg-config --cflags "$module") && words+=" $(pkg-config "$@" "$module")" &&
-        eval "$CC -std=c99 -Wall -Wextra c/$program.c -o \"\$room/$program\" $link -Wl,-rpath-link,\"\$stage\$libdir\" $words" && said=$($RUN "$room/$program") && [ "$said" = "$line" ]; then
+        eval "$CC -std=c99 -Wall -Wextra c/tests/$program.c -o \"\$room/$program\" $link -Wl,-rpath-link,\"\$stage\$libdir\" $words" && said=$($RUN "$room/$program") && [ "$said" = "$line" ]; then
         passed=$((passed + 1))
         echo "ok      $module, $*: $said"
     else

@@ -1,6 +1,7 @@
 #!/usr/bin/env bash
-# Compiles a program for other limits than the archive was built for, one limit after the other: other-limits.sh HEADERS ARCHIVE. With other CPUs or slots it
-# doesn't link, and doesn't start with a shared library of the archive: what is said then names both. With another of the rest registry_open refuses it. CC is
+# Compiles a program for other limits than the archive was built for, one limit after the other, and for another version: other-limits.sh HEADERS ARCHIVE.
+# With other CPUs or slots, or another version, it doesn't link, and doesn't start with a shared library of the archive: what is said then names these. With
+# another of the rest registry_open refuses it. CC is
 # the compiler, RUN what runs a program of another processor. `make check` calls it. The last line is 'N passed, M failed'.
 set -uo pipefail
 if [ $# -ne 2 ]; then
@@ -8,7 +9,7 @@ if [ $# -ne 2 ]; then
     exit 2
 fi
 headers=$(realpath "$1") archive=$(realpath "$2")
-cd "$(dirname "$0")" || exit
+cd "$(dirname "$0")/.." || exit
 room=$(mktemp -d)
 trap 'rm -rf "$room"' EXIT
 passed=0 failed=0 refused='78: the program was compiled for other limits than the library has'
@@ -32,6 +33,11 @@ limit() {
     sed -nE "s/^#define REGISTRY_MOST_$1[[:blank:]]+//p" "$headers/registry_limits.h"
 }
 
+# The name of the symbol of a build: so many CPUs and slots, and a version.
+named() {
+    echo "registry_for_$1_cpus_$2_slots_v${3:-$version}"
+}
+
 # change FOLDER WORD TEXT: the text is what the header there says of the word.
 change() {
     sed -i -E "s/^(#define REGISTRY_$2[[:blank:]]+).*/\\1$3/" "$1/registry_limits.h"
@@ -43,12 +49,13 @@ other_headers() {
     mkdir -p "$folder" && cp "$headers"/registry{,_limits}.h "$folder" || return
     case $1 in
     same) return ;;
+    VERSION) change "$folder" BUILT_FOR "$(named "$(limit CPUS)" "$(limit SLOTS)" 0_99)"; return ;;
     CPUS | SLOTS) more=$(($(limit "$1") + 1)) ;;
     *) more="($(limit "$1") + 1)" ;;
     esac
     change "$folder" "MOST_$1" "$more"
-    [ "$1" != CPUS ] || { change "$folder" BUILT_FOR "registry_for_${more}_cpus_$(limit SLOTS)_slots" && change "$folder" BUILD "\"-${more}x$(limit SLOTS)\""; }
-    [ "$1" != SLOTS ] || change "$folder" BUILT_FOR "registry_for_$(limit CPUS)_cpus_${more}_slots"
+    [ "$1" != CPUS ] || { change "$folder" BUILT_FOR "$(named "$more" "$(limit SLOTS)")" && change "$folder" BUILD "\"-${more}x$(limit SLOTS)\""; }
+    [ "$1" != SLOTS ] || change "$folder" BUILT_FOR "$(named "$(limit CPUS)" "$more")"
 }
 
 # The name that a program compiled with these headers asks for.
@@ -60,7 +67,7 @@ asked_for() {
 built() {
     local name=$1
     shift
-    $CC -std=c11 -D_POSIX_C_SOURCE=200809L ${RUN:+-static} -I"$room/$name" -o "$room/$name/program" c/other_limits.c "$@" -pthread
+    $CC -std=c11 -D_POSIX_C_SOURCE=200809L ${RUN:+-static} -I"$room/$name" -o "$room/$name/program" -Ic/examples c/tests/other_limits.c "$@" -pthread
 }
 
 # says NAME LINE: it links with the archive and says the line.
@@ -102,15 +109,17 @@ no_start() {
 }
 
 : "${CC:=gcc}" "${RUN:=}"
+# The major and the minor version of the header, or from 1 on the major one.
+version=$(sed -nE 's/^#define REGISTRY_VERSION_(MAJOR|MINOR)[[:blank:]]+//p' "$headers/registry.h" | paste -sd_ | sed -E 's/^([1-9][0-9]*)_.*/\1/')
 check "the same limits: a registry is opened" says same '0: done'
-check "the symbol of this build is named by its limits" [ "$(asked_for same)" = "registry_for_$(limit CPUS)_cpus_$(limit SLOTS)_slots" ]
+check "the symbol of this build is named by its limits and its version" [ "$(asked_for same)" = "$(named "$(limit CPUS)" "$(limit SLOTS)")" ]
 for limit in CHANGES SECTIONS COUNT DEPTH; do
     check "other $limit: registry_open refuses it" says "$limit" "$refused"
 done
-for limit in CPUS SLOTS; do
-    check "other $limit: it doesn't link, and the linker names both limits" no_link "$limit"
+for limit in CPUS SLOTS VERSION; do
+    check "other $limit: it doesn't link, and the linker names both limits and the version" no_link "$limit"
     # No shared library of another processor is there to start with.
-    [ -n "$RUN" ] || check "other $limit: it doesn't start, and the loader names both limits" no_start "$limit"
+    [ -n "$RUN" ] || check "other $limit: it doesn't start, and the loader names both limits and the version" no_start "$limit"
 done
 check "other CPUS: the shared library has another name" has_soname
 check "other CPUS under the name of this build: registry_open refuses it" forged

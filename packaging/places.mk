@@ -1,4 +1,4 @@
-# Where the parts lie, in the repository and in the source of a release, and how the compiler is called. TOP is the folder of this file, with its /.
+# Where the parts lie, in the repository and in the source of a release, and how the compiler is called. TOP is the folder above this one, with its /.
 #
 # CC, CPPFLAGS, CFLAGS, LDFLAGS and HARDENING are the caller's to set. With CC=aarch64-linux-gnu-gcc everything is built for that processor, and RUN runs it.
 
@@ -28,7 +28,7 @@ OBJCOPY = $(CROSS)objcopy
 # come first in each file, since the layer has a link to the default's.
 LIMITS =
 OUT := $(TOP)out$(if $(filter-out x86_64,$(PROCESSOR)),/$(PROCESSOR))$(LIMITS:%=/%)
-HEADER := $(firstword $(if $(LIMITS),$(OUT)) $(wildcard $(TOP)include) $(TOP)../crates/registry_c/include)
+HEADER := $(firstword $(if $(LIMITS),$(OUT)) $(wildcard $(TOP)include) $(TOP)crates/registry_c/include)
 # What is proved, in C: its calls, and the limits of its build.
 FACE = $(HEADER)/registry.h $(HEADER)/registry_limits.h
 ifneq ($(LIMITS),)

@@ -3,7 +3,7 @@
 # the shared libraries show, in the same nodes, and those that the static ones do. Else it prints the difference, and its status is 1. `make symbols` calls it.
 # BUILD is what the shared libraries of a build have in their names, or nothing.
 set -uo pipefail
-cd "$(dirname "$0")" || exit
+cd "$(dirname "$0")/.." || exit
 if [ $# -ne 4 ]; then
     echo "usage: symbols.sh HEADERS OUT BUILD VERSION" >&2
     exit 2
@@ -61,13 +61,13 @@ in_maps() {
     sed -E 's/registry_for_[0-9].*/registry_for_*/'
 }
 
-calls=$(./calls-of.sh "$headers"/registry{,_limits}.h c/waiting.h)
-same kupaldiz.map "$(in_maps <<<"$calls")" "$(mapped kupaldiz.map)"
+calls=$(packaging/calls-of.sh "$headers"/registry{,_limits}.h c/include/waiting.h)
+same kupaldiz.map "$(in_maps <<<"$calls")" "$(mapped packaging/kupaldiz.map)"
 same libkupaldiz.so "$calls" "$(shared "$out/libkupaldiz$suffix")"
-same "the nodes of libkupaldiz.so" "$(in_nodes kupaldiz.map)" "$(shown_in_nodes "$out/libkupaldiz$suffix")"
+same "the nodes of libkupaldiz.so" "$(in_nodes packaging/kupaldiz.map)" "$(shown_in_nodes "$out/libkupaldiz$suffix")"
 same libkupaldiz.a "$calls" "$(static "$out/libkupaldiz.a")"
 # With the pages' names the bench has two calls more, and its own.
-pages=$({ ./calls-of.sh netbsd/kupaldiz/*.h; grep '^registry_for_' <<<"$calls"; } | with_prefix)
+pages=$({ packaging/calls-of.sh netbsd/include/kupaldiz/*.h; grep '^registry_for_' <<<"$calls"; } | with_prefix)
 calls=$(grep -vxE 'kupaldiz_(point|from)' <<<"$pages")
 same netbsd.map "$(in_maps <<<"$calls")" "$(mapped netbsd/netbsd.map)"
 same libkupaldiz_netbsd.so "$calls" "$(shared "$out/libkupaldiz_netbsd$suffix")"
@@ -75,8 +75,8 @@ same "the nodes of libkupaldiz_netbsd.so" "$(in_nodes netbsd/netbsd.map)" "$(sho
 # Two words of each thread, hidden, which the layer's parts share.
 same libkupaldiz_netbsd.a "$calls" "$(static "$out/libkupaldiz_netbsd.a" | grep -vxE 'kupaldiz_(self|places)')"
 if [ -f "$out/libkupaldiz_bench.a" ]; then
-    calls=$(sort <<<"$pages"$'\n'"$(./calls-of.sh bench/bench.h)")
-    same bench.map "$(in_maps <<<"$calls")" "$(mapped bench/bench.map)"
+    calls=$(sort <<<"$pages"$'\n'"$(packaging/calls-of.sh explorer/bench.h)")
+    same bench.map "$(in_maps <<<"$calls")" "$(mapped explorer/bench.map)"
     same libkupaldiz_bench.so "$calls" "$(shared "$out/libkupaldiz_bench$suffix")"
     same libkupaldiz_bench.a "$calls" "$(static "$out/libkupaldiz_bench.a")"
 fi

@@ -1,5 +1,5 @@
 #!/usr/bin/env python3
-"""Runs `rt ci`, and beside it proves and builds the archive for C, clients/out/libregistry.a, proves its library for aarch64, and tries edits.
+"""Runs `rt ci`, and beside it proves and builds the archive for C, out/libregistry.a, proves its library for aarch64, and tries edits.
 
     tools/archive-beside.py rt ci
 
@@ -7,7 +7,7 @@
 proved, `rattle build` proves registry_c over these same libraries and compiles it, on the processors that `rt ci` leaves idle. What it makes becomes the
 archive if no file that it was proved from was touched since; else, or where it was killed for want of memory, tools/build-archive.sh proves the
 archive once `rt ci` is done. The library for another processor is proved after it, and most of its proof is kept from there. It is left in
-clients/out/PROCESSOR with what the proof said, for tools/build-archive.sh --for PROCESSOR, which needs that processor's compiler. The last line is
+out/PROCESSOR with what the proof said, for tools/build-archive.sh --for PROCESSOR, which needs that processor's compiler. The last line is
 that of `rt ci` with a check more for each processor.
 
 Where there are four processors or more, `rt ci` gets all but one: each check takes longer beside more others, and its longest chain of checks leaves some
@@ -34,7 +34,7 @@ from kit import below, kit, over_libraries
 from parts import GIGABYTE, LAST_LINE, ROOT, free_memory, guard, minutes, running, say, stop_running
 
 LIBRARY = "registry_c"
-OUT = ROOT / "clients/out"
+OUT = ROOT / "out"
 ARCHIVE = OUT / "libregistry.a"
 # The processors that the library is proved for, and what names each to `rattle`. The first one's is built here.
 PROCESSORS = {"x86_64": (), "aarch64": ("--target", "aarch64-unknown-linux-gnu")}
@@ -157,7 +157,7 @@ class Edits(threading.Thread):
 
     def take(self, crate):
         """Takes a crate that was proved, if it has edits."""
-        if (ROOT / "crates" / crate / "must-fail-gate").is_dir():
+        if (ROOT / "crates" / crate / "edits/gate.edits").is_file():
             self.crates.put(crate)
 
 

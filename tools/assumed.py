@@ -79,7 +79,9 @@ def assume(crate, home, names):
 
 def stands(state, holes):
     """Whether a function is proved, or would be if these holes were proofs."""
-    return state == NO_HOLE or state.startswith(OVER_HOLES) and set(re.findall(r"`(.*?)`", AS_ANOTHER.sub("", state))) <= set(holes.values())
+    told, as_another = AS_ANOTHER.subn("", state)
+    names = set(re.findall(r"`(.*?)`", told))
+    return state == NO_HOLE or state.startswith(OVER_HOLES) and bool(names or as_another) and names <= set(holes.values())
 
 
 def is_proved(said, holes):

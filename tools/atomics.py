@@ -3,7 +3,7 @@
 
     tools/atomics.py ARCHIVE PROGRAM..
 
-Each PROGRAM is a test that is linked with ARCHIVE and clients/c/ordered.c. PROGRAM.sites has the places of the instructions by which it came to a
+Each PROGRAM is a test that is linked with ARCHIVE and c/tests/ordered.c. PROGRAM.sites has the places of the instructions by which it came to a
 registry's table. An instruction of the archive is told by its function and its distance from that function's beginning. It prints what it counted, and
 ends with status 1 where an atomic instruction is another one, or where fewer than four in five were met. What opens and closes a registry has steps of its own,
 on a count of who shares the table, and works on a table that nobody else has yet: these are met by none. It needs aarch64-linux-gnu-objdump.

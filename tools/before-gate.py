@@ -2,10 +2,11 @@
 """A look before the gate, in a copy of the tree: what the gate would refuse for its form alone, and say at its end.
 
     tools/before-gate.py                      each file as rt fmt writes it; each edit (docs/EDITS.md) fits its file
-    tools/before-gate.py compile [CRATE]..    the edits that the prover is to refuse compile, too; it wants the tree's crates proved
+    tools/before-gate.py compile [CRATE]..    the edits that the prover is to refuse compile, too; it needs the tree's crates proved
 
 It proves nothing, and ends with 'N passed, M failed'.
 """
+import collections
 import pathlib
 import shutil
 import subprocess
@@ -15,7 +16,7 @@ import tempfile
 sys.dont_write_bytecode = True
 
 from counts import ended
-from edits import FOLDERS, ROOT, apply, edits_of, restore
+from edits import KINDS, ROOT, TESTS, apply, edits_of, restore
 
 CRATES = sorted(it.name for it in (ROOT / "crates").iterdir() if it.is_dir())
 
@@ -30,11 +31,15 @@ def format_faults(tree, crate):
     return [line.removeprefix("rt: ") for line in rt(tree, crate, "fmt") if line.startswith("rt: formatted ")]
 
 
+def edits(crate, *kinds):
+    return [edit for kind in kinds for edit in edits_of(crate, kind)]
+
+
 def misfit(tree, edit):
-    """Why the edit doesn't fit the tree, if so."""
+    """Why the edit doesn't fit the tree, or what it lacks, if so."""
     before, why = apply(edit, tree)
     restore(before)
-    return why
+    return why or ("" if edit.has_reason else "it has no reason, a line # below its name")
 
 
 def compile_fault(tree, crate, edit):
@@ -49,17 +54,17 @@ def looks(tree):
     """The look without a compiler: of each thing its name and what is wrong with it."""
     for crate in CRATES:
         yield crate, "; ".join(format_faults(tree, crate))
-        for folder in FOLDERS:
-            for edit in edits_of(crate, folder):
-                yield f"{crate}/{folder}/{edit.stem}", misfit(tree, edit)
+        for edit in edits(crate, *KINDS):
+            yield edit, misfit(tree, edit)
+        names = collections.Counter(it.name for it in edits(crate, *KINDS))
+        yield crate, "; ".join(f"two edits are called {name}" for name, count in names.items() if count > 1)
 
 
 def compiles(tree, crates):
     """The look of the compiler, at the edits for the prover."""
     for crate in crates or CRATES:
-        for folder in FOLDERS[:2]:
-            for edit in edits_of(crate, folder):
-                yield f"{crate}/{folder}/{edit.stem}", compile_fault(tree, crate, edit)
+        for edit in edits(crate, *(it for it in KINDS if it != TESTS)):
+            yield edit, compile_fault(tree, crate, edit)
 
 
 def main():

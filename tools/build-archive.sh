@@ -4,16 +4,16 @@
 # alone is the archive libregistry.a. Beside it lie libregistry.proved, the record of the proof, and the two headers that it was compiled with, registry.h and
 # registry_limits.h, which has its limits. A C program needs these, the archive and nothing else of the repository.
 #
-#     tools/build-archive.sh                  proves and builds the library first: clients/out/libregistry.a
+#     tools/build-archive.sh                  proves and builds the library first: out/libregistry.a
 #     tools/build-archive.sh LIBRARY LOG      takes libregistry_c.a as tools/archive-beside.py has proved and built it, and what the proof said
-#     tools/build-archive.sh --for PROCESSOR [LIBRARY LOG]     the same for that processor: clients/out/PROCESSOR/libregistry.a
-#     tools/build-archive.sh --wide [..]      with 64 CPUs, 128 slots, 2^40 changes and 2^62 sections: clients/out/wide/libregistry.a
+#     tools/build-archive.sh --for PROCESSOR [LIBRARY LOG]     the same for that processor: out/PROCESSOR/libregistry.a
+#     tools/build-archive.sh --wide [..]      with 64 CPUs, 128 slots, 2^40 changes and 2^62 sections: out/wide/libregistry.a
 #     tools/build-archive.sh [--cpus N] [--slots N] [--changes N] [--sections N] [..]     with these limits, a number in digits or as 2^40:
-#                                             clients/out/NAME/libregistry.a, where NAME says them, as cpus-16-slots-64
+#                                             out/NAME/libregistry.a, where NAME says them, as cpus-16-slots-64
 #
 # With other limits than the default's, all crates of the library are proved in a copy. A number out of its range ends in one line, and nothing is built.
 set -euo pipefail
-processor=x86_64 out=clients/out tools='' library='' log=''
+processor=x86_64 out=out tools='' library='' log=''
 
 refuse() {
     echo "build-archive: $1" >&2
@@ -47,7 +47,7 @@ esac
 cd "$(dirname "$0")/.."
 name=$(tools/chosen.py name "${chosen[@]}")
 if [ "$processor" != x86_64 ]; then
-    out=clients/out/$processor tools=$processor-linux-gnu-
+    out=out/$processor tools=$processor-linux-gnu-
 fi
 out=$out${name:+/$name}
 command -v rt >/dev/null || refuse "there is no rt, the command of the Rattle kit: the kit comes from whoever gives you Rattle"
@@ -85,7 +85,7 @@ lay_headers() {
 compile() {
     local part
     for part in $parts; do
-        "${tools}gcc" -std=c11 -O2 -fPIC -ffunction-sections -ffile-prefix-map="$PWD"=. -I"$room/include" -c -o "$room/$part.o" "clients/c/$part.c"
+        "${tools}gcc" -std=c11 -O2 -fPIC -ffunction-sections -ffile-prefix-map="$PWD"=. -I"$room/include" -c -o "$room/$part.o" "c/src/$part.c"
     done
 }
 
@@ -99,7 +99,7 @@ parts=$(tools/proof-record.py parts)
 compile
 # shellcheck disable=SC2086
 (cd "$room" && "${tools}ld" -r -o whole.o registry_c.o ${parts// /.o }.o)
-clients/calls-of.sh "$room"/include/registry{,_limits}.h >"$room/calls"
+packaging/calls-of.sh "$room"/include/registry{,_limits}.h >"$room/calls"
 [ -s "$room/calls" ] || refuse "registry.h declares no call"
 "${tools}objcopy" --keep-global-symbols="$room/calls" "$room/whole.o" "$room/registry.o"
 (cd "$room" && "${tools}ar" rcsD libregistry.a registry.o)

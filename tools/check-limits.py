@@ -18,7 +18,7 @@ HEADER = "crates/registry_c/include/registry_limits.h"
 MAKER = "tools/limits-header.py"
 
 # The same header again: in a crate that is used alone, and beside the layer's headers. `rt ci` takes no links.
-COPIES = ("clients/rust/registry_limits.h", "clients/netbsd/kupaldiz/registry_limits.h")
+COPIES = ("rust/registry_limits.h", "netbsd/include/kupaldiz/registry_limits.h")
 
 # Which constant a place has, and how it says it.
 PLACES = (
@@ -40,23 +40,24 @@ def same_header(path):
     return made.returncode == 0 and pathlib.Path(ROOT / path).read_text() == made.stdout
 
 
-def main():
-    failed = 0
+def faults():
+    """For each comparison what is wrong, or ''."""
     of = limits()
     for path in (HEADER, *COPIES):
-        if not same_header(path):
-            failed += 1
-            print(f"{path} isn't what {MAKER} makes of {LIMITS}: {MAKER} >{HEADER}")
+        yield "" if same_header(path) else f"{path} isn't what {MAKER} makes of {LIMITS}: {MAKER} >{HEADER}"
     for name, path, pattern in PLACES:
         found = said(path, pattern)
-        if of[name] is None or found != of[name]:
-            failed += 1
-            print(f"{path}: {name} is {found} there, and {of[name]} in {LIMITS}")
+        yield "" if of[name] is not None and found == of[name] else f"{path}: {name} is {found} there, and {of[name]} in {LIMITS}"
     for name, wanted in DEFAULTS.items():
-        if of[name] != wanted:
-            failed += 1
-            print(f"{LIMITS}: {name} is {of[name]}, and {wanted} in the default build")
-    return ended(2 + len(PLACES) + len(DEFAULTS) - failed, failed)
+        yield "" if of[name] == wanted else f"{LIMITS}: {name} is {of[name]}, and {wanted} in the default build"
+
+
+def main():
+    found = list(faults())
+    wrong = list(filter(None, found))
+    for fault in wrong:
+        print(fault)
+    return ended(len(found) - len(wrong), len(wrong))
 
 
 sys.exit(main())

@@ -3,7 +3,7 @@
 
     tools/compare-scripts.py [--seed N] [--scripts N] [--lines N] [--client PATH]
 
-A script is made of all commands, with few names, labels and CPUs, so that most of them meet something. The C face is clients/out/script, or
+A script is made of all commands, with few names, labels and CPUs, so that most of them meet something. The C face is out/script, or
 the one that --client names. The program is crates/registry_run/out/registry_run where it stands, else the same sources, compiled by `rt try`
 without a proof. The last line counts the scripts.
 """
@@ -20,7 +20,7 @@ sys.dont_write_bytecode = True
 from counts import ended
 
 ROOT = pathlib.Path(__file__).resolve().parent.parent
-CLIENT = ROOT / "clients/out/script"
+CLIENT = ROOT / "out/script"
 PROGRAM = ROOT / "crates/registry_run/out/registry_run"
 # After so many seconds a program that is run is taken to wait for ever.
 MOST_SECONDS = 1200

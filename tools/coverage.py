@@ -24,7 +24,7 @@ MARKED = "-O0 -g -fsanitize-coverage=trace-pc"
 SANITIZERS = {"CFLAGS": "", "ADDRESSES": " -fsanitize=address,undefined -fno-sanitize-recover=all", "raced_FLAGS": " -fsanitize=thread"}
 MARKER = "__sanitizer_cov_trace_pc"
 # What builds the marker, and where it lies in a lane.
-SOURCE, OBJECT = "reached.c", "clients/out/reached.o"
+SOURCE, OBJECT = "reached.c", "out/reached.o"
 COMPILE = "gcc -std=c11 -D_GNU_SOURCE -Wall -Wextra -Werror -O2 -c".split()
 ROW = re.compile(r"^(\S+) +(\d+|-) +(?:0x)?([0-9a-f]+)\b", re.MULTILINE)
 SYMBOL = re.compile(r"^([0-9a-f]+) [A-Za-z] (\S+)$", re.MULTILINE)

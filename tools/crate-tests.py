@@ -1,14 +1,13 @@
 #!/usr/bin/env python3
 """Builds a program of the crate's tests, in the tree where it is run: tools/mutants.py does so for each wrong body.
 
-    tools/crate-tests.py clients/out/crate/NAME/tests
+    tools/crate-tests.py out/crate/NAME/tests
 
 NAME says which tests are in it, and the program is linked there:
 
-- `one`: all files of clients/rust/tests, each as a module. So a wrong body is compiled and linked once, and `tests basket::` runs the tests of one file.
+- `one`: all files of rust/tests, each as a module. So a wrong body is compiled and linked once, and `tests basket::` runs the tests of one file.
   compile_fail.rs is left out: it needs cargo as it runs.
 - `lib`: those within the crate.
-- `bare-one`, `bare-lib`: the same without the standard library, for those that need none.
 """
 import json
 import os
@@ -17,7 +16,7 @@ import shutil
 import subprocess
 import sys
 
-CRATE = pathlib.Path("clients/rust")
+CRATE = pathlib.Path("rust")
 # The program of all files, which is written beside them, and what is no part of it.
 ONE = "one_program"
 APART = "compile_fail"
@@ -40,10 +39,9 @@ def write_one():
 
 def words_of(name):
     """How cargo builds the tests of that name."""
-    way, _, tests = name.rpartition("-")
-    chosen = ["--lib"] if tests == "lib" else ["--test", ONE]
+    chosen = ["--lib"] if name == "lib" else ["--test", ONE]
     return ["cargo", "test", "--offline", "-q", "--no-run", "--manifest-path", str(CRATE / "Cargo.toml"), "--message-format", "json-render-diagnostics",
-            *(["--no-default-features"] if way == "bare" else []), *chosen]
+            *chosen]
 
 
 def built(words):

@@ -37,10 +37,6 @@ WHOLE = ["the whole crate"]
 NO_FUNCTION = "it changes no function: name those to check in a line only: MODULE::FUNCTION"
 
 
-def crate_of(edit):
-    return edit.relative_to(ROOT / "crates").parts[0]
-
-
 def line_of(path, text):
     """The line of the file on which the text begins."""
     return path.read_text().partition(text)[0].count("\n")
@@ -60,7 +56,7 @@ def name_of(crate, function):
 
 def named_by(edit):
     """The functions that the edit names."""
-    named = re.search(r"^only: (.+)$", edit.read_text(), re.M)
+    named = re.search(r"^only: (.+)$", edit.text, re.M)
     return named[1].split() if named else []
 
 
@@ -70,7 +66,7 @@ def asked_for(edit, whole):
         return WHOLE
     path, old, _ = next(changes(edit))
     function = function_at(path, line_of(path, old))
-    return named_by(edit) or ([name_of(crate_of(edit), function)] if function else [])
+    return named_by(edit) or ([name_of(edit.crate, function)] if function else [])
 
 
 def body_changed(edit):
@@ -97,8 +93,8 @@ def batches(edits, whole):
     for edit in edits:
         function = body_changed(edit)
         # The edits of a function go into rounds of their own; a change of anything else goes alone.
-        key = (crate_of(edit), function) if function else edit
-        rounds[crate_of(edit), seen[key] if function else edit].append(edit)
+        key = (edit.crate, function) if function else edit
+        rounds[edit.crate, seen[key] if function else edit].append(edit)
         seen[key] += 1
     return [of[at:at + IN_ONE_CHECK] for of in rounds.values() for at in range(0, len(of), IN_ONE_CHECK)]
 
@@ -200,13 +196,13 @@ def seeded(crate, names, room):
 def check_edited(edits, names, seed):
     """Checks these functions of the edited crate, or WHOLE, in a copy of it; what is kept there goes with the copy. Gives the check, or what doesn't fit."""
     with tempfile.TemporaryDirectory() as room:
-        tree = copied(crate_of(edits[0]), room)
+        tree = copied(edits[0].crate, room)
         misfit = next(filter(None, (apply(edit, tree)[1] for edit in edits)), "" if names else NO_FUNCTION)
         if misfit:
             return None, misfit
         # A check replaces a file that it writes anew, so links to what is kept are enough.
         over = shutil.copytree(seed.kept, f"{room}/kept", copy_function=os.link)
-        return check(crate_of(edits[0]), names, tree, Seed(over, seed.names)), ""
+        return check(edits[0].crate, names, tree, Seed(over, seed.names)), ""
 
 
 def try_edit(edit, seed, whole):
@@ -221,7 +217,7 @@ def try_together(edits, seed):
     functions = {edit: body_changed(edit) for edit in edits}
     ran, _ = check_edited(edits, asked_for_all(edits, whole=False), seed)
     found = telling(goals(ran)) if ran and not untried(ran) else []
-    own = {edit: [it for it in found if is_of(it, crate_of(edit), functions[edit])] for edit in edits}
+    own = {edit: [it for it in found if is_of(it, edit.crate, functions[edit])] for edit in edits}
     return {edit: refused(of) for edit, of in own.items() if of}
 
 
@@ -242,7 +238,7 @@ def tried(edits, whole=False):
     """Tries the edits side by side, by their functions or by the whole crate; gives each with its result, in the order in which they end."""
     of = collections.defaultdict(list)
     for edit in edits:
-        of[crate_of(edit)].append(edit)
+        of[edit.crate].append(edit)
     with tempfile.TemporaryDirectory() as room, concurrent.futures.ThreadPoolExecutor(lanes()) as pool:
         seeds = {pool.submit(seeded, crate, asked_for_all(found, whole), room): found for crate, found in of.items()}
         tries = set()

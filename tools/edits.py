@@ -1,22 +1,61 @@
 """Reads the wrong bodies that docs/EDITS.md describes, and writes them into a copy of the tree."""
 import collections
 import pathlib
+import re
+import sys
 
 ROOT = pathlib.Path(__file__).resolve().parent.parent
-FOLDERS = ("must-fail-gate", "must-fail-by-hand", "must-fail-tests")
+GATE, BY_HAND, TESTS = KINDS = ("gate", "by-hand", "tests")
+HEAD = re.compile(r"edit: (\w+)\n")
 Change = collections.namedtuple("Change", "path old new")
+
+
+class Edit(collections.namedtuple("Edit", "crate kind name text")):
+    """An edit; `text` is its lines below its name."""
+
+    def __str__(self):
+        return f"{self.crate}/{self.name}"
+
+    @property
+    def has_reason(self):
+        return self.text.startswith("# ")
+
+    @property
+    def body(self):
+        """What it changes, without its reason."""
+        return re.sub(r"^#.*\n?", "", self.text, flags=re.M)
+
+
+def file_of(crate, kind):
+    return ROOT / "crates" / crate / "edits" / f"{kind}.edits"
+
+
+def edits_of(crate, kind, name=""):
+    """The edits of a kind of a crate, in the file's order; or the one that is named."""
+    path = file_of(crate, kind)
+    blocks = re.split(r"\n{2,}", path.read_text().strip("\n")) if path.is_file() else []
+    if not all(map(HEAD.match, blocks)):
+        sys.exit(f"{path.relative_to(ROOT)}: a block without its line edit: NAME")
+    found = [Edit(crate, kind, HEAD.match(it)[1], HEAD.sub("", it, count=1) + "\n") for it in blocks]
+    return [it for it in found if name in ("", it.name)]
+
+
+def chosen(kind, words):
+    """The edits of a kind that the words name, or all."""
+    for word in words or sorted(it.parent.parent.name for it in ROOT.glob(f"crates/*/edits/{kind}.edits")):
+        crate, _, name = word.partition("/")
+        yield from edits_of(crate, kind, name) or sys.exit(f"no edit {word} in {kind}.edits")
 
 
 def base_of(edit, tree):
     """The folder of `tree` from which the edit names its files."""
-    crate, folder = edit.relative_to(ROOT / "crates").parts[:2]
-    return tree if folder == "must-fail-tests" else tree / "crates" / crate
+    return tree if edit.kind == TESTS else tree / "crates" / edit.crate
 
 
 def changes(edit, tree=ROOT):
     """The changes of an edit, in order."""
     path = old = None
-    for line in edit.read_text().splitlines():
+    for line in edit.text.splitlines():
         key, _, text = line.partition(": ")
         if key == "file":
             path = base_of(edit, tree) / text
@@ -27,7 +66,7 @@ def changes(edit, tree=ROOT):
 
 
 def apply(edit, tree):
-    """Applies the edit to `tree`; answers its files' text as it was, and why the edit doesn't fit, if so."""
+    """Applies the edit to `tree`; returns its files' text as it was, and why the edit doesn't fit, if so."""
     before = {}
     for path, old, new in changes(edit, tree):
         if not path.is_file():
@@ -43,8 +82,3 @@ def apply(edit, tree):
 def restore(before):
     for path, text in before.items():
         path.write_text(text)
-
-
-def edits_of(crate, folder, name="*"):
-    """The edits of a crate's folder, by hand also of the folders in it."""
-    return sorted((ROOT / "crates" / crate / folder).rglob(f"{name}.edit"))

@@ -1,10 +1,10 @@
 #!/usr/bin/env python3
-"""Makes the two tables of docs/EVENTS.md from the sources: for each event its step, its contract, its lemmas and its wrong bodies.
+"""Makes the table of docs/EVENTS.md from the sources: for each event its step, its contract, its lemmas and its wrong bodies.
 
-    tools/event-table.py make     writes the tables into docs/EVENTS.md
-    tools/event-table.py check    makes them again and compares
+    tools/event-table.py make     writes the table into docs/EVENTS.md
+    tools/event-table.py check    makes it again and compares
 
-A row is an event and a step of `cpu_words` that makes it. The second table has the events that stand apart (APART). Before each is how many kinds of events it has. Every event needs a row; every row needs a definition, a lemma of each kind and an edit.
+A row is an event and a step of `cpu_words` that makes it. Every event needs a row; every row needs a definition, a lemma of each kind and an edit.
 The last line is 'N passed, M failed', and the status is 1 where one failed.
 """
 import collections
@@ -17,14 +17,12 @@ sys.dont_write_bytecode = True
 
 from contracts import contract
 from counts import ended
-from edits import ROOT, changes
+from edits import BY_HAND, GATE, ROOT, changes, chosen, file_of
 from functions import functions_of
 
 PAGE = ROOT / "docs/EVENTS.md"
 BEGIN, END = "<!-- tools/event-table.py make -->\n\n", "\n<!-- end -->\n"
 TABLE = re.compile(f"{re.escape(BEGIN)}(.*?){re.escape(END)}", re.S)
-# Events of lookups by loads alone: no other event needs them.
-APART = ("Count", "Peek")
 EVENTS = ROOT / "crates/protocol/src/event.rt"
 DEFINITIONS = ROOT / "crates/protocol/specs/Events.antt"
 KEEPING = ROOT / "crates/protocol/proofs/keeps/Keeping.antt"
@@ -49,7 +47,7 @@ def link(name, path):
 def events():
     """Each event with the first sentence of its doc comment."""
     body = re.search(r"pub enum Event \{\n(.*?)\n\}", EVENTS.read_text(), re.S)[1]
-    return {name: text.split(". ")[0].rstrip(".") for text, name in re.findall(r"/// (.*)\n    (\w+)[(,]", body)}
+    return {name: " ".join(re.findall("/// (.*)", text)).split(". ")[0].rstrip(".") for text, name in re.findall(r"((?:    /// .*\n?)+)    (\w+)[(,]", body)}
 
 
 def line_of(path, function, event):
@@ -124,11 +122,10 @@ def is_single(path):
 
 def places():
     """Each edit for the prover, with each place in a source file that it changes."""
-    for folder in ("must-fail-gate", "must-fail-by-hand"):
-        for edit in sorted(ROOT.glob(f"crates/*/{folder}/**/*.edit")):
-            for path, old, _ in changes(edit):
-                before, found, _ = path.read_text().partition(old) if path.suffix == ".rt" and path.is_file() else ("", "", "")
-                yield from [(edit, path, before.count("\n"))] if found else ()
+    for edit in (it for kind in (GATE, BY_HAND) for it in chosen(kind, [])):
+        for path, old, _ in changes(edit):
+            before, found, _ = path.read_text().partition(old) if path.suffix == ".rt" and path.is_file() else ("", "", "")
+            yield from [(edit, path, before.count("\n"))] if found else ()
 
 
 @functools.cache
@@ -144,7 +141,7 @@ def edits_of(step, tried):
     own += [edit for edit, path, line in tried if is_single(path) and (operation(path, line) or "?") in text]
     above = [edit for edit, path, line in tried if path.parent == LIST and any(
         it.first <= line <= it.last and re.search(rf"\b{body.name}\(", it.text) for it in functions_in(path))]
-    return [link(it.stem, it) + (" *" if "must-fail-by-hand" in it.parts else "") for it in dict.fromkeys(own or above)]
+    return [link(it.name, file_of(it.crate, it.kind)) + (" *" if it.kind == BY_HAND else "") for it in dict.fromkeys(own or above)]
 
 
 def row(event, does, step, tried):
@@ -166,13 +163,6 @@ def table(found):
     return "\n".join([HEAD, "|---" * 8 + "|", *("| " + " | ".join(cells) + " |" for cells in found)]) + "\n"
 
 
-def tables(found):
-    """The table of the protocol's events, and that of those that stand apart; before each, how many kinds of events it has."""
-    apart = [cells for cells in found if cells[0].strip("`") in APART]
-    parts = [cells for cells in found if cells not in apart], apart
-    return [f"{len({cells[0] for cells in part})} of the {len(events())} kinds of events.\n\n{table(part)}" for part in parts]
-
-
 def faults(found):
     """What the rows lack: a row for each event, and in a row a name for each cell except the contract's."""
     names = {cells[0] for cells in found}
@@ -187,12 +177,11 @@ def main():
     if sys.argv[1:] not in (["make"], ["check"]):
         sys.exit(__doc__)
     page, found = PAGE.read_text(), list(rows())
-    made = tables(found)
+    made = table(found)
     if sys.argv[1] == "make":
-        left = iter(made)
-        page = TABLE.sub(lambda _: BEGIN + next(left, "") + END, page)
+        page = TABLE.sub(lambda _: BEGIN + made + END, page)
         PAGE.write_text(page)
-    wrong = list(faults(found)) + ([] if TABLE.findall(page) == made else ["docs/EVENTS.md: not as tools/event-table.py make writes it"])
+    wrong = list(faults(found)) + ([] if TABLE.findall(page) == [made] else ["docs/EVENTS.md: not as tools/event-table.py make writes it"])
     for fault in wrong:
         print(fault)
     sys.exit(ended(max(len(found) + 1 - len(wrong), 0), len(wrong)))

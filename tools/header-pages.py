@@ -1,7 +1,7 @@
 #!/usr/bin/env python3
 """Makes the manual pages of the calls for C from their headers, which alone say what a call does.
 
-    tools/header-pages.py make      writes clients/man/PAGE.3 from clients/man/PAGE.3.in and its header, for each page
+    tools/header-pages.py make      writes man/PAGE.3 from man/PAGE.3.in and its header, for each page
     tools/header-pages.py check     says which page isn't what it would make, and ends with 'N passed, M failed'
 
 A page's frame, PAGE.3.in, is mdoc with lines that stand for parts of the header or of a program:
@@ -27,7 +27,7 @@ sys.dont_write_bytecode = True
 from counts import ended
 
 ROOT = pathlib.Path(__file__).resolve().parent.parent
-PAGES = {"registry": "crates/registry_c/include/registry.h", "registry_waiting": "clients/c/waiting.h"}
+PAGES = {"registry": "crates/registry_c/include/registry.h", "registry_waiting": "c/include/waiting.h"}
 WIDTH = 80
 
 GROUP = re.compile(r"/\* ---- (.*?) ---- \*/")
@@ -222,25 +222,25 @@ def part(header, line):
 def made(page):
     """The page that its frame and its header make."""
     header = (ROOT / PAGES[page]).read_text()
-    frame = (ROOT / f"clients/man/{page}.3.in").read_text()
-    lines = [f'.\\" Made by tools/header-pages.py from {PAGES[page]} and clients/man/{page}.3.in.']
+    frame = (ROOT / f"man/{page}.3.in").read_text()
+    lines = [f'.\\" Made by tools/header-pages.py from {PAGES[page]} and man/{page}.3.in.']
     for line in frame.splitlines():
         lines += part(header, line) if line.startswith("@") else [line]
     return "\n".join(lines) + "\n"
 
 
 def is_made(page):
-    standing = ROOT / f"clients/man/{page}.3"
+    standing = ROOT / f"man/{page}.3"
     same = standing.exists() and standing.read_text() == made(page)
     if not same:
-        print(f"clients/man/{page}.3 isn't what tools/header-pages.py make writes")
+        print(f"man/{page}.3 isn't what tools/header-pages.py make writes")
     return same
 
 
 def main():
     if sys.argv[1:] == ["make"]:
         for page in PAGES:
-            (ROOT / f"clients/man/{page}.3").write_text(made(page))
+            (ROOT / f"man/{page}.3").write_text(made(page))
     elif sys.argv[1:] == ["check"]:
         right = [is_made(page) for page in PAGES]
         sys.exit(ended(sum(right), len(right) - sum(right)))

@@ -16,7 +16,7 @@ from concurrent.futures import ThreadPoolExecutor
 import coverage
 from parts import ROOT, of_session, running
 
-COPIED = ("clients", "bench", "crates/registry_c/include")
+COPIED = ("Makefile", "c", "netbsd", "explorer", "rust", "packaging", "out", "bench", "crates/registry_c/include")
 # Where a lane keeps the programs of the tests as they are without a wrong body.
 STANDS = "stands"
 # What a program may write and take at most. Those with sanitizers reserve more memory than there is.
@@ -103,15 +103,12 @@ def folder_of(build):
 class Tests:
     """The tests that are needed: how long each may run, what it costs, which lines it runs, and which wrong bodies it saw."""
 
-    def __init__(self, least, record, words):
+    def __init__(self, least, words):
         self.least, self.words = least, tuple(words) or ("",)
         self.limits, self.costs = {}, {}
         self.coverage = coverage.Coverage([])
         self.seen, self.tried = collections.Counter(), collections.Counter()
         self.killed = collections.defaultdict(list)
-        for file, part in record.parts.items():
-            for test, count in part.by.items():
-                self.seen[file, test], self.tried[file, test] = count, part.by.total()
 
     def note_time(self, test, seconds):
         self.limits[test.name] = self.least + TIMES * seconds
@@ -152,7 +149,10 @@ class Lane:
         for name in (*COPIED, *([STANDS] if other else [])):
             of = other.folder if other else ROOT
             if (of / name).is_dir():
-                shutil.copytree(of / name, folder / name, symlinks=True, ignore=lambda at, _: ["rust"] if at.endswith("/clients/out") else ["target"])
+                shutil.copytree(of / name, folder / name, symlinks=True, ignore=lambda at, _: ["rust"] if at == str(of / "out") else ["target"])
+            elif (of / name).is_file():
+                folder.mkdir(parents=True, exist_ok=True)
+                shutil.copy2(of / name, folder / name)
 
     def must_run(self, name, words, memory=None, more=None):
         """Runs a command that has to end well on the tree as it stands, and for how long."""
@@ -196,14 +196,14 @@ class Lane:
 
     def as_it_stands(self, test):
         """How the test runs without a wrong body, if it is a program of its own: a copy of that, by the same name."""
-        return test._replace(run=[f"{STANDS}/{it}" if it.startswith("clients/out/") else it for it in test.run])
+        return test._replace(run=[f"{STANDS}/{it}" if it.startswith("out/") else it for it in test.run])
 
     def measure(self, tests, jobs):
         """Runs each test on the tree as it stands, where it has to pass, within the same bounds, and keeps its program."""
         with ThreadPoolExecutor(jobs) as pool:
             for test, seconds in zip(tests, pool.map(lambda it: self.must_run(it.name, it.run, it.memory), tests)):
                 self.tests.note_time(test, seconds)
-        for it in {it for test in tests for it in test.run if it.startswith("clients/out/")}:
+        for it in {it for test in tests for it in test.run if it.startswith("out/")}:
             (self.folder / STANDS / it).parent.mkdir(parents=True, exist_ok=True)
             shutil.copy2(self.folder / it, self.folder / STANDS / it)
 
@@ -275,7 +275,7 @@ class Lane:
     def built(self, file):
         """What is built of a file alone, with what it holds."""
         names = {f"{pathlib.Path(file).stem}.o", f"layer-{pathlib.Path(file).stem}.o"}
-        return {it: it.read_bytes() for it in self.folder.glob("clients/out/**/*.o") if it.name in names}
+        return {it: it.read_bytes() for it in self.folder.glob("out/**/*.o") if it.name in names}
 
     def try_mutant(self, library, mutant, lines):
         """What came of a wrong body, and by which test. The file and what was built of it are put back."""

@@ -9,7 +9,7 @@ import sys
 
 sys.dont_write_bytecode = True
 
-from limits import DEFAULTS, limits
+from limits import DEFAULTS, limits, version
 
 HEAD = """\
 /*
@@ -39,9 +39,10 @@ WIDE = ("MOST_CHANGES", "MOST_SECTIONS", "MOST_COUNT")
 TAIL = """
 /*
  * The library's function that compares limits has this name; registry.h declares it. The name contains the two limits on which sizes of structs
- * depend. So a program that was compiled for others doesn't link or start with this library.
+ * depend, and the version: major and minor, or from 1 on the major one. So a program that was compiled for others doesn't link or start with this
+ * library.
  */
-#define REGISTRY_BUILT_FOR	registry_for_{MOST_CPUS}_cpus_{MOST_SLOTS}_slots
+#define REGISTRY_BUILT_FOR	registry_for_{MOST_CPUS}_cpus_{MOST_SLOTS}_slots_v{version}
 
 /* What the shared libraries of this build have in their names. The default build has nothing. */
 #define REGISTRY_BUILD	"{build}"
@@ -63,7 +64,7 @@ def header(of):
     lines = [f"\n/* {SAID[name]} */\n#define REGISTRY_{name}\t{in_c(name, of[name])}\n" for name in DEFAULTS]
     default = all(of[name] == DEFAULTS[name] for name in ("MOST_CPUS", "MOST_SLOTS"))
     build = "" if default else f"-{of['MOST_CPUS']}x{of['MOST_SLOTS']}"
-    return HEAD + "".join(lines) + TAIL.format(build=build, **of)
+    return HEAD + "".join(lines) + TAIL.format(build=build, version=version(), **of)
 
 
 def main(words):
@@ -79,7 +80,11 @@ def main(words):
     if lacking:
         print(f"limits-header: the file says no {lacking[0]}", file=sys.stderr)
         return 2
-    print(header(of), end="")
+    try:
+        print(header(of), end="")
+    except ValueError as fault:
+        print(f"limits-header: {fault}", file=sys.stderr)
+        return 2
     return 0
 
 

@@ -1,9 +1,9 @@
 #!/usr/bin/env bash
 # Makes a release for C and Rust out of what is proved, in release/: archives to unpack, the source around them, a crate, Debian packages, PROVED and
 # SHA256SUMS.
-# clients/RELEASE.md says how it is laid out. The same commit and the same archives make the same bytes.
+# packaging/RELEASE.md says how it is laid out. The same commit and the same archives make the same bytes.
 #
-#     tools/make-release.sh                  takes the archives in clients/out and the program, as tools/build-archive.sh and tools/prove-program.sh left them
+#     tools/make-release.sh                  takes the archives in out and the program, as tools/build-archive.sh and tools/prove-program.sh left them
 #     tools/make-release.sh --prove          proves and builds all three first
 #     tools/make-release.sh --to FOLDER      writes there; `--prove` may come before it
 #
@@ -81,15 +81,15 @@ prove_all() {
 
 # Whether there is an archive for aarch64.
 has_aarch64() {
-    [ -e clients/out/aarch64/libregistry.a ]
+    [ -e out/aarch64/libregistry.a ]
 }
 
 need_proved() {
-    grep -qx "version = \"$version\"" clients/rust/Cargo.toml || refuse "clients/rust/Cargo.toml has another version than registry.h, which has $version"
-    tools/proof-record.py check clients/out/libregistry.a || exit 2
+    grep -qx "version = \"$version\"" rust/Cargo.toml || refuse "rust/Cargo.toml has another version than registry.h, which has $version"
+    tools/proof-record.py check out/libregistry.a || exit 2
     ./registry_run --proved >/dev/null || refuse "there is no proved registry_run of the sources that stand: tools/prove-program.sh proves and builds it"
     if has_aarch64; then
-        tools/proof-record.py check clients/out/aarch64/libregistry.a || exit 2
+        tools/proof-record.py check out/aarch64/libregistry.a || exit 2
         need aarch64-linux-gnu-gcc gcc-aarch64-linux-gnu
         need_library aarch64-linux-gnu-gcc libc6-dev-arm64-cross
     else
@@ -115,13 +115,13 @@ binaries() {
     # shellcheck disable=SC2016
     words+=(PC_PREFIX='$${pcfiledir}/../..' RUNPATH='$$ORIGIN')
     quietly make -C "$source" symbols install install-examples "${words[@]}"
-    cp clients/INSTALL.md "$room/tree/$name/README.md"
+    cp packaging/INSTALL.md "$room/tree/$name/README.md"
     cp "$source/archive/$1/libregistry.proved" "$room/tree/$name/PROVED"
     if [ -f "$source/archive/$1/registry_run" ]; then
         install -D -m 755 "$source/archive/$1/registry_run" "$room/tree/$name/bin/registry_run"
         install -D -m 644 "$source/man/registry_run.1" "$room/tree/$name/share/man/man1/registry_run.1"
     fi
-    clients/pack.sh "$room/tree" "$name" "$SOURCE_DATE_EPOCH" >"$made/$name.tar.xz"
+    packaging/pack.sh "$room/tree" "$name" "$SOURCE_DATE_EPOCH" >"$made/$name.tar.xz"
 }
 
 # The crate, with the archives within. It is built outside of any repository, so that it says nothing of one.
@@ -166,7 +166,7 @@ need_tools
 need_commit
 need_place
 [ -z "$prove" ] || prove_all
-version=$(make -s -C clients version)
+version=$(make -s version)
 need_proved
 SOURCE_DATE_EPOCH=$(git log -1 --format=%ct)
 export SOURCE_DATE_EPOCH
@@ -176,8 +176,8 @@ trap 'rm -rf "$room"' EXIT
 made=$room/made
 source_name=kupaldiz-$version
 mkdir "$made"
-quietly clients/dist.sh --lay "$room/$source_name"
-clients/pack.sh "$room" "$source_name" "$SOURCE_DATE_EPOCH" >"$made/$source_name.tar.xz"
+quietly packaging/dist.sh --lay "$room/$source_name"
+packaging/pack.sh "$room" "$source_name" "$SOURCE_DATE_EPOCH" >"$made/$source_name.tar.xz"
 binaries x86_64
 packages amd64 -b
 if has_aarch64; then
@@ -199,6 +199,6 @@ if [ -e "$to" ]; then
 fi
 mv "$new" "$to"
 (cd "$to" && sed 's/^/made    /' SHA256SUMS)
-if [ -z "$(make -s -C clients licence)" ]; then
-    echo "no licence is chosen: LICENCE in clients/install.mk is empty, and nobody but the owner may copy or pass on what is in ${to##*/}/"
+if [ -z "$(make -s licence)" ]; then
+    echo "no licence is chosen: LICENCE in packaging/install.mk is empty, and nobody but the owner may copy or pass on what is in ${to##*/}/"
 fi

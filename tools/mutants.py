@@ -1,9 +1,9 @@
 #!/usr/bin/env python3
-"""Makes small wrong bodies of the code that nothing proves, and says which of them every test lets through.
+"""Makes small wrong bodies of the code that nothing proves, and says which of them every test accepts.
 
-    tools/mutants.py [--only FILE[:LINE]].. [--sample N] [--seed N] [--jobs N] [--least N] [--to FILE] [--record FILE] [--again] [--tests WORD].. [--list]
+    tools/mutants.py [--only FILE[:LINE]].. [--sample N] [--seed N] [--jobs N] [--least N] [--to FILE] [--tests WORD].. [--list]
 
-The code is clients/c/waiting.c, what is C of the archive, clients/netbsd/src/*.c and clients/rust/src/*.rs. tools/mutations.py has the rules. Each
+The code is c/src/waiting.c, what is C of the archive, netbsd/src/*.c and rust/src/*.rs. tools/mutations.py has the rules. Each
 wrong body is built in a copy of the tree, and the tests of the file's own library run until one fails. A body that the compiler makes the same code of
 isn't run.
 
@@ -18,13 +18,11 @@ isn't run.
 
 `--only` takes the wrong bodies of a file, or of one line of it. `--sample` takes N of them by the seed (1 where none is given): the same share of
 each file. `--jobs` tries so many at a time (2). Many tests of the layer sleep, so that twice as many as there are processors are faster still. `--list` only
-says what the wrong bodies are, and what came of each.
+says what the wrong bodies are.
 
-The results go to --to (tools/out/mutants.txt), however the run ends, with the sum of what was tried. --record (clients/MUTANTS.txt) keeps what came
-of each wrong body, and the next run passes over it. `--again` tries survivors, and what was killed by time, anew. With `--tests` only tests run whose names
-begin with one of these words. What survives those is left for a run of all tests.
-
-clients/MUTANTS.md lists the survivors that are known, with the reason why each harms nobody. Where there is another one the status is 1.
+The results go to --to (tools/out/mutants.txt), however the run ends, with the sum of what was tried. With `--tests` only tests run whose names begin with
+one of these words. What survives those is left for a run of all tests. Where one survives all tests, the status is 1: either a test is missing, or the body
+harms nobody, as one that costs time alone.
 """
 import argparse
 import collections
@@ -45,10 +43,7 @@ from coverage import Coverage, Marks
 from lanes import COPIED, MOST_BYTES, Lane, Test, Tests, run
 from mutations import changes, lines_of
 from parts import ROOT, guard, stop_running
-from tried import Record, sum_of
 
-KNOWN = ROOT / "clients/MUTANTS.md"
-RECORD = ROOT / "clients/MUTANTS.txt"
 C_FLAGS = "STRICT=-std=c11 -D_POSIX_C_SOURCE=200809L -w"
 # Without what a debugger needs the same code is the same object, wherever its lines are.
 BARE = "CFLAGS=-O2 -g0"
@@ -74,9 +69,7 @@ OBJECT = "mutant.o"
 RUNS = 2
 # The crate's test that cargo has to run.
 TYPES = "compile_fail"
-CARGO_TEST = "env CARGO_PROFILE_DEV_DEBUG=0 CARGO_PROFILE_TEST_DEBUG=0 cargo test --offline -q --manifest-path clients/rust/Cargo.toml".split()
-# What the crate compiles for a program without the standard library alone is marked so.
-BARE_ALONE = '#[cfg(not(feature = "std"))]'
+CARGO_TEST = "env CARGO_PROFILE_DEV_DEBUG=0 CARGO_PROFILE_TEST_DEBUG=0 cargo test --offline -q --manifest-path rust/Cargo.toml".split()
 # The programs of the bench that see the layer, with their words.
 BENCH = {"counts": [], "drivers": [], "finds": [], "refusals": [], "shortest": [], "named": [], "outcomes": ["1", "40"]}
 # A library: the files that are changed, its tests for one of them, and for C what compiles a file: the command and the object that it makes, for how the
@@ -87,27 +80,27 @@ Library = collections.namedtuple("Library", "files tests compiled")
 def of_waiting(_):
     """The programs that waiting.c is compiled into."""
     programs = ("turns", "deferred", "waits", "forwarder", "device_switch")
-    return [Test(it, ["make", "-s", "-C", "clients", C_FLAGS, f"out/{it}"], [f"clients/out/{it}"]) for it in programs]
+    return [Test(it, ["make", "-s", C_FLAGS, f"out/{it}"], [f"out/{it}"]) for it in programs]
 
 
 def of_part(file):
     """The programs that see a part of the archive that is C. Each is linked with an archive in which that part is as it is here."""
     part, folder = pathlib.Path(file).stem, "out/part"
     archive = f"{folder}/libregistry.a"
-    joined = f"{ROOT}/tools/replace-part.sh {part} clients/out/libregistry.a clients/{archive}"
-    made = f"make -s -C clients OUT={folder} ARCHIVE={archive} '{C_FLAGS}'"
-    return [Test(f"{part}/{it}", ["sh", "-c", f"{joined} && {made} {folder}/{it}"], [f"clients/{folder}/{it}", *words],
+    joined = f"{ROOT}/tools/replace-part.sh {part} out/libregistry.a {archive}"
+    made = f"make -s OUT={folder} ARCHIVE={archive} '{C_FLAGS}'"
+    return [Test(f"{part}/{it}", ["sh", "-c", f"{joined} && {made} {folder}/{it}"], [f"{folder}/{it}", *words],
                  None if it.startswith("sanitized-") else MOST_BYTES) for it, words in PARTS[part].items()]
 
 
-MAKES_LAYER = ["make", "-s", "-C", "clients/netbsd", C_FLAGS, BARE]
-MAKES_BENCH = ["make", "-s", "-C", "clients/bench", "WARNINGS=-w", BARE]
+MAKES_LAYER = ["make", "-s", "-C", "netbsd", C_FLAGS, BARE]
+MAKES_BENCH = ["make", "-s", "-C", "explorer", "WARNINGS=-w", BARE]
 
 
 @functools.cache
 def programs(way):
     """What the layer's Makefile builds for a way."""
-    return run(["make", "-s", "-C", "clients/netbsd", f"list-{way}"], ROOT, 60)[1].split()
+    return run(["make", "-s", "-C", "netbsd", f"list-{way}"], ROOT, 60)[1].split()
 
 
 def of_bench(file):
@@ -115,8 +108,8 @@ def of_bench(file):
     if pathlib.Path(file).stem in ("lock", "pause", "softint_thread"):
         return []
     folder = "out/bench/plain"
-    return [Test(f"bench/{it}", [*MAKES_BENCH, f"../{folder}/{it}"], [f"clients/{folder}/{it}", *words], MOST_BYTES,
-                 Marks(f"bench/{it}", f"clients/{folder}/layer-{{}}.o", 1)) for it, words in BENCH.items()]
+    return [Test(f"bench/{it}", [*MAKES_BENCH, f"../{folder}/{it}"], [f"{folder}/{it}", *words], MOST_BYTES,
+                 Marks(f"bench/{it}", f"{folder}/layer-{{}}.o", 1)) for it, words in BENCH.items()]
 
 
 def of_layer(file):
@@ -124,43 +117,42 @@ def of_layer(file):
     found = of_bench(file)
     for way, is_bare in WAYS.items():
         folder, memory = f"out/netbsd/{way}", MOST_BYTES if is_bare else None
-        found += [Test(f"{way}/{it}", [*MAKES_LAYER, f"../{folder}/{it}"], [f"clients/{folder}/{it}"], memory, Marks(it, f"clients/{folder}/{{}}.o", RUNS))
+        found += [Test(f"{way}/{it}", [*MAKES_LAYER, f"../{folder}/{it}"], [f"{folder}/{it}"], memory, Marks(it, f"{folder}/{{}}.o", RUNS))
                   for it in programs(way)]
-    return found + [Test(f"watched/{it}", [*MAKES_LAYER, f"../out/netbsd/plain/{it}"], [*VALGRIND, f"clients/out/netbsd/plain/{it}", *words], None,
+    return found + [Test(f"watched/{it}", [*MAKES_LAYER, f"../out/netbsd/plain/{it}"], [*VALGRIND, f"out/netbsd/plain/{it}", *words], None,
                          Marks(it, "", 0)) for it, words in WATCHED.items()]
 
 
 def crate_test(name, program, *words):
     """A test that is a part of a program of the crate's tests, or all of it."""
-    place = f"clients/out/crate/{program}/tests"
+    place = f"out/crate/{program}/tests"
     return Test(name, [str(ROOT / "tools/crate-tests.py"), place], [place, *words])
 
 
 def of_crate(file):
-    """The crate's tests: each file of them, and those within. What is there for a program without the standard library is tested without it, too."""
-    names = sorted(it.stem for it in (ROOT / "clients/rust/tests").glob("*.rs") if it.stem != TYPES)
+    """The crate's tests: each file of them, and those within."""
+    names = sorted(it.stem for it in (ROOT / "rust/tests").glob("*.rs") if it.stem != TYPES)
     types = [*CARGO_TEST, "--test", TYPES]
-    bare = [crate_test("bare/lib", "bare-lib"), crate_test("bare/edges", "bare-one", "edges::")] if BARE_ALONE in (ROOT / file).read_text() else []
-    return [*(crate_test(it, "one", f"{it}::") for it in names), crate_test("lib", "lib"), *bare, Test(TYPES, [*types, "--no-run"], types)]
+    return [*(crate_test(it, "one", f"{it}::") for it in names), crate_test("lib", "lib"), Test(TYPES, [*types, "--no-run"], types)]
 
 
 def compile_c(file):
-    words = ["gcc", *C_FLAGS.partition("=")[2].split(), "-O2", "-g0", "-Iclients/c", "-Icrates/registry_c/include", "-c", file, "-o", OBJECT]
+    words = ["gcc", *C_FLAGS.partition("=")[2].split(), "-O2", "-g0", "-Ic/include", "-Icrates/registry_c/include", "-c", file, "-o", OBJECT]
     return {"": (words, OBJECT)}
 
 
 def compile_layer(file):
     """The objects are some that the tests are made of. The sanitizer of races is told more than the others."""
     made = {way: f"out/netbsd/{way}/{pathlib.Path(file).stem}.o" for way in ("plain", "raced")}
-    return {"": ([*MAKES_LAYER, f"../{made['plain']}"], f"clients/{made['plain']}"),
-            "raced/": ([*MAKES_LAYER, "raced_FLAGS=-O1 -g0 -fsanitize=thread", f"../{made['raced']}"], f"clients/{made['raced']}")}
+    return {"": ([*MAKES_LAYER, f"../{made['plain']}"], made["plain"]),
+            "raced/": ([*MAKES_LAYER, "raced_FLAGS=-O1 -g0 -fsanitize=thread", f"../{made['raced']}"], made["raced"])}
 
 
 LIBRARIES = (
-    Library("clients/c/waiting.c", of_waiting, compile_c),
-    *(Library(f"clients/c/{part}.c", of_part, compile_c) for part in PARTS),
-    Library("clients/netbsd/src/*.c", of_layer, compile_layer),
-    Library("clients/rust/src/*.rs", of_crate, None),
+    Library("c/src/waiting.c", of_waiting, compile_c),
+    *(Library(f"c/src/{part}.c", of_part, compile_c) for part in PARTS),
+    Library("netbsd/src/*.c", of_layer, compile_layer),
+    Library("rust/src/*.rs", of_crate, None),
 )
 
 
@@ -199,24 +191,18 @@ def lines_changed(file):
 
 
 def key(mutant):
-    """How a survivor is written down: without its line, which other changes move."""
+    """How a survivor is written down."""
     return f"{mutant.file}: {mutant.old} -> {mutant.new}"
-
-
-def known():
-    """The survivors that the text has."""
-    return {line.strip() for line in KNOWN.read_text().splitlines() if line.startswith("    clients/")} if KNOWN.is_file() else set()
 
 
 class Tried:
     """The wrong bodies, and what came of them so far."""
 
-    def __init__(self, bodies, words, record, tests):
-        self.bodies, self.words, self.record, self.tests = bodies, words, record, tests
+    def __init__(self, bodies, words, tests):
+        self.bodies, self.words, self.tests = bodies, words, tests
         self.came = {}
         self.by = collections.Counter()
         self.lock = threading.Lock()
-        self.known = known()
         self.is_over = False
 
     def note(self, mutant, outcome, by):
@@ -226,13 +212,11 @@ class Tried:
                 return
             self.came[mutant] = outcome
             self.by.update([by] if by else [])
-            self.record.parts[mutant.file].note(mutants_of(mutant.file).index(mutant), outcome, by)
-            self.record.write()
-            told = f" by {by}" if by else " (known)" if outcome in SURVIVED and key(mutant) in self.known else ""
+            told = f" by {by}" if by else ""
             print(f"{mutant.file}:{mutant.line}: {mutant.rule}: {mutant.new}: {outcome}{told}", flush=True)
 
-    def survivors(self, is_known):
-        return sorted(it for it, outcome in self.came.items() if outcome in SURVIVED and (key(it) in self.known) == is_known)
+    def survivors(self):
+        return sorted(it for it, outcome in self.came.items() if outcome in SURVIVED)
 
     def report(self, to):
         """Writes what came of it."""
@@ -240,9 +224,7 @@ class Tried:
         lines += [f"{sum(it == outcome for it in self.came.values()):5} {outcome}" for outcome in OUTCOMES]
         lines += [f"{len(self.bodies) - len(self.came):5} not tried", ""]
         lines += [f"{count:5} by {test}" for test, count in self.by.most_common()]
-        for is_known in (False, True):
-            lines += ["", "Survivors that clients/MUTANTS.md has:" if is_known else "Survivors:", ""]
-            lines += [f"line {it.line}, {it.rule}:\n    {key(it)}" for it in self.survivors(is_known)]
+        lines += ["", "Survivors:", "", *(f"line {it.line}, {it.rule}:\n    {key(it)}" for it in self.survivors())]
         to.parent.mkdir(parents=True, exist_ok=True)
         to.write_text("\n".join(lines) + "\n")
 
@@ -251,9 +233,8 @@ def sum_of_tree():
     """The sum of all files that the tests are built from, and of the archive."""
     found = hashlib.sha256()
     places = [path for name in COPIED for path in sorted((ROOT / name).rglob("*")) if path.is_file() and "out" not in path.relative_to(ROOT).parts]
-    for path in [*places, *(it for it in [ROOT / "clients/out/libregistry.a"] if it.is_file())]:
-        if path != RECORD:
-            found.update(f"{path.relative_to(ROOT)}\n".encode() + hashlib.sha256(path.read_bytes()).digest())
+    for path in [*places, *(it for it in [ROOT / "out/libregistry.a"] if it.is_file())]:
+        found.update(f"{path.relative_to(ROOT)}\n".encode() + hashlib.sha256(path.read_bytes()).digest())
     return found.hexdigest()
 
 
@@ -324,8 +305,6 @@ def arguments():
     parser.add_argument("--jobs", type=number, default=2)
     parser.add_argument("--least", type=number, default=2)
     parser.add_argument("--to", type=pathlib.Path, default=ROOT / "tools/out/mutants.txt")
-    parser.add_argument("--record", type=pathlib.Path, default=RECORD)
-    parser.add_argument("--again", action="store_true")
     parser.add_argument("--tests", action="append", default=[])
     parser.add_argument("--list", action="store_true")
     given = parser.parse_args()
@@ -356,39 +335,23 @@ def chosen(only, sample, seed):
     return found if sample is None else sampled(found, sample, seed)
 
 
-def record_at(path):
-    """The record of what was tried, for all files as they are."""
-    sums = {file: (sum_of((ROOT / file).read_text(), [f"{it.line} {key(it)}" for it in mutants_of(file)]), len(mutants_of(file))) for file in files()}
-    return Record(path, sums)
-
-
-def came_before(record, mutant):
-    """What the record has of a wrong body."""
-    return record.parts[mutant.file].outcome(mutants_of(mutant.file).index(mutant))
-
-
 def main():
     parser, given = arguments()
     bodies = chosen(given.only, given.sample, given.seed)
     if not bodies:
         parser.error("no wrong body there")
-    record = record_at(given.record)
     if given.list:
-        print("".join(f"{it.file}:{it.line}: {it.rule}: {it.old} -> {it.new}: {came_before(record, it) or 'not tried'}\n" for it in bodies), end="")
+        print("".join(f"{it.file}:{it.line}: {it.rule}: {it.old} -> {it.new}\n" for it in bodies), end="")
         return 0
-    again = {None, *([*SURVIVED, "hung"] if given.again else []), *([] if given.tests and not given.again else ["left"])}
-    left = [it for it in bodies if came_before(record, it) in again]
-    tried = Tried(left, sys.argv[1:], record, Tests(given.least, record, given.tests))
+    tried = Tried(bodies, sys.argv[1:], Tests(given.least, given.tests))
     guard()
     try:
-        if left:
-            with tempfile.TemporaryDirectory() as room:
-                try_all(tried, given.jobs, pathlib.Path(room))
+        with tempfile.TemporaryDirectory() as room:
+            try_all(tried, given.jobs, pathlib.Path(room))
     finally:
         tried.report(given.to)
-    new = sum(came_before(record, it) in SURVIVED and key(it) not in tried.known for it in bodies)
-    print(f"{len(tried.came)} tried, {len(bodies) - len(left)} before; {new} survived that clients/MUTANTS.md doesn't have: {given.to}")
-    return int(new > 0)
+    print(f"{len(tried.came)} tried, {len(tried.survivors())} survived: {given.to}")
+    return int(bool(tried.survivors()))
 
 
 if __name__ == "__main__":

@@ -1,16 +1,16 @@
 #!/usr/bin/env bash
 # Lets the tests of two peers torture the registry: liburcu's rcutorture, and those of ck's epoch tests that don't look into an epoch. Both are built
-# unchanged from Debian's source packages over clients/peers, whose sections and waits are those of clients/netbsd, over clients/out/libregistry.a.
+# unchanged from Debian's source packages over netbsd/peers, whose sections and waits are those of netbsd, over out/libregistry.a.
 # Each is also built over a wait that does nothing, and has to find that. It isn't in the gate: it fetches the packages by apt, from where the
 # system's own lists have theirs, and runs for some minutes. The last line is 'N passed, M failed'.
 #
 # It needs gcc, apt-get and dpkg-source (dpkg-dev).
 set -uo pipefail
 cd "$(dirname "$0")/.."
-work=$PWD/clients/out/peers
+work=$PWD/out/peers
 apt=$work/apt
-include=(-Iclients/peers -Iclients/netbsd -Icrates/registry_c/include)
-library=(clients/netbsd/src/*.c clients/out/libregistry.a -pthread)
+include=(-Inetbsd/peers -Inetbsd/include -Icrates/registry_c/include)
+library=(netbsd/src/*.c out/libregistry.a -pthread)
 # shellcheck source=tools/checks.sh
 . tools/checks.sh
 trap forget_log EXIT
@@ -52,7 +52,7 @@ build_torture() {
     local name=$1
     shift
     gcc -std=gnu11 -D_GNU_SOURCE -O2 "$@" -DRCU_MB "${include[@]}" -I"$work/urcu/include" -I"$work/urcu/tests/common" -I"$work/urcu/tests/utils" \
-        -o "$work/$name" "$work/urcu/tests/regression/urcutorture.c" "$work/urcu/tests/utils/tap.c" clients/peers/urcu.c "${library[@]}"
+        -o "$work/$name" "$work/urcu/tests/regression/urcutorture.c" "$work/urcu/tests/utils/tap.c" netbsd/peers/urcu.c "${library[@]}"
 }
 
 # build_epoch TEST NAME FLAG..: one of ck's epoch tests over our sections, with the address sanitizer.
@@ -130,8 +130,8 @@ test_epochs() {
     judge "ck_stack finds a wait that does nothing" $?
 }
 
-if [ ! -e clients/out/libregistry.a ]; then
-    echo "no archive: tools/build-archive.sh makes clients/out/libregistry.a"
+if [ ! -e out/libregistry.a ]; then
+    echo "no archive: tools/build-archive.sh makes out/libregistry.a"
     exit 1
 fi
 mkdir -p "$work"

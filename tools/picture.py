@@ -3,7 +3,7 @@
 
     tools/picture.py svg SCRIPT [REPORT]     as SVG, to standard output
     tools/picture.py text SCRIPT [REPORT]    for a terminal, in at most 100 columns where the script is short enough
-    tools/picture.py make                    writes the pictures of examples/ anew: NAME.svg and NAME.picture
+    tools/picture.py make                    writes the pictures of examples/ anew: NAME.svg
     tools/picture.py check                   makes them again and compares, and tries what it should refuse
 
 Time goes to the right; one column is one command. Each CPU has a row, with its sections as bars and its references as thinner bars, and each

@@ -3,7 +3,7 @@
 
     tools/proof-record.py write PROCESSOR LIMITS LOG COMPILED OBJECT    prints the record of an archive that was just made
     tools/proof-record.py check ARCHIVE                                 whether the archive is the recorded one, made from the sources as they stand
-    tools/proof-record.py parts                                         the names of the C files in clients/c that are joined with the proved object
+    tools/proof-record.py parts                                         the names of the C files in c/src that are joined with the proved object
 
 LIMITS is the limits.rt that was proved, LOG what the proof said, COMPILED the object as the compiler wrote it, OBJECT the one that is in the archive. Each
 line of a record is `NAME: TEXT`; its limits are as tools/build-archive.sh takes them. `check` prints one line and ends with status 2 where something differs.
@@ -48,7 +48,7 @@ def sum_of_bytes(of):
 def sources():
     """The files that the archive is proved from, and those in C that are joined with it."""
     headers = sorted((ROOT / "crates" / LIBRARY / "include").glob("*.h"))
-    files = [ROOT / "crates.txt", *headers, *(ROOT / f"clients/c/{part}.c" for part in PARTS)]
+    files = [ROOT / "crates.txt", *headers, *(ROOT / f"c/src/{part}.c" for part in PARTS)]
     for crate in sorted([LIBRARY, *below(LIBRARY)]):
         files += [it for part in ("src", "specs", "proofs") for it in sorted((ROOT / "crates" / crate / part).rglob("*")) if it.is_file()]
     return files

@@ -1,12 +1,12 @@
 #!/usr/bin/env bash
-# Makes an archive like another one, in which one part in C is compiled anew from clients/c below the working folder.
+# Makes an archive like another one, in which one part in C is compiled anew from c/src below the working folder.
 #
 #     tools/replace-part.sh PART ARCHIVE TO
 #
 # PART is one that `tools/proof-record.py parts` names. The archive that comes of it has no record: it is for tests of wrong bodies alone.
 set -euo pipefail
 [ $# -eq 3 ] || { echo "replace-part: it takes PART ARCHIVE TO" >&2; exit 2; }
-source=clients/c/$1.c archive=$2 to=$3
+source=c/src/$1.c archive=$2 to=$3
 room=$(mktemp -d)
 trap 'rm -rf "$room"' EXIT
 gcc -std=c11 -O2 -fPIC -ffunction-sections -Icrates/registry_c/include -c -o "$room/part.o" "$source"

@@ -10,7 +10,7 @@ since without it ./registry_run says on standard error that nothing is proved. W
 program anew for each engine. The last line counts the runs.
 
 Code in the documents must be part of a source, up to blank lines; what isn't is said, and fails. A fenced block `rust` is looked for in
-crates/registry_examples/src and in clients/rust/examples, a block `c` in clients/c or clients/netbsd/tests. A block `LANGUAGE PATH` is looked for
+crates/registry_examples/src and in rust/examples, a block `c` in c or netbsd/tests. A block `LANGUAGE PATH` is looked for
 in that file alone, whatever the language.
 """
 import argparse
@@ -30,10 +30,10 @@ ENGINES = ("core", "live")
 MOST_SECONDS = 1200
 WANTED = {"report": lambda text: (0, text, ""), "fault": lambda text: (2, "", text)}
 SOURCES = {
-    "rust": [*sorted((ROOT / "crates/registry_examples/src").glob("*.rt")), *sorted((ROOT / "clients/rust/examples").glob("*.rs"))],
-    "c": [*sorted((ROOT / "clients/c").glob("*.c")), *sorted((ROOT / "clients/netbsd/tests").rglob("*.c"))],
+    "rust": [*sorted((ROOT / "crates/registry_examples/src").glob("*.rt")), *sorted((ROOT / "rust/examples").glob("*.rs"))],
+    "c": [*sorted((ROOT / "c").rglob("*.c")), *sorted((ROOT / "netbsd/tests").rglob("*.c"))],
 }
-PAGES = [ROOT / "README.md", ROOT / "clients/README.md", ROOT / "clients/rust/README.md", *sorted((ROOT / "docs").glob("*.md"))]
+PAGES = [ROOT / "README.md", ROOT / "rust/README.md", *sorted((ROOT / "docs").glob("*.md"))]
 FILES = [ROOT / "README.md", *sorted((ROOT / "docs").glob("*.md")), *sorted((ROOT / "examples").glob("*.txt"))]
 
 

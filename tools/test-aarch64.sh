@@ -3,13 +3,13 @@
 # it does; the last line is 'N passed, M failed'. What is missing is installed by apt: qemu, and Debian's compiler and C library for that processor.
 #
 #     tools/test-aarch64.sh            proves the library for aarch64 first
-#     tools/test-aarch64.sh --built    takes the library that tools/archive-beside.py has proved for aarch64, and left in clients/out/aarch64
+#     tools/test-aarch64.sh --built    takes the library that tools/archive-beside.py has proved for aarch64, and left in out/aarch64
 #     tools/test-aarch64.sh --rust     takes the archive as it stands, and runs the tests of the Rust crate alone. Debian's compiler and its standard
-#                                      library for both processors are fetched for it, 110 megabytes, and unpacked below clients/out/aarch64. Not in the gate
+#                                      library for both processors are fetched for it, 110 megabytes, and unpacked below out/aarch64. Not in the gate
 #
 # qemu runs on this machine's processor, whose memory order is a stronger one: no run here can show an order that is too weak. What can be shown
 # stands beside: each instruction that comes to a registry's table, in runs of one thread, is one of the four that aarch64 has for sequentially
-# consistent steps (clients/c/ordered.c), and the archive has no other atomic instruction at all (tools/atomics.py). A plain load or store of the
+# consistent steps (c/tests/ordered.c), and the archive has no other atomic instruction at all (tools/atomics.py). A plain load or store of the
 # table on a path that no run takes would go unseen.
 set -uo pipefail
 cd "$(dirname "$0")/.."
@@ -17,7 +17,7 @@ cd "$(dirname "$0")/.."
 . tools/checks.sh
 trap forget_log EXIT
 processor=aarch64
-out=clients/out/$processor
+out=out/$processor
 cross=$processor-linux-gnu-
 library=$out/libregistry_c.a
 emulator=qemu-$processor-static
@@ -52,7 +52,7 @@ build_archive() {
 
 # The archive has each call of the header, and no other name is seen.
 archive_names() {
-    diff <(clients/calls-of.sh crates/registry_c/include/registry{,_limits}.h) <("${cross}nm" --defined-only "$out/libregistry.a" | awk '$2 ~ /^[A-TV-Z]$/ { print $3 }' | sort)
+    diff <(packaging/calls-of.sh crates/registry_c/include/registry{,_limits}.h) <("${cross}nm" --defined-only "$out/libregistry.a" | awk '$2 ~ /^[A-TV-Z]$/ { print $3 }' | sort)
 }
 
 # No call takes more stack than the page says.
@@ -71,7 +71,7 @@ emulated() {
 
 # It counts what the library asks for. Where all is one program, it would count what the C library asks for as well: so it takes that as a shared one.
 make_refuse() {
-    make -s -C clients CC="${cross}gcc" "out/$processor/refuse"
+    make -s CC="${cross}gcc" "out/$processor/refuse"
 }
 
 # run-examples.py runs one program: a script that runs the emulator.
@@ -100,7 +100,7 @@ sees_weaker_step() {
 test_clients() {
     local storm
     check "refuse is built over a shared C library" make_refuse
-    check "the clients in C are built, no warning" make_for clients all "out/$processor/heap_stress-none-right"
+    check "the clients in C are built, no warning" make_for . all "out/$processor/heap_stress-none-right"
     check "smallest" smallest_says emulated "$out/smallest"
     check "row" row_says emulated "$out/row"
     for storm in "1 100" "4 1000" "8 200"; do
@@ -112,7 +112,7 @@ test_clients() {
     check "misuse is answered" emulated "$out/misuse"
     check "each allocation refused" emulated -L "/usr/$processor-linux-gnu" "$out/refuse"
     check "the build's version and limits" emulated "$out/built"
-    counted "programs compiled for other limits" env CC="${cross}gcc" RUN="$emulator" clients/other-limits.sh crates/registry_c/include "$out/libregistry.a"
+    counted "programs compiled for other limits" env CC="${cross}gcc" RUN="$emulator" packaging/other-limits.sh crates/registry_c/include "$out/libregistry.a"
     check "the layout of each struct" emulated "$out/layout"
     check "walk" emulated "$out/walk" 200
     check "usual" emulated "$out/usual" 50
@@ -129,10 +129,10 @@ test_clients() {
 
 test_netbsd() {
     local test
-    check "the manual pages' own names are built, no warning" make_for clients/netbsd plain
+    check "the manual pages' own names are built, no warning" make_for netbsd plain
     # Where a program ends by a signal, the emulator says a line of its own: so not those that compare all that is said there.
-    for test in $(make_for clients/netbsd list-plain); do
-        find clients/netbsd/tests -name "$test.c" -exec grep -q '"stops.h"' {} + && continue
+    for test in $(make_for netbsd list-plain); do
+        find netbsd/tests -name "$test.c" -exec grep -q '"stops.h"' {} + && continue
         check "$test, of the manual pages' names" emulated "$out/netbsd/plain/$test"
     done
 }
@@ -160,14 +160,14 @@ fetch_rust() {
 # program that ends by a signal. The stress makes fewer changes.
 rust_tests() {
     local room=$PWD/$out/debian
-    (cd clients/rust && REGISTRY_CHANGES=60 LD_LIBRARY_PATH=$room/usr/lib/x86_64-linux-gnu RUSTC=$room/usr/bin/rustc CARGO_TARGET_DIR=$PWD/../out/$processor/rust \
+    (cd rust && REGISTRY_CHANGES=60 LD_LIBRARY_PATH=$room/usr/lib/x86_64-linux-gnu RUSTC=$room/usr/bin/rustc CARGO_TARGET_DIR=$PWD/../out/$processor/rust \
         CARGO_TARGET_AARCH64_UNKNOWN_LINUX_GNU_LINKER=${cross}gcc CARGO_TARGET_AARCH64_UNKNOWN_LINUX_GNU_RUNNER="env -u LD_LIBRARY_PATH $emulator" \
         RUSTFLAGS='-C target-feature=+crt-static' "$room/usr/bin/cargo" test --offline --no-fail-fast --target $processor-unknown-linux-gnu --lib \
         $(find tests -maxdepth 1 -name '*.rs' ! -name compile_fail.rs ! -name watching.rs -printf '--test %f ' | sed 's/\.rs / /g'))
 }
 
 test_order() {
-    check "the tests of one thread are built to be looked at" make_for clients ordered
+    check "the tests of one thread are built to be looked at" make_for . ordered
     check "layout comes to tables by sequentially consistent steps" ordered layout
     check "misuse does" ordered misuse
     check "history does" ordered history 200 1

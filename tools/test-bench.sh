@@ -1,12 +1,12 @@
 #!/usr/bin/env bash
-# Builds the bench, clients/bench, and runs its tests: small programs whose schedules are counted, and whose outcomes are compared with the reduction and
+# Builds the bench, explorer, and runs its tests: small programs whose schedules are counted, and whose outcomes are compared with the reduction and
 # without; the seven drivers in every order; faults planted in them; one case for each thing that it finds or refuses; its picture; real threads
-# beside it. Plain, with the sanitizers of addresses and undefined behaviour, and some under valgrind. clients/out/libregistry.a stands already. The
+# beside it. Plain, with the sanitizers of addresses and undefined behaviour, and some under valgrind. out/libregistry.a stands already. The
 # last line is 'N passed, M failed'.
 set -uo pipefail
 cd "$(dirname "$0")/.." || exit
-folder=clients/bench
-out=clients/out/bench
+folder=explorer
+out=out/bench
 # shellcheck source=tools/checks.sh
 . tools/checks.sh
 room=$(mktemp -d)
@@ -37,7 +37,7 @@ prints_what_was_tried() {
     grep -qx 'bounds: 14 schedules, 0 cut short, [0-9]* states, [0-9]* points, [0-9]* switches' "$log.said" &&
         grep -qx 'bounds: left out: schedules with more than 1 preemptions, except 5 by random priorities, seed 1' "$log.said" &&
         grep -qx "cut bound: left out: schedules that weren't reached, except 5 by random priorities, seed 1" "$log.said" &&
-        grep -qx 'bridge: every schedule was tried, or one that is the same as it' <("$out/plain/drivers" bridge)
+        grep -qx 'bridge: every schedule of its points was tried, or one that is the same as it' <("$out/plain/drivers" bridge)
 }
 
 # The tables of the README say what was printed.
@@ -57,7 +57,7 @@ is_fast() {
 
 # The header alone, without a warning, in C and, where it is there, in C++.
 header_alone() {
-    local standard words=(-Wall -Wextra -Wpedantic -Werror -DKUPALDIZ_BENCH -Iclients/netbsd -Iclients/bench -fsyntax-only)
+    local standard words=(-Wall -Wextra -Wpedantic -Werror -DKUPALDIZ_BENCH -Inetbsd/include -Iexplorer -fsyntax-only)
     for standard in c99 c11 c17 gnu17; do
         printf '#include <bench.h>\nint one_thing;\n' | gcc -std="$standard" -D_POSIX_C_SOURCE=200809L "${words[@]}" -xc - || return 1
     done
@@ -66,8 +66,20 @@ header_alone() {
     fi
 }
 
+# The bench by clang, with what it compiles of the layer, and its small programs.
+with_clang() {
+    make -s -C $folder CC=clang OUT="$room/clang" ARCHIVE="$PWD/out/libregistry.a" "$room/clang/plain/counts" && "$room/clang/plain/counts"
+}
+
+# On another processor the compiler says what the bench is for.
+is_for_one_processor() {
+    local said
+    said=$(gcc -U__x86_64__ -fsyntax-only "$folder/src/routine.c" 2>&1) && return 1
+    grep -q 'error.*the bench is for x86-64 alone' <<<"$said"
+}
+
 lints() {
-    [ -z "$(mandoc -T lint clients/man/kupaldiz_bench.7 2>&1 | tee /dev/stderr)" ]
+    [ -z "$(mandoc -T lint man/kupaldiz_bench.7 2>&1 | tee /dev/stderr)" ]
 }
 
 watched() {
@@ -88,10 +100,15 @@ done
 counted "the seven drivers in every order, as the README says" drivers_as_told
 check "what it prints" prints_what_was_tried
 check "outcomes with the reduction and without" "$out/plain/outcomes" 1 40
+check "the same of short programs, for a minute" "$out/plain/outcomes" for 60 1
 check "the same with sanitizers" "$out/sanitized/outcomes" 61 4
 check "the outcomes of real threads are among the bench's" make -s -C $folder beside
 counted "each misuse of the layer's tests by the same line" make -s -C $folder misuses
 counted "faults in the seven drivers, as the README says" faults_as_told
+if command -v clang >/dev/null; then
+    check "the bench is built by clang, no warning, and counts" with_clang
+fi
+check "another processor is refused at compile time" is_for_one_processor
 check "a picture" is_picture
 check "100,000 switches a second" is_fast
 if command -v valgrind >/dev/null; then

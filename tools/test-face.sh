@@ -4,19 +4,19 @@
 # 'N passed, M failed'.
 #
 #     tools/test-face.sh                      proves and builds the archive first
-#     tools/test-face.sh --built              takes clients/out/libregistry.a as it stands
+#     tools/test-face.sh --built              takes out/libregistry.a as it stands
 #     tools/test-face.sh --built PART..       some parts alone, which may run beside each other once build has ended:
 #                                             page build c watched heap netbsd rust rust-watched
 #
-# LIMITS names the folder of an archive with other limits, as in clients/places.mk: `LIMITS=wide tools/test-face.sh --built` runs all parts over it, except
+# LIMITS names the folder of an archive with other limits, as in packaging/places.mk: `LIMITS=wide tools/test-face.sh --built` runs all parts over it, except
 # page and bench. tools/test-wide.sh does.
 set -uo pipefail
 cd "$(dirname "$0")/.."
 limits=${LIMITS-}
-out=clients/out${limits:+/$limits}
+out=out${limits:+/$limits}
 header=crates/registry_c/include/registry.h
 [ -z "$limits" ] || header=$out/registry.h
-page=clients/man/registry.3
+page=man/registry.3
 warnings=(-Wall -Wextra -Werror -Wpedantic -Wconversion -Wcast-qual -Wwrite-strings)
 # shellcheck source=tools/checks.sh
 . tools/checks.sh
@@ -36,20 +36,20 @@ install_missing() {
 }
 
 declared() {
-    clients/calls-of.sh "$header"
+    packaging/calls-of.sh "$header"
 }
 
 # names HEADER PAGE: the page names each call of the header, and no other.
 names() {
-    diff <(clients/calls-of.sh "$1") <(grep -E '^\.Nm registry_' "$2" | awk '{ print $2 }' | sort)
+    diff <(packaging/calls-of.sh "$1") <(grep -E '^\.Nm registry_' "$2" | awk '{ print $2 }' | sort)
 }
 
 page_lints() {
-    mandoc -T lint clients/man/*.[137] >"$log" 2>&1 && [ ! -s "$log" ]
+    mandoc -T lint man/*.[137] >"$log" 2>&1 && [ ! -s "$log" ]
 }
 
 make_clients() {
-    make -C clients LIMITS="$limits" "$@"
+    make LIMITS="$limits" "$@"
 }
 
 # The most CPUs of the build.
@@ -64,12 +64,12 @@ build_archive() {
 
 # Other objects see each call of the header in the archive, and no other name.
 archive_names() {
-    diff <(clients/calls-of.sh "${header%.h}"{,_limits}.h) <(nm -g --defined-only "$out/libregistry.a" 2>/dev/null | awk 'NF == 3 { print $3 }' | sort)
+    diff <(packaging/calls-of.sh "${header%.h}"{,_limits}.h) <(nm -g --defined-only "$out/libregistry.a" 2>/dev/null | awk 'NF == 3 { print $3 }' | sort)
 }
 
 # The program whose stack is looked at makes each call of the header.
 unwinds_calls() {
-    diff <(declared) <(grep -oE 'registry_[a-z_]+\(' clients/c/unwinds.c | tr -d '(' | sort -u)
+    diff <(declared) <(grep -oE 'registry_[a-z_]+\(' c/tests/unwinds.c | tr -d '(' | sort -u)
 }
 
 # No call takes more stack than the page says, or, with other limits, more than a page.
@@ -122,14 +122,14 @@ guarded_rust() {
 
 # The programs of the crate's tests, as cargo names them where it isn't told to be quiet; except those that run the compiler or themselves, or look at types.
 rust_tests() {
-    (cd clients/rust && CARGO_TERM_QUIET=false cargo test --offline --no-run --tests 2>&1) | grep -oE '/[^ ()]*/(basket|carried|edges|entries|face|memory|model|owned|pool|retired|sections|threads|together|two|usual)-[0-9a-f]+'
+    (cd rust && CARGO_TERM_QUIET=false cargo test --offline --no-run --tests 2>&1) | grep -oE '/[^ ()]*/(basket|carried|edges|entries|face|memory|model|owned|places|pool|retired|sections|threads|together|two|usual)-[0-9a-f]+'
 }
 
 # Each of them under valgrind, except what forgets on purpose; the stress with fewer changes.
 guarded_tests() {
     local program programs
     programs=$(rust_tests)
-    [ "$(wc -w <<<"$programs")" -eq 15 ] || return 1
+    [ "$(wc -w <<<"$programs")" -eq 16 ] || return 1
     for program in $programs; do
         REGISTRY_CHANGES=60 guarded_rust "$program" --test-threads=1 --skip forgotten --skip had_again --skip static || return 1
     done
@@ -145,6 +145,11 @@ ends_without_yields() {
 threads_say() {
     echo 'wm is gone, its speed was 1000' >"$log.wanted"
     says "$log.wanted" "$@"
+}
+
+# It prints the line that the page shows.
+who_holds_says() {
+    "$1" | diff - <(grep '^the entry is still held: ' rust/README.md)
 }
 
 changes_say() {
@@ -167,7 +172,7 @@ catches() {
 test_page() {
     check "the page: mandoc -T lint says nothing" page_lints
     check "the page names the header's calls" names "$header" "$page"
-    check "the page of the waits names their calls" names clients/c/waiting.h clients/man/registry_waiting.3
+    check "the page of the waits names their calls" names c/include/waiting.h man/registry_waiting.3
     check "the header alone, in four C standards" header_alone
     check "an answer that has to be looked at, and isn't, is warned of" warned unused-result '(void)entry; registry_enter(cpu);'
     check "a reference that isn't looked at is warned of" warned unused-result 'registry_acquire_entry(cpu, entry);'
@@ -197,7 +202,7 @@ test_c() {
     check "C: the functions of the heap" "$out/allocs"
     check "C: what each call takes and frees, and what is planted" "$out/blocks"
     check "C: the build's version and limits" "$out/built"
-    counted "C: programs compiled for other limits" clients/other-limits.sh "${header%/*}" "$out/libregistry.a"
+    counted "C: programs compiled for other limits" packaging/other-limits.sh "${header%/*}" "$out/libregistry.a"
     check "C: the layout of each struct" "$out/layout"
     check "C: unwinds makes each call" unwinds_calls
     check "C: a debugger's stack goes through each call" "$out/unwinds"
@@ -210,7 +215,7 @@ test_c() {
     check "C: entries" "$out/entries" 1000
     check "C: names and answers as text" "$out/names"
     check "C: usual" "$out/usual" 1000
-    check "C: peeks, a lookup stopped after each of its instructions" "$out/peeks"
+    check "C: recalls, a lookup stopped after each of its instructions" "$out/recalls"
     check "C: crowd, every CPU and every slot" "$out/crowd" 2000
     check "C: forwarder" "$out/forwarder"
     check "C: device_switch" "$out/device_switch"
@@ -290,7 +295,7 @@ test_build() {
     check "the clients in C are built, no warning" make_clients all
     check "C: all of them are built with sanitizers" make_clients sanitized
     check "C: heap_stress is built nine times" make_clients stresses
-    check "the manual pages' own names are built" make -C clients/netbsd LIMITS="$limits" all sanitized
+    check "the manual pages' own names are built" make -C netbsd LIMITS="$limits" all sanitized
 }
 
 # A part that is run without build finds what it runs all the same; that it can't is a failure.
@@ -311,18 +316,27 @@ refuses_other_limits() {
     local room=$PWD/$out/other-limits
     mkdir -p "$room" && cp "$out/libregistry.a" "$room" &&
         sed -E 's/^(#define REGISTRY_MOST_CHANGES[[:blank:]]+)(.*)/\1(\2 + 1)/' "${header%.h}_limits.h" >"$room/registry_limits.h" || return 1
-    ! (cd clients/rust && REGISTRY_LIB_DIR=$room CARGO_TARGET_DIR=$room/target cargo run -q --offline --example row) >"$log.said" 2>&1 &&
+    ! (cd rust && REGISTRY_LIB_DIR=$room CARGO_TARGET_DIR=$room/target cargo run -q --offline --example row) >"$log.said" 2>&1 &&
         grep -q OtherLimits "$log.said"
+}
+
+# Over an archive of another version the crate doesn't compile, and says which.
+refuses_other_version() {
+    local room=$PWD/$out/other-version name
+    name=$(sed -nE 's/^#define REGISTRY_BUILT_FOR[[:blank:]]+//p' "${header%.h}_limits.h")
+    mkdir -p "$room" && objcopy --redefine-sym "$name=${name%_v*}_v0_99" "$out/libregistry.a" "$room/libregistry.a" &&
+        sed "s/$name/${name%_v*}_v0_99/" "${header%.h}_limits.h" >"$room/registry_limits.h" || return 1
+    ! (cd rust && REGISTRY_LIB_DIR=$room CARGO_TARGET_DIR=$room/target cargo run -q --offline --example row) >"$log.said" 2>&1 &&
+        grep -q "${name%_v*}_v0_99, of another version than this crate" "$log.said"
 }
 
 test_rust() {
     local storm cpus
     cpus=$(most_cpus)
-    cd clients/rust || return
+    cd rust || return
     check "Rust: no warning" env RUSTFLAGS="-D warnings" cargo check --offline --all-targets
     if cargo clippy --version >/dev/null 2>&1; then
         check "Rust: clippy says nothing" cargo clippy --offline --all-targets -- -D warnings
-        check "Rust: clippy says nothing without the standard library" cargo clippy --offline --no-default-features --lib -- -D warnings
     fi
     if /usr/bin/rustc --version 2>/dev/null | grep -q ' 1\.63\.'; then
         check "Rust: the oldest compiler that the crate is for" env RUSTC=/usr/bin/rustc /usr/bin/cargo check --offline --all-targets --target-dir "$CARGO_TARGET_DIR/oldest"
@@ -330,13 +344,13 @@ test_rust() {
     check "Rust: the documents, no warning" env RUSTDOCFLAGS="-D warnings" cargo doc --offline --no-deps
     check "Rust: a package of it is verified" cargo package --allow-dirty --offline
     counted "Rust: tests" cargo test --offline --no-fail-fast --lib --tests
-    counted "Rust: tests without the standard library" cargo test --offline --no-default-features --no-fail-fast --lib --test edges
     counted "Rust: the docs' examples" cargo test --offline --doc
     check "Rust: the examples are built" cargo build --offline --release --examples
-    cd ../.. || return
+    cd .. || return
     check "Rust: smallest" smallest_says "$examples/smallest"
     check "Rust: packet" "$examples/packet"
     check "Rust: compiled for other limits, nothing is opened" refuses_other_limits
+    check "Rust: over an archive of another version, nothing is compiled" refuses_other_version
     check "Rust: row" row_says "$examples/row"
     for storm in "1 1000" "2 3" "4 20000" "$cpus $((40000 / cpus))"; do
         # shellcheck disable=SC2086
@@ -348,6 +362,7 @@ test_rust() {
     check "Rust: handles" changes_say 200 "$examples/handles"
     check "Rust: changeover" changes_say 50 "$examples/changeover"
     check "Rust: threads" threads_say "$examples/threads"
+    check "Rust: who_holds says what the README shows" who_holds_says "$examples/who_holds"
     check "Rust: speed, briefly" "$examples/speed" 2 8 1000
     check "Rust: changes, briefly" "$examples/changes" 20
     check "Rust: drops, briefly" "$examples/drops" 2000
@@ -355,7 +370,7 @@ test_rust() {
 }
 
 test_rust_watched() {
-    (cd clients/rust && cargo build --offline --release --examples) >"$log" 2>&1 || judge "Rust: the examples are built" 1
+    (cd rust && cargo build --offline --release --examples) >"$log" 2>&1 || judge "Rust: the examples are built" 1
     check "Rust: forwarder under valgrind" changes_say 20 guarded_rust "$examples/forwarder"
     check "Rust: device_switch under valgrind" changes_say 20 guarded_rust "$examples/device_switch"
     check "Rust: routing under valgrind" changes_say 10 guarded_rust "$examples/routing"

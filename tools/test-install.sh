@@ -1,12 +1,12 @@
 #!/usr/bin/env bash
 # Installs libkupaldiz, libkupaldiz_netbsd and libkupaldiz_bench into scratch folders, looks at each file that is there, builds and runs programs that know
 # the libraries by pkg-config alone, and uninstalls them: under a folder of its own, as Debian has it, in a path with blanks, and over an older version.
-# It needs clients/out/libregistry.a; the last line is 'N passed, M failed'.
+# It needs out/libregistry.a; the last line is 'N passed, M failed'.
 set -uo pipefail
 cd "$(dirname "$0")/.." || exit
 # shellcheck source=tools/checks.sh
 . tools/checks.sh
-for needed in clients/out/libregistry.a:"tools/build-archive.sh proves and builds it" "$(command -v pkg-config || echo pkg-config):apt-get install pkg-config"; do
+for needed in out/libregistry.a:"tools/build-archive.sh proves and builds it" "$(command -v pkg-config || echo pkg-config):apt-get install pkg-config"; do
     if [ ! -e "${needed%%:*}" ]; then
         echo "test-install: there is no ${needed%%:*}: ${needed#*:}" >&2
         exit 2
@@ -18,14 +18,14 @@ header=crates/registry_c/include/registry.h
 module=kupaldiz
 program=installed
 # What is installed from, and where to.
-clients=clients
+top=.
 stage=$room/root
 prefix=/kupaldiz
 libdir=$prefix/lib
 
 # Whoever installs may have a umask that shuts others out.
 made() {
-    (umask 077 && make -s -C "$clients" "$@" DESTDIR="$stage" PREFIX="$prefix" LIBDIR="$libdir")
+    (umask 077 && make -s -C "$top" "$@" DESTDIR="$stage" PREFIX="$prefix" LIBDIR="$libdir")
 }
 
 # Like a user's own pkg-config, which finds what is below the scratch folder.
@@ -47,7 +47,7 @@ built() {
     local name=$1 compiler=$2 language=$3 standard=$4 link=$5 words
     shift 5
     words=$(config --cflags) && words+=" $(config "$@")" || return
-    (cd "$room" && LD_LIBRARY_PATH=$stage$libdir eval "\"$compiler\" -std=$standard -Wall -Wextra -Werror -x $language \"\$OLDPWD/clients/c/$program.c\" -x none -o $name $link $words")
+    (cd "$room" && LD_LIBRARY_PATH=$stage$libdir eval "\"$compiler\" -std=$standard -Wall -Wextra -Werror -x $language \"\$OLDPWD/c/tests/$program.c\" -x none -o $name $link $words")
 }
 
 # runs NAME LINE: the program ends with status 0 and this line.
@@ -79,7 +79,7 @@ shown() {
 }
 
 calls_of_headers() {
-    clients/calls-of.sh "$stage$prefix"/include/kupaldiz/registry*.h
+    packaging/calls-of.sh "$stage$prefix"/include/kupaldiz/registry*.h
 }
 
 # The shared library shows the calls of both headers and no other name.
@@ -89,7 +89,7 @@ shows_calls_alone() {
 
 # The calls of the pages' names, each with the library's name before its own, and the symbol that the limits are in the name of.
 calls_of_pages() {
-    { clients/calls-of.sh "$stage$prefix"/include/kupaldiz/netbsd/kupaldiz/*.h; calls_of_headers | grep '^registry_for_[0-9]'; } |
+    { packaging/calls-of.sh "$stage$prefix"/include/kupaldiz/netbsd/kupaldiz/*.h; calls_of_headers | grep '^registry_for_[0-9]'; } |
         sed '/^kupaldiz_/!s/^/kupaldiz_/'
 }
 
@@ -98,7 +98,7 @@ refused_by_linker() {
     local other=$room/other
     rm -rf "$other" && cp -r "$stage$prefix/include" "$other" &&
         sed -i -E 's/(MOST_CPUS[[:blank:]]+).*/\116/; s/registry_for_[0-9]+/registry_for_16/' "$other"/kupaldiz/{,netbsd/kupaldiz/}registry_limits.h || return
-    ! gcc -o "$room/for_other" -I"$other/kupaldiz/netbsd" clients/c/installed_netbsd.c -L"$stage$libdir" -lkupaldiz_netbsd -lkupaldiz -pthread >"$room/said" 2>&1 &&
+    ! gcc -o "$room/for_other" -I"$other/kupaldiz/netbsd" c/tests/installed_netbsd.c -L"$stage$libdir" -lkupaldiz_netbsd -lkupaldiz -pthread >"$room/said" 2>&1 &&
         grep 'undefined reference to .kupaldiz_registry_for_16_cpus_' "$room/said"
 }
 
@@ -109,7 +109,7 @@ shows_pages_calls_alone() {
 
 # That of the bench shows these and its own.
 shows_bench_calls_alone() {
-    diff <({ calls_of_pages; clients/calls-of.sh "$stage$prefix/include/kupaldiz/bench.h"; } | sort) <(shown libkupaldiz_bench)
+    diff <({ calls_of_pages; packaging/calls-of.sh "$stage$prefix/include/kupaldiz/bench.h"; } | sort) <(shown libkupaldiz_bench)
 }
 
 # Other objects see nothing of the static libraries but calls.
@@ -141,7 +141,7 @@ takes_none() {
 
 # A project of CMake's that knows the libraries by find_package alone, shared and static.
 found_by_cmake() {
-    mkdir -p "$room/cmake" && cp clients/c/installed{,_netbsd,_bench}.c "$room/cmake" && cat >"$room/cmake/CMakeLists.txt" <<'PROJECT'
+    mkdir -p "$room/cmake" && cp c/tests/installed{,_netbsd,_bench}.c "$room/cmake" && cat >"$room/cmake/CMakeLists.txt" <<'PROJECT'
 cmake_minimum_required(VERSION 3.13)
 project(installed C)
 find_package(kupaldiz 0.1 REQUIRED)
@@ -180,7 +180,7 @@ moved() {
 
 in_place() {
     # shellcheck disable=SC2046
-    LD_LIBRARY_PATH=$stage$libdir gcc -o "$room/in_place" clients/c/installed.c $(PKG_CONFIG_PATH=$stage$libdir/pkgconfig pkg-config --cflags --libs kupaldiz) && runs in_place "C, version $(version_of crates/registry_c/include/registry.h)"
+    LD_LIBRARY_PATH=$stage$libdir gcc -o "$room/in_place" c/tests/installed.c $(PKG_CONFIG_PATH=$stage$libdir/pkgconfig pkg-config --cflags --libs kupaldiz) && runs in_place "C, version $(version_of crates/registry_c/include/registry.h)"
 }
 
 # test_programs LINE LIBRARY..: the program of this module in C and in C++, over the shared libraries that it asks for and over the static ones.
@@ -230,10 +230,10 @@ pages_are_found() {
 # The words that a distribution gives reach the compiler and the linker.
 flags_are_taken() {
     local library
-    rm -rf "$clients"/out/installed-{netbsd,bench} "$clients/out/waiting.o" "$clients"/out/libkupaldiz*
+    rm -rf "$top"/out/installed-{netbsd,bench} "$top/out/waiting.o" "$top"/out/libkupaldiz*
     echo 'static const char of_cppflags[] __attribute__((used, section("seen"))) = "CPPFLAGS";' >"$room/seen.h"
     made library CPPFLAGS="-include $room/seen.h" CFLAGS='-O1 -frecord-gcc-switches' LDFLAGS=-Wl,--build-id=0xfeedfeed || return
-    for library in "$clients"/out/libkupaldiz{,_netbsd,_bench}.so."$(version)"; do
+    for library in "$top"/out/libkupaldiz{,_netbsd,_bench}.so."$(version)"; do
         readelf -p seen "$library" | grep CPPFLAGS && readelf -p .GCC.command.line "$library" | grep -e -O1 && readelf -n "$library" | grep feedfeed || return
     done
 }
@@ -252,7 +252,7 @@ wanted() {
         "$prefix"/include/kupaldiz/{registry,registry_limits,registry_waiting,bench}.h "$prefix"/share/doc/kupaldiz/{CHANGELOG,VERSIONS}.md; do
         echo "f 644 $me $file"
     done
-    (cd "$clients/netbsd" && find . -name '*.h' -not -path './tests/*' -not -path './src/*' -not -path './examples/*') | sed "s|^\.|f 644 $me $prefix/include/kupaldiz/netbsd|"
+    (cd "$top/netbsd/include" && find . -name '*.h') | sed "s|^\.|f 644 $me $prefix/include/kupaldiz/netbsd|"
 }
 
 installed() {
@@ -267,7 +267,7 @@ holds_files() {
 # The manual pages, and the names at the head of each of section 3, which lead to it.
 wanted_pages() {
     local page name
-    for page in "$clients"/man/{registry,registry_waiting}.3 "$clients"/man/kupaldiz_*.[37]; do
+    for page in "$top"/man/{registry,registry_waiting}.3 "$top"/man/kupaldiz_*.[37]; do
         echo "${page##*/}"
         [ "${page%.3}" != "$page" ] || continue
         for name in $(sed -nE '/^\.Sh NAME/,/^\.Nd/s/^\.Nm ([A-Za-z_0-9]+).*/\1/p' "$page"); do
@@ -284,7 +284,7 @@ installed_pages() {
         if [ "$line" != "${line#.so man3/}" ]; then
             echo "${page##*/} -> ${line#.so man3/}"
         else
-            cmp "$clients/man/${page##*/}" "$page" && echo "${page##*/}"
+            cmp "$top/man/${page##*/}" "$page" && echo "${page##*/}"
         fi
     done
 }
@@ -336,35 +336,35 @@ relinks() {
     "$@" "$name" && made install && has "$name" "$stage$libdir/$library.a" && has "$name" -D "$stage$libdir/$library.so"
 }
 
-# A copy of the clients, which is changed as the work on them goes on: from here on it is what is installed from.
-copy_clients() {
+# A copy of what is installed, which is changed as the work on it goes on: from here on it is what is installed from.
+copy_top() {
     local copy=$room/a\ copy
-    mkdir -p "$copy/clients/out" "$copy/crates/registry_c"
-    (cd clients && cp -r Makefile ./*.mk ./*.in ./*.map ./*.sh CHANGELOG.md VERSIONS.md c examples man netbsd bench "$copy/clients") || return
-    cp clients/out/libregistry.a "$copy/clients/out" && cp -r crates/registry_c/include "$copy/crates/registry_c"
-    clients=$copy/clients header=$copy/$header
+    mkdir -p "$copy/out" "$copy/crates/registry_c"
+    cp -r Makefile packaging c man netbsd explorer "$copy" || return
+    cp out/libregistry.a "$copy/out" && cp -r crates/registry_c/include "$copy/crates/registry_c"
+    top=$copy header=$copy/$header
 }
 
 # mark FILE NAME: a function more, which the maps name.
 mark() {
-    sed -i "0,/^\tglobal:/s//\tglobal:\n\t\t$2;/" "$clients/kupaldiz.map" "$clients/netbsd/netbsd.map" "$clients/bench/bench.map"
+    sed -i "0,/^\tglobal:/s//\tglobal:\n\t\t$2;/" "$top/packaging/kupaldiz.map" "$top/netbsd/netbsd.map" "$top/explorer/bench.map"
     printf '\nvoid %s(void);\nvoid %s(void)\n{\n}\n' "$2" "$2" >>"$1"
 }
 
 change_archive() {
-    : >"$room/mark.c" && mark "$room/mark.c" "$1" && gcc -fPIC -c -o "$room/mark.o" "$room/mark.c" && ar r "$clients/out/libregistry.a" "$room/mark.o"
+    : >"$room/mark.c" && mark "$room/mark.c" "$1" && gcc -fPIC -c -o "$room/mark.o" "$room/mark.c" && ar r "$top/out/libregistry.a" "$room/mark.o"
 }
 
 change_waiting() {
-    mark "$clients/c/waiting.c" "$1"
+    mark "$top/c/src/waiting.c" "$1"
 }
 
 change_bench() {
-    mark "$clients/bench/src/show.c" "$1"
+    mark "$top/explorer/src/show.c" "$1"
 }
 
 change_layer() {
-    mark "$(find "$clients/netbsd" -name '*.c' -not -path '*/tests/*' -not -path '*/examples/*' | sort | head -n 1)" "$1"
+    mark "$(find "$top/netbsd/src" -name '*.c' | sort | head -n 1)" "$1"
 }
 
 # The licence goes into each .pc file, and none is named as long as none is chosen.
@@ -448,7 +448,7 @@ check "a root with blanks: uninstall leaves nothing" leaves_nothing
 
 prefix=/usr libdir=/usr/lib stage=$room/later
 older=$(version)
-check "an upgrade: the older version" copy_clients
+check "an upgrade: the older version" copy_top
 check "the words of a distribution are taken" flags_are_taken
 check "an upgrade: it is installed" made install
 check "an upgrade: each of its files" holds_files "$older"

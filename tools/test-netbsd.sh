@@ -1,12 +1,12 @@
 #!/usr/bin/env bash
-# Builds the manual pages' own names over the archive, clients/netbsd, and runs their tests: the pages' patterns and seven drivers on threads, plain, with
+# Builds the manual pages' own names over the archive, netbsd, and runs their tests: the pages' patterns and seven drivers on threads, plain, with
 # the sanitizers of addresses and undefined behaviour, with that of races, and some under valgrind; each misuse in a process of its own; what is beyond
-# one registry's limits; random programs against a model. clients/out/libregistry.a stands already, or clients/out/LIMITS/libregistry.a where LIMITS names
-# an archive with other limits, as for clients/places.mk. The last line is 'N passed, M failed'.
+# one registry's limits; random programs against a model. out/libregistry.a stands already, or out/LIMITS/libregistry.a where LIMITS names
+# an archive with other limits, as for packaging/places.mk. The last line is 'N passed, M failed'.
 set -uo pipefail
 cd "$(dirname "$0")/.."
-folder=clients/netbsd
-out=clients/out${LIMITS:+/$LIMITS}/netbsd
+folder=netbsd
+out=out${LIMITS:+/$LIMITS}/netbsd
 # shellcheck source=tools/checks.sh
 . tools/checks.sh
 trap forget_log EXIT
@@ -60,7 +60,17 @@ try_program() {
 }
 
 lints() {
-    [ -z "$(mandoc -T lint clients/man/kupaldiz_*.[37] 2>&1 | tee /dev/stderr)" ]
+    [ -z "$(mandoc -T lint man/kupaldiz_*.[37] 2>&1 | tee /dev/stderr)" ]
+}
+
+# The layer by clang, plain and with each sanitizer.
+with_clang() {
+    local room way
+    room=$(mktemp -d)
+    for way in plain sanitized raced; do
+        make -s -C $folder CC=clang OUT="$room" "$room/$way/liblayer.a" || return 1
+    done
+    rm -rf "$room"
 }
 
 # valgrind runs one thread at a time: in turn, where it can. The layer keeps what a thread may use again.
@@ -71,8 +81,8 @@ watched() {
 for header in $(cd $folder && ls kupaldiz/*.h sys/*.h net/*.h); do
     check "$header alone, in four C standards" header_alone "$header"
 done
-counted "each line of the layer is in a test" clients/netbsd/tests/lines.py
-counted "each name that a driver may use, for the layer and for the bench" clients/netbsd/tests/names.py gcc
+counted "each line of the layer is in a test" netbsd/tests/lines.py
+counted "each name that a driver may use, for the layer and for the bench" netbsd/tests/names.py gcc
 for way in plain sanitized raced small late busy; do
     check "the layer and its tests are built, no warning: $way" make_layer $way
     for test in $(make_layer list-$way); do
@@ -80,6 +90,9 @@ for way in plain sanitized raced small late busy; do
     done
 done
 check "limits, plain: more than a million changes, in the registry that there is" "$out/plain/limits" full
+if command -v clang >/dev/null; then
+    check "the layer is built by clang, no warning" with_clang
+fi
 check "the manual pages are as the headers say, and each call has one" $folder/pages.py check
 if command -v mandoc >/dev/null; then
     check "mandoc finds no fault in them" lints

@@ -86,8 +86,8 @@ sums_hold() {
 # again FOLDER: a release made in a clone in that folder, of the same commit and the same archives.
 again() {
     local kept
-    git clone -q . "$1" && mkdir -p "$1/clients/out" "$1/crates/registry_run/out" || return
-    for kept in clients/out/libregistry.{a,proved} clients/out/aarch64/libregistry.{a,proved} crates/registry_run/out/registry_run; do
+    git clone -q . "$1" && mkdir -p "$1/out" "$1/crates/registry_run/out" || return
+    for kept in out/libregistry.{a,proved} out/aarch64/libregistry.{a,proved} crates/registry_run/out/registry_run; do
         [ ! -e "$kept" ] || { mkdir -p "$1/$(dirname "$kept")" && cp "$kept" "$1/$kept"; } || return
     done
     touch "$1/crates/registry_run/out/registry_run"

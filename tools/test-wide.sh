@@ -3,9 +3,9 @@
 # names and the Rust crate over it, compiled with its headers: all parts of tools/test-face.sh except page and bench. It isn't part of the gate. The last
 # line is 'N passed, M failed'.
 #
-#     tools/test-wide.sh               proves and builds the archive first, in a copy of the crates: clients/out/wide/libregistry.a
+#     tools/test-wide.sh               proves and builds the archive first, in a copy of the crates: out/wide/libregistry.a
 #     tools/test-wide.sh --built       takes the archive that is there
-#     tools/test-wide.sh --sections    proves and builds one with 1,000 sections a CPU instead, clients/out/sections-1000/libregistry.a. The two tests run over
+#     tools/test-wide.sh --sections    proves and builds one with 1,000 sections a CPU instead, out/sections-1000/libregistry.a. The two tests run over
 #                                      it that come to the end of a build's sections
 set -uo pipefail
 cd "$(dirname "$0")/.." || exit
@@ -17,9 +17,9 @@ test_sections() {
     . tools/checks.sh
     trap forget_log EXIT
     tools/build-archive.sh --sections 1000 || exit
-    check "the clients are built, no warning" make -s -C clients LIMITS=$name out/$name/built out/$name/history
-    check "the build's limits" clients/out/$name/built
-    check "history, with all sections of each CPU, beside a model" clients/out/$name/history
+    check "the clients are built, no warning" make -s LIMITS=$name out/$name/built out/$name/history
+    check "the build's limits" out/$name/built
+    check "history, with all sections of each CPU, beside a model" out/$name/history
     finish
 }
 

@@ -9,7 +9,7 @@ known by its name alone, so a function may pass here for the edit of another wit
 import re
 import sys
 
-from edits import ROOT, changes
+from edits import BY_HAND, GATE, ROOT, TESTS, changes, chosen, edits_of
 from functions import functions_of
 
 
@@ -34,12 +34,12 @@ def covered(functions, changed):
 
 
 def main():
-    crates = sys.argv[1:] or sorted(path.name for path in (ROOT / "crates").iterdir())
-    by_tests = [place for edit in ROOT.glob("crates/*/must-fail-tests/*.edit") for place in places(edit)]
+    crates = sys.argv[1:] or sorted(path.name for path in (ROOT / "crates").iterdir() if path.is_dir())
+    by_tests = [place for edit in chosen(TESTS, []) for place in places(edit)]
     for crate in crates:
         folder = ROOT / "crates" / crate
         functions = [it for path in folder.glob("src/**/*.rt") if "tests" not in path.relative_to(folder).parts for it in functions_of(path)]
-        changed = by_tests + [place for edit in folder.glob("must-fail*/**/*.edit") for place in places(edit)]
+        changed = by_tests + [place for kind in (GATE, BY_HAND) for edit in edits_of(crate, kind) for place in places(edit)]
         public = [it for it in functions if it.is_public]
         missing = [it for it in public if it not in covered(functions, changed)]
         print(f"{crate}: {len(missing)} of {len(public)} public functions")

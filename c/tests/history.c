@@ -492,7 +492,7 @@ static void expect_spent(struct world *world, unsigned cpu)
 	}
 }
 
-/* A CPU goes through all its sections; a look-up beside each spends none. In the last one it refers to the driver, and enters once more. */
+/* A CPU goes through all its sections; a look-up beside each spends none, except the first. In the last one it refers to the driver, and enters once more. */
 static void spend(struct world *world, unsigned cpu)
 {
 	struct registry_cpu *own = &world->cpus[cpu];

@@ -14,14 +14,64 @@ struct model_slot *model_slot_of(struct model *model, uint64_t number)
 	return NULL;
 }
 
+static bool is_of(const struct registry_entry *entry, uint64_t kind, const struct registry_name *name)
+{
+	return entry->number != 0 && entry->kind == kind && entry->name.high == name->high && entry->name.low == name->low;
+}
+
 static struct model_slot *live_slot(struct model *model, uint64_t kind, const struct registry_name *name)
 {
-	for (unsigned s = 0; s < model->settings.slots; s++) {
-		const struct registry_entry *entry = &model->slots[s].entry;
-		if (model->slots[s].state == LIVE && entry->kind == kind && entry->name.high == name->high && entry->name.low == name->low)
+	for (unsigned s = 0; s < model->settings.slots; s++)
+		if (model->slots[s].state == LIVE && is_of(&model->slots[s].entry, kind, name))
 			return &model->slots[s];
-	}
 	return NULL;
+}
+
+static uint64_t *places_of(struct model_cpu *own, const struct registry_name *name)
+{
+	return own->places[(name->high % 251 + name->low % 241) % HINTS];
+}
+
+/* The entry that the CPU remembers with this kind and name, or NULL. */
+static struct registry_entry *remembered(struct model_cpu *own, uint64_t kind, const struct registry_name *name)
+{
+	const uint64_t *places = places_of(own, name);
+	for (unsigned i = 0; i < 2; i++)
+		if (places[i] != 0 && is_of(&own->rows[places[i] - 1], kind, name))
+			return &own->rows[places[i] - 1];
+	return NULL;
+}
+
+/* The CPU remembers what a search has found: the slot, or that there is none. */
+static void remember(struct model_cpu *own, uint64_t kind, const struct registry_name *name, const struct model_slot *slot)
+{
+	struct registry_entry *row;
+	uint64_t *places = places_of(own, name);
+	if (slot == NULL) {
+		while ((row = remembered(own, kind, name)) != NULL)
+			row->number = 0;
+		return;
+	}
+	if (places[0] != slot->entry.slot + 1) {
+		places[1] = places[0];
+		places[0] = slot->entry.slot + 1;
+	}
+	own->rows[slot->entry.slot] = slot->entry;
+}
+
+/* Whether the CPU remembers the live entry with this kind and name, if the slot isn't NULL. */
+static bool is_known(struct model_cpu *own, uint64_t kind, const struct registry_name *name, const struct model_slot *slot)
+{
+	const struct registry_entry *row = remembered(own, kind, name);
+	return row != NULL && slot != NULL && row->number == slot->entry.number;
+}
+
+/* The slot of that entry, if a call from outside finds it without a section. Else NULL. */
+static struct model_slot *recalled(struct model *model, unsigned cpu, uint64_t kind, const struct registry_name *name)
+{
+	struct model_cpu *own = &model->cpus[cpu];
+	struct model_slot *slot = live_slot(model, kind, name);
+	return own->depth == 0 && own->sections < model->settings.section_limit && is_known(own, kind, name, slot) ? slot : NULL;
 }
 
 uint32_t model_enter(struct model *model, unsigned cpu)
@@ -57,6 +107,8 @@ uint32_t model_find(struct model *model, unsigned cpu, uint64_t kind, const stru
 		return REGISTRY_OUTSIDE;
 	const struct model_slot *slot = live_slot(model, kind, name);
 	own->found = slot == NULL ? 0 : slot->entry.number;
+	if (!is_known(own, kind, name, slot))
+		remember(own, kind, name, slot);
 	if (slot == NULL)
 		return REGISTRY_NOT_FOUND;
 	*found = slot->entry;
@@ -65,15 +117,16 @@ uint32_t model_find(struct model *model, unsigned cpu, uint64_t kind, const stru
 
 uint32_t model_look_up(struct model *model, unsigned cpu, uint64_t kind, const struct registry_name *name, struct registry_entry *found)
 {
-	struct model_cpu *own = &model->cpus[cpu];
-	const uint64_t sections = own->sections;
+	const struct model_slot *slot = recalled(model, cpu, kind, name);
+	if (slot != NULL) {
+		*found = slot->entry;
+		return REGISTRY_DONE;
+	}
 	uint32_t answer = model_enter(model, cpu);
 	if (answer != REGISTRY_DONE)
 		return answer;
 	answer = model_find(model, cpu, kind, name, found);
 	model_exit(model, cpu);
-	if (answer == REGISTRY_DONE || answer == REGISTRY_NOT_FOUND)
-		own->sections = sections; /* outside it is loads alone, as nothing is changed meanwhile */
 	return answer;
 }
 
@@ -90,10 +143,14 @@ uint32_t model_enter_find(struct model *model, unsigned cpu, uint64_t kind, cons
 
 uint32_t model_get(struct model *model, unsigned cpu, uint64_t kind, const struct registry_name *name, struct registry_entry *found)
 {
-	struct model_cpu *own = &model->cpus[cpu];
-	const uint64_t sections = own->sections;
+	struct model_slot *slot = recalled(model, cpu, kind, name);
 	struct registry_entry seen;
 	uint64_t number;
+	if (slot != NULL && slot->passive[cpu] < model->settings.passive_limit) {
+		slot->passive[cpu]++;
+		*found = slot->entry;
+		return REGISTRY_DONE;
+	}
 	uint32_t answer = model_enter(model, cpu);
 	if (answer != REGISTRY_DONE)
 		return answer;
@@ -103,8 +160,6 @@ uint32_t model_get(struct model *model, unsigned cpu, uint64_t kind, const struc
 	if (answer == REGISTRY_DONE)
 		*found = seen;
 	model_exit(model, cpu);
-	if (answer != REGISTRY_PASSIVE_FULL)
-		own->sections = sections; /* as for a look-up */
 	return answer;
 }
 

@@ -1,6 +1,7 @@
 /*
  * model.h - a registry in plain C, without threads and without words: what each call returns, by the text of registry.h alone
  *
+ * How many sections a CPU has begun depends on what it remembers, which is as in memory.rt of passive_list.
  * One function for each call, with the same answer. A name is a small number here, and an entry is what registry.h writes.
  */
 #ifndef MODEL_H
@@ -8,7 +9,7 @@
 
 #include "client.h"
 
-enum { CPUS = REGISTRY_MOST_CPUS, SLOTS = REGISTRY_MOST_SLOTS };
+enum { CPUS = REGISTRY_MOST_CPUS, SLOTS = REGISTRY_MOST_SLOTS, HINTS = 256 };
 
 enum state { VACANT, LIVE, RETIRED };
 
@@ -28,6 +29,8 @@ struct model_cpu {
 	unsigned depth;
 	uint64_t sections;		/* outermost sections begun */
 	uint64_t found;			/* the number of the last found entry, or 0 */
+	struct registry_entry rows[SLOTS];	/* the entry that the CPU found last in that slot */
+	uint64_t places[HINTS][2];	/* the slots plus 1 where entries with that hint were found last and before, or 0 */
 };
 
 /* A wait of a perform: the CPUs whose section was open as it began, and is open still. */

@@ -1,23 +1,25 @@
 /*
- * peeks - registry_look_up and registry_get by loads, stopped after each of their instructions, while a change goes on from each of its writes to each
- * later one
+ * recalls - registry_look_up and registry_get, stopped after each of their instructions, while changes go on from each of their writes to each later one
  *
- * One thread changes the registry, round after round: it detaches a driver, destroys it, and attaches another one by the same name in the same slot.
- * The other thread looks up that driver, or an older one that stays. First each lookup is a registry_look_up, then a registry_get, whose reference is
- * released at once. One of the two threads runs at a time. In a round the changer stops twice, each time before a write to the registry's table or at
- * the round's end. At the first stop a lookup begins, and goes on for some instructions. At the second one it goes on to its end, and another lookup is
- * made. A fifth of all such rounds are made. So a lookup begins anywhere in a round, and between any two of its instructions some parts of a round are
- * made, and any part between some two instructions near these. If a get that is stopped keeps the driver from being destroyed, it goes on to its end
- * before the second stop.
+ * One thread changes the registry, round after round: it detaches and destroys two drivers, and attaches two by the same names, each in the slot of the
+ * other. The other thread looks one of the two up: first by registry_look_up, then by registry_get, whose reference is released at once. So the entry that
+ * its CPU remembers is live or not, its slot has another name, or its name is in another slot.
  *
- * The table can't be written, so each write ends in a signal. There the changer stops, and then the write is done by one instruction while the table
- * is open. The looker stops by a trap after an instruction. The program is linked with --wrap for malloc and free, so that the table has pages of
- * its own.
+ * One of the two threads runs at a time. In a round the changer stops twice, each time before a write to the registry's table or at the round's end. At
+ * the first stop a lookup begins, and goes on for some instructions. At the second one it goes on to its end, and another lookup is made. Every second time
+ * one is made as the round begins, too. Any SHARE adjacent numbers of instructions have all pairs of stops. A lookup that is stopped, and keeps a driver
+ * from being destroyed, goes on to its end before the second stop.
  *
- * Each result must be what the registry had at a moment during the call, and never from before the last result. A get has one reference then, to an
- * entry that isn't destroyed, or none if it finds nothing. Only a lookup that a change overlaps may write to the table, except for the one addition of a
- * get: that is the section which it enters if a change was counted meanwhile. Lookups with and without one must be met, and gets that keep a driver from
- * being destroyed. For x86-64.
+ * The table can't be written, so each write ends in a signal. There the changer stops, and then the write is done by one instruction while the table is
+ * open. The looker stops by a trap after an instruction. The program is linked with --wrap for malloc, so that the table has pages of its own.
+ *
+ * - Each result is what the registry had at a moment during the call, and never from before the last result, nor from before a find's on another CPU.
+ * - An entry that the CPU remembers, and that is live all the time, is found without a section.
+ * - A section writes the CPU's section word twice. A get writes its passive word once for its reference, and twice more if it tried an entry in vain. The
+ *   calls write nothing else.
+ * - A get has one reference, to an entry that isn't destroyed, or none if it finds nothing.
+ *
+ * For x86-64.
  */
 #include <inttypes.h>
 #include <pthread.h>
@@ -30,18 +32,24 @@
 #include "client.h"
 #include "wrapped_heap.h"
 
-enum { SLOTS = 4, TRAP_FLAG = 0x100, PATIENCE = 5000, NEVER = 1000000, AT_ITS_END = NEVER - 1, STAYING_VALUE = 77 };
+enum { SLOTS = 2, TRAP_FLAG = 0x100, PATIENCE = 5000, NEVER = 1000000, AT_ITS_END = NEVER - 1, SHARE = 61 };
 
-/* The two threads, and the CPU of each. */
-enum { CHANGER, LOOKER, CPUS };
+/* The two threads, and the CPU of each. The looker has a second CPU, the witness. */
+enum { CHANGER, LOOKER, WITNESS, CPUS };
+
+/* In the table, the section word of the looker's CPU, which its passive words follow. */
+enum { OWN_WORDS = 16 + TABLE_ROW * LOOKER };
 
 static struct registry_keeper keeper;
 static struct registry_cpu cpus[CPUS];
-static struct registry_name wm, stays;
 
-/* The table's memory. It is watched from the opening on: it can be written only while a write of a thread's is done. */
+/* The names of the driver that is looked up, and of the other one. What the looker's CPU remembers: the driver's number, or 0, and after how many changes
+   there was none. After how many changes the registry was as the last lookup of any CPU had it. */
+static struct registry_name wm, other;
+static uint64_t remembered, missing, last_seen;
+
+/* The table's memory. From the opening on it can be written only while a write of a thread's is done. */
 static char *table;
-static bool watched;
 /* How many blocks of its size were asked for: in the first the words are made, and the second is the table. */
 static unsigned table_blocks;
 
@@ -51,23 +59,22 @@ static _Thread_local int self;
 /* The table is open for one instruction of this thread. */
 static _Thread_local bool writes_now;
 
-/* What the changer has done in all, and in this round: changes begun and returned, the last driver destroyed; writes, and before which of them it stops. */
+/* What the changer has done in all, and in this round: changes begun and returned, the last driver destroyed; writes, before which of them it stops, and
+   after how many instructions the lookup that begins then. */
 static uint64_t begun, returned, destroyed;
-static unsigned writes, first_stop = NEVER, second_stop = NEVER;
+static unsigned writes, first_stop = NEVER, second_stop = NEVER, stopped_after;
 /* The second stop is past: no write is looked at until the round ends. */
 static bool is_past;
 
-/* The call that the looker makes. What it looks up, and after how many instructions it stops. How far it is: instructions, writes to the table, and whether
-   it returned. */
-static registry_answer (*call)(struct registry_cpu *cpu, uint64_t kind, const struct registry_name *name, struct registry_entry *found) = registry_look_up;
-static const struct registry_name *sought;
-static unsigned stop_after = NEVER, steps, own_writes;
-static bool has_ended, over;
-/* How many instructions a lookup has that nothing disturbs. One that finds nothing has fewer, and one that goes on in a section has more. */
+/* The call that the looker makes. After how many instructions it stops. How far it is: instructions, writes to its CPU's words, and whether it returned. */
+static registry_answer (*call)(struct registry_cpu *cpu, uint64_t kind, const struct registry_name *name, struct registry_entry *found);
+static unsigned stop_after = NEVER, steps, section_writes, passive_writes;
+static bool has_ended = true, over;
+/* The instructions of a lookup that nothing disturbs, and that remembers what isn't so any more. */
 static unsigned longest;
-/* The registry as the last lookup saw it, as how many changes had been made; and by this call all lookups, those that entered a section, and those that
-   kept a driver from being destroyed. */
-static uint64_t last_seen, lookups, in_sections, holds;
+/* By this call: all lookups, those without a section, those that found the name in another slot than was remembered, and those begun while another name
+   had that slot. How often a lookup kept a driver from being destroyed, by its section and by its reference. */
+static uint64_t lookups, recalled, moved, reused, holds[2];
 
 static size_t table_pages(void)
 {
@@ -84,14 +91,9 @@ void *__wrap_malloc(size_t size)
 	return table;
 }
 
-void __wrap_free(void *block)
+static void protect(int access)
 {
-	if (block == NULL || block != table) {
-		__real_free(block);
-		return;
-	}
-	EXPECT(munmap(table, table_pages()) == 0);
-	table = NULL;
+	EXPECT(table != NULL && mprotect(table, table_pages(), access) == 0);
 }
 
 static void wait_for_turn(void)
@@ -108,26 +110,19 @@ static void hand_over(void)
 	wait_for_turn();
 }
 
-/* The changer's stops. */
-static void begin_lookup(void)
+/* The looker makes a lookup, or begins one. */
+static void look(unsigned after)
 {
+	stop_after = after;
 	has_ended = false;
 	hand_over();
 }
 
-static void end_lookup(void)
-{
-	unsigned after = stop_after;
-	if (!has_ended)
-		hand_over();
-	stop_after = NEVER;
-	begin_lookup();
-	stop_after = after;
-}
-
 static void stop_again(void)
 {
-	end_lookup();
+	if (!has_ended)
+		hand_over();
+	look(NEVER);
 	second_stop = NEVER;
 	is_past = true;
 }
@@ -135,7 +130,7 @@ static void stop_again(void)
 static void stop_at(unsigned place)
 {
 	if (place == first_stop)
-		begin_lookup();
+		look(stopped_after);
 	if (place == second_stop)
 		stop_again();
 }
@@ -146,18 +141,29 @@ static void set_trap(void *context, bool on)
 	*flags = on ? *flags | TRAP_FLAG : *flags & ~(greg_t)TRAP_FLAG;
 }
 
+/* The looker writes to a word of the table: its CPU's section word, or a passive word. */
+static void note_write(size_t place)
+{
+	EXPECT(place >= OWN_WORDS && place <= OWN_WORDS + REGISTRY_MOST_SLOTS);
+	if (place == OWN_WORDS)
+		section_writes++;
+	else
+		passive_writes++;
+}
+
 /* A write to the table is to be done. */
 static void on_write(int number, siginfo_t *info, void *context)
 {
-	if (!watched || writes_now || (uintptr_t)info->si_addr - (uintptr_t)table >= TABLE_BYTES) {
+	uintptr_t distance = (uintptr_t)info->si_addr - (uintptr_t)table;
+	if (writes_now || distance >= TABLE_BYTES) {
 		signal(number, SIG_DFL);
 		return;
 	}
 	if (self == CHANGER)
 		stop_at(writes++);
 	else
-		own_writes++;
-	EXPECT(mprotect(table, table_pages(), PROT_READ | PROT_WRITE) == 0);
+		note_write(distance / sizeof(uint64_t));
+	protect(PROT_READ | PROT_WRITE);
 	writes_now = !is_past;
 	set_trap(context, writes_now);
 }
@@ -170,7 +176,7 @@ static void on_step(int number, siginfo_t *info, void *context)
 	(void)info;
 	if (writes_now) {
 		writes_now = false;
-		EXPECT(mprotect(table, table_pages(), PROT_READ) == 0);
+		protect(PROT_READ);
 	}
 	if (is_counted && ++steps == stop_after) {
 		hand_over();
@@ -179,15 +185,25 @@ static void on_step(int number, siginfo_t *info, void *context)
 	set_trap(context, is_counted);
 }
 
-/* The number of the driver that comes and goes, after so many changes, or 0. The first change has attached the one that stays. */
+/* The references of the looker's CPU, by its passive words. */
+static uint64_t references(void)
+{
+	uint64_t sum = 0;
+	for (unsigned slot = 0; slot < SLOTS; slot++)
+		sum += ((volatile uint64_t *)(void *)table)[OWN_WORDS + 1 + slot];
+	return sum;
+}
+
+/* The number of the driver that is looked up, after so many changes, or 0. Of each eight changes two attach it, to one slot and to the other. */
 static uint64_t number_after(uint64_t changes)
 {
-	return changes % 2 == 0 ? changes : 0;
+	uint64_t place = changes % 8 % 5;
+	return place == 1 ? changes : place == 2 ? changes - 1 : 0;
 }
 
 static uint64_t value_of(uint64_t number)
 {
-	return number == 1 ? STAYING_VALUE : number * 3;
+	return number * 3;
 }
 
 /* The first number of changes from `from` to `to` after which the registry had this driver, or none if `number` is 0; `to` + 1 if there is none. */
@@ -198,42 +214,81 @@ static uint64_t moment_of(uint64_t number, uint64_t from, uint64_t to)
 	return from;
 }
 
-/* A lookup began after `from` changes had returned, and ended before the one after `to` began. */
+/* Whether the looker's CPU knows the result without a section: what it remembers was so all the time. */
+static bool is_known(uint64_t from, uint64_t to)
+{
+	if (remembered == 0)
+		return RECALLS_ABSENT && from == to && missing == to;
+	return number_after(from) == remembered && number_after(to) == remembered;
+}
+
+/* The result of a lookup is from no earlier moment than the one before it, of any CPU. */
+static void judge_moment(uint64_t from, uint64_t to, uint64_t number)
+{
+	last_seen = moment_of(number, from > last_seen ? from : last_seen, to);
+	EXPECT(last_seen <= to);
+}
+
+/* What a lookup wrote: it began after `from` changes had returned, and ended before the one after `to` began. */
+static void judge_writes(uint64_t from, uint64_t to, uint64_t number)
+{
+	bool has_tried = call == registry_get && section_writes != 0 && remembered != 0;
+	EXPECT(references() == (call == registry_get && number != 0));
+	EXPECT(passive_writes == references() + (has_tried ? 2 : 0));
+	if (section_writes == 0)
+		EXPECT(number == remembered && (number != 0 || RECALLS_ABSENT));
+	else
+		EXPECT(section_writes == 2 && !is_known(from, to));
+}
+
+/* The same, and what the lookup returned. */
 static void judge(uint64_t from, uint64_t to, registry_answer answer, const struct registry_entry *found)
 {
 	uint64_t number = answer == REGISTRY_DONE ? found->number : 0;
 	EXPECT(answer == REGISTRY_DONE || answer == REGISTRY_NOT_FOUND);
-	EXPECT(number == 0 || (found->kind == REGISTRY_DRIVER && found->name.high == sought->high && found->name.low == sought->low));
-	EXPECT(number == 0 || (found->value == value_of(number) && found->slot == (number == 1 ? 0 : 1)));
-	EXPECT(own_writes == (call == registry_get && answer == REGISTRY_DONE) || from != to);
-	EXPECT(call != registry_get || number == 0 || number == 1 || number > destroyed);
+	EXPECT(number == 0 || (found->kind == REGISTRY_DRIVER && found->name.high == wm.high && found->name.low == wm.low));
+	EXPECT(number == 0 || (found->value == value_of(number) && found->slot == (number % 8 == 6 ? 1 : 0)));
+	EXPECT(call != registry_get || number == 0 || number > destroyed);
+	judge_writes(from, to, number);
 	lookups++;
-	in_sections += own_writes > 1;
-	if (sought == &stays) {
-		EXPECT(number == 1);
-		return;
-	}
-	last_seen = moment_of(number, from > last_seen ? from : last_seen, to);
-	EXPECT(last_seen <= to);
+	recalled += section_writes == 0;
+	moved += number != 0 && remembered != 0 && number != remembered;
+	reused += remembered != 0 && from % 8 == 5;
+	judge_moment(from, to, number);
+	remembered = number;
+	missing = from == to ? to : 0;
 }
 
 /* Releases what a get has acquired: exactly one reference. */
 static void let_go(uint64_t number)
 {
 	DONE(registry_release(&cpus[LOOKER], number));
-	EXPECT(registry_release(&cpus[LOOKER], number) == REGISTRY_NOT_HELD);
+	EXPECT(registry_release(&cpus[LOOKER], number) == REGISTRY_NOT_HELD && references() == 0);
+}
+
+/* Finds the driver on the other CPU. */
+static void witness(void)
+{
+	struct registry_entry found = {0};
+	protect(PROT_READ | PROT_WRITE);
+	DONE(registry_enter(&cpus[WITNESS]));
+	registry_answer answer = registry_find(&cpus[WITNESS], REGISTRY_DRIVER, &wm, &found);
+	DONE(registry_exit(&cpus[WITNESS]));
+	protect(PROT_READ);
+	judge_moment(returned, begun, answer == REGISTRY_DONE ? found.number : 0);
 }
 
 static void look_up(void)
 {
 	struct registry_entry found = {0};
 	uint64_t from = returned;
-	steps = own_writes = 0;
+	witness();
+	steps = section_writes = passive_writes = 0;
 	if (stop_after != NEVER)
 		__asm__ volatile("pushfq; orq $0x100, (%%rsp); popfq" ::: "cc", "memory");
-	registry_answer answer = call(&cpus[LOOKER], REGISTRY_DRIVER, sought, &found);
+	registry_answer answer = call(&cpus[LOOKER], REGISTRY_DRIVER, &wm, &found);
 	__asm__ volatile("pushfq; andq $~0x100, (%%rsp); popfq" ::: "cc", "memory");
-	if (stop_after == AT_ITS_END)
+	if (stop_after == AT_ITS_END && steps > longest)
 		longest = steps;
 	steps = NEVER;
 	judge(from, begun, answer, &found);
@@ -263,76 +318,78 @@ static void attach(const struct registry_name *name)
 	returned++;
 }
 
-/* One turn destroys the driver, unless a get that is stopped holds it, or is about to. Then that get goes on to its end, and the next turn does. */
-static void destroy(uint64_t number)
-{
-	struct registry_stage met;
-	registry_answer answer = registry_destroy(&keeper, &cpus[CHANGER], number, &met);
-	if (answer == REGISTRY_STILL_HELD) {
-		EXPECT(call == registry_get && !has_ended && met.stage == REGISTRY_PASSIVE && met.what == LOOKER);
-		holds++;
-		stop_again();
-		answer = registry_destroy(&keeper, &cpus[CHANGER], number, &met);
-	}
-	DONE(answer);
-	destroyed = number;
-}
-
-/* A round: how many writes it has, if there is no second stop. */
-static unsigned change(const struct registry_name *name, unsigned first, unsigned second, unsigned after)
+/* Detaches a driver. One turn destroys it, unless a lookup that is stopped holds it, or may. Then that goes on to its end, and the next turn does. */
+static void detach(const struct registry_name *name)
 {
 	struct registry_entry gone;
+	struct registry_stage met;
+	begun++;
+	DONE(registry_detach(&keeper, &cpus[CHANGER], REGISTRY_DRIVER, name, &gone));
+	returned++;
+	registry_answer answer = registry_destroy(&keeper, &cpus[CHANGER], gone.number, &met);
+	if (answer == REGISTRY_STILL_HELD) {
+		EXPECT(!has_ended && met.what == LOOKER && (met.stage == REGISTRY_GRACE || met.stage == REGISTRY_PASSIVE));
+		EXPECT(met.stage == REGISTRY_GRACE ? section_writes == 1 : references() == 1);
+		holds[met.stage]++;
+		stop_again();
+		answer = registry_destroy(&keeper, &cpus[CHANGER], gone.number, &met);
+	}
+	DONE(answer);
+	destroyed = gone.number;
+}
+
+/* A round: how many writes it has, if there is no second stop. It begins with `wm` in the lower slot, or with the other driver, in turn. */
+static unsigned change(bool begins_known, unsigned first, unsigned second, unsigned after)
+{
+	const bool is_low = returned % 8 == 2;
+	const struct registry_name *low = is_low ? &wm : &other, *high = is_low ? &other : &wm;
+	if (begins_known)
+		look(NEVER);
 	writes = 0;
-	sought = name;
 	first_stop = first;
 	second_stop = second;
-	stop_after = after;
-	begun++;
-	DONE(registry_detach(&keeper, &cpus[CHANGER], REGISTRY_DRIVER, &wm, &gone));
-	returned++;
-	destroy(gone.number);
-	attach(&wm);
+	stopped_after = after;
+	detach(low);
+	detach(high);
+	attach(high);
+	attach(low);
 	stop_at(writes);
 	is_past = false;
-	EXPECT(mprotect(table, table_pages(), PROT_READ) == 0);
+	protect(PROT_READ);
 	return writes;
 }
 
-/* A fifth of the rounds in which the lookup stops after so many instructions: another fifth after each of the next four. */
-static void stop_after_each(const struct registry_name *name, unsigned last, unsigned after)
+/* A share of the rounds in which the lookup stops after so many instructions. */
+static void stop_after_each(unsigned last, unsigned after)
 {
-	for (unsigned stops = after % 5; stops < (last + 1) * (last + 1); stops += 5)
+	for (unsigned stops = after % SHARE; stops < (last + 1) * (last + 1); stops += SHARE)
 		if (stops / (last + 1) <= stops % (last + 1))
-			(void)change(name, stops / (last + 1), stops % (last + 1), after);
+			(void)change(after / SHARE % 2 == 0, stops / (last + 1), stops % (last + 1), after);
 }
 
-/* All rounds with lookups of this name. The first one tells how many writes a round has, and how many instructions a lookup. */
-static void stop_everywhere(const struct registry_name *name)
-{
-	unsigned last = change(name, NEVER, NEVER, NEVER);
-	(void)change(name, last, last, AT_ITS_END);
-	for (unsigned after = 1; after <= longest; after++)
-		stop_after_each(name, last, after);
-	printf("%u writes, %u instructions: ", last, longest);
-}
-
-/* All rounds with lookups by this call, of both drivers. */
+/* All rounds with lookups by this call. The first ones tell how many writes a round has, and how many instructions a lookup. */
 static void stop_in(registry_answer (*made)(struct registry_cpu *, uint64_t, const struct registry_name *, struct registry_entry *))
 {
 	call = made;
-	lookups = in_sections = holds = 0;
-	stop_everywhere(&wm);
-	stop_everywhere(&stays);
-	EXPECT(in_sections > 0 && in_sections < lookups && (holds > 0) == (made == registry_get));
-	printf("%" PRIu64 " lookups, %" PRIu64 " of them in a section, %" PRIu64 " kept the driver\n", lookups, in_sections, holds);
+	longest = 0;
+	lookups = recalled = moved = reused = holds[REGISTRY_GRACE] = holds[REGISTRY_PASSIVE] = 0;
+	unsigned last = change(true, NEVER, NEVER, NEVER);
+	for (unsigned i = 0; i < 2; i++)
+		(void)change(true, last, last, AT_ITS_END);
+	for (unsigned after = 1; after <= longest; after++)
+		stop_after_each(last, after);
+	EXPECT(recalled > 0 && recalled < lookups && moved > 0 && reused > 0);
+	EXPECT(holds[REGISTRY_GRACE] > 0 && (holds[REGISTRY_PASSIVE] > 0) == (made == registry_get));
+	printf("%u writes, %u instructions: %" PRIu64 " lookups, %" PRIu64 " of them without a section, %" PRIu64 " found in another slot than remembered, %" PRIu64
+	    " with another name in that slot; %" PRIu64 " and %" PRIu64 " kept a driver\n",
+	    last, longest, lookups, recalled, moved, reused, holds[REGISTRY_GRACE], holds[REGISTRY_PASSIVE]);
 }
 
 static void watch(void)
 {
 	struct sigaction write = {.sa_sigaction = on_write, .sa_flags = SA_SIGINFO}, step = {.sa_sigaction = on_step, .sa_flags = SA_SIGINFO};
 	EXPECT(sigaction(SIGSEGV, &write, NULL) == 0 && sigaction(SIGTRAP, &step, NULL) == 0);
-	EXPECT(table != NULL && mprotect(table, table_pages(), PROT_READ) == 0);
-	watched = true;
+	protect(PROT_READ);
 }
 
 int main(void)
@@ -340,19 +397,16 @@ int main(void)
 	const struct registry_settings settings = {CPUS, SLOTS, REGISTRY_MOST_CHANGES, REGISTRY_MOST_SECTIONS, 1, 1};
 	pthread_t looker;
 	wm = name_of("wm");
-	stays = name_of("stays");
+	other = name_of("vga");
 	DONE(registry_open(&settings, &keeper, cpus, CPUS));
 	watch();
 	EXPECT(pthread_create(&looker, NULL, look_all, NULL) == 0);
-	attach(&stays);
 	attach(&wm);
+	attach(&other);
 	stop_in(registry_look_up);
 	stop_in(registry_get);
 	over = true;
 	hand_over();
 	EXPECT(pthread_join(looker, NULL) == 0);
-	watched = false;
-	EXPECT(mprotect(table, table_pages(), PROT_READ | PROT_WRITE) == 0);
-	DONE(registry_close(cpus, CPUS, &keeper));
 	return 0;
 }

@@ -3,8 +3,8 @@
  * speed wait CPUS READERS ENTRIES COUNT       - what a replacement and a perform take beside readers, each call made by turns that wait
  * speed spread CPUS READERS ENTRIES COUNT     - the percentiles of single lookups and replacements
  *
- * `lookup` makes three calls, `read` is the same in two (enter with find, and exit), `look_up` in one; `batch` is a find in an open section, 32
- * of them between an enter and an exit; `get` gets a reference in one call, and releases it.
+ * `lookup` makes three calls, `read` is the same in two (enter with find, and exit), `look_up` in one, of entries that the CPU remembers, and `absent` of
+ * names that no entry has; `batch` is a find in an open section, 32 of them between an enter and an exit; `get` gets a reference in one call, and releases it.
  * The operations, the threads and the time are those of bench/: see bench/README.md. It prints a line as the programs there do.
  */
 #include <inttypes.h>
@@ -22,8 +22,8 @@ static struct registry_lock lock;
 static struct registry_cpu *changer;
 static uint64_t newest_number;
 
-/* The names that are looked up, in the order of the keys. */
-static struct registry_name names[MOST_ENTRIES];
+/* The names that are looked up, in the order of the keys, and as many that no entry has. */
+static struct registry_name names[MOST_ENTRIES], absent_names[MOST_ENTRIES];
 
 /* Each thread's handle lies on cache lines of its own, apart from those that others write. */
 static struct {
@@ -36,6 +36,7 @@ static void attach_all(const struct plan *plan)
 	make_keys(plan);
 	for (unsigned i = 0; i < entries; i++) {
 		names[i] = (struct registry_name){keys[i].high, keys[i].low};
+		absent_names[i] = (struct registry_name){keys[i].high + (UINT64_C(1) << 56), keys[i].low};
 		DONE(registry_attach(&keeper, &seats[0].cpu, &names[i], i, &made));
 		newest_number = made.number;
 	}
@@ -115,6 +116,18 @@ static uint64_t look_up_at_once(unsigned thread, const struct key *key)
 static uint64_t lookups_at_once(unsigned thread, uint64_t count)
 {
 	return in_turn(thread, count, look_up_at_once);
+}
+
+static uint64_t miss(unsigned thread, const struct key *key)
+{
+	struct registry_entry found;
+	uint32_t answer = registry_look_up(&seats[thread].cpu, REGISTRY_DRIVER, &absent_names[key - keys], &found);
+	return answer == REGISTRY_NOT_FOUND ? (uint64_t)(key - keys) : UINT64_MAX;
+}
+
+static uint64_t misses(unsigned thread, uint64_t count)
+{
+	return in_turn(thread, count, miss);
 }
 
 static uint64_t get(unsigned thread, const struct key *key)
@@ -218,7 +231,8 @@ static void print_operations(const struct plan *plan)
 	printf(" batch %.2f", nanoseconds_each(&FACE, FACE.batches, plan));
 	printf(" passive %.2f local %.2f", nanoseconds_each(&FACE, FACE.passives, plan), nanoseconds_each(&FACE, FACE.locals, plan));
 	printf(" read %.2f look_up %.2f", nanoseconds_each(&FACE, reads, plan), nanoseconds_each(&FACE, lookups_at_once, plan));
-	printf(" get %.2f walk %.2f\n", nanoseconds_each(&FACE, gets, plan), nanoseconds_each(&FACE, FACE.walks, plan));
+	printf(" absent %.2f get %.2f", nanoseconds_each(&FACE, misses, plan), nanoseconds_each(&FACE, gets, plan));
+	printf(" walk %.2f\n", nanoseconds_each(&FACE, FACE.walks, plan));
 }
 
 static void print_waits(const struct plan *plan, unsigned readers)

@@ -250,29 +250,31 @@ static void check_holding(struct registry_cpu *cpu)
 }
 
 /*
- * A section that a call has begun counts, for any result. One that it is nested in doesn't. A look-up or a get outside begins none, unless it fails by what it
- * is given, or the get by its limit.
+ * A section that a call has begun counts, for any result. One that it is nested in doesn't. A look-up or a get outside begins none for an entry that the
+ * CPU remembers. With no section left each call fails, for such an entry too.
  */
 static void check_spent(void)
 {
 	struct registry_cpu *cpu = &cpus[0];
 	open_registry(MOST_SECTIONS, 10);
+	EXPECT(attach(7) == 1);
 	DONE(registry_enter(cpu));
-	EXPECT(registry_look_up(cpu, REGISTRY_DRIVER, &wm, NULL) == REGISTRY_NOT_FOUND);
-	EXPECT(registry_get(cpu, REGISTRY_DRIVER, &wm, NULL) == REGISTRY_NOT_FOUND);
-	EXPECT(registry_enter_find(cpu, REGISTRY_DRIVER, &wm, NULL) == REGISTRY_NOT_FOUND);
+	EXPECT(registry_look_up(cpu, REGISTRY_DRIVER, &wm0, NULL) == REGISTRY_NOT_FOUND);
+	EXPECT(registry_get(cpu, REGISTRY_DRIVER, &wm0, NULL) == REGISTRY_NOT_FOUND);
+	EXPECT(registry_enter_find(cpu, REGISTRY_DRIVER, &wm0, NULL) == REGISTRY_NOT_FOUND);
+	DONE(registry_find(cpu, REGISTRY_DRIVER, &wm, NULL));
 	DONE(registry_exit(cpu));
 	for (unsigned i = 0; i < 2 * MOST_SECTIONS; i++) {
-		EXPECT(registry_look_up(cpu, REGISTRY_DRIVER, &wm, NULL) == REGISTRY_NOT_FOUND);
-		EXPECT(registry_get(cpu, REGISTRY_DRIVER, &wm, NULL) == REGISTRY_NOT_FOUND);
+		DONE(registry_look_up(cpu, REGISTRY_DRIVER, &wm, NULL));
+		DONE(registry_get(cpu, REGISTRY_DRIVER, &wm, NULL));
+		DONE(registry_release(cpu, 1));
 	}
 	EXPECT(registry_look_up(cpu, 9, &wm, NULL) == REGISTRY_BAD_KIND);
 	EXPECT(registry_get(cpu, REGISTRY_DRIVER, NULL, NULL) == REGISTRY_NULL);
 	EXPECT(registry_get(cpu, 9, &wm, NULL) == REGISTRY_BAD_KIND);
-	EXPECT(registry_enter_find(cpu, REGISTRY_DRIVER, &wm, NULL) == REGISTRY_NOT_FOUND);
+	EXPECT(registry_enter_find(cpu, REGISTRY_DRIVER, &wm0, NULL) == REGISTRY_NOT_FOUND);
 	expect_refused(registry_look_up, cpu, 9, NULL, REGISTRY_SECTIONS_SPENT);
-	expect_refused(registry_look_up, cpu, REGISTRY_DRIVER, &wm, REGISTRY_SECTIONS_SPENT);
-	EXPECT(attach(7) == 1);
+	expect_refused(registry_look_up, cpu, REGISTRY_DRIVER, &wm0, REGISTRY_SECTIONS_SPENT);
 	expect_refused(registry_look_up, cpu, REGISTRY_DRIVER, &wm, REGISTRY_SECTIONS_SPENT);
 	expect_refused(registry_get, cpu, 9, NULL, REGISTRY_SECTIONS_SPENT);
 	expect_refused(registry_get, cpu, REGISTRY_DRIVER, &wm, REGISTRY_SECTIONS_SPENT);
@@ -281,7 +283,7 @@ static void check_spent(void)
 	close_registry();
 }
 
-/* Gets outside that have their reference begin no section. Those above the limit begin one each. The references are released without a section. */
+/* The first get begins a section. The others begin none, except those above the limit. The references are released without one. */
 static void check_spent_by_gets(void)
 {
 	struct registry_cpu *cpu = &cpus[0];
@@ -292,11 +294,100 @@ static void check_spent_by_gets(void)
 		DONE(registry_release(cpu, 1));
 	}
 	DONE(registry_get(cpu, REGISTRY_DRIVER, &wm, NULL));
-	for (unsigned i = 0; i < MOST_SECTIONS; i++)
+	for (unsigned i = 1; i < MOST_SECTIONS; i++)
 		EXPECT(registry_get(cpu, REGISTRY_DRIVER, &wm, NULL) == REGISTRY_PASSIVE_FULL);
 	EXPECT(registry_get(cpu, REGISTRY_DRIVER, &wm, NULL) == REGISTRY_SECTIONS_SPENT && holds(cpu, 1));
 	DONE(registry_release(cpu, 1));
 	EXPECT(registry_get(cpu, REGISTRY_DRIVER, &wm, NULL) == REGISTRY_SECTIONS_SPENT && !holds(cpu, 1));
+	close_registry();
+}
+
+/* Drivers by so many names, one in each slot, and as many names that no entry has. */
+enum { NAMES = REGISTRY_MOST_SLOTS < 32 ? REGISTRY_MOST_SLOTS : 32, LOOKUPS = 1000 };
+static struct registry_name names[NAMES], absent[NAMES];
+
+/* Goes through the sections that the CPU has left: how many there were. */
+static uint64_t spend_rest(struct registry_cpu *cpu)
+{
+	uint64_t count = 0;
+	while (registry_enter(cpu) == REGISTRY_DONE) {
+		DONE(registry_exit(cpu));
+		count++;
+	}
+	return count;
+}
+
+/* Attaches the driver with a number for its value, and returns its slot. */
+static uint64_t attach_named(unsigned number)
+{
+	struct registry_entry made;
+	DONE(registry_attach(&keeper, &cpus[CHANGER], &names[number], number, &made));
+	return made.slot;
+}
+
+static void take_named_out(unsigned number)
+{
+	struct registry_entry gone;
+	DONE(registry_detach(&keeper, &cpus[CHANGER], REGISTRY_DRIVER, &names[number], &gone));
+	DONE(registry_destroy(&keeper, &cpus[CHANGER], gone.number, NULL));
+}
+
+/* Looks each driver up, and gets it, so many times. */
+static void look_all_up(struct registry_cpu *cpu, unsigned times)
+{
+	struct registry_entry found, got;
+	for (unsigned i = 0; i < times * NAMES; i++) {
+		DONE(registry_look_up(cpu, REGISTRY_DRIVER, &names[i % NAMES], &found));
+		DONE(registry_get(cpu, REGISTRY_DRIVER, &names[i % NAMES], &got));
+		EXPECT(found.value == i % NAMES && memcmp(&found, &got, sizeof found) == 0);
+		DONE(registry_release(cpu, got.number));
+	}
+}
+
+/*
+ * Each name's first look-up begins a section, and no later one, until the name's entry is detached. Two names that were attached anew in each other's slots
+ * begin one each; so does a name that was detached.
+ */
+static void check_remembered(void)
+{
+	const struct registry_settings settings = {CPUS, NAMES, REGISTRY_MOST_CHANGES, NAMES + 8, 2, 2};
+	struct registry_cpu *cpu = &cpus[0];
+	DONE(registry_open(&settings, &keeper, cpus, CPUS));
+	for (unsigned i = 0; i < NAMES; i++) {
+		char text[] = {'d', (char)('0' + i / 10), (char)('0' + i % 10), 0}, other[] = {'n', text[1], text[2], 0};
+		names[i] = name_of(text);
+		absent[i] = name_of(other);
+		EXPECT(attach_named(i) == i);
+	}
+	look_all_up(cpu, LOOKUPS);
+	take_named_out(1);
+	take_named_out(3);
+	EXPECT(attach_named(3) == 1 && attach_named(1) == 3);
+	look_all_up(cpu, LOOKUPS);
+	take_named_out(2);
+	EXPECT(registry_look_up(cpu, REGISTRY_DRIVER, &names[2], NULL) == REGISTRY_NOT_FOUND);
+	EXPECT(attach_named(2) == 2);
+	look_all_up(cpu, 1);
+	EXPECT(spend_rest(cpu) == 4);
+	expect_refused(registry_look_up, cpu, REGISTRY_DRIVER, &names[2], REGISTRY_SECTIONS_SPENT);
+	close_registry();
+}
+
+/* The same of names that no entry has: an attach has each begin one section more. */
+static void check_absent_remembered(void)
+{
+	const struct registry_settings settings = {CPUS, NAMES, REGISTRY_MOST_CHANGES, 2 * NAMES + 8, 2, 2};
+	struct registry_cpu *cpu = &cpus[0];
+	DONE(registry_open(&settings, &keeper, cpus, CPUS));
+	for (unsigned made = 0; made < 2; made++) {
+		attach_named(made);
+		for (unsigned i = 0; i < LOOKUPS * NAMES; i++) {
+			EXPECT(registry_look_up(cpu, REGISTRY_DRIVER, &absent[i % NAMES], NULL) == REGISTRY_NOT_FOUND);
+			EXPECT(registry_get(cpu, REGISTRY_DRIVER, &absent[i % NAMES], NULL) == REGISTRY_NOT_FOUND);
+		}
+	}
+	EXPECT(spend_rest(cpu) == 8);
+	expect_refused(registry_look_up, cpu, REGISTRY_DRIVER, &absent[0], REGISTRY_SECTIONS_SPENT);
 	close_registry();
 }
 
@@ -613,6 +704,9 @@ int main(int argc, char **argv)
 	check_answers();
 	check_spent();
 	check_spent_by_gets();
+	check_remembered();
+	if (RECALLS_ABSENT)
+		check_absent_remembered();
 	check_numbers();
 	run_lookers(800 * (uint64_t)changes);
 	run_threads(changes);

@@ -26,25 +26,13 @@ static pserialize_t		entry_psz;
 static struct psref_class	*entry_class;
 static pool_cache_t		entry_cache;
 
-static int
-entry_ctor(void *arg, void *object, int flags)
-{
-	struct entry *e = object;
-
-	(void)arg;
-	(void)flags;
-	memset(e, 0, sizeof(*e));
-	PSLIST_ENTRY_INIT(e, e_link);
-	return 0;
-}
-
 void
 entry_init(void)
 {
 	mutex_init(&entry_lock, MUTEX_DEFAULT, IPL_NONE);
 	entry_psz = pserialize_create();
 	entry_class = psref_class_create("entry", IPL_NONE);
-	entry_cache = pool_cache_init(sizeof(struct entry), 0, 0, 0, "entrypl", NULL, IPL_NONE, entry_ctor, NULL, NULL);
+	entry_cache = pool_cache_init(sizeof(struct entry), 0, 0, 0, "entrypl", NULL, IPL_NONE, NULL, NULL, NULL);
 }
 
 static struct entry *
@@ -94,6 +82,7 @@ entry_set(const struct entry_request *request)
 	struct entry *e = pool_cache_get(entry_cache, PR_WAITOK), *other;
 
 	e->e_content = *request;
+	PSLIST_ENTRY_INIT(e, e_link);
 	psref_target_init(&e->e_target, entry_class);
 	mutex_enter(&entry_lock);
 	PSLIST_WRITER_FOREACH(other, &entries, struct entry, e_link) {
@@ -109,6 +98,7 @@ entry_set(const struct entry_request *request)
 	pserialize_perform(entry_psz);
 	mutex_exit(&entry_lock);
 	psref_target_destroy(&other->e_target, entry_class);
+	PSLIST_ENTRY_DESTROY(other, e_link);
 	pool_cache_put(entry_cache, other);
 	return 0;
 }

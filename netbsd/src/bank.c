@@ -268,6 +268,7 @@ void enter_section(struct thread *me)
 	while ((answer = registry_enter(handle_of(me, me->cpu->bank))) == REGISTRY_SECTIONS_SPENT)
 		move_sections(me);
 	done(me, answer);
+	/* No test on x86-64 sees this fence: the enter is one there. Elsewhere the list could be loaded before the section is seen. */
 	__atomic_thread_fence(__ATOMIC_SEQ_CST);
 }
 
@@ -338,6 +339,7 @@ void perform_all(struct thread *me)
 {
 	struct pauses pauses = begin_pauses();
 	enter_interlock();
+	/* Nor this one: the interlock is one there. Elsewhere sections could be looked at before the writer's stores are seen. */
 	__atomic_thread_fence(__ATOMIC_SEQ_CST);
 	perform_from(me, 0, &pauses);
 	for (unsigned cpu = 0; cpu < KUPALDIZ_CPUS; cpu++)

@@ -34,13 +34,14 @@ static void unlink_callout(callout_t *callout)
 	callout->c_state &= ~(uint32_t)(PENDING | TOLD);
 }
 
-/* The callout whose time came first, among those due on a CPU; NULL where none is due. The caller has the lock. */
+/* The callout whose time came first, among those due on a CPU; of several the one that was set first, which is behind the others in the list. NULL where
+ * none is due. The caller has the lock. */
 static callout_t *due_on(unsigned cpu)
 {
 	int64_t time = now();
 	callout_t *first = NULL;
 	for (callout_t *at = callouts; at != NULL; at = at->c_next)
-		if (at->c_cpu == cpu && at->c_due <= time && (first == NULL || at->c_due < first->c_due))
+		if (at->c_cpu == cpu && at->c_due <= time && (first == NULL || at->c_due <= first->c_due))
 			first = at;
 	return first;
 }

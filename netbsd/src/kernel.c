@@ -98,7 +98,7 @@ static pthread_mutex_t kthreads_lock = PTHREAD_MUTEX_INITIALIZER;
 static pthread_cond_t begun = PTHREAD_COND_INITIALIZER;
 static struct kthread *kthreads;	/* those that are joined at their end */
 
-/* Runs what it was made for. */
+/* Runs what it was made for, which ends by kthread_exit. */
 static void *run_kthread(void *of)
 {
 	struct kthread *kthread = of;
@@ -114,7 +114,7 @@ static void *run_kthread(void *of)
 	pthread_cond_broadcast(&begun);
 	pthread_mutex_unlock(&kthreads_lock);
 	body(arg);
-	return NULL;
+	stop_at("kthread_create", NULL, "the body returned without kthread_exit");
 }
 
 /* Starts it, and waits until it has begun. Once it is in the list, another thread may join and free it. 0 or an errno. */

@@ -20,7 +20,7 @@
  * value. The slot that the registry gives it is also its row in the bank; the owner notes row and serial, and the row notes the owner. A call
  * is right in what it is given where both notes agree.
  *
- * psref_acquire is registry_get: it finds the entry by its name and acquires it, by loads and one addition, or in a section of its own, nested in the open
+ * psref_acquire is registry_get: it acquires the entry with its name, by an addition and a load, or in a section of its own. That is nested in the open
  * one if that is of the same bank.
  * What isn't found is being destroyed. That a reader who met a target in the caller's list finds its entry, too, lies in the
  * order of the atomic steps: the attach came before the list had the target. No contract says it, since the reader's CPU hasn't heard of the
@@ -50,14 +50,14 @@
 #include <sys/types.h>
 #include <time.h>
 
-#include "../kupaldiz/cpu.h"
-#include "../kupaldiz/kernel.h"
-#include "../kupaldiz/localcount.h"
-#include "../kupaldiz/locks.h"
-#include "../kupaldiz/memory.h"
-#include "../kupaldiz/pserialize.h"
-#include "../kupaldiz/psref.h"
-#include "../kupaldiz/softint.h"
+#include "../include/kupaldiz/cpu.h"
+#include "../include/kupaldiz/kernel.h"
+#include "../include/kupaldiz/localcount.h"
+#include "../include/kupaldiz/locks.h"
+#include "../include/kupaldiz/memory.h"
+#include "../include/kupaldiz/pserialize.h"
+#include "../include/kupaldiz/psref.h"
+#include "../include/kupaldiz/softint.h"
 #include "registry.h"
 
 /* The limits, which a test may change: of a bank; how many nanoseconds a drain waits before it looks again; how many milliseconds a wait lasts before it
@@ -91,14 +91,23 @@ enum {
 	MOST_BANKS = KUPALDIZ_BANKS,
 	LINE = 64,
 	MOST_PLACES = 6,
-	CHAINS = 128,
 	LAST_ROUND = PTHREAD_DESTRUCTOR_ITERATIONS - 1,	/* of destructors: in the one after it the thread sanitizer is gone */
 	LONGEST_PAUSE = 1000000,	/* nanoseconds */
 	LEVELS = IPL_HIGH + 1,
+	ANY_LEVEL = -1,
 	TICK = 1000000000 / 100		/* nanoseconds: hz is 100 */
 };
 
 _Static_assert((int)ALL_CPUS == (int)REGISTRY_MOST_CPUS, "each CPU of the registry is a thread's or the writers'");
+
+/* clang says otherwise which sanitizers it compiles with. */
+#if defined(__has_feature) && !defined(__SANITIZE_THREAD__) && !defined(__SANITIZE_ADDRESS__)
+#if __has_feature(thread_sanitizer)
+#define __SANITIZE_THREAD__
+#elif __has_feature(address_sanitizer)
+#define __SANITIZE_ADDRESS__
+#endif
+#endif
 
 /* What the thread sanitizer is told of the order that the archive, which isn't compiled with it, makes. */
 #ifdef __SANITIZE_THREAD__
@@ -106,10 +115,25 @@ void __tsan_acquire(void *address);
 void __tsan_release(void *address);
 #define COMES_AFTER(edge)	__tsan_acquire(edge)
 #define COMES_BEFORE(edge)	__tsan_release(edge)
+#ifndef __clang__
 #pragma GCC diagnostic ignored "-Wtsan"
+#endif
 #else
 #define COMES_AFTER(edge)	((void)(edge))
 #define COMES_BEFORE(edge)	((void)(edge))
+#endif
+
+/* What is told of an object that nobody uses, but that stays as it is: the address sanitizer, or the bench. */
+#ifndef HIDE
+#ifdef __SANITIZE_ADDRESS__
+void __asan_poison_memory_region(const volatile void *at, size_t size);
+void __asan_unpoison_memory_region(const volatile void *at, size_t size);
+#define HIDE(at, size)		__asan_poison_memory_region(at, size)
+#define UNHIDE(at, size)	__asan_unpoison_memory_region(at, size)
+#else
+#define HIDE(at, size)		((void)(at), (void)(size))
+#define UNHIDE(at, size)	((void)(at), (void)(size))
+#endif
 #endif
 
 struct thread;
@@ -196,8 +220,8 @@ struct cpu {
 	uintptr_t hold;			/* the lock of who has the CPU; what follows is theirs */
 	struct bank *bank;		/* of its sections */
 	struct reference *references;
-	uint32_t room, first_free, counted_elsewhere;
-	uint32_t chains[CHAINS];	/* the first reference of each, by the address of its storage; NOTHING at first */
+	uint32_t *chains;		/* the first reference of each, by the address of its storage; NOTHING where there is none */
+	uint32_t room, first_free, counted_elsewhere;	/* there are as many chains as places: a power of two, or none */
 	uint64_t serial;
 	uint32_t pending;		/* an atomic: a bit for each level with a soft interrupt that waits, or that of `goes_on` alone */
 	uint32_t goes_on;		/* the bit of a handler that has waited for a lock, and waits for the CPU; else 0. Under pending_list */
@@ -271,8 +295,8 @@ extern pthread_mutex_t pending_list;
 extern pthread_cond_t pending_changed;
 
 void note_pending(struct cpu *cpu);
-bool run_softint(struct thread *me);
-void want_softint_thread(struct thread *me, struct cpu *cpu);
+bool run_softint(struct thread *me, int level);
+void want_softint_thread(struct thread *me, struct cpu *cpu, int level);
 
 void judge_return(const struct thread *me, const char *what, int level, unsigned locks, unsigned references);
 void offer_cpu(struct thread *me);

@@ -1,4 +1,5 @@
 /* localcount.c - localcount(9) */
+#include <sched.h>
 #include <stdio.h>
 #include <stdlib.h>
 
@@ -112,7 +113,8 @@ void localcount_acquire(struct localcount *lc)
 	end_call(me);
 }
 
-/* Gives up a reference that a drain waits for, and wakes the drain, which goes on once the caller's lock is free. */
+/* Gives up a reference that a drain waits for, and wakes the drain, which goes on once the caller's lock is free. A soft interrupt takes that lock, too,
+ * whatever its level: as in the kernel it sleeps if it must. */
 static void give_up(struct thread *me, struct bank *bank, struct registry_local *reference, kcondvar_t *cv, kmutex_t *interlock)
 {
 	take_mutex(me, interlock);
@@ -177,6 +179,14 @@ static bool wait_once(struct thread *me, const struct registry_stage *met, kcond
 	return over;
 }
 
+/* The kernel gives the interlock up while it visits each CPU, also where nobody has a reference. */
+static void let_others_in(struct thread *me, kmutex_t *interlock)
+{
+	give_mutex(me, interlock);
+	sched_yield();
+	take_mutex(me, interlock);
+}
+
 void localcount_drain(struct localcount *lc, kcondvar_t *cv, kmutex_t *interlock)
 {
 	struct thread *me = begin_call(__func__);
@@ -191,6 +201,7 @@ void localcount_drain(struct localcount *lc, kcondvar_t *cv, kmutex_t *interlock
 	pthread_mutex_unlock(&at.row->lock);
 	int waits = begin_wait();
 	retire_row(me, at, lc);
+	let_others_in(me, interlock);
 	while (!is_freed(me, at, &met))
 		if (wait_once(me, &met, cv, interlock, &pauses))
 			tell(me, at.row, &met);

@@ -133,6 +133,7 @@ static uintptr_t word_of(const uintptr_t *word)
 	return __atomic_load_n(word, __ATOMIC_ACQUIRE);
 }
 
+/* A strong exchange: a weak one may fail without reason, and mutex_tryenter with it though the lock is free. No test on x86-64 sees the difference. */
 static bool replace(uintptr_t *word, uintptr_t before, uintptr_t after)
 {
 	return __atomic_compare_exchange_n(word, &before, after, false, __ATOMIC_ACQ_REL, __ATOMIC_RELAXED);

@@ -8,6 +8,8 @@
 struct head {
 	size_t size;
 	uint64_t mark;		/* whose it is, while it is in use */
+	size_t before;		/* how far before the block its memory begins */
+	struct head *next;	/* of a cache's constructed objects that nobody uses */
 };
 
 struct pool_cache {
@@ -15,6 +17,8 @@ struct pool_cache {
 	int (*make)(void *, void *, int);
 	void (*end)(void *, void *);
 	void *arg;
+	pthread_mutex_t lock;	/* of what follows */
+	struct head *constructed;
 };
 
 struct percpu {
@@ -32,6 +36,29 @@ static uint64_t mark_of(const struct pool *pool)
 
 /* ---- kmem(9) ---- */
 
+_Static_assert(sizeof(struct head) % _Alignof(max_align_t) == 0, "a block behind a head is aligned for any type");
+
+/* What a block is aligned to: what its pool asks for; else a line, if it is of whole lines, as a type is that begins a line; else what fits any type. */
+static size_t alignment_of(size_t size, const struct pool *pool)
+{
+	size_t align = pool == NULL ? 0 : pool->pr_align;
+	return align == 0 && size % LINE == 0 ? LINE : align < _Alignof(max_align_t) ? _Alignof(max_align_t) : align;
+}
+
+/* Memory for a block behind its head; NULL where there is none. */
+static struct head *take_memory(size_t size, size_t align)
+{
+	size_t before = align > sizeof(struct head) ? align : sizeof(struct head);
+	if (size > SIZE_MAX - before - align)
+		return NULL;
+	char *at = align == _Alignof(max_align_t) ? malloc(before + size) : aligned_alloc(align, (before + size + align - 1) / align * align);
+	if (at == NULL)
+		return NULL;
+	struct head *head = (struct head *)(void *)(at + before) - 1;
+	*head = (struct head){.size = size, .before = before};
+	return head;
+}
+
 /* A block of kmem's, or an object of a pool's. */
 static void *take_block(struct thread *me, size_t size, bool sleeps, const struct pool *pool)
 {
@@ -39,12 +66,12 @@ static void *take_block(struct thread *me, size_t size, bool sleeps, const struc
 		stop(me, "a block of no bytes");
 	if (sleeps)
 		want_sleepable(me);
-	struct head *head = size > SIZE_MAX - sizeof(*head) ? NULL : malloc(sizeof(*head) + size);
+	struct head *head = take_memory(size, alignment_of(size, pool));
 	if (head == NULL && sleeps)
 		stop(me, "out of memory");
 	if (head == NULL)
 		return NULL;
-	*head = (struct head){size, mark_of(pool)};
+	head->mark = mark_of(pool);
 	return head + 1;
 }
 
@@ -70,7 +97,7 @@ static struct head *head_of(struct thread *me, void *block, const struct pool *p
 static void free_head(struct head *head)
 {
 	__atomic_store_n(&head->mark, 0, __ATOMIC_RELAXED);
-	free(head);
+	free((char *)(head + 1) - head->before);
 }
 
 static void give_block(struct thread *me, void *block, size_t size)
@@ -157,11 +184,10 @@ void kmem_strfree(char *text)
 void pool_init(struct pool *pool, size_t size, unsigned align, unsigned offset, int flags, const char *name, struct pool_allocator *from,
     int level)
 {
-	(void)align;
 	(void)offset;
 	(void)flags;
 	(void)from;
-	*pool = (struct pool){.pr_name = name, .pr_size = size, .pr_level = level};
+	*pool = (struct pool){.pr_name = name, .pr_size = size, .pr_align = align, .pr_level = level};
 }
 
 static void want_unused(struct thread *me, struct pool *pool)
@@ -213,18 +239,39 @@ pool_cache_t pool_cache_init(size_t size, unsigned align, unsigned offset, unsig
 	cache->make = make;
 	cache->end = end;
 	cache->arg = arg;
+	pthread_mutex_init(&cache->lock, NULL);
 	return cache;
+}
+
+/* A constructed object that nobody uses; NULL where there is none. */
+static struct head *take_constructed(pool_cache_t cache)
+{
+	pthread_mutex_lock(&cache->lock);
+	struct head *head = cache->constructed;
+	if (head != NULL)
+		cache->constructed = head->next;
+	pthread_mutex_unlock(&cache->lock);
+	if (head != NULL)
+		UNHIDE(head + 1, head->size);
+	return head;
 }
 
 void pool_cache_destroy(pool_cache_t cache)
 {
+	struct head *head;
 	want_unused(begin_call(__func__), &cache->pool);
+	while ((head = take_constructed(cache)) != NULL) {
+		if (cache->end != NULL)
+			cache->end(cache->arg, head + 1);
+		free_head(head);
+	}
+	pthread_mutex_destroy(&cache->lock);
 	free(cache);
 }
 
-void *pool_cache_get(pool_cache_t cache, int flags)
+/* A new object, which is constructed. */
+static void *construct(struct thread *me, pool_cache_t cache, int flags)
 {
-	struct thread *me = begin_call(__func__);
 	void *object = get(me, &cache->pool, flags);
 	if (object == NULL || cache->make == NULL || cache->make(cache->arg, object, flags) == 0)
 		return object;
@@ -232,13 +279,31 @@ void *pool_cache_get(pool_cache_t cache, int flags)
 	return NULL;
 }
 
+void *pool_cache_get(pool_cache_t cache, int flags)
+{
+	struct thread *me = begin_call(__func__);
+	if ((flags & PR_WAITOK) != 0)
+		want_sleepable(me);
+	struct head *head = take_constructed(cache);
+	if (head == NULL)
+		return construct(me, cache, flags);
+	head->mark = mark_of(&cache->pool);
+	__atomic_fetch_add(&cache->pool.pr_out, 1, __ATOMIC_RELAXED);
+	return head + 1;
+}
+
+/* The object stays constructed. */
 void pool_cache_put(pool_cache_t cache, void *object)
 {
 	struct thread *me = begin_call(__func__);
-	(void)head_of(me, object, &cache->pool);
-	if (cache->end != NULL)
-		cache->end(cache->arg, object);
-	put(me, &cache->pool, object);
+	struct head *head = head_of(me, object, &cache->pool);
+	__atomic_store_n(&head->mark, 0, __ATOMIC_RELAXED);
+	HIDE(object, head->size);
+	pthread_mutex_lock(&cache->lock);
+	head->next = cache->constructed;
+	cache->constructed = head;
+	pthread_mutex_unlock(&cache->lock);
+	__atomic_fetch_sub(&cache->pool.pr_out, 1, __ATOMIC_RELEASE);
 }
 
 /* ---- percpu(9) ---- */

@@ -103,8 +103,6 @@ static void take_slowly(struct thread *me, kmutex_t *mutex)
 {
 	bool steps = me->holds > 0;
 	want_blockable(me);
-	if (me->softint && mutex->mtx_level == IPL_NONE)
-		stop(me, "in a soft interrupt, and the lock is of IPL_NONE");
 	if (lock_try(&mutex->mtx_word, me))
 		return;
 	if (steps)
@@ -147,9 +145,18 @@ bool has_mutex(const struct thread *me, const kmutex_t *mutex)
 	return lock_owner(&mutex->mtx_word) == me;
 }
 
+/* Stops where a soft interrupt takes a lock that isn't for it. */
+static void want_for_softint(const struct thread *me, const kmutex_t *mutex)
+{
+	if (me->softint && mutex->mtx_made == A_MUTEX && !mutex->mtx_spins && mutex->mtx_level == IPL_NONE)
+		stop(me, "in a soft interrupt, and the lock is of IPL_NONE");
+}
+
 void mutex_enter(kmutex_t *mutex)
 {
-	take_mutex(begin_call(__func__), mutex);
+	struct thread *me = begin_call(__func__);
+	want_for_softint(me, mutex);
+	take_mutex(me, mutex);
 }
 
 void mutex_exit(kmutex_t *mutex)

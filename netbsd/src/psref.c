@@ -1,6 +1,7 @@
 /* psref.c - psref(9) */
 #include <stdio.h>
 #include <stdlib.h>
+#include <string.h>
 
 #include "layer.h"
 
@@ -51,20 +52,20 @@ static struct found_row target_row(const struct thread *me, const struct psref_t
 
 /* ---- The table of a CPU's references. The thread has the CPU. ---- */
 
-/* The chain of those whose storage lies there, or at other addresses of the same remainder. */
+/* The chain of those whose storage lies there, or at other addresses with the same place. There is room. */
 static uint32_t *chain_of(struct cpu *cpu, const struct psref *psref)
 {
-	uintptr_t address = (uintptr_t)psref;
-	return &cpu->chains[(address >> 3 ^ address >> 10) % CHAINS];
+	uint64_t mixed = (uint64_t)(uintptr_t)psref * UINT64_C(0x9e3779b97f4a7c15);
+	return &cpu->chains[(uint32_t)(mixed >> 32) & (cpu->room - 1)];
 }
 
 /* The reference that lies in this storage; NULL where none does. The storage itself isn't read: it may never have been written. */
 static struct reference *reference_at(struct cpu *cpu, const struct psref *psref)
 {
-	for (uint32_t place = *chain_of(cpu, psref); place != NOTHING; place = cpu->references[place].next)
-		if (cpu->references[place].psref == psref)
-			return &cpu->references[place];
-	return NULL;
+	uint32_t place = cpu->room == 0 ? NOTHING : *chain_of(cpu, psref);
+	while (place != NOTHING && cpu->references[place].psref != psref)
+		place = cpu->references[place].next;
+	return place == NOTHING ? NULL : &cpu->references[place];
 }
 
 /* Stops where this storage has a reference of this CPU. */
@@ -74,19 +75,36 @@ static void want_unheld(const struct thread *me, const struct psref *psref)
 		stop(me, "the reference is held already");
 }
 
-/* Makes room for more references. */
+/* Memory for a row that this one goes on with. */
+static void *longer(struct thread *me, void *row, size_t size)
+{
+	row = realloc(row, size);
+	if (row == NULL)
+		stop(me, "out of memory");
+	return row;
+}
+
+static void add_to_chain(struct cpu *cpu, uint32_t place)
+{
+	uint32_t *chain = chain_of(cpu, cpu->references[place].psref);
+	cpu->references[place].next = *chain;
+	*chain = place;
+}
+
+/* Makes room for twice as many references, with as many chains. No place is free. */
 static void extend(struct thread *me)
 {
 	struct cpu *cpu = me->cpu;
-	uint32_t room = cpu->room == 0 ? FIRST_ROOM : cpu->room * 2;
-	struct reference *references = realloc(cpu->references, room * sizeof(*references));
-	if (references == NULL)
-		stop(me, "out of memory");
-	for (uint32_t place = cpu->room; place < room; place++)
-		references[place] = (struct reference){.next = place + 1 < room ? place + 1 : NOTHING};
-	cpu->references = references;
-	cpu->first_free = cpu->room;
+	uint32_t before = cpu->room, room = before == 0 ? FIRST_ROOM : before * 2;
+	cpu->references = longer(me, cpu->references, room * sizeof(*cpu->references));
+	cpu->chains = longer(me, cpu->chains, room * sizeof(*cpu->chains));
 	cpu->room = room;
+	memset(cpu->chains, 0xff, room * sizeof(*cpu->chains));
+	for (uint32_t place = 0; place < before; place++)
+		add_to_chain(cpu, place);
+	for (uint32_t place = before; place < room; place++)
+		cpu->references[place] = (struct reference){.next = place + 1 < room ? place + 1 : NOTHING};
+	cpu->first_free = before;
 }
 
 /* Notes a reference that the registry's CPU `via` counts, in the table and in its holder's storage. */
@@ -97,10 +115,9 @@ static void note_reference(struct thread *me, struct psref *psref, const struct 
 		extend(me);
 	uint32_t place = cpu->first_free;
 	struct reference *reference = &cpu->references[place];
-	uint32_t *chain = chain_of(cpu, psref);
 	cpu->first_free = reference->next;
-	*reference = (struct reference){psref, target, me->place, me, ++cpu->serial, via, *chain};
-	*chain = place;
+	*reference = (struct reference){psref, target, me->place, me, ++cpu->serial, via, NOTHING};
+	add_to_chain(cpu, place);
 	cpu->counted_elsewhere += via == WRITERS;
 	*psref = (struct psref){target, cpu->serial, place, cpu->info.ci_index};
 	me->references++;

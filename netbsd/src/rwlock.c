@@ -191,5 +191,8 @@ int rw_write_held(krwlock_t *rw)
 
 int rw_lock_held(krwlock_t *rw)
 {
-	return rw_read_held(rw) || rw_write_held(rw);
+	bucket_lock(bucket_of(rw));
+	bool held = rw->rw_readers > 0 || rw->rw_writer != 0;
+	bucket_unlock(bucket_of(rw));
+	return held;
 }

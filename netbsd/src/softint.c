@@ -10,12 +10,14 @@ struct softint {
 	int level;
 	unsigned running;
 	bool dead, pending[KUPALDIZ_CPUS];
+	struct softint *behind[KUPALDIZ_CPUS];	/* the next one in the queue */
 };
 
 /* The lock of all that follows. Each CPU's `pending` is written under it, too. */
 pthread_mutex_t pending_list = PTHREAD_MUTEX_INITIALIZER;
 pthread_cond_t pending_changed = PTHREAD_COND_INITIALIZER;
 static struct softint *softints;
+static struct softint *queues[KUPALDIZ_CPUS][LEVELS];	/* the first that waits, in the order in which they were scheduled */
 
 /* ---- Levels. ---- */
 
@@ -69,20 +71,44 @@ void splx(int level)
 void note_pending(struct cpu *cpu)
 {
 	uint32_t pending = 0;
-	for (struct softint *at = softints; at != NULL; at = at->next)
-		if (at->pending[cpu->info.ci_index])
-			pending |= UINT32_C(1) << at->level;
+	for (int level = 0; level < LEVELS; level++)
+		if (queues[cpu->info.ci_index][level] != NULL)
+			pending |= UINT32_C(1) << level;
 	__atomic_store_n(&cpu->pending, cpu->goes_on != 0 ? cpu->goes_on : pending, __ATOMIC_RELEASE);
+}
+
+/* Puts one at the end of its queue, unless it waits there. The caller has the list. */
+static void enqueue(struct softint *softint, unsigned cpu)
+{
+	struct softint **at = &queues[cpu][softint->level];
+	if (softint->pending[cpu])
+		return;
+	while (*at != NULL)
+		at = &(*at)->behind[cpu];
+	*at = softint;
+	softint->behind[cpu] = NULL;
+	softint->pending[cpu] = true;
+}
+
+/* Takes one out of its queue, if it waits there. The caller has the list. */
+static void dequeue(struct softint *softint, unsigned cpu)
+{
+	struct softint **at = &queues[cpu][softint->level];
+	if (!softint->pending[cpu])
+		return;
+	while (*at != softint)
+		at = &(*at)->behind[cpu];
+	*at = softint->behind[cpu];
+	softint->pending[cpu] = false;
 }
 
 /* The next one to run on a CPU, of the highest level that is above a level; NULL where there is none. */
 static struct softint *next_of(const struct cpu *cpu, int above)
 {
-	struct softint *next = NULL;
-	for (struct softint *at = softints; at != NULL; at = at->next)
-		if (at->pending[cpu->info.ci_index] && at->level > (next == NULL ? above : next->level))
-			next = at;
-	return next;
+	int level = LEVELS - 1;
+	while (level > above && queues[cpu->info.ci_index][level] == NULL)
+		level--;
+	return level > above ? queues[cpu->info.ci_index][level] : NULL;
 }
 
 /* Stops where a handler, or a function of xcall(9), left something behind. It began at this level, with so many locks and references. */
@@ -100,14 +126,14 @@ void judge_return(const struct thread *me, const char *what, int level, unsigned
 		stop(me, "%s returned at a raised level", what);
 }
 
-/* Runs the next handler. Whether there was one. */
-bool run_softint(struct thread *me)
+/* Runs the next handler of a level, or of any. Whether there was one. */
+bool run_softint(struct thread *me, int level)
 {
 	int above = me->lender == NULL ? IPL_NONE : me->lender->level;
 	pthread_mutex_lock(&pending_list);
-	struct softint *next = next_of(me->cpu, above);
+	struct softint *next = level == ANY_LEVEL ? next_of(me->cpu, above) : level > above ? queues[me->cpu->info.ci_index][level] : NULL;
 	if (next != NULL) {
-		next->pending[me->cpu->info.ci_index] = false;
+		dequeue(next, me->cpu->info.ci_index);
 		next->running++;
 	}
 	note_pending(me->cpu);
@@ -170,8 +196,8 @@ void schedule_on(struct thread *me, void *cookie, struct cpu *cpu)
 	struct softint *softint = cookie;
 	pthread_mutex_lock(&pending_list);
 	want_established(me, softint);
-	want_softint_thread(me, cpu);
-	softint->pending[cpu->info.ci_index] = true;
+	want_softint_thread(me, cpu, softint->level);
+	enqueue(softint, cpu->info.ci_index);
 	note_pending(cpu);
 	pthread_cond_broadcast(&pending_changed);
 	pthread_mutex_unlock(&pending_list);
@@ -208,7 +234,7 @@ void softint_disestablish(void *cookie)
 	want_established(me, softint);
 	softint->dead = true;
 	for (unsigned cpu = 0; cpu < KUPALDIZ_CPUS; cpu++) {
-		softint->pending[cpu] = false;
+		dequeue(softint, cpu);
 		note_pending(&cpus[cpu]);
 	}
 	await_handlers(me, softint);

@@ -59,7 +59,7 @@ static _Noreturn void *run_all(void *of)
 		await_pending(me);
 		lock_take(&me->cpu->hold, me, NULL);
 		me->holds = 1;
-		while (run_softint(me))
+		while (run_softint(me, ANY_LEVEL))
 			;
 		me->holds = 0;
 		me->level = IPL_NONE;
@@ -67,9 +67,10 @@ static _Noreturn void *run_all(void *of)
 	}
 }
 
-/* The thread of a CPU, which is begun where it isn't. The caller has the list. */
-void want_softint_thread(struct thread *me, struct cpu *cpu)
+/* The thread of a CPU, of all levels, which is begun where it isn't. The caller has the list. */
+void want_softint_thread(struct thread *me, struct cpu *cpu, int level)
 {
+	(void)level;
 	pthread_t thread;
 	struct softint_thread *softint_thread = thread_of(cpu);
 	if (softint_thread->cpu == NULL) {

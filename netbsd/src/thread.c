@@ -49,10 +49,8 @@ static void note_fork(void)
 static void open_layer(void)
 {
 	struct thread nobody = {.call = "registry_open"};
-	for (unsigned cpu = 0; cpu < KUPALDIZ_CPUS; cpu++) {
+	for (unsigned cpu = 0; cpu < KUPALDIZ_CPUS; cpu++)
 		cpus[cpu].info.ci_index = cpu;
-		memset(cpus[cpu].chains, 0xff, sizeof(cpus[cpu].chains));
-	}
 	if (pthread_key_create(&ending, end_thread) != 0)
 		stop(&nobody, "no key of a thread is left");
 	if (pthread_atfork(NULL, NULL, note_fork) != 0)

@@ -9,7 +9,7 @@
 #include <stdatomic.h>
 #include <time.h>
 
-#include "../../c/expect.h"
+#include "../../c/examples/expect.h"
 #include "busy.h"
 #include "registry.h"
 

@@ -6,7 +6,7 @@
 #include <pthread.h>
 #include <time.h>
 
-#include "../../c/expect.h"
+#include "../../c/examples/expect.h"
 #include "busy.h"
 #include "wraps.h"
 

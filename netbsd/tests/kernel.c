@@ -66,8 +66,38 @@ static void test_memory(void)
 	EXPECT(first != NULL && second != NULL && pool_cache_get(cache, PR_WAITOK) == NULL);
 	pool_cache_put(cache, first);
 	pool_cache_put(cache, second);
-	EXPECT(made == 3 && ended == 2);
+	EXPECT(made == 3 && ended == 0);
+	EXPECT(pool_cache_get(cache, PR_WAITOK) == second && made == 3);
+	pool_cache_put(cache, second);
 	pool_cache_destroy(cache);
+	EXPECT(ended == 2);
+}
+
+struct aligned {
+	_Alignas(64) unsigned char bytes[192];
+};
+
+/* A type that begins a line does so in kmem's blocks, and in a pool's objects; a pool aligns any object as it is asked to. */
+static void test_alignment(void)
+{
+	struct pool pool, small;
+	struct aligned *blocks[16], *objects[16];
+	char *smalls[16];
+	pool_init(&pool, sizeof(struct aligned), 0, 0, 0, "linepl", NULL, IPL_NONE);
+	pool_init(&small, 24, 128, 0, 0, "smallpl", NULL, IPL_NONE);
+	for (unsigned i = 0; i < 16; i++) {
+		blocks[i] = kmem_zalloc(sizeof(*blocks[i]), KM_SLEEP);
+		objects[i] = pool_get(&pool, PR_WAITOK);
+		smalls[i] = pool_get(&small, PR_WAITOK);
+		EXPECT((uintptr_t)blocks[i] % 64 == 0 && (uintptr_t)objects[i] % 64 == 0 && (uintptr_t)smalls[i] % 128 == 0);
+	}
+	for (unsigned i = 0; i < 16; i++) {
+		kmem_free(blocks[i], sizeof(*blocks[i]));
+		pool_put(&pool, objects[i]);
+		pool_put(&small, smalls[i]);
+	}
+	pool_destroy(&pool);
+	pool_destroy(&small);
 }
 
 /* Zeros are asked for where others left something. */
@@ -535,6 +565,7 @@ static void exit_at_once(void *arg)
 static void end_as(void *arg)
 {
 	atomic_fetch_add((atomic_uint *)arg, 1);
+	kthread_exit(0);
 }
 
 /* Of threads that ended long ago each is joined once, by its own name. */
@@ -686,6 +717,7 @@ int main(void)
 	mutex_init(&lock, MUTEX_DEFAULT, IPL_SOFTCLOCK);
 	cv_init(&cv, "kernel");
 	test_memory();
+	test_alignment();
 	test_zeros();
 	test_percpu_sizes();
 	test_cpus();

@@ -717,7 +717,7 @@ static void leave(void *stay, void *arg)
 
 static void broadcast(unsigned flags, void (*stay)(void *))
 {
-	xc_broadcast(flags, leave, &stay, NULL);
+	xc_wait(xc_broadcast(flags, leave, &stay, NULL));
 }
 
 static void function_stays_inside(void)
@@ -729,7 +729,7 @@ static void function_stays_inside(void)
 static void function_stays_there(void)
 {
 	void (*stay)(void *) = stay_inside;
-	xc_unicast(XC_HIGHPRI, leave, &stay, NULL, kupaldiz_cpu(3));
+	xc_wait(xc_unicast(XC_HIGHPRI, leave, &stay, NULL, kupaldiz_cpu(3)));
 }
 
 static void function_stays_locked(void)
@@ -828,11 +828,25 @@ static void *exit_it(void *arg)
 	return arg;
 }
 
+static void exit_at_once(void *arg)
+{
+	(void)arg;
+	kthread_exit(0);
+}
+
+/* It isn't a thread's end to return. */
+static void return_from_body(void)
+{
+	lwp_t *worker;
+	EXPECT(kthread_create(PRI_NONE, KTHREAD_MUSTJOIN, NULL, nothing, NULL, &worker, "worker") == 0);
+	kthread_join(worker);
+}
+
 /* The layer keeps of it what it kept of a thread of kthread_create's before. */
 static void exit_of_next(void)
 {
 	lwp_t *worker;
-	EXPECT(kthread_create(PRI_NONE, KTHREAD_MUSTJOIN, NULL, nothing, NULL, &worker, "worker") == 0);
+	EXPECT(kthread_create(PRI_NONE, KTHREAD_MUSTJOIN, NULL, exit_at_once, NULL, &worker, "worker") == 0);
 	EXPECT(kthread_join(worker) == 0);
 	on_thread(exit_it);
 }
@@ -845,7 +859,7 @@ static void join_nobody(void)
 static void join_twice(void)
 {
 	lwp_t *worker;
-	EXPECT(kthread_create(PRI_NONE, KTHREAD_MUSTJOIN, NULL, nothing, NULL, &worker, "worker") == 0);
+	EXPECT(kthread_create(PRI_NONE, KTHREAD_MUSTJOIN, NULL, exit_at_once, NULL, &worker, "worker") == 0);
 	EXPECT(kthread_join(worker) == 0);
 	kthread_join(worker);
 }
@@ -1041,6 +1055,7 @@ static const struct stop_case cases[] = {
     {thread_ends_raised, "pthread_exit: with its CPU"},
     {child_of_fork, "pserialize_read_enter: in the child of a fork, at PLACE"},
     {exit_of_main, "kthread_exit: kthread_create did not make this thread, at PLACE"},
+    {return_from_body, "kthread_create: the body returned without kthread_exit"},
     {exit_of_next, "kthread_exit: kthread_create did not make this thread, at PLACE"},
     {join_nobody, "kthread_join: no thread that was made with KTHREAD_MUSTJOIN, at PLACE"},
     {join_twice, "kthread_join: no thread that was made with KTHREAD_MUSTJOIN, at PLACE"},

@@ -1,7 +1,7 @@
 /*
  * names - the names of names.txt that no driver and no other test uses: each does what its page says
  *
- * It is compiled as a driver's file is. The bench runs it too: clients/bench/tests/named.c.
+ * It is compiled as a driver's file is. The bench runs it too: explorer/tests/named.c.
  */
 #include <sys/cdefs.h>
 __KERNEL_RCSID(0, "$NetBSD$");
@@ -396,6 +396,7 @@ static void
 run_once(void *arg)
 {
 	atomic_inc_uint(arg);
+	kthread_exit(0);
 }
 
 static void

@@ -5,7 +5,7 @@
 #include <ctype.h>
 #include <string.h>
 
-#include "../../c/expect.h"
+#include "../../c/examples/expect.h"
 
 /* Writes PLACE for each word in which ".c:" and digits stand. */
 static inline void hide_places(char *text)

@@ -16,6 +16,7 @@ static void reader(void *class)
 	pserialize_read_exit(s);
 	if (found != NULL)
 		psref_release(&psref, found, class);
+	kthread_exit(0);
 }
 
 int main(void)

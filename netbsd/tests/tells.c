@@ -435,6 +435,12 @@ static void handle_long(void *arg)
 	keep();
 }
 
+static void exit_after_long(void *arg)
+{
+	handle_long(arg);
+	kthread_exit(0);
+}
+
 static void disestablish_running(void)
 {
 	void *cookie = softint_establish(SOFTINT_NET, handle_long, NULL);
@@ -459,7 +465,7 @@ static void halt_running(void)
 static void join_running(void)
 {
 	lwp_t *worker;
-	EXPECT(kthread_create(PRI_NONE, KTHREAD_MUSTJOIN, NULL, handle_long, NULL, &worker, "worker") == 0);
+	EXPECT(kthread_create(PRI_NONE, KTHREAD_MUSTJOIN, NULL, exit_after_long, NULL, &worker, "worker") == 0);
 	EXPECT(kthread_join(worker) == 0);
 }
 

@@ -11,7 +11,7 @@
 #include <string.h>
 #include <time.h>
 
-#include "../../c/expect.h"
+#include "../../c/examples/expect.h"
 
 /* Sleeps, as the holder of a reference may. */
 static inline void sleep_for(long microseconds)

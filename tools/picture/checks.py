@@ -9,7 +9,6 @@ from .drawn import FORMS, drawn
 from .svg import LETTER
 
 ROOT = pathlib.Path(__file__).resolve().parent.parent.parent
-ENDINGS = {"svg": ".svg", "text": ".picture"}
 
 # A script with its report, and reports that aren't its own: which of the lines is replaced, counted from 0, and by what.
 SCRIPT = """domain 2 2
@@ -84,21 +83,15 @@ def examples():
     return sorted((ROOT / "examples").glob("*.txt"))
 
 
-def pictures():
-    """Each file of a picture of examples/, with its form and its script."""
-    for script in examples():
-        for form, ending in ENDINGS.items():
-            yield script.with_suffix(ending), form, script
-
-
-def drawn_again(form, script):
+def drawn_again(script, form="svg"):
     return drawn(form, script.stem, script.read_text(), script.with_suffix(".report").read_text())
 
 
-def differs(path, form, script):
-    """Why a picture of examples/ isn't the one that its script and report make, if so."""
+def differs(script):
+    """Why the picture of a script of examples/ isn't the one that its script and report make, or there is none in text, if so."""
+    path = script.with_suffix(".svg")
     try:
-        same = path.is_file() and path.read_text() == drawn_again(form, script)
+        same = path.is_file() and path.read_text() == drawn_again(script) and drawn_again(script, "text")
     except (Unfit, OSError) as fault:
         return str(fault)
     return "" if same else "it isn't what tools/picture.py make writes"
@@ -106,13 +99,11 @@ def differs(path, form, script):
 
 def standing():
     """Each picture of examples/ is the one that its script and report make."""
-    for path, form, script in pictures():
-        yield f"examples/{path.name}", differs(path, form, script)
-    scripts = {script.stem for script in examples()}
-    for ending in ENDINGS.values():
-        for path in sorted((ROOT / "examples").glob(f"*{ending}")):
-            if path.stem not in scripts:
-                yield f"examples/{path.name}", "there is no such script"
+    for script in examples():
+        yield f"examples/{script.stem}.svg", differs(script)
+    for path in sorted((ROOT / "examples").glob("*.svg")):
+        if not path.with_suffix(".txt").is_file():
+            yield f"examples/{path.name}", "there is no such script"
 
 
 def scripts_of(page):
@@ -178,7 +169,7 @@ def crossed(drawing):
 
 def legible():
     """In each picture every column has a mark, and no dotted line goes through a label. One that can't be drawn `standing` has told."""
-    drawings = {script.stem: drawn_again("svg", script) for script in examples() if not differs(script.with_suffix(".svg"), "svg", script)}
+    drawings = {script.stem: drawn_again(script) for script in examples() if not differs(script)}
     drawings["commands that no bar shows"] = drawn("svg", "planted", *UNBARRED)
     drawings["one of each"] = drawn("svg", "planted", SCRIPT, REPORT)
     for name, drawing in drawings.items():
@@ -219,6 +210,6 @@ def check():
 
 def make():
     """Writes each picture of examples/ anew."""
-    for path, form, script in pictures():
-        path.write_text(drawn_again(form, script))
+    for script in examples():
+        script.with_suffix(".svg").write_text(drawn_again(script))
     return 0

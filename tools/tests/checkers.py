@@ -1,11 +1,11 @@
-"""Faults that the checkers beside the layer and the bench are to find, and tools/before-gate.py: lines.py and names.py of clients/netbsd/tests, points.py
-and table.py of clients/bench/tests."""
+"""Faults that the checkers beside the layer and the bench are to find, and tools/before-gate.py: lines.py and names.py of netbsd/tests, points.py
+and table.py of explorer/tests."""
 from .trees import Case, Fault, real
 
-LINES = "clients/netbsd/tests/lines.py"
-ASKED = [f"clients/netbsd/tests/{name}.c" for name in ("misuse", "misuse_kernel", "sleepers", "unmade", "lacks", "tells")]
-TESTS = "clients/netbsd/tests/**/*.c"
-PSREF = "clients/netbsd/src/psref.c"
+LINES = "netbsd/tests/lines.py"
+ASKED = [f"netbsd/tests/{name}.c" for name in ("misuse", "misuse_kernel", "sleepers", "unmade", "lacks", "tells")]
+TESTS = "netbsd/tests/**/*.c"
+PSREF = "netbsd/src/psref.c"
 
 
 def lines():
@@ -18,12 +18,12 @@ def lines():
               ((ASKED[1], "rw_enter: the thread has the lock already", "rw_enter: it is taken"),)),
         Fault("a file of tests that is gone", "unmade isn't there", ((ASKED[3], "#include", None),)),
     )
-    return Case("lines", [], real(LINES, "clients/netbsd/src/*.c", TESTS), [LINES], faults)
+    return Case("lines", [], real(LINES, "netbsd/src/*.c", TESTS), [LINES], faults)
 
 
-NAMES = "clients/netbsd/tests/names.py"
-LISTED = "clients/netbsd/tests/names.txt"
-SYSTM = "clients/netbsd/sys/systm.h"
+NAMES = "netbsd/tests/names.py"
+LISTED = "netbsd/tests/names.txt"
+SYSTM = "netbsd/include/sys/systm.h"
 
 
 def names():
@@ -38,17 +38,17 @@ def names():
               ((LISTED, "sys/types.h macro ", "sys/types.h macro KUPALDIZ_NETBSD_SYS_TYPES_WRAPPED "),)),
         Fault("no compiler", "gone", command=[NAMES, "./gone"]),
     )
-    headers = [f"clients/netbsd/{folder}/*.h" for folder in ("kupaldiz", "sys", "net")]
-    tests = TESTS, "clients/netbsd/examples/*.c", "clients/bench/tests/*.c", "clients/bench/tests/*.inc"
+    headers = [f"netbsd/include/{folder}/*.h" for folder in ("kupaldiz", "sys", "net")]
+    tests = TESTS, "netbsd/examples/*.c", "explorer/tests/*.c", "explorer/tests/*.inc"
     tree = real(NAMES, LISTED, *headers, *tests)
     # Those of three headers, which are soon compiled.
     tree[LISTED] = "".join(f"{line}\n" for line in tree[LISTED].splitlines() if line.startswith(("sys/cdefs.h", "sys/types.h", "sys/systm.h")))
     return Case("names", [], tree, [NAMES, "gcc"], faults)
 
 
-POINTS = "clients/bench/tests/points.py"
-SHOWN = "clients/netbsd/netbsd.map"
-CALLS = "clients/bench/src/calls.c"
+POINTS = "explorer/tests/points.py"
+SHOWN = "netbsd/netbsd.map"
+CALLS = "explorer/src/calls.c"
 
 
 def points():
@@ -59,11 +59,11 @@ def points():
         Fault("a reason for what has a point", "cv_wait has a point, or is no call", ((POINTS, without, f"{without} cv_wait"),)),
         Fault("a reason for what is no call", "gone has a point, or is no call", ((POINTS, without, f"{without} gone"),)),
     )
-    return Case("points", [], real(POINTS, SHOWN, "clients/bench/src/*.c"), [POINTS], faults)
+    return Case("points", [], real(POINTS, SHOWN, "explorer/src/*.c"), [POINTS], faults)
 
 
-TABLE = "clients/bench/tests/table.py"
-TABLES = "clients/bench/README.md"
+TABLE = "explorer/tests/table.py"
+TABLES = "explorer/README.md"
 TOLD = """# The bench
 
 | Case | Threads | Schedules | Cut short | Points |
@@ -104,7 +104,7 @@ def tables():
 
 
 SOURCE = "crates/one/src/lib.rt"
-EDIT, TESTED = "crates/one/must-fail-gate/more.edit", "crates/one/must-fail-tests/less.edit"
+EDITS, TESTED = "crates/one/edits/gate.edits", "crates/one/edits/tests.edits"
 # It lays out no file of a crate, except one that has a blank at the end of a line; and it refuses to compile what says y.
 RT = """#!/bin/sh
 case $1 in
@@ -116,14 +116,16 @@ esac
 
 def before_gate():
     look = "#!/bin/sh\nPATH=$PWD/bin:$PATH exec tools/before-gate.py \"$@\"\n"
-    tree = {"crates.txt": "one: std\n", SOURCE: "x + 1\n", EDIT: "file: src/lib.rt\nold: x + 1\nnew: x\n",
-            TESTED: f"file: {SOURCE}\nold: x + 1\nnew: x - 1\n", "bin/rt": RT, "look": look}
+    tree = {"crates.txt": "one: std\n", SOURCE: "x + 1\n", EDITS: "edit: more\n# It adds nothing.\nfile: src/lib.rt\nold: x + 1\nnew: x\n",
+            TESTED: f"edit: less\n# It takes one.\nfile: {SOURCE}\nold: x + 1\nnew: x - 1\n", "bin/rt": RT, "look": look}
     faults = (
         Fault("a file that isn't laid out", "one: formatted src/lib.rt", ((SOURCE, "x + 1", "x + 1 "),)),
-        Fault("an edit that doesn't fit", "one/must-fail-gate/more: stands 0 times in crates/one/src/lib.rt", ((EDIT, "old: x + 1", "old: x + 2"),)),
-        Fault("an edit for the tests that doesn't fit", "one/must-fail-tests/less: stands 2 times in crates/one/src/lib.rt", ((SOURCE, "x + 1", "x + 1, x + 1"), (EDIT, "x + 1", "x + 1, x + 1"))),
-        Fault("an edit of a file that is gone", "one/must-fail-tests/less: there is no crates/one/src/gone.rt", ((TESTED, "lib.rt", "gone.rt"),)),
-        Fault("an edit that doesn't compile", "one/must-fail-gate/more: src/lib.rt:1:1: error: there is no y", ((EDIT, "new: x", "new: y"),), ["./look", "compile", "one"]),
+        Fault("an edit that doesn't fit", "one/more: stands 0 times in crates/one/src/lib.rt", ((EDITS, "old: x + 1", "old: x + 2"),)),
+        Fault("an edit for the tests that doesn't fit", "one/less: stands 2 times in crates/one/src/lib.rt", ((SOURCE, "x + 1", "x + 1, x + 1"), (EDITS, "x + 1", "x + 1, x + 1"))),
+        Fault("an edit of a file that is gone", "one/less: there is no crates/one/src/gone.rt", ((TESTED, "lib.rt", "gone.rt"),)),
+        Fault("an edit that doesn't compile", "one/more: src/lib.rt:1:1: error: there is no y", ((EDITS, "new: x", "new: y"),), ["./look", "compile", "one"]),
+        Fault("an edit without a reason", "one/more: it has no reason", ((EDITS, "# It adds nothing.\n", ""),)),
+        Fault("two edits of one name", "one: two edits are called more", ((TESTED, "edit: less", "edit: more"),)),
         Fault("a crate that isn't there", "before-gate.py compile [CRATE]", command=["./look", "compile", "none"]),
     )
     return Case("before-gate", ["before-gate.py", "counts.py", "edits.py"], tree, ["./look"], faults)

@@ -78,37 +78,37 @@ def shell():
 BESIDE = {
     "crates.txt": "low: std\nregistry_c staticlib: low std\n",
     "crates/low/src/lib.rt": "low\n",
-    "crates/low/must-fail-gate/one.edit": "file: src/lib.rt\n",
+    "crates/low/edits/gate.edits": "edit: one\n",
     "crates/low/out/rlib/low.rlib/format": "low\n",
     "crates/registry_c/src/lib.rt": "face\n",
     "crates/registry_c/specs/Lib.antt": "\n",
     "crates/registry_c/proofs/Lib.antt": "\n",
-    "clients/out/libregistry.a": "older\n",
-    "clients/out/aarch64/libregistry_c.a": "older\n",
+    "out/libregistry.a": "older\n",
+    "out/aarch64/libregistry_c.a": "older\n",
     # It fails if it may run on all processors and these are four or more.
     "ci": '#!/bin/sh\necho "rt: low proved"\nsleep 1\necho "rt: registry_c proved"\necho 5 passed, 0 failed\n[ "$(nproc)" -lt 4 ] || [ "$(nproc)" -lt "$(nproc --all)" ]\n',
     "bin/rt": '#!/bin/sh\necho "$PWD/kit/START-HERE.md"\n',
     # It proves over the library beside it, and writes what -o names.
     "kit/bin/rattle": '#!/bin/sh\n[ "$(cat src/lib.rt ../low.rlib/format)" = "face\nlow" ] || exit 7\nfor made; do :; done\necho proved >"$made"\n',
-    "tools/gate-edits.py": '#!/bin/sh\necho "$*, on $(nproc)" >clients/out/tried\n',
-    "tools/build-archive.sh": '#!/bin/sh\n[ $# = 2 ] && [ -f "$2" ] && cp "$1" clients/out/libregistry.a\n',
+    "tools/gate-edits.py": '#!/bin/sh\necho "$*, on $(nproc)" >out/tried\n',
+    "tools/build-archive.sh": '#!/bin/sh\n[ $# = 2 ] && [ -f "$2" ] && cp "$1" out/libregistry.a\n',
     # The archive is what was proved, or there is none: else nothing else is said, and the fault goes untold.
     "beside": """#!/bin/sh
 PATH=$PWD/bin:$PATH tools/archive-beside.py ./ci
 status=$?
-if [ -e clients/out/libregistry.a ] && [ "$(cat clients/out/libregistry.a)" != proved ]; then
+if [ -e out/libregistry.a ] && [ "$(cat out/libregistry.a)" != proved ]; then
     echo "an archive that isn't proved"
     exit 0
 fi
-if [ $status = 0 ] && [ "$(nproc)" -ge 4 ] && [ "$(cat clients/out/tried)" != "low, on 1" ]; then
+if [ $status = 0 ] && [ "$(nproc)" -ge 4 ] && [ "$(cat out/tried)" != "low, on 1" ]; then
     echo "edits that weren't tried"
     exit 9
 fi
-if [ "$(grep -c 'low proved' ci)" = 0 ] && [ -e clients/out/tried ]; then
+if [ "$(grep -c 'low proved' ci)" = 0 ] && [ -e out/tried ]; then
     echo "edits of a crate that isn't proved"
     exit 0
 fi
-if [ $status = 0 ] && [ "$(cat clients/out/aarch64/libregistry_c.a)" != proved ]; then
+if [ $status = 0 ] && [ "$(cat out/aarch64/libregistry_c.a)" != proved ]; then
     echo "a library for aarch64 that isn't proved"
     exit 0
 fi

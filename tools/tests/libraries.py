@@ -1,21 +1,21 @@
-"""Faults of libraries and of the layer's pages: clients/symbols.sh, clients/netbsd/pages.py and tools/unwind-tables.py."""
+"""Faults of libraries and of the layer's pages: packaging/symbols.sh, netbsd/pages.py and tools/unwind-tables.py."""
 from .trees import Case, Fault, real
 
 # A library is a text here: what nm says of it.
 NM = '#!/bin/sh\nfor library; do :; done\ncat "$library"\n'
-HEADERS = "clients/include/registry.h", "clients/c/waiting.h"
+HEADERS = "include/registry.h", "c/include/waiting.h"
 BUILT_FOR = "registry_for_8_cpus_32_slots"
 SYMBOLS = {
-    **real("clients/symbols.sh", "clients/calls-of.sh"),
-    "clients/include/registry.h": "uint32_t registry_enter(struct registry_cpu *cpu);\nregistry_answer REGISTRY_BUILT_FOR(const struct registry_limits *limits);\n",
-    "clients/include/registry_limits.h": f"#define REGISTRY_BUILT_FOR\t{BUILT_FOR}\n",
-    "clients/c/waiting.h": "size_t registry_waits(void);\n",
-    "clients/kupaldiz.map": "KUPALDIZ_0 {\n\tglobal:\n\t\tregistry_enter;\n\t\tregistry_for_*;\n\t\tregistry_waits;\n\tlocal:\n\t\t*;\n};\n",
-    "clients/netbsd/kupaldiz/cpu.h": "int cpu_number(void);\nvoid kupaldiz_point(void);\nint kupaldiz_from(void);\n",
-    "clients/netbsd/netbsd.map": "NETBSD_0 {\n\tglobal:\n\t\tkupaldiz_cpu_number;\n\t\tkupaldiz_registry_for_*;\n};\n",
-    "clients/bench/bench.h": "void bench_thread(const char *name);\n",
-    "clients/bench/bench.map": "BENCH_0 {\n\tglobal:\n\t\tbench_thread;\n\t\tkupaldiz_cpu_number;\n\t\tkupaldiz_from;\n\t\tkupaldiz_point;\n\t\tkupaldiz_registry_for_*;\n};\n",
-    "look": "#!/bin/sh\nNM=$PWD/nm exec clients/symbols.sh include out -8 1\n",
+    **real("packaging/symbols.sh", "packaging/calls-of.sh"),
+    "include/registry.h": "uint32_t registry_enter(struct registry_cpu *cpu);\nregistry_answer REGISTRY_BUILT_FOR(const struct registry_limits *limits);\n",
+    "include/registry_limits.h": f"#define REGISTRY_BUILT_FOR\t{BUILT_FOR}\n",
+    "c/include/waiting.h": "size_t registry_waits(void);\n",
+    "packaging/kupaldiz.map": "KUPALDIZ_0 {\n\tglobal:\n\t\tregistry_enter;\n\t\tregistry_for_*;\n\t\tregistry_waits;\n\tlocal:\n\t\t*;\n};\n",
+    "netbsd/include/kupaldiz/cpu.h": "int cpu_number(void);\nvoid kupaldiz_point(void);\nint kupaldiz_from(void);\n",
+    "netbsd/netbsd.map": "NETBSD_0 {\n\tglobal:\n\t\tkupaldiz_cpu_number;\n\t\tkupaldiz_registry_for_*;\n};\n",
+    "explorer/bench.h": "void bench_thread(const char *name);\n",
+    "explorer/bench.map": "BENCH_0 {\n\tglobal:\n\t\tbench_thread;\n\t\tkupaldiz_cpu_number;\n\t\tkupaldiz_from;\n\t\tkupaldiz_point;\n\t\tkupaldiz_registry_for_*;\n};\n",
+    "look": "#!/bin/sh\nNM=$PWD/nm exec packaging/symbols.sh include out -8 1\n",
     "nm": NM,
 }
 LIBRARIES = {
@@ -37,7 +37,7 @@ def listing(names, version=""):
 def symbols():
     tree, faults = dict(SYMBOLS), []
     for library, names in LIBRARIES.items():
-        shared, static = f"clients/out/lib{library}-8.so.1", f"clients/out/lib{library}.a"
+        shared, static = f"out/lib{library}-8.so.1", f"out/lib{library}.a"
         tree |= {shared: f"0000 A {NODES[library]}\n{listing(names, '@@' + NODES[library])}", static: f"\npart.o:\n{listing((*names, *HIDDEN.get(library, ())))}"}
         for path in (shared, static):
             text = tree[path]
@@ -45,33 +45,33 @@ def symbols():
             faults += [
                 Fault(f"a name more: {path}", f"{told}> another", ((path, None, f"{text}0000 T another\n"),)),
                 Fault(f"a name less: {path}", f"{told}< {names[0]}", ((path, names[0], "less"),)),
-                Fault(f"no library: {path}", told if library == "kupaldiz_bench" else f"there is no {path.removeprefix('clients/')}", ((path, text, None),)),
+                Fault(f"no library: {path}", told if library == "kupaldiz_bench" else f"there is no {path}", ((path, text, None),)),
             ]
-    faults.append(Fault("another node", "the nodes of libkupaldiz.so: other names", (("clients/out/libkupaldiz-8.so.1", "registry_waits@@KUPALDIZ_0", "registry_waits@@KUPALDIZ_1"),)))
+    faults.append(Fault("another node", "the nodes of libkupaldiz.so: other names", (("out/libkupaldiz-8.so.1", "registry_waits@@KUPALDIZ_0", "registry_waits@@KUPALDIZ_1"),)))
     # Where there is no library of the bench nothing of it is looked at.
-    faults = [it for it in faults if it.name != "no library: clients/out/libkupaldiz_bench.a"]
-    for path in ("clients/kupaldiz.map", "clients/netbsd/netbsd.map", "clients/bench/bench.map"):
+    faults = [it for it in faults if it.name != "no library: out/libkupaldiz_bench.a"]
+    for path in ("packaging/kupaldiz.map", "netbsd/netbsd.map", "explorer/bench.map"):
         told = f"{path.rpartition('/')[2]}: other names than those of the headers\n"
         faults += [Fault(f"another name in {path}", f"{told}> another", ((path, "global:\n", "global:\n\t\tanother;\n"),)),
                    Fault(f"no {path}", told, ((path, tree[path], None),))]
     faults += [Fault(f"a call more in {path}", "< another", ((path, None, f"{tree[path]}int another(void);\n"),))
-               for path in (*HEADERS, "clients/bench/bench.h")]
-    faults += [Fault("a call more of the pages", "< kupaldiz_another", (("clients/netbsd/kupaldiz/lwp.h", None, "int another(void);\n"),)),
-               Fault("no words", "usage: symbols.sh", command=["clients/symbols.sh"])]
+               for path in (*HEADERS, "explorer/bench.h")]
+    faults += [Fault("a call more of the pages", "< kupaldiz_another", (("netbsd/include/kupaldiz/lwp.h", None, "int another(void);\n"),)),
+               Fault("no words", "usage: symbols.sh", command=["packaging/symbols.sh"])]
     return Case("symbols", [], tree, ["./look"], faults, counts=False)
 
 
-PAGED = "clients/netbsd/kupaldiz/psref.h"
-PAGE = "clients/man/kupaldiz_psref.3"
-PAGER = "clients/netbsd/pages.py"
-OVERVIEW = "clients/man/kupaldiz_netbsd.7"
-SMALLEST = "clients/netbsd/tests/smallest.c"
+PAGED = "netbsd/include/kupaldiz/psref.h"
+PAGE = "man/kupaldiz_psref.3"
+PAGER = "netbsd/pages.py"
+OVERVIEW = "man/kupaldiz_netbsd.7"
+SMALLEST = "netbsd/tests/smallest.c"
 
 
 def pages():
     told = "kupaldiz_psref.3: not what psref.h says"
     shows = "kupaldiz_netbsd.7: doesn't show one program as it is"
-    tree = real(PAGER, "clients/netbsd/kupaldiz/*.h", "clients/man/kupaldiz_*.3", OVERVIEW, SMALLEST)
+    tree = real(PAGER, "netbsd/include/kupaldiz/*.h", "man/kupaldiz_*.3", OVERVIEW, SMALLEST)
     faults = (
         Fault("another word in a page", told, ((PAGE, ".Nd psref(9)", ".Nd psref(8)"),)),
         Fault("a line less in a page", told, ((PAGE, ".Sh LIBRARY\n", ""),)),
@@ -86,7 +86,7 @@ def pages():
               ((PAGER, "(?:static inline )?((?:[a-z_0-9]+ )+", "(?:static inline )?((?:[a-z_]+ )+"),)),
         Fault("a pattern without digits in a call's name", "psref.h: psref_acquire2 has no entry",
               ((PAGER, "\\**)([a-z_0-9]+)", "\\**)([a-z_]+)"), (PAGED, "void psref_acquire(", "void psref_acquire2("))),
-        Fault("a header without a page", "lists.h: no page is made of it", (("clients/netbsd/kupaldiz/lists.h", None, "void lists_more(void);\n"),)),
+        Fault("a header without a page", "lists.h: no page is made of it", (("netbsd/include/kupaldiz/lists.h", None, "void lists_more(void);\n"),)),
         Fault("a call more in a header", told, ((PAGED, "void psref_release(", "void psref_more(void);\nvoid psref_release("),)),
         Fault("a header that is gone", "No such file", ((PAGED, "psref", None),)),
         Fault("another call in the program that is shown", shows, ((OVERVIEW, "\tpserialize_perform(psz);\n", ""),)),
@@ -160,9 +160,9 @@ def unwind_tables():
 # An archive of one object, in which one function is seen from outside and calls another one.
 JOINED = """#!/bin/sh
 mkdir -p crates/registry_c/include
-for part in part rest; do gcc -O1 -fPIC -c clients/c/$part.c -o $part.o || exit 9; done
+for part in part rest; do gcc -O1 -fPIC -c c/src/$part.c -o $part.o || exit 9; done
 ld -r -o whole.o part.o rest.o && objcopy --keep-global-symbol=registry_rest whole.o registry.o && ar rcsD old.a registry.o || exit 9
-sed -i 's/return 1;/return 2;/' clients/c/part.c
+sed -i 's/return 1;/return 2;/' c/src/part.c
 tools/replace-part.sh "${1-part}" old.a new/new.a || exit
 for archive in old new/new; do gcc use.c $archive.a -o used && ./used; done >said
 diff said wanted
@@ -171,15 +171,15 @@ diff said wanted
 
 def replace_part():
     tool = "tools/replace-part.sh"
-    tree = {"clients/c/part.c": "int part(void) { return 1; }\n", "clients/c/rest.c": "int part(void);\nint registry_rest(void) { return part() + 10; }\n",
+    tree = {"c/src/part.c": "int part(void) { return 1; }\n", "c/src/rest.c": "int part(void);\nint registry_rest(void) { return part() + 10; }\n",
             "use.c": '#include <stdio.h>\nint registry_rest(void);\nint main(void) { printf("%d\\n", registry_rest()); }\n', "wanted": "11\n12\n", "join": JOINED}
     faults = (
         Fault("an archive as it was", "< 11\n", ((tool, "$room/part.o\" \"$room/rest.o", "$room/rest.o"),)),
         Fault("two functions of a name", "multiple definition", ((tool, '--weaken-symbols="$room/names"', ""),)),
         Fault("functions that aren't seen", "< 11\n", ((tool, '--globalize-symbols="$room/names"', ""),)),
         Fault("a part that isn't there", "gone.c", command=["./join", "gone"]),
-        Fault("a part that isn't compiled", "error", (("clients/c/rest.c", "int registry_rest", "int part(void) { return 1; }\nint registry_rest"), ("clients/c/part.c", "int part(void) { return 1; }", "int more"))),
-        Fault("a part without functions", "part.c defines nothing", (("clients/c/rest.c", "int part(void);", "int part(void) { return 1; }"), ("clients/c/part.c", "int part", "static inline int part"))),
+        Fault("a part that isn't compiled", "error", (("c/src/rest.c", "int registry_rest", "int part(void) { return 1; }\nint registry_rest"), ("c/src/part.c", "int part(void) { return 1; }", "int more"))),
+        Fault("a part without functions", "part.c defines nothing", (("c/src/rest.c", "int part(void);", "int part(void) { return 1; }"), ("c/src/part.c", "int part", "static inline int part"))),
         Fault("no words", "it takes PART ARCHIVE TO", command=[tool]),
     )
     return Case("replace-part", ["replace-part.sh"], tree, ["./join"], faults, counts=False)

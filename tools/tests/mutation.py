@@ -14,7 +14,7 @@ int rest(int a)
 	return a;
 }
 """
-MAKEFILE = """out/%: c/%.c c/waiting.c
+MAKEFILE = """out/%: c/tests/%.c c/src/waiting.c
 	@mkdir -p out
 	gcc $(STRICT) -O1 -o $@ $^
 turns = out/turns
@@ -23,12 +23,6 @@ QUIET = "int main(void) { return 0; }\n"
 SEES = """int most(int a, int b);
 int rest(int a);
 int main(void) { return most(1, 2) != 2 || most(4, 3) != 4 || rest(3) != 0; }
-"""
-KNOWN = """What harms nobody.
-
-    clients/c/waiting.c: return a < b ? b : a; -> return a <= b ? b : a;
-
-Equal numbers are one number.
 """
 # The run, and that its report has what it came to.
 TRIES = """#!/bin/sh
@@ -40,28 +34,17 @@ exit $status
 
 
 def tree():
-    programs = {f"clients/c/{it}.c": QUIET for it in ("deferred", "waits", "forwarder", "device_switch")}
-    return {"clients/c/waiting.c": WAITING, "clients/c/turns.c": SEES, "clients/Makefile": MAKEFILE, "clients/MUTANTS.md": KNOWN, "tries": TRIES, **programs}
+    programs = {f"c/tests/{it}.c": QUIET for it in ("deferred", "waits", "forwarder", "device_switch")}
+    return {"c/src/waiting.c": WAITING, "c/tests/turns.c": SEES, "Makefile": MAKEFILE, "tries": TRIES, **programs}
 
 
-ONLY = "clients/c/waiting.c"
-
-
-# What the record has isn't tried again; what it has of another text of the file is.
-AGAIN = f"""tools/mutants.py --only {ONLY} --to again >said 2>&1 || exit 4
-grep -q '^0 tried, [1-9][0-9]* before; 0 survived' said || {{ cat said; exit 5; }}
-grep -qE '^    [khcbs]*h[khcbs]*$' clients/MUTANTS.txt || {{ cat clients/MUTANTS.txt; exit 6; }}
-sed -i 's/-= 1/-= 2/' {ONLY}
-tools/mutants.py --list --only {ONLY} | grep -vq ': not tried$' && exit 7
-tools/mutants.py --least 1 --only {ONLY} --sample 2 --to again >said 2>&1 && exit 8
-grep -q 'turns fails on the tree as it stands' said || {{ cat said; exit 9; }}
-"""
+ONLY = "c/src/waiting.c"
 
 
 def told(*said):
-    """A command that runs the tool, and fails where the report doesn't say each of these."""
+    """A command that runs the tool on code with a survivor, and fails where the report doesn't say each of these."""
     tests = "".join(f'grep -qF -e "{it}" said report || {{ echo "it does not say: {it}"; exit 1; }}\n' for it in said)
-    return f"#!/bin/sh\ntools/mutants.py --least 1 --only {ONLY} --to report >said 2>&1 || exit 3\ncat report\n{tests}{AGAIN}"
+    return f"#!/bin/sh\ntools/mutants.py --least 1 --only {ONLY} --to report >said 2>&1\n[ $? = 1 ] || exit 3\ncat report\n{tests}"
 
 
 # A layer of one file. A test that stops by abort, in a child, runs `seldom`; all run `often`, and none `never`. What belongs to no function any may see.
@@ -117,46 +100,35 @@ int main(void)
 	return wait(&status) < 0 || !WIFSIGNALED(status) || often(4) != 7;
 }
 """
-LAYER = "clients/netbsd/src/pause.c"
-KNOWN_OF_LAYER = """Nobody calls it.
-
-    clients/netbsd/src/pause.c: if (a == 4) -> if (a != 4)
-    clients/netbsd/src/pause.c: if (a == 4) -> if (a == 5)
-    clients/netbsd/src/pause.c: return a + 2; -> return a - 2;
-    clients/netbsd/src/pause.c: return a + 2; -> return a + 3;
-"""
-
+LAYER = "netbsd/src/pause.c"
 
 def layer():
     tests = {"destroyed": SEES_OFTEN, "drained": SEES_OFTEN, "model": SEES_SELDOM}
-    programs = {f"clients/netbsd/tests/{it}.c": text for it, text in tests.items()}
-    return {LAYER: PAUSE, "clients/netbsd/Makefile": LAYER_MAKEFILE, "clients/MUTANTS.md": KNOWN_OF_LAYER, "tries": TRIES, **programs}
+    programs = {f"netbsd/tests/{it}.c": text for it, text in tests.items()}
+    return {LAYER: PAUSE, "netbsd/Makefile": LAYER_MAKEFILE, "tries": TRIES, **programs}
 
 
 def coverage_case(taken):
     """A wrong body is tried with the tests that run its line: with all where the line is in no function, with none where none runs it."""
-    said = "return a - 1;: killed by plain/model", "{4};: killed by plain/", "return a + 3;: not run (known)", "    4 not run", "    7 killed"
-    good = told(*said).partition(AGAIN)[0].replace(ONLY, LAYER)
+    said = "return a - 1;: killed by plain/model", "{4};: killed by plain/", "return a + 3;: not run", "    4 not run", "    7 killed"
+    good = told(*said).replace(ONLY, LAYER)
     run = ["./tries", "--least", "1", "--only", f"{LAYER}:5"]
     selected = "tools/coverage.py", "block.lines if marks[base + block.mark] else ()"
     faults = (
         Fault("a selection that leaves out the test that kills", "return a - 1;: not run", ((*selected, "block.lines if marks[base] else ()"),), run),
         Fault("marks that are lost by an abort", "return a - 1;: not run", (("tools/reached.c", "MAP_SHARED", "MAP_PRIVATE"),), run),
-        Fault("a line that no test runs", "return a - 1;: not run", (("clients/netbsd/tests/model.c", "seldom(4) == 5", "often(4) == 7"),), run),
-        Fault("no object", f"no test has marks of {LAYER}", (("clients/netbsd/Makefile", "tests/%.c $(OUT)/plain/pause.o", "tests/%.c src/pause.c"),), run),
+        Fault("a line that no test runs", "return a - 1;: not run", (("netbsd/tests/model.c", "seldom(4) == 5", "often(4) == 7"),), run),
+        Fault("no object", f"no test has marks of {LAYER}", (("netbsd/Makefile", "tests/%.c $(OUT)/plain/pause.o", "tests/%.c src/pause.c"),), run),
         Fault("marks of a program that fails", "fails on the tree as it stands", (("tools/reached.c", "marks = (unsigned char *)shared;", "_exit(3);"),), run),
     )
     return Case("mutants and lines that run", taken, {**layer(), "good": good}, ["./good"], faults, counts=False)
 
 
-# A crate of a file, which its files of tests see as one program, its own test, and one without the standard library.
-CRATE = """#![cfg_attr(not(any(feature = "std", test)), no_std)]
-
-pub fn most(a: u32, b: u32) -> u32 {
+# A crate of a file, which its files of tests see as one program, and its own test.
+CRATE = """pub fn most(a: u32, b: u32) -> u32 {
     return if a < b { b } else { a };
 }
 
-#[cfg(not(feature = "std"))]
 pub fn alone(a: u32) -> u32 {
     return a + 1;
 }
@@ -177,10 +149,6 @@ MANIFEST = """[package]
 name = "small"
 version = "0.1.0"
 edition = "2021"
-
-[features]
-default = ["std"]
-std = []
 """
 # What the linker takes once.
 COMMON = """#![allow(dead_code)]
@@ -190,7 +158,6 @@ pub extern "C" fn two_of_the_tests() -> u32 {
 }
 """
 SEES_MOST = """//! The greater one.
-#![cfg(feature = "std")]
 mod common;
 use common::two_of_the_tests;
 #[test]
@@ -202,51 +169,41 @@ SEES_ALONE = """mod common;
 #[test]
 fn one_more() {
     assert_eq!(common::two_of_the_tests(), 2);
-    #[cfg(not(feature = "std"))]
     assert_eq!(small::alone(2), 3);
 }
 """
-LIB = "clients/rust/src/lib.rs"
-KNOWN_OF_CRATE = """Equal numbers are one number.
-
-    clients/rust/src/lib.rs: return if a < b { b } else { a }; -> return if a <= b { b } else { a };
-"""
-
+LIB = "rust/src/lib.rs"
 
 def crate_case(taken):
     """The crate's files of tests are one program, of which each is run apart."""
     tests = {"common/mod": COMMON, "greater": SEES_MOST, "edges": SEES_ALONE, "compile_fail": "#[test]\nfn cargo_runs_it() {}\n"}
-    tree = {LIB: CRATE, "clients/rust/Cargo.toml": MANIFEST, "clients/MUTANTS.md": KNOWN_OF_CRATE, "tries": TRIES,
-            **{f"clients/rust/tests/{name}.rs": text for name, text in tests.items()}}
-    said = "a >= b { b } else { a };: killed by greater", "return a - 1;: killed by bare/edges", "return a % 9;: killed by ", "{ 0 }: killed by ", "<= b"
-    good = told(*said).partition(AGAIN)[0].replace(ONLY, LIB)
-    run = ["./tries", "--least", "1", "--only", f"{LIB}:4"]
+    tree = {LIB: CRATE, "rust/Cargo.toml": MANIFEST, "tries": TRIES,
+            **{f"rust/tests/{name}.rs": text for name, text in tests.items()}}
+    said = "a >= b { b } else { a };: killed by greater", "return a - 1;: killed by edges", "return a % 9;: killed by ", "{ 0 }: killed by ", "<= b"
+    good = told(*said).replace(ONLY, LIB)
+    run = ["./tries", "--least", "1", "--only", f"{LIB}:2"]
     shared = "tools/crate-tests.py", "'use crate::common;'", "'mod common;'"
     faults = (
-        Fault("a file of tests that sees nothing", "return if a >= b", (("clients/rust/tests/greater.rs", "(2, 4)", "(small::most(1, 2), small::most(4, 3))"),), run),
+        Fault("a file of tests that sees nothing", "b } else { a };: survived", (("rust/tests/greater.rs", "(2, 4)", "(small::most(1, 2), small::most(4, 3))"),), run),
         Fault("what the files share is taken by each", "mod common", (shared,), run),
-        Fault("nothing that needs no standard library is tested", "return a - 1;", (("clients/rust/tests/edges.rs", "small::alone(2), 3", "2, 2"),),
-              ["./tries", "--least", "1", "--only", f"{LIB}:9"]),
     )
     return Case("mutants of a crate", [*taken, "crate-tests.py"], {**tree, "good": good}, ["./good"], faults, counts=False)
 
 
 def cases():
-    survivor = "clients/c/waiting.c: return a < b ? b : a; -> return a <= b ? b : a;"
+    survivor = "c/src/waiting.c: return a < b ? b : a; -> return a <= b ? b : a;"
     good = told("return a >= b ? b : a;: killed by turns", f"{survivor}", ": hung by turns", "    0 not tried", "sum of what was tried: ")
     run = ["./tries", "--least", "1", "--only", f"{ONLY}:3"]
     faults = (
-        Fault("a survivor that the text doesn't have", survivor, (("clients/MUTANTS.md", "a <= b", "b <= a"),), run),
-        Fault("no text", survivor, (("clients/MUTANTS.md", KNOWN, None),), run),
-        Fault("a test that sees nothing", "return a >= b ? b : a;", (("clients/c/turns.c", "most(1, 2) != 2 || most(4, 3) != 4 || ", ""),), run),
-        Fault("a test that fails at first", "turns fails on the tree as it stands", (("clients/c/turns.c", "most(4, 3) != 4", "most(4, 3) == 4"),), run),
-        Fault("a test that isn't built", "deferred fails on the tree as it stands", (("clients/c/deferred.c", "return 0;", "return gone();"),), run),
-        Fault("a file that isn't changed", "mutants: no code that is changed: clients/c/turns.c", command=["tools/mutants.py", "--only", "clients/c/turns.c"]),
+        Fault("a test that sees nothing", "return a >= b ? b : a;: survived", (("c/tests/turns.c", "most(1, 2) != 2 || most(4, 3) != 4 || ", ""),), run),
+        Fault("a test that fails at first", "turns fails on the tree as it stands", (("c/tests/turns.c", "most(4, 3) != 4", "most(4, 3) == 4"),), run),
+        Fault("a test that isn't built", "deferred fails on the tree as it stands", (("c/tests/deferred.c", "return 0;", "return gone();"),), run),
+        Fault("a file that isn't changed", "mutants: no code that is changed: c/tests/turns.c", command=["tools/mutants.py", "--only", "c/tests/turns.c"]),
         Fault("a line without a wrong body", "mutants: no wrong body there", command=["tools/mutants.py", "--only", f"{ONLY}:2"]),
         Fault("a number that is none", "mutants: argument --sample: not a number from 1: 0", command=["tools/mutants.py", "--sample", "0"]),
         Fault("a word that it doesn't know", "mutants: unrecognized arguments: more", command=["tools/mutants.py", "more"]),
     )
-    taken = ["mutants.py", "lanes.py", "coverage.py", "reached.c", "mutations.py", "tried.py", "parts.py", "counts.py"]
+    taken = ["mutants.py", "lanes.py", "coverage.py", "reached.c", "mutations.py", "parts.py", "counts.py"]
     yield Case("mutants", taken, {**tree(), "good": good}, ["./good"], faults, counts=False)
     yield coverage_case(taken)
     yield crate_case(taken)

@@ -41,7 +41,7 @@ FRAME = """.Sh NAME
 @constants REGISTRY_DONE
 @calls
 .Sh EXAMPLES
-@example clients/c/packet.c opened
+@example c/examples/packet.c opened
 """
 PACKET = "static int opened(void)\n{\n\treturn 1;\n}\n"
 WAITS = """/*
@@ -49,7 +49,7 @@ WAITS = """/*
  */
 bool registry_waits(void);
 """
-MADE = """.\\" Made by tools/header-pages.py from crates/registry_c/include/registry.h and clients/man/registry.3.in.
+MADE = """.\\" Made by tools/header-pages.py from crates/registry_c/include/registry.h and man/registry.3.in.
 .Sh NAME
 .Nm registry_open
 .Sh SYNOPSIS
@@ -97,7 +97,7 @@ static int opened(void)
 }
 .Ed
 """
-MADE_OF_WAITS = """.\\" Made by tools/header-pages.py from clients/c/waiting.h and clients/man/registry_waiting.3.in.
+MADE_OF_WAITS = """.\\" Made by tools/header-pages.py from c/include/waiting.h and man/registry_waiting.3.in.
 .Ft bool
 .Fn registry_waits void
 .Bl -tag -width Ds
@@ -107,12 +107,12 @@ Whether the registry waits:
 doesn't.
 .El
 """
-PAGE, FACE, CLIENT = "clients/man/registry.3", "crates/registry_c/include/registry.h", "clients/c/packet.c"
+PAGE, FACE, CLIENT = "man/registry.3", "crates/registry_c/include/registry.h", "c/examples/packet.c"
 
 
 def cases():
     tree = {FACE: HEADER, f"{PAGE}.in": FRAME, PAGE: MADE, CLIENT: PACKET,
-            "clients/c/waiting.h": WAITS, "clients/man/registry_waiting.3.in": "@synopsis\n@calls\n", "clients/man/registry_waiting.3": MADE_OF_WAITS}
+            "c/include/waiting.h": WAITS, "man/registry_waiting.3.in": "@synopsis\n@calls\n", "man/registry_waiting.3": MADE_OF_WAITS}
     other = f"{PAGE} isn't what tools/header-pages.py make writes"
     faults = (
         Fault("another type of a parameter", other, ((FACE, "struct registry *it,", "struct keeper *it,"),)),
@@ -125,7 +125,7 @@ def cases():
         Fault("another example", other, ((CLIENT, "return 1", "return 2"),)),
         Fault("a page that was written by hand", other, ((PAGE, "Make a registry.", "Make a registry, at once."),)),
         Fault("a page that is gone", other, ((PAGE, MADE, None),)),
-        Fault("an example that is gone", "'@example clients/c/packet.c opened' of the frame names nothing", ((CLIENT, "opened", "closed"),)),
+        Fault("an example that is gone", "'@example c/examples/packet.c opened' of the frame names nothing", ((CLIENT, "opened", "closed"),)),
         Fault("a section that is gone", "'@section THE OBJECTS' of the frame names nothing", ((FACE, "THE OBJECTS", "OBJECTS"),)),
         Fault("a struct that is gone", "'@types registry_settings' of the frame names nothing", ((FACE, "\nstruct registry_settings {", "\nstruct settings {"),)),
         Fault("a part that isn't one", "'@call' of the frame names nothing", ((f"{PAGE}.in", "@calls", "@call"),)),

@@ -27,8 +27,7 @@ def cases():
     tree = {**examples, "docs/layers.svg": DRAWING, "docs/page.md": PAGE, "crates.txt": "# NAME: ON\nlow: std\nhigh staticlib: low std\n"}
     faults = (
         Fault("another picture", "examples/audit.svg: it isn't what tools/picture.py make writes", (("examples/audit.svg", "</svg>", "<g/></svg>"),)),
-        Fault("another picture in text", "examples/limits.picture: it isn't", (("examples/limits.picture", None, "text\n"),)),
-        Fault("a picture that is gone", "examples/audit.picture: it isn't", (("examples/audit.picture", "", None),)),
+        Fault("a picture that is gone", "examples/audit.svg: it isn't", (("examples/audit.svg", "", None),)),
         Fault("a picture without a script", "examples/other.svg: there is no such script", (("examples/other.svg", None, "<svg/>"),)),
         Fault("a report that isn't the script's", "examples/audit.svg", (("examples/audit.report", None, "domain 1 1\n"),)),
         Fault("a report of a document that isn't its script's", "page.md, script 1", (("docs/page.md", "\ninside", "\noutside"),)),

@@ -81,17 +81,32 @@ case $1 in
 esac
 """
 LOW = "crates/low/out/rlib/low.rlib/format"
-EDIT = "crates/one/must-fail-gate/same.edit"
-TWO = "crates/one/must-fail-gate/two.edit"
-LESS = "crates/one/must-fail-gate/less.edit"
-UP = "crates/one/must-fail-gate/up.edit"
+EDITS = "crates/one/edits/gate.edits"
+GATE = """edit: same
+# It adds nothing.
+file: src/lib.rt
+old:     x + 1
+new:     x
+
+edit: two
+file: src/lib.rt
+old:     x + 1
+new:     x + 2
+
+edit: less
+file: src/lib.rt
+old:     x - 1
+new:     x - 2
+
+edit: up
+file: src/lib.rt
+old:         x + 7
+new:         x
+"""
 TREE = {
     "crates.txt": "low: std\none: low std\n",
     "crates/one/src/lib.rt": SOURCE,
-    EDIT: "# It adds nothing.\nfile: src/lib.rt\nold:     x + 1\nnew:     x\n",
-    TWO: "file: src/lib.rt\nold:     x + 1\nnew:     x + 2\n",
-    LESS: "file: src/lib.rt\nold:     x - 1\nnew:     x - 2\n",
-    UP: "file: src/lib.rt\nold:         x + 7\nnew:         x\n",
+    EDITS: GATE,
     LOW: "low\n",
     "bin/rt": RT,
     "kit/KIT-ID": "kit\n",
@@ -99,24 +114,24 @@ TREE = {
     "try": f'#!/bin/sh\nexport XDG_CACHE_HOME=$PWD/kept PATH=$PWD/bin:$PATH LOW=$PWD/{LOW}\nexec tools/gate-edits.py "$@"\n',
 }
 
-NIGHTLY = f"""#!/bin/sh
-export TOP=$PWD PATH=$PWD/bin:$PATH LOW=$PWD/{LOW}
-said=$(tools/try-edits.py all 2>&1)
-status=$?
-cat docs/edits-tried.txt
-echo "$said"
-exit $status
-"""
-HAND = "crates/one/must-fail-by-hand/kept/nothing.edit"
-HEADING = "crates/one/must-fail-by-hand/heading.edit"
-TESTED = "crates/one/must-fail-tests/twice.edit"
-NIGHT = {
+HAND = "crates/one/edits/by-hand.edits"
+TESTED = "crates/one/edits/tests.edits"
+BESIDE_GATE = {
     **TREE,
-    HAND: "# It adds nothing.\nfile: src/lib.rt\nold:     x + 1\nnew:     0\n",
-    HEADING: "# It is of no function.\nfile: src/lib.rt\nold: //! One more.\nnew: //! None.\n",
-    TESTED: "# It doubles.\nfile: crates/one/src/lib.rt\nold:     x + 1\nnew:     x + x\n",
-    "docs/README.md": "",
-    "night": NIGHTLY,
+    HAND: """edit: nothing
+# It adds nothing.
+file: src/lib.rt
+old:     x + 1
+new:     0
+
+edit: heading
+# It is of no function.
+file: src/lib.rt
+old: //! One more.
+new: //! None.
+""",
+    TESTED: "edit: twice\n# It doubles.\nfile: crates/one/src/lib.rt\nold:     x + 1\nnew:     x + x\n",
+    "try": TREE["try"].replace("gate-edits.py", "try-edits.py"),
 }
 
 
@@ -137,37 +152,39 @@ def after_the_hole(name, line):
     return Fault(name, "what its edits change isn't proved as it stands", (("kit/bin/rattle", hole, f"{hole}        echo '{line}'\n"),))
 
 
-def after_a_run(name, said, *lines):
+def after_a_run(name, said, *lines, kind=""):
     """What is changed after a run that kept its refusals, and is found by the next one."""
-    return Fault(name, said, command=["sh", "-c", "\n".join(["./try >/dev/null || exit 0", *lines, "exec ./try"])])
+    return Fault(name, said, command=["sh", "-c", "\n".join([f"./try {kind} >/dev/null || exit 0", *lines, f"exec ./try {kind}"])])
 
 
-def night_faults():
-    again = ["sh", "-c", "./night >/dev/null 2>&1; exec ./night"]
-    not_tried = f"sed -i 's/nothing.edit: .*/nothing.edit: not tried/' docs/edits-tried.txt; echo strong >{LOW}"
-    later = ["sh", "-c", f"./night >/dev/null 2>&1; {not_tried}; exec ./night"]
-    recoded = ["sh", "-c", "./night >/dev/null 2>&1; echo '    x + 1' >>crates/one/src/lib.rt; exec ./night"]
-    changed = ["sh", "-c", f"./night >/dev/null 2>&1; sed -i 's/^new:     0/new:     x + 1 - 0/' {HAND}; exec ./night"]
+def by_hand():
+    whole, proved = "NOT REFUSED: the whole crate still proved", ((HAND, "new:     0", "new:     x + 1 - 0"),)
     return (
-        Fault("a wrong body by hand that is proved", "    1 NOT REFUSED", ((HAND, "new:     0", "new:     x + 1 - 0"),)),
-        Fault("a wrong heading that the crate is proved under", "heading.edit: NOT REFUSED: the whole crate still proved", ((HEADING, "new: //! None", "new: //! One more than"),)),
-        Fault("a wrong body by hand that is proved, again", "    1 NOT REFUSED", ((HAND, "new:     0", "new:     x + 1 - 0"),), command=again),
-        Fault("a wrong body by hand that the last run didn't try", "    1 NOT REFUSED", command=later),
-        Fault("an edit that fitted the last run's source", "stands 2 times in", command=recoded),
-        Fault("an edit whose text changed after the last run", "    1 NOT REFUSED", command=changed),
-        Fault("a wrong body that no test refuses", "NOT REFUSED: all tests pass", ((TESTED, "new:     x + x", "new:     x + 1 + 0"),)),
+        Fault("a wrong body by hand that is proved", f"one/nothing: {whole}", proved),
+        Fault("a wrong heading that the crate is proved under", f"one/heading: {whole}", ((HAND, "new: //! None", "new: //! One more than"),)),
+        Fault("a wrong body by hand that is proved, again", whole, proved, ["sh", "-c", "./try prover >/dev/null 2>&1; exec ./try prover"]),
+        after_a_run("a refusal by hand over another library", whole, f"echo strong >{LOW}", kind="prover"),
+        after_a_run("an edit that fitted the last run's source", "stands 2 times in", "echo '    x + 1' >>crates/one/src/lib.rt", kind="prover"),
+        after_a_run("an edit whose text changed after the last run", whole, f"sed -i 's/^new:     0/new:     x + 1 - 0/' {HAND}", kind="prover"),
         Fault("a library that isn't built", "isn't built: run rt ci first", ((LOW, "low", None),)),
+    )
+
+
+def by_tests():
+    return (
+        Fault("a wrong body that no test refuses", "NOT REFUSED: all tests pass", ((TESTED, "new:     x + x", "new:     x + 1 + 0"),)),
+        Fault("an edit for the tests that doesn't fit", "stands 0 times in", ((TESTED, "old:     x + 1", "old:     y"),)),
     )
 
 
 def cases():
     faults = (
-        Fault("a wrong body that is proved", "NOT REFUSED: more still proved", ((EDIT, "new:     x", "new:     x + 1 + 0"),)),
-        Fault("a right body that is tried beside a wrong one", "NOT REFUSED: less still proved", ((LESS, "new:     x - 2", "new:     x - 1 - 0"),)),
-        Fault("an edit that doesn't fit", "stands 0 times in", ((EDIT, "old:     x", "old:     y"),)),
-        Fault("an edit of no function", "it changes no function", ((EDIT, "old:     x + 1\nnew:     x", "old: //! One more.\nnew: //! None."),)),
-        Fault("an edit of a file that is gone", "No such file or directory", ((EDIT, "src/lib.rt", "src/gone.rt"),)),
-        Fault("an edit that changes nothing", "StopIteration", ((EDIT, "new:     x\n", ""),)),
+        Fault("a wrong body that is proved", "NOT REFUSED: more still proved", ((EDITS, "new:     x\n", "new:     x + 1 + 0\n"),)),
+        Fault("a right body that is tried beside a wrong one", "NOT REFUSED: less still proved", ((EDITS, "new:     x - 2", "new:     x - 1 - 0"),)),
+        Fault("an edit that doesn't fit", "stands 0 times in", ((EDITS, "old:     x + 1\nnew:     x\n", "old:     y\nnew:     x\n"),)),
+        Fault("an edit of no function", "it changes no function", ((EDITS, "old:     x + 1\nnew:     x\n", "old: //! One more.\nnew: //! None.\n"),)),
+        Fault("an edit of a file that is gone", "No such file or directory", ((EDITS, "# It adds nothing.\nfile: src/lib.rt", "file: src/gone.rt"),)),
+        Fault("an edit that changes nothing", "StopIteration", ((EDITS, "new:     x\n", ""),)),
         judges("a body that doesn't compile", "NOT TRIED: src/lib.rt:7:5: error", "echo 'src/lib.rt:7:5: error: no such name'"),
         judges("a check that is killed", "NOT TRIED", "kill -KILL $$"),
         judges("a check that ends in its middle", "NOT TRIED", "echo 'note: src/lib.rt:5:15: this clause is not proved'; exit 1"),
@@ -175,21 +192,26 @@ def cases():
         judges("a refusal that no goal tells", "refused, only because no proof was found", "true"),
         judges("a proof that names what is gone", "refused only because", "echo 'note: proofs/Lib.antt:1:1: x has no field y'"),
         Fault("functions that aren't proved as they stand", "what its edits change isn't proved as it stands", (("crates/one/src/lib.rt", "    x + 1", "    1 + x"),
-              (EDIT, "x + 1", "1 + x"), (TWO, "old:     x + 1", "old:     1 + x"))),
+              (EDITS, "old:     x + 1\nnew:     x\n", "old:     1 + x\nnew:     x\n"), (EDITS, "old:     x + 1\nnew:     x + 2", "old:     1 + x\nnew:     x + 2"))),
         judges("a hole that isn't taken as a proof", "NOT TRIED", "echo 'note: src/lib.rt:5:15: not proved'; echo './proofs/most/Proof.antt:3:5: error: no such name'"),
         over_holes("an assumed function that isn't taken as it is", "not proved"),
         over_holes("a hole that isn't ours", "depends on a hole in `Rattle.one.proofs.other.Proof.other_spec`"),
+        over_holes("a hole without a name", "depends on a hole in Rattle.one.proofs.most.Proof.most_spec"),
         after_the_hole("a fault of no function", "./specs/Lib.antt:1:1: `more` is not admitted: ill-typed"),
         after_the_hole("a hole in a lemma", "./proofs/Lib.antt:1:1: goal ? in `lemma`"),
         Fault("a hole that is told of no file", "what its edits change isn't proved as it stands", (("kit/bin/rattle", "holes=1", "holes=2"),)),
         Fault("a function that no edit changes, proved again", "what its edits change isn't proved as it stands", (("tools/assumed.py", '["loop {}"]', '["let most = 1;"]'),)),
-        Fault("no edits", "no edit one in must-fail-gate", ((EDIT, "file:", None), (TWO, "file:", None), (LESS, "file:", None), (UP, "file:", None))),
-        Fault("no folder of edits", "0 passed, 1 failed", command=["sh", "-c", "rm -r crates/one/must-fail-gate; exec ./try"]),
+        Fault("an edit without its name", "gate.edits: a block without its line edit: NAME", ((EDITS, "edit: same\n", ""),)),
+        Fault("no edits", "0 passed, 1 failed", ((EDITS, "file:", None),)),
         Fault("an edit that isn't there", "no edit one/gone", command=["./try", "one/gone"]),
         Fault("a library that isn't built", "which isn't built", ((LOW, "low", None),)),
         after_a_run("a refusal over another library", "NOT REFUSED", f"echo strong >{LOW}"),
         after_a_run("a refusal by another kit", "NOT REFUSED", "printf '#!/bin/sh\\necho only=1\\n' >kit/bin/rattle; echo other >kit/KIT-ID"),
-        after_a_run("a refusal of another body", "NOT REFUSED", f"sed -i 's/^new:     x$/new:     x + 1 + 0/' {EDIT}"),
+        after_a_run("a refusal of another body", "NOT REFUSED", f"sed -i 's/^new:     x$/new:     x + 1 + 0/' {EDITS}"),
+        after_a_run("a refusal of an edit that is no longer applied", "NOT REFUSED", "sed -i 's/path.write_text(text.replace(old, new))/pass/' tools/edits.py"),
+        after_a_run("a refusal by a kit in another folder", "NOT REFUSED", "cp -r kit other; printf '#!/bin/sh\\necho only=1\\n' >other/bin/rattle", "sed -i 's/strip()).parent/strip()).parent.parent \\/ \"other\"/' tools/kit.py"),
     )
-    tools = ["edit_checks.py", "assumed.py", "counts.py", "edits.py", "functions.py", "contracts.py", "kit.py", "parts.py"]
-    return [Case("gate-edits", ["gate-edits.py", *tools], TREE, ["./try"], faults), Case("try-edits", ["try-edits.py", *tools], NIGHT, ["./night"], night_faults())]
+    tools = ["kept.py", "edit_checks.py", "assumed.py", "counts.py", "edits.py", "functions.py", "contracts.py", "kit.py", "parts.py"]
+    return [Case("gate-edits", ["gate-edits.py", *tools], TREE, ["./try"], faults),
+            Case("try-edits", ["try-edits.py", *tools], BESIDE_GATE, ["./try", "prover"], by_hand()),
+            Case("try-edits by tests", ["try-edits.py", *tools], BESIDE_GATE, ["./try", "tests"], by_tests())]

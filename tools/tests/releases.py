@@ -22,9 +22,10 @@ SOURCES = {
     **real("crates/registry_values/src/limits.rt", "crates/registry_values/specs/Limits.antt"),
     "crates/low/src/lib.rt": "low\n",
     "crates/registry_c/src/lib.rt": "face\n",
-    "crates/registry_c/include/registry.h": "uint32_t registry_enter(struct registry_cpu *cpu);\n",
+    "crates/registry_c/include/registry.h":
+        "#define REGISTRY_VERSION_MAJOR\t0\n#define REGISTRY_VERSION_MINOR\t1\nuint32_t registry_enter(struct registry_cpu *cpu);\n",
     "crates/registry_c/include/registry_limits.h": "#define REGISTRY_MOST_CPUS\t8\n",
-    **{f"clients/c/{part}.c": f"/* {part} */\n" for part in PARTS},
+    **{f"c/src/{part}.c": f"/* {part} */\n" for part in PARTS},
 }
 TREE = {
     **SOURCES,
@@ -33,14 +34,14 @@ TREE = {
     "bin/dpkg-buildpackage": PACKAGES,
     "registry_run": '#!/bin/sh\n[ "$1" = --proved ] && [ -x program ] && echo program\n',
     "program": "#!/bin/sh\n",
-    "clients/INSTALL.md": "unpacked\n",
-    "clients/rust/Cargo.toml": '[package]\nversion = "0.1.0"\n',
-    "clients/pack.sh": (ROOT / "clients/pack.sh").read_text(),
-    "clients/Makefile": "LICENCE =\nversion:\n\t@echo 0.1.0\nlicence:\n\t@echo $(LICENCE)\n",
+    "packaging/INSTALL.md": "unpacked\n",
+    "rust/Cargo.toml": '[package]\nversion = "0.1.0"\n',
+    "packaging/pack.sh": (ROOT / "packaging/pack.sh").read_text(),
+    "Makefile": "LICENCE =\nversion:\n\t@echo 0.1.0\nlicence:\n\t@echo $(LICENCE)\n",
     # The source that it lays has a Makefile that installs one file.
-    "clients/dist.sh": """#!/bin/bash
+    "packaging/dist.sh": """#!/bin/bash
 mkdir -p "$2/archive/x86_64" "$2/rust" "$2/man"
-cp clients/out/{libregistry.a,libregistry.proved,registry_limits.h} "$2/archive/x86_64" && cp program "$2/archive/x86_64/registry_run"
+cp out/{libregistry.a,libregistry.proved,registry_limits.h} "$2/archive/x86_64" && cp program "$2/archive/x86_64/registry_run"
 echo page >"$2/man/registry_run.1"
 printf 'symbols install-examples:\\ninstall:\\n\\tmkdir -p $(DESTDIR)$(PREFIX)\\n\\techo made >$(DESTDIR)$(PREFIX)/file\\n' >"$2/Makefile"
 """,
@@ -88,7 +89,7 @@ def prepare(tree):
     (tree / "basics").mkdir()
     for name in BASICS:
         (tree / "basics" / name).symlink_to(shutil.which(name))
-    out = tree / "clients/out"
+    out = tree / "out"
     out.mkdir(parents=True)
     (out / "registry.o").write_text("object\n")
     subprocess.run(["ar", "rcsD", "libregistry.a", "registry.o"], cwd=out, check=True)
@@ -115,38 +116,38 @@ def making():
     faults = [Fault(f"no {name}", f"there is no {name}: apt-get install {package}", command=shell(f"git rm -q --cached bin/{name}; rm bin/{name}"))
               for name, package in COMMANDS.items()]
     faults += [
-        Fault("no archive", "there is no clients/out/libregistry.a: tools/build-archive.sh proves and builds it", command=shell("rm clients/out/libregistry.a")),
-        Fault("no record", "there is no clients/out/libregistry.proved: tools/build-archive.sh", command=shell("rm clients/out/libregistry.proved")),
-        Fault("a record without a verdict", "has no line 'verdict: ..'", command=shell("sed -i '/^verdict/d' clients/out/libregistry.proved")),
-        Fault("a record with other limits", "has other limits than the sources as they stand", command=shell("sed -i 's/--cpus 8/--cpus 16/' clients/out/libregistry.proved")),
-        Fault("a record with limits that are none", "--cpus may be 1 to 128", command=shell("sed -i 's/--cpus 8/--cpus 800/' clients/out/libregistry.proved")),
-        Fault("another archive", "isn't the archive that", command=shell("echo other >registry.o; ar r clients/out/libregistry.a registry.o; rm registry.o")),
-        Fault("no archive of objects", "has no object registry.o", command=shell("echo none >clients/out/libregistry.a")),
+        Fault("no archive", "there is no out/libregistry.a: tools/build-archive.sh proves and builds it", command=shell("rm out/libregistry.a")),
+        Fault("no record", "there is no out/libregistry.proved: tools/build-archive.sh", command=shell("rm out/libregistry.proved")),
+        Fault("a record without a verdict", "has no line 'verdict: ..'", command=shell("sed -i '/^verdict/d' out/libregistry.proved")),
+        Fault("a record with other limits", "has other limits than the sources as they stand", command=shell("sed -i 's/--cpus 8/--cpus 16/' out/libregistry.proved")),
+        Fault("a record with limits that are none", "--cpus may be 1 to 128", command=shell("sed -i 's/--cpus 8/--cpus 800/' out/libregistry.proved")),
+        Fault("another archive", "isn't the archive that", command=shell("echo other >registry.o; ar r out/libregistry.a registry.o; rm registry.o")),
+        Fault("no archive of objects", "has no object registry.o", command=shell("echo none >out/libregistry.a")),
         Fault("other sources", "was made from other sources", command=shell("echo more >>crates/low/src/lib.rt; git -c user.name=a -c user.email=a@b commit -qam more")),
-        Fault("other C in the archive", "was made from other sources", command=shell("echo >>clients/c/heap.c; git -c user.name=a -c user.email=a@b commit -qam more")),
+        Fault("other C in the archive", "was made from other sources", command=shell("echo >>c/src/heap.c; git -c user.name=a -c user.email=a@b commit -qam more")),
         Fault("no program", "tools/prove-program.sh proves and builds it", command=shell("rm program")),
-        Fault("changes that are in no commit", "git commit takes them in", command=shell("echo more >>clients/INSTALL.md")),
+        Fault("changes that are in no commit", "git commit takes them in", command=shell("echo more >>packaging/INSTALL.md")),
         Fault("no repository", "a release is made in a clone of the repository", command=shell("rm -rf .git")),
         Fault("an archive for aarch64 without a record", "tools/build-archive.sh --for aarch64",
-              command=shell("mkdir clients/out/aarch64; cp clients/out/libregistry.a clients/out/aarch64")),
+              command=shell("mkdir out/aarch64; cp out/libregistry.a out/aarch64")),
         Fault("an archive for aarch64 without a compiler", "apt-get install gcc-aarch64-linux-gnu",
-              command=shell("mkdir clients/out/aarch64; cp clients/out/libregistry.* clients/out/aarch64")),
+              command=shell("mkdir out/aarch64; cp out/libregistry.* out/aarch64")),
         Fault("an archive for aarch64 without a C library", "apt-get install libc6-dev-arm64-cross",
-              command=shell("mkdir clients/out/aarch64; cp clients/out/libregistry.* clients/out/aarch64", "printf '#!/bin/sh\\nexit 1\\n' >bin/aarch64-linux-gnu-gcc",
+              command=shell("mkdir out/aarch64; cp out/libregistry.* out/aarch64", "printf '#!/bin/sh\\nexit 1\\n' >bin/aarch64-linux-gnu-gcc",
                             "chmod +x bin/aarch64-linux-gnu-gcc; git add bin; git -c user.name=a -c user.email=a@b commit -qam more")),
         Fault("a compiler without a C library", "gcc has no C library: apt-get install libc6-dev",
               command=shell("echo 'exit 1' >>bin/gcc; git -c user.name=a -c user.email=a@b commit -qam more")),
-        Fault("a folder that is no release", "it is no release: --to names another folder", command=["./try", "--to", "clients"]),
+        Fault("a folder that is no release", "it is no release: --to names another folder", command=["./try", "--to", "rust"]),
         Fault("a place that nothing is written to", "nothing can be written to", command=["./try", "--to", "crates.txt/release"]),
         Fault("another version in the crate", "has another version than registry.h",
-              command=shell("sed -i s/0.1.0/0.2.0/ clients/rust/Cargo.toml; git -c user.name=a -c user.email=a@b commit -qam more")),
+              command=shell("sed -i s/0.1.0/0.2.0/ rust/Cargo.toml; git -c user.name=a -c user.email=a@b commit -qam more")),
         Fault("no kit to prove with", "there is no rt", command=["./try", "--prove"]),
         Fault("a word too many", "it takes", command=["./try", "--all"]),
         Fault("a folder that isn't named", "it takes", command=["./try", "--to"]),
         Fault("lintian finds an error", "this failed: lintian", command=shell("echo 'echo E: wrong; exit 1' >>bin/lintian; git -c user.name=a -c user.email=a@b commit -qam more")),
         Fault("a build that fails", "this failed: dpkg-buildpackage", command=shell("echo 'exit 1' >>bin/dpkg-buildpackage; git -c user.name=a -c user.email=a@b commit -qam more")),
         Fault("a licence, of which nothing is to be said", "no word of the licence",
-              command=shell("sed -i 's/^LICENCE =/LICENCE = MIT/' clients/Makefile; git -c user.name=a -c user.email=a@b commit -qam more")),
+              command=shell("sed -i 's/^LICENCE =/LICENCE = MIT/' Makefile; git -c user.name=a -c user.email=a@b commit -qam more")),
     ]
     return Case("make-release", ["make-release.sh", *RECORDS], TREE, ["./try"], faults, counts=False, prepare=prepare)
 
@@ -160,34 +161,34 @@ mkdir -p out && cc -c -xc -o registry_c.o /dev/null && ar rc out/libregistry_c.a
 BUILDS = {
     **SOURCES,
     "HANDLES": "Handles allowed: none.\n",
-    "clients/calls-of.sh": (ROOT / "clients/calls-of.sh").read_text(),
+    "packaging/calls-of.sh": (ROOT / "packaging/calls-of.sh").read_text(),
     "tools/unwind-tables.py": "#!/bin/sh\n",
     "bin/rt": PROVES,
     "try": """#!/bin/sh
 PATH=$PWD/bin:$PATH tools/build-archive.sh "$@" >said 2>&1
 status=$?
 cat said
-if [ $status -ne 0 ] && [ -n "$(find clients/out -name '*.a')" ]; then
+if [ $status -ne 0 ] && [ -n "$(find out -name '*.a')" ]; then
     echo "an archive is left"
     exit 0
 fi
 [ $status -eq 0 ] || exit $status
-PATH=$PWD/bin:$PATH tools/proof-record.py check clients/out/libregistry.a
+PATH=$PWD/bin:$PATH tools/proof-record.py check out/libregistry.a
 """,
     # An archive with other limits: proved in a copy that has them, with its header and its record.
     "try-other": """#!/bin/sh
 PATH=$PWD/bin:$PATH tools/build-archive.sh --cpus 16 --sections 2^50 >said 2>&1 || { cat said; exit 2; }
-out=clients/out/cpus-16-sections-1125899906842624
+out=out/cpus-16-sections-1125899906842624
 grep -q 'MOST_CPUS: usize = 16;' said && grep -q 'MOST_SECTIONS: u64 = 1 << 50;' said && grep -q 'MOST_SLOTS: usize = 32;' said || { echo "other limits were proved"; exit 1; }
 grep -q 'MOST_CPUS[^0-9]*16$' $out/registry_limits.h || { echo "the header has other limits"; exit 1; }
 grep -qx 'limits: --cpus 16 --slots 32 --changes 1000000 --sections 2^50' $out/libregistry.proved || { echo "the record has other limits"; exit 1; }
-[ ! -e clients/out/libregistry.a ] || { echo "the default's archive was built"; exit 1; }
+[ ! -e out/libregistry.a ] || { echo "the default's archive was built"; exit 1; }
 grep -q 'MOST_CPUS: usize = 8;' crates/registry_values/src/limits.rt || { echo "the tree has other limits now"; exit 1; }
 "$@"
 PATH=$PWD/bin:$PATH tools/proof-record.py check $out/libregistry.a
 """,
 }
-OTHER_RECORD = "clients/out/cpus-16-sections-1125899906842624/libregistry.proved"
+OTHER_RECORD = "out/cpus-16-sections-1125899906842624/libregistry.proved"
 BUILD_TOOLS = ["build-archive.sh", "limits-header.py", *RECORDS]
 # What is asked for, and what is said of it.
 BAD_LIMITS = {
@@ -256,9 +257,9 @@ def trying():
     return Case("test-release", ["test-release.sh", "checks.sh"], tree, ["true"], faults, counts=False)
 
 
-def prepare_clients(tree):
+def prepare_laid(tree):
     """An archive with a record, as far as the source of a release asks for them, and the commands of the system."""
-    write_all(tree / "clients/out", ("libregistry.a", "libregistry.proved"))
+    write_all(tree / "out", ("libregistry.a", "libregistry.proved"))
     (tree / "few").mkdir()
     for name in (*BASICS, "gcc"):
         (tree / "few" / name).symlink_to(shutil.which(name))
@@ -276,46 +277,46 @@ def without(name, *words):
 
 
 def laid():
-    """What the scripts of clients/ say of bad input; the source of a release is laid out whole, or not at all."""
-    tree = real("clients/*.sh", "clients/*.mk", "clients/Makefile", "clients/*.in", "clients/*.map", "clients/*.md", "clients/*/*.mk", "clients/debian/*.in",
-                "clients/c/client.h", "clients/netbsd/netbsd.map", "clients/bench/bench.h", "clients/examples/Makefile", "clients/man/registry.3",
-                "clients/rust/*.*", "clients/rust/*/packet.rs", "clients/rust/*/lib.rs", "clients/rust/tests/face.rs", "crates/registry_c/include/registry.h",
+    """What the scripts of packaging/ say of bad input; the source of a release is laid out whole, or not at all."""
+    tree = real("Makefile", "packaging/*.*", "c/programs.mk", "explorer/*.mk", "packaging/debian/*.in", "docs/C.md",
+                "c/examples/client.h", "netbsd/netbsd.map", "explorer/bench.h", "c/examples/Makefile", "man/registry.3",
+                "rust/*.*", "rust/*/packet.rs", "rust/*/lib.rs", "rust/tests/face.rs", "crates/registry_c/include/registry.h",
                 "examples/retire-under-section.*")
     tree["try"] = """#!/bin/sh
-sed -i 's/^LICENCE =.*/LICENCE = MIT/' clients/install.mk
-clients/dist.sh --lay "$PWD/laid" && [ -f laid/archive/x86_64/libregistry.proved ] && grep -qx 'License: MIT' laid/debian/copyright &&
+sed -i 's/^LICENCE =.*/LICENCE = MIT/' packaging/install.mk
+packaging/dist.sh --lay "$PWD/laid" && [ -f laid/archive/x86_64/libregistry.proved ] && grep -qx 'License: MIT' laid/debian/copyright &&
     grep -qx 'license = "MIT"' laid/rust/Cargo.toml && head -n 1 laid/debian/changelog | grep -q '^kupaldiz ([0-9.]*-1)'
 """
-    script = "clients/dist.sh"
-    faults = [Fault(f"{name}.sh without words", f"usage: {name}.sh", command=refused(f"clients/{name}.sh")) for name in ("pack", "symbols", "examples", "calls-of")]
+    script = "packaging/dist.sh"
+    faults = [Fault(f"{name}.sh without words", f"usage: {name}.sh", command=refused(f"packaging/{name}.sh")) for name in ("pack", "symbols", "examples", "calls-of")]
     faults += [
-        Fault("a licence that is lost", "NONE", (("clients/dist.sh", "@LICENCE@", "@NONE@"),), command=["sh", "-c", "./try || { echo NONE; exit 1; }"]),
-        Fault("no archive", "there is no out/libregistry.a: tools/build-archive.sh", command=["sh", "-c", 'rm clients/out/*.a; exec "$@"', "sh", *refused(script, "out")]),
-        Fault("no record", "there is no out/libregistry.proved", command=["sh", "-c", 'rm clients/out/*.proved; exec "$@"', "sh", *refused(script, "out")]),
+        Fault("a licence that is lost", "NONE", (("packaging/dist.sh", "@LICENCE@", "@NONE@"),), command=["sh", "-c", "./try || { echo NONE; exit 1; }"]),
+        Fault("no archive", "there is no out/libregistry.a: tools/build-archive.sh", command=["sh", "-c", 'rm out/*.a; exec "$@"', "sh", *refused(script, "out")]),
+        Fault("no record", "there is no out/libregistry.proved", command=["sh", "-c", 'rm out/*.proved; exec "$@"', "sh", *refused(script, "out")]),
         Fault("no record of another processor", "tools/build-archive.sh --for aarch64 writes it",
-              command=["sh", "-c", 'mkdir clients/out/aarch64; cp clients/out/*.a clients/out/aarch64; exec "$@"', "sh",
-                       *refused("sh", "-c", 'clients/dist.sh --lay "$PWD/laid"; status=$?; [ ! -e laid ] && exit $status')]),
-        Fault("a folder that is there", "there is a debian already", command=refused(script, "--lay", "debian")),
+              command=["sh", "-c", 'mkdir out/aarch64; cp out/*.a out/aarch64; exec "$@"', "sh",
+                       *refused("sh", "-c", 'packaging/dist.sh --lay "$PWD/laid"; status=$?; [ ! -e laid ] && exit $status')]),
+        Fault("a folder that is there", "there is a rust already", command=refused(script, "--lay", "rust")),
         Fault("no word", "it takes OUT, or --lay FOLDER", command=refused(script)),
         Fault("no folder to lay it out in", "it takes OUT, or --lay FOLDER", command=refused(script, "--lay")),
         Fault("no xz", "dist: there is no xz: apt-get install xz-utils", command=without("xz", script, "out")),
-        Fault("nothing to pack", "there is no folder ./none", command=refused("clients/pack.sh", ".", "none", "0")),
-        Fault("no xz to pack with", "pack: there is no xz: apt-get install xz-utils", command=without("xz", "clients/pack.sh", ".", "clients", "0")),
-        Fault("no library to compare", "make library builds the libraries", command=refused("clients/symbols.sh", "../crates/registry_c/include", "out", "0.1.0")),
-        Fault("nothing that is installed", "make install with the same words puts it there", command=refused("env", "CC=sh", "clients/installcheck.sh", "/none", "0.1.0")),
-        Fault("no compiler for what is installed", "there is no none: apt-get install", command=refused("env", "CC=none", "clients/installcheck.sh", "/none", "0.1.0")),
-        Fault("no compiler", "there is no compiler none: apt-get install gcc", command=refused("make", "-s", "-C", "clients", "CC=none", "library")),
+        Fault("nothing to pack", "there is no folder ./none", command=refused("packaging/pack.sh", ".", "none", "0")),
+        Fault("no xz to pack with", "pack: there is no xz: apt-get install xz-utils", command=without("xz", "packaging/pack.sh", ".", "rust", "0")),
+        Fault("no library to compare", "make library builds the libraries", command=refused("packaging/symbols.sh", "crates/registry_c/include", "out", "0.1.0")),
+        Fault("nothing that is installed", "make install with the same words puts it there", command=refused("env", "CC=sh", "packaging/installcheck.sh", "/none", "0.1.0")),
+        Fault("no compiler for what is installed", "there is no none: apt-get install", command=refused("env", "CC=none", "packaging/installcheck.sh", "/none", "0.1.0")),
+        Fault("no compiler", "there is no compiler none: apt-get install gcc", command=refused("make", "-s", "CC=none", "library")),
         Fault("no archive to build from", "there is no out/libregistry.a: tools/build-archive.sh",
-              command=["sh", "-c", "rm clients/out/*.a; make -s -C clients out/libregistry.a"]),
+              command=["sh", "-c", "rm out/*.a; make -s out/libregistry.a"]),
     ]
-    return Case("clients' scripts", [], tree, ["./try"], faults, counts=False, prepare=prepare_clients)
+    return Case("packaging's scripts", [], tree, ["./try"], faults, counts=False, prepare=prepare_laid)
 
 
 def installing():
     """What tools/test-install.sh needs; nothing is installed here."""
-    tools = {"clients/out/libregistry.a": "", **{f"bin/{name}": f'#!/bin/sh\nexec {shutil.which(name)} "$@"\n' for name in BASICS}}
+    tools = {"out/libregistry.a": "", **{f"bin/{name}": f'#!/bin/sh\nexec {shutil.which(name)} "$@"\n' for name in BASICS}}
     faults = (
-        Fault("no archive", "there is no clients/out/libregistry.a: tools/build-archive.sh", (("clients/out/libregistry.a", "", None),), command=refused("tools/test-install.sh")),
+        Fault("no archive", "there is no out/libregistry.a: tools/build-archive.sh", (("out/libregistry.a", "", None),), command=refused("tools/test-install.sh")),
         Fault("no pkg-config", "there is no pkg-config: apt-get install pkg-config", command=with_bin("tools/test-install.sh")),
     )
     return Case("test-install", ["test-install.sh", "checks.sh"], tools, ["true"], faults, counts=False)

@@ -66,7 +66,7 @@ int kpause(const char *name, bool interruptible, int ticks, kmutex_t *mutex);
 #define KTHREAD_MUSTJOIN	0x10
 
 /* kthread_create - a thread that runs `body(arg)`, bound to `cpu` where that isn't NULL. Returns 0 or an errno; the thread is written to `made`. Stops
- * where the thread mustn't sleep. */
+ * where the thread mustn't sleep, and where the body returns: it ends by kthread_exit. */
 int kthread_create(int priority, int flags, struct cpu_info *cpu, void (*body)(void *), void *arg, lwp_t **made, const char *format, ...) __attribute__((format(printf, 7, 8)));
 
 /* kthread_exit - end this thread. Stops where kthread_create didn't make it. */

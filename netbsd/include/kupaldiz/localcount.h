@@ -46,7 +46,8 @@ void localcount_fini(struct localcount *lc);
 /*
  * localcount_drain - wait until no reference is held, whoever has it
  *
- * The caller has the interlock, which is given up while the call waits, and taken again; `cv` and `interlock` are those of each release.
+ * The caller has the interlock. The call gives it up and takes it again, also where nobody has a reference: another thread may have had it when the call
+ * returns. `cv` and `interlock` are those of each release.
  * The interlock is an adaptive mutex: not of type MUTEX_SPIN, and made with a level below IPL_VM. With a spin mutex the call stops, even if no
  * reference is held. Afterwards only localcount_fini is called with the count.
  * Stops where the thread mustn't sleep; where it doesn't have the interlock; where `cv` or `interlock` are others than those of a release
@@ -68,7 +69,7 @@ void localcount_acquire(struct localcount *lc);
  *
  * It sleeps only if a drain waits for this reference: it then takes the interlock as mutex_enter does, and wakes the drain by `cv`. So it may be called:
  * - in a thread, and at a raised level;
- * - in a soft interrupt, if the interlock was made with a level above IPL_NONE. With IPL_NONE it stops if a drain waits;
+ * - in a soft interrupt, also where the interlock was made with IPL_NONE: mutex_enter of that interlock would stop there;
  * - inside a read section, with a spin lock and with preemption disabled only if no drain can wait. It stops if one waits.
  *
  * Stops also where the caller has the interlock; where the count isn't live; where no reference to it is held; and where `cv` or `interlock` are

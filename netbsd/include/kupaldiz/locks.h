@@ -150,7 +150,8 @@ int rw_tryupgrade(krwlock_t *rw);
 /* rw_downgrade - from writer to reader. Stops where this thread isn't the writer. */
 void rw_downgrade(krwlock_t *rw);
 
-/* rw_read_held, rw_write_held, rw_lock_held - whether some thread is a reader; whether this one is the writer; either. For assertions. */
+/* rw_read_held, rw_write_held, rw_lock_held - whether some thread is a reader; whether this one is the writer; whether any thread is
+ * either. For assertions. */
 int rw_read_held(krwlock_t *rw);
 int rw_write_held(krwlock_t *rw);
 int rw_lock_held(krwlock_t *rw);

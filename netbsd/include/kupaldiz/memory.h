@@ -17,7 +17,8 @@ typedef unsigned km_flag_t;
 #define KM_SLEEP	0x01u
 #define KM_NOSLEEP	0x02u
 
-/* kmem_alloc - a block of that size. With KM_NOSLEEP it returns NULL where memory runs out. Stops with size 0 and in a soft interrupt. */
+/* kmem_alloc - a block of that size, aligned for any type; to 64 bytes if its size is a multiple of 64. With KM_NOSLEEP it returns NULL where memory runs
+ * out. Stops with size 0 and in a soft interrupt. */
 void *kmem_alloc(size_t size, km_flag_t flags);
 
 /* kmem_zalloc - the same, of zeros. */
@@ -52,13 +53,15 @@ struct pool_allocator;
 struct pool {
 	const char *pr_name;
 	size_t pr_size;
+	size_t pr_align;
 	size_t pr_out;	/* objects that are in use */
 	int pr_level;
 };
 
 typedef struct pool_cache *pool_cache_t;
 
-/* pool_init - make a pool of objects of that size. Its name appears in lines and isn't copied. The other parameters change nothing. */
+/* pool_init - make a pool of objects of that size, aligned to `align` bytes; with 0, as kmem_alloc aligns. Its name appears in lines and isn't copied. The
+ * other parameters change nothing. */
 void pool_init(struct pool *pool, size_t size, unsigned align, unsigned offset, int flags, const char *name, struct pool_allocator *from, int level);
 
 /* pool_destroy - end it. Stops where an object is in use. */
@@ -70,16 +73,18 @@ void *pool_get(struct pool *pool, int flags);
 /* pool_put - give an object back. Stops where it is none of the pool's. */
 void pool_put(struct pool *pool, void *object);
 
-/* pool_cache_init - make a cache of objects that `make` initialises and `end` ends; both may be NULL. Stops where the thread mustn't sleep. */
+/* pool_cache_init - make a cache of objects that `make` constructs once and `end` ends at pool_cache_destroy; both may be NULL. Stops where the thread
+ * mustn't sleep. */
 pool_cache_t pool_cache_init(size_t size, unsigned align, unsigned offset, unsigned flags, const char *name, struct pool_allocator *from, int level, int (*make)(void *, void *, int), void (*end)(void *, void *), void *arg);
 
 /* pool_cache_destroy - end it. Stops where an object is in use. */
 void pool_cache_destroy(pool_cache_t cache);
 
-/* pool_cache_get - an object that is initialised. NULL where memory runs out, or `make` fails. */
+/* pool_cache_get - a constructed object: one that was given back, as it was then, or a new one. NULL where memory runs out, or `make` fails. */
 void *pool_cache_get(pool_cache_t cache, int flags);
 
-/* pool_cache_put - give an object back, which is ended. Stops where it is none of the cache's. */
+/* pool_cache_put - give an object back, in the state in which it was constructed: the next pool_cache_get returns it so. Stops where it is none of the
+ * cache's. */
 void pool_cache_put(pool_cache_t cache, void *object);
 
 /* ---- percpu(9): memory that each CPU has a part of. ---- */

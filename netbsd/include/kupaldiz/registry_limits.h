@@ -28,9 +28,10 @@
 
 /*
  * The library's function that compares limits has this name; registry.h declares it. The name contains the two limits on which sizes of structs
- * depend. So a program that was compiled for others doesn't link or start with this library.
+ * depend, and the version: major and minor, or from 1 on the major one. So a program that was compiled for others doesn't link or start with this
+ * library.
  */
-#define REGISTRY_BUILT_FOR	registry_for_8_cpus_32_slots
+#define REGISTRY_BUILT_FOR	registry_for_8_cpus_32_slots_v0_1
 
 /* What the shared libraries of this build have in their names. The default build has nothing. */
 #define REGISTRY_BUILD	""

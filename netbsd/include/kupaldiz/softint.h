@@ -8,8 +8,9 @@
  *   localcount_release, mutex_exit, mutex_spin_exit, cv_signal, cv_broadcast, splx, kpreempt_enable, percpu_putref, softint_schedule. The call then waits
  *   for the CPU. It returns when the handlers have ended, or when one of them waits for a lock.
  *
- * Handlers of one CPU run one after another, those of the highest level first. A handler stops where it returns in a read section, with a lock, with
- * preemption disabled, with a passive reference, or at a higher level than its own. kupaldiz_netbsd(7) lists what differs from the kernel.
+ * Handlers of one CPU run one after another, those of the highest level first, and those of one level in the order in which they were scheduled. A
+ * handler stops where it returns in a read section, with a lock, with preemption disabled, with a passive reference, or at a higher level than its own.
+ * kupaldiz_netbsd(7) lists what differs from the kernel.
  */
 #ifndef KUPALDIZ_NETBSD_SOFTINT_H
 #define KUPALDIZ_NETBSD_SOFTINT_H
@@ -77,9 +78,9 @@ typedef void (*xcfunc_t)(void *, void *);
 /*
  * xc_broadcast - have each CPU run `body(arg_a, arg_b)` once
  *
- * This thread runs it, on each CPU in turn, once no other thread of that CPU is inside a section; it has ended when the call returns. With
- * XC_HIGHPRI it mustn't sleep. Returns what xc_wait takes. Stops where the thread mustn't sleep, and where the function returns with what a handler
- * mustn't return with.
+ * This thread runs it, on each CPU in turn, once no other thread of that CPU is inside a section; it has ended when the call returns. In the bench
+ * another thread runs it, as in the kernel, and it has ended when xc_wait returns. With XC_HIGHPRI it mustn't sleep. Returns what xc_wait takes. Stops
+ * where the thread mustn't sleep, and where the function returns with what a handler mustn't return with.
  */
 uint64_t xc_broadcast(unsigned flags, xcfunc_t body, void *arg_a, void *arg_b);
 
@@ -122,8 +123,9 @@ void callout_setfunc(callout_t *callout, void (*body)(void *), void *arg);
  *
  * A tick lasts 10 milliseconds (hz is 100), and a number below 1 counts as 1. The body begins no earlier than that time after this call; nothing bounds
  * how late. It runs on the thread of this CPU's soft interrupts, at IPL_SOFTCLOCK, when such a handler can. Callouts that are due on one CPU run in
- * the order of their times. This CPU is the one that curcpu returns: for a thread that isn't bound, the CPU that it had last, or the next one in turn
- * if it never had any. A body that still runs on another CPU doesn't keep it from running here. In the bench the clock is virtual (kupaldiz_bench(7)).
+ * the order of their times, and those of one time in the order in which they were set. This CPU is the one that curcpu returns: for a thread that isn't
+ * bound, the CPU that it had last, or the next one in turn if it never had any. A body that still runs on another CPU doesn't keep it from running
+ * here. In the bench the clock is virtual (kupaldiz_bench(7)).
  */
 void callout_reset(callout_t *callout, int ticks, void (*body)(void *), void *arg);
 

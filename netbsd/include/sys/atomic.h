@@ -53,12 +53,12 @@ static inline void membar_sync(void)
 	static inline void atomic_add_##name(volatile type *at, number value) \
 	{ \
 		KUPALDIZ_POINT(at, KUPALDIZ_EXCHANGES); \
-		__atomic_fetch_add(at, value, __ATOMIC_SEQ_CST); \
+		__atomic_fetch_add(at, (type)value, __ATOMIC_SEQ_CST); \
 	} \
 	static inline type atomic_add_##name##_nv(volatile type *at, number value) \
 	{ \
 		KUPALDIZ_POINT(at, KUPALDIZ_EXCHANGES); \
-		return (type)__atomic_add_fetch(at, value, __ATOMIC_SEQ_CST); \
+		return (type)__atomic_add_fetch(at, (type)value, __ATOMIC_SEQ_CST); \
 	}
 
 #define KUPALDIZ_COUNTS(name, type) \

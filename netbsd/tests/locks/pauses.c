@@ -84,6 +84,7 @@ static void run_until_over(void *arg)
 	(void)arg;
 	while (!atomic_load(&over))
 		sleep_for(100);
+	kthread_exit(0);
 }
 
 /* Waits for a thread's end by a clock that begins so many nanoseconds after the turn of a second. */

@@ -79,6 +79,50 @@ static void show(unsigned round)
 	free(thing);
 }
 
+enum { FEW = 100, MANY = 300000, COPIES = 20000 };
+
+static struct psref held[MANY];
+
+static double seconds(void)
+{
+	struct timespec now;
+	clock_gettime(CLOCK_MONOTONIC, &now);
+	return (double)now.tv_sec + (double)now.tv_nsec / 1e9;
+}
+
+/* How long so many copies take beside others. */
+static double time_copies(unsigned beside)
+{
+	struct psref copy;
+	double begun = seconds();
+	for (unsigned turn = 0; turn < COPIES; turn++) {
+		psref_copy(&copy, &held[turn % beside], things);
+		psref_release(&copy, held[turn % beside].psref_target, things);
+	}
+	return seconds() - begun;
+}
+
+/* A copy costs the same beside many references as beside few, but for the processor's caches. */
+static void test_many(void)
+{
+	struct psref_target target;
+	int bound = curlwp_bind();
+	psref_target_init(&target, things);
+	psref_acquire(&held[0], &target, things);
+	for (unsigned i = 1; i < FEW; i++)
+		psref_copy(&held[i], &held[i - 1], things);
+	double few = time_copies(FEW);
+	for (unsigned i = FEW; i < MANY; i++)
+		psref_copy(&held[i], &held[i - 1], things);
+	double many = time_copies(MANY);
+	for (unsigned i = 0; i < MANY; i++)
+		psref_release(&held[i], &target, things);
+	psref_target_destroy(&target, things);
+	curlwp_bindx(bound);
+	printf("%d copies take %.4f seconds beside %d references, and %.4f beside %d\n", COPIES, few, FEW, many, MANY);
+	EXPECT(many < 20 * few + 0.01);
+}
+
 int main(void)
 {
 	pthread_t holders[HOLDERS];
@@ -94,6 +138,7 @@ int main(void)
 	atomic_store(&over, true);
 	for (unsigned i = 0; i < HOLDERS; i++)
 		end_thread(holders[i]);
+	test_many();
 	psref_class_destroy(things);
 	pserialize_destroy(psz);
 	EXPECT(atomic_load(&copied) >= ROUNDS);

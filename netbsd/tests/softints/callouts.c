@@ -109,8 +109,12 @@ int __wrap_pthread_cond_init(pthread_cond_t *cond, const pthread_condattr_t *how
 	return __real_pthread_cond_init(cond, how);
 }
 
+/* How often a condition was broadcast: one that comes as a wait below has given up, and before it waits again, isn't lost. */
+static atomic_uint broadcasts;
+
 int __wrap_pthread_cond_broadcast(pthread_cond_t *cond)
 {
+	atomic_fetch_add(&broadcasts, 1);
 	if (is_ours && cond == atomic_load(&changed))
 		atomic_store(&looks_before, atomic_load(&looks));
 	return __real_pthread_cond_broadcast(cond);
@@ -159,11 +163,12 @@ int __wrap_pthread_cond_timedwait(pthread_cond_t *cond, pthread_mutex_t *mutex, 
 	note_wait(cond, mutex, time);
 	if (had_turn(cond, mutex))
 		return wait_returns;
+	unsigned before = atomic_load(&broadcasts);
 	do {
 		EXPECT(__real_clock_gettime(CLOCK_MONOTONIC, &soon) == 0);
 		soon.tv_sec += soon.tv_nsec >= 999000000;
 		soon.tv_nsec = (soon.tv_nsec + 1000000) % SECOND;
-		if (__real_pthread_cond_timedwait(cond, mutex, &soon) == 0)
+		if (__real_pthread_cond_timedwait(cond, mutex, &soon) == 0 || atomic_load(&broadcasts) != before)
 			return 0;
 	} while (atomic_load(&now) < time);
 	return ETIMEDOUT;

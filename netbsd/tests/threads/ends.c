@@ -276,11 +276,17 @@ static void run_until_over(void *arg)
 		sleep_for(100);
 }
 
+static void exit_when_over(void *arg)
+{
+	run_until_over(arg);
+	kthread_exit(0);
+}
+
 static void in_join(void)
 {
 	static atomic_bool runs;
 	lwp_t *worker;
-	EXPECT(kthread_create(PRI_NONE, KTHREAD_MUSTJOIN, NULL, run_until_over, &runs, &worker, "worker") == 0);
+	EXPECT(kthread_create(PRI_NONE, KTHREAD_MUSTJOIN, NULL, exit_when_over, &runs, &worker, "worker") == 0);
 	EXPECT(kthread_join(worker) == 0);
 }
 

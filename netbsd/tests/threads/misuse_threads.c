@@ -77,6 +77,7 @@ static lwp_t *worker;
 static void nothing(void *arg)
 {
 	(void)arg;
+	kthread_exit(0);
 }
 
 static void join_at(const char *place)

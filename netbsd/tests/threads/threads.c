@@ -267,6 +267,7 @@ static void crowd(void)
 static void have_nothing(void *arg)
 {
 	EXPECT(arg == NULL && lock_count == 0);
+	kthread_exit(0);
 }
 
 /* Threads take new memory only where more of them are there at once than ever before. */
@@ -385,6 +386,7 @@ static void work(void *arg)
 	EXPECT(arg == &itself && lock_count == 0 && attributes == NULL);
 	EXPECT(pthread_setspecific(late, arg) == 0);
 	atomic_store(&itself, curlwp);
+	kthread_exit(0);
 }
 
 static int create(int flags, lwp_t **worker)
@@ -423,6 +425,7 @@ static void work_long(void *arg)
 	EXPECT(arg == NULL);
 	while (!atomic_load(&has_slept))
 		sleep_for(50);
+	kthread_exit(0);
 }
 
 /* It goes on until the thread that joins it sleeps. That one can't be cancelled meanwhile. */
