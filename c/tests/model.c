@@ -27,9 +27,14 @@ static struct model_slot *live_slot(struct model *model, uint64_t kind, const st
 	return NULL;
 }
 
+static uint64_t hint_of(const struct registry_name *name)
+{
+	return (name->high + name->low) * 0x9e3779b97f4a7c15 >> 56;
+}
+
 static uint64_t *places_of(struct model_cpu *own, const struct registry_name *name)
 {
-	return own->places[(name->high % 251 + name->low % 241) % HINTS];
+	return own->places[hint_of(name)];
 }
 
 /* The entry that the CPU remembers with this kind and name, or NULL. */
@@ -66,12 +71,43 @@ static bool is_known(struct model_cpu *own, uint64_t kind, const struct registry
 	return row != NULL && slot != NULL && row->number == slot->entry.number;
 }
 
-/* The slot of that entry, if a call from outside finds it without a section. Else NULL. */
+/* Whether a call may go by what the CPU remembers: it is outside, with a section left. */
+static bool may_recall(const struct model *model, unsigned cpu)
+{
+	return model->cpus[cpu].depth == 0 && model->cpus[cpu].sections < model->settings.section_limit;
+}
+
+/* The slot of that entry, or NULL. */
 static struct model_slot *recalled(struct model *model, unsigned cpu, uint64_t kind, const struct registry_name *name)
 {
-	struct model_cpu *own = &model->cpus[cpu];
 	struct model_slot *slot = live_slot(model, kind, name);
-	return own->depth == 0 && own->sections < model->settings.section_limit && is_known(own, kind, name, slot) ? slot : NULL;
+	return is_known(&model->cpus[cpu], kind, name, slot) ? slot : NULL;
+}
+
+/* The live entry with the greatest number below `below`, or NULL. */
+static const struct registry_entry *next_older(const struct model *model, uint64_t below)
+{
+	const struct registry_entry *newest = NULL;
+	for (unsigned s = 0; s < model->settings.slots; s++) {
+		const struct registry_entry *entry = &model->slots[s].entry;
+		if (model->slots[s].state == LIVE && entry->number < below && (newest == NULL || entry->number > newest->number))
+			newest = entry;
+	}
+	return newest;
+}
+
+/* Whether the CPU knows that there is no such entry: none is live, or the CPU missed it while the newest one was the same. */
+static bool is_missed(const struct model *model, unsigned cpu, uint64_t kind, const struct registry_name *name)
+{
+	const struct registry_entry *newest = next_older(model, UINT64_MAX), *miss = &model->cpus[cpu].misses[hint_of(name) % MISSES];
+	return newest == NULL || (is_of(miss, kind, name) && miss->number == newest->number);
+}
+
+/* The CPU remembers that a search from outside has found none: some entry is live. */
+static void remember_miss(struct model *model, unsigned cpu, uint64_t kind, const struct registry_name *name)
+{
+	uint64_t newest = next_older(model, UINT64_MAX)->number;
+	model->cpus[cpu].misses[hint_of(name) % MISSES] = (struct registry_entry){newest, 0, kind, *name, 0};
 }
 
 uint32_t model_enter(struct model *model, unsigned cpu)
@@ -117,16 +153,20 @@ uint32_t model_find(struct model *model, unsigned cpu, uint64_t kind, const stru
 
 uint32_t model_look_up(struct model *model, unsigned cpu, uint64_t kind, const struct registry_name *name, struct registry_entry *found)
 {
-	const struct model_slot *slot = recalled(model, cpu, kind, name);
+	const struct model_slot *slot = may_recall(model, cpu) ? recalled(model, cpu, kind, name) : NULL;
 	if (slot != NULL) {
 		*found = slot->entry;
 		return REGISTRY_DONE;
 	}
+	if (may_recall(model, cpu) && is_missed(model, cpu, kind, name))
+		return REGISTRY_NOT_FOUND;
 	uint32_t answer = model_enter(model, cpu);
 	if (answer != REGISTRY_DONE)
 		return answer;
 	answer = model_find(model, cpu, kind, name, found);
 	model_exit(model, cpu);
+	if (answer == REGISTRY_NOT_FOUND && model->cpus[cpu].depth == 0)
+		remember_miss(model, cpu, kind, name);
 	return answer;
 }
 
@@ -141,17 +181,30 @@ uint32_t model_enter_find(struct model *model, unsigned cpu, uint64_t kind, cons
 	return answer;
 }
 
-uint32_t model_get(struct model *model, unsigned cpu, uint64_t kind, const struct registry_name *name, struct registry_entry *found)
+/* A reference to the entry that the CPU remembers, if there may be one. */
+static bool is_got(struct model *model, unsigned cpu, uint64_t kind, const struct registry_name *name, struct registry_entry *found)
 {
 	struct model_slot *slot = recalled(model, cpu, kind, name);
+	if (slot == NULL || slot->passive[cpu] == model->settings.passive_limit)
+		return false;
+	slot->passive[cpu]++;
+	*found = slot->entry;
+	return true;
+}
+
+uint32_t model_get(struct model *model, unsigned cpu, uint64_t kind, const struct registry_name *name, struct registry_entry *found)
+{
 	struct registry_entry seen;
 	uint64_t number;
-	if (slot != NULL && slot->passive[cpu] < model->settings.passive_limit) {
-		slot->passive[cpu]++;
-		*found = slot->entry;
-		return REGISTRY_DONE;
+	uint32_t answer;
+	if (may_recall(model, cpu)) {
+		if (is_got(model, cpu, kind, name, found))
+			return REGISTRY_DONE;
+		answer = model_look_up(model, cpu, kind, name, &seen);
+		if (answer != REGISTRY_DONE || is_got(model, cpu, kind, name, found))
+			return answer;
 	}
-	uint32_t answer = model_enter(model, cpu);
+	answer = model_enter(model, cpu);
 	if (answer != REGISTRY_DONE)
 		return answer;
 	answer = model_find(model, cpu, kind, name, &seen);
@@ -161,18 +214,6 @@ uint32_t model_get(struct model *model, unsigned cpu, uint64_t kind, const struc
 		*found = seen;
 	model_exit(model, cpu);
 	return answer;
-}
-
-/* The live entry with the greatest number below `below`, or NULL. */
-static const struct registry_entry *next_older(const struct model *model, uint64_t below)
-{
-	const struct registry_entry *newest = NULL;
-	for (unsigned s = 0; s < model->settings.slots; s++) {
-		const struct registry_entry *entry = &model->slots[s].entry;
-		if (model->slots[s].state == LIVE && entry->number < below && (newest == NULL || entry->number > newest->number))
-			newest = entry;
-	}
-	return newest;
 }
 
 uint32_t model_walk(struct model *model, unsigned cpu, struct registry_entry *row, size_t room, size_t *count)

@@ -14,9 +14,10 @@
  * open. The looker stops by a trap after an instruction. The program is linked with --wrap for malloc, so that the table has pages of its own.
  *
  * - Each result is what the registry had at a moment during the call, and never from before the last result, nor from before a find's on another CPU.
- * - An entry that the CPU remembers, and that is live all the time, is found without a section.
- * - A section writes the CPU's section word twice. A get writes its passive word once for its reference, and twice more if it tried an entry in vain. The
- *   calls write nothing else.
+ * - An entry that the CPU remembers, and that is live all the time, is found without a section. So is it that there is none, if no entry is live, or if the
+ *   newest one was the same as the CPU found none.
+ * - A section writes the CPU's section word twice. A lookup has one, and a get one more if it finds an entry, and tries it in vain. A get writes its
+ *   passive word once for its reference, and twice more for each try in vain. The calls write nothing else.
  * - A get has one reference, to an entry that isn't destroyed, or none if it finds nothing.
  *
  * For x86-64.
@@ -43,10 +44,10 @@ enum { OWN_WORDS = 16 + TABLE_ROW * LOOKER };
 static struct registry_keeper keeper;
 static struct registry_cpu cpus[CPUS];
 
-/* The names of the driver that is looked up, and of the other one. What the looker's CPU remembers: the driver's number, or 0, and after how many changes
-   there was none. After how many changes the registry was as the last lookup of any CPU had it. */
+/* The names of the driver that is looked up, and of the other one. What the looker's CPU remembers: the driver's number, or 0, and the number of the newest
+   entry as it found none in a section, or 0 if that isn't certain. After how many changes the registry was as the last lookup of any CPU had it. */
 static struct registry_name wm, other;
-static uint64_t remembered, missing, last_seen;
+static uint64_t remembered, missed, last_seen;
 
 /* The table's memory. From the opening on it can be written only while a write of a thread's is done. */
 static char *table;
@@ -201,6 +202,13 @@ static uint64_t number_after(uint64_t changes)
 	return place == 1 ? changes : place == 2 ? changes - 1 : 0;
 }
 
+/* The number of the newest entry, after so many changes, or 0. */
+static uint64_t newest_after(uint64_t changes)
+{
+	uint64_t place = changes % 4;
+	return place == 0 ? 0 : place == 3 ? changes - 1 : changes;
+}
+
 static uint64_t value_of(uint64_t number)
 {
 	return number * 3;
@@ -217,9 +225,10 @@ static uint64_t moment_of(uint64_t number, uint64_t from, uint64_t to)
 /* Whether the looker's CPU knows the result without a section: what it remembers was so all the time. */
 static bool is_known(uint64_t from, uint64_t to)
 {
-	if (remembered == 0)
-		return RECALLS_ABSENT && from == to && missing == to;
-	return number_after(from) == remembered && number_after(to) == remembered;
+	uint64_t newest = newest_after(to);
+	if (remembered != 0 && number_after(from) == remembered && number_after(to) == remembered)
+		return true;
+	return from == to && number_after(to) == 0 && (newest == 0 || newest == missed);
 }
 
 /* The result of a lookup is from no earlier moment than the one before it, of any CPU. */
@@ -232,13 +241,14 @@ static void judge_moment(uint64_t from, uint64_t to, uint64_t number)
 /* What a lookup wrote: it began after `from` changes had returned, and ended before the one after `to` began. */
 static void judge_writes(uint64_t from, uint64_t to, uint64_t number)
 {
-	bool has_tried = call == registry_get && section_writes != 0 && remembered != 0;
+	bool is_recalled = section_writes == 0 && number == remembered;
+	unsigned tries = call != registry_get ? 0 : (remembered != 0 && !is_recalled) + (section_writes == 4);
 	EXPECT(references() == (call == registry_get && number != 0));
-	EXPECT(passive_writes == references() + (has_tried ? 2 : 0));
+	EXPECT(passive_writes == references() + 2 * tries);
 	if (section_writes == 0)
-		EXPECT(number == remembered && (number != 0 || RECALLS_ABSENT));
+		EXPECT(number == 0 || number == remembered);
 	else
-		EXPECT(section_writes == 2 && !is_known(from, to));
+		EXPECT((section_writes == 2 || (section_writes == 4 && call == registry_get)) && !is_known(from, to));
 }
 
 /* The same, and what the lookup returned. */
@@ -256,7 +266,8 @@ static void judge(uint64_t from, uint64_t to, registry_answer answer, const stru
 	reused += remembered != 0 && from % 8 == 5;
 	judge_moment(from, to, number);
 	remembered = number;
-	missing = from == to ? to : 0;
+	if (number == 0 && section_writes != 0)
+		missed = from == to ? newest_after(to) : 0;
 }
 
 /* Releases what a get has acquired: exactly one reference. */
@@ -329,7 +340,7 @@ static void detach(const struct registry_name *name)
 	registry_answer answer = registry_destroy(&keeper, &cpus[CHANGER], gone.number, &met);
 	if (answer == REGISTRY_STILL_HELD) {
 		EXPECT(!has_ended && met.what == LOOKER && (met.stage == REGISTRY_GRACE || met.stage == REGISTRY_PASSIVE));
-		EXPECT(met.stage == REGISTRY_GRACE ? section_writes == 1 : references() == 1);
+		EXPECT(met.stage == REGISTRY_GRACE ? section_writes % 2 == 1 : references() == 1);
 		holds[met.stage]++;
 		stop_again();
 		answer = registry_destroy(&keeper, &cpus[CHANGER], gone.number, &met);

@@ -305,6 +305,8 @@ static void check_spent_by_gets(void)
 /* Drivers by so many names, one in each slot, and as many names that no entry has. */
 enum { NAMES = REGISTRY_MOST_SLOTS < 32 ? REGISTRY_MOST_SLOTS : 32, LOOKUPS = 1000 };
 static struct registry_name names[NAMES], absent[NAMES];
+/* So many names that no entry has, no two of which share a place among those that a CPU has missed. */
+enum { MISSED = NAMES < 16 ? NAMES : 16 };
 
 /* Goes through the sections that the CPU has left: how many there were. */
 static uint64_t spend_rest(struct registry_cpu *cpu)
@@ -376,14 +378,14 @@ static void check_remembered(void)
 /* The same of names that no entry has: an attach has each begin one section more. */
 static void check_absent_remembered(void)
 {
-	const struct registry_settings settings = {CPUS, NAMES, REGISTRY_MOST_CHANGES, 2 * NAMES + 8, 2, 2};
+	const struct registry_settings settings = {CPUS, NAMES, REGISTRY_MOST_CHANGES, 2 * MISSED + 8, 2, 2};
 	struct registry_cpu *cpu = &cpus[0];
 	DONE(registry_open(&settings, &keeper, cpus, CPUS));
 	for (unsigned made = 0; made < 2; made++) {
 		attach_named(made);
-		for (unsigned i = 0; i < LOOKUPS * NAMES; i++) {
-			EXPECT(registry_look_up(cpu, REGISTRY_DRIVER, &absent[i % NAMES], NULL) == REGISTRY_NOT_FOUND);
-			EXPECT(registry_get(cpu, REGISTRY_DRIVER, &absent[i % NAMES], NULL) == REGISTRY_NOT_FOUND);
+		for (unsigned i = 0; i < LOOKUPS * MISSED; i++) {
+			EXPECT(registry_look_up(cpu, REGISTRY_DRIVER, &absent[i % MISSED], NULL) == REGISTRY_NOT_FOUND);
+			EXPECT(registry_get(cpu, REGISTRY_DRIVER, &absent[i % MISSED], NULL) == REGISTRY_NOT_FOUND);
 		}
 	}
 	EXPECT(spend_rest(cpu) == 8);
@@ -705,8 +707,7 @@ int main(int argc, char **argv)
 	check_spent();
 	check_spent_by_gets();
 	check_remembered();
-	if (RECALLS_ABSENT)
-		check_absent_remembered();
+	check_absent_remembered();
 	check_numbers();
 	run_lookers(800 * (uint64_t)changes);
 	run_threads(changes);

@@ -4,7 +4,7 @@ ghost use Rattle.std.specs.Prelude.{◌≡◌, ◌≢◌, ◌↔◌, ◌<◌, �
 ghost use Rattle.registry_values.specs.Common.{Answers};
 ghost use Rattle.cpu_words.specs.Common.{AreWordsOf, key_with, references_to};
 ghost use mathlib.Core.List.{IsPrefix};
-ghost use Rattle.passive_list.specs.Common.{FindsWhatStays, HasFoundByMemory, HasFoundInside, HasHeardOn, WasShown, has_heard, has_told, entry_seen, AnswersEnter, HasExitedOn, may_begin};
+ghost use Rattle.passive_list.specs.Common.{FindsInside, FindsWhatStays, HasFoundByMemory, HasHeardOn, WasShown, has_heard, has_told, entry_seen, AnswersEnter, HasExitedOn, may_begin};
 ghost use Rattle.passive_ref.specs.Gets.{HasGotByMemory};
 ghost use Rattle.passive_ref.specs.Psrefs.{GivesBack, HasOneLess, IsAcquired, IsCopied, IsReadAs, why_not_acquired, why_not_copied, why_unusable};
 
@@ -158,10 +158,12 @@ impl CpuBody {
         exit_on(&self.words, &mut self.cpu);
     }
 
-    /// Looks an entry up, and remembers it. Condition: inside.
-    pub fn find(&mut self, kind: Kind, name: &Name) -> Option<Entry>
+    /// Looks an entry up in the open section, by memory or by a search, and returns its words. Condition: inside.
+    #[inline(always)]
+    pub fn find(&mut self, kind: Kind, name: Name) -> Option<Seen>
         requires inside { self.old.cpu.view.begin ≢ None }
-        ensures found { HasFoundInside (key_with kind name.now) self.old.cpu self.new.cpu result }
+        ensures found { FindsInside (key_with kind name) self.old.cpu self.new.cpu result }
+        ensures slot { IfSome result (λ seen. seen.slot < MOST_SLOTS) }
         ensures words { self.new.words ≡ self.old.words }
     {
         find_inside_on(&self.words, &mut self.cpu, kind, name)

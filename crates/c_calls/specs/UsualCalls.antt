@@ -67,18 +67,43 @@ pub record LooksUp (kind : ℕ) (name : Option CName) (a b : OnPlainCpu) (n : �
 abbrev pub GetsInSection : ℕ → Option CName → OnPlainCpu → OnPlainCpu → ℕ → Option CEntry → Option CEntry → Type 0
 GetsInSection kind name a b n old new = Between a b n (new ≡ old) (λ x y. FindsAndAcquires kind name x y n old new)
 
--- The CPU has tried by memory, and is c then. If it got an entry, it has one reference more, to the entry that is written. Else the calls follow.
-abbrev pub GetsAfter : ℕ → Kind → CName → OnPlainCpu → OnPlainCpu → Option (Seen × OnPsref) → ℕ → Option CEntry → Option CEntry → Type 0
-GetsAfter kind k m c b None n old new = GetsInSection kind (Some m) c b n old new
-GetsAfter kind k m c b (Some got) n old new = (b ≡ c) × WritesFound (entry_seen (key_in k m) (Some got.0)) n old new
+-- what such a try returns and writes: nothing without a reference
+abbrev pub TriedSo : Kind → CName → Option (Seen × OnPsref) → Option ℕ → Option CEntry → Option CEntry → Type 0
+TriedSo k m None r old new = (r ≡ None) × (new ≡ old)
+TriedSo k m (Some got) r old new = (n : ℕ) × (r ≡ Some n) × WritesFound (entry_seen (key_in k m) (Some got.0)) n old new
 
--- By one addition and one load, if the CPU remembers a live entry with the key; else in a section of the call's own.
-pub record GetsByMemory (kind : ℕ) (k : Kind) (m : CName) (a b : OnPlainCpu) (n : ℕ) (old new : Option CEntry) : Type 0 where
-  pub tried : OnPlainCpu
+-- By one addition and one load, if the CPU remembers a live entry with the key: it has one reference more, to the entry that is written.
+pub record TriesOnce (k : Kind) (m : CName) (a b : OnPlainCpu) (r : Option ℕ) (old new : Option CEntry) : Type 0 where
   pub got : Option (Seen × OnPsref)
-  pub gets : HasGotByMemory (key_in k m) a.cpu tried.cpu got
-  pub words : tried.words ≡ a.words
-  pub after : GetsAfter kind k m tried b got n old new
+  pub gets : HasGotByMemory (key_in k m) a.cpu b.cpu got
+  pub words : b.words ≡ a.words
+  pub so : TriedSo k m got r old new
+
+-- one such try, and P if it got nothing
+pub record Tries (k : Kind) (m : CName) (a b : OnPlainCpu) (n : ℕ) (old new : Option CEntry) (P : OnPlainCpu → Type 0) : Type 0 where
+  pub tried : OnPlainCpu
+  pub answer : Option ℕ
+  pub value : Option CEntry
+  pub tries : TriesOnce k m a tried answer old value
+  pub done : (i : ℕ) → answer ≡ Some i → (n ≡ i) × (b ≡ tried) × (new ≡ value)
+  pub vain : answer ≡ None → P tried
+
+-- by memory, else in a section
+abbrev pub GetsFound : ℕ → Kind → CName → OnPlainCpu → OnPlainCpu → ℕ → Option CEntry → Option CEntry → Type 0
+GetsFound kind k m a b n old new = Tries k m a b n old new (λ c. GetsInSection kind (Some m) c b n old new)
+
+-- A lookup. If there is no such entry, that is the answer, and nothing is written. Else the get follows.
+pub record GetsAnew (kind : ℕ) (k : Kind) (m : CName) (a b : OnPlainCpu) (n : ℕ) (old new : Option CEntry) : Type 0 where
+  pub looked : OnPlainCpu
+  pub seen : Option Seen
+  pub finds : HasFoundByMemory (key_in k m) a.cpu looked.cpu seen
+  pub stays : FindsWhatStays (key_in k m) a.cpu.view.pass looked.cpu.view.pass (entry_seen (key_in k m) seen)
+  pub words : looked.words ≡ a.words
+  pub none : seen ≡ None → (b ≡ looked) × WritesFound None n old new
+  pub some : seen ≢ None → GetsFound kind k m looked b n old new
+
+abbrev pub GetsByMemory : ℕ → Kind → CName → OnPlainCpu → OnPlainCpu → ℕ → Option CEntry → Option CEntry → Type 0
+GetsByMemory kind k m a b n old new = Tries k m a b n old new (λ c. GetsAnew kind k m c b n old new)
 
 -- By memory where it may. Else by an enter, a find, an acquire and an exit.
 pub record Gets (kind : ℕ) (name : Option CName) (a b : OnPlainCpu) (n : ℕ) (old new : Option CEntry) : Type 0 where

@@ -3,15 +3,18 @@
 ghost use Rattle.std.specs.Prelude.{◌≡◌, ◌≢◌, ℕ, Option, Some, None, IfErr};
 ghost use Rattle.c_values.specs.declared.values.TheConstants.{DONE};
 ghost use Rattle.c_values.specs.declared.values.CEntry.{CEntry};
-ghost use Rattle.c_values.specs.Values.{kind_in};
-ghost use Rattle.c_calls.specs.Calls.{Acquires, Copies, Enters, Exits, Finds, FindsNamed, Reads, Releases, TellsFound};
+ghost use Rattle.cpu_words.specs.Common.{key_with};
+ghost use Rattle.passive_list.specs.Common.{entry_seen};
+ghost use Rattle.c_values.specs.Values.{kind_in, name_in};
+ghost use Rattle.c_calls.specs.Calls.{Acquires, Copies, Enters, Exits, Finds, FindsNamed, Reads, Releases, TellsFound, WritesFound};
 
 use c_bodies::CpuBody;
 use c_values::place::{EntryPlace, NumberPlace};
 use c_values::values::{
-    BAD_KIND, CName, DONE, NULL, OUTSIDE, answered, entry_out, kind_in, name_in, refused,
+    BAD_KIND, CEntry, CName, DONE, NULL, OUTSIDE, answered, entry_out, kind_in, name_in, refused,
 };
-use registry_values::{Entry, Kind, Refusal};
+use passive_list::{Seen, entry_of};
+use registry_values::{Entry, Kind, Refusal, kind_word};
 
 /// Enters a section, or the open one once more.
 pub fn enter(cpu: &mut CpuBody) -> u32
@@ -56,10 +59,26 @@ fn find_inside(cpu: &mut CpuBody, kind: Kind, name: CName, found: &mut EntryPlac
     ensures place { found.new.at ≡ found.old.at }
     ensures call { (word : ℕ) → kind_in word ≡ Some kind → Finds word name cpu.old cpu.new result found.old.value found.new.value }
 {
-    let Some(met) = cpu.find(kind, &name_in(&name)) else {
+    let seen = cpu.find(kind, name_in(&name));
+    put_seen(seen, kind, name, found)
+}
+
+/// Writes a lookup's answer, and returns its number.
+#[inline(always)]
+pub fn put_seen(answer: Option<Seen>, kind: Kind, name: CName, found: &mut EntryPlace) -> u32
+    ensures place { found.new.at ≡ found.old.at }
+    ensures written { WritesFound (entry_seen (key_with kind (name_in name)) answer) result found.old.value found.new.value }
+{
+    let Some(seen) = answer else {
         return refused(Refusal::NotFound);
     };
-    found.put(entry_out(met));
+    found.put(CEntry {
+        number: seen.number,
+        slot: seen.slot,
+        kind: kind_word(kind),
+        name,
+        value: seen.value,
+    });
     DONE
 }
 
@@ -87,7 +106,9 @@ fn find(cpu: &mut CpuBody, kind: u64, name: &CName) -> Result<Entry, u32>
     if !cpu.inside() {
         return Err(OUTSIDE);
     }
-    match cpu.find(kind, &name_in(name)) {
+    let name = name_in(name);
+    let seen = cpu.find(kind, name);
+    match entry_of(seen, kind, name) {
         None => Err(refused(Refusal::NotFound)),
         Some(entry) => Ok(entry),
     }

@@ -4,19 +4,17 @@
 //! Each writes to C's place last: a store before the addition that ends the section would have to be done before it.
 
 ghost use Rattle.std.specs.Prelude.{◌≡◌, ◌≢◌, ℕ, IsTrue, Option, Some, None};
-ghost use Rattle.cpu_words.specs.Common.{key_with};
-ghost use Rattle.passive_list.specs.Common.{entry_seen, may_begin};
+ghost use Rattle.passive_list.specs.Common.{may_begin};
 ghost use Rattle.c_values.specs.declared.values.CEntry.{CEntry};
 ghost use Rattle.c_values.specs.declared.values.TheConstants.{DONE};
-ghost use Rattle.c_calls.specs.Calls.{Enters, TellsFound, WritesFound};
-ghost use Rattle.c_calls.specs.UsualCalls.{EntersAndFinds, FindsAndAcquires, GetsByMemory, GetsInSection, LooksUpByMemory, LooksUpInSection, Seeks};
-ghost use Rattle.c_values.specs.Values.{kind_in, name_in};
+ghost use Rattle.c_calls.specs.Calls.{Enters, TellsFound};
+ghost use Rattle.c_calls.specs.UsualCalls.{EntersAndFinds, FindsAndAcquires, GetsAnew, GetsByMemory, GetsFound, GetsInSection, LooksUpByMemory, LooksUpInSection, Seeks, TriesOnce};
+ghost use Rattle.c_values.specs.Values.{kind_in};
 
-use crate::cpu_calls::{enter, exit, find_named, look, tell};
+use crate::cpu_calls::{enter, exit, find_named, look, put_seen, tell};
 use c_bodies::CpuBody;
 use c_values::place::EntryPlace;
-use c_values::values::{CEntry, CName, DONE, kind_in, name_in, refused};
-use passive_list::Seen;
+use c_values::values::{CName, DONE, kind_in, name_in, refused};
 use registry_values::{Entry, Kind, Refusal, kind_word};
 
 /// The kind and the name to look up, if the call may go by memory: both are given, and the CPU is outside and has a section left.
@@ -45,25 +43,6 @@ pub fn look_by_memory(cpu: &mut CpuBody, kind: Kind, name: CName, found: &mut En
     put_seen(seen, kind, name, found)
 }
 
-/// Writes a lookup's answer, and returns its number.
-#[inline(always)]
-fn put_seen(answer: Option<Seen>, kind: Kind, name: CName, found: &mut EntryPlace) -> u32
-    ensures place { found.new.at ≡ found.old.at }
-    ensures written { WritesFound (entry_seen (key_with kind (name_in name)) answer) result found.old.value found.new.value }
-{
-    let Some(seen) = answer else {
-        return refused(Refusal::NotFound);
-    };
-    found.put(CEntry {
-        number: seen.number,
-        slot: seen.slot,
-        kind: kind_word(kind),
-        name,
-        value: seen.value,
-    });
-    DONE
-}
-
 /// Looks an entry up by an enter, a find and an exit.
 pub fn look_up(cpu: &mut CpuBody, kind: u64, name: Option<CName>, found: &mut EntryPlace) -> u32
     ensures place { found.new.at ≡ found.old.at }
@@ -78,22 +57,58 @@ pub fn look_up(cpu: &mut CpuBody, kind: u64, name: Option<CName>, found: &mut En
     tell(looked, found)
 }
 
-/// Acquires a passive reference to the entry that the CPU remembers, by one addition and one load. If that gets none, looks it up and acquires it
-/// in a section of the call's own.
+/// Acquires a passive reference to the entry that the CPU remembers, by one addition and one load. If that gets none, looks the entry up and tries
+/// once more, and then in a section of the call's own. Conditions: outside; a section is left.
 #[inline(always)]
 pub fn get_by_memory(cpu: &mut CpuBody, kind: Kind, name: CName, found: &mut EntryPlace) -> u32
+    requires outside { cpu.old.cpu.depth ≡ 0 }
+    requires room { IsTrue (may_begin cpu.old.cpu.view) }
     ensures place { found.new.at ≡ found.old.at }
     ensures call { (word : ℕ) → kind_in word ≡ Some kind → GetsByMemory word kind name cpu.old cpu.new result found.old.value found.new.value }
 {
-    let Some((seen, psref)) = cpu.get_by_memory(kind, name_in(&name)) else {
-        return get_in_section(cpu, kind, name, found);
-    };
-    cpu.keep(psref);
-    put_seen(Some(seen), kind, name, found)
+    match try_memory(cpu, kind, name, found) {
+        Some(answer) => answer,
+        None => get_anew(cpu, kind, name, found),
+    }
 }
 
-/// `get` of a kind and a name that there are. It stands apart, so that a get by memory saves no register for it.
+/// Acquires it so, and writes the entry. `None`: nothing is acquired.
+#[inline(always)]
+fn try_memory(cpu: &mut CpuBody, kind: Kind, name: CName, found: &mut EntryPlace) -> Option<u32>
+    ensures place { found.new.at ≡ found.old.at }
+    ensures call { TriesOnce kind name cpu.old cpu.new result found.old.value found.new.value }
+{
+    let (seen, psref) = cpu.get_by_memory(kind, name_in(&name))?;
+    cpu.keep(psref);
+    Some(put_seen(Some(seen), kind, name, found))
+}
+
+/// Looks an entry up, and gets it if there is one. It stands apart, so that a get by memory saves no register for it.
 #[inline(never)]
+fn get_anew(cpu: &mut CpuBody, kind: Kind, name: CName, found: &mut EntryPlace) -> u32
+    requires outside { cpu.old.cpu.depth ≡ 0 }
+    requires room { IsTrue (may_begin cpu.old.cpu.view) }
+    ensures place { found.new.at ≡ found.old.at }
+    ensures call { (word : ℕ) → kind_in word ≡ Some kind → GetsAnew word kind name cpu.old cpu.new result found.old.value found.new.value }
+{
+    if cpu.find_by_memory(kind, name_in(&name)).is_none() {
+        return refused(Refusal::NotFound);
+    }
+    get_found(cpu, kind, name, found)
+}
+
+/// Acquires a passive reference to the entry that the CPU remembers, else in a section of the call's own.
+fn get_found(cpu: &mut CpuBody, kind: Kind, name: CName, found: &mut EntryPlace) -> u32
+    ensures place { found.new.at ≡ found.old.at }
+    ensures call { (word : ℕ) → kind_in word ≡ Some kind → GetsFound word kind name cpu.old cpu.new result found.old.value found.new.value }
+{
+    match try_memory(cpu, kind, name, found) {
+        Some(answer) => answer,
+        None => get_in_section(cpu, kind, name, found),
+    }
+}
+
+/// `get` of a kind and a name that there are.
 fn get_in_section(cpu: &mut CpuBody, kind: Kind, name: CName, found: &mut EntryPlace) -> u32
     ensures place { found.new.at ≡ found.old.at }
     ensures call { (word : ℕ) → kind_in word ≡ Some kind → GetsInSection word (Some name) cpu.old cpu.new result found.old.value found.new.value }

@@ -1,5 +1,5 @@
 -- An entry is recalled by a CPU's seat: by one load of the slot's live word. Or the newest one, by a load of the head.
-use Rattle.std.specs.Prelude.{◌≡◌, ℕ, ◌<◌, ◌≤◌, List, length, Some, None}
+use Rattle.std.specs.Prelude.{◌≡◌, ◌≢◌, ℕ, ◌<◌, ◌≤◌, List, length, Some, None}
 use mathlib.Core.List.{IsPrefix}
 use Rattle.cpu_words.specs.Types.{Entry, Change, Event, Recall, RecallHead, Word}
 use Rattle.protocol.specs.Common.{IsAttached, IsLiveAt, IsNewestAt}
@@ -18,9 +18,10 @@ pub record MayRecall (x : CpuView) (t : ℕ) : Type 0 where
 abbrev pub HasSeenMore : CpuView → CpuView → Type 0
 HasSeenMore x y = IsPrefix x.pass y.pass × (y ≡ record x { pass = y.pass })
 
--- the number n is of no entry but the one that is live in the slot t after all changes of h
-abbrev pub IsLiveNumber : List Change → ℕ → ℕ → Type 0
-IsLiveNumber h t n = (e : Entry) → IsAttached h e → e.number ≡ n → IsLiveAt h (length h) e × (e.slot ≡ t)
+-- the number n is 0, or of the entry that is live in the slot t after all changes of h, and of no other
+pub record IsLiveNumber (h : List Change) (t n : ℕ) : Type 0 where
+  pub only : (e : Entry) → IsAttached h e → e.number ≡ n → IsLiveAt h (length h) e × (e.slot ≡ t)
+  pub one : n ≢ 0 → (e : Entry) × IsLiveAt h (length h) e × (e.slot ≡ t) × (e.number ≡ n)
 
 -- n was loaded: an entry with this number is live at the end of the pass, which is the whole history
 pub record HasRecalled (x : CpuView) (t n : ℕ) (y : CpuView) : Type 0 where

@@ -1,5 +1,5 @@
 -- What a lookup and a get answer and leave: by memory from outside, else by the calls that they take the place of, one after the other.
-use Rattle.std.specs.Prelude.{◌≡◌, ◌⊎◌, Option, Some, None, Result, Ok, Err, IsTrue}
+use Rattle.std.specs.Prelude.{◌≡◌, ◌≢◌, ◌⊎◌, Option, Some, None, Result, Ok, Err, IsTrue}
 use Rattle.name_registry.specs.Types.{Entry, Key, Refusal, NotFound}
 use Rattle.passive_list.specs.Common.{AnswersEnter, FindsWhatStays, HasExitedOn, HasFoundInside, HasFoundRemembered, OnCpu, may_begin}
 use Rattle.passive_ref.specs.Psrefs.{IsAcquired, OnPsref, why_not_acquired}
@@ -38,11 +38,33 @@ pub record FindsAndAcquires (key : Key) (a b : OnCpu) (r : Result (Entry × OnPs
 abbrev pub GetsInSection : Key → OnCpu → OnCpu → Result (Entry × OnPsref) Refusal → Type 0
 GetsInSection key a b r = InSection a b r (λ x y. FindsAndAcquires key x y r)
 
--- what follows a get by memory: nothing where it got a reference, else the calls
-abbrev pub GetsAfter : Key → OnCpu → OnCpu → Option (Entry × OnPsref) → Result (Entry × OnPsref) Refusal → Type 0
-GetsAfter key c b None r = GetsInSection key c b r
-GetsAfter key c b (Some got) r = (r ≡ Ok got) × (b ≡ c)
+-- what follows a try by memory: nothing where it got a reference, else P
+abbrev pub TriedSo : OnCpu → OnCpu → Option (Entry × OnPsref) → Result (Entry × OnPsref) Refusal → (OnCpu → Type 0) → Type 0
+TriedSo c b None r P = P c
+TriedSo c b (Some got) r P = (r ≡ Ok got) × (b ≡ c)
+
+pub record Tries (key : Key) (a b : OnCpu) (r : Result (Entry × OnPsref) Refusal) (P : OnCpu → Type 0) : Type 0 where
+  pub tried : OnCpu
+  pub got : Option (Entry × OnPsref)
+  pub gets : HasGotRemembered key a tried got
+  pub after : TriedSo tried b got r P
+
+-- by memory, else in a section
+abbrev pub GetsFound : Key → OnCpu → OnCpu → Result (Entry × OnPsref) Refusal → Type 0
+GetsFound key a b r = Tries key a b r (λ c. GetsInSection key c b r)
+
+-- A lookup. Where there is no entry the get is refused, else it follows.
+pub record GetsAnew (key : Key) (a b : OnCpu) (r : Result (Entry × OnPsref) Refusal) : Type 0 where
+  pub looked : OnCpu
+  pub found : Option Entry
+  pub finds : HasFoundRemembered key a looked found
+  pub stays : FindsWhatStays key a.view.pass looked.view.pass found
+  pub none : found ≡ None → (r ≡ Err NotFound) × (b ≡ looked)
+  pub some : found ≢ None → GetsFound key looked b r
+
+abbrev pub GetsByMemory : Key → OnCpu → OnCpu → Result (Entry × OnPsref) Refusal → Type 0
+GetsByMemory key a b r = Tries key a b r (λ c. GetsAnew key c b r)
 
 pub record Gets (key : Key) (a b : OnCpu) (r : Result (Entry × OnPsref) Refusal) : Type 0 where
-  pub by_memory : MayBegin a → (got : Option (Entry × OnPsref)) × (c : OnCpu) × HasGotRemembered key a c got × GetsAfter key c b got r
+  pub by_memory : MayBegin a → GetsByMemory key a b r
   pub by_calls : (MayBegin a → ⊥) → GetsInSection key a b r

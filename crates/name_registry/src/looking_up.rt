@@ -1,8 +1,9 @@
 //! Lookups and gets by memory: a CPU that has found an entry loads one word to see that it is live still.
 
-ghost use Rattle.std.specs.Prelude.{◌≡◌, ◌≢◌, None};
+ghost use Rattle.std.specs.Prelude.{◌≡◌, ◌≢◌, IsTrue, None};
 ghost use Rattle.cpu_words.specs.Common.{AreWordsOf, key_with};
-ghost use Rattle.name_registry.specs.LookingUp.{FindsAndAcquires, Gets, GetsInSection, LooksUp, found_or};
+ghost use Rattle.passive_list.specs.Common.{may_begin};
+ghost use Rattle.name_registry.specs.LookingUp.{FindsAndAcquires, Gets, GetsAnew, GetsByMemory, GetsFound, GetsInSection, LooksUp, found_or};
 
 use crate::registry::Registry;
 use cpu_words::{Domain, Words};
@@ -32,19 +33,69 @@ impl<D: Domain> Registry<D> {
     /// Looks an entry up and acquires a passive reference to it (psref(9)).
     ///
     /// Outside a section it goes by memory: for an entry that the CPU remembers it adds 1 to a word of the CPU's, and loads one word. If that
-    /// says that the entry is live, the addition is the reference. Else, and in an open section, it is an enter, a find, an acquire and an
-    /// exit.
+    /// says that the entry is live, the addition is the reference. Else it looks the entry up as `look_up` does, and tries once more if there is
+    /// one. If that fails too, and in an open section, it is an enter, a find, an acquire and an exit.
     /// Refused: `TooDeep`, `SectionsSpent`, as `enter`, and nothing has changed; `NotFound`; `PassiveFull`. Nothing is acquired then.
     pub fn get(&self, cpu: &mut Cpu<D>, kind: Kind, name: &Name) -> Result<(Entry, Psref), Refusal>
         ensures { Gets (key_with kind name.now) cpu.old cpu.new result }
     {
         if may_begin_on(&self.words, &cpu.plain) {
-            if let Some(got) = get_remembered(&self.words, cpu, kind, name) {
-                return Ok(got);
-            }
+            return get_from_outside(&self.words, cpu, kind, name);
         }
         get_in_section(&self.words, cpu, kind, name)
     }
+}
+
+/// Acquires a reference to the entry that the CPU remembers, else looks it up first. Conditions: outside; a section is left.
+fn get_from_outside<D: Domain>(
+    words: &Words,
+    cpu: &mut Cpu<D>,
+    kind: Kind,
+    name: &Name,
+) -> Result<(Entry, Psref), Refusal>
+    requires words { AreWordsOf words.now D.table D.settings }
+    requires outside { cpu.old.depth ≡ 0 }
+    requires room { IsTrue (may_begin cpu.old.view) }
+    ensures { GetsByMemory (key_with kind name.now) cpu.old cpu.new result }
+{
+    if let Some(got) = get_remembered(words, cpu, kind, name) {
+        return Ok(got);
+    }
+    get_anew(words, cpu, kind, name)
+}
+
+/// Looks an entry up, and acquires a reference to it, if there is one. Conditions: outside; a section is left.
+fn get_anew<D: Domain>(
+    words: &Words,
+    cpu: &mut Cpu<D>,
+    kind: Kind,
+    name: &Name,
+) -> Result<(Entry, Psref), Refusal>
+    requires words { AreWordsOf words.now D.table D.settings }
+    requires outside { cpu.old.depth ≡ 0 }
+    requires room { IsTrue (may_begin cpu.old.view) }
+    ensures { GetsAnew (key_with kind name.now) cpu.old cpu.new result }
+{
+    if find_remembered(words, cpu, kind, name).is_none() {
+        return Err(Refusal::NotFound);
+    }
+    get_found(words, cpu, kind, name)
+}
+
+/// Acquires a reference to the entry that the CPU remembers, else in a section.
+fn get_found<D: Domain>(
+    words: &Words,
+    cpu: &mut Cpu<D>,
+    kind: Kind,
+    name: &Name,
+) -> Result<(Entry, Psref), Refusal>
+    requires words { AreWordsOf words.now D.table D.settings }
+    ensures { GetsFound (key_with kind name.now) cpu.old cpu.new result }
+{
+    if let Some(got) = get_remembered(words, cpu, kind, name) {
+        return Ok(got);
+    }
+    get_in_section(words, cpu, kind, name)
 }
 
 /// Looks an entry up and acquires a reference to it in a section.

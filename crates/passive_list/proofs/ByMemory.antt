@@ -1,14 +1,20 @@
 -- A lookup by memory: what its load tells, and what its section does.
-use Rattle.std.proofs.Common.{◌≡◌, ℕ, ◌==◌, ◌+◌, ◌<◌, ◌≤◌, IfSome, List, length, Bool, true, false, ◌++◌, Option, Some, None, refl, sym, ap, ◌∙◌, subst, arith}
-use Rattle.std.proofs.lemmas.Bool.{eqb-true, eq-eqb, false≢true}
+use Rattle.std.proofs.Common.{◌≡◌, ◌≢◌, ⊎_elim, inl, inr, ℕ, zero, suc, [], ◌+◌, ◌<◌, ◌≤◌, IfSome, List, length, Bool, true, false, ◌++◌, Option, Some, None, refl, sym, ap, ◌∙◌, subst, arith}
+use Rattle.std.proofs.lemmas.List.{append-nil}
+use Rattle.std.proofs.lemmas.Bool.{cases_lt, eqb-true, eq-eqb, false≢true}
 use mathlib.Core.List.{IsPrefix}
-use Rattle.passive_list.specs.Types.{Attach, Change, Entry, Key, MOST_SLOTS, Recall, Word, CpuView}
+use Rattle.passive_list.specs.Types.{Attach, Change, Detach, Entry, Key, MOST_SLOTS, Recall, Word, CpuView}
 use Rattle.registry_values.specs.Common.{key_of}
 use Rattle.protocol.specs.Common.{EndsAt, IsAttached, IsLegal, IsLiveAt, IsLookup, entry_with}
-use Rattle.protocol.proofs.history.History.{at_within, one_live}
+use Rattle.protocol.specs.History.{change_at}
+use Rattle.protocol.proofs.history.History.{at_within, live_down, one_live}
 use Rattle.cpu_words.specs.Common.{HasWholePass, Named, did}
 use Rattle.cpu_words.proofs.shown.Passes.{attached_prefix}
-use Rattle.passive_list.specs.Common.{HasFound, HasFoundFromOutside, HasRecalledOn, HasRefoundOn, OnCpu, OnPlainCpu, entry_seen, may_begin, Seen, FindsWhatStays, HasFoundAnew, HasRecalledAs, HasRecalledInVain, HasSeen, RecallsSeen, RefindsSeen}
+use Rattle.std.specs.Prelude.{is_some}
+use Rattle.passive_list.specs.declared.memory.Memory.{Memory}
+use Rattle.passive_list.specs.declared.memory.Miss.{Miss}
+use Rattle.passive_list.specs.Common.{HasFound, HasFoundFromOutside, HasNumbered, HasRecalledHeadOn, HasRecalledOn, HasRefoundOn, OnCpu, OnPlainCpu, WasAbsent, entry_seen, may_begin, Seen, IsMiss, IsTrueMiss, Misses, miss_at, miss_hint, with_miss, FindsAndRemembers, FindsWhatStays, HasFoundAnew, HasFoundInSection, HasRecalledAs, HasRecalledInVain, HasSeen, IsAbsentAt, FindsAfterHead, FindsAfterWord, RecallsSeen, RefindsSeen, RemembersAnswer}
+use Rattle.passive_list.proofs.Memories.{ends_on, numbered_longer, length_longer, live_back}
 use Rattle.passive_list.proofs.Walking.{prefix_trans}
 
 -- what the load tells
@@ -21,7 +27,7 @@ recalls_seen o key s b true had recalled =
       pass = recalled.pass;
       is = recalled.is;
       whole = recalled.whole;
-      answered = ((recalled.live e attached (sym word)).0, refl);
+      answered = ((recalled.live.only e attached (sym word)).0, refl);
       log = recalled.log ∙ ap (λ (n : ℕ). a.log ++ did (Recall a.view.id s.slot) (Word n)) word;
     }
 recalls_seen o key s b false had recalled =
@@ -113,6 +119,175 @@ found_stays key h a b answer had outside longer f attached same unended =
     let live = live_still g f here (λ q ends. unended q (subst (λ (i : List Change). EndsAt i f.number q) (sym left) ends)) p.point (omega (arith, begun, p.from_on)) in
     same_answer g p.point key answer f had.finds.legal p.answered live same
 
+-- in a section, what was found or missed is remembered
+section_stays : (key : Key) (n : ℕ) (h : List Change) (a b : OnCpu) (answer : Option Seen) → HasFoundInSection key n a b answer → a.depth ≡ 0 → IsPrefix h a.view.pass
+    → FindsWhatStays key h b.view.pass (entry_seen key answer)
+section_stays key n h a b answer had outside longer =
+    let f = had.finds in
+    subst (λ (g : List Change). FindsWhatStays key h g (entry_seen key answer)) (ap (λ (c : OnCpu). c.view.pass) (sym f.is)) (found_stays key h a f.left (entry_seen key answer) f.finds outside longer)
+
+-- at the load of the head
+absent_stays : (key : Key) (h g : List Change) (c : OnCpu) (answer : Option Seen) → IsAbsentAt key c answer → IsPrefix h c.view.pass → IsPrefix c.view.pass g → FindsWhatStays key h g (entry_seen key answer)
+absent_stays key h g c answer had before after f attached same unended =
+    let i = c.view.pass in
+    let here = attached_prefix h i f before attached in
+    absurd (had.answered f (live_still i f here (λ p ends. unended p (ends_on i g after f.number p ends)) (length i) (at_within i f.number (Attach f) here).1) same)
+
+word_stays : (key : Key) (t n : ℕ) (h : List Change) (c d b : OnCpu) (answer : Option Seen) → FindsAfterWord key n c d b answer → HasRecalledOn t n c d true → c.depth ≡ 0 → IsPrefix h c.view.pass
+    → FindsWhatStays key h b.view.pass (entry_seen key answer)
+word_stays key t n h c d b answer (inl had) recalled outside longer =
+    absent_stays key h b.view.pass c answer had.1 longer (subst (λ (x : OnCpu). IsPrefix c.view.pass x.view.pass) (sym had.2) recalled.pass)
+word_stays key t n h c d b answer (inr had) recalled outside longer =
+    section_stays key n h d b answer had.1 (ap (λ (x : OnCpu). x.depth) recalled.is ∙ outside) (prefix_trans h c.view.pass d.view.pass longer recalled.pass)
+
+head_stays : (w : ℕ) (key : Key) (h : List Change) (c b : OnCpu) (answer : Option Seen) → FindsAfterHead w key c b answer → c.depth ≡ 0 → IsPrefix h c.view.pass → FindsWhatStays key h b.view.pass (entry_seen key answer)
+head_stays w key h c b answer (inl had) outside longer =
+    absent_stays key h b.view.pass c answer had.1 longer (subst (λ (x : OnCpu). IsPrefix c.view.pass x.view.pass) (sym had.2) ([], append-nil c.view.pass))
+head_stays w key h c b answer (inr had) outside longer = word_stays key had.0 had.1 h c had.2 b answer had.5 had.4 outside longer
+
 pub anew_stays : (key : Key) (h : List Change) (a b : OnCpu) (answer : Option Seen) → HasFoundAnew key a b answer → a.depth ≡ 0 → IsPrefix h a.view.pass → FindsWhatStays key h b.view.pass (entry_seen key answer)
 anew_stays key h a b answer had outside longer =
-    subst (λ (g : List Change). FindsWhatStays key h g (entry_seen key answer)) (ap (λ (c : OnCpu). c.view.pass) (sym had.is)) (found_stays key h a had.left (entry_seen key answer) had.finds outside longer)
+    let c = had.at_head in
+    head_stays had.head key h c b answer had.finds (ap (λ (x : OnCpu). x.depth) had.heads.is ∙ outside) (prefix_trans h a.view.pass c.view.pass longer had.heads.pass)
+
+-- What a miss tells
+
+later_there : (h : List Change) → IsLegal h → (k : ℕ) (e f : Entry) → IsLiveAt h k e → IsLiveAt h k f → e.slot ≡ f.slot → e.number < f.number → ⊥
+later_there h legal k e f le lf same lt = go f.number refl
+  where
+    go : (n : ℕ) → f.number ≡ n → ⊥
+    go zero is = omega (arith, lt, is)
+    go (suc n) is = let begun = lf.begun in legal.new_slot n f e (ap (change_at h) (sym is) ∙ lf.attached) (live_down h k n e le (omega (arith, lt, is)) (omega (arith, begun, is))) same
+
+-- two live entries in one slot have one number
+one_there : (h : List Change) → IsLegal h → (k : ℕ) (e f : Entry) → IsLiveAt h k e → IsLiveAt h k f → e.slot ≡ f.slot → e.number ≡ f.number
+one_there h legal k e f le lf same = ⊎_elim
+    (λ lt. absurd (later_there h legal k e f le lf same lt))
+    (λ ge. ⊎_elim (λ lt. absurd (later_there h legal k f e lf le (sym same) lt)) (λ le2. omega (arith, ge, le2)) (cases_lt f.number e.number))
+    (cases_lt e.number f.number)
+
+-- The entry with the number n is live at the later load, so it was the newest one at the head's load. What is live there was attached by the miss, and would have been found.
+pub still_absent : (key : Key) (t n w : ℕ) (a c d : OnCpu) → WasAbsent a.view.pass key n → HasRecalledHeadOn a c w → w ≡ suc t → HasRecalledOn t n c d true → IsAbsentAt key c None
+still_absent key t n w a c d was heads is recalled = record { none = refl; whole = heads.whole; answered = answered }
+  where
+    h : List Change
+    h = a.view.pass
+
+    g : List Change
+    g = c.view.pass
+
+    i : List Change
+    i = d.view.pass
+
+    e : Entry
+    e = was.newest.entry
+
+    here : IsAttached g e
+    here = attached_prefix h g e heads.pass was.newest.attached
+
+    word : recalled.word ≡ n
+    word = eqb-true recalled.word n (sym recalled.found)
+
+    there : IsLiveAt i (length i) e × (e.slot ≡ t)
+    there = recalled.live.only e (attached_prefix g i e recalled.pass here) (was.newest.number ∙ sym word)
+
+    live : IsLiveAt g (length g) e
+    live = record {
+      attached = here;
+      begun = (at_within g e.number (Attach e) here).1;
+      unended = λ p ends.
+          let after = there.0.unended p (ends_on g i recalled.pass e.number p ends) in
+          let within = (at_within g p (Detach e.number) ends).1 in
+          let more = length_longer g i recalled.pass in
+          absurd (omega (arith, after, within, more));
+    }
+
+    answered : IsLookup g (length g) key None
+    answered f other same =
+        let top = heads.newest.newest t is in
+        let one : top.0.number ≡ e.number = one_there g (whole_legal c.view heads.whole) (length g) top.0 e top.1 live (top.2 ∙ sym there.1) in
+        let least = top.3 f other in
+        let number = was.newest.number in
+        let from_on = was.from_on in
+        let few = was.up_to in
+        let more = length_longer h g heads.pass in
+        was.answered f (live_back h g heads.pass was.point f few (live_down g (length g) was.point f other (omega (arith, one, least, number, from_on)) (omega (arith, few, more)))) same
+
+-- a miss in a section
+pub section_absent : (key : Key) (n : ℕ) (a b : OnCpu) → HasFoundFromOutside key a b None → a.depth ≡ 0 → HasNumbered a.view.pass n → WasAbsent b.view.pass key n
+section_absent key n a b had outside seen =
+    let first = numbered_longer a.view.pass had.first.view.pass n (had.enters.begun outside).0 seen in
+    let p = had.finds.lawful in
+    let begun = (at_within had.first.view.pass first.entry.number (Attach first.entry) first.attached).1 in
+    let number = first.number in
+    let from_on = p.from_on in
+    subst (λ (g : List Change). WasAbsent g key n) (sym (left_pass key a b None had outside)) (record {
+      newest = numbered_longer had.first.view.pass had.last.view.pass n had.finds.pass first;
+      point = p.point;
+      from_on = omega (arith, begun, number, from_on);
+      up_to = p.up_to;
+      answered = p.answered;
+    })
+
+-- A lookup anew
+
+-- the entry whose number a slot's live word is
+pub newest_there : (t n : ℕ) (c d : OnCpu) → HasRecalledOn t n c d true → n ≢ 0 → HasNumbered d.view.pass n
+newest_there t n c d recalled some =
+    let word : recalled.word ≡ n = eqb-true recalled.word n (sym recalled.found) in
+    let e = recalled.live.one (λ zero. some (sym word ∙ zero)) in
+    record { entry = e.0; attached = e.1.attached; number = e.3 ∙ word }
+
+pub nothing : (o : Option Seen) → is_some o ≡ false → o ≡ None
+nothing None is = refl
+nothing (Some s) is = absurd (false≢true (sym is))
+
+pub something : (o : Option Seen) → is_some o ≡ true → o ≡ None → ⊥
+something None is none = absurd (false≢true is)
+something (Some s) is none = absurd (false≢true (sym (ap is_some none)))
+
+section_found : (key : Key) (a l r : OnCpu) (answer : Option Seen) → HasFoundFromOutside key a l (entry_seen key answer) → r ≡ record l { memory = r.memory } → RemembersAnswer key l.memory r.memory answer
+    → FindsAndRemembers (HasFoundFromOutside key a) key a r answer
+section_found key a l r answer had is remembers =
+    record { left = l; finds = had; is = is; remembers = subst (λ (m : Memory). RemembersAnswer key m r.memory answer) (outside_memory key a l _ had) remembers }
+
+-- what isn't remembered as a miss
+pub section_unmissed : (key : Key) (n : ℕ) (a l r : OnCpu) (answer : Option Seen) → HasFoundFromOutside key a l (entry_seen key answer) → r ≡ record l { memory = r.memory }
+    → RemembersAnswer key l.memory r.memory answer → r.memory.missed ≡ l.memory.missed → (answer ≡ None → n ≡ 0) → HasFoundInSection key n a r answer
+section_unmissed key n a l r answer had is remembers same unknown =
+    record { finds = section_found key a l r answer had is remembers; missed = inr (unknown, same ∙ ap (λ (m : Memory). m.missed) (outside_memory key a l _ had)) }
+
+answer_stays : (key : Key) (m n : Memory) (l : List Miss) (answer : Option Seen) → RemembersAnswer key m n answer → RemembersAnswer key m (record n { missed = l }) answer
+answer_stays key m n l None had = had
+answer_stays key m n l (Some s) had = had
+
+-- a miss that is remembered
+pub section_missed : (key : Key) (n : ℕ) (a l r b : OnCpu) (answer : Option Seen) → HasFoundFromOutside key a l (entry_seen key answer) → r ≡ record l { memory = r.memory }
+    → RemembersAnswer key l.memory r.memory answer → r.memory.missed ≡ l.memory.missed → answer ≡ None → n ≢ 0 → b ≡ record r { memory = with_miss r.memory key n }
+    → HasFoundInSection key n a b answer
+section_missed key n a l r b answer had is remembers same none known missed =
+    let m : b.memory ≡ with_miss r.memory key n = ap (λ (x : OnCpu). x.memory) missed in
+    let left : b ≡ record l { memory = b.memory } = missed ∙ ap (λ (x : OnCpu). record x { memory = with_miss r.memory key n }) is ∙ ap (λ (k : Memory). record l { memory = k }) (sym m) in
+    let kept = subst (λ (k : Memory). RemembersAnswer key l.memory k answer) (sym m) (answer_stays key l.memory r.memory (with_miss r.memory key n).missed answer remembers) in
+    record {
+      finds = section_found key a l b answer had left kept;
+      missed = inl (none, known, ap (λ (k : Memory). k.missed) m ∙ ap (λ (k : List Miss). (with_miss (record r.memory { missed = k }) key n).missed) (same ∙ ap (λ (k : Memory). k.missed) (outside_memory key a l _ had)));
+    }
+
+-- what a miss that is remembered says of its key
+miss_absent : (h : List Change) (key : Key) (n : ℕ) (m : Miss) → IsTrueMiss h m → IsMiss key n m → WasAbsent h key n
+miss_absent h key n m so is =
+    let same : m ≡ record { number = n; kind = key.kind; name = key.name } = λ i. record { number = is.number i; kind = is.kind i; name = is.name i } in
+    subst (λ (x : Miss). WasAbsent h (record { kind = x.kind; name = x.name }) x.number) same (so (λ zero. is.some (sym is.number ∙ zero)))
+
+pub absent_anew : (key : Key) (t n w : ℕ) (a c d : OnCpu) (m : Miss) → HasRecalledHeadOn a c w → w ≡ suc t → HasRecalledOn t n c d true → m ≡ miss_at a.memory.missed (miss_hint key.name)
+    → IsTrueMiss a.view.pass m → IsMiss key n m → HasFoundAnew key a d None
+absent_anew key t n w a c d m heads head recalled at so is =
+    let misses : Misses c.memory key n = subst (IsMiss key n) (at ∙ ap (λ (x : OnCpu). miss_at x.memory.missed (miss_hint key.name)) (sym heads.is)) is in
+    record { head = w; at_head = c; heads = heads; finds = inr (t, n, d, head, recalled, inl (misses, still_absent key t n w a c d (miss_absent a.view.pass key n m so is) heads head recalled, refl)) }
+
+pub section_anew : (key : Key) (t n w : ℕ) (a c d b : OnCpu) (m : Miss) (answer : Option Seen) → HasRecalledHeadOn a c w → w ≡ suc t → HasRecalledOn t n c d true
+    → m ≡ miss_at a.memory.missed (miss_hint key.name) → (IsMiss key n m → ⊥) → HasFoundInSection key n d b answer → HasFoundAnew key a b answer
+section_anew key t n w a c d b m answer heads head recalled at not found =
+    let none : Misses c.memory key n → ⊥ = λ misses. not (subst (IsMiss key n) (sym (at ∙ ap (λ (x : OnCpu). miss_at x.memory.missed (miss_hint key.name)) (sym heads.is))) misses) in
+    record { head = w; at_head = c; heads = heads; finds = inr (t, n, d, head, recalled, inr (none, found)) }

@@ -1,16 +1,52 @@
 -- What a row that is remembered tells, what stays remembered, and what is remembered from then on.
-use Rattle.passive_list.specs.Common.{Seen, HasCleared, HasForgotten, IsOfRow, IsRow, KeepsOthers, Recalls, RecallsAt, Remembers, entry_of, hint_of, hinted, memo_at, memo_of, no_memo, no_memory, with_seen}
-use Rattle.std.proofs.Common.{◌≡◌, ◌≢◌, ◌⊎◌, ⊎_elim, inl, inr, ℕ, ◌<◌, ◌==◌, if◌then◌else◌, Bool, true, false, List, [], length, replicate, set, get_or-set_same, get_or-set_other, Option, Some, None, IfSome, refl, sym, ap, ◌∙◌, subst, arith}
+use Rattle.passive_list.specs.Common.{HasCleared, HasForgotten, HasNumbered, IsOfRow, IsRow, IsTrueMiss, KeepsOthers, Recalls, RecallsAt, Remembers, Seen, WasAbsent, entry_of, hint_of, hinted, memo_at, memo_of, miss_at, miss_hint, no_memo, no_memory, no_miss, with_miss, with_seen}
+use Rattle.std.proofs.Common.{◌≡◌, ◌≢◌, ◌⊎◌, ⊎_elim, inl, inr, ℕ, ◌+◌, ◌%◌, ◌<◌, ◌≤◌, ◌==◌, if◌then◌else◌, Bool, true, false, List, length, set, get_or-set_same, get_or-set_other, Some, None, refl, sym, ap, ◌∙◌, subst, arith, length-append}
 use Rattle.std.proofs.lemmas.Bool.{cases_eq, eqb-true}
 use Rattle.std.proofs.lemmas.List.{length-set}
 use mathlib.Core.List.{IsPrefix}
-use Rattle.passive_list.specs.Types.{Change, Entry, Key, Name, MOST_SLOTS}
-use Rattle.protocol.specs.Common.{IsAttached, entry_with}
+use Rattle.passive_list.specs.Types.{Change, Detach, Entry, Key, Name, MOST_SLOTS}
+use Rattle.protocol.specs.Common.{EndsAt, IsAttached, IsLiveAt, entry_with}
+use Rattle.protocol.specs.History.{change_at}
+use Rattle.protocol.proofs.history.History.{at_prefix, at_within}
 use Rattle.protocol.proofs.slots.Cells.{get_or_all}
 use Rattle.cpu_words.proofs.shown.Passes.{attached_prefix}
 use Rattle.passive_list.specs.declared.memory.Memo.{Memo}
 use Rattle.passive_list.specs.declared.memory.Memory.{Memory}
-use Rattle.passive_list.specs.declared.memory.TheConstants.{HINTS}
+use Rattle.passive_list.specs.declared.memory.Miss.{Miss}
+use Rattle.passive_list.specs.declared.memory.TheConstants.{HINTS, MISSES}
+
+-- A pass and a longer one
+
+at_longer : (h g : List Change) → IsPrefix h g → (k : ℕ) → k ≤ length h → change_at g k ≡ change_at h k
+at_longer h g longer k le = subst (λ (l : List Change). change_at l k ≡ change_at h k) longer.1 (at_prefix h longer.0 k le)
+
+pub ends_on : (h g : List Change) → IsPrefix h g → (n p : ℕ) → EndsAt h n p → EndsAt g n p
+ends_on h g longer n p ends = at_longer h g longer p (at_within h p (Detach n) ends).1 ∙ ends
+
+pub length_longer : (h g : List Change) → IsPrefix h g → length h ≤ length g
+length_longer h g longer =
+    let whole : length h + length longer.0 ≡ length g = sym (length-append h longer.0) ∙ ap (λ (l : List Change). length l) longer.1 in
+    omega (arith, whole)
+
+-- what was live then is live then in the shorter one too
+pub live_back : (h g : List Change) → IsPrefix h g → (k : ℕ) (e : Entry) → k ≤ length h → IsLiveAt g k e → IsLiveAt h k e
+live_back h g longer k e le live = record {
+  attached = sym (at_longer h g longer e.number (let begun = live.begun in omega (arith, begun, le))) ∙ live.attached;
+  begun = live.begun;
+  unended = λ p ends. live.unended p (ends_on h g longer e.number p ends);
+}
+
+pub numbered_longer : (h g : List Change) (n : ℕ) → IsPrefix h g → HasNumbered h n → HasNumbered g n
+numbered_longer h g n longer had = record { entry = had.entry; attached = attached_prefix h g had.entry longer had.attached; number = had.number }
+
+absent_longer : (h g : List Change) (key : Key) (n : ℕ) → IsPrefix h g → WasAbsent h key n → WasAbsent g key n
+absent_longer h g key n longer was = record {
+  newest = numbered_longer h g n longer was.newest;
+  point = was.point;
+  from_on = was.from_on;
+  up_to = let more = length_longer h g longer in let few = was.up_to in omega (arith, more, few);
+  answered = λ e live. was.answered e (live_back h g longer was.point e was.up_to live);
+}
 
 -- what is remembered stays, as the pass grows
 pub stays : (z : ℕ) (h g : List Change) (m : Memory) → IsPrefix h g → Remembers z h m → Remembers z g m
@@ -18,7 +54,9 @@ stays z h g m longer had = record {
   size = had.size;
   last = had.last;
   older = had.older;
+  missed = had.missed;
   each = λ t some. let e = had.each t some in (e.0, attached_prefix h g (entry_of t (memo_at m.rows t)) longer e.1);
+  absent = λ i some. absent_longer h g _ _ longer (had.absent i some);
 }
 
 -- the entry of a row
@@ -34,12 +72,22 @@ recalled_row m key s (inr had) = had.1.1
 
 -- nothing is remembered at first
 pub none_remembered : (z : ℕ) (h : List Change) → Remembers z h no_memory
-none_remembered z h = record { size = refl; last = refl; older = refl; each = λ t some. absurd (some (ap (λ (m : Memo). m.number) (get_or_all MOST_SLOTS no_memo t))) }
+none_remembered z h = record {
+  size = refl;
+  last = refl;
+  older = refl;
+  missed = refl;
+  each = λ t some. absurd (some (ap (λ (m : Memo). m.number) (get_or_all MOST_SLOTS no_memo t)));
+  absent = λ i some. absurd (some (ap (λ (m : Miss). m.number) (get_or_all MISSES no_miss i)));
+}
 
 -- One row more
 
+few_of : (x : ℕ) → x % HINTS < HINTS
+few_of x = omega arith
+
 hint_few : (n : Name) → hint_of n < HINTS
-hint_few n = omega arith
+hint_few n = few_of _
 
 row_here : (m : Memory) (key : Key) (s : Seen) → length m.rows ≡ MOST_SLOTS → s.slot < MOST_SLOTS → memo_at (set m.rows s.slot (memo_of key s)) s.slot ≡ memo_of key s
 row_here m key s size few = get_or-set_same m.rows s.slot (memo_of key s) no_memo (omega (arith, size, few))
@@ -55,7 +103,9 @@ remembers_more z h m key s had low few attached = record {
   size = length-set m.rows s.slot (memo_of key s) ∙ had.size;
   last = sizes_by (hinted m.last key.name == s.slot) m.last (set m.last (hint_of key.name) s.slot) (length-set m.last (hint_of key.name) s.slot) ∙ had.last;
   older = sizes_by (hinted m.last key.name == s.slot) m.older (set m.older (hint_of key.name) (hinted m.last key.name)) (length-set m.older (hint_of key.name) (hinted m.last key.name)) ∙ had.older;
+  missed = had.missed;
   each = each;
+  absent = had.absent;
 }
   where
     rows : List Memo
@@ -170,10 +220,12 @@ one_cleared z h m n key t had was = record {
   size = had.size ∙ was.size;
   last = ap length (last_stays m n key t had) ∙ was.last;
   older = ap length (older_stays m n key t had) ∙ was.older;
+  missed = ap (λ (x : Memory). length x.missed) had.is ∙ was.missed;
   each = λ u some. ⊎_elim
       (λ (same : memo_at n.rows u ≡ memo_at m.rows u). subst (λ (r : Memo). (u < z) × IsAttached h (entry_of u r)) (sym same) (was.each u (λ none. some (ap (λ (m : Memo). m.number) same ∙ none))))
       (λ (gone : IsRow key (memo_at m.rows u) × (memo_at n.rows u ≡ no_memo)). absurd (some (ap (λ (m : Memo). m.number) gone.1)))
       (had.each u);
+  absent = subst (λ (x : Memory). (i : ℕ) → IsTrueMiss h (miss_at x.missed i)) (sym had.is) was.absent;
 }
 
 pub forgotten : (z : ℕ) (h : List Change) (m n : Memory) (key : Key) → HasForgotten key m n → Remembers z h m → Remembers z h n
@@ -211,3 +263,27 @@ other_kept m n key t had other o apart any recalls = by recalls
 
 pub others_kept : (m n : Memory) (key : Key) → HasForgotten key m n → KeepsOthers key None m n
 others_kept m n key had other o apart any recalls = other_kept had.0 n key _ had.2 other o apart any (other_kept m had.0 key _ had.1 other o apart any recalls)
+
+-- One miss more
+
+pub misses_stay : (m n : Memory) (key : Key) → HasForgotten key m n → n.missed ≡ m.missed
+misses_stay m n key had = ap (λ (x : Memory). x.missed) had.2.is ∙ ap (λ (x : Memory). x.missed) had.1.is
+
+pub misses_more : (z : ℕ) (h : List Change) (m : Memory) (key : Key) (n : ℕ) → Remembers z h m → WasAbsent h key n → Remembers z h (with_miss m key n)
+misses_more z h m key n had was =
+    record { size = had.size; last = had.last; older = had.older; missed = length-set m.missed (miss_hint key.name) miss ∙ had.missed; each = had.each; absent = absent }
+  where
+    miss : Miss
+    miss = record { number = n; kind = key.kind; name = key.name }
+
+    missed : List Miss
+    missed = set m.missed (miss_hint key.name) miss
+
+    few : miss_hint key.name < length m.missed
+    few = let size = had.missed in omega (arith, size)
+
+    absent : (i : ℕ) → IsTrueMiss h (miss_at missed i)
+    absent i = ⊎_elim
+        (λ (same : i ≡ miss_hint key.name). subst (IsTrueMiss h) (sym (ap (miss_at missed) same ∙ get_or-set_same m.missed (miss_hint key.name) miss no_miss few)) (λ some. was))
+        (λ (off : i ≢ miss_hint key.name). subst (IsTrueMiss h) (sym (get_or-set_other m.missed (miss_hint key.name) i miss no_miss off)) (had.absent i))
+        (cases_eq i (miss_hint key.name))

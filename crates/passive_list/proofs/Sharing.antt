@@ -1,7 +1,7 @@
 -- A CPU that has a share of a ledger, and the CPU without it: what is told of a lookup of the one is told of the other.
-use Rattle.std.proofs.Common.{◌≡◌, ℕ, Option, Some, None, inl, inr, refl, ap}
+use Rattle.std.proofs.Common.{ℕ, Bool, Option, Some, None, inl, inr, refl, ap}
 use Rattle.passive_list.specs.Types.{Entry, Key}
-use Rattle.passive_list.specs.Common.{HasEnteredOn, HasExitedOn, HasFound, HasFoundAnew, HasFoundByMemory, HasFoundFromOutside, HasFoundInside, HasFoundKept, HasRecalledAs, HasRecalledInVain, HasRefoundAs, OnCpu, FindsBy, FindsInsideBy, Seen}
+use Rattle.passive_list.specs.Common.{HasEnteredOn, HasExitedOn, HasFound, HasFoundAnew, HasFoundByMemory, HasFoundFromOutside, HasFoundInSection, HasFoundInside, HasFoundKept, HasRecalledAs, HasRecalledHeadOn, HasRecalledInVain, HasRecalledOn, HasRefoundAs, IsAbsentAt, OnCpu, FindsAfterHead, FindsAfterWord, FindsBy, FindsInsideBy, Seen}
 
 abbrev pub sharing : ℕ → OnCpu → OnCpu
 sharing m x = record x { made = m }
@@ -36,8 +36,32 @@ outside m key a b answer had = record {
   exits = exited m had.last b had.exits;
 }
 
+in_section : (m : ℕ) (key : Key) (n : ℕ) (a b : OnCpu) (answer : Option Seen) → HasFoundInSection key n a b answer → HasFoundInSection key n (sharing m a) (sharing m b) answer
+in_section m key n a b answer had =
+    let f = had.finds in
+    record { finds = record { left = sharing m f.left; finds = outside m key a f.left _ f.finds; is = ap (sharing m) f.is; remembers = f.remembers }; missed = had.missed }
+
+recalled_word : (m t n : ℕ) (a b : OnCpu) (found : Bool) → HasRecalledOn t n a b found → HasRecalledOn t n (sharing m a) (sharing m b) found
+recalled_word m t n a b found had = record { pass = had.pass; is = ap (sharing m) had.is; whole = had.whole; word = had.word; log = had.log; found = had.found; live = had.live }
+
+recalled_head : (m : ℕ) (a b : OnCpu) (w : ℕ) → HasRecalledHeadOn a b w → HasRecalledHeadOn (sharing m a) (sharing m b) w
+recalled_head m a b w had = record { pass = had.pass; is = ap (sharing m) had.is; whole = had.whole; log = had.log; newest = had.newest }
+
+absent : (m : ℕ) (key : Key) (c : OnCpu) (answer : Option Seen) → IsAbsentAt key c answer → IsAbsentAt key (sharing m c) answer
+absent m key c answer had = record { none = had.none; whole = had.whole; answered = had.answered }
+
+after_word : (m : ℕ) (key : Key) (n : ℕ) (c d b : OnCpu) (answer : Option Seen) → FindsAfterWord key n c d b answer → FindsAfterWord key n (sharing m c) (sharing m d) (sharing m b) answer
+after_word m key n c d b answer (inl had) = inl (had.0, absent m key c answer had.1, ap (sharing m) had.2)
+after_word m key n c d b answer (inr had) = inr (had.0, in_section m key n d b answer had.1)
+
+after_head : (m w : ℕ) (key : Key) (c b : OnCpu) (answer : Option Seen) → FindsAfterHead w key c b answer → FindsAfterHead w key (sharing m c) (sharing m b) answer
+after_head m w key c b answer (inl had) = inl (had.0, absent m key c answer had.1, ap (sharing m) had.2)
+after_head m w key c b answer (inr had) =
+    inr (had.0, had.1, sharing m had.2, had.3, recalled_word m had.0 had.1 c had.2 _ had.4, after_word m key had.1 c had.2 b answer had.5)
+
 anew : (m : ℕ) (key : Key) (a b : OnCpu) (answer : Option Seen) → HasFoundAnew key a b answer → HasFoundAnew key (sharing m a) (sharing m b) answer
-anew m key a b answer had = record { left = sharing m had.left; finds = outside m key a had.left _ had.finds; is = ap (sharing m) had.is; remembers = had.remembers }
+anew m key a b answer had =
+    record { head = had.head; at_head = sharing m had.at_head; heads = recalled_head m a had.at_head had.head had.heads; finds = after_head m had.head key had.at_head b answer had.finds }
 
 kept : (m : ℕ) (key : Key) (a b : OnCpu) (answer : Option Seen) → HasFoundKept key a b answer → HasFoundKept key (sharing m a) (sharing m b) answer
 kept m key a b answer had = record { left = sharing m had.left; finds = found m key a had.left _ had.finds; is = ap (sharing m) had.is; remembers = had.remembers }

@@ -1,18 +1,22 @@
--- What a CPU remembers of the entries that it has found: a row for each slot, and by hint of a name the two slots where one with that hint was found last.
-use Rattle.std.specs.Prelude.{◌≡◌, ◌≢◌, ◌⊎◌, ℕ, ◌+◌, ◌%◌, ◌==◌, ◌<◌, if◌then◌else◌, List, length, set, replicate, slice_index_or, Option, Some, None, IfSome}
+-- What a CPU remembers of the entries that it has found: a row for each slot, and by hint of a name the two slots where one with that hint was found last. And by hint, a name that no entry had.
+use Rattle.std.specs.Prelude.{◌≡◌, ◌≢◌, ◌⊎◌, ℕ, ◌+◌, ◌*◌, ◌/◌, ◌%◌, ◌^◌, ◌==◌, ◌<◌, ◌≤◌, if◌then◌else◌, List, length, set, replicate, slice_index_or, Option, Some, None, IfSome}
 use Rattle.passive_list.specs.Types.{Change, Entry, Iface, Key, Name, MOST_SLOTS}
-use Rattle.protocol.specs.Common.{IsAttached, entry_with}
+use Rattle.protocol.specs.Common.{IsAttached, IsLookup, entry_with}
 use Rattle.passive_list.specs.declared.lookup.Seen.{Seen}
 use Rattle.passive_list.specs.declared.memory.Memo.{Memo}
 use Rattle.passive_list.specs.declared.memory.Memory.{Memory}
-use Rattle.passive_list.specs.declared.memory.TheConstants.{HINTS}
+use Rattle.passive_list.specs.declared.memory.Miss.{Miss}
+use Rattle.passive_list.specs.declared.memory.TheConstants.{GOLDEN, HINTS, MISSES, SHARE}
 
 abbrev pub no_memo : Memo
 no_memo = record { number = 0; value = 0; kind = Iface; name = record { high = 0; low = 0 } }
 
+abbrev pub no_miss : Miss
+no_miss = record { number = 0; kind = Iface; name = record { high = 0; low = 0 } }
+
 -- of no entry
 abbrev pub no_memory : Memory
-no_memory = record { rows = replicate MOST_SLOTS no_memo; last = replicate HINTS 0; older = replicate HINTS 0 }
+no_memory = record { rows = replicate MOST_SLOTS no_memo; last = replicate HINTS 0; older = replicate HINTS 0; missed = replicate MISSES no_miss }
 
 abbrev pub memo_at : List Memo → ℕ → Memo
 memo_at rows t = slice_index_or rows t no_memo
@@ -24,12 +28,35 @@ memo_of key s = record { number = s.number; value = s.value; kind = key.kind; na
 abbrev pub entry_of : ℕ → Memo → Entry
 entry_of t m = entry_with (record { kind = m.kind; name = m.name }) t m.number m.value
 
--- all rows and hints are there; each row is of no entry, or of an entry that was attached in that slot by the end of h
+abbrev pub miss_at : List Miss → ℕ → Miss
+miss_at missed i = slice_index_or missed i no_miss
+
+-- an entry with the number n was attached
+pub record HasNumbered (h : List Change) (n : ℕ) : Type 0 where
+  pub entry : Entry
+  pub attached : IsAttached h entry
+  pub number : entry.number ≡ n
+
+-- At some point of h no entry with the key was live, and the entry with the number n had been attached.
+pub record WasAbsent (h : List Change) (key : Key) (n : ℕ) : Type 0 where
+  pub newest : HasNumbered h n
+  pub point : ℕ
+  pub from_on : n ≤ point
+  pub up_to : point ≤ length h
+  pub answered : IsLookup h point key None
+
+-- the miss is of nothing, or what it says was so in h
+abbrev pub IsTrueMiss : List Change → Miss → Type 0
+IsTrueMiss h m = m.number ≢ 0 → WasAbsent h (record { kind = m.kind; name = m.name }) m.number
+
+-- all rows, hints and misses are there; each row is of no entry, or of an entry that was attached in that slot by the end of h; each miss is true of h
 pub record Remembers (slots : ℕ) (h : List Change) (m : Memory) : Type 0 where
   pub size : length m.rows ≡ MOST_SLOTS
   pub last : length m.last ≡ HINTS
   pub older : length m.older ≡ HINTS
+  pub missed : length m.missed ≡ MISSES
   pub each : (t : ℕ) → (memo_at m.rows t).number ≢ 0 → (t < slots) × IsAttached h (entry_of t (memo_at m.rows t))
+  pub absent : (i : ℕ) → IsTrueMiss h (miss_at m.missed i)
 
 -- the row is of an entry with this key
 pub record IsRow (key : Key) (m : Memo) : Type 0 where
@@ -46,7 +73,7 @@ pub record IsOfRow (rows : List Memo) (key : Key) (s : Seen) : Type 0 where
 -- What is remembered of a key
 
 abbrev pub hint_of : Name → ℕ
-hint_of n = (n.high % 251 + n.low % 241) % HINTS
+hint_of n = ((n.high + n.low) % 2 ^ 64 * GOLDEN % 2 ^ 64) / SHARE % HINTS
 
 -- the slot that the hint of the name leads to
 abbrev pub hinted : List ℕ → Name → ℕ
@@ -63,7 +90,7 @@ Recalls m key found = ((s : Seen) × (found ≡ Some s) × RecallsAt m.rows key 
 
 -- s is remembered, as the newer one
 abbrev pub with_seen : Memory → Key → Seen → Memory
-with_seen m key s = record {
+with_seen m key s = record m {
   rows = set m.rows s.slot (memo_of key s);
   last = if hinted m.last key.name == s.slot then m.last else set m.last (hint_of key.name) s.slot;
   older = if hinted m.last key.name == s.slot then m.older else set m.older (hint_of key.name) (hinted m.last key.name);
@@ -83,3 +110,22 @@ pub record HasCleared (key : Key) (t : ℕ) (m n : Memory) : Type 0 where
 -- both hints of the key's name lead to no row with the key
 abbrev pub HasForgotten : Key → Memory → Memory → Type 0
 HasForgotten key m n = (c : Memory) × HasCleared key (hinted m.last key.name) m c × HasCleared key (hinted m.older key.name) c n
+
+-- What is remembered of a key that wasn't found
+
+abbrev pub miss_hint : Name → ℕ
+miss_hint n = hint_of n % MISSES
+
+-- the miss is of the key, while the entry with the number n was the newest one
+pub record IsMiss (key : Key) (n : ℕ) (m : Miss) : Type 0 where
+  pub some : n ≢ 0
+  pub number : m.number ≡ n
+  pub kind : m.kind ≡ key.kind
+  pub name : m.name ≡ key.name
+
+-- the CPU remembers that miss
+abbrev pub Misses : Memory → Key → ℕ → Type 0
+Misses m key n = IsMiss key n (miss_at m.missed (miss_hint key.name))
+
+abbrev pub with_miss : Memory → Key → ℕ → Memory
+with_miss m key n = record m { missed = set m.missed (miss_hint key.name) (record { number = n; kind = key.kind; name = key.name }) }

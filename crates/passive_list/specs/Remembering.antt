@@ -1,5 +1,5 @@
 -- A lookup by memory: what the CPU remembers of the key decides whether its live word is loaded, and what it finds in a section it remembers.
-use Rattle.std.specs.Prelude.{◌≡◌, ◌≢◌, ◌⊎◌, ℕ, ◌<◌, Bool, true, false, List, ◌++◌, length, Option, Some, None}
+use Rattle.std.specs.Prelude.{◌≡◌, ◌≢◌, ◌⊎◌, ℕ, suc, ◌<◌, Bool, true, false, List, ◌++◌, length, Option, Some, None}
 use mathlib.Core.List.{IsPrefix}
 use Rattle.passive_list.specs.Types.{Change, Entry, Key, MOST_SLOTS, Recall, Word}
 use Rattle.registry_values.specs.Common.{key_of}
@@ -9,8 +9,8 @@ use Rattle.passive_list.specs.declared.lookup.Seen.{Seen}
 use Rattle.passive_list.specs.declared.memory.Memory.{Memory}
 use Rattle.passive_list.specs.Cpus.{OnCpu, OnPlainCpu}
 use Rattle.passive_list.specs.Lookups.{HasFound, HasFoundFromOutside}
-use Rattle.passive_list.specs.Memories.{KeepsOthers, Recalls}
-use Rattle.passive_list.specs.Recalling.{HasRefoundAs}
+use Rattle.passive_list.specs.Memories.{KeepsOthers, Misses, Recalls, with_miss}
+use Rattle.passive_list.specs.Recalling.{HasRecalledHeadOn, HasRecalledOn, HasRefoundAs}
 use Rattle.passive_list.specs.Walking.{entry_seen}
 
 -- s is of an entry of the CPU's pass, with the key
@@ -51,8 +51,31 @@ pub record FindsAndRemembers (Finds : OnCpu → Option Entry → Type 0) (key : 
   pub is : b ≡ record left { memory = b.memory }
   pub remembers : RemembersAnswer key a.memory b.memory answer
 
-abbrev pub HasFoundAnew : Key → OnCpu → OnCpu → Option Seen → Type 0
-HasFoundAnew key a b answer = FindsAndRemembers (HasFoundFromOutside key a) key a b answer
+-- In a section of its own, before which the newest live entry was n, or n is 0. A miss is remembered, if n isn't 0: it is a miss while the entry n is the newest one.
+pub record HasFoundInSection (key : Key) (n : ℕ) (a b : OnCpu) (answer : Option Seen) : Type 0 where
+  pub finds : FindsAndRemembers (HasFoundFromOutside key a) key a b answer
+  pub missed : ((answer ≡ None) × (n ≢ 0) × (b.memory.missed ≡ (with_miss a.memory key n).missed)) ⊎ ((answer ≡ None → n ≡ 0) × (b.memory.missed ≡ a.memory.missed))
+
+-- no entry with the key is live at the end of c's pass, which is the whole history: at the load of the head
+pub record IsAbsentAt (key : Key) (c : OnCpu) (answer : Option Seen) : Type 0 where
+  pub none : answer ≡ None
+  pub whole : HasWholePass c.view
+  pub answered : IsLookup c.view.pass (length c.view.pass) key None
+
+-- The live word of the slot to which the head led is n: d is the CPU then, and c was the CPU after the head's load. A miss that is remembered is the answer.
+abbrev pub FindsAfterWord : Key → ℕ → OnCpu → OnCpu → OnCpu → Option Seen → Type 0
+FindsAfterWord key n c d b answer = (Misses c.memory key n × IsAbsentAt key c answer × (b ≡ d)) ⊎ ((Misses c.memory key n → ⊥) × HasFoundInSection key n d b answer)
+
+-- the head is w, and c is the CPU after its load
+abbrev pub FindsAfterHead : ℕ → Key → OnCpu → OnCpu → Option Seen → Type 0
+FindsAfterHead w key c b answer = ((w ≡ 0) × IsAbsentAt key c answer × (b ≡ c)) ⊎ ((t : ℕ) × (n : ℕ) × (d : OnCpu) × (w ≡ suc t) × HasRecalledOn t n c d true × FindsAfterWord key n c d b answer)
+
+-- By a load of the head, if no entry is live. By that and a load of the newest live entry's word, if the CPU remembers a miss of the key by that entry. Else in a section of its own.
+pub record HasFoundAnew (key : Key) (a b : OnCpu) (answer : Option Seen) : Type 0 where
+  pub head : ℕ
+  pub at_head : OnCpu
+  pub heads : HasRecalledHeadOn a at_head head
+  pub finds : FindsAfterHead head key at_head b answer
 
 -- in the open section
 abbrev pub HasFoundKept : Key → OnCpu → OnCpu → Option Seen → Type 0
@@ -78,7 +101,7 @@ abbrev pub FindsBy : Option Seen → Key → OnCpu → OnCpu → Option Seen →
 FindsBy None key a b answer = HasFoundAnew key a b answer
 FindsBy (Some s) key a b answer = ((answer ≡ Some s) × HasRecalledAs key a b (entry_with key s.slot s.number s.value)) ⊎ ((c : OnCpu) × HasRecalledInVain s a c × HasFoundAnew key c b answer)
 
--- By one load, if the CPU remembers an entry with the key and its slot's live word is its number. Else in a section of its own.
+-- By one load, if the CPU remembers an entry with the key and its slot's live word is its number. Else anew.
 abbrev pub HasFoundByMemory : Key → OnCpu → OnCpu → Option Seen → Type 0
 HasFoundByMemory key a b answer = (kept : Option Seen) × Recalls a.memory key kept × FindsBy kept key a b answer
 

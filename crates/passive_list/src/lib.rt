@@ -44,7 +44,7 @@ pub use keeper::{Keeper, KeptSlot, SlotState};
 pub use keeper_notes::{hear_keeper, tell_keeper};
 pub use keeping::publish_keeping;
 pub use looking::look_passive;
-pub use lookup::{Seen, find, find_on};
+pub use lookup::{Seen, entry_of, find, find_on};
 pub use memory::{Memo, Memory};
 pub use notes::{Note, hear, hear_on, tell, tell_on};
 pub use place::{Found, NumberedCount};

@@ -1,14 +1,21 @@
-//! What a CPU remembers of the entries that it has found.
+//! What a CPU remembers of the entries that it has found, and of the names that it hasn't found.
 
 ghost use Rattle.std.specs.Prelude.{◌≡◌, ◌↔◌, ◌<◌, IsTrue};
 ghost use Rattle.cpu_words.specs.Common.{key_with};
-ghost use Rattle.passive_list.specs.Memories.{HasCleared, HasForgotten, IsRow, Recalls, RecallsAt, hint_of, no_memo, no_memory, with_seen};
+ghost use Rattle.passive_list.specs.Memories.{HasCleared, HasForgotten, IsMiss, IsRow, Recalls, RecallsAt, hint_of, miss_at, miss_hint, no_memo, no_memory, no_miss, with_miss, with_seen};
 
 use crate::lookup::Seen;
 use registry_values::{Kind, MOST_SLOTS, Name};
 
 /// How many hints there are.
 const HINTS: usize = 256;
+
+/// 2^64 by the golden ratio, and what a hint has of 2^64.
+const GOLDEN: u64 = 0x9e37_79b9_7f4a_7c15;
+const SHARE: u64 = 1 << 56;
+
+/// How many lookups without an answer are remembered.
+const MISSES: usize = 64;
 
 /// The words of an entry that the CPU has found in a slot.
 #[derive(Clone, Copy)]
@@ -34,6 +41,35 @@ impl Memo {
     }
 }
 
+/// A kind and a name that no live entry had, while the entry with `number` was the newest one.
+#[derive(Clone, Copy)]
+pub struct Miss {
+    /// From 1; 0 for no miss.
+    pub number: u64,
+    pub kind: Kind,
+    pub name: Name,
+}
+
+impl Miss {
+    /// Of nothing.
+    pub fn none() -> Miss
+        ensures { result ≡ no_miss }
+    {
+        Miss {
+            number: 0,
+            kind: Kind::Iface,
+            name: Name::of_words(0, 0),
+        }
+    }
+
+    /// Whether it is a miss of this kind and name while the entry with this number was the newest one.
+    pub fn is_of(self, kind: Kind, name: Name, number: u64) -> bool
+        ensures { IsTrue result ↔ IsMiss (key_with kind name) number self }
+    {
+        number != 0 && self.number == number && self.kind == kind && self.name == name
+    }
+}
+
 /// By slot, the entry that the CPU found there last. By hint of a name, the two slots where entries with that hint were found last: they cost a
 /// section where they lead to other entries, and never an answer.
 #[derive(Drop)]
@@ -43,6 +79,8 @@ pub struct Memory {
     pub last: [u8; HINTS],
     /// Where one was found before that.
     pub older: [u8; HINTS],
+    /// By hint of a name, the last miss.
+    pub missed: [Miss; MISSES],
 }
 
 impl Memory {
@@ -54,6 +92,7 @@ impl Memory {
             rows: [Memo::none(); MOST_SLOTS],
             last: [0; HINTS],
             older: [0; HINTS],
+            missed: [Miss::none(); MISSES],
         }
     }
 
@@ -119,6 +158,20 @@ impl Memory {
         self.clear(self.older[hint], kind, name);
     }
 
+    /// The last miss of a name with this hint.
+    pub fn miss_of(&self, name: Name) -> Miss
+        ensures { result ≡ miss_at self.now.missed (miss_hint name) }
+    {
+        self.missed[miss_hint(name)]
+    }
+
+    /// Remembers a miss.
+    pub fn miss(&mut self, kind: Kind, name: Name, number: u64)
+        ensures { self.new ≡ with_miss self.old (key_with kind name) number }
+    {
+        self.missed[miss_hint(name)] = Miss { number, kind, name };
+    }
+
     /// Clears the row of a slot, if it has this kind and name. There is none at `MOST_SLOTS`.
     fn clear(&mut self, slot: u8, kind: Kind, name: Name)
         ensures { HasCleared (key_with kind name) slot self.old self.new }
@@ -130,12 +183,20 @@ impl Memory {
     }
 }
 
-/// The hint of a name, from 0. Both words count by all their bytes.
+/// The hint of a name for its miss, from 0.
+fn miss_hint(name: Name) -> usize
+    ensures { (result ≡ miss_hint name) × (result < MISSES) }
+{
+    hint_of(name) % MISSES
+}
+
+/// The hint of a name, from 0: the high bits of a product with an odd number, so that names that differ in a digit lie apart.
 fn hint_of(name: Name) -> usize
     ensures { (result ≡ hint_of name) × (result < HINTS) }
 {
     let (high, low) = name.words();
-    ((high % 251 + low % 241) % HINTS as u64) as usize
+    let mixed = high.wrapping_add(low).wrapping_mul(GOLDEN);
+    (mixed / SHARE) as usize % HINTS
 }
 
 /// Whether the row is of an entry with this kind and name.

@@ -1,22 +1,27 @@
-//! Lookups by memory, from outside: by one load, where the CPU remembers an entry with this kind and name that is live.
+//! Lookups by memory, from outside: by one load, where the CPU remembers an entry with this kind and name that is live; by two, where it
+//! remembers that none had them, and the newest live entry is the same.
 
-ghost use Rattle.std.specs.Prelude.{◌≡◌, ◌≢◌, ◌<◌, IfSome, IsTrue, None};
+ghost use Rattle.std.specs.Prelude.{◌≡◌, ◌≢◌, ◌↔◌, ◌<◌, IfSome, IsTrue, None, true};
 ghost use Rattle.cpu_words.specs.Common.{AreWordsOf, key_with};
-ghost use Rattle.passive_list.specs.Memories.{Recalls};
-ghost use Rattle.passive_list.specs.Remembering.{FindsInside, FindsWhatStays, HasFoundAnew, HasFoundByMemory, HasFoundInside, HasFoundKept, HasFoundRemembered, HasSeen, RecallsSeen, RefindsSeen, RemembersAnswer};
+ghost use Rattle.passive_list.specs.Memories.{HasNumbered, IsMiss, IsTrueMiss, Recalls, WasAbsent, miss_at, miss_hint, with_miss};
+ghost use Rattle.passive_list.specs.Recalling.{HasRecalledOn};
+ghost use Rattle.passive_list.specs.Remembering.{FindsInside, FindsWhatStays, HasFoundAnew, HasFoundByMemory, HasFoundInSection, HasFoundInside, HasFoundKept, HasFoundRemembered, HasSeen, RecallsSeen, RefindsSeen, RemembersAnswer};
 ghost use Rattle.passive_list.specs.Sections.{may_begin};
 ghost use Rattle.passive_list.specs.Walking.{entry_seen};
 
 use crate::cpu::Cpu;
 use crate::from_outside::find_from_outside;
 use crate::lookup::{Seen, entry_of, find_seen};
+use crate::memory::Miss;
 use crate::plain_cpu::PlainCpu;
-use crate::recalling::{recall_on, refind_on};
-use cpu_words::{Domain, Words};
+use crate::recalling::{recall_head_on, recall_on, refind_on};
+use cpu_words::{Domain, Words, steps};
 use registry_values::{Entry, Kind, MOST_SLOTS, Name};
 
 /// Looks an entry up by memory: by one load, if the CPU remembers an entry with this kind and name, and that is live. The answer is the
-/// registry's at the very point of that load. Else it looks up in a section of its own, and remembers the answer.
+/// registry's at the very point of that load. Else it loads the head and the newest live entry's word. There is no such entry at the head's
+/// load, if no entry is live, or if the CPU missed this kind and name before, while that entry was the newest one. Else it looks up in a section
+/// of its own, and remembers the answer, a miss too.
 /// An entry that was attached before the call began, as far as the CPU knows, is found unless it is detached meanwhile (`stays`).
 /// Conditions: the words are the CPU's table's; it is outside, and has a section left (`may_begin_on`).
 #[inline(always)]
@@ -37,8 +42,8 @@ pub fn find_by_memory(words: &Words, cpu: &mut PlainCpu, kind: Kind, name: Name)
     find_anew(words, cpu, kind, name)
 }
 
-/// `find_by_memory` on a CPU of the table that D names: looks an entry up by its kind and name, by one load if the CPU remembers a live one, else in
-/// a section of its own. Nothing is held from then on, and the last found entry stays.
+/// `find_by_memory` on a CPU of the table that D names: looks an entry up by its kind and name, by one load if the CPU remembers a live one, by two
+/// if it remembers that there is none, else in a section of its own. Nothing is held from then on, and the last found entry stays.
 /// Conditions: the CPU is outside, and has a section left (`may_begin_on`).
 pub fn find_remembered<D: Domain>(
     words: &Words,
@@ -79,7 +84,7 @@ fn recall_seen(words: &Words, cpu: &mut PlainCpu, kind: Kind, name: Name, seen: 
     recall_on(words, cpu, seen.slot as u8, seen.number)
 }
 
-/// Looks an entry up in a section, and remembers it, or that there is none.
+/// Looks an entry up anew: there is none, if no entry is live, or if the newest live one is that of the last miss. Else in a section.
 #[inline(never)]
 fn find_anew(words: &Words, cpu: &mut PlainCpu, kind: Kind, name: Name) -> Option<Seen>
     requires words { AreWordsOf words.now cpu.old.words.table cpu.old.words.settings }
@@ -89,9 +94,69 @@ fn find_anew(words: &Words, cpu: &mut PlainCpu, kind: Kind, name: Name) -> Optio
     ensures slot { IfSome result (λ seen. seen.slot < MOST_SLOTS) }
     ensures words { cpu.new.words ≡ cpu.old.words }
 {
+    let miss = last_miss(cpu, name);
+    let head = recall_head_on(words, cpu);
+    if head == 0 {
+        return None;
+    }
+    let slot = (head - 1) as u8;
+    let number = recall_word(words, cpu, slot);
+    if miss.is_of(kind, name, number) {
+        return None;
+    }
+    find_in_section(words, cpu, kind, name, number)
+}
+
+/// The last miss of a name with this one's hint.
+fn last_miss(cpu: &PlainCpu, name: Name) -> Miss
+    ensures is { result ≡ miss_at cpu.now.cpu.memory.missed (miss_hint name) }
+    ensures so { IsTrueMiss cpu.now.cpu.view.pass result }
+{
+    cpu.memory.miss_of(name)
+}
+
+/// The slot's live word, by one load.
+#[inline(always)]
+fn recall_word(words: &Words, cpu: &mut PlainCpu, slot: u8) -> u64
+    requires words { AreWordsOf words.now cpu.old.words.table cpu.old.words.settings }
+    requires slot { (slot < MOST_SLOTS) × (slot < cpu.old.words.settings.slots) }
+    ensures recalled { HasRecalledOn slot result cpu.old.cpu cpu.new.cpu true }
+    ensures words { cpu.new.words ≡ cpu.old.words }
+{
+    steps::recall(words, &mut cpu.seat, cpu.id, slot)
+}
+
+/// Looks an entry up in a section, and remembers the answer: a miss by the number of the newest live entry before it, if that isn't 0.
+fn find_in_section(
+    words: &Words,
+    cpu: &mut PlainCpu,
+    kind: Kind,
+    name: Name,
+    number: u64,
+) -> Option<Seen>
+    requires words { AreWordsOf words.now cpu.old.words.table cpu.old.words.settings }
+    requires outside { cpu.old.cpu.depth ≡ 0 }
+    requires room { IsTrue (may_begin cpu.old.cpu.view) }
+    requires newest { number ≢ 0 → HasNumbered cpu.old.cpu.view.pass number }
+    ensures found { HasFoundInSection (key_with kind name) number cpu.old.cpu cpu.new.cpu result }
+    ensures slot { IfSome result (λ seen. seen.slot < MOST_SLOTS) }
+    ensures words { cpu.new.words ≡ cpu.old.words }
+{
     let answer = find_from_outside(words, cpu, kind, name);
     remember_on(cpu, kind, name, answer);
+    if number != 0 && answer.is_none() {
+        miss_on(cpu, kind, name, number);
+    }
     answer
+}
+
+/// Remembers a miss.
+fn miss_on(cpu: &mut PlainCpu, kind: Kind, name: Name, number: u64)
+    requires { WasAbsent cpu.old.cpu.view.pass (key_with kind name) number }
+    ensures cpu { cpu.new.cpu ≡ record cpu.old.cpu { memory = with_miss cpu.old.cpu.memory (key_with kind name) number } }
+    ensures words { cpu.new.words ≡ cpu.old.words }
+{
+    cpu.memory.miss(kind, name, number);
 }
 
 /// `find_inside_on` on a CPU of the table that D names. Condition: inside.
@@ -105,27 +170,16 @@ pub fn find_inside<D: Domain>(
     requires inside { cpu.old.view.begin ≢ None }
     ensures { HasFoundInside (key_with kind name.now) cpu.old cpu.new result }
 {
-    find_inside_on(words, &mut cpu.plain, kind, name)
+    let name = *name;
+    let seen = find_inside_on(words, &mut cpu.plain, kind, name);
+    entry_of(seen, kind, name)
 }
 
 /// Looks an entry up in the open section: by one load, if the CPU remembers an entry with this kind and name, and that is live. Else by a search,
 /// and remembers the answer. The result is the last found entry, as `find_on`'s.
 /// Conditions: the words are the CPU's table's; inside.
 #[inline(always)]
-pub fn find_inside_on(words: &Words, cpu: &mut PlainCpu, kind: Kind, name: &Name) -> Option<Entry>
-    requires words { AreWordsOf words.now cpu.old.words.table cpu.old.words.settings }
-    requires inside { cpu.old.cpu.view.begin ≢ None }
-    ensures found { HasFoundInside (key_with kind name.now) cpu.old.cpu cpu.new.cpu result }
-    ensures words { cpu.new.words ≡ cpu.old.words }
-{
-    let name = *name;
-    let seen = find_seen_inside(words, cpu, kind, name);
-    entry_of(seen, kind, name)
-}
-
-/// The same, by the words of the entry.
-#[inline(always)]
-fn find_seen_inside(words: &Words, cpu: &mut PlainCpu, kind: Kind, name: Name) -> Option<Seen>
+pub fn find_inside_on(words: &Words, cpu: &mut PlainCpu, kind: Kind, name: Name) -> Option<Seen>
     requires words { AreWordsOf words.now cpu.old.words.table cpu.old.words.settings }
     requires inside { cpu.old.cpu.view.begin ≢ None }
     ensures found { FindsInside (key_with kind name) cpu.old.cpu cpu.new.cpu result }
@@ -171,6 +225,7 @@ fn remember_on(cpu: &mut PlainCpu, kind: Kind, name: Name, answer: Option<Seen>)
     requires { IfSome answer (λ seen. HasSeen cpu.old (key_with kind name) seen) }
     ensures cpu { cpu.new.cpu ≡ record cpu.old.cpu { memory = cpu.new.cpu.memory } }
     ensures remembers { RemembersAnswer (key_with kind name) cpu.old.cpu.memory cpu.new.cpu.memory answer }
+    ensures missed { cpu.new.cpu.memory.missed ≡ cpu.old.cpu.memory.missed }
     ensures words { cpu.new.words ≡ cpu.old.words }
 {
     match answer {

@@ -565,9 +565,9 @@ registry_answer registry_release(struct registry_cpu *cpu, uint64_t number) REGI
 /*
  * registry_look_up - enter, find and exit, or one load: a copy of the live entry with this kind and name
  *
- * A CPU remembers the entries that its lookups found. Outside any section one load tells whether such an entry is still live: then no section begins, and
- * no shared word is written. Otherwise, if no entry has the name, if `name` is NULL or `kind` is no kind, and inside an open section, the call makes an
- * enter, a find and an exit.
+ * A CPU remembers the entries that its lookups found, and names that no entry had. Outside any section one load tells whether such an entry is still live,
+ * and two tell whether the newest entry is still the one of the miss: then no section begins, and no shared word is written. Otherwise, if `name` is NULL
+ * or `kind` is no kind, and inside an open section, the call makes an enter, a find and an exit.
  * The result is what the registry had at one moment during the call, as with registry_find: it finds an entry whose attach returned before the call
  * began, unless that entry is detached before the call returns. It doesn't find an entry whose detach returned before the call began.
  * Outside any section nothing holds the entry afterwards. `found` is a copy. When the call returns, the entry may be freed, and so may the memory that
@@ -588,9 +588,10 @@ registry_answer registry_look_up(struct registry_cpu *cpu, uint64_t kind, const 
  * The number in `found` is the reference. The entry keeps its slot until that number is released by registry_release. Until then the memory that its
  * `value` points to may be used. It finds what registry_look_up finds.
  * Outside any section, if the CPU remembers the entry, the call adds the reference to a word of the CPU's own, and loads one that says whether the entry
- * is still live. If so, no section begins, and no other shared word is written. Otherwise it makes an enter, a find, an acquire and an exit, as
- * registry_look_up makes its calls. So it does if the CPU has passive_limit references to the entry. Until the call returns, a turn of the keeper's may
- * write REGISTRY_PASSIVE of this CPU for a retired entry. The CPU need not have a reference then.
+ * is still live. If so, no section begins, and no other shared word is written. Otherwise it looks the entry up as registry_look_up does, and tries once
+ * more if there is one. If that fails too, or the CPU has passive_limit references to the entry, and inside an open section, it makes an enter, a find, an
+ * acquire and an exit. Until the call returns, a turn of the keeper's may write REGISTRY_PASSIVE of this CPU for a retired entry. The CPU need not have a
+ * reference then.
  * `found` may be NULL, for a caller that knows the number already, such as the one that attached the entry. The reference is acquired all the same.
  * Inside an open section the call is nested in it, as registry_look_up is.
  * Returns the errors of registry_look_up in their order, then REGISTRY_PASSIVE_FULL. With REGISTRY_PASSIVE_FULL nothing is acquired, but inside an open

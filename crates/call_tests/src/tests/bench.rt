@@ -39,6 +39,9 @@ pub(crate) enum Step {
 pub(crate) enum Call {
     Attach(Wanted),
     Detach(Wanted),
+    LookUp(Wanted),
+    /// It gets a passive reference, which the row holds.
+    Get(Wanted),
     /// It releases the row's local reference.
     Uncount,
     /// It waits for the open sections, for so many turns.
@@ -123,6 +126,14 @@ pub(crate) fn by_cpu<D: Domain, R: Wait + Abort>(
         Call::Detach(wanted) => {
             let rec = record(rt, wanted);
             entry(rt, registry.detach(rt, cpu, rec.kind, &rec.name), rec)
+        }
+        Call::LookUp(wanted) => {
+            let rec = record(rt, wanted);
+            entry(rt, registry.look_up(cpu, rec.kind, &rec.name), rec)
+        }
+        Call::Get(wanted) => {
+            let rec = record(rt, wanted);
+            refs.keep_got(rt, registry.get(cpu, rec.kind, &rec.name), rec)
         }
         Call::Uncount => {
             registry.release_local(rt, cpu, refs.take_local(rt));

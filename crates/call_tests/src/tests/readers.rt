@@ -6,7 +6,7 @@ use super::answers::{Answer, at, done};
 use super::records::{WM, Wanted, record};
 use cpu_words::{Domain, Words};
 use local_count::{LocalRef, acquire_local};
-use passive_list::{Cpu, enter, exit, find, find_remembered, may_begin_on, recall_on, walk};
+use passive_list::{Cpu, enter, exit, find, find_inside, find_remembered, may_begin_on, recall_on, walk};
 use passive_ref::{Psref, acquire, copy, get_remembered, held, read, release};
 use registry_values::{Entry, MOST_SLOTS, Record, Refusal};
 use std::process::Abort;
@@ -17,6 +17,8 @@ pub(crate) enum Reader {
     Enter,
     Exit,
     Find(Wanted),
+    /// In its section, it looks up by memory.
+    FindInside(Wanted),
     /// From outside, it looks up by memory.
     LookUp(Wanted),
     /// From outside, it gets a passive reference by memory.
@@ -78,6 +80,23 @@ impl<D: Domain> Held<D> {
         }
     }
 
+    /// Holds what a get returned, which is of this record.
+    pub(crate) fn keep_got<R: Abort>(
+        &mut self,
+        rt: &R,
+        got: Result<(Entry, Psref), Refusal>,
+        rec: Record,
+    ) -> Answer {
+        match got {
+            Ok((entry, psref)) => {
+                assert_eq!(rt; (entry.number, entry.rec), (psref.number(), rec));
+                put(rt, &mut self.passive, psref);
+                Answer::Done
+            }
+            Err(refusal) => Answer::Refused(refusal),
+        }
+    }
+
     /// Hands the passive reference on.
     pub(crate) fn hand_passive<E: Domain, R: Abort>(&mut self, rt: &R, other: &mut Held<E>) {
         put(rt, &mut other.passive, self.take_passive(rt));
@@ -131,6 +150,7 @@ pub(crate) fn by_reader<D: Domain, R: Abort>(
         Reader::Enter => done(enter(words, cpu)),
         Reader::Exit => exited(rt, words, cpu),
         Reader::Find(wanted) => found(rt, words, cpu, record(rt, wanted)),
+        Reader::FindInside(wanted) => found_inside(rt, words, cpu, record(rt, wanted)),
         Reader::LookUp(wanted) => looked_up(rt, words, cpu, record(rt, wanted)),
         Reader::Get(wanted) => got(rt, words, cpu, refs, record(rt, wanted)),
         Reader::Recall(slot, number) => {
@@ -176,7 +196,18 @@ fn found<D: Domain, R: Abort>(rt: &R, words: &Words, cpu: &mut Cpu<D>, rec: Reco
     }
 }
 
-/// The CPU looks the record's kind and name up by memory.
+/// The same, by memory.
+fn found_inside<D: Domain, R: Abort>(rt: &R, words: &Words, cpu: &mut Cpu<D>, rec: Record) -> Answer
+    requires words { AreWordsOf words.now D.table D.settings }
+{
+    assert!(rt; cpu.inside());
+    match find_inside(words, cpu, rec.kind, &rec.name) {
+        Some(entry) => at(rt, entry, rec),
+        None => Answer::Nothing,
+    }
+}
+
+/// The CPU looks the record's kind and name up by memory, from outside.
 pub(crate) fn looked_up<D: Domain, R: Abort>(
     rt: &R,
     words: &Words,
@@ -214,14 +245,8 @@ fn got<D: Domain, R: Abort>(
 ) -> Answer
     requires words { AreWordsOf words.now D.table D.settings }
 {
-    match get(rt, words, cpu, rec) {
-        Ok((entry, psref)) => {
-            assert_eq!(rt; (entry.number, entry.rec), (psref.number(), rec));
-            put(rt, &mut refs.passive, psref);
-            Answer::Done
-        }
-        Err(refusal) => Answer::Refused(refusal),
-    }
+    let answer = get(rt, words, cpu, rec);
+    refs.keep_got(rt, answer, rec)
 }
 
 /// A get by memory, of the record's kind and name. Between a lookup and the get of what that found, the entry may be detached, and another one attached:

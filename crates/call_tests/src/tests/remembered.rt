@@ -4,11 +4,11 @@ ghost use Rattle.cpu_words.specs.Common.{AreWordsOf};
 ghost use Rattle.name_registry.specs.Common.{IsBlankOf};
 
 use super::answers::Answer::{self, At, Done, Is, Names, Nothing, Number, Refused};
-use super::bench::Call::{Attach, Destroy, Detach};
+use super::bench::Call::{self, Attach, Destroy, Detach};
 use super::bench::Step::{self, By, Reads};
 use super::bench::{Bench, blank};
 use super::readers::Reader::{
-    Acquire, Ended, Enter, Exit, Find, Get, LookUp, Read, Recall, Reference, Release,
+    Acquire, Ended, Enter, Exit, Find, FindInside, Get, LookUp, Read, Recall, Reference, Release,
 };
 use super::readers::{Held, Reader, by_reader, looked_up};
 use super::records::{DRIVER_WM0, VGA, WM, WM0, Wanted, record};
@@ -127,9 +127,72 @@ const RECALLS: &[(Step, Answer)] = &[
     (Reads(0, Recall(0, 3)), Is(true)),
 ];
 
+/// CPU 0 misses a name without a section, if no entry is there, or if the newest one is that of the last miss.
+const ABSENT: &[(Step, Answer)] = &[
+    (Reads(0, LookUp(WM)), Nothing),
+    (Reads(0, Ended), Number(0)),
+    (By(1, Attach(VGA)), At(1, 0)),
+    (Reads(0, LookUp(WM)), Nothing),
+    (Reads(0, Ended), Number(1)),
+    (Reads(0, LookUp(WM)), Nothing),
+    (Reads(0, LookUp(WM0)), Nothing),
+    (Reads(0, Ended), Number(2)),
+    (By(1, Attach(WM)), At(2, 1)),
+    (Reads(0, LookUp(WM0)), Nothing),
+    (Reads(0, LookUp(WM)), At(2, 1)),
+    (Reads(0, Ended), Number(4)),
+    (By(1, Detach(WM)), At(2, 1)),
+    (Reads(0, LookUp(WM)), Nothing),
+    (Reads(0, Ended), Number(4)),
+    (By(1, Detach(VGA)), At(1, 0)),
+    (Reads(0, LookUp(VGA)), Nothing),
+    (By(1, Destroy(1, 9)), Number(0)),
+    (Reads(0, Ended), Number(4)),
+    (By(1, Attach(WM)), At(5, 0)),
+    (Reads(0, LookUp(WM)), At(5, 0)),
+    (Reads(0, Ended), Number(5)),
+];
+
+/// The registry's own calls, outside a section and inside. Outside, a get and a lookup of one name share what the CPU remembers.
+const CALLS: &[(Step, Answer)] = &[
+    (By(0, Call::Get(WM)), Refused(Refusal::NotFound)),
+    (Reads(0, Ended), Number(0)),
+    (By(1, Attach(WM)), At(1, 0)),
+    (By(0, Call::Get(WM)), Done),
+    (Reads(0, Ended), Number(1)),
+    (Reads(0, Reference), Names(0, 1)),
+    (Reads(0, Release), Done),
+    (By(0, Call::LookUp(WM)), At(1, 0)),
+    (By(0, Call::Get(VGA)), Refused(Refusal::NotFound)),
+    (Reads(0, Ended), Number(2)),
+    (By(0, Call::LookUp(VGA)), Refused(Refusal::NotFound)),
+    (By(0, Call::Get(VGA)), Refused(Refusal::NotFound)),
+    (Reads(0, Ended), Number(2)),
+    (Reads(0, Enter), Done),
+    (By(0, Call::Get(WM)), Done),
+    (Reads(0, Release), Done),
+    (By(0, Call::LookUp(VGA)), Refused(Refusal::NotFound)),
+    (Reads(0, Acquire), Refused(Refusal::NothingFound)),
+    (By(0, Call::LookUp(WM)), At(1, 0)),
+    (Reads(0, Acquire), Done),
+    (Reads(0, Release), Done),
+    (Reads(0, FindInside(VGA)), Nothing),
+    (Reads(0, Acquire), Refused(Refusal::NothingFound)),
+    (Reads(0, FindInside(WM)), At(1, 0)),
+    (By(1, Detach(WM)), At(1, 0)),
+    (Reads(0, Acquire), Done),
+    (Reads(0, FindInside(WM)), Nothing),
+    (Reads(0, Exit), Done),
+    (Reads(0, Read(WM)), Done),
+    (By(0, Call::Get(WM)), Refused(Refusal::NotFound)),
+    (Reads(0, Release), Done),
+    (By(1, Destroy(1, 9)), Number(0)),
+    (Reads(0, Ended), Number(3)),
+];
+
 #[test]
 fn rows_by_memory(rt: HostRuntime) -> Result<(), Fail> {
-    for steps in [SECTIONS, SLOTS_AGAIN, KEYS, RECALLS] {
+    for steps in [SECTIONS, SLOTS_AGAIN, KEYS, RECALLS, ABSENT, CALLS] {
         run(&rt, rt.alloc(), steps)?;
     }
     Ok(())

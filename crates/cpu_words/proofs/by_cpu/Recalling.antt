@@ -13,6 +13,7 @@ use Rattle.protocol.specs.Common.{IsAttached, IsLiveAt, IsNewestAt, State, guard
 use Rattle.protocol.specs.Common.{begin_at, found_at, seen_at, search_at, step}
 use Rattle.registry_values.specs.Common.{slot_at}
 use Rattle.protocol.proofs.history.History.{at_within, one_entry}
+use Rattle.protocol.proofs.keeps.CountKeeps.{live_tells}
 use Rattle.protocol.proofs.runs.Fresh.{head_newest, honest_tells, live_is}
 use Rattle.protocol.proofs.slots.Occupied.{in_within}
 use Rattle.cpu_words.specs.Common.{CpuView, View, Keeper, Cpu, head_word, live_of, index, own_of, cpu_view, cpu_of, depth_of, CpuShown, Good, Ruled, GoesOn, by_number, did, Makes, CpuMay, LivesShow}
@@ -26,11 +27,17 @@ use Rattle.cpu_words.proofs.by_cpu.Searching.{loaded_words}
 pub honest_in : (z : Settings) (s : Table ℕ View) (r : Ruled z s) → LivesShow r.g.slots r.g.lives
 honest_in z s r = let k = r.shows.each.keeper in (r.shows.fits 0 (Keeper k.0) k.1).1.honest
 
--- the entry of the history with an honest number is live
+-- an honest number is 0, or of the slot's live entry
 pub live_number : (g : State) (t n : ℕ) → Good g → is_honest n (slot_at g.slots t) ≡ true → IsLiveNumber g.history t n
-live_number g t n good honest e attached number =
-    let some_one : 0 < n = let within = at_within g.history e.number _ attached in omega (arith, within.0, number) in
-    live_is g t n e good.holds (honest_tells n (slot_at g.slots t) some_one honest) attached number
+live_number g t n good honest = record {
+  only = λ e attached number.
+      let some_one : 0 < n = let within = at_within g.history e.number _ attached in omega (arith, within.0, number) in
+      live_is g t n e good.holds (honest_tells n (slot_at g.slots t) some_one honest) attached number;
+  one = λ some.
+      let is = live_tells n (slot_at g.slots t) (honest_tells n (slot_at g.slots t) (omega (arith, some)) honest) in
+      let shown = good.holds.slots.live t is.0 is.2 in
+      (is.0, shown.0, shown.1, is.1);
+}
 
 -- A load by which the CPU x sees all of the history, and has found f last; beside that nothing changes
 
@@ -166,7 +173,7 @@ refinds z s r i x e idle inside attached low at same =
     let known : IsAttached g.history e = attached_prefix x.pass g.history e (subst (λ (p : List Change). IsPrefix p g.history) (sym seen.pass) (taken_is_prefix (seen_at g x.id) g.history)) attached in
     let word : live_at g.lives t ≡ e.number = sym stands ∙ same in
     let honest : is_honest e.number (slot_at g.slots t) ≡ true = ap (λ (k : ℕ). is_honest k (slot_at g.slots t)) (sym word) ∙ honest_in z s r t in
-    let live : IsLiveAt g.history (length g.history) e = (live_number g t e.number r.good honest e known refl).0 in
+    let live : IsLiveAt g.history (length g.history) e = ((live_number g t e.number r.good honest).only e known refl).0 in
     let placed : slot_at g.slots t ≡ Live e = r.good.holds.slots.placed e live in
     let none : search_at g x.id ≡ None = sym seen.search ∙ idle in
     let begun : begin_at g x.id ≡ Some inside.0 = sym seen.begin ∙ inside.1 in

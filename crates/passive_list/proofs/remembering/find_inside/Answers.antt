@@ -8,5 +8,5 @@ use Rattle.passive_list.proofs.remembering.find_inside.Goals as goal
 pub returns : goal.returns
 returns g c =
     let m = c.cpu.inside.share.amount in
-    subst (λ (x : OnCpu). HasFoundInside (key_with c.args.kind c.args.name.now) x (sharing m c.find_inside_on.new.cpu.cpu) c.find_inside_on.result) c.cpu.view_is
-    (found_inside m _ _ _ _ c.find_inside_on.ensures.found)
+    subst (λ (x : OnCpu). HasFoundInside (key_with c.args.kind c.args.name.now) x (sharing m c.find_inside_on-seen.new.cpu.cpu) c.entry_of.result) c.cpu.view_is
+    (found_inside m _ _ _ _ (c.find_inside_on-seen.result, c.entry_of.ensures, c.find_inside_on-seen.ensures.found))

@@ -4,7 +4,7 @@ use Rattle.c_calls.specs.Types.{Seen}
 use Rattle.c_values.specs.declared.values.TheConstants.{DONE}
 use Rattle.c_values.specs.Places.{put}
 use Rattle.c_calls.proofs.UsualCalls.{told, writes}
-use Rattle.c_calls.proofs.usual_calls.put_seen.Goals as goal
+use Rattle.c_calls.proofs.cpu_calls.put_seen.Goals as goal
 
 pub returns-in_default-clause-written : goal.returns-in_default-clause-written
 returns-in_default-clause-written c =

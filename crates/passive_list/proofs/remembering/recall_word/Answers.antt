@@ -1,0 +1,18 @@
+-- The data agree with the view again, and what the load found tells of the entry with that number.
+use Rattle.std.proofs.Common.{refl, sym, ap}
+use Rattle.std.proofs.lemmas.Bool.{eq-eqb}
+use Rattle.cpu_words.proofs.shown.KeepersShown.{step_is_shown}
+use Rattle.passive_list.specs.Common.{OnPlainCpu}
+use Rattle.passive_list.proofs.Agreeing.{noted_agrees, own_agrees}
+use Rattle.passive_list.proofs.Recalls.{recalled_on}
+use Rattle.passive_list.proofs.remembering.recall_word.Goals as goal
+
+pub invariant_of-cpu : goal.invariant_of-cpu
+invariant_of-cpu c =
+    own_agrees _ _ _ _ _ _ _ _ _ _ _ (noted_agrees _ _ _ _ _ _ _ _ _ _ _ _ _ _ c.cpu.invariant (step_is_shown c.recall.ensures.step.event) c.recall.ensures.step.table
+    c.recall.ensures.change.is.0 c.recall.ensures.change.is.1)
+
+pub returns-clause-recalled : goal.returns-clause-recalled
+returns-clause-recalled c =
+    recalled_on _ _ _ _ _ _ _ _ _ _ (ap (λ (o : OnPlainCpu). o.cpu) c.cpu.view_is) c.recall.ensures.change c.recall.ensures.whole c.cpu.invariant.id c.recall.ensures.step.log
+    c.recall.ensures.step.known_log (sym (eq-eqb c.recall.result c.recall.result refl))
