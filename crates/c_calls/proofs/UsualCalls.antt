@@ -9,13 +9,14 @@ use Rattle.c_calls.specs.Types.{Entry, Key, Kind, Iface, Driver, Name, Refusal, 
 use Rattle.registry_values.specs.Common.{kind_word, Answers}
 use Rattle.cpu_words.specs.Common.{key_with}
 use Rattle.passive_list.specs.Common.{OnCpu, OnPlainCpu, HasFoundInside, HasFoundKept, FindsInsideBy, AnswersEnter, entry_seen}
+use Rattle.passive_ref.specs.Gets.{HasGotByMemory}
 use Rattle.passive_ref.specs.Psrefs.{IsAcquired, OnPsref, why_not_acquired}
 use Rattle.c_values.specs.declared.values.TheConstants.{DONE}
 use Rattle.c_values.specs.declared.values.CEntry.{CEntry}
 use Rattle.c_values.specs.declared.values.CName.{CName}
 use Rattle.c_calls.specs.Calls.{Acquires, Enters, Exits, Finds, FindsNamed, TellsFound, WritesFound}
 use Rattle.c_values.specs.Places.{put}
-use Rattle.c_calls.specs.UsualCalls.{Between, EntersAndFinds, FindsAndAcquires, Gets, GetsByMemory, GetsInSection, LooksUp, LooksUpByMemory, LooksUpInSection, Seeks}
+use Rattle.c_calls.specs.UsualCalls.{Between, EntersAndFinds, FindsAndAcquires, Gets, GetsByMemory, GetsInSection, LooksUp, LooksUpByMemory, LooksUpInSection, Seeks, TriedSo, Tries, TriesOnce, key_in}
 use Rattle.c_values.specs.Values.{entry_out, kind_in, name_in, number_of}
 use Rattle.c_calls.proofs.Gone.{refused_not}
 
@@ -119,6 +120,37 @@ got kind k m name a b n old new seeks had = record {
 
 pub got_by_calls : (kind : ℕ) (name : Option CName) (a b : OnPlainCpu) (n : ℕ) (old new : Option CEntry) → Seeks kind name a None → GetsInSection kind name a b n old new → Gets kind name a b n old new
 got_by_calls kind name a b n old new not had = record { by_memory = λ may. absurd (not may); by_calls = λ _. had }
+
+-- A try by memory
+
+pub tries_done : (k : Kind) (m : CName) (a b : OnPlainCpu) (n : ℕ) (old new : Option CEntry) (P : OnPlainCpu → Type 0) → TriesOnce k m a b (Some n) old new → Tries k m a b n old new P
+tries_done k m a b n old new P had = record {
+  tried = b;
+  answer = Some n;
+  value = new;
+  tries = had;
+  done = λ i is. (same_Some n i is, refl, refl);
+  vain = λ none. let clash : ◌≡◌ {A = Option ℕ} (Some n) None = none in cc;
+}
+
+pub tries_vain : (k : Kind) (m : CName) (a c b : OnPlainCpu) (n : ℕ) (old middle new : Option CEntry) (P : OnPlainCpu → Type 0) → TriesOnce k m a c None old middle → P c → Tries k m a b n old new P
+tries_vain k m a c b n old middle new P had after = record {
+  tried = c;
+  answer = None;
+  value = middle;
+  tries = had;
+  done = λ i is. let clash : ◌≡◌ {A = Option ℕ} None (Some i) = is in cc;
+  vain = λ _. after;
+}
+
+vain_by : (k : Kind) (m : CName) (a b : OnPlainCpu) (old new : Option CEntry) (o : Option (Seen × OnPsref)) → HasGotByMemory (key_in k m) a.cpu b.cpu o → TriedSo k m o None old new
+    → HasGotByMemory (key_in k m) a.cpu b.cpu None × (new ≡ old)
+vain_by k m a b old new None gets so = (gets, so.1)
+vain_by k m a b old new (Some g) gets so = let clash : ◌≡◌ {A = Option ℕ} None (Some so.0) = so.1 in cc
+
+-- one that got nothing
+pub got_nothing : (k : Kind) (m : CName) (a b : OnPlainCpu) (old new : Option CEntry) → TriesOnce k m a b None old new → HasGotByMemory (key_in k m) a.cpu b.cpu None × (new ≡ old)
+got_nothing k m a b old new had = vain_by k m a b old new had.got had.gets had.so
 
 -- what is written of a find's answer
 abbrev pub writes : Kind → CName → Option Seen → ℕ → Option CEntry → Option CEntry → Type 0

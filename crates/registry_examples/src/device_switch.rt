@@ -6,11 +6,10 @@ ghost use Rattle.registry_values.specs.Common.{is_lawful};
 ghost use Rattle.name_registry.specs.Common.{IsBlankOf};
 
 use crate::failure::Failure;
-use crate::section::enter;
 use cpu_words::Domain;
 use local_count::{LocalRef, acquire_local};
 use name_registry::{Blank, Registry};
-use passive_list::{Cpu, exit, find};
+use passive_list::{Cpu, enter, exit, find};
 use registry_values::{Kind, Name, Record, Refusal, Settings, Stage};
 use std::alloc::Global;
 use std::marker::Brand;

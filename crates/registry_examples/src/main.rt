@@ -4,7 +4,6 @@
 mod device_switch;
 mod failure;
 mod packet_loop;
-mod section;
 mod test_bench;
 
 use device_switch::run_device_switch;

@@ -1,30 +1,14 @@
--- What the memory got is written, or the calls follow.
-use Rattle.std.proofs.Common.{Some, None, subst}
-use Rattle.c_calls.specs.Types.{Name, Seen}
-use Rattle.cpu_words.specs.Common.{key_with}
-use Rattle.passive_ref.specs.Psrefs.{OnPsref}
-use Rattle.passive_ref.specs.Gets.{HasGotByMemory}
+-- One try, or the calls follow.
+use Rattle.std.proofs.Common.{Option, Some, subst}
+use Rattle.c_values.specs.declared.values.CEntry.{CEntry}
+use Rattle.c_calls.specs.UsualCalls.{GetsInSection}
+use Rattle.c_calls.proofs.UsualCalls.{got_nothing, tries_done, tries_vain}
 use Rattle.c_calls.proofs.usual_calls.get_found.Goals as goal
 
-pub returns-in_default-clause-call : goal.returns-in_default-clause-call
-returns-in_default-clause-call c word is =
-    let b = c.get_by_memory.new.self in
-    record {
-      tried = b;
-      got = None;
-      gets = subst (λ (n : Name). HasGotByMemory (key_with c.args.kind n) c.args.cpu.now.cpu b.cpu None) c.name_in.ensures c.in_default.ensures.got;
-      words = c.in_default.ensures.words;
-      after = c.get_in_section.ensures.call word is;
-    }
+pub returns-in-Some-clause-call : goal.returns-in-Some-clause-call
+returns-in-Some-clause-call c word is = tries_done _ _ _ _ _ _ _ _ c.in-Some.ensures.call
 
-pub returns-clause-call : goal.returns-clause-call
-returns-clause-call c word is =
-    let b = c.get_by_memory.new.self in
-    let got : Seen × OnPsref = (c.in-Some.seen, c.in-Some.psref) in
-    record {
-      tried = b;
-      got = Some got;
-      gets = subst (λ (n : Name). HasGotByMemory (key_with c.args.kind n) c.args.cpu.now.cpu b.cpu (Some got)) c.name_in.ensures c.in-Some.ensures.got;
-      words = c.in-Some.ensures.words;
-      after = (c.keep.ensures, c.put_seen.ensures.written);
-    }
+pub returns-in-None-clause-call : goal.returns-in-None-clause-call
+returns-in-None-clause-call c word is = tries_vain _ _ _ _ _ _ _ _ _ _ c.in-None.ensures.call
+    (subst (λ (o : Option CEntry). GetsInSection word (Some c.args.name) c.try_memory.new.cpu c.get_in_section.new.cpu c.get_in_section.result o c.get_in_section.new.found.value)
+    (got_nothing _ _ _ _ _ _ c.in-None.ensures.call).1 (c.get_in_section.ensures.call word is))
