@@ -10,8 +10,10 @@ use registry_values::{Kind, MOST_SLOTS, Name};
 /// How many hints there are.
 const HINTS: usize = 256;
 
-/// 2^64 by the golden ratio, and what a hint has of 2^64.
+/// 2^64 by the golden ratio.
 const GOLDEN: u64 = 0x9e37_79b9_7f4a_7c15;
+
+/// The numbers below 2^64 with the same hint.
 const SHARE: u64 = 1 << 56;
 
 /// How many lookups without an answer are remembered.

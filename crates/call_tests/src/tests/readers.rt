@@ -6,7 +6,9 @@ use super::answers::{Answer, at, done};
 use super::records::{WM, Wanted, record};
 use cpu_words::{Domain, Words};
 use local_count::{LocalRef, acquire_local};
-use passive_list::{Cpu, enter, exit, find, find_inside, find_remembered, may_begin_on, recall_on, walk};
+use passive_list::{
+    Cpu, enter, exit, find, find_inside, find_remembered, may_begin_on, recall_on, walk,
+};
 use passive_ref::{Psref, acquire, copy, get_remembered, held, read, release};
 use registry_values::{Entry, MOST_SLOTS, Record, Refusal};
 use std::process::Abort;
