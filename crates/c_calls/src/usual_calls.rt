@@ -78,7 +78,9 @@ fn try_memory(cpu: &mut CpuBody, kind: Kind, name: CName, found: &mut EntryPlace
     ensures place { found.new.at ≡ found.old.at }
     ensures call { TriesOnce kind name cpu.old cpu.new result found.old.value found.new.value }
 {
-    let (seen, psref) = cpu.get_by_memory(kind, name_in(&name))?;
+    let Some((seen, psref)) = cpu.get_by_memory(kind, name_in(&name)) else {
+        return None;
+    };
     cpu.keep(psref);
     Some(put_seen(Some(seen), kind, name, found))
 }

@@ -6,11 +6,11 @@ use Rattle.c_calls.specs.UsualCalls.{GetsAnew}
 use Rattle.c_calls.proofs.UsualCalls.{got_nothing, tries_done, tries_vain}
 use Rattle.c_calls.proofs.usual_calls.get_by_memory.Goals as goal
 
-pub get_anew-requires-outside : goal.get_anew-requires-outside
-get_anew-requires-outside c = (none_got _ _ _ (got_nothing _ _ _ _ _ _ c.in-None.ensures.call).0).0 ∙ c.requires.outside
+pub get_anew-requires-clause-outside : goal.get_anew-requires-clause-outside
+get_anew-requires-clause-outside c = (none_got _ _ _ (got_nothing _ _ _ _ _ _ c.in-None.ensures.call).0).0 ∙ c.requires.outside
 
-pub get_anew-requires-room : goal.get_anew-requires-room
-get_anew-requires-room c = (none_got _ _ _ (got_nothing _ _ _ _ _ _ c.in-None.ensures.call).0).1 ∙ c.requires.room
+pub get_anew-requires-clause-room : goal.get_anew-requires-clause-room
+get_anew-requires-clause-room c = (none_got _ _ _ (got_nothing _ _ _ _ _ _ c.in-None.ensures.call).0).1 ∙ c.requires.room
 
 pub returns-in-Some-clause-call : goal.returns-in-Some-clause-call
 returns-in-Some-clause-call c word is = tries_done _ _ _ _ _ _ _ _ c.in-Some.ensures.call
