@@ -242,9 +242,9 @@ static void judge_moment(uint64_t from, uint64_t to, uint64_t number)
 static void judge_writes(uint64_t from, uint64_t to, uint64_t number)
 {
 	bool is_recalled = section_writes == 0 && number == remembered;
-	unsigned tries = call != registry_get ? 0 : (remembered != 0 && !is_recalled) + (section_writes == 4);
+	uint64_t vain = call == registry_get && remembered != 0 && !is_recalled, again = section_writes == 4;
 	EXPECT(references() == (call == registry_get && number != 0));
-	EXPECT(passive_writes == references() + 2 * tries);
+	EXPECT(passive_writes == references() + 2 * (vain + again));
 	if (section_writes == 0)
 		EXPECT(number == 0 || number == remembered);
 	else
@@ -265,9 +265,10 @@ static void judge(uint64_t from, uint64_t to, registry_answer answer, const stru
 	moved += number != 0 && remembered != 0 && number != remembered;
 	reused += remembered != 0 && from % 8 == 5;
 	judge_moment(from, to, number);
-	remembered = number;
 	if (number == 0 && section_writes != 0)
 		missed = from == to ? newest_after(to) : 0;
+	if (number != 0 || section_writes != 0)
+		remembered = number;
 }
 
 /* Releases what a get has acquired: exactly one reference. */
