@@ -2,8 +2,7 @@
 """Draws a script with its report as time lines.
 
     tools/picture.py svg SCRIPT [REPORT]     as SVG, to standard output
-    tools/picture.py text SCRIPT [REPORT]    for a terminal, in at most 100 columns where the script is short enough
-    tools/picture.py make                    writes the pictures of examples/ anew: NAME.svg
+    tools/picture.py make                    writes the pictures anew that are kept in examples/, since a page shows them
     tools/picture.py check                   makes them again and compares, and tries what it should refuse
 
 Time goes to the right; one column is one command. Each CPU has a row, with its sections as bars and its references as thinner bars, and each
@@ -18,7 +17,7 @@ sys.dont_write_bytecode = True
 
 from picture.checks import check, make
 from picture.commands import Unfit
-from picture.drawn import FORMS, drawn
+from picture.svg import drawn
 
 
 def main():
@@ -27,12 +26,12 @@ def main():
         sys.exit(check())
     if words == ["make"]:
         sys.exit(make())
-    if len(words) not in (2, 3) or words[0] not in FORMS:
+    if len(words) not in (2, 3) or words[0] != "svg":
         sys.exit(__doc__)
     script = pathlib.Path(words[1])
     report = pathlib.Path(words[2]) if len(words) == 3 else script.with_suffix(".report")
     try:
-        sys.stdout.write(drawn(words[0], script.stem, script.read_text(), report.read_text()))
+        sys.stdout.write(drawn(script.stem, script.read_text(), report.read_text()))
     except (Unfit, OSError, UnicodeDecodeError) as fault:
         sys.exit(f"{script.name}: {fault}")
 

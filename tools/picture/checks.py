@@ -5,8 +5,7 @@ import re
 from counts import ended
 
 from .commands import Unfit
-from .drawn import FORMS, drawn
-from .svg import LETTER
+from .svg import LETTER, drawn
 
 ROOT = pathlib.Path(__file__).resolve().parent.parent.parent
 
@@ -55,20 +54,15 @@ PLANTED = {
     "held when freed": (13, ["local 1"]),
     "a refusal that wasn't": (4, ["refused PassiveFull"]),
 }
-# Scripts with their reports: words that the rows of the text form have, and words that they have not.
 REFUSED = ("domain 1 1\nattach 0 driver wm 7\nenter 0\nref 0 a\n", "domain 1 1\nattached 1 slot 0\ninside\nrefused NothingFound\n")
-TEXTS = {
-    "a refused reference draws no bar": (*REFUSED, "NothingFound", "├─"),
-    "a failed command is told apart from its result": (*REFUSED, "ref a: NothingFound", "refused"),
-    "an advance is named where its result is": (SCRIPT, REPORT, "advance: grace cpu 0", "destroy"),
-    "a reference that is acquired draws one": (SCRIPT, REPORT, "├a: wm─", "├b"),
-    "the section that held a slot is named": (SCRIPT, REPORT, "grace cpu 0", "grace cpu 1"),
-    "the passive reference that held it is named": (SCRIPT, REPORT, "passive cpu 0", "×"),
-    "the local references that held it are counted": (SCRIPT, REPORT, "local 1", "local 2"),
+# Scripts with their reports: a label that the picture has, and one that it hasn't.
+LABELS = {
+    "a failed command is told apart from its result": (*REFUSED, "ref a: NothingFound", "ref a"),
+    "the section that held a slot is named": (SCRIPT, REPORT, "advance: grace cpu 0", "grace cpu 1"),
+    "the passive reference that held it is named": (SCRIPT, REPORT, "advance: passive cpu 0", "passive cpu 1"),
+    "the local references that held it are counted": (SCRIPT, REPORT, "advance: local 1", "local 2"),
     "a reference released elsewhere is marked there": (SCRIPT, REPORT, "uncount x", "uncount a"),
 }
-
-
 # What a picture's legend has and what it has not.
 LEGENDS = {
     "the legend has a failed command, and no reference": (*REFUSED, "failed", "passive reference"),
@@ -83,25 +77,30 @@ def examples():
     return sorted((ROOT / "examples").glob("*.txt"))
 
 
-def drawn_again(script, form="svg"):
-    return drawn(form, script.stem, script.read_text(), script.with_suffix(".report").read_text())
+def drawn_again(script):
+    return drawn(script.stem, script.read_text(), script.with_suffix(".report").read_text())
+
+
+def kept():
+    """The pictures that pages show."""
+    return sorted((ROOT / "examples").glob("*.svg"))
 
 
 def differs(script):
-    """Why the picture of a script of examples/ isn't the one that its script and report make, or there is none in text, if so."""
+    """Why the script and its report make no picture, or another one than is kept, if so."""
     path = script.with_suffix(".svg")
     try:
-        same = path.is_file() and path.read_text() == drawn_again(script) and drawn_again(script, "text")
+        drawing = drawn_again(script)
     except (Unfit, OSError) as fault:
         return str(fault)
-    return "" if same else "it isn't what tools/picture.py make writes"
+    return "" if path not in kept() or path.read_text() == drawing else "it isn't what tools/picture.py make writes"
 
 
 def standing():
-    """Each picture of examples/ is the one that its script and report make."""
+    """Each script of examples/ is drawn with its report, and each picture that is kept is that one."""
     for script in examples():
         yield f"examples/{script.stem}.svg", differs(script)
-    for path in sorted((ROOT / "examples").glob("*.svg")):
+    for path in kept():
         if not path.with_suffix(".txt").is_file():
             yield f"examples/{path.name}", "there is no such script"
 
@@ -118,7 +117,7 @@ def documents():
     for page in sorted((ROOT / "docs").glob("*.md")):
         for place, (script, report) in enumerate(scripts_of(page.read_text()), 1):
             try:
-                yield f"{page.name}, script {place}", "" if drawn("text", page.stem, script, report) else "nothing is drawn"
+                yield f"{page.name}, script {place}", "" if drawn(page.stem, script, report) else "nothing is drawn"
             except Unfit as fault:
                 yield f"{page.name}, script {place}", str(fault)
 
@@ -128,25 +127,24 @@ def planted():
     for name, (place, lines) in PLANTED.items():
         said = REPORT.splitlines()
         said[place:place + 1] = lines
-        for form in FORMS:
-            try:
-                drawn(form, "planted", SCRIPT, "".join(f"{line}\n" for line in said))
-                yield f"{name}, {form}", "it is drawn"
-            except Unfit:
-                yield f"{name}, {form}", ""
+        try:
+            drawn("planted", SCRIPT, "".join(f"{line}\n" for line in said))
+            yield name, "it is drawn"
+        except Unfit:
+            yield name, ""
 
 
 def said():
     """What a picture says, and what it doesn't."""
-    for name, (script, report, there, missing) in TEXTS.items():
-        rows = drawn("text", "planted", script, report).split("┣━┫")[0]
-        yield name, "" if there in rows and missing not in rows else f"it should say {there}, and not {missing}"
+    for name, (script, report, there, missing) in LABELS.items():
+        labels = re.findall(r'class="label[^"]*">([^<]*)<', drawn("planted", script, report))
+        yield name, "" if there in labels and missing not in labels else f"it should say {there}, and not {missing}: {labels}"
 
 
 def legends():
     """A legend lists what occurs, and nothing else."""
     for name, (script, report, there, missing) in LEGENDS.items():
-        texts = re.findall(r"<text[^>]*>([^<]*)</text>", drawn("svg", "planted", script, report))
+        texts = re.findall(r"<text[^>]*>([^<]*)</text>", drawn("planted", script, report))
         yield name, "" if there in texts and missing not in texts else f"it should say {there}, and not {missing}"
 
 
@@ -170,8 +168,8 @@ def crossed(drawing):
 def legible():
     """In each picture every column has a mark, and no dotted line goes through a label. One that can't be drawn `standing` has told."""
     drawings = {script.stem: drawn_again(script) for script in examples() if not differs(script)}
-    drawings["commands that no bar shows"] = drawn("svg", "planted", *UNBARRED)
-    drawings["one of each"] = drawn("svg", "planted", SCRIPT, REPORT)
+    drawings["commands that no bar shows"] = drawn("planted", *UNBARRED)
+    drawings["one of each"] = drawn("planted", SCRIPT, REPORT)
     for name, drawing in drawings.items():
         yield f"{name}, columns", ", ".join(f"nothing is marked at {place}" for place in unmarked(drawing))
         yield f"{name}, dotted lines", ", ".join(f"one goes through {words}" for words in crossed(drawing))
@@ -209,7 +207,7 @@ def check():
 
 
 def make():
-    """Writes each picture of examples/ anew."""
-    for script in examples():
-        script.with_suffix(".svg").write_text(drawn_again(script))
+    """Writes each picture that is kept anew."""
+    for path in kept():
+        path.write_text(drawn_again(path.with_suffix(".txt")))
     return 0

@@ -1,7 +1,8 @@
 """A scene as SVG, 900 wide: time to the right, a row for each CPU and slot, and the script with its report underneath."""
 from xml.sax.saxutils import escape
 
-from .scene import clear_until, labelled, lanes
+from .replay import replay
+from .scene import clear_until, labelled, lanes, scene_of
 
 WIDTH, LEFT, RIGHT, TOP = 900, 76, 18, 68
 LETTER = 6.7  # of 11 pixels, in the widest of the monospace fonts
@@ -231,8 +232,10 @@ def listing(story, top):
     return drawn, top
 
 
-def svg(name, story, scene):
-    """The whole picture of the script of that name."""
+def drawn(name, script, report):
+    """The picture of a script of that name; Unfit where the report isn't that script's."""
+    story = replay(script, report)
+    scene = scene_of(story)
     drawing = Drawing(scene)
     drawn, end = listing(story, drawing.end + 26)
     height = number(end)

@@ -23,20 +23,19 @@ perform 0 1    performed
 
 
 def cases():
-    examples = real("examples/audit.*", "examples/limits.*")
+    examples = real("examples/perform-and-destroy.*", "examples/limits.*")
     tree = {**examples, "docs/layers.svg": DRAWING, "docs/page.md": PAGE, "crates.txt": "# NAME: ON\nlow: std\nhigh staticlib: low std\n"}
     faults = (
-        Fault("another picture", "examples/audit.svg: it isn't what tools/picture.py make writes", (("examples/audit.svg", "</svg>", "<g/></svg>"),)),
-        Fault("a picture that is gone", "examples/audit.svg: it isn't", (("examples/audit.svg", "", None),)),
+        Fault("another picture", "examples/perform-and-destroy.svg: it isn't what tools/picture.py make writes", (("examples/perform-and-destroy.svg", "</svg>", "<g/></svg>"),)),
         Fault("a picture without a script", "examples/other.svg: there is no such script", (("examples/other.svg", None, "<svg/>"),)),
-        Fault("a report that isn't the script's", "examples/audit.svg", (("examples/audit.report", None, "domain 1 1\n"),)),
+        Fault("a report that isn't the script's", "examples/perform-and-destroy.svg", (("examples/perform-and-destroy.report", None, "domain 1 1\n"),)),
         Fault("a report of a document that isn't its script's", "page.md, script 1", (("docs/page.md", "\ninside", "\noutside"),)),
         Fault("a line of a session that isn't its command's", "page.md, script 2", (("docs/page.md", "    performed", "    empty"),)),
         Fault("a crate that is no box", "docs/layers.svg, crates: more", (("crates.txt", "low: std\n", "low: std\nmore: std\n"),)),
         Fault("a box that is no crate", "docs/layers.svg, crates: less", (("docs/layers.svg", "<svg>", '<svg><rect data-crate="less"/>'),)),
         Fault("an arrow that is missing", "docs/layers.svg, arrows: high-low", (("docs/layers.svg", LAYERS[0], ""),)),
         Fault("an arrow too many", "docs/layers.svg, arrows: low-high", (("docs/layers.svg", "<svg>", '<svg><path data-from="low" data-to="high"/>'),)),
-        Fault("a report that is another script's", "audit.txt: ", command=["tools/picture.py", "svg", "examples/audit.txt", "examples/limits.report"]),
+        Fault("a report that is another script's", "perform-and-destroy.txt: ", command=["tools/picture.py", "svg", "examples/perform-and-destroy.txt", "examples/limits.report"]),
         Fault("a legend of all that there may be", "it should say failed, and not passive reference",
               (("tools/picture/svg.py", "        if kind in there:", "        if True:"),)),
         Fault("commands without a mark", "commands that no bar shows, columns: nothing is marked at",
@@ -45,6 +44,6 @@ def cases():
               (("tools/picture/svg.py", "(begun or above or [to.middle])", "(begun or [to.middle])"),)),
         Fault("labels without their command", "it should say ref a: NothingFound",
               (("tools/picture/scene.py", "    if command.verb in WITHOUT_SUBJECT:\n        return command.verb\n", "    return ''\n"),)),
-        Fault("no report", "audit.txt: ", (("examples/audit.report", "", None),), command=["tools/picture.py", "text", "examples/audit.txt"]),
+        Fault("no report", "perform-and-destroy.txt: ", (("examples/perform-and-destroy.report", "", None),), command=["tools/picture.py", "svg", "examples/perform-and-destroy.txt"]),
     )
     return [Case("picture", ["picture.py", "picture", "counts.py"], tree, ["tools/picture.py", "check"], faults)]
