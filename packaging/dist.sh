@@ -74,6 +74,7 @@ fill() {
 lay() {
     local to=$1
     mkdir -p "$to/examples" "$to/docs"
+    make -s pages
     cp -r Makefile c man netbsd explorer packaging "$to"
     rm -rf "$to/packaging/debian"
     cp -r "$(first debian packaging/debian)" "$to/debian"

@@ -170,6 +170,7 @@ catches() {
 }
 
 test_page() {
+    check "the pages are made of the headers" make_clients pages
     check "the page: mandoc -T lint says nothing" page_lints
     check "the page names the header's calls" names "$header" "$page"
     check "the page of the waits names their calls" names c/include/waiting.h man/registry_waiting.3

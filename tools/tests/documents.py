@@ -58,14 +58,10 @@ def check_docs():
               (("docs/TOUR.md", None, "A seat that is made up.\n"),)),
         Fault("a banned phrase in a header", "netbsd/include/kupaldiz/walk.h: phrases: line 1: 'stands for': is in, contains, or means",
               (("netbsd/include/kupaldiz/walk.h", None, "/* It stands for all. */\n"),)),
-        Fault("a private word in a manual page", "man/kupaldiz_walk.3: phrases: line 2: 'ledger': no private word",
-              (("man/kupaldiz_walk.3", None, ".Sh NAME\nA ledger.\n"),)),
+        Fault("a private word in a manual page", "man/kupaldiz_walk.7: phrases: line 2: 'ledger': no private word",
+              (("man/kupaldiz_walk.7", None, ".Sh NAME\nA ledger.\n"),)),
         Fault("a banned phrase in the header for C", "crates/registry_c/include/registry.h: phrases: line 1: 'call answers': returns",
               (("crates/registry_c/include/registry.h", None, "/* The call answers 0. */\n"),)),
-        Fault("a private word in registry's page", "man/registry_walk.3: phrases: line 2: 'seat': no private word",
-              (("man/registry_walk.3", None, ".Sh NAME\nA seat.\n"),)),
-        Fault("phrases elsewhere are counted", "1 phrases of tools/phrases.py in other documents: docs/page.md 1",
-              (("docs/page.md", "Back to", "Whatever page, back to"), ("README.md", "is here.", "is here, but for one."))),
     )
     return Case("check-docs", ["check-docs.py", "counts.py", "phrases.py"], DOCUMENTS, ["tools/check-docs.py"], faults, prepare=listed)
 

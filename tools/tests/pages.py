@@ -108,26 +108,26 @@ doesn't.
 .El
 """
 PAGE, FACE, CLIENT = "man/registry.3", "crates/registry_c/include/registry.h", "c/examples/packet.c"
+MAKES = f"""#!/bin/sh
+tools/header-pages.py make && diff {PAGE} wanted && diff man/registry_waiting.3 wanted_of_waits && tools/header-pages.py check
+"""
 
 
 def cases():
-    tree = {FACE: HEADER, f"{PAGE}.in": FRAME, PAGE: MADE, CLIENT: PACKET,
-            "c/include/waiting.h": WAITS, "man/registry_waiting.3.in": "@synopsis\n@calls\n", "man/registry_waiting.3": MADE_OF_WAITS}
-    other = f"{PAGE} isn't what tools/header-pages.py make writes"
+    tree = {FACE: HEADER, f"{PAGE}.in": FRAME, "wanted": MADE, CLIENT: PACKET, "make": MAKES,
+            "c/include/waiting.h": WAITS, "man/registry_waiting.3.in": "@synopsis\n@calls\n", "wanted_of_waits": MADE_OF_WAITS}
     faults = (
-        Fault("another type of a parameter", other, ((FACE, "struct registry *it,", "struct keeper *it,"),)),
-        Fault("another type of the result", other, ((FACE, "registry_answer registry_open", "uint32_t registry_open"),)),
-        Fault("another summary of a call", other, ((FACE, "make a registry", "open a registry"),)),
-        Fault("another error", other, ((FACE, "Returns REGISTRY_DONE.", "Returns REGISTRY_NULL."),)),
-        Fault("another range of a member", other, ((FACE, "1 to 8", "1 to 9"),)),
-        Fault("another text of a constant", other, ((FACE, "a pointer is NULL", "a pointer isn't NULL"),)),
-        Fault("a call more", other, ((FACE, "REGISTRY_CHECKED;\n", "REGISTRY_CHECKED;\n\n/*\n * registry_close - close it\n */\nvoid registry_close(void);\n"),)),
-        Fault("another example", other, ((CLIENT, "return 1", "return 2"),)),
-        Fault("a page that was written by hand", other, ((PAGE, "Make a registry.", "Make a registry, at once."),)),
-        Fault("a page that is gone", other, ((PAGE, MADE, None),)),
+        Fault("another type of a parameter", '> .Fa "struct registry *it"', ((FACE, "struct registry *it,", "struct keeper *it,"),)),
+        Fault("another type of the result", "> .Ft registry_answer", ((FACE, "registry_answer registry_open", "uint32_t registry_open"),)),
+        Fault("another summary of a call", "> Make a registry.", ((FACE, "make a registry", "open a registry"),)),
+        Fault("another error", "> .Dv REGISTRY_DONE .", ((FACE, "Returns REGISTRY_DONE.", "Returns REGISTRY_NULL."),)),
+        Fault("another range of a member", "> 1 to 8", ((FACE, "1 to 8", "1 to 9"),)),
+        Fault("a call more", "< .Nm registry_close",
+              ((FACE, "REGISTRY_CHECKED;\n", "REGISTRY_CHECKED;\n\n/*\n * registry_close - close it\n */\nvoid registry_close(void);\n"),)),
+        Fault("another example", "< \treturn 2;", ((CLIENT, "return 1", "return 2"),)),
         Fault("an example that is gone", "'@example c/examples/packet.c opened' of the frame names nothing", ((CLIENT, "opened", "closed"),)),
         Fault("a section that is gone", "'@section THE OBJECTS' of the frame names nothing", ((FACE, "THE OBJECTS", "OBJECTS"),)),
         Fault("a struct that is gone", "'@types registry_settings' of the frame names nothing", ((FACE, "\nstruct registry_settings {", "\nstruct settings {"),)),
         Fault("a part that isn't one", "'@call' of the frame names nothing", ((f"{PAGE}.in", "@calls", "@call"),)),
     )
-    return [Case("header-pages", ["header-pages.py", "counts.py"], tree, ["tools/header-pages.py", "check"], faults)]
+    return [Case("header-pages", ["header-pages.py", "counts.py"], tree, ["./make"], faults)]
