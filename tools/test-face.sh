@@ -67,11 +67,6 @@ archive_names() {
     diff <(packaging/calls-of.sh "${header%.h}"{,_limits}.h) <(nm -g --defined-only "$out/libregistry.a" 2>/dev/null | awk 'NF == 3 { print $3 }' | sort)
 }
 
-# The program whose stack is looked at makes each call of the header.
-unwinds_calls() {
-    diff <(declared) <(grep -oE 'registry_[a-z_]+\(' c/tests/unwinds.c | tr -d '(' | sort -u)
-}
-
 # No call takes more stack than the page says, or, with other limits, more than a page.
 stack_within() {
     tools/frames.py "$out/libregistry.a" "$([ -n "$limits" ] && echo 4096 || echo 1024)"
@@ -158,10 +153,6 @@ changes_say() {
     limited "$@" "$changes" >"$log.said" && grep -qE "^changes $changes( |\$)" "$log.said" && grep -qx 'wrong 0' "$log.said"
 }
 
-guarded_script() {
-    guarded "$out/script" live <"$1" >"$log.said" && diff "$log.said" "${1%.txt}.report"
-}
-
 # catches TEXT COMMAND..: the command fails, and says this.
 catches() {
     local text=$1
@@ -205,8 +196,6 @@ test_c() {
     check "C: the build's version and limits" "$out/built"
     counted "C: programs compiled for other limits" packaging/other-limits.sh "${header%/*}" "$out/libregistry.a"
     check "C: the layout of each struct" "$out/layout"
-    check "C: unwinds makes each call" unwinds_calls
-    check "C: a debugger's stack goes through each call" "$out/unwinds"
     check "C: waits" "$out/waits"
     check "C: turns, each step of a wait" "$out/turns"
     check "C: deferred, beside a model" "$out/deferred"
@@ -227,8 +216,6 @@ test_c() {
     check "C: speed, briefly" "$out/speed" 2 8 1000
     check "C: changes, briefly" "$out/changes" 20
     check "C: changes on all CPUs, briefly" "$out/changes" 20 "$cpus"
-    counted "C: the examples of the docs" tools/run-examples.py --program "$out/script" --engine live
-    counted "C: scripts from a seed, beside registry_run" tools/compare-scripts.py --client "$out/script"
     if [ -n "$limits" ]; then
         test_installed
     else
@@ -238,7 +225,7 @@ test_c() {
 
 # The same programs, where each access of the client's, or of all, is watched.
 test_watched() {
-    local script cpus
+    local cpus
     cpus=$(most_cpus)
     check "C: smallest under valgrind" smallest_says guarded "$out/smallest"
     check "C: row under valgrind" row_says guarded "$out/row"
@@ -269,10 +256,6 @@ test_watched() {
     check "C: forwarder with sanitizers" "$out/sanitized-forwarder"
     check "C: device_switch with sanitizers" "$out/sanitized-device_switch"
     check "C: storm $cpus $((8000 / cpus)) with sanitizers" storm_says "$cpus" $((8000 / cpus)) "$out/sanitized-storm"
-    counted "C: the examples of the docs with sanitizers" tools/run-examples.py --program "$out/sanitized-script" --engine live
-    for script in examples/*.txt; do
-        check "C: $(basename "$script") under valgrind" guarded_script "$script"
-    done
 }
 
 # Objects of the heap behind entries, freed once nobody holds them, under three checkers; each of them catches what frees a turn too early.

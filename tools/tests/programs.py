@@ -7,7 +7,7 @@ PROVED = ROOT / "crates/registry_run/out/registry_run"
 VERBS = "domain,limits,attach,detach,enter,exit,find,ref,copy,held,read,drop,advance"
 # It answers for the program of the repository, too: whoever writes a kit asks that for its reports.
 FOREIGN = "#!/bin/sh\nexec tools/foreign-registry.py\n"
-KIT = ["conformance.py", "compare-scripts.py", "foreign-registry.py", "counts.py"]
+KIT = ["conformance.py", "foreign-registry.py", "counts.py"]
 TREE = {"program": FOREIGN, "crates/registry_run/out/registry_run": FOREIGN}
 
 
