@@ -6,12 +6,11 @@
     tools/conformance.py test
 
 `write` makes NNNN.txt and, by the program's engine `core`, NNNN.report; it says which answers they met, and which they never did. `run` gives each
-script to a program on its standard input, and compares what it prints with the report. `test` writes scripts of part of the language, runs
-tools/foreign-registry.py over them, and then once more with each of its faults, which some script must find. The last line of both is 'N passed,
+script to a program on its standard input, and compares what it prints with the report. `test` writes scripts, compares the reports with those of another
+registry, that of tools/picture/replay.py, and then once more with each of its faults, which some script must find. The last line of both is 'N passed,
 M failed'. The program is crates/registry_run/out/registry_run where it stands, else the same sources, compiled by `rt try` without a proof.
 """
 import argparse
-import importlib
 import pathlib
 import random
 import re
@@ -22,11 +21,9 @@ import tempfile
 sys.dont_write_bytecode = True
 
 from counts import ended
+from picture.replay import FAULTS, report_of
 
-TOOLS = pathlib.Path(__file__).resolve().parent
-ROOT = TOOLS.parent
-FOREIGN = TOOLS / "foreign-registry.py"
-foreign = importlib.import_module("foreign-registry")
+ROOT = pathlib.Path(__file__).resolve().parent.parent
 PROGRAM = ROOT / "crates/registry_run/out/registry_run"
 # After so many seconds a program that is run is taken to wait for ever.
 MOST_SECONDS = 1200
@@ -248,15 +245,18 @@ def run(options):
     return ended(count - len(failures), len(failures))
 
 
+def is_told(folder, fault=None):
+    """Whether another registry, with this fault, has another report of some script."""
+    return any(report_of(path.read_text(), fault) != path.with_suffix(".report").read_text() for path in folder.glob("*.txt"))
+
+
 def test(_):
-    options = argparse.Namespace(seed=1, scripts=60, lines=80)
+    options = argparse.Namespace(seed=1, scripts=150, lines=150)
     with tempfile.TemporaryDirectory() as name:
         folder = pathlib.Path(name)
-        _, never, strange = write_kit(folder, options, set(foreign.VERBS))
-        checks = {"the scripts meet each answer": never == foreign.OUT_OF_REACH and not strange}
-        checks["the foreign registry prints each report"] = not list(failures_of(folder, [sys.executable, FOREIGN]))
-        for fault in foreign.FAULTS:
-            checks[f"a fault is found: {fault}"] = bool(list(failures_of(folder, [sys.executable, FOREIGN, "--fault", fault])))
+        _, never, strange = write_kit(folder, options, set(ANSWERS))
+        checks = {"the scripts meet each answer": not never and not strange, "another registry has each report": not is_told(folder)}
+        checks.update((f"a fault is found: {fault}", is_told(folder, fault)) for fault in FAULTS)
     for check, passed in checks.items():
         print(f"{'ok     ' if passed else 'FAILED '} {check}")
     passed = sum(checks.values())
@@ -277,7 +277,7 @@ def main():
     running.add_argument("folder", type=pathlib.Path)
     running.add_argument("program", nargs=argparse.REMAINDER)
     running.set_defaults(act=run)
-    commands.add_parser("test", help="try the kit on the foreign registry").set_defaults(act=test)
+    commands.add_parser("test", help="try the kit on another registry").set_defaults(act=test)
     options = parser.parse_args()
     sys.exit(options.act(options))
 

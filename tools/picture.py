@@ -2,6 +2,7 @@
 """Draws a script with its report as time lines.
 
     tools/picture.py svg SCRIPT [REPORT]     as SVG, to standard output
+    tools/picture.py report [FAULT] <SCRIPT  only the report, by the registry of tools/picture/replay.py, with one of its faults
     tools/picture.py make                    writes the pictures anew that are kept in examples/, since a page shows them
     tools/picture.py check                   makes them again and compares, and tries what it should refuse
 
@@ -17,6 +18,7 @@ sys.dont_write_bytecode = True
 
 from picture.checks import check, make
 from picture.commands import Unfit
+from picture.replay import FAULTS, report_of
 from picture.svg import drawn
 
 
@@ -26,6 +28,9 @@ def main():
         sys.exit(check())
     if words == ["make"]:
         sys.exit(make())
+    if words[:1] == ["report"] and len(words) < 3 and set(words[1:]) <= set(FAULTS):
+        sys.stdout.write(report_of(sys.stdin.read(), *words[1:]))
+        return
     if len(words) not in (2, 3) or words[0] != "svg":
         sys.exit(__doc__)
     script = pathlib.Path(words[1])

@@ -1,13 +1,25 @@
 """Replays a script against its report, and keeps what a picture shows: sections, references, entries, and who held a slot.
 
-The registry here is that of docs/MODEL.md in small: holders are told by their bars, and no word or mark is kept. Each line of the report must
-be the line that this registry gives, so a report that isn't the script's is refused at its first line that differs.
+The registry here is written after docs/SCRIPTS.md: holders are told by their bars, and no word or mark is kept. Each line of the report must be the
+line that this registry gives, so a report that isn't the script's is refused at its first line that differs. tools/conformance.py tries it as a program
+of somebody's own.
 """
 from dataclasses import dataclass, field
 
 from .commands import Unfit, commands_of
 
 DEPTH = 255
+# What may be wrong with the registry, for tools/conformance.py: its scripts have to find each.
+FAULTS = {
+    "no-grace": "an entry's slot doesn't wait for the sections that may hold it",
+    "later-sections": "it also waits for sections that began after the detach",
+    "no-passive": "it doesn't wait for passive references",
+    "no-local": "it doesn't wait for local references",
+    "inner-exit": "an inner exit ends the section",
+    "stale-find": "a lookup that finds nothing leaves the last found entry",
+    "newest-slot": "an attach takes the greatest vacant slot",
+    "attaches-alone": "detaches aren't counted in an entry's number",
+}
 
 
 @dataclass
@@ -97,8 +109,8 @@ def refuse(name):
 class Registry:
     """The registry of one script. A method named as a command carries it out at a place, and gives its lines."""
 
-    def __init__(self, story):
-        self.story = story
+    def __init__(self, story, fault=None):
+        self.story, self.fault = story, fault
         self.change_limit, self.section_limit, self.passive_limit, self.count_limit = 1000, 1000, 100, 100
         self.changes = 0
         self.enters = [0] * story.cpus
@@ -162,14 +174,18 @@ class Registry:
     def exit(self, place, cpu):
         self.inside(cpu)
         *nested, innermost = self.open_sections(cpu)
-        innermost.end = place
-        if not nested:
-            self.found[cpu] = None
-        return ["inside" if nested else "outside"]
+        for section in [*nested, innermost] if self.fault == "inner-exit" else [innermost]:
+            section.end = place
+        if self.open_sections(cpu):
+            return ["inside"]
+        self.found[cpu] = None
+        return ["outside"]
 
     def find(self, place, cpu, kind, name):
         self.inside(cpu)
-        entry = self.found[cpu] = self.named(kind, name)
+        entry = self.named(kind, name)
+        if entry or self.fault != "stale-find":
+            self.found[cpu] = entry
         return [f"found {entry.number} slot {entry.slot} value {entry.value}" if entry else "none"]
 
     # The list.
@@ -193,9 +209,10 @@ class Registry:
         if self.named(kind, name):
             refuse("NameTaken")
         occupied = {entry.slot for entry in self.placed()}
-        slot = next((slot for slot in range(self.story.slots) if slot not in occupied), None)
-        if slot is None:
+        vacant = [slot for slot in range(self.story.slots) if slot not in occupied]
+        if not vacant:
             refuse("NoSlot")
+        slot = vacant[-1 if self.fault == "newest-slot" else 0]
         if self.changes + len(self.live()) + 2 > self.change_limit:
             refuse("HistoryFull")
         self.changes += 1
@@ -205,7 +222,7 @@ class Registry:
     def detach(self, place, cpu, kind, name):
         self.outside(cpu)
         entry = self.named(kind, name) or refuse("NotFound")
-        self.changes += 1
+        self.changes += self.fault != "attaches-alone"
         entry.ended, entry.retired = self.changes, place
         return [f"retired {entry.number} slot {entry.slot}"]
 
@@ -285,14 +302,14 @@ class Registry:
         cpus = range(self.story.cpus)
         for cpu in cpus:
             sections = self.open_sections(cpu)
-            if sections and sections[0].begin < entry.ended:
+            if sections and (sections[0].begin < entry.ended or self.fault == "later-sections") and self.fault != "no-grace":
                 return f"grace cpu {cpu}", (sections[0],)
         for cpu in cpus:
-            if passive := self.held("passive", entry, cpu):
+            if (passive := self.held("passive", entry, cpu)) and self.fault != "no-passive":
                 return f"passive cpu {cpu}", tuple(passive)
         entry.collected = True
         local = self.held("local", entry)
-        return (f"local {len(local)}", tuple(local)) if local else ("", ())
+        return (f"local {len(local)}", tuple(local)) if local and self.fault != "no-local" else ("", ())
 
     def turn(self, place, entry):
         """One turn of the work: the obstacle's line, or nothing where the slot is freed."""
@@ -341,6 +358,13 @@ class Registry:
             return Act(command, tuple(method(command.place, *command.taken)), False)
         except Refused as refused:
             return Act(command, (str(refused),), True)
+
+
+def report_of(script, fault=None):
+    """The report that this registry, with one of FAULTS or none, prints of a script."""
+    commands = commands_of(script)
+    registry = Registry(Story(*commands[0].taken), fault)
+    return "".join(f"{line}\n" for command in commands for line in registry.carry_out(command).lines)
 
 
 def replay(script, report):
