@@ -57,7 +57,7 @@ def symbols():
     faults += [Fault(f"a call more in {path}", "< another", ((path, None, f"{tree[path]}int another(void);\n"),))
                for path in (*HEADERS, "explorer/bench.h")]
     faults += [Fault("a call more of the pages", "< kupaldiz_another", (("netbsd/include/kupaldiz/lwp.h", None, "int another(void);\n"),)),
-               Fault("no words", "usage: symbols.sh", command=["packaging/symbols.sh"])]
+               ]
     return Case("symbols", [], tree, ["./look"], faults, counts=False)
 
 
@@ -73,11 +73,8 @@ def pages():
     faults = (
         Fault("a call without a comment", "psref.h: psref_more has no entry",
               ((PAGED, "#ifdef __cplusplus\n}", "/* Nothing that describes it. */\nvoid psref_more(void);\n#ifdef __cplusplus\n}"),)),
-        Fault("a macro without a comment", "psref.h: psref_more has no entry",
-              ((PAGED, "#ifdef __cplusplus\n}", "/* Nothing that describes it. */\n#define psref_more(psref)\t0\n#ifdef __cplusplus\n}"),)),
         Fault("a prototype in two lines", "psref.h: psref_copy has no entry", ((PAGED, "void psref_copy(struct psref *to,", "void\npsref_copy(struct psref *to,"),)),
         Fault("a header without a page", "lists.h: no page is made of it", (("netbsd/include/kupaldiz/lists.h", None, "void lists_more(void);\n"),)),
-        Fault("a header that is gone", "No such file", ((PAGED, "psref", None),)),
         Fault("another call in the program's file", shows, ((SMALLEST, "\tpserialize_perform(psz);\n", ""),)),
         Fault("a page that names no program", shows, ((OVERVIEW, f'.\\" {SMALLEST}\n', ""),)),
     )
@@ -132,14 +129,10 @@ def unwind_tables():
         Fault("a return with something on the stack", "a return at", ((code, "pop %rbx\n", ""),)),
         Fault("a jump out with something on the stack", "a jump out at", ((code, "call other@PLT", "jmp other@PLT"),)),
         Fault("a path behind the last instruction", "a path goes on behind the last instruction", ((code, "pop %rbx\n\tret", "pop %rbx"),)),
-        Fault("a frame that is left at once", "isn't understood", ((code, "pop %rbx", "leave"),)),
         Fault("two functions in a section", "isn't at the head of its section", ((code, '.section .text.turns,"ax",@progbits\n', ""),)),
-        Fault("another processor's code", "nothing is known of the code of", ((depth.replace("x86_64", "aarch64"), "TOOLS =", "TOOLS = OTHER ="),
-              ("tools/unwind-tables.py", '"Advanced Micro Devices X86-64"', '"Another"'))),
         Fault("a push that isn't counted", "a return at", ((depth, "return depth + 8, saved", "return depth, saved"), (depth, "return depth - 8, saved", "return depth, saved"))),
         Fault("a register that isn't told", "> rsp+16 c-16 c-8", ((depth, "saved = {**saved, operands: depth + 8}", "pass"),)),
         Fault("a register that isn't restored", "a return at", ((depth, "if saved.get(operands) == depth:", "if False:"),)),
-        Fault("no object", "gone.o", command=["tools/unwind-tables.py", "gone.o"]),
     )
     return Case("unwind-tables", ["unwind-tables.py", "unwinding"], {"code.s": CODE, "rows": ROWS, "look": UNWOUND}, ["./look"], faults, counts=False)
 
@@ -164,10 +157,6 @@ def replace_part():
         Fault("an archive as it was", "< 11\n", ((tool, "$room/part.o\" \"$room/rest.o", "$room/rest.o"),)),
         Fault("two functions of a name", "multiple definition", ((tool, '--weaken-symbols="$room/names"', ""),)),
         Fault("functions that aren't seen", "< 11\n", ((tool, '--globalize-symbols="$room/names"', ""),)),
-        Fault("a part that isn't there", "gone.c", command=["./join", "gone"]),
-        Fault("a part that isn't compiled", "error", (("c/src/rest.c", "int registry_rest", "int part(void) { return 1; }\nint registry_rest"), ("c/src/part.c", "int part(void) { return 1; }", "int more"))),
-        Fault("a part without functions", "part.c defines nothing", (("c/src/rest.c", "int part(void);", "int part(void) { return 1; }"), ("c/src/part.c", "int part", "static inline int part"))),
-        Fault("no words", "it takes PART ARCHIVE TO", command=[tool]),
     )
     return Case("replace-part", ["replace-part.sh"], tree, ["./join"], faults, counts=False)
 

@@ -36,14 +36,7 @@ def cases():
         Fault("an arrow that is missing", "docs/layers.svg, arrows: high-low", (("docs/layers.svg", LAYERS[0], ""),)),
         Fault("an arrow too many", "docs/layers.svg, arrows: low-high", (("docs/layers.svg", "<svg>", '<svg><path data-from="low" data-to="high"/>'),)),
         Fault("a report that is another script's", "perform-and-destroy.txt: ", command=["tools/picture.py", "svg", "examples/perform-and-destroy.txt", "examples/limits.report"]),
-        Fault("a legend of all that there may be", "it should say failed, and not passive reference",
-              (("tools/picture/svg.py", "        if kind in there:", "        if True:"),)),
         Fault("commands without a mark", "commands that no bar shows, columns: nothing is marked at",
               (("tools/picture/scene.py", "    add_others(story, rows, slots)\n    every", "    every"),)),
-        Fault("a dotted line through its label", "one of each, dotted lines: one goes through advance: grace cpu 0",
-              (("tools/picture/svg.py", "(begun or above or [to.middle])", "(begun or [to.middle])"),)),
-        Fault("labels without their command", "it should say ref a: NothingFound",
-              (("tools/picture/scene.py", "    if command.verb in WITHOUT_SUBJECT:\n        return command.verb\n", "    return ''\n"),)),
-        Fault("no report", "perform-and-destroy.txt: ", (("examples/perform-and-destroy.report", "", None),), command=["tools/picture.py", "svg", "examples/perform-and-destroy.txt"]),
     )
     return [Case("picture", ["picture.py", "picture", "counts.py"], tree, ["tools/picture.py", "check"], faults)]

@@ -28,17 +28,12 @@ def conformance_run():
     command = ["tools/conformance.py", "run", "kit"]
     faults = (
         other("a program that stops in the middle of a report", "0000.txt: line 21 is '(the end)'", "tools/picture.py report | head -n 20"),
-        other("one that stops in the middle of a line", "0000.txt: line 2 is '", "tools/picture.py report | head -c 15"),
-        other("one that prints nothing", "0000.txt: line 1 is '(the end)'", "cat >/dev/null"),
         other("one that prints a line more", "is 'more' and not '(the end)'", "tools/picture.py report; echo more"),
         other("one that ends without the end of a line", "0000.txt: another end of line", 'printf %s "$(tools/picture.py report)"'),
         other("one with another line", "is 'Outside' and not 'outside'", "tools/picture.py report | sed s/outside/Outside/"),
         other("one with a wrong status", "0000.txt: status 3", "tools/picture.py report; exit 3"),
-        other("one that is killed", "0000.txt: status -9", "kill -KILL $$"),
-        Fault("another report", "0001.txt: line 1 is", (("kit/0001.report", None, "domain 1 1\n"),)),
         Fault("a script without its report", "0002.report", (("kit/0002.report", "", None),)),
         Fault("an empty folder", "0 passed, 1 failed", command=["tools/conformance.py", "run", "empty", "./program"]),
-        Fault("no folder", "", command=["tools/conformance.py", "run", "gone", "./program"]),
     )
     return Case("conformance run", KIT, TREE, [*command, "./program"], faults, prepare=write_kit)
 
