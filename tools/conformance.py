@@ -7,7 +7,7 @@
 
 `write` makes NNNN.txt and, by the program's engine `core`, NNNN.report; it says which answers they met, and which they never did. `run` gives each
 script to a program on its standard input, and compares what it prints with the report. `test` writes scripts, compares the reports with those of another
-registry, that of tools/picture/replay.py, and then once more with each of its faults, which some script must find. The last line of both is 'N passed,
+registry, tools/other_registry.py, and then once more with each of its faults, which some script must find. The last line of both is 'N passed,
 M failed'. The program is crates/registry_run/out/registry_run where it stands, else the same sources, compiled by `rt try` without a proof.
 """
 import argparse
@@ -21,7 +21,7 @@ import tempfile
 sys.dont_write_bytecode = True
 
 from counts import ended
-from picture.replay import FAULTS, report_of
+from other_registry import FAULTS, report_of
 
 ROOT = pathlib.Path(__file__).resolve().parent.parent
 PROGRAM = ROOT / "crates/registry_run/out/registry_run"

@@ -1,45 +1,68 @@
 #!/usr/bin/env python3
-"""Draws a script with its report as time lines.
+"""Compares pictures that are drawn by hand with what they show.
 
-    tools/picture.py svg SCRIPT [REPORT]     as SVG, to standard output
-    tools/picture.py report [FAULT] <SCRIPT  only the report, by the registry of tools/picture/replay.py, with one of its faults
-    tools/picture.py make                    writes the pictures anew that are kept in examples/, since a page shows them
-    tools/picture.py check                   makes them again and compares, and tries what it should refuse
+    tools/picture.py check
 
-Time goes to the right; one column is one command. Each CPU has a row, with its sections as bars and its references as thinner bars, and each
-slot, with the entry that it has: live, and retired until it is freed, with who held it meanwhile. REPORT is SCRIPT's with the ending .report
-where it isn't given. It has to be the report of that script: another is refused, with status 1. The last line of check is
-'N passed, M failed', and its status is 1 where one failed.
+- examples/NAME.svg has each command of NAME.txt, and each line of NAME.report, in their order.
+- docs/layers.svg has the crates of crates.txt, each with an arrow to each of the nearest that it stands on.
+
+The last line is 'N passed, M failed', and the status is 1 where one failed.
 """
+import html
 import pathlib
+import re
 import sys
 
 sys.dont_write_bytecode = True
 
-from picture.checks import check, make
-from picture.commands import Unfit
-from picture.replay import FAULTS, report_of
-from picture.svg import drawn
+from counts import ended
+
+ROOT = pathlib.Path(__file__).resolve().parent.parent
+
+
+def lacking(lines, texts):
+    """The first of the lines that the texts don't have in this order, if any."""
+    left = iter(texts)
+    return next((line for line in lines if line not in left), "")
+
+
+def examples():
+    """What is wrong with each picture of examples/."""
+    for path in sorted((ROOT / "examples").glob("*.svg")):
+        texts = [html.unescape(it) for it in re.findall(r"<text[^>]*>([^<]*)</text>", path.read_text())]
+        for name in (path.with_suffix(".txt"), path.with_suffix(".report")):
+            lines = name.read_text().splitlines() if name.is_file() else [f"there is no {name.name}"]
+            missing = lacking([it for it in lines if it.strip() and not it.startswith("#")], texts)
+            yield f"examples/{path.name}, {name.suffix}", f"it should say: {missing}" if missing else ""
+
+
+def nearest(crates):
+    """Of each crate the crates that it stands on, without those that another of them stands on."""
+    return {(crate, on) for crate, below in crates.items() for on in below if not any(on in crates.get(it, ()) for it in below)}
+
+
+def layers():
+    """What the picture of the layers lacks, or has too much of."""
+    crates = {}
+    for line in (ROOT / "crates.txt").read_text().splitlines():
+        if line and not line.startswith("#"):
+            crate, below = line.split(":")
+            crates[crate.split()[0]] = below.split()
+    drawing = (ROOT / "docs/layers.svg").read_text()
+    boxes = set(re.findall(r'data-crate="(\w+)"', drawing))
+    arrows = set(re.findall(r'data-from="(\w+)" data-to="(\w+)"', drawing))
+    ours = {(crate, on) for crate, on in nearest(crates) if on in crates}
+    yield "docs/layers.svg, crates", " ".join(sorted(boxes ^ set(crates)))
+    yield "docs/layers.svg, arrows", " ".join(sorted(f"{crate}-{on}" for crate, on in arrows ^ ours))
 
 
 def main():
-    words = sys.argv[1:]
-    if words == ["check"]:
-        sys.exit(check())
-    if words == ["make"]:
-        sys.exit(make())
-    if words[:1] == ["report"] and len(words) < 3 and set(words[1:]) <= set(FAULTS):
-        sys.stdout.write(report_of(sys.stdin.read(), *words[1:]))
-        return
-    if len(words) not in (2, 3) or words[0] != "svg":
+    if sys.argv[1:] != ["check"]:
         sys.exit(__doc__)
-    script = pathlib.Path(words[1])
-    report = pathlib.Path(words[2]) if len(words) == 3 else script.with_suffix(".report")
-    try:
-        sys.stdout.write(drawn(script.stem, script.read_text(), report.read_text()))
-    except (Unfit, OSError, UnicodeDecodeError) as fault:
-        sys.exit(f"{script.name}: {fault}")
+    found = [*examples(), *layers()]
+    print("".join(f"{name}: {fault}\n" for name, fault in found if fault), end="")
+    failed = sum(bool(fault) for _, fault in found)
+    return ended(len(found) - failed, failed)
 
 
-if __name__ == "__main__":
-    main()
+sys.exit(main())

@@ -6,8 +6,8 @@ from .trees import ROOT, Case, Fault, said_by
 PROVED = ROOT / "crates/registry_run/out/registry_run"
 VERBS = "domain,limits,attach,detach,enter,exit,find,ref,copy,held,read,drop,advance"
 # It answers for the program of the repository, too: whoever writes a kit asks that for its reports.
-FOREIGN = "#!/bin/sh\nexec tools/picture.py report\n"
-KIT = ["conformance.py", "picture.py", "picture", "counts.py"]
+FOREIGN = "#!/bin/sh\nexec tools/other_registry.py\n"
+KIT = ["conformance.py", "other_registry.py", "counts.py"]
 TREE = {"program": FOREIGN, "crates/registry_run/out/registry_run": FOREIGN}
 
 
@@ -21,17 +21,17 @@ def write_kit(tree):
 
 def other(name, said, line):
     """A program that does something else."""
-    return Fault(name, said, (("program", "exec tools/picture.py report", line),))
+    return Fault(name, said, (("program", "exec tools/other_registry.py", line),))
 
 
 def conformance_run():
     command = ["tools/conformance.py", "run", "kit"]
     faults = (
-        other("a program that stops in the middle of a report", "0000.txt: line 21 is '(the end)'", "tools/picture.py report | head -n 20"),
-        other("one that prints a line more", "is 'more' and not '(the end)'", "tools/picture.py report; echo more"),
-        other("one that ends without the end of a line", "0000.txt: another end of line", 'printf %s "$(tools/picture.py report)"'),
-        other("one with another line", "is 'Outside' and not 'outside'", "tools/picture.py report | sed s/outside/Outside/"),
-        other("one with a wrong status", "0000.txt: status 3", "tools/picture.py report; exit 3"),
+        other("a program that stops in the middle of a report", "0000.txt: line 21 is '(the end)'", "tools/other_registry.py | head -n 20"),
+        other("one that prints a line more", "is 'more' and not '(the end)'", "tools/other_registry.py; echo more"),
+        other("one that ends without the end of a line", "0000.txt: another end of line", 'printf %s "$(tools/other_registry.py)"'),
+        other("one with another line", "is 'Outside' and not 'outside'", "tools/other_registry.py | sed s/outside/Outside/"),
+        other("one with a wrong status", "0000.txt: status 3", "tools/other_registry.py; exit 3"),
         Fault("a script without its report", "0002.report", (("kit/0002.report", "", None),)),
         Fault("an empty folder", "0 passed, 1 failed", command=["tools/conformance.py", "run", "empty", "./program"]),
     )
