@@ -35,10 +35,6 @@ install_missing() {
     fi
 }
 
-declared() {
-    packaging/calls-of.sh "$header"
-}
-
 # names HEADER PAGE: the page names each call of the header, and no other.
 names() {
     diff <(packaging/calls-of.sh "$1") <(grep -E '^\.Nm registry_' "$2" | awk '{ print $2 }' | sort)

@@ -146,12 +146,6 @@ def over_holes(name, state):
     return Fault(name, "what its edits change isn't proved as it stands", (("kit/bin/rattle", line, f"        echo 'fn one::most: {state}'\n"),))
 
 
-def after_the_hole(name, line):
-    """A kit that prints a line more of what it was asked for."""
-    hole = "        echo './proofs/most/Proof.antt:4:13: goal ? in `most_spec`'\n"
-    return Fault(name, "what its edits change isn't proved as it stands", (("kit/bin/rattle", hole, f"{hole}        echo '{line}'\n"),))
-
-
 def after_a_run(name, said, *lines, kind=""):
     """What is changed after a run that kept its refusals, and is found by the next one."""
     return Fault(name, said, command=["sh", "-c", "\n".join([f"./try {kind} >/dev/null || exit 0", *lines, f"exec ./try {kind}"])])
