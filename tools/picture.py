@@ -3,7 +3,7 @@
 
     tools/picture.py check
 
-- examples/NAME.svg has each command of NAME.txt, and each line of NAME.report, in their order.
+- examples/NAME.svg has each command of NAME.txt, and then each line of the report there, in their order.
 - docs/layers.svg has the crates of crates.txt, each with an arrow to each of the nearest that it stands on.
 
 The last line is 'N passed, M failed', and the status is 1 where one failed.
@@ -26,14 +26,20 @@ def lacking(lines, texts):
     return next((line for line in lines if line not in left), "")
 
 
+def parts(text):
+    """The commands of a script, and the lines of its report."""
+    script, _, report = text.partition("\n# It prints:\n")
+    return [it for it in script.splitlines() if it and not it.startswith("#")], [it.removeprefix("# ") for it in report.splitlines()]
+
+
 def examples():
     """What is wrong with each picture of examples/."""
     for path in sorted((ROOT / "examples").glob("*.svg")):
         texts = [html.unescape(it) for it in re.findall(r"<text[^>]*>([^<]*)</text>", path.read_text())]
-        for name in (path.with_suffix(".txt"), path.with_suffix(".report")):
-            lines = name.read_text().splitlines() if name.is_file() else [f"there is no {name.name}"]
-            missing = lacking([it for it in lines if it.strip() and not it.startswith("#")], texts)
-            yield f"examples/{path.name}, {name.suffix}", f"it should say: {missing}" if missing else ""
+        script = path.with_suffix(".txt")
+        commands, report = parts(script.read_text() if script.is_file() else f"there is no {script.name}")
+        missing = lacking(commands, texts) or lacking(report, texts)
+        yield f"examples/{path.name}", f"it should say: {missing}" if missing else ""
 
 
 def nearest(crates):
