@@ -1,5 +1,5 @@
-"""Faults of the manual pages of the calls for C: tools/header-pages.py."""
-from .trees import Case, Fault
+"""Faults of the manual pages of the calls for C and of pictures: tools/header-pages.py and tools/picture.py."""
+from .trees import Case, Fault, real
 
 HEADER = """/*
  * registry.h - a registry
@@ -113,6 +113,25 @@ tools/header-pages.py make && diff {PAGE} wanted && diff man/registry_waiting.3 
 """
 
 
+DRAWING = """<svg><rect data-crate="low"/><rect data-crate="high"/><path data-from="high" data-to="low"/></svg>
+"""
+SCRIPT = "examples/perform-and-destroy.txt"
+
+
+def picture():
+    tree = {**real("examples/perform-and-destroy.*"), "docs/layers.svg": DRAWING, "crates.txt": "# NAME: ON\nlow: std\nhigh staticlib: low std\n"}
+    faults = (
+        Fault("another command", "perform-and-destroy.svg: it should say: enter 0", ((SCRIPT, "enter 1", "enter 0"),)),
+        Fault("another line of the report", "perform-and-destroy.svg: it should say: refused Waiting cpu 0", ((SCRIPT, "Waiting cpu 1", "Waiting cpu 0"),)),
+        Fault("a picture without a script", "examples/other.svg: it should say: there is no other.txt", (("examples/other.svg", None, "<svg/>"),)),
+        Fault("a crate that is no box", "docs/layers.svg, crates: more", (("crates.txt", "low: std\n", "low: std\nmore: std\n"),)),
+        Fault("a box that is no crate", "docs/layers.svg, crates: less", (("docs/layers.svg", "<svg>", '<svg><rect data-crate="less"/>'),)),
+        Fault("an arrow that is missing", "docs/layers.svg, arrows: high-low", (("docs/layers.svg", 'data-from="high" data-to="low"', ""),)),
+        Fault("an arrow too many", "docs/layers.svg, arrows: low-high", (("docs/layers.svg", "<svg>", '<svg><path data-from="low" data-to="high"/>'),)),
+    )
+    return [Case("picture", ["picture.py", "counts.py"], tree, ["tools/picture.py", "check"], faults)]
+
+
 def cases():
     tree = {FACE: HEADER, f"{PAGE}.in": FRAME, "wanted": MADE, CLIENT: PACKET, "make": MAKES,
             "c/include/waiting.h": WAITS, "man/registry_waiting.3.in": "@synopsis\n@calls\n", "wanted_of_waits": MADE_OF_WAITS}
@@ -130,4 +149,4 @@ def cases():
         Fault("a struct that is gone", "'@types registry_settings' of the frame names nothing", ((FACE, "\nstruct registry_settings {", "\nstruct settings {"),)),
         Fault("a part that isn't one", "'@call' of the frame names nothing", ((f"{PAGE}.in", "@calls", "@call"),)),
     )
-    return [Case("header-pages", ["header-pages.py", "counts.py"], tree, ["./make"], faults)]
+    return [Case("header-pages", ["header-pages.py", "counts.py"], tree, ["./make"], faults), *picture()]
