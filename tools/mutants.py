@@ -60,19 +60,23 @@ WAYS = {"plain": True, "small": False, "busy": True, "late": False, "sanitized":
 BENCH = {"counts": [], "drivers": [], "finds": [], "refusals": [], "shortest": [], "named": [], "outcomes": ["1", "40"]}
 WATCHED = {"destroyed": [], "drained": [], "model": ["1", "300"]}
 VALGRIND = "valgrind -q --fair-sched=try --error-exitcode=99 --leak-check=full --show-leak-kinds=definite --errors-for-leak-kinds=definite".split()
+# The tests of waiting.c, with their words.
+OVER_WAITING = {"turns": [], "reclaims": [], "lent": [], "deferred": [], "waits": [], "interrupted": [], "together": ["20"]}
 # What is C of the archive, and the programs that see each part, with their words.
 PARTS = {
     "heap": {"allocs": [], "refuse": [], "blocks": [], "misuse": []},
     "composed": {"entries": ["1000"], "sanitized-entries": ["300"]},
     "strings": {"names": [], "sanitized-names": []},
 }
-CARGO = "cargo test --offline -q --manifest-path rust/Cargo.toml --lib --tests".split()
+CARGO = "cargo test --offline -q --manifest-path rust/Cargo.toml"
+# The linker leads the archive's calls to the tests' own eyes, if they have some.
+WATCHED_CALLS = 'RUSTFLAGS=$([ ! -x rust/tests/watching.sh ] || (cd rust && tests/watching.sh))'
 OBJECT = "mutant.o"
 
 
 def of_waiting(_):
     """The programs that waiting.c is compiled into."""
-    return [Test(it, ["make", "-s", C_FLAGS, f"out/{it}"], [f"out/{it}"]) for it in ("turns", "deferred", "waits", "forwarder", "device_switch")]
+    return [Test(it, ["make", "-s", C_FLAGS, f"out/{it}"], [f"out/{it}", *words]) for it, words in OVER_WAITING.items() if (ROOT / f"c/tests/{it}.c").is_file()]
 
 
 def of_part(file):
@@ -101,7 +105,9 @@ def of_layer(_):
 
 
 def of_crate(_):
-    return [Test("cargo test", [*CARGO, "--no-run"], CARGO, None)]
+    """The tests within the crate, and the others."""
+    words = {"the crate's own": f"{CARGO} --lib", "the crate's": f"{WATCHED_CALLS} {CARGO} --test '*'"}
+    return [Test(it, ["sh", "-c", f"{run} --no-run"], ["sh", "-c", run], None) for it, run in words.items()]
 
 
 def compile_c(file):

@@ -12,6 +12,9 @@
 #include "expect.h"
 #include "registry.h"
 
+/* Whether a CPU remembers names that no entry has. */
+enum { RECALLS_ABSENT = 0 };
+
 /* Ends the program where a call isn't done. */
 #define DONE(call) EXPECT((call) == REGISTRY_DONE)
 

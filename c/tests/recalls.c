@@ -46,7 +46,7 @@ static struct registry_cpu cpus[CPUS];
 /* The names of the driver that is looked up, and of the other one. What the looker's CPU remembers: the driver's number, or 0, and after how many changes
    there was none. After how many changes the registry was as the last lookup of any CPU had it. */
 static struct registry_name wm, other;
-static uint64_t remembered, last_seen;
+static uint64_t remembered, missing, last_seen;
 
 /* The table's memory. From the opening on it can be written only while a write of a thread's is done. */
 static char *table;
@@ -217,7 +217,9 @@ static uint64_t moment_of(uint64_t number, uint64_t from, uint64_t to)
 /* Whether the looker's CPU knows the result without a section: what it remembers was so all the time. */
 static bool is_known(uint64_t from, uint64_t to)
 {
-	return remembered != 0 && number_after(from) == remembered && number_after(to) == remembered;
+	if (remembered == 0)
+		return RECALLS_ABSENT && from == to && missing == to;
+	return number_after(from) == remembered && number_after(to) == remembered;
 }
 
 /* The result of a lookup is from no earlier moment than the one before it, of any CPU. */
@@ -234,7 +236,7 @@ static void judge_writes(uint64_t from, uint64_t to, uint64_t number)
 	EXPECT(references() == (call == registry_get && number != 0));
 	EXPECT(passive_writes == references() + (has_tried ? 2 : 0));
 	if (section_writes == 0)
-		EXPECT(number == remembered && number != 0);
+		EXPECT(number == remembered && (number != 0 || RECALLS_ABSENT));
 	else
 		EXPECT(section_writes == 2 && !is_known(from, to));
 }
@@ -254,6 +256,7 @@ static void judge(uint64_t from, uint64_t to, registry_answer answer, const stru
 	reused += remembered != 0 && from % 8 == 5;
 	judge_moment(from, to, number);
 	remembered = number;
+	missing = from == to ? to : 0;
 }
 
 /* Releases what a get has acquired: exactly one reference. */

@@ -302,7 +302,7 @@ static void check_spent_by_gets(void)
 
 /* Drivers by so many names, one in each slot, and as many names that no entry has. */
 enum { NAMES = REGISTRY_MOST_SLOTS < 32 ? REGISTRY_MOST_SLOTS : 32, LOOKUPS = 1000 };
-static struct registry_name names[NAMES];
+static struct registry_name names[NAMES], absent[NAMES];
 
 /* Goes through the sections that the CPU has left: how many there were. */
 static uint64_t spend_rest(struct registry_cpu *cpu)
@@ -352,8 +352,9 @@ static void check_remembered(void)
 	struct registry_cpu *cpu = &cpus[0];
 	DONE(registry_open(&settings, &keeper, cpus, CPUS));
 	for (unsigned i = 0; i < NAMES; i++) {
-		char text[] = {'d', (char)('0' + i / 10), (char)('0' + i % 10), 0};
+		char text[] = {'d', (char)('0' + i / 10), (char)('0' + i % 10), 0}, other[] = {'n', text[1], text[2], 0};
 		names[i] = name_of(text);
+		absent[i] = name_of(other);
 		EXPECT(attach_named(i) == i);
 	}
 	look_all_up(cpu, LOOKUPS);
@@ -367,6 +368,24 @@ static void check_remembered(void)
 	look_all_up(cpu, 1);
 	EXPECT(spend_rest(cpu) == 4);
 	expect_refused(registry_look_up, cpu, REGISTRY_DRIVER, &names[2], REGISTRY_SECTIONS_SPENT);
+	close_registry();
+}
+
+/* The same of names that no entry has: an attach has each begin one section more. */
+static void check_absent_remembered(void)
+{
+	const struct registry_settings settings = {CPUS, NAMES, REGISTRY_MOST_CHANGES, 2 * NAMES + 8, 2, 2};
+	struct registry_cpu *cpu = &cpus[0];
+	DONE(registry_open(&settings, &keeper, cpus, CPUS));
+	for (unsigned made = 0; made < 2; made++) {
+		attach_named(made);
+		for (unsigned i = 0; i < LOOKUPS * NAMES; i++) {
+			EXPECT(registry_look_up(cpu, REGISTRY_DRIVER, &absent[i % NAMES], NULL) == REGISTRY_NOT_FOUND);
+			EXPECT(registry_get(cpu, REGISTRY_DRIVER, &absent[i % NAMES], NULL) == REGISTRY_NOT_FOUND);
+		}
+	}
+	EXPECT(spend_rest(cpu) == 8);
+	expect_refused(registry_look_up, cpu, REGISTRY_DRIVER, &absent[0], REGISTRY_SECTIONS_SPENT);
 	close_registry();
 }
 
@@ -554,6 +573,8 @@ int main(int argc, char **argv)
 	check_spent();
 	check_spent_by_gets();
 	check_remembered();
+	if (RECALLS_ABSENT)
+		check_absent_remembered();
 	check_numbers();
 	run_threads(changes);
 	return 0;

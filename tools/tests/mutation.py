@@ -38,12 +38,21 @@ CRATE = """pub fn most(a: u32, b: u32) -> u32 {
     return if a < b { b } else { a };
 }
 
+pub fn rest(a: u32) -> u32 {
+    return a % 8;
+}
+
 #[cfg(test)]
 mod tests {
     #[test]
-    fn the_greater_one() {
-        assert_eq!((super::most(1, 2), super::most(4, 3)), (2, 4));
+    fn a_rest() {
+        assert_eq!(super::rest(21), 5);
     }
+}
+"""
+GREATER = """#[test]
+fn the_greater_one() {
+    assert_eq!((small::most(1, 2), small::most(4, 3)), (2, 4));
 }
 """
 MANIFEST = '[package]\nname = "small"\nversion = "0.1.0"\nedition = "2021"\n'
@@ -52,14 +61,15 @@ TAKEN = ["mutants.py", "mutations.py", "parts.py", "counts.py"]
 
 
 def of_crate():
-    tree = {LIB: CRATE, "rust/Cargo.toml": MANIFEST, "good": told(LIB, "a >= b { b } else { a };: killed by cargo test", "<= b { b } else { a };: survived")}
-    seen = "(super::most(1, 2), super::most(4, 3)), (2, 4)"
-    fault = Fault("a test of the crate that sees nothing", "it does not say: a >= b", ((LIB, seen, "2, 2"),))
+    said = "a >= b { b } else { a };: killed by the crate's", "<= b { b } else { a };: survived", "return a % 9;: killed by the crate's own"
+    tree = {LIB: CRATE, "rust/tests/greater.rs": GREATER, "rust/Cargo.toml": MANIFEST, "good": told(LIB, *said)}
+    seen = "(small::most(1, 2), small::most(4, 3)), (2, 4)"
+    fault = Fault("a test of the crate that sees nothing", "it does not say: a >= b", (("rust/tests/greater.rs", seen, "2, 2"),))
     return Case("mutants of a crate", TAKEN, tree, ["./good"], [fault], counts=False)
 
 
 def cases():
-    programs = {f"c/tests/{it}.c": QUIET for it in ("deferred", "waits", "forwarder", "device_switch")}
+    programs = {f"c/tests/{it}.c": QUIET for it in ("deferred", "waits")}
     survivor = f"survived: {ONLY}:3, comparison: return a < b ? b : a; -> return a <= b ? b : a;"
     good = told(ONLY, "return a >= b ? b : a;: killed by turns", survivor, ": hung by turns")
     run = ["tools/mutants.py", "--least", "1", "--only", f"{ONLY}:3"]
