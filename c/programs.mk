@@ -9,9 +9,9 @@ PLANTED = main $(addprefix registry_,open attach attach_iface detach advance des
 # Where the programs lie.
 vpath %.c c/examples c/tests
 
-PROGRAMS = smallest row packet shared storm misuse refuse blocks allocs script changes built layout waits turns deferred history planted walk usual entries names crowd forwarder device_switch $(PROGRAMS_$(PROCESSOR)) $(BENCHED)
+PROGRAMS = smallest row packet shared storm misuse refuse blocks allocs changes built layout waits turns deferred history planted walk usual entries names crowd forwarder device_switch $(PROGRAMS_$(PROCESSOR)) $(BENCHED)
 # They read registers of x86-64.
-PROGRAMS_x86_64 = unwinds recalls
+PROGRAMS_x86_64 = recalls
 # A release's source has no bench.
 BENCH = bench
 BENCHED = $(if $(wildcard $(BENCH)/common.c),speed)
@@ -21,7 +21,6 @@ all: $(PROGRAMS:%=$(OUT)/%)
 $(OUT):
 	mkdir -p $@
 
-$(OUT)/script: c/tests/script.c c/tests/script_parse.c c/tests/script_run.c
 $(OUT)/row: c/examples/row.c
 $(OUT)/packet: c/examples/packet.c
 $(OUT)/smallest: c/examples/smallest.c
@@ -30,8 +29,6 @@ $(OUT)/storm: c/examples/storm.c c/examples/basket.h
 $(OUT)/misuse: c/tests/misuse.c
 $(OUT)/built: c/tests/built.c
 $(OUT)/layout: c/tests/layout.c
-$(OUT)/unwinds: c/tests/unwinds.c
-$(OUT)/unwinds: STRICT = -std=c11 -D_GNU_SOURCE -mno-red-zone $(WARNINGS)
 $(OUT)/recalls: c/tests/recalls.c c/tests/wrapped_heap.h
 $(OUT)/recalls: STRICT = -std=c11 -D_GNU_SOURCE -mno-red-zone $(WARNINGS)
 $(OUT)/recalls: LINK = -Wl,--wrap=malloc
@@ -62,16 +59,15 @@ $(OUT)/allocs: LINK = $(WRAP)
 $(OUT)/speed: c/tests/speed.c c/src/waiting.c c/include/waiting.h $(BENCH)/common.c $(BENCH)/entries.c $(BENCH)/waiting.c $(BENCH)/common.h $(BENCH)/entries.h
 $(OUT)/speed: STRICT = -std=c11 -D_POSIX_C_SOURCE=200809L -I$(BENCH) -Wall -Wextra $(WERROR)
 
-$(PROGRAMS:%=$(OUT)/%): c/examples/client.h c/examples/expect.h c/examples/edges.h c/tests/script.h $(FACE) $(ARCHIVE) | $(OUT)
+$(PROGRAMS:%=$(OUT)/%): c/examples/client.h c/examples/expect.h c/examples/edges.h $(FACE) $(ARCHIVE) | $(OUT)
 	$(CC) $(STRICT) $(CPPFLAGS) $(CFLAGS) $(INCLUDES) $(LDFLAGS) -o $@ $(filter %.c,$^) $(ARCHIVE) -pthread $(LINK)
 
 # refuse has an allocator of its own, which the sanitizers' would fight.
-SANITIZED = smallest row packet shared storm misuse script built walk usual entries names crowd forwarder device_switch
+SANITIZED = smallest row packet shared storm misuse built walk usual entries names crowd forwarder device_switch
 
 sanitized: $(SANITIZED:%=$(OUT)/sanitized-%)
 
-$(OUT)/sanitized-script: c/tests/script.c c/tests/script_parse.c c/tests/script_run.c
-$(filter-out $(OUT)/sanitized-script,$(SANITIZED:%=$(OUT)/sanitized-%)): $(OUT)/sanitized-%: %.c
+$(SANITIZED:%=$(OUT)/sanitized-%): $(OUT)/sanitized-%: %.c
 
 $(OUT)/sanitized-shared $(OUT)/sanitized-forwarder $(OUT)/sanitized-device_switch: c/src/waiting.c
 
@@ -80,7 +76,7 @@ $(OUT)/sanitized-names: c/src/strings.c
 $(OUT)/sanitized-entries: c/src/composed.c
 $(OUT)/sanitized-names $(OUT)/sanitized-entries: LINK = -Wl,-z,muldefs
 
-$(SANITIZED:%=$(OUT)/sanitized-%): c/examples/client.h c/examples/expect.h c/examples/edges.h c/examples/basket.h c/include/waiting.h c/examples/workers.h c/tests/script.h $(FACE) $(ARCHIVE) | $(OUT)
+$(SANITIZED:%=$(OUT)/sanitized-%): c/examples/client.h c/examples/expect.h c/examples/edges.h c/examples/basket.h c/include/waiting.h c/examples/workers.h $(FACE) $(ARCHIVE) | $(OUT)
 	$(CC) $(STRICT) -O1 -g -fsanitize=address,undefined -fno-sanitize-recover=all $(INCLUDES) -o $@ $(filter %.c,$^) $(ARCHIVE) -pthread $(LINK)
 
 # heap_stress for each of three checkers (valgrind takes the first), right and with either early free, which each of them has to catch.
@@ -122,7 +118,8 @@ $(CHECKED:%=check-%): check-%: $(OUT)/%
 	$(RUN) ./$< $(words_$*)
 
 check-row: $(OUT)/row
-	$(RUN) ./$< | diff - examples/retire-under-section.report
+	sed -n '1,/^# It prints:$$/d; s/^# //p' examples/retire-under-section.txt >$(OUT)/row.wanted
+	$(RUN) ./$< | diff - $(OUT)/row.wanted
 
 check-storm: $(OUT)/storm
 	$(RUN) ./$< 4 2000 | grep -x 'wrong 0'

@@ -1,7 +1,8 @@
 #!/usr/bin/env python3
-"""The manual pages kupaldiz_NAME(3), made from the headers in include/kupaldiz/ beside this file: `pages.py write` writes them to ../man, `pages.py check` compares
-them with what is there, and looks for the entry of each call and of each macro with parameters. Both do the same with the program that kupaldiz_netbsd(7)
-shows: after a line that names its file, without its first comment."""
+"""The manual pages kupaldiz_NAME(3), made from the headers in include/kupaldiz/ beside this file: `pages.py write` writes them to ../man, where git keeps none; `pages.py check` looks
+for the entry of each call and of each macro with parameters. The program that kupaldiz_netbsd(7) shows, after a line that names its file and without its first
+comment, the one writes and the other compares."""
+import os
 import re
 import sys
 import textwrap
@@ -177,10 +178,6 @@ def check():
         print(f"{OVERVIEW.name}: doesn't show one program as it is in its file; run netbsd/pages.py write")
         wrong += 1
     for name in HEADERS:
-        page = PAGES / f"kupaldiz_{name}.3"
-        if not page.exists() or page.read_text() != page_of(name):
-            print(f"{page.name}: not what {name}.h says; run netbsd/pages.py write")
-            wrong += 1
         text = (HEADERS_AT / f"{name}.h").read_text()
         described = {one[1] for _, prototypes in calls_of(text) for one in prototypes}
         for call in sorted(named_in(text) - described):
@@ -192,11 +189,18 @@ def check():
     return wrong
 
 
+def put(page, text):
+    """Writes a page that isn't so already, in one step: another process may read it."""
+    if not page.exists() or page.read_text() != text:
+        page.with_suffix(f".{os.getpid()}").write_text(text)
+        os.replace(page.with_suffix(f".{os.getpid()}"), page)
+
+
 def main():
     if sys.argv[1:] == ["write"]:
         for name in HEADERS:
-            (PAGES / f"kupaldiz_{name}.3").write_text(page_of(name))
-        OVERVIEW.write_text(with_program(OVERVIEW.read_text())[0])
+            put(PAGES / f"kupaldiz_{name}.3", page_of(name))
+        put(OVERVIEW, with_program(OVERVIEW.read_text())[0])
     elif sys.argv[1:] == ["check"]:
         sys.exit(check() != 0)
     else:

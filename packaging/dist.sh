@@ -74,13 +74,14 @@ fill() {
 lay() {
     local to=$1
     mkdir -p "$to/examples" "$to/docs"
+    make -s pages
     cp -r Makefile c man netbsd explorer packaging "$to"
     rm -rf "$to/packaging/debian"
     cp -r "$(first debian packaging/debian)" "$to/debian"
     cp packaging/INSTALL.md "$to/README.md"
     cp docs/C.md "$to/docs"
     cp -r "$(first include crates/registry_c/include)" "$to/include"
-    cp examples/*.txt examples/*.report "$to/examples"
+    cp examples/*.txt "$to/examples"
     mkdir "$to/rust"
     cp -rL rust/Cargo.toml rust/README.md rust/build.rs rust/registry_limits.h rust/src rust/examples rust/tests "$to/rust"
     lay_archive x86_64 "$to"

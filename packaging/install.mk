@@ -48,12 +48,16 @@ NETBSD_FOLDERS = kupaldiz sys net
 NETBSD_HEADERS = $(patsubst netbsd/include/%,%,$(wildcard $(NETBSD_FOLDERS:%=netbsd/include/%/*.h)))
 NETBSD_OBJECTS = $(patsubst netbsd/src/%.c,$(OUT)/installed-netbsd/%.o,$(wildcard netbsd/src/*.c))
 
+# The pages that are made of headers: in a release they are.
+pages:
+	$(if $(wildcard tools/header-pages.py),tools/header-pages.py make && netbsd/pages.py write)
+
 # registry(3) and registry_waiting(3), and the calls that each names at its head, each of which gets a page that leads there.
 PAGES = registry registry_waiting
 named_by = $(filter-out $(1),$(shell sed -n 's/^\.Nm \(registry_[a-z_]*\).*/\1/p' man/$(1).3 | sort -u))
 
 # The pages of the pages' names: each call that one of them names gets a page that leads there, except kupaldiz_cpu, whose name a page has.
-NETBSD_PAGES = $(patsubst man/%.3,%,$(wildcard man/kupaldiz_*.3))
+NETBSD_PAGES = $(patsubst man/%.3,%,$(shell ls man/kupaldiz_*.3))
 netbsd_named_by = $(filter-out $(1),$(shell sed -n 's/^\.Nm \([A-Za-z_0-9]*\).*/\1/p' man/$(1).3 | sort -u))
 
 # What a library is compiled and linked with. A library of one object is joined without the compiler's link-time steps.
@@ -100,7 +104,7 @@ comma := ,
 symbols: library
 	NM=$(CROSS)nm packaging/symbols.sh $(HEADER) $(OUT) '$(BUILD)' $(VERSION)
 
-install: library
+install: library pages
 	$(INSTALL) -d $(DESTDIR)$(PKGCONFIGDIR) $(DESTDIR)$(CMAKEDIR) $(NETBSD_FOLDERS:%=$(DESTDIR)$(INCLUDEDIR)/kupaldiz/netbsd/%) \
 	    $(DESTDIR)$(MANDIR)/man3 $(DESTDIR)$(MANDIR)/man7 $(DESTDIR)$(DOCDIR)
 	$(INSTALL) -m 644 $(OUT)/libkupaldiz.a $(DESTDIR)$(LIBDIR)/libkupaldiz.a
@@ -151,7 +155,7 @@ installcheck:
 	CC='$(CC)' RUN='$(RUN)' packaging/installcheck.sh $(DESTDIR) $(LIBDIR) $(VERSION)
 
 # Takes away what install has put there, and the folders that are the libraries' alone.
-uninstall:
+uninstall: pages
 	rm -f $(addprefix $(DESTDIR)$(LIBDIR)/,libkupaldiz.a $(SHARED) $(SONAME) libkupaldiz.so pkgconfig/kupaldiz.pc)
 	rm -f $(addprefix $(DESTDIR)$(LIBDIR)/,libkupaldiz_netbsd.a $(NETBSD_SHARED) $(NETBSD_SONAME) libkupaldiz_netbsd.so pkgconfig/kupaldiz-netbsd.pc)
 	rm -f $(addprefix $(DESTDIR)$(CMAKEDIR)/,kupaldizConfig.cmake kupaldizConfigVersion.cmake)
@@ -177,6 +181,6 @@ soname:
 licence:
 	@echo $(LICENCE)
 
-.PHONY: library symbols install install-examples without_older installcheck uninstall dist version soname licence
+.PHONY: pages library symbols install install-examples without_older installcheck uninstall dist version soname licence
 
 include explorer/install.mk

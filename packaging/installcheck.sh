@@ -1,6 +1,7 @@
 #!/usr/bin/env bash
-# Builds programs over the libraries as they are installed, shared and static, with the words of pkg-config alone, and runs them. `make installcheck` calls it:
-# installcheck.sh DESTDIR LIBDIR VERSION. CC is the compiler, RUN what runs a program of another processor. The last line is 'N passed, M failed'.
+# Builds programs over the libraries as they are installed, shared and static, in C and, if there is g++ beside gcc, in C++, with the words of pkg-config alone,
+# and runs them. `make installcheck` calls it: installcheck.sh DESTDIR LIBDIR VERSION. CC is the compiler, RUN what runs a program of another processor. The
+# last line is 'N passed, M failed'.
 set -uo pipefail
 if [ $# -eq 2 ]; then
     set -- "" "$@"
@@ -27,13 +28,14 @@ room=$(mktemp -d)
 trap 'rm -rf "$room"' EXIT
 passed=0 failed=0
 
-# try MODULE PROGRAM LINE LINK WORDS..: builds the program with what pkg-config says for these words, and runs it: it prints the line. A cross compiler's
-# linker doesn't read LD_LIBRARY_PATH, and is told where libkupaldiz is that libkupaldiz_netbsd needs.
+# try COMPILER MODULE PROGRAM LINE LINK WORDS..: builds the program with what pkg-config says for these words, and runs it: it prints the line. A cross
+# compiler's linker doesn't read LD_LIBRARY_PATH, and is told where libkupaldiz is that libkupaldiz_netbsd needs.
 try() {
-    local module=$1 program=$2 line=$3 link=$4 words said
-    shift 4
+    local compiler=$1 module=$2 program=$3 line=$4 link=$5 words said
+    shift 5
     if words=$(pkg-config --cflags "$module") && words+=" $(pkg-config "$@" "$module")" &&
-        eval "$CC -std=c99 -Wall -Wextra c/tests/$program.c -o \"\$room/$program\" $link -Wl,-rpath-link,\"\$stage\$libdir\" $words" && said=$($RUN "$room/$program") && [ "$said" = "$line" ]; then
+        eval "$compiler -Wall -Wextra c/tests/$program.c -x none -o \"\$room/$program\" $link -Wl,-rpath-link,\"\$stage\$libdir\" $words" &&
+        said=$($RUN "$room/$program") && [ "$said" = "$line" ]; then
         passed=$((passed + 1))
         echo "ok      $module, $*: $said"
     else
@@ -42,13 +44,23 @@ try() {
     fi
 }
 
-try kupaldiz installed "C, version $version" "" --libs
-try kupaldiz installed "C, version $version" -static --static --libs
-try kupaldiz-netbsd installed_netbsd "C, by the pages' names" "" --libs
-try kupaldiz-netbsd installed_netbsd "C, by the pages' names" -static --static --libs
+# try_all MODULE PROGRAM LINE: each program in both languages, over the shared library and the static one.
+try_all() {
+    local link
+    for link in "" "-static --static"; do
+        # shellcheck disable=SC2086
+        try "$CC -std=c99 -x c" "$1" "$2" "C, $3" "${link% *}" ${link#-static} --libs
+        if [ "$CC" = gcc ] && command -v g++ >/dev/null; then
+            # shellcheck disable=SC2086
+            try "g++ -std=c++11 -x c++" "$1" "$2" "C++, $3" "${link% *}" ${link#-static} --libs
+        fi
+    done
+}
+
+try_all kupaldiz installed "version $version"
+try_all kupaldiz-netbsd installed_netbsd "by the pages' names"
 if [ -f "$stage$libdir/pkgconfig/kupaldiz-bench.pc" ]; then
-    try kupaldiz-bench installed_bench "C, in every order" "" --libs
-    try kupaldiz-bench installed_bench "C, in every order" -static --static --libs
+    try_all kupaldiz-bench installed_bench "in every order"
 fi
 echo "$passed passed, $failed failed"
 [ "$failed" -eq 0 ]

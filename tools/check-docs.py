@@ -5,8 +5,7 @@ turns of phrase that tools/phrases.py refuses.
     tools/check-docs.py            says what is wrong, and ends with 'N passed, M failed'
 
 For each document there is a check of its links and one of its names, and for a page that tools/phrases.py lists, a header or a manual page too, one of
-its phrases. How many phrases the other documents have is printed, and fails nothing. A name counts if it is a word of some file that isn't a document, or of a path, or if FOREIGN lists it
-with its origin.
+its phrases. A name counts if it is a word of some file that isn't a document, or of a path, or if FOREIGN lists it with its origin.
 """
 import pathlib
 import re
@@ -110,13 +109,6 @@ def awkward(name, text):
     yield from (f"line {number}: '{words}': {better}" for number, words, better in places(unlinked(text), held_to(name)))
 
 
-def say_rest(documents):
-    """Says how many phrases the documents have that are held to nothing."""
-    counts = {path: len(list(places(unlinked(text_of(path))))) for path in documents if not held_to(str(path.relative_to(ROOT)))}
-    found = [f"{path.relative_to(ROOT)} {count}" for path, count in sorted(counts.items(), key=lambda row: -row[1]) if count]
-    print(f"{sum(counts.values())} phrases of tools/phrases.py in other documents: {', '.join(found) or 'none'}")
-
-
 def words_of(files):
     """All words of the paths, and of the files that aren't documents."""
     words = set()
@@ -147,7 +139,6 @@ def main():
             passed, failed = passed + (not found), failed + bool(found)
             for line in found:
                 print(f"{path.relative_to(ROOT)}: {kind}: {line}")
-    say_rest([path for path in files if path.suffix == ".md"])
     sys.exit(ended(passed, failed))
 
 

@@ -6,35 +6,27 @@
     tools/conformance.py test
 
 `write` makes NNNN.txt and, by the program's engine `core`, NNNN.report; it says which answers they met, and which they never did. `run` gives each
-script to a program on its standard input, and compares what it prints with the report. `test` writes scripts of part of the language, runs
-tools/foreign-registry.py over them, and then once more with each of its faults, which some script must find. The last line of both is 'N passed,
+script to a program on its standard input, and compares what it prints with the report. `test` writes scripts, compares the reports with those of another
+registry, tools/other_registry.py, and then once more with each of its faults, which some script must find. The last line of both is 'N passed,
 M failed'. The program is crates/registry_run/out/registry_run where it stands, else the same sources, compiled by `rt try` without a proof.
 """
 import argparse
-import importlib.util
 import pathlib
 import random
+import re
+import subprocess
 import sys
 import tempfile
 
 sys.dont_write_bytecode = True
 
 from counts import ended
+from other_registry import FAULTS, report_of
 
-TOOLS = pathlib.Path(__file__).resolve().parent
-FOREIGN = TOOLS / "foreign-registry.py"
-
-
-def tool(name):
-    """Another tool of this folder, as a module."""
-    spec = importlib.util.spec_from_file_location(name.replace("-", "_"), TOOLS / f"{name}.py")
-    module = importlib.util.module_from_spec(spec)
-    spec.loader.exec_module(module)
-    return module
-
-
-compare = tool("compare-scripts")
-foreign = tool("foreign-registry")
+ROOT = pathlib.Path(__file__).resolve().parent.parent
+PROGRAM = ROOT / "crates/registry_run/out/registry_run"
+# After so many seconds a program that is run is taken to wait for ever.
+MOST_SECONDS = 1200
 
 # What each command may answer. NotHeld isn't among it: a label stands only for a reference that its CPU holds.
 ATTACHES = "attached Inside NeedsDriver NameTaken NoSlot HistoryFull"
@@ -61,19 +53,67 @@ ANSWERS = {
     "audit": "slot empty",
 }
 NO_CALL = ("no label", "label taken", "not inside")
+KINDS = ("driver", "iface")
+# How often each command comes.
+WEIGHTS = {
+    "attach": 8, "plug": 9, "detach": 9, "enter": 3, "exit": 22, "find": 3, "ref": 2, "copy": 3, "held": 3, "read": 4, "drop": 16, "count": 2,
+    "peek": 3, "uncount": 14, "advance": 20, "destroy": 5, "perform": 3, "audit": 4,
+}
 
 
-class KitWriter(compare.Writer):
-    """Writes scripts of some commands alone. One script in eight nests a section too deep."""
+class Writer:
+    """Writes one script of these commands. One in eight nests a section too deep."""
 
     def __init__(self, rng, verbs):
-        super().__init__(rng)
-        self.verbs = [verb for verb in compare.WEIGHTS if verb in verbs]
+        self.rng = rng
+        self.cpus = rng.randint(1, 4)
+        self.changes = 0
+        self.verbs = [verb for verb in WEIGHTS if verb in verbs]
         self.allowed = verbs
 
+    def cpu(self):
+        return str(self.rng.randrange(self.cpus))
+
+    def name(self):
+        return self.rng.choice(("wm", "wm", "vga", "wm0", "wm0"))
+
+    def kind_and_name(self):
+        """Of an entry that may be there: an interface is called wm0, mostly."""
+        name = self.name()
+        kind = KINDS[name == "wm0"] if self.rng.random() < 0.9 else self.rng.choice(KINDS)
+        return [kind, name]
+
+    def label(self):
+        return self.rng.choice("abc")
+
+    def number(self):
+        """Of an entry that may be there."""
+        return str(self.rng.randint(max(1, self.changes // 4 - 7), self.changes // 4 + 1))
+
+    def words(self, verb):
+        rng, cpu, label = self.rng, self.cpu, self.label
+        self.changes += verb in ("attach", "plug", "detach")
+        return {
+            "attach": lambda: [cpu(), rng.choice(KINDS[:1] * 9 + KINDS[1:]), self.name(), self.number()],
+            "plug": lambda: [cpu(), "wm0", self.number(), label()],
+            "detach": lambda: [cpu(), *self.kind_and_name()],
+            "find": lambda: [cpu(), *self.kind_and_name()],
+            "copy": lambda: [cpu(), label(), label()],
+            "peek": lambda: [label()],
+            "advance": lambda: [self.number()],
+            "destroy": lambda: [cpu(), self.number(), str(rng.randint(1, 3))],
+            "perform": lambda: [cpu(), str(rng.randint(1, 3))],
+            "enter": lambda: [cpu()],
+            "exit": lambda: [cpu()],
+            "audit": lambda: [],
+        }.get(verb, lambda: [cpu(), label()])()
+
     def burst(self):
-        """As always, of the commands that are wanted."""
-        return [line for line in super().burst() if line.split()[0] in self.allowed]
+        """A section on one CPU in which something is looked up and referred to, as far as these commands go."""
+        cpu = self.cpu()
+        lines = [f"enter {cpu}", " ".join(["find", cpu, *self.kind_and_name()]), f"{self.rng.choice(('ref', 'count'))} {cpu} {self.label()}"]
+        lines += [f"exit {cpu}"] if self.rng.random() < 0.9 else []
+        return [line for line in lines if line.split()[0] in self.allowed]
 
     def head(self):
         rng = self.rng
@@ -85,19 +125,39 @@ class KitWriter(compare.Writer):
 
     def script(self, lines):
         rng, text = self.rng, list(self.head())
-        for verb in rng.choices(self.verbs, [compare.WEIGHTS[verb] for verb in self.verbs], k=lines):
+        for verb in rng.choices(self.verbs, [WEIGHTS[verb] for verb in self.verbs], k=lines):
             text.append(" ".join([verb, *self.words(verb)]))
             if rng.random() < 0.25:
                 text.extend(self.burst())
         return "\n".join(text) + "\n"
 
 
+def said_by(command, script):
+    ended = subprocess.run(command, input=script.encode(), stdout=subprocess.PIPE, stderr=subprocess.PIPE, timeout=MOST_SECONDS)
+    return ended.returncode, ended.stdout.decode(), ended.stderr.decode()
+
+
+def said_when_tried(scripts):
+    """What the engine `core` says of each script by `rt try`, which prints a heading before each output."""
+    with tempfile.TemporaryDirectory() as folder:
+        for place, script in enumerate(scripts):
+            pathlib.Path(folder, f"s{place}").write_text(script)
+        command = ["rt", "try", "--cases", folder, "--", "core"]
+        streams = {"stdout": subprocess.PIPE, "stderr": subprocess.PIPE}
+        ended = subprocess.run(command, cwd=ROOT / "crates/registry_run", timeout=MOST_SECONDS, **streams)
+    printed = re.split(r"^== s(\d+)\n", ended.stdout.decode(), flags=re.M)
+    outputs = dict(zip(map(int, printed[1::2]), printed[2::2]))
+    if len(outputs) != len(scripts):
+        sys.exit(f"rt try says nothing of some scripts\n{ended.stderr.decode()}")
+    return [(0, outputs[place], "") for place in range(len(scripts))]
+
+
 def reports_of(scripts):
     """What the engine `core` prints of each script."""
-    if not compare.PROGRAM.exists():
-        said = compare.said_when_tried(scripts, "core")
+    if not PROGRAM.exists():
+        said = said_when_tried(scripts)
     else:
-        said = [compare.said_by([compare.PROGRAM, "core"], script) for script in scripts]
+        said = [said_by([PROGRAM, "core"], script) for script in scripts]
     for place, (status, _, error) in enumerate(said):
         if status != 0:
             sys.exit(f"script {place}: status {status}: {error}")
@@ -132,7 +192,7 @@ def write_kit(folder, options, verbs):
     """Writes the scripts and the reports. The scripts, and the answers met and never met."""
     folder.mkdir(parents=True, exist_ok=True)
     seeds = range(options.seed, options.seed + options.scripts)
-    scripts = [KitWriter(random.Random(seed), verbs).script(options.lines) for seed in seeds]
+    scripts = [Writer(random.Random(seed), verbs).script(options.lines) for seed in seeds]
     reports = reports_of(scripts)
     for place, (script, report) in enumerate(zip(scripts, reports)):
         (folder / f"{place:04}.txt").write_text(script)
@@ -170,7 +230,7 @@ def failures_of(folder, program):
     """Each script of which a program doesn't print the report, and where it parts from it."""
     for path in sorted(folder.glob("*.txt")):
         report = path.with_suffix(".report").read_text()
-        status, found, _ = compare.said_by(program, path.read_text())
+        status, found, _ = said_by(program, path.read_text())
         if status != 0:
             yield f"{path.name}: status {status}"
         elif found != report:
@@ -185,15 +245,18 @@ def run(options):
     return ended(count - len(failures), len(failures))
 
 
+def is_told(folder, fault=None):
+    """Whether another registry, with this fault, has another report of some script."""
+    return any(report_of(path.read_text(), fault) != path.with_suffix(".report").read_text() for path in folder.glob("*.txt"))
+
+
 def test(_):
-    options = argparse.Namespace(seed=1, scripts=60, lines=80)
+    options = argparse.Namespace(seed=1, scripts=150, lines=150)
     with tempfile.TemporaryDirectory() as name:
         folder = pathlib.Path(name)
-        _, never, strange = write_kit(folder, options, set(foreign.VERBS))
-        checks = {"the scripts meet each answer": never == foreign.OUT_OF_REACH and not strange}
-        checks["the foreign registry prints each report"] = not list(failures_of(folder, [sys.executable, FOREIGN]))
-        for fault in foreign.FAULTS:
-            checks[f"a fault is found: {fault}"] = bool(list(failures_of(folder, [sys.executable, FOREIGN, "--fault", fault])))
+        _, never, strange = write_kit(folder, options, set(ANSWERS))
+        checks = {"the scripts meet each answer": not never and not strange, "another registry has each report": not is_told(folder)}
+        checks.update((f"a fault is found: {fault}", is_told(folder, fault)) for fault in FAULTS)
     for check, passed in checks.items():
         print(f"{'ok     ' if passed else 'FAILED '} {check}")
     passed = sum(checks.values())
@@ -214,7 +277,7 @@ def main():
     running.add_argument("folder", type=pathlib.Path)
     running.add_argument("program", nargs=argparse.REMAINDER)
     running.set_defaults(act=run)
-    commands.add_parser("test", help="try the kit on the foreign registry").set_defaults(act=test)
+    commands.add_parser("test", help="try the kit on another registry").set_defaults(act=test)
     options = parser.parse_args()
     sys.exit(options.act(options))
 

@@ -9,7 +9,6 @@ The last line is 'N passed, M failed', and the status is 1 where one failed.
 """
 import collections
 import functools
-import pathlib
 import re
 import sys
 

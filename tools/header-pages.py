@@ -1,8 +1,8 @@
 #!/usr/bin/env python3
 """Makes the manual pages of the calls for C from their headers, which alone say what a call does.
 
-    tools/header-pages.py make      writes man/PAGE.3 from man/PAGE.3.in and its header, for each page
-    tools/header-pages.py check     says which page isn't what it would make, and ends with 'N passed, M failed'
+    tools/header-pages.py make      writes man/PAGE.3, which git doesn't keep, from man/PAGE.3.in and its header, for each page
+    tools/header-pages.py check     makes each and writes none; it ends with 'N passed, M failed'
 
 A page's frame, PAGE.3.in, is mdoc with lines that stand for parts of the header or of a program:
 
@@ -16,6 +16,7 @@ A page's frame, PAGE.3.in, is mdoc with lines that stand for parts of the header
 
 A comment is in paragraphs and lists of lines that begin with '- '. In it names of calls, constants, `parameters` and other pages are marked up.
 """
+import os
 import pathlib
 import re
 import sys
@@ -229,21 +230,20 @@ def made(page):
     return "\n".join(lines) + "\n"
 
 
-def is_made(page):
-    standing = ROOT / f"man/{page}.3"
-    same = standing.exists() and standing.read_text() == made(page)
-    if not same:
-        print(f"man/{page}.3 isn't what tools/header-pages.py make writes")
-    return same
+def write(page):
+    """Writes a page that isn't so already, in one step: another process may read it."""
+    path, text = ROOT / f"man/{page}.3", made(page)
+    if not path.exists() or path.read_text() != text:
+        path.with_suffix(f".{os.getpid()}").write_text(text)
+        os.replace(path.with_suffix(f".{os.getpid()}"), path)
 
 
 def main():
     if sys.argv[1:] == ["make"]:
         for page in PAGES:
-            (ROOT / f"man/{page}.3").write_text(made(page))
+            write(page)
     elif sys.argv[1:] == ["check"]:
-        right = [is_made(page) for page in PAGES]
-        sys.exit(ended(sum(right), len(right) - sum(right)))
+        sys.exit(ended(len([made(page) for page in PAGES]), 0))
     else:
         sys.exit(__doc__)
 

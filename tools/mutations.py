@@ -3,7 +3,6 @@
 A text is read as tokens; comments, strings, attributes and lines of the preprocessor stay as they are. An operator counts as one between two values
 where blanks are on both sides of it, as both languages are laid out here.
 """
-import bisect
 import collections
 import re
 
@@ -243,41 +242,6 @@ def bodywise(text, tokens, closed):
             result, opened = result_of(tokens, closed, place)
             if opened is not None and closed[opened] > opened + 1:
                 yield from (Change("body left out", tokens[opened].start, tokens[closed[opened]].end, f"{{ {new} }}") for new in BODIES.get(result, ()))
-
-
-def is_block(text, tokens, place):
-    """Whether a brace opens a block, and no list of values."""
-    before = tokens[place - 1]
-    return before.text in (")", "else", "do", ";", "{", "}", ":", "=>") and text[before.end:tokens[place].start].isspace()
-
-
-def borders(text, tokens, closed):
-    """The places of the tokens that end a statement, or a block of them."""
-    heads = {it for place in closed if tokens[place].text == "(" for it in range(place, closed[place]) if tokens[it].text == ";"}
-    return [place for place, token in enumerate(tokens) if token.text == ";" and place not in heads
-            or token.text in ("{", "}") and place in closed and is_block(text, tokens, min(place, closed[place]))]
-
-
-def statement_around(tokens, closed, ends, place):
-    """The first and the last place of the statement around a token: of a branch or a loop the head alone, if the token is in it."""
-    at = bisect.bisect_left(ends, place)
-    first, last = ends[at - 1] + 1 if at else 0, ends[at] if at < len(ends) else len(tokens) - 1
-    own = body_of(tokens, closed, first, place + 1)
-    if own <= place:
-        return own, last
-    heads = [it for it in range(first, place + 1) if tokens[it].text in HEADS and closed.get(it + 1, -1) >= place]
-    return (heads[0], closed[heads[0] + 1]) if heads else (first, last)
-
-
-def lines_of(text, found):
-    """For each wrong body the first and the last line of the statements that it changes."""
-    tokens = tokens_of(text)
-    closed, begins = partners(tokens), [it.start for it in tokens]
-    ends = borders(text, tokens, closed)
-    for change in found:
-        first, _ = statement_around(tokens, closed, ends, bisect.bisect_right(begins, change.start) - 1)
-        _, last = statement_around(tokens, closed, ends, bisect.bisect_left(begins, change.end) - 1)
-        yield text.count("\n", 0, min(tokens[first].start, change.start)) + 1, text.count("\n", 0, max(tokens[last].end, change.end)) + 1
 
 
 def changes(text):

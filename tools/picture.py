@@ -1,41 +1,74 @@
 #!/usr/bin/env python3
-"""Draws a script with its report as time lines.
+"""Compares pictures that are drawn by hand with what they show.
 
-    tools/picture.py svg SCRIPT [REPORT]     as SVG, to standard output
-    tools/picture.py text SCRIPT [REPORT]    for a terminal, in at most 100 columns where the script is short enough
-    tools/picture.py make                    writes the pictures of examples/ anew: NAME.svg
-    tools/picture.py check                   makes them again and compares, and tries what it should refuse
+    tools/picture.py check
 
-Time goes to the right; one column is one command. Each CPU has a row, with its sections as bars and its references as thinner bars, and each
-slot, with the entry that it has: live, and retired until it is freed, with who held it meanwhile. REPORT is SCRIPT's with the ending .report
-where it isn't given. It has to be the report of that script: another is refused, with status 1. The last line of check is
-'N passed, M failed', and its status is 1 where one failed.
+- examples/NAME.svg has each command of NAME.txt, and then each line of the report there, in their order.
+- docs/layers.svg has the crates of crates.txt, each with an arrow to each of the nearest that it stands on.
+
+The last line is 'N passed, M failed', and the status is 1 where one failed.
 """
+import html
 import pathlib
+import re
 import sys
 
 sys.dont_write_bytecode = True
 
-from picture.checks import check, make
-from picture.commands import Unfit
-from picture.drawn import FORMS, drawn
+from counts import ended
+
+ROOT = pathlib.Path(__file__).resolve().parent.parent
+
+
+def lacking(lines, texts):
+    """The first of the lines that the texts don't have in this order, if any."""
+    left = iter(texts)
+    return next((line for line in lines if line not in left), "")
+
+
+def parts(text):
+    """The commands of a script, and the lines of its report."""
+    script, _, report = text.partition("\n# It prints:\n")
+    return [it for it in script.splitlines() if it and not it.startswith("#")], [it.removeprefix("# ") for it in report.splitlines()]
+
+
+def examples():
+    """What is wrong with each picture of examples/."""
+    for path in sorted((ROOT / "examples").glob("*.svg")):
+        texts = [html.unescape(it) for it in re.findall(r"<text[^>]*>([^<]*)</text>", path.read_text())]
+        script = path.with_suffix(".txt")
+        commands, report = parts(script.read_text() if script.is_file() else f"there is no {script.name}")
+        missing = lacking(commands, texts) or lacking(report, texts)
+        yield f"examples/{path.name}", f"it should say: {missing}" if missing else ""
+
+
+def nearest(crates):
+    """Of each crate the crates that it stands on, without those that another of them stands on."""
+    return {(crate, on) for crate, below in crates.items() for on in below if not any(on in crates.get(it, ()) for it in below)}
+
+
+def layers():
+    """What the picture of the layers lacks, or has too much of."""
+    crates = {}
+    for line in (ROOT / "crates.txt").read_text().splitlines():
+        if line and not line.startswith("#"):
+            crate, below = line.split(":")
+            crates[crate.split()[0]] = below.split()
+    drawing = (ROOT / "docs/layers.svg").read_text()
+    boxes = set(re.findall(r'data-crate="(\w+)"', drawing))
+    arrows = set(re.findall(r'data-from="(\w+)" data-to="(\w+)"', drawing))
+    ours = {(crate, on) for crate, on in nearest(crates) if on in crates}
+    yield "docs/layers.svg, crates", " ".join(sorted(boxes ^ set(crates)))
+    yield "docs/layers.svg, arrows", " ".join(sorted(f"{crate}-{on}" for crate, on in arrows ^ ours))
 
 
 def main():
-    words = sys.argv[1:]
-    if words == ["check"]:
-        sys.exit(check())
-    if words == ["make"]:
-        sys.exit(make())
-    if len(words) not in (2, 3) or words[0] not in FORMS:
+    if sys.argv[1:] != ["check"]:
         sys.exit(__doc__)
-    script = pathlib.Path(words[1])
-    report = pathlib.Path(words[2]) if len(words) == 3 else script.with_suffix(".report")
-    try:
-        sys.stdout.write(drawn(words[0], script.stem, script.read_text(), report.read_text()))
-    except (Unfit, OSError, UnicodeDecodeError) as fault:
-        sys.exit(f"{script.name}: {fault}")
+    found = [*examples(), *layers()]
+    print("".join(f"{name}: {fault}\n" for name, fault in found if fault), end="")
+    failed = sum(bool(fault) for _, fault in found)
+    return ended(len(found) - failed, failed)
 
 
-if __name__ == "__main__":
-    main()
+sys.exit(main())

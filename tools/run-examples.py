@@ -3,7 +3,7 @@
 
 An example is a fenced block `script`, and the next fenced block after it: `report`, what the program must print, with nothing on standard
 error and status 0; or `fault`, what it must say on standard error, with nothing printed and status 2. A block `session` has both, a command and
-after two spaces its line of the report. A file NAME.txt is one example, with NAME.report beside it. Without file names the examples are those
+after two spaces its line of the report. A file NAME.txt is one example, with its report as comments below `# It prints:`. Without file names the examples are those
 of README.md, docs/ and examples/. The program is
 ./registry_run, or the one that --program names; with --engine it runs one engine alone. It must be the proved one (tools/prove-program.sh),
 since without it ./registry_run says on standard error that nothing is proved. With --try nothing is proved either: `rt try` compiles the
@@ -26,6 +26,8 @@ from counts import ended
 
 ROOT = pathlib.Path(__file__).resolve().parent.parent
 ENGINES = ("core", "live")
+# What is above the report in a file of its script.
+REPORT = "\n# It prints:\n"
 # After so many seconds a program that is run is taken to wait for ever.
 MOST_SECONDS = 1200
 WANTED = {"report": lambda text: (0, text, ""), "fault": lambda text: (2, "", text)}
@@ -54,7 +56,8 @@ def blocks(text):
 def examples(path):
     """The place, as scripts-70 for line 70 of SCRIPTS.md, the script, the word and the text of the answer of each example."""
     if path.suffix == ".txt":
-        yield path.stem, path.read_bytes().decode(), "report", path.with_suffix(".report").read_bytes().decode()
+        script, _, report = path.read_bytes().decode().partition(REPORT)
+        yield path.stem, script, "report", report.replace("\n# ", "\n").removeprefix("# ")
         return
     waiting = None
     for line, word, text in blocks(path.read_bytes().decode()):

@@ -74,12 +74,6 @@ make_refuse() {
     make -s CC="${cross}gcc" "out/$processor/refuse"
 }
 
-# run-examples.py runs one program: a script that runs the emulator.
-scripts_say() {
-    printf '#!/bin/sh\nexec %s %s/%s/script "$@"\n' "$emulator" "$PWD" "$out" >"$out/run-script" && chmod +x "$out/run-script" &&
-        tools/run-examples.py --program "$out/run-script" --engine live
-}
-
 # ordered NAME ARGUMENT..: a test of one thread, each of whose accesses to a table is looked at; the places of them are kept.
 ordered() {
     ORDERED_SITES=$out/ordered-$1.sites emulated "$out/ordered-$1" "${@:2}"
@@ -124,7 +118,6 @@ test_clients() {
     check "forwarder" emulated "$out/forwarder" 200
     check "device_switch" emulated "$out/device_switch" 20
     check "heap_stress" emulated "$out/heap_stress-none-right" 100
-    counted "the examples of the docs" scripts_say
 }
 
 test_netbsd() {

@@ -35,10 +35,6 @@ install_missing() {
     fi
 }
 
-declared() {
-    packaging/calls-of.sh "$header"
-}
-
 # names HEADER PAGE: the page names each call of the header, and no other.
 names() {
     diff <(packaging/calls-of.sh "$1") <(grep -E '^\.Nm registry_' "$2" | awk '{ print $2 }' | sort)
@@ -65,11 +61,6 @@ build_archive() {
 # Other objects see each call of the header in the archive, and no other name.
 archive_names() {
     diff <(packaging/calls-of.sh "${header%.h}"{,_limits}.h) <(nm -g --defined-only "$out/libregistry.a" 2>/dev/null | awk 'NF == 3 { print $3 }' | sort)
-}
-
-# The program whose stack is looked at makes each call of the header.
-unwinds_calls() {
-    diff <(declared) <(grep -oE 'registry_[a-z_]+\(' c/tests/unwinds.c | tr -d '(' | sort -u)
 }
 
 # No call takes more stack than the page says, or, with other limits, more than a page.
@@ -158,10 +149,6 @@ changes_say() {
     limited "$@" "$changes" >"$log.said" && grep -qE "^changes $changes( |\$)" "$log.said" && grep -qx 'wrong 0' "$log.said"
 }
 
-guarded_script() {
-    guarded "$out/script" live <"$1" >"$log.said" && diff "$log.said" "${1%.txt}.report"
-}
-
 # catches TEXT COMMAND..: the command fails, and says this.
 catches() {
     local text=$1
@@ -170,6 +157,7 @@ catches() {
 }
 
 test_page() {
+    check "the pages are made of the headers" make_clients pages
     check "the page: mandoc -T lint says nothing" page_lints
     check "the page names the header's calls" names "$header" "$page"
     check "the page of the waits names their calls" names c/include/waiting.h man/registry_waiting.3
@@ -191,43 +179,20 @@ test_installed() {
 }
 
 test_c() {
-    local storm cpus
+    local each cpus
     cpus=$(most_cpus)
     check "C: smallest" smallest_says "$out/smallest"
     check "C: row" row_says "$out/row"
-    check "C: packet" "$out/packet"
-    check "C: shared" "$out/shared" 2000
-    check "C: misuse is answered" "$out/misuse"
-    check "C: each allocation refused" "$out/refuse"
-    check "C: the functions of the heap" "$out/allocs"
-    check "C: what each call takes and frees, and what is planted" "$out/blocks"
-    check "C: the build's version and limits" "$out/built"
-    counted "C: programs compiled for other limits" packaging/other-limits.sh "${header%/*}" "$out/libregistry.a"
-    check "C: the layout of each struct" "$out/layout"
-    check "C: unwinds makes each call" unwinds_calls
-    check "C: a debugger's stack goes through each call" "$out/unwinds"
-    check "C: waits" "$out/waits"
-    check "C: turns, each step of a wait" "$out/turns"
-    check "C: deferred, beside a model" "$out/deferred"
-    check "C: history to its end, beside a model" "$out/history"
-    check "C: history notices each fault that is planted" "$out/planted"
-    check "C: walk" "$out/walk" 5000
-    check "C: entries" "$out/entries" 1000
-    check "C: names and answers as text" "$out/names"
-    check "C: usual" "$out/usual" 1000
-    check "C: recalls, a lookup stopped after each of its instructions" "$out/recalls"
-    check "C: crowd, every CPU and every slot" "$out/crowd" 2000
-    check "C: forwarder" "$out/forwarder"
-    check "C: device_switch" "$out/device_switch"
-    for storm in "1 1000" "2 3" "4 20000" "$cpus $((40000 / cpus))"; do
+    for each in packet 'shared 2000' misuse refuse allocs blocks built layout waits turns deferred history planted 'walk 5000' 'entries 1000' names 'usual 1000' \
+        recalls 'crowd 2000' forwarder device_switch 'speed 2 8 1000' 'changes 20' "changes 20 $cpus"; do
         # shellcheck disable=SC2086
-        check "C: storm $storm" storm_says $storm "$out/storm"
+        check "C: $each" "$out"/$each
     done
-    check "C: speed, briefly" "$out/speed" 2 8 1000
-    check "C: changes, briefly" "$out/changes" 20
-    check "C: changes on all CPUs, briefly" "$out/changes" 20 "$cpus"
-    counted "C: the examples of the docs" tools/run-examples.py --program "$out/script" --engine live
-    counted "C: scripts from a seed, beside registry_run" tools/compare-scripts.py --client "$out/script"
+    for each in '1 1000' '2 3' '4 20000' "$cpus $((40000 / cpus))"; do
+        # shellcheck disable=SC2086
+        check "C: storm $each" storm_says $each "$out/storm"
+    done
+    counted "C: programs compiled for other limits" packaging/other-limits.sh "${header%/*}" "$out/libregistry.a"
     if [ -n "$limits" ]; then
         test_installed
     else
@@ -237,40 +202,21 @@ test_c() {
 
 # The same programs, where each access of the client's, or of all, is watched.
 test_watched() {
-    local script cpus
+    local each cpus
     cpus=$(most_cpus)
     check "C: smallest under valgrind" smallest_says guarded "$out/smallest"
     check "C: row under valgrind" row_says guarded "$out/row"
-    check "C: packet under valgrind" guarded "$out/packet"
-    check "C: shared under valgrind" guarded "$out/shared" 20
-    check "C: misuse under valgrind" guarded "$out/misuse"
-    check "C: the build's limits under valgrind" guarded "$out/built"
-    check "C: the layout of each struct under valgrind" guarded "$out/layout"
-    check "C: waits under valgrind" guarded "$out/waits"
-    check "C: walk under valgrind" guarded "$out/walk" 50
-    check "C: entries under valgrind" guarded "$out/entries" 50
-    check "C: names under valgrind" guarded "$out/names"
-    check "C: usual under valgrind" guarded "$out/usual" 50
-    check "C: crowd under valgrind" guarded "$out/crowd" 20
-    check "C: refuse under valgrind" guarded "$out/refuse"
     check "C: storm 4 100 under valgrind" storm_says 4 100 guarded "$out/storm"
-    check "C: misuse with sanitizers" "$out/sanitized-misuse"
+    for each in packet 'shared 20' misuse built layout waits 'walk 50' 'entries 50' names 'usual 50' 'crowd 20' refuse; do
+        # shellcheck disable=SC2086
+        check "C: $each under valgrind" guarded "$out"/$each
+    done
     check "C: smallest with sanitizers" smallest_says "$out/sanitized-smallest"
-    check "C: packet with sanitizers" "$out/sanitized-packet"
-    check "C: shared with sanitizers" "$out/sanitized-shared" 500
     check "C: row with sanitizers" row_says "$out/sanitized-row"
-    check "C: the build's limits with sanitizers" "$out/sanitized-built"
-    check "C: walk with sanitizers" "$out/sanitized-walk" 1000
-    check "C: entries with sanitizers" "$out/sanitized-entries" 300
-    check "C: names with sanitizers" "$out/sanitized-names"
-    check "C: usual with sanitizers" "$out/sanitized-usual" 300
-    check "C: crowd with sanitizers" "$out/sanitized-crowd" 300
-    check "C: forwarder with sanitizers" "$out/sanitized-forwarder"
-    check "C: device_switch with sanitizers" "$out/sanitized-device_switch"
     check "C: storm $cpus $((8000 / cpus)) with sanitizers" storm_says "$cpus" $((8000 / cpus)) "$out/sanitized-storm"
-    counted "C: the examples of the docs with sanitizers" tools/run-examples.py --program "$out/sanitized-script" --engine live
-    for script in examples/*.txt; do
-        check "C: $(basename "$script") under valgrind" guarded_script "$script"
+    for each in misuse packet 'shared 500' built 'walk 1000' 'entries 300' names 'usual 300' 'crowd 300' forwarder device_switch; do
+        # shellcheck disable=SC2086
+        check "C: $each with sanitizers" "$out"/sanitized-$each
     done
 }
 

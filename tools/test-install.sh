@@ -16,7 +16,6 @@ room=$(mktemp -d)
 trap 'rm -rf "$room"; forget_log' EXIT
 header=crates/registry_c/include/registry.h
 module=kupaldiz
-program=installed
 # What is installed from, and where to.
 top=.
 stage=$room/root
@@ -41,31 +40,9 @@ version() {
     version_of "$header"
 }
 
-# built NAME COMPILER LANGUAGE STANDARD LINK WORDS..: the program, built with the words that pkg-config gives for these of its own, and none beside them.
-# A path with blanks comes from it as a shell writes it. The linker looks for what a shared library asks for where the loader does.
-built() {
-    local name=$1 compiler=$2 language=$3 standard=$4 link=$5 words
-    shift 5
-    words=$(config --cflags) && words+=" $(config "$@")" || return
-    (cd "$room" && LD_LIBRARY_PATH=$stage$libdir eval "\"$compiler\" -std=$standard -Wall -Wextra -Werror -x $language \"\$OLDPWD/c/tests/$program.c\" -x none -o $name $link $words")
-}
-
 # runs NAME LINE: the program ends with status 0 and this line.
 runs() {
     [ "$(LD_LIBRARY_PATH=$stage$libdir "$room/$1")" = "$2" ]
-}
-
-# asks_for NAME LIBRARY..: whether the program asks for each of these shared libraries by its name with the version.
-asks_for() {
-    local name=$1 library
-    shift
-    for library; do
-        readelf -d "$room/$name" | grep -F "[$library.so.$(version | cut -d. -f1)]" || return 1
-    done
-}
-
-asks_for_none() {
-    ! readelf -d "$room/$1" | grep -F kupaldiz
 }
 
 # has_soname LIBRARY: the shared library names itself without the lesser numbers.
@@ -73,24 +50,8 @@ has_soname() {
     readelf -d "$stage$libdir/$1.so" | grep -F "Library soname: [$1.so.$(version | cut -d. -f1)]"
 }
 
-# shown LIBRARY: the names that a shared library shows, without its version's own.
-shown() {
-    nm -D --defined-only "$stage$libdir/$1.so" | awk '$2 != "A" { sub(/@.*/, "", $3); print $3 }' | sort
-}
-
 calls_of_headers() {
     packaging/calls-of.sh "$stage$prefix"/include/kupaldiz/registry*.h
-}
-
-# The shared library shows the calls of both headers and no other name.
-shows_calls_alone() {
-    diff <(calls_of_headers | sort) <(shown libkupaldiz)
-}
-
-# The calls of the pages' names, each with the library's name before its own, and the symbol that the limits are in the name of.
-calls_of_pages() {
-    { packaging/calls-of.sh "$stage$prefix"/include/kupaldiz/netbsd/kupaldiz/*.h; calls_of_headers | grep '^registry_for_[0-9]'; } |
-        sed '/^kupaldiz_/!s/^/kupaldiz_/'
 }
 
 # A program of the pages' names that is compiled for other CPUs than the library has doesn't link, and the linker names them.
@@ -100,21 +61,6 @@ refused_by_linker() {
         sed -i -E 's/(MOST_CPUS[[:blank:]]+).*/\116/; s/registry_for_[0-9]+/registry_for_16/' "$other"/kupaldiz/{,netbsd/kupaldiz/}registry_limits.h || return
     ! gcc -o "$room/for_other" -I"$other/kupaldiz/netbsd" c/tests/installed_netbsd.c -L"$stage$libdir" -lkupaldiz_netbsd -lkupaldiz -pthread >"$room/said" 2>&1 &&
         grep 'undefined reference to .kupaldiz_registry_for_16_cpus_' "$room/said"
-}
-
-# That of the pages' names shows the calls that its headers declare and no other name. Two of the calls are the bench's.
-shows_pages_calls_alone() {
-    diff <(calls_of_pages | grep -vxE 'kupaldiz_(point|from)' | sort) <(shown libkupaldiz_netbsd)
-}
-
-# That of the bench shows these and its own.
-shows_bench_calls_alone() {
-    diff <({ calls_of_pages; packaging/calls-of.sh "$stage$prefix/include/kupaldiz/bench.h"; } | sort) <(shown libkupaldiz_bench)
-}
-
-# Other objects see nothing of the static libraries but calls.
-static_shows_calls_alone() {
-    ! nm -g --defined-only "$stage$libdir"/*.a 2>/dev/null | awk 'NF == 3 { print $3 }' | grep -vE '^(registry|kupaldiz|bench)_'
 }
 
 # An #include of a plain name, as <cpu.h>, finds nothing of these libraries: what the folders for the compiler offer is in folders of its own.
@@ -181,38 +127,6 @@ moved() {
 in_place() {
     # shellcheck disable=SC2046
     LD_LIBRARY_PATH=$stage$libdir gcc -o "$room/in_place" c/tests/installed.c $(PKG_CONFIG_PATH=$stage$libdir/pkgconfig pkg-config --cflags --libs kupaldiz) && runs in_place "C, version $(version_of crates/registry_c/include/registry.h)"
-}
-
-# test_programs LINE LIBRARY..: the program of this module in C and in C++, over the shared libraries that it asks for and over the static ones.
-test_programs() {
-    local line=$1 each
-    shift
-    for each in "c gcc c c99 C" "c++ g++ c++ c++11 C++"; do
-        # shellcheck disable=SC2086
-        set -- $each "$@"
-        local name=$1 compiler=$2 language=$3 standard=$4 tongue=$5
-        shift 5
-        check "$module, $tongue: built over the shared library" built "$name-shared" "$compiler" "$language" "$standard" "" --libs
-        check "$module, $tongue: it runs" runs "$name-shared" "$tongue, $line"
-        check "$module, $tongue: it asks for the library by its soname" asks_for "$name-shared" "$@"
-        check "$module, $tongue: built over the static library" built "$name-static" "$compiler" "$language" "$standard" -static --static --libs
-        check "$module, $tongue: it runs" runs "$name-static" "$tongue, $line"
-        check "$module, $tongue: it asks for no library" asks_for_none "$name-static"
-    done
-}
-
-# A program of each module over the shared library, which is enough where the place alone differs.
-test_places() {
-    module=kupaldiz program=installed
-    check "$1: a program is built" built c gcc c c99 "" --libs
-    check "$1: it runs" runs c "C, version $(version)"
-    module=kupaldiz-netbsd program=installed_netbsd
-    check "$1: a program of the pages' names is built" built c gcc c c99 "" --libs
-    check "$1: it runs" runs c "C, by the pages' names"
-    module=kupaldiz-bench program=installed_bench
-    check "$1: a program of the bench is built" built c gcc c c99 "" --libs
-    check "$1: it runs" runs c "C, in every order"
-    module=kupaldiz program=installed
 }
 
 # The page of each call is found by its name, and is the one that names it.
@@ -388,33 +302,22 @@ check "each file, with its mode, owner and link" holds_files "$(version)"
 check "each manual page, and each name that leads to one" holds_pages
 check "pages and folders are open to all" open_to_all
 check "nothing names the place that it was built in" names_no_place
-check "the sonames" has_soname libkupaldiz
-check "the sonames of the pages' names" has_soname libkupaldiz_netbsd
 check "what kupaldiz.pc says" pc_says "-lkupaldiz" "-lkupaldiz -pthread"
-test_programs "version $(config --modversion)" libkupaldiz
-module=kupaldiz-netbsd
-program=installed_netbsd
-check "what kupaldiz-netbsd.pc says" pc_says "-lkupaldiz_netbsd" "-lkupaldiz_netbsd -pthread -lkupaldiz -pthread"
-test_programs "by the pages' names" libkupaldiz_netbsd
-module=kupaldiz-bench
-program=installed_bench
-check "the sonames of the bench" has_soname libkupaldiz_bench
-check "what kupaldiz-bench.pc says" pc_says "-lkupaldiz_bench" "-lkupaldiz_bench -pthread -lkupaldiz -pthread"
-test_programs "in every order" libkupaldiz_bench
-check "the shared library shows the calls alone" shows_calls_alone
-check "the shared library of the pages' names shows their calls alone" shows_pages_calls_alone
-check "the shared library of the bench shows their calls and its own alone" shows_bench_calls_alone
-check "the static libraries show calls alone" static_shows_calls_alone
+for module in kupaldiz-netbsd kupaldiz-bench; do
+    check "what $module.pc says" pc_says "-l${module/-/_}" "-l${module/-/_} -pthread -lkupaldiz -pthread"
+done
+module=kupaldiz
 check "headers, maps and libraries have the same names" made symbols
 check "no folder of headers offers a plain name" offers_no_plain_name
 for library in libkupaldiz libkupaldiz_netbsd libkupaldiz_bench; do
+    check "$library names its soname" has_soname "$library"
     check "$library is hardened" is_hardened "$library"
 done
 check "libkupaldiz takes a shadow stack" takes_shadow_stack libkupaldiz
 check "libkupaldiz_netbsd takes a shadow stack" takes_shadow_stack libkupaldiz_netbsd
 check "libkupaldiz_bench, which switches stacks, takes none" takes_none libkupaldiz_bench
 check "a program of the pages' names for other CPUs doesn't link" refused_by_linker
-check "make installcheck" made installcheck
+counted "programs over what is installed" made installcheck
 if command -v cmake >/dev/null; then
     check "CMake: find_package finds the libraries" found_by_cmake
     check "CMake: it refuses another version" refused_by_cmake
@@ -428,7 +331,7 @@ prefix=/usr libdir=/usr/lib/x86_64-linux-gnu stage=$room/debian
 check "a folder of Debian's: install" made install
 check "a folder of Debian's: each file" holds_files "$(version)"
 check "a folder of Debian's: each manual page" holds_pages
-test_places "a folder of Debian's"
+counted "a folder of Debian's: programs" made installcheck
 check "a folder of Debian's: uninstall" made uninstall
 check "a folder of Debian's: uninstall leaves nothing" leaves_nothing
 
@@ -436,7 +339,7 @@ prefix="/usr/a place" libdir="/usr/a place/lib" stage=$room/blanks
 check "a path with blanks: install" made install
 check "a path with blanks: each file" holds_files "$(version)"
 check "a path with blanks: each manual page" holds_pages
-test_places "a path with blanks"
+counted "a path with blanks: programs" made installcheck
 check "a path with blanks: uninstall" made uninstall
 check "a path with blanks: uninstall leaves nothing" leaves_nothing
 # pkg-config takes no such root, but a package may be made in one.

@@ -16,10 +16,10 @@ from concurrent.futures import ThreadPoolExecutor
 sys.dont_write_bytecode = True
 
 from counts import ended
-from tests import checkers, compares, documents, gates, libraries, mutation, pages, pictures, programs, refusals, releases, sources, stack
+from tests import checkers, documents, gates, libraries, mutation, pages, programs, refusals, releases, sources
 from tests.trees import WRITING, lay, said_by, spoil
 
-MODULES = (programs, documents, sources, gates, refusals, compares, pages, pictures, stack, libraries, releases, mutation, checkers)
+MODULES = (programs, documents, sources, gates, refusals, pages, libraries, releases, mutation, checkers)
 COUNT = re.compile(r"^(\d+) passed, (\d+) failed\s*\Z", re.MULTILINE)
 
 

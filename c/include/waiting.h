@@ -52,7 +52,7 @@ struct registry_lock registry_lock_of_mutex(pthread_mutex_t *mutex) REGISTRY_NON
  * Returns the result of its last turn. What the turns learned and collected stays, so a later call goes on from there. `met` may be NULL.
  *
  * - REGISTRY_DONE, as registry_destroy. The slot is in `met`.
- * - REGISTRY_STILL_HELD if the deadline has passed. `met` is what held the entry last. The entry is still retired: its slot stays occupied, and its memory
+ * - REGISTRY_STILL_HELD if the deadline has passed. `met` is what the last turn met. The entry is still retired: its slot stays occupied, and its memory
  *   may not be freed, until a later call returns REGISTRY_DONE.
  * - REGISTRY_EMPTY_HANDLE, REGISTRY_INSIDE.
  * - REGISTRY_NOT_RETIRED if the entry isn't retired, or another thread has freed it meanwhile.
@@ -99,7 +99,8 @@ size_t registry_deferred_count(const struct registry_deferred *deferred) REGISTR
  * registry_deferred_free - free the entries that nothing holds any more, oldest first
  *
  * It makes one registry_advance for each entry that waits, REGISTRY_MOST_SLOTS at most. The caller holds the interlock, and may be inside a section. An
- * entry that this section may hold isn't freed. The call never waits.
+ * entry that this section may hold isn't freed. One that nothing holds may stay in the list if another CPU is in a registry_get just then. The call
+ * never waits.
  * Returns REGISTRY_EMPTY_HANDLE or REGISTRY_DONE. With REGISTRY_DONE the number of freed entries is written to `freed`, which may be NULL.
  */
 registry_answer registry_deferred_free(struct registry_keeper *keeper, struct registry_deferred *deferred, size_t *freed) REGISTRY_NONNULL(1, 2);

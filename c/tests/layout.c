@@ -2,7 +2,7 @@
  * layout - each struct of registry.h lies in memory as the library writes it
  *
  * A call writes into words that hold a pattern. Then the words are as many as the struct has, the next one still holds the pattern, and each field,
- * read by its name in the header, has the value that only it can have. What the fields of the settings mean is seen by what each limits.
+ * read by its name in the header, has the value that only it can have. What each field of the settings limits, history compares.
  */
 #include "client.h"
 
@@ -178,63 +178,6 @@ static void test_balances_and_stage(void)
 		DONE(registry_local_give_up(&keeper, &locals[i]));
 }
 
-static void close_all(struct registry_keeper *of, struct registry_cpu *each, unsigned count)
-{
-	for (unsigned i = 0; i < count; i++)
-		DONE(registry_close_cpu(&each[i]));
-	DONE(registry_close_keeper(of));
-}
-
-/* How often a call is done before it is refused so. */
-#define TIMES(count, call, answer)                                                                                                 \
-	do {                                                                                                                       \
-		for (unsigned time_ = 0; time_ < (count); time_++)                                                                 \
-			DONE(call);                                                                                                \
-		EXPECT((call) == (answer));                                                                                        \
-	} while (0)
-
-/* Acquires local references until it is refused: `count` before that. They are released again. */
-static void test_count_limit(struct registry_cpu *cpu, unsigned count)
-{
-	struct registry_local locals[8] = {{0}};
-	for (unsigned i = 0; i < count; i++)
-		DONE(registry_local_acquire(cpu, &locals[i]));
-	EXPECT(registry_local_acquire(cpu, &locals[count]) == REGISTRY_LOCAL_FULL);
-	for (unsigned i = 0; i < count; i++)
-		DONE(registry_local_release(cpu, &locals[i]));
-}
-
-/* Each limit of the settings, by the call that it limits. */
-static void test_limits(void)
-{
-	const struct registry_settings settings = {.cpus = 1, .slots = 2, .change_limit = 30, .section_limit = 5, .passive_limit = 3, .count_limit = 6};
-	const struct registry_settings few = {.cpus = 1, .slots = 8, .change_limit = 4, .section_limit = 9, .passive_limit = 9, .count_limit = 9};
-	struct registry_keeper of = {0};
-	struct registry_cpu cpu = {0};
-	uint64_t number;
-	struct registry_name a = name_of("a"), b = name_of("b"), c = name_of("c");
-	DONE(registry_open(&settings, &of, &cpu, 1));
-	DONE(registry_attach(&of, &cpu, &a, 1, &out.entry));
-	DONE(registry_attach(&of, &cpu, &b, 1, &out.entry));
-	EXPECT(registry_attach(&of, &cpu, &c, 1, &out.entry) == REGISTRY_NO_SLOT);
-	DONE(registry_enter(&cpu));
-	DONE(registry_find(&cpu, REGISTRY_DRIVER, &a, &out.entry));
-	TIMES(3, registry_acquire(&cpu, &number), REGISTRY_PASSIVE_FULL);
-	test_count_limit(&cpu, 6);
-	DONE(registry_exit(&cpu));
-	for (unsigned i = 1; i < 5; i++) {
-		DONE(registry_enter(&cpu));
-		DONE(registry_exit(&cpu));
-	}
-	EXPECT(registry_enter(&cpu) == REGISTRY_SECTIONS_SPENT);
-	close_all(&of, &cpu, 1);
-	DONE(registry_open(&few, &of, &cpu, 1));
-	DONE(registry_attach(&of, &cpu, &a, 1, &out.entry));
-	DONE(registry_attach(&of, &cpu, &b, 1, &out.entry));
-	EXPECT(registry_attach(&of, &cpu, &c, 1, &out.entry) == REGISTRY_HISTORY_FULL);
-	close_all(&of, &cpu, 1);
-}
-
 int main(void)
 {
 	test_name();
@@ -243,8 +186,7 @@ int main(void)
 	test_settings();
 	test_attach();
 	test_balances_and_stage();
-	close_all(&keeper, cpus, 2);
-	test_limits();
+	DONE(registry_close(cpus, 2, &keeper));
 	puts("all structs lie as the library writes them");
 	return 0;
 }

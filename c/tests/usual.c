@@ -1,13 +1,11 @@
 /*
  * usual CHANGES - registry_look_up, registry_get and registry_enter_find: each answer, in a section and outside, and on four threads
  *
- * What a call has left is asked after each: how deep the CPU is inside, what it found last, what holds the entry. Then three threads look drivers
- * up, while a fourth takes one out and puts it in again, without a pause: each answer is what the registry had during the call. Often that fourth
- * one stops one of the others by a signal, in the middle of what it does, and lets it go on after a change. In the end three threads get or find a
- * driver and use its object of the heap. A fourth takes the driver out, frees the object as soon as nobody holds it, and puts a new one in.
+ * What a call has left is asked after each: how deep the CPU is inside, what it found last, what holds the entry. Then three threads get or find a
+ * driver and use its object of the heap. A fourth takes the driver out, frees the object as soon as nobody holds it, and puts a new one in. recalls
+ * compares what a lookup returns with what the registry had during it.
  */
 #include <pthread.h>
-#include <signal.h>
 #include <stdatomic.h>
 
 #include "client.h"
@@ -543,136 +541,6 @@ static void *use_all(void *cpu)
 	return NULL;
 }
 
-/* How many changes were begun, and how many have returned, while the lookers run. The first attaches `wm0`, which stays. Then `wm` comes and goes. */
-static atomic_uint_fast64_t begun, returned;
-static atomic_uint_fast64_t lookups[USERS];
-
-static uint64_t value_of(uint64_t number)
-{
-	return ~number;
-}
-
-/* Whether the registry had `wm` with this number, or none if it is 0, after some number of changes from `from` to `to`. The even ones attach it. */
-static bool was_so(uint64_t number, uint64_t from, uint64_t to)
-{
-	if (number == 0)
-		return from < to || from % 2 == 1;
-	return number % 2 == 0 && from <= number && number <= to;
-}
-
-/* Looks `wm` up, and the one that stays, which lies behind it. */
-static void look_both_up(struct registry_cpu *cpu)
-{
-	struct registry_entry found = {0};
-	uint64_t from = atomic_load(&returned);
-	uint32_t answer = registry_look_up(cpu, REGISTRY_DRIVER, &wm, &found);
-	EXPECT(answer == REGISTRY_DONE || answer == REGISTRY_NOT_FOUND);
-	EXPECT(was_so(found.number, from, atomic_load(&begun)));
-	EXPECT(answer == REGISTRY_NOT_FOUND || (found.kind == REGISTRY_DRIVER && found.value == value_of(found.number)));
-	EXPECT(answer == REGISTRY_NOT_FOUND || (found.name.high == wm.high && found.name.low == wm.low));
-	DONE(registry_look_up(cpu, REGISTRY_DRIVER, &wm0, &found));
-	EXPECT(found.number == 1 && found.value == value_of(1) && found.name.high == wm0.high && found.name.low == wm0.low);
-}
-
-static void *look_up_all(void *user)
-{
-	atomic_uint_fast64_t *made = user;
-	do {
-		look_both_up(&cpus[made - lookups]);
-		atomic_fetch_add(made, 1);
-	} while (!atomic_load(&over));
-	return NULL;
-}
-
-/* A looker is stopped wherever it is, by a signal, until it may go on. One at a time. */
-static atomic_bool may_go_on, is_stopped;
-
-static void on_stop(int number)
-{
-	(void)number;
-	atomic_store(&is_stopped, true);
-	while (!atomic_load(&may_go_on))
-		rest();
-	atomic_store(&is_stopped, false);
-}
-
-static void stop(pthread_t looker)
-{
-	atomic_store(&may_go_on, false);
-	EXPECT(pthread_kill(looker, SIGUSR1) == 0);
-	while (!atomic_load(&is_stopped))
-		rest();
-}
-
-static void let_go(void)
-{
-	atomic_store(&may_go_on, true);
-	while (atomic_load(&is_stopped))
-		rest();
-}
-
-/* Attaches without the lock: no other thread has the keeper. */
-static void put_in(const struct registry_name *name)
-{
-	struct registry_entry made;
-	uint64_t number = atomic_fetch_add(&begun, 1) + 1;
-	DONE(registry_attach(&keeper, &cpus[CHANGER], name, value_of(number), &made));
-	EXPECT(made.number == number);
-	atomic_fetch_add(&returned, 1);
-}
-
-/* Detaches and destroys. If a looker was stopped in a section, it goes on first. */
-static void take_out(const struct registry_name *name)
-{
-	struct registry_entry gone;
-	atomic_fetch_add(&begun, 1);
-	DONE(registry_detach(&keeper, &cpus[CHANGER], REGISTRY_DRIVER, name, &gone));
-	EXPECT(gone.number == atomic_fetch_add(&returned, 1));
-	while (registry_destroy(&keeper, &cpus[CHANGER], gone.number, NULL) != REGISTRY_DONE)
-		let_go();
-}
-
-static bool have_all_made(uint64_t wanted)
-{
-	for (unsigned i = 0; i < USERS; i++)
-		if (atomic_load(&lookups[i]) < wanted)
-			return false;
-	return true;
-}
-
-/* Changes without a pause until each looker has looked up so often, or the history is full. In one round of eight a looker is stopped meanwhile. */
-static void change_beside(const pthread_t *lookers, uint64_t wanted)
-{
-	put_in(&wm);
-	for (uint64_t round = 0; round < REGISTRY_MOST_CHANGES / 2 - 4 && !have_all_made(wanted); round++) {
-		if (round % 8 == 0)
-			stop(lookers[round / 8 % USERS]);
-		take_out(&wm);
-		put_in(&wm);
-		let_go();
-	}
-	take_out(&wm);
-}
-
-static void run_lookers(uint64_t wanted)
-{
-	const struct sigaction stopping = {.sa_handler = on_stop, .sa_flags = SA_RESTART};
-	pthread_t lookers[USERS];
-	EXPECT(sigaction(SIGUSR1, &stopping, NULL) == 0);
-	open_registry(REGISTRY_MOST_SECTIONS, REGISTRY_MOST_COUNT);
-	put_in(&wm0);
-	for (unsigned i = 0; i < USERS; i++)
-		EXPECT(pthread_create(&lookers[i], NULL, look_up_all, &lookups[i]) == 0);
-	change_beside(lookers, wanted);
-	while (!have_all_made(1))
-		rest();
-	atomic_store(&over, true);
-	for (unsigned i = 0; i < USERS; i++)
-		EXPECT(pthread_join(lookers[i], NULL) == 0);
-	atomic_store(&over, false);
-	close_registry();
-}
-
 static void run_threads(unsigned long changes)
 {
 	pthread_t threads[USERS];
@@ -709,7 +577,6 @@ int main(int argc, char **argv)
 	check_remembered();
 	check_absent_remembered();
 	check_numbers();
-	run_lookers(800 * (uint64_t)changes);
 	run_threads(changes);
 	return 0;
 }

@@ -64,9 +64,7 @@ def shell():
     check, counted = 'check "true is" test 1 = 1\n', 'counted "counts" ./one\n'
     faults = (
         Fault("a check that fails", "FAILED  true is", (("shell", "test 1 = 1", "test 1 = 2"),)),
-        Fault("a command that isn't there", "FAILED  true is", (("shell", "test 1 = 1", "./gone"),)),
         Fault("a count with a failure", "FAILED  counts: 1 of 4", (("one", "0 failed", "1 failed"),)),
-        Fault("a count of nothing", "FAILED  counts", (("one", "3 passed", "0 passed"),)),
         Fault("no count", "FAILED  counts", (("one", "echo 3 passed, 0 failed\n", ""),)),
         Fault("another status", "FAILED  counts", (("one", "0 failed\n", "0 failed\nexit 1\n"),)),
         Fault("no checks", "0 passed, 1 failed", (("shell", check, ""), ("shell", counted, ""))),
@@ -128,11 +126,9 @@ def archive():
     ci, rattle, made = "ci", "kit/bin/rattle", 'echo proved >"$made"'
     faults = (
         Fault("a library beneath that isn't proved", "the archive is not built", ((ci, "low proved", "low NOT PROVED"),)),
-        Fault("a library that is never named", "the archive is not built", ((ci, "rt: low proved", "rt: low: its tests are proved"),)),
         Fault("a proof that fails", "the archive is not proved, status 1:\nnot proved", ((rattle, made, "echo not proved; exit 1"),)),
         Fault("a library that isn't there", "No such file or directory", (("crates/low/out/rlib/low.rlib/format", "low", None), (ci, "sleep", "rmdir crates/low/out/rlib/low.rlib; sleep"))),
         Fault("a source that is touched meanwhile", "a file that it is proved from was touched", ((ci, "sleep", "touch crates/low/src/lib.rt; sleep"),)),
-        Fault("a source that is added meanwhile", "a file that it is proved from was touched", ((ci, "sleep", "echo >crates/low/src/more.rt; sleep"),)),
         Fault("a proof that is killed", "its proof was killed", ((rattle, made, "kill -KILL $$"),)),
         Fault("a proof for aarch64 that fails", "the library for aarch64 is not proved, status 1:\nnot there", ((rattle, made, f'case "$*" in *aarch64*) echo not there; exit 1;; esac; {made}'),)),
         Fault("a failure of rt ci", "6 passed, 2 failed", ((ci, "5 passed, 0", "4 passed, 2"),)),

@@ -1,4 +1,5 @@
-"""Faults of libraries and of the layer's pages: packaging/symbols.sh, netbsd/pages.py and tools/unwind-tables.py."""
+"""Faults of libraries, of the archive for C and of the layer's pages: packaging/symbols.sh, netbsd/pages.py, tools/unwind-tables.py, tools/frames.py,
+tools/atomics.py and tools/replace-part.sh."""
 from .trees import Case, Fault, real
 
 # A library is a text here: what nm says of it.
@@ -57,42 +58,26 @@ def symbols():
     faults += [Fault(f"a call more in {path}", "< another", ((path, None, f"{tree[path]}int another(void);\n"),))
                for path in (*HEADERS, "explorer/bench.h")]
     faults += [Fault("a call more of the pages", "< kupaldiz_another", (("netbsd/include/kupaldiz/lwp.h", None, "int another(void);\n"),)),
-               Fault("no words", "usage: symbols.sh", command=["packaging/symbols.sh"])]
+               ]
     return Case("symbols", [], tree, ["./look"], faults, counts=False)
 
 
 PAGED = "netbsd/include/kupaldiz/psref.h"
-PAGE = "man/kupaldiz_psref.3"
 PAGER = "netbsd/pages.py"
 OVERVIEW = "man/kupaldiz_netbsd.7"
 SMALLEST = "netbsd/tests/smallest.c"
 
 
 def pages():
-    told = "kupaldiz_psref.3: not what psref.h says"
     shows = "kupaldiz_netbsd.7: doesn't show one program as it is"
-    tree = real(PAGER, "netbsd/include/kupaldiz/*.h", "man/kupaldiz_*.3", OVERVIEW, SMALLEST)
+    tree = real(PAGER, "netbsd/include/kupaldiz/*.h", OVERVIEW, SMALLEST)
     faults = (
-        Fault("another word in a page", told, ((PAGE, ".Nd psref(9)", ".Nd psref(8)"),)),
-        Fault("a line less in a page", told, ((PAGE, ".Sh LIBRARY\n", ""),)),
-        Fault("a page that is gone", told, ((PAGE, ".Sh", None),)),
-        Fault("another parameter in a header", told, ((PAGED, "void psref_release(struct psref *psref,", "void psref_release(struct psref *other,"),)),
         Fault("a call without a comment", "psref.h: psref_more has no entry",
               ((PAGED, "#ifdef __cplusplus\n}", "/* Nothing that describes it. */\nvoid psref_more(void);\n#ifdef __cplusplus\n}"),)),
-        Fault("a macro without a comment", "psref.h: psref_more has no entry",
-              ((PAGED, "#ifdef __cplusplus\n}", "/* Nothing that describes it. */\n#define psref_more(psref)\t0\n#ifdef __cplusplus\n}"),)),
         Fault("a prototype in two lines", "psref.h: psref_copy has no entry", ((PAGED, "void psref_copy(struct psref *to,", "void\npsref_copy(struct psref *to,"),)),
-        Fault("a pattern without digits in what a call returns", "localcount.h: localcount_debug_refcnt has no entry",
-              ((PAGER, "(?:static inline )?((?:[a-z_0-9]+ )+", "(?:static inline )?((?:[a-z_]+ )+"),)),
-        Fault("a pattern without digits in a call's name", "psref.h: psref_acquire2 has no entry",
-              ((PAGER, "\\**)([a-z_0-9]+)", "\\**)([a-z_]+)"), (PAGED, "void psref_acquire(", "void psref_acquire2("))),
         Fault("a header without a page", "lists.h: no page is made of it", (("netbsd/include/kupaldiz/lists.h", None, "void lists_more(void);\n"),)),
-        Fault("a call more in a header", told, ((PAGED, "void psref_release(", "void psref_more(void);\nvoid psref_release("),)),
-        Fault("a header that is gone", "No such file", ((PAGED, "psref", None),)),
-        Fault("another call in the program that is shown", shows, ((OVERVIEW, "\tpserialize_perform(psz);\n", ""),)),
         Fault("another call in the program's file", shows, ((SMALLEST, "\tpserialize_perform(psz);\n", ""),)),
         Fault("a page that names no program", shows, ((OVERVIEW, f'.\\" {SMALLEST}\n', ""),)),
-        Fault("no words", "usage: pages.py", command=[PAGER]),
     )
     return Case("pages", [], tree, [PAGER, "check"], faults, counts=False)
 
@@ -145,14 +130,10 @@ def unwind_tables():
         Fault("a return with something on the stack", "a return at", ((code, "pop %rbx\n", ""),)),
         Fault("a jump out with something on the stack", "a jump out at", ((code, "call other@PLT", "jmp other@PLT"),)),
         Fault("a path behind the last instruction", "a path goes on behind the last instruction", ((code, "pop %rbx\n\tret", "pop %rbx"),)),
-        Fault("a frame that is left at once", "isn't understood", ((code, "pop %rbx", "leave"),)),
         Fault("two functions in a section", "isn't at the head of its section", ((code, '.section .text.turns,"ax",@progbits\n', ""),)),
-        Fault("another processor's code", "nothing is known of the code of", ((depth.replace("x86_64", "aarch64"), "TOOLS =", "TOOLS = OTHER ="),
-              ("tools/unwind-tables.py", '"Advanced Micro Devices X86-64"', '"Another"'))),
         Fault("a push that isn't counted", "a return at", ((depth, "return depth + 8, saved", "return depth, saved"), (depth, "return depth - 8, saved", "return depth, saved"))),
         Fault("a register that isn't told", "> rsp+16 c-16 c-8", ((depth, "saved = {**saved, operands: depth + 8}", "pass"),)),
         Fault("a register that isn't restored", "a return at", ((depth, "if saved.get(operands) == depth:", "if False:"),)),
-        Fault("no object", "gone.o", command=["tools/unwind-tables.py", "gone.o"]),
     )
     return Case("unwind-tables", ["unwind-tables.py", "unwinding"], {"code.s": CODE, "rows": ROWS, "look": UNWOUND}, ["./look"], faults, counts=False)
 
@@ -177,13 +158,92 @@ def replace_part():
         Fault("an archive as it was", "< 11\n", ((tool, "$room/part.o\" \"$room/rest.o", "$room/rest.o"),)),
         Fault("two functions of a name", "multiple definition", ((tool, '--weaken-symbols="$room/names"', ""),)),
         Fault("functions that aren't seen", "< 11\n", ((tool, '--globalize-symbols="$room/names"', ""),)),
-        Fault("a part that isn't there", "gone.c", command=["./join", "gone"]),
-        Fault("a part that isn't compiled", "error", (("c/src/rest.c", "int registry_rest", "int part(void) { return 1; }\nint registry_rest"), ("c/src/part.c", "int part(void) { return 1; }", "int more"))),
-        Fault("a part without functions", "part.c defines nothing", (("c/src/rest.c", "int part(void);", "int part(void) { return 1; }"), ("c/src/part.c", "int part", "static inline int part"))),
-        Fault("no words", "it takes PART ARCHIVE TO", command=[tool]),
     )
     return Case("replace-part", ["replace-part.sh"], tree, ["./join"], faults, counts=False)
 
 
+LIBRARY = """
+#include <stdlib.h>
+#define OWN __attribute__((noinline))
+static OWN int fill(volatile char *at) { char room[100]; for (int i = 0; i < 100; i++) room[i] = at[i]; return room[at[0] & 63]; }
+int registry_enter(volatile char *at) { return fill(at) + 1; }
+int registry_exit(volatile char *at) { char *block = malloc(8); int seen = at[0] + (block != 0); free(block); return seen; }
+"""
+
+
+# A call that goes on in another function by a jump, which no relocation tells; and one that takes 116 bytes: its return address, 100, and malloc's.
+JUMPS = r"""static __attribute__((used, noinline)) int wide(volatile char *at) { volatile char room[900]; for (int i = 0; i < 900; i++) room[i] = at[i]; return room[7]; }
+__asm__(".text\n.globl registry_jumps\n.type registry_jumps,@function\nregistry_jumps: jmp wide\n");
+int registry_enter"""
+MEASURED = r"""__asm__(".text\n.globl registry_measured\n.type registry_measured,@function\nregistry_measured: sub $100, %rsp\ncall malloc\nadd $100, %rsp\nret\n");
+int registry_enter"""
+
+
+def archive(tree):
+    """Compiles the library once more: the change is in its source."""
+    (tree / "built").write_text(COMPILED)
+    (tree / "built").chmod(0o755)
+
+
+COMPILED = """#!/bin/sh
+gcc -O1 -fno-stack-protector -fcf-protection=none -fno-optimize-sibling-calls -c library.c -o library.o || exit 9
+rm -f library.a
+ar rcs library.a library.o
+exec tools/frames.py library.a "$@"
+"""
+
+
+def frames():
+    call = "return fill(at) + 1;"
+    faults = (
+        Fault("a call above the limit", "above 512: registry_enter", (("library.c", "char room[100]", "char room[900]"),)),
+        Fault("what a call jumps to above it", "above 512: registry_jumps", (("library.c", "int registry_enter", JUMPS),)),
+        Fault("a call through a pointer", "registry_enter calls through a pointer", (("library.c", call, "int (*volatile f)(volatile char *) = fill; return f(at) + 1;"),)),
+        Fault("a call that comes back to itself", "registry_enter comes back to itself", (("library.c", call, "return at[1] ? registry_enter(at + 1) + fill(at) : 1;"),)),
+        Fault("no exports", "", (("library.c", "int registry_enter", "int enter"), ("library.c", "int registry_exit", "int exit_"))),
+    )
+    exempt = (Fault("another call than the one that may", "above 100: registry_enter", command=["./built", "100", "registry_exit"]),)
+    yield Case("frames", ["frames.py"], {"library.c": LIBRARY}, ["./built", "512"], faults, counts=False, prepare=archive)
+    yield Case("frames, one that may take more", ["frames.py"], {"library.c": LIBRARY}, ["./built", "100", "registry_enter", "registry_exit"], exempt, counts=False,
+               prepare=archive)
+
+
+# An archive's function as objdump shows it, and a program that has it elsewhere, with the places by which it came to a table.
+STEPS = """0000000000000000 <enter>:
+   0:\tldaxr\tx9, [x8]
+   4:\tstlxr\tw10, x9, [x8]
+   8:\tldr\tx0, [x8]
+   c:\tldar\tx0, [x8]
+  10:\tret
+"""
+LINKED = """0000000000400000 <other>:
+  400000:\tldar\tx0, [x8]
+0000000000400100 <enter>:
+  400100:\tldaxr\tx9, [x8]
+  400104:\tstlxr\tw10, x9, [x8]
+  400108:\tldr\tx0, [x8]
+  40010c:\tldar\tx0, [x8]
+"""
+LOOK = """#!/bin/sh
+PATH=$PWD/bin:$PATH exec tools/atomics.py archive program
+"""
+
+
+def atomics():
+    tree = {"archive.code": STEPS, "program.code": LINKED, "program.sites": "400100\n400104\n40010c\n", "look": LOOK,
+            "bin/aarch64-linux-gnu-objdump": '#!/bin/sh\ncat "$3.code"\n'}
+    faults = (
+        Fault("a weaker step", "another instruction: ldxr in enter+0", (("archive.code", "ldaxr", "ldxr"),)),
+        Fault("a weaker load", "another instruction: ldapr in enter+0xc", (("archive.code", "ldar", "ldapr"),)),
+        Fault("a step that no program met", "met by no program: ldar in enter+0xc", (("program.sites", "40010c\n", ""),)),
+        Fault("no steps at all", "ldar 0", (("archive.code", "ldaxr", "nop"), ("archive.code", "stlxr", "nop"), ("archive.code", "ldar", "nop"))),
+    )
+    return [Case("atomics", ["atomics.py"], tree, ["./look"], faults, counts=False)]
+
+
+def stack():
+    return [*frames(), *atomics()]
+
+
 def cases():
-    return [symbols(), pages(), unwind_tables(), replace_part()]
+    return [symbols(), pages(), unwind_tables(), replace_part(), *stack()]

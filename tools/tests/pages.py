@@ -1,5 +1,5 @@
-"""Faults of the manual pages of the calls for C: tools/header-pages.py."""
-from .trees import Case, Fault
+"""Faults of the manual pages of the calls for C and of pictures: tools/header-pages.py and tools/picture.py."""
+from .trees import Case, Fault, real
 
 HEADER = """/*
  * registry.h - a registry
@@ -108,26 +108,45 @@ doesn't.
 .El
 """
 PAGE, FACE, CLIENT = "man/registry.3", "crates/registry_c/include/registry.h", "c/examples/packet.c"
+MAKES = f"""#!/bin/sh
+tools/header-pages.py make && diff {PAGE} wanted && diff man/registry_waiting.3 wanted_of_waits && tools/header-pages.py check
+"""
+
+
+DRAWING = """<svg><rect data-crate="low"/><rect data-crate="high"/><path data-from="high" data-to="low"/></svg>
+"""
+SCRIPT = "examples/perform-and-destroy.txt"
+
+
+def picture():
+    tree = {**real("examples/perform-and-destroy.*"), "docs/layers.svg": DRAWING, "crates.txt": "# NAME: ON\nlow: std\nhigh staticlib: low std\n"}
+    faults = (
+        Fault("another command", "perform-and-destroy.svg: it should say: enter 0", ((SCRIPT, "enter 1", "enter 0"),)),
+        Fault("another line of the report", "perform-and-destroy.svg: it should say: refused Waiting cpu 0", ((SCRIPT, "Waiting cpu 1", "Waiting cpu 0"),)),
+        Fault("a picture without a script", "examples/other.svg: it should say: there is no other.txt", (("examples/other.svg", None, "<svg/>"),)),
+        Fault("a crate that is no box", "docs/layers.svg, crates: more", (("crates.txt", "low: std\n", "low: std\nmore: std\n"),)),
+        Fault("a box that is no crate", "docs/layers.svg, crates: less", (("docs/layers.svg", "<svg>", '<svg><rect data-crate="less"/>'),)),
+        Fault("an arrow that is missing", "docs/layers.svg, arrows: high-low", (("docs/layers.svg", 'data-from="high" data-to="low"', ""),)),
+        Fault("an arrow too many", "docs/layers.svg, arrows: low-high", (("docs/layers.svg", "<svg>", '<svg><path data-from="low" data-to="high"/>'),)),
+    )
+    return [Case("picture", ["picture.py", "counts.py"], tree, ["tools/picture.py", "check"], faults)]
 
 
 def cases():
-    tree = {FACE: HEADER, f"{PAGE}.in": FRAME, PAGE: MADE, CLIENT: PACKET,
-            "c/include/waiting.h": WAITS, "man/registry_waiting.3.in": "@synopsis\n@calls\n", "man/registry_waiting.3": MADE_OF_WAITS}
-    other = f"{PAGE} isn't what tools/header-pages.py make writes"
+    tree = {FACE: HEADER, f"{PAGE}.in": FRAME, "wanted": MADE, CLIENT: PACKET, "make": MAKES,
+            "c/include/waiting.h": WAITS, "man/registry_waiting.3.in": "@synopsis\n@calls\n", "wanted_of_waits": MADE_OF_WAITS}
     faults = (
-        Fault("another type of a parameter", other, ((FACE, "struct registry *it,", "struct keeper *it,"),)),
-        Fault("another type of the result", other, ((FACE, "registry_answer registry_open", "uint32_t registry_open"),)),
-        Fault("another summary of a call", other, ((FACE, "make a registry", "open a registry"),)),
-        Fault("another error", other, ((FACE, "Returns REGISTRY_DONE.", "Returns REGISTRY_NULL."),)),
-        Fault("another range of a member", other, ((FACE, "1 to 8", "1 to 9"),)),
-        Fault("another text of a constant", other, ((FACE, "a pointer is NULL", "a pointer isn't NULL"),)),
-        Fault("a call more", other, ((FACE, "REGISTRY_CHECKED;\n", "REGISTRY_CHECKED;\n\n/*\n * registry_close - close it\n */\nvoid registry_close(void);\n"),)),
-        Fault("another example", other, ((CLIENT, "return 1", "return 2"),)),
-        Fault("a page that was written by hand", other, ((PAGE, "Make a registry.", "Make a registry, at once."),)),
-        Fault("a page that is gone", other, ((PAGE, MADE, None),)),
+        Fault("another type of a parameter", '> .Fa "struct registry *it"', ((FACE, "struct registry *it,", "struct keeper *it,"),)),
+        Fault("another type of the result", "> .Ft registry_answer", ((FACE, "registry_answer registry_open", "uint32_t registry_open"),)),
+        Fault("another summary of a call", "> Make a registry.", ((FACE, "make a registry", "open a registry"),)),
+        Fault("another error", "> .Dv REGISTRY_DONE .", ((FACE, "Returns REGISTRY_DONE.", "Returns REGISTRY_NULL."),)),
+        Fault("another range of a member", "> 1 to 8", ((FACE, "1 to 8", "1 to 9"),)),
+        Fault("a call more", "< .Nm registry_close",
+              ((FACE, "REGISTRY_CHECKED;\n", "REGISTRY_CHECKED;\n\n/*\n * registry_close - close it\n */\nvoid registry_close(void);\n"),)),
+        Fault("another example", "< \treturn 2;", ((CLIENT, "return 1", "return 2"),)),
         Fault("an example that is gone", "'@example c/examples/packet.c opened' of the frame names nothing", ((CLIENT, "opened", "closed"),)),
         Fault("a section that is gone", "'@section THE OBJECTS' of the frame names nothing", ((FACE, "THE OBJECTS", "OBJECTS"),)),
         Fault("a struct that is gone", "'@types registry_settings' of the frame names nothing", ((FACE, "\nstruct registry_settings {", "\nstruct settings {"),)),
         Fault("a part that isn't one", "'@call' of the frame names nothing", ((f"{PAGE}.in", "@calls", "@call"),)),
     )
-    return [Case("header-pages", ["header-pages.py", "counts.py"], tree, ["tools/header-pages.py", "check"], faults)]
+    return [Case("header-pages", ["header-pages.py", "counts.py"], tree, ["./make"], faults), *picture()]

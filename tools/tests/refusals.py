@@ -146,12 +146,6 @@ def over_holes(name, state):
     return Fault(name, "what its edits change isn't proved as it stands", (("kit/bin/rattle", line, f"        echo 'fn one::most: {state}'\n"),))
 
 
-def after_the_hole(name, line):
-    """A kit that prints a line more of what it was asked for."""
-    hole = "        echo './proofs/most/Proof.antt:4:13: goal ? in `most_spec`'\n"
-    return Fault(name, "what its edits change isn't proved as it stands", (("kit/bin/rattle", hole, f"{hole}        echo '{line}'\n"),))
-
-
 def after_a_run(name, said, *lines, kind=""):
     """What is changed after a run that kept its refusals, and is found by the next one."""
     return Fault(name, said, command=["sh", "-c", "\n".join([f"./try {kind} >/dev/null || exit 0", *lines, f"exec ./try {kind}"])])
@@ -162,11 +156,8 @@ def by_hand():
     return (
         Fault("a wrong body by hand that is proved", f"one/nothing: {whole}", proved),
         Fault("a wrong heading that the crate is proved under", f"one/heading: {whole}", ((HAND, "new: //! None", "new: //! One more than"),)),
-        Fault("a wrong body by hand that is proved, again", whole, proved, ["sh", "-c", "./try prover >/dev/null 2>&1; exec ./try prover"]),
         after_a_run("a refusal by hand over another library", whole, f"echo strong >{LOW}", kind="prover"),
-        after_a_run("an edit that fitted the last run's source", "stands 2 times in", "echo '    x + 1' >>crates/one/src/lib.rt", kind="prover"),
         after_a_run("an edit whose text changed after the last run", whole, f"sed -i 's/^new:     0/new:     x + 1 - 0/' {HAND}", kind="prover"),
-        Fault("a library that isn't built", "isn't built: run rt ci first", ((LOW, "low", None),)),
     )
 
 
@@ -183,12 +174,9 @@ def cases():
         Fault("a right body that is tried beside a wrong one", "NOT REFUSED: less still proved", ((EDITS, "new:     x - 2", "new:     x - 1 - 0"),)),
         Fault("an edit that doesn't fit", "stands 0 times in", ((EDITS, "old:     x + 1\nnew:     x\n", "old:     y\nnew:     x\n"),)),
         Fault("an edit of no function", "it changes no function", ((EDITS, "old:     x + 1\nnew:     x\n", "old: //! One more.\nnew: //! None.\n"),)),
-        Fault("an edit of a file that is gone", "No such file or directory", ((EDITS, "# It adds nothing.\nfile: src/lib.rt", "file: src/gone.rt"),)),
-        Fault("an edit that changes nothing", "StopIteration", ((EDITS, "new:     x\n", ""),)),
         judges("a body that doesn't compile", "NOT TRIED: src/lib.rt:7:5: error", "echo 'src/lib.rt:7:5: error: no such name'"),
         judges("a check that is killed", "NOT TRIED", "kill -KILL $$"),
         judges("a check that ends in its middle", "NOT TRIED", "echo 'note: src/lib.rt:5:15: this clause is not proved'; exit 1"),
-        judges("another status of the checker", "NOT TRIED", "echo 'only=1'; exit 2"),
         judges("a refusal that no goal tells", "refused, only because no proof was found", "true"),
         judges("a proof that names what is gone", "refused only because", "echo 'note: proofs/Lib.antt:1:1: x has no field y'"),
         Fault("functions that aren't proved as they stand", "what its edits change isn't proved as it stands", (("crates/one/src/lib.rt", "    x + 1", "    1 + x"),
@@ -197,19 +185,14 @@ def cases():
         over_holes("an assumed function that isn't taken as it is", "not proved"),
         over_holes("a hole that isn't ours", "depends on a hole in `Rattle.one.proofs.other.Proof.other_spec`"),
         over_holes("a hole without a name", "depends on a hole in Rattle.one.proofs.most.Proof.most_spec"),
-        after_the_hole("a fault of no function", "./specs/Lib.antt:1:1: `more` is not admitted: ill-typed"),
-        after_the_hole("a hole in a lemma", "./proofs/Lib.antt:1:1: goal ? in `lemma`"),
         Fault("a hole that is told of no file", "what its edits change isn't proved as it stands", (("kit/bin/rattle", "holes=1", "holes=2"),)),
         Fault("a function that no edit changes, proved again", "what its edits change isn't proved as it stands", (("tools/assumed.py", '["loop {}"]', '["let most = 1;"]'),)),
         Fault("an edit without its name", "gate.edits: a block without its line edit: NAME", ((EDITS, "edit: same\n", ""),)),
         Fault("no edits", "0 passed, 1 failed", ((EDITS, "file:", None),)),
-        Fault("an edit that isn't there", "no edit one/gone", command=["./try", "one/gone"]),
-        Fault("a library that isn't built", "which isn't built", ((LOW, "low", None),)),
         after_a_run("a refusal over another library", "NOT REFUSED", f"echo strong >{LOW}"),
         after_a_run("a refusal by another kit", "NOT REFUSED", "printf '#!/bin/sh\\necho only=1\\n' >kit/bin/rattle; echo other >kit/KIT-ID"),
         after_a_run("a refusal of another body", "NOT REFUSED", f"sed -i 's/^new:     x$/new:     x + 1 + 0/' {EDITS}"),
         after_a_run("a refusal of an edit that is no longer applied", "NOT REFUSED", "sed -i 's/path.write_text(text.replace(old, new))/pass/' tools/edits.py"),
-        after_a_run("a refusal by a kit in another folder", "NOT REFUSED", "cp -r kit other; printf '#!/bin/sh\\necho only=1\\n' >other/bin/rattle", "sed -i 's/strip()).parent/strip()).parent.parent \\/ \"other\"/' tools/kit.py"),
     )
     tools = ["kept.py", "edit_checks.py", "assumed.py", "counts.py", "edits.py", "functions.py", "contracts.py", "kit.py", "parts.py"]
     return [Case("gate-edits", ["gate-edits.py", *tools], TREE, ["./try"], faults),

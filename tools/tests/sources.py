@@ -1,4 +1,4 @@
-"""Faults of sources: tools/check-limits.py, tools/check-imports.py, tools/event-table.py and tools/above.py."""
+"""Faults of sources: tools/check-limits.py, tools/check-imports.py and tools/event-table.py."""
 from .trees import Case, Fault, real
 
 # Each place that says a limit again: a part of the line, with its number.
@@ -56,8 +56,6 @@ def limits_header():
               for name in ("MOST_CPUS", "MOST_SLOTS", "MOST_CHANGES", "MOST_SECTIONS", "MOST_COUNT", "MOST_DEPTH")]
     faults += [
         Fault("no version", f"limits-header: {VERSION} says no version", ((VERSION, "REGISTRY_VERSION_MINOR\t1", "REGISTRY_VERSION_SMALL\t1"),)),
-        Fault("no file", "limits-header: ", command=["tools/limits-header.py", "none.rt"]),
-        Fault("a file too many", "usage: limits-header.py", command=["tools/limits-header.py", LIMITS, LIMITS]),
     ]
     return Case("limits-header", ["limits-header.py", "limits.py"], {**real(LIMITS, VERSION), "try": MAKES}, ["./try"], faults, counts=False)
 
@@ -81,13 +79,8 @@ def check_imports():
               (("crates/two/src/lib.rt", "ghost use", "ghost use Rattle.one.specs.Counts.{Count};\nghost use"),)),
         Fault("a name of a lower crate that is taken past it", "two/proofs/Lemma.antt imports Word of Rattle.low.specs.Words",
               (("crates/two/proofs/Lemma.antt", "use Rattle", "use Rattle.low.specs.Words.{Word};\nuse Rattle"),)),
-        Fault("a name of its own that a proof takes past it", "one/proofs/Own.antt imports Count",
-              (("crates/one/proofs/Own.antt", None, "use Rattle.one.specs.Counts.{Count};\n"),)),
         Fault("a name of a lower crate that its own specs take past it", "one/specs/More.antt imports Word of Rattle.low.specs.Words",
               (("crates/one/specs/More.antt", "use Rattle.one", "use Rattle.low.specs.Words.{Word};\nuse Rattle.one"),)),
-        Fault("one of several names", "imports Count", (("crates/two/src/lib.rt", "ghost use", "ghost use Rattle.one.specs.Counts.{Other, Count};\nghost use"),)),
-        Fault("a type that no one takes", "one/specs/Types.antt: no one imports Count",
-              (("crates/one/specs/Types.antt", None, "pub use Rattle.one.specs.Counts.{Count};\n"),)),
         Fault("nothing that passes names on", "0 passed, 1 failed", (("crates/one/specs/Common.antt", "pub use Rattle.one", None),)),
     )
     return Case("check-imports", ["check-imports.py", "counts.py"], IMPORTS, ["tools/check-imports.py"], faults)
@@ -110,35 +103,12 @@ def event_table():
         Fault("an edit that is gone", page, ((EDITS, "edit: enter_adds_two", "edit: enter_adds_three"),)),
         Fault("a step without an edit", "no edit", (("crates/passive_list/edits/gate.edits", "old:     keeper.rows[slot as usize].state = SlotState::Vacant;", "old: gone"),)),
         Fault("an event without a definition", "no definition", ((definition, "guard (may_enter s c) (some_outcome (after_enter s c) Done)", "None"),)),
-        Fault("an event without a lemma", "no second lemma", ((KEEPING, "(λ may. enter_keeps s c on may)", "(λ may. on)"),)),
         Fault("an event that the machine doesn't make", "no method", (("crates/passive_core/src/machine/run.rt", "self.step_enter(c)", "enter(c)"),)),
-        Fault("another name of a step", page, ((STEP, "pub fn exit(", "pub fn leave("),)),
         Fault("another word in the table", page, (("docs/EVENTS.md", "The CPU begins a section", "The CPU ends a section"),)),
     )
     tools = ["event-table.py", "contracts.py", "counts.py", "edits.py", "functions.py"]
     return Case("event-table", tools, real(*TABLED), ["tools/event-table.py", "check"], faults)
 
 
-# One uses low through another one, and one doesn't use it.
-STACKED = {
-    "crates.txt": "low: std\nmiddle: low std\ntop: middle std\nbeside: std\n",
-    "try": """#!/bin/sh
-said=$(tools/above.py low | tr '\\n' ' ')
-[ "$said" = 'middle top ' ] || { echo "above low: $said"; exit 1; }
-""",
-}
-
-
-def above():
-    usage = "tools/above.py CRATE.."
-    faults = (
-        Fault("another crate above", "above low: middle top beside", (("crates.txt", "beside: std", "beside: low std"),)),
-        Fault("a crate fewer above", "above low: middle", (("crates.txt", "top: middle std", "top: std"),)),
-        Fault("no crate", usage, command=["tools/above.py"]),
-        Fault("a crate that isn't there", usage, command=["tools/above.py", "low", "none"]),
-    )
-    return Case("above", ["above.py", "kit.py"], STACKED, ["./try"], faults, counts=False)
-
-
 def cases():
-    return [check_limits(), limits_header(), check_imports(), event_table(), above()]
+    return [check_limits(), limits_header(), check_imports(), event_table()]

@@ -1,1 +1,0 @@
-"""What tools/picture.py is made of: commands, a replay of them against their report, two drawings, and the checks of all of it."""
