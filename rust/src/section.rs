@@ -344,21 +344,6 @@ impl<T> Deref for Found<'_, '_, T> {
     }
 }
 
-impl<T: fmt::Display> fmt::Display for Found<'_, '_, T> {
-    fn fmt(&self, f: &mut fmt::Formatter<'_>) -> fmt::Result {
-        (**self).fmt(f)
-    }
-}
-
-impl<T: fmt::Debug> fmt::Debug for Found<'_, '_, T> {
-    fn fmt(&self, f: &mut fmt::Formatter<'_>) -> fmt::Result {
-        f.debug_struct("Found")
-            .field("entry", &self.record)
-            .field("value", &**self)
-            .finish()
-    }
-}
-
 #[cfg(test)]
 mod tests {
     use super::Found;
