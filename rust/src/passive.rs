@@ -50,7 +50,7 @@ impl<T> PassiveRc<T> {
 
 /// Defines what both are.
 macro_rules! passive {
-    ($name:ident<$($life:lifetime)?>, $cpu:ty) => {
+    ($name:ident $(<$life:lifetime>)?, $cpu:ty) => {
         impl<$($life,)? T> $name<$($life,)? T> {
             /// # Safety
             ///
