@@ -98,6 +98,7 @@ impl<T> Registry<T> {
     /// # Errors
     ///
     /// `OtherRegistry` for the CPU or the reference, `Inside`, `NeedsDriver`, `NotFound`, `NoSlot`, `HistoryFull`. The reference and the value are returned.
+    #[allow(clippy::type_complexity)]
     pub fn replace_iface(
         &self,
         cpu: &Cpu<T>,

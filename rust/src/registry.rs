@@ -17,7 +17,7 @@ use std::vec::Vec;
 /// An open registry. Each entry carries a `T` of the caller's. A clone is one more handle of the same registry. Any thread may use a handle, and a
 /// `static` may have one.
 ///
-/// The registry is open as long as a handle of it exists: a `Registry`, a [`Cpu`], a [`LocalRef`] or a [`Retired`]. Dropping the last one closes it,
+/// The registry is open as long as a handle of it exists: a `Registry`, a [`Cpu`], a [`LocalRef`](crate::LocalRef) or a [`Retired`](crate::Retired). Dropping the last one closes it,
 /// and drops the values that its entries still carry. A handle that is forgotten keeps it open for ever. So does a handle that an entry of the same
 /// registry carries.
 ///
@@ -163,13 +163,13 @@ impl<T> Registry<T> {
 
 /// The work on retired entries, and the counts.
 impl<T> Registry<T> {
-    /// The number of entries that were [retired](Registry::retire) or [deferred](Retired::defer) and wait to be freed.
+    /// The number of entries that were [retired](Registry::retire) or [deferred](crate::Retired::defer) and wait to be freed.
     #[must_use]
     pub fn retired(&self) -> usize {
         self.shared.deferred()
     }
 
-    /// The number of local references that were [dropped without a CPU](LocalRef#dropped-without-a-cpu) and aren't released yet.
+    /// The number of local references that were [dropped without a CPU](crate::LocalRef#dropped-without-a-cpu) and aren't released yet.
     #[must_use]
     pub fn dropped(&self) -> usize {
         self.shared.baskets().total()
