@@ -250,17 +250,6 @@ impl<'pool, T> Future for LendFuture<'pool, T> {
 
 /// A CPU that is lent, for the thread that has borrowed it. Dropping it returns the CPU, outside of any section. If it is forgotten, the CPU is lost to the
 /// pool and to its registry.
-///
-/// ```
-/// use kupaldiz::{CpuPool, Registry, Settings};
-///
-/// let (_, cpus) = Registry::<()>::open(Settings::new(1, 1)).unwrap();
-/// let pool = CpuPool::new(cpus).unwrap();
-/// let cpu = pool.lend();
-/// assert!(cpu.id() == 0 && pool.try_lend().is_none());
-/// drop(cpu);
-/// assert!(pool.try_lend().is_some());
-/// ```
 #[must_use = "a CPU that is dropped at once is back in its pool"]
 pub struct Lent<'pool, T> {
     pool: &'pool CpuPool<T>,

@@ -23,17 +23,6 @@ use std::vec::Vec;
 ///
 /// Changes, and each try to free an entry, are made under a lock, the interlock. No call holds it while it waits for a reader, or while a `T` is dropped.
 /// So that drop may call the registry again.
-///
-/// ```
-/// use kupaldiz::{Kind, Name, Registry, Settings};
-/// use std::sync::Mutex;
-///
-/// static DEVICES: Mutex<Option<Registry<String>>> = Mutex::new(None);
-///
-/// let (registry, cpus) = Registry::open(Settings::new(2, 4)).unwrap();
-/// registry.attach(&cpus[0], &Name::parse("wm").unwrap(), "gigabit".to_string()).unwrap();
-/// *DEVICES.lock().unwrap() = Some(registry);
-/// ```
 pub struct Registry<T> {
     pub(crate) shared: Arc<Shared<T>>,
 }
@@ -44,13 +33,6 @@ impl<T> Registry<T> {
     }
 
     /// Opens a registry, with all its CPUs in order.
-    ///
-    /// ```
-    /// use kupaldiz::{Registry, Settings};
-    ///
-    /// let (registry, cpus) = Registry::<String>::open(Settings::new(2, 4)).unwrap();
-    /// assert_eq!((registry.settings().slots, cpus[1].id()), (4, 1));
-    /// ```
     ///
     /// # Errors
     ///
@@ -127,15 +109,6 @@ impl<T> Registry<T> {
     }
 
     /// The lowest-numbered CPU that has no handle.
-    ///
-    /// ```
-    /// use kupaldiz::{Registry, Settings};
-    ///
-    /// let (registry, cpus) = Registry::<()>::open(Settings::new(2, 4)).unwrap();
-    /// assert!(registry.any_cpu().is_none());
-    /// drop(cpus);
-    /// assert_eq!(registry.any_cpu().map(|cpu| cpu.id()), Some(0));
-    /// ```
     #[must_use]
     pub fn any_cpu(&self) -> Option<Cpu<T>> {
         (0..self.settings().cpus).find_map(|id| self.cpu(id))

@@ -20,20 +20,6 @@ impl<T> Cpu<T> {
     /// section the call is nested in it. Outside it opens none and writes only the word that counts the reference, if the CPU remembers
     /// the entry.
     ///
-    /// ```
-    /// use kupaldiz::{Kind, LookUpError, Name, PassiveRef, Registry, Settings};
-    ///
-    /// let (registry, cpus) = Registry::open(Settings::new(1, 1)).unwrap();
-    /// let wm = Name::parse("wm").unwrap();
-    /// registry.attach(&cpus[0], &wm, 7).unwrap();
-    /// let reference = cpus[0].get(Kind::Driver, &wm).unwrap();
-    /// registry.retire(&cpus[0], Kind::Driver, &wm).unwrap();
-    /// assert_eq!((*reference, registry.collect().len()), (7, 0));
-    /// PassiveRef::release(reference);
-    /// assert_eq!(registry.collect().len(), 1);
-    /// assert_eq!(cpus[0].get(Kind::Driver, &wm).unwrap_err(), LookUpError::NotFound);
-    /// ```
-    ///
     /// # Errors
     ///
     /// `TooDeep`, `SectionsSpent`, `NotFound`, `PassiveFull`.
