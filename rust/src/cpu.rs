@@ -156,7 +156,7 @@ impl<T> Cpu<T> {
         // SAFETY: as for `depth`. No guard lives, so nothing that was found in these sections is in use.
         while unsafe { ffi::registry_exit(self.handle()) } == ffi::DONE {}
         self.left();
-        self.wakes();
+        self.wake_tasks();
     }
 
     /// Whether this CPU has a passive reference to the entry with that number: `psref_held`.
@@ -171,7 +171,7 @@ impl<T> Cpu<T> {
 impl<T> Cpu<T> {
     /// Wakes the tasks that wait for retired entries. It follows each call that may have let one go.
     #[inline]
-    pub(crate) fn wakes(&self) {
+    pub(crate) fn wake_tasks(&self) {
         self.shared().tasks().wake();
     }
 }

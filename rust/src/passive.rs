@@ -121,5 +121,5 @@ fn release<T>(cpu: &Cpu<T>, record: &Record<T>) {
     if record.ticket() != 0 {
         cpu.shared().released(record.ticket());
     }
-    cpu.wakes();
+    cpu.wake_tasks();
 }

@@ -270,20 +270,13 @@ pub struct Refused<E, G> {
 /// An error's text, beside what was given.
 pub trait ShownWith<G>: Error {
     /// Writes it.
-    fn show(&self, given: &G, f: &mut fmt::Formatter<'_>) -> fmt::Result;
-}
-
-impl<G> ShownWith<G> for Refusal {
-    fn show(&self, _: &G, f: &mut fmt::Formatter<'_>) -> fmt::Result {
+    fn show(&self, _given: &G, f: &mut fmt::Formatter<'_>) -> fmt::Result {
         fmt::Display::fmt(self, f)
     }
 }
 
-impl<G> ShownWith<G> for AttachError {
-    fn show(&self, _: &G, f: &mut fmt::Formatter<'_>) -> fmt::Result {
-        fmt::Display::fmt(self, f)
-    }
-}
+impl<G> ShownWith<G> for Refusal {}
+impl<G> ShownWith<G> for AttachError {}
 
 impl<E: fmt::Debug, G> fmt::Debug for Refused<E, G> {
     fn fmt(&self, f: &mut fmt::Formatter<'_>) -> fmt::Result {

@@ -123,7 +123,7 @@ impl<T> Drop for Section<'_, T> {
         // SAFETY: as for `find`. One exit for the one enter that made the guard, so the CPU is inside.
         unsafe { ffi::registry_exit(self.cpu.handle()) };
         self.cpu.left();
-        self.cpu.wakes();
+        self.cpu.wake_tasks();
     }
 }
 
@@ -233,7 +233,7 @@ fn acquire_last<T>(cpu: &Cpu<T>, number: u64) -> bool {
     if answer == ffi::DONE && acquired != number {
         // SAFETY: as above. It is the reference that was just acquired.
         unsafe { ffi::registry_release(cpu.handle(), acquired) };
-        cpu.wakes();
+        cpu.wake_tasks();
     }
     answer == ffi::DONE && acquired == number
 }

@@ -145,7 +145,7 @@ impl<T> Cpu<T> {
         let call = |found: *mut ffi::Entry| unsafe { ffi::registry_look_up(self.handle(), kind.number(), &name.words, found) };
         // SAFETY: as for `read`.
         let record = self.found_by(unsafe { Record::written(call) })?;
-        self.wakes();
+        self.wake_tasks();
         Ok(record.entry())
     }
 
@@ -157,7 +157,7 @@ impl<T> Cpu<T> {
         let call = |found: *mut ffi::Entry| unsafe { ffi::registry_get(self.handle(), kind.number(), &name.words, found) };
         // SAFETY: as for `read`.
         let record = self.found_by(unsafe { Record::written(call) })?;
-        self.wakes();
+        self.wake_tasks();
         Ok(self.noted(Hold::Passive, record, Location::caller()))
     }
 
@@ -174,7 +174,7 @@ impl<T> Cpu<T> {
                 if answer != ffi::TOO_DEEP {
                     self.last.set(0);
                 }
-                self.wakes();
+                self.wake_tasks();
                 Err(LookUpError::of(answer))
             }
         }
