@@ -2,7 +2,7 @@
 
 mod common;
 
-use common::{local, name, passive, patience, Drops, LONG};
+use common::{local, name, passive, patience, Drops, Stops, LONG};
 use kupaldiz::{
     AttachError, Cpu, DestroyError, Generations, Holder, Kind, LocalRef, LookUpError, Name, PassiveRef, Patience, Refusal, Refused,
     Registry, Retired, Settings,
@@ -12,7 +12,7 @@ use std::mem;
 use std::panic::{self, AssertUnwindSafe};
 use std::pin::Pin;
 use std::process;
-use std::sync::atomic::{AtomicUsize, Ordering};
+use std::sync::atomic::{AtomicBool, AtomicUsize, Ordering};
 use std::sync::{mpsc, Arc, Barrier, Mutex, Weak};
 use std::task::{Context, Poll, Wake, Waker};
 use std::thread::{self, Thread};
@@ -263,12 +263,12 @@ fn a_replace_that_is_refused_leaves_the_old_interface() {
     );
 }
 
-/// A reference to an entry of a registry that was left is one to the value.
+/// A reference to an entry of a registry that was left is one to the value. A reader that looks nothing up keeps that registry open, but no value.
 #[test]
 fn a_value_comes_back_once_no_registry_has_it() {
     let drops = Drops::default();
-    let table = Generations::open(Settings::new(2, 3).changes(8)).unwrap();
-    let mut reader = table.reader().unwrap();
+    let table = Generations::open(Settings::new(3, 3).changes(8)).unwrap();
+    let (mut reader, _idle) = (table.reader().unwrap(), table.reader().unwrap());
     table.attach(&WM, drops.make(1)).unwrap();
     let reference = reader.get_local(&WM).unwrap();
     while table.generation() < 3 {
@@ -283,6 +283,29 @@ fn a_value_comes_back_once_no_registry_has_it() {
     drop(reference);
     leaving.wait(Patience::Turns(1)).unwrap().check();
     assert_eq!(drops.dropped(), drops.made());
+}
+
+/// Also between the moment at which it looks for the newest registry and its lookup.
+#[test]
+fn a_reader_finds_what_stays_while_registries_are_left() {
+    let table = Generations::open(Settings::new(4, 4).changes(4)).unwrap();
+    table.attach(&WM, 7).unwrap();
+    let stop = AtomicBool::new(false);
+    thread::scope(|scope| {
+        let _stops = Stops(&stop);
+        for _ in 0..3 {
+            scope.spawn(|| {
+                let mut reader = table.reader().unwrap();
+                while !stop.load(Ordering::Relaxed) {
+                    assert_eq!(reader.read(&WM, |value| *value), Ok(7));
+                }
+            });
+        }
+        for _ in 0..common::scaled(5_000) {
+            table.attach(&WM0, 8).unwrap();
+            assert_eq!(table.detach(&WM0).unwrap().wait(patience()).unwrap(), 8);
+        }
+    });
 }
 
 #[test]
