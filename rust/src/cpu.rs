@@ -172,7 +172,7 @@ impl<T> Cpu<T> {
     /// Wakes the tasks that wait for retired entries. It follows each call that may have let one go.
     #[inline]
     pub(crate) fn wake_tasks(&self) {
-        self.shared().tasks().wake();
+        self.shared().tasks.wake();
     }
 }
 
@@ -226,7 +226,7 @@ impl<T> Cpu<T> {
     /// as [`LocalRef::release`](crate::LocalRef::release) does. No program needs this call: [other
     /// calls](crate::LocalRef#dropped-without-a-cpu) do it.
     pub fn release_dropped(&self) {
-        if self.shared().baskets().has_any() {
+        if self.shared().baskets.has_any() {
             // SAFETY: this thread alone has the CPU, and no code of a caller ever holds the interlock.
             unsafe { self.shared().release_dropped(self.handle()) };
         }
@@ -235,7 +235,7 @@ impl<T> Cpu<T> {
     /// Releases those that are to the entry in this slot.
     #[inline]
     pub(crate) fn release_to(&self, slot: usize) {
-        if self.shared().baskets().has(slot) {
+        if self.shared().baskets.has(slot) {
             // SAFETY: as for `release_dropped`.
             unsafe { self.shared().release_of(self.handle(), slot) };
         }

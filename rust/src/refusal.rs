@@ -158,35 +158,21 @@ errors_of_calls! {
     /// assert_eq!(speed, 0);
     /// ```
     LookUpError {
-        NotFound = NOT_FOUND,
-        TooDeep = TOO_DEEP,
-        SectionsSpent = SECTIONS_SPENT,
-        PassiveFull = PASSIVE_FULL,
-        LocalFull = LOCAL_FULL,
-        NoMemory = NO_MEMORY,
+        NotFound = NOT_FOUND, TooDeep = TOO_DEEP, SectionsSpent = SECTIONS_SPENT,
+        PassiveFull = PASSIVE_FULL, LocalFull = LOCAL_FULL, NoMemory = NO_MEMORY,
     }
 
     /// The error of an attach or a replace. It comes with what the call was given: [`Refused`].
     AttachError {
-        Inside = INSIDE,
-        NeedsDriver = NEEDS_DRIVER,
-        NameTaken = NAME_TAKEN,
-        NotFound = NOT_FOUND,
-        NoSlot = NO_SLOT,
-        HistoryFull = HISTORY_FULL,
+        Inside = INSIDE, NeedsDriver = NEEDS_DRIVER, NameTaken = NAME_TAKEN,
+        NotFound = NOT_FOUND, NoSlot = NO_SLOT, HistoryFull = HISTORY_FULL,
     }
 
     /// The error of a detach.
-    DetachError {
-        Inside = INSIDE,
-        NotFound = NOT_FOUND,
-    }
+    DetachError { Inside = INSIDE, NotFound = NOT_FOUND, }
 
     /// The error of a try to free a detached entry. It comes with the [`Retired`](crate::Retired): [`Refused`].
-    DestroyError {
-        Inside = INSIDE,
-        StillHeld(holder: Holder),
-    }
+    DestroyError { Inside = INSIDE, StillHeld(holder: Holder), }
 }
 
 /// A CPU or a reference is of another registry.

@@ -241,7 +241,7 @@ fn a_replace_that_is_refused_leaves_the_old_interface() {
     assert_eq!(refused(&WM0, of_iface), AttachError::NeedsDriver);
     let section = cpu.enter().unwrap();
     let reference = local(cpu, "wm");
-    let inside = registry.replace_iface(cpu, &WM0, reference, 9).map(drop).unwrap_err();
+    let inside = registry.replace_iface(cpu, &WM, reference, 9).map(drop).unwrap_err();
     assert_eq!(inside.refusal, AttachError::Inside);
     section.exit();
     let (_other, others) = with_wm();
@@ -253,6 +253,7 @@ fn a_replace_that_is_refused_leaves_the_old_interface() {
         .attach(cpu, &name("vga"), 1)
         .map(|_| cpus[1].get(Kind::Driver, &name("vga")).unwrap())
         .unwrap();
+    assert_eq!(refused(&WM, local(cpu, "wm")), AttachError::NotFound);
     assert_eq!(refused(&WM0, local(cpu, "wm")), AttachError::NoSlot);
     registry.retire(cpu, Kind::Driver, &name("vga")).unwrap();
     drop(held);
