@@ -7,6 +7,7 @@ use crate::refusal::{checked, LookUpError};
 use crate::registry::Registry;
 use crate::section::Section;
 use crate::shared::{Lease, Shared};
+use crate::tasks::Tasks;
 use std::cell::{Cell, UnsafeCell};
 use std::fmt;
 use std::mem;
@@ -156,7 +157,7 @@ impl<T> Cpu<T> {
         // SAFETY: as for `depth`. No guard lives, so nothing that was found in these sections is in use.
         while unsafe { ffi::registry_exit(self.handle()) } == ffi::DONE {}
         self.left();
-        self.wake_tasks();
+        self.tasks().wake();
     }
 
     /// Whether this CPU has a passive reference to the entry with that number: `psref_held`.
@@ -169,10 +170,11 @@ impl<T> Cpu<T> {
 }
 
 impl<T> Cpu<T> {
-    /// Wakes the tasks that wait for retired entries. It follows each call that may have let one go.
+    /// The tasks that wait for retired entries: each call that may have let one go wakes them. Where it counts, they are looked for before that call, so
+    /// that this doesn't wait for the call's atomic steps.
     #[inline]
-    pub(crate) fn wake_tasks(&self) {
-        self.shared().tasks.wake();
+    pub(crate) fn tasks(&self) -> &Tasks {
+        &self.shared().tasks
     }
 }
 
