@@ -9,7 +9,7 @@
 
 mod common;
 
-use kupaldiz::{CpuPool, DestroyError, Kind, LocalRef, Name, Patience, Refusal, Registry, Settings};
+use kupaldiz::{CpuPool, DestroyError, Kind, LocalRef, LookUpError, Name, Patience, Refusal, Refused, Registry, Settings};
 use std::error::Error;
 use std::sync::atomic::{AtomicBool, AtomicU64, Ordering};
 use std::sync::Mutex;
@@ -95,8 +95,8 @@ impl Switch {
     fn open(&self, unit: usize) -> Result<Option<LocalRef<Softc>>, Refusal> {
         let opened = match self.pool.lend().get_local(Kind::Driver, &self.names[unit]) {
             Ok(opened) => opened,
-            Err(Refusal::NotFound) => return Ok(None),
-            Err(refusal) => return Err(refusal),
+            Err(LookUpError::NotFound) => return Ok(None),
+            Err(error) => return Err(error.into()),
         };
         opened.open.fetch_add(1, Ordering::Relaxed);
         self.opens.fetch_add(1, Ordering::Relaxed);
@@ -161,8 +161,8 @@ impl Switch {
             let patience = Patience::at_most(Duration::from_micros(200));
             retired = match retired.destroy(&self.pool.lend(), patience) {
                 Ok(freed) => return Ok(freed.value),
-                Err(DestroyError {
-                    refusal: Refusal::StillHeld(_),
+                Err(Refused {
+                    refusal: DestroyError::StillHeld(_),
                     given,
                 }) => given,
                 Err(refused) => return Err(refused.into()),

@@ -9,7 +9,7 @@
 
 mod common;
 
-use kupaldiz::{Cpu, Found, Kind, Name, PassiveRef, Refusal, Refused, Registry, Settings};
+use kupaldiz::{AttachError, Cpu, Found, Kind, Name, PassiveRef, Refusal, Refused, Registry, Settings};
 use std::error::Error;
 use std::sync::atomic::{AtomicBool, AtomicU64, Ordering};
 use std::sync::Arc;
@@ -105,7 +105,7 @@ fn forward_batch<'cpu>(
         let place = (packet % PORTS as u64) as usize;
         match section.find(Kind::Iface, &ports[place]) {
             None => tally.missed += 1,
-            Some(port) if packet + 1 == first + BATCH => return Found::acquire(&port).map(Some),
+            Some(port) if packet + 1 == first + BATCH => return Ok(Some(Found::acquire(&port)?)),
             Some(port) => {
                 tally.judge(port.send(packet) && port.label % PORTS as u64 == place as u64);
                 tally.sent += 1;
@@ -159,10 +159,10 @@ impl Changer<'_> {
             match self.registry.attach_iface(&self.cpu, name, given.0, given.1) {
                 Ok(_) => return Ok(()),
                 Err(Refused {
-                    refusal: Refusal::NoSlot,
+                    refusal: AttachError::NoSlot,
                     given: back,
                 }) => given = back,
-                Err(refused) => return Err(refused.refusal),
+                Err(refused) => return Err(refused.into()),
             }
             thread::sleep(Duration::from_micros(10));
         }

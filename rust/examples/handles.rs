@@ -9,7 +9,7 @@
 
 mod common;
 
-use kupaldiz::{CpuPool, DestroyError, Kind, LocalRef, Mapped, Name, Patience, Refusal, Registry, Settings};
+use kupaldiz::{CpuPool, Kind, LocalRef, LookUpError, Mapped, Name, Patience, Refusal, Refused, Registry, Settings};
 use std::error::Error;
 use std::sync::atomic::{AtomicBool, AtomicU64, Ordering};
 use std::sync::Mutex;
@@ -106,23 +106,23 @@ impl Tally {
 
 impl Desk {
     /// Opens a device, if it is there.
-    fn open(&self, place: usize) -> Result<Option<Handle>, Refusal> {
+    fn open(&self, place: usize) -> Result<Option<Handle>, LookUpError> {
         match self.pool.lend().get_local(Kind::Iface, &DEVICES[place]) {
             Ok(device) => Ok(Some(Handle::new(device))),
-            Err(Refusal::NotFound) => Ok(None),
+            Err(LookUpError::NotFound) => Ok(None),
             Err(refusal) => Err(refusal),
         }
     }
 
     /// A second handle of the same device, if that is still attached.
-    fn duplicate(&self, handle: &Handle, tally: &mut Tally) -> Result<Option<Handle>, Refusal> {
+    fn duplicate(&self, handle: &Handle, tally: &mut Tally) -> Result<Option<Handle>, LookUpError> {
         match LocalRef::try_clone(&handle.device, &self.pool.lend()) {
             Ok(device) => {
                 tally.duplicates += 1;
                 tally.judge(LocalRef::entry(&device) == LocalRef::entry(&handle.device));
                 Ok(Some(Handle::new(device)))
             }
-            Err(Refusal::NotFound) => {
+            Err(LookUpError::NotFound) => {
                 tally.too_late += 1;
                 Ok(None)
             }
@@ -172,7 +172,7 @@ impl Desk {
         loop {
             retired = match retired.destroy(&self.pool.lend(), Patience::at_most(Duration::from_millis(1))) {
                 Ok(freed) => return Ok(freed.value),
-                Err(DestroyError { given, .. }) => given,
+                Err(Refused { given, .. }) => given,
             };
             // Whoever left a handle there doesn't come back for it.
             self.left().clear();

@@ -3,7 +3,7 @@
 //! CPU 0 looks `wm` up inside a section; CPU 1 retires it meanwhile, and can't free it before CPU 0 has left. It prints what the script
 //! `examples/retire-under-section.txt` of the repository prints, in the same order: the threads hand the turn to each other.
 
-use kupaldiz::{Cpu, DestroyError, Found, Kind, Name, Refusal, Registry, Settings};
+use kupaldiz::{Cpu, DestroyError, Found, Kind, Name, Refusal, Refused, Registry, Settings};
 use std::error::Error;
 use std::sync::mpsc::{channel, Receiver, Sender};
 use std::thread;
@@ -65,8 +65,8 @@ fn retire(registry: &Registry<u64>, cpu: &Cpu<u64>, wm: &Name, turn: &Turn) -> R
     let retired = registry.detach(cpu, Kind::Driver, wm)?;
     println!("retired {} slot {}", retired.entry().number, retired.entry().slot);
     let retired = match retired.advance() {
-        Err(DestroyError {
-            refusal: Refusal::StillHeld(holder),
+        Err(Refused {
+            refusal: DestroyError::StillHeld(holder),
             given,
         }) => {
             println!("{holder}");

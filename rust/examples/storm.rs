@@ -46,7 +46,7 @@ impl Counts {
     }
 
     /// What a result holds, or one wrong answer.
-    fn good<T>(&mut self, answer: Result<T, Refusal>) -> Option<T> {
+    fn good<T, E>(&mut self, answer: Result<T, E>) -> Option<T> {
         self.judge(answer.is_ok());
         answer.ok()
     }
@@ -136,8 +136,8 @@ impl Storm {
         };
         match retired.advance() {
             Ok(freed) => counts.judge(freed.entry.slot == slot && freed.value < u64::from(self.turns)),
-            Err(DestroyError { refusal, given }) => {
-                counts.judge(matches!(refusal, Refusal::StillHeld(Holder::Grace(_))));
+            Err(Refused { refusal, given }) => {
+                counts.judge(matches!(refusal, DestroyError::StillHeld(Holder::Grace(_))));
                 *place = Some(given);
             }
         }

@@ -3,10 +3,11 @@
 use crate::carried::Record;
 use crate::ffi;
 use crate::places::Hold;
-use crate::refusal::{checked, Refusal};
+use crate::refusal::{checked, LookUpError};
 use crate::registry::Registry;
 use crate::section::Section;
 use crate::shared::{Lease, Shared};
+use crate::tasks::Tasks;
 use std::cell::{Cell, UnsafeCell};
 use std::fmt;
 use std::mem;
@@ -140,7 +141,7 @@ impl<T> Cpu<T> {
     /// `TooDeep`, `SectionsSpent`.
     #[inline]
     #[track_caller]
-    pub fn enter(&self) -> Result<Section<'_, T>, Refusal> {
+    pub fn enter(&self) -> Result<Section<'_, T>, LookUpError> {
         self.enters(Location::caller());
         // SAFETY: as for `depth`.
         let entered = checked(unsafe { ffi::registry_enter(self.handle()) });
@@ -148,24 +149,15 @@ impl<T> Cpu<T> {
             self.left();
         }
         // SAFETY: that was the enter.
-        entered.map(|()| unsafe { Section::new(self) })
+        entered.map(|()| unsafe { Section::new(self) }).map_err(LookUpError::of)
     }
 
     /// Exits all sections that are still open. Their guards were forgotten: a guard that lives borrows the CPU.
-    ///
-    /// ```
-    /// use kupaldiz::{Registry, Settings};
-    ///
-    /// let (_, mut cpus) = Registry::<()>::open(Settings::new(1, 1)).unwrap();
-    /// std::mem::forget(cpus[0].enter().unwrap());
-    /// assert_eq!(cpus[0].depth(), 1);
-    /// cpus[0].leave();
-    /// assert_eq!(cpus[0].depth(), 0);
-    /// ```
     pub fn leave(&mut self) {
         // SAFETY: as for `depth`. No guard lives, so nothing that was found in these sections is in use.
         while unsafe { ffi::registry_exit(self.handle()) } == ffi::DONE {}
         self.left();
+        self.tasks().wake();
     }
 
     /// Whether this CPU has a passive reference to the entry with that number: `psref_held`.
@@ -174,6 +166,15 @@ impl<T> Cpu<T> {
         // SAFETY: as for `depth`.
         unsafe { ffi::registry_held(self.handle(), number, &mut held) };
         held
+    }
+}
+
+impl<T> Cpu<T> {
+    /// The tasks that wait for retired entries: each call that may have let one go wakes them. Where it counts, they are looked for before that call, so
+    /// that this doesn't wait for the call's atomic steps.
+    #[inline]
+    pub(crate) fn tasks(&self) -> &Tasks {
+        &self.shared().tasks
     }
 }
 
@@ -227,7 +228,7 @@ impl<T> Cpu<T> {
     /// as [`LocalRef::release`](crate::LocalRef::release) does. No program needs this call: [other
     /// calls](crate::LocalRef#dropped-without-a-cpu) do it.
     pub fn release_dropped(&self) {
-        if self.shared().baskets().has_any() {
+        if self.shared().baskets.has_any() {
             // SAFETY: this thread alone has the CPU, and no code of a caller ever holds the interlock.
             unsafe { self.shared().release_dropped(self.handle()) };
         }
@@ -236,7 +237,7 @@ impl<T> Cpu<T> {
     /// Releases those that are to the entry in this slot.
     #[inline]
     pub(crate) fn release_to(&self, slot: usize) {
-        if self.shared().baskets().has(slot) {
+        if self.shared().baskets.has(slot) {
             // SAFETY: as for `release_dropped`.
             unsafe { self.shared().release_of(self.handle(), slot) };
         }

@@ -3,12 +3,10 @@
 use crate::carried::Record;
 use crate::cpu::Cpu;
 use crate::ffi;
-use crate::mapped::{Mapped, Stays};
-use crate::refusal::{Refusal, Refused};
+use crate::refusal::{LookUpError, Refusal, Refused};
 use crate::shared::{Lease, Shared};
 use crate::usual::ReadGuard;
 use crate::values::Entry;
-use std::fmt;
 use std::mem;
 use std::ops::Deref;
 use std::sync::Arc;
@@ -106,7 +104,7 @@ impl<T> LocalRef<T> {
     /// `OtherRegistry` if the CPU is of another one. The reference is returned.
     // Inlined, it is never moved as a whole: a pair of an acquire and a release takes an eighth less.
     #[inline(always)]
-    pub fn release(mut reference: Self, cpu: &Cpu<T>) -> Result<(), Refused<Self>> {
+    pub fn release(mut reference: Self, cpu: &Cpu<T>) -> Result<(), Refused<Refusal, Self>> {
         if !reference.is_of(cpu.shared()) {
             let refusal = Refusal::OtherRegistry;
             return Err(Refused { refusal, given: reference });
@@ -127,7 +125,7 @@ impl<T> LocalRef<T> {
     /// that a section found.
     ///
     /// ```
-    /// use kupaldiz::{Kind, LocalRef, Name, Refusal, Registry, Settings};
+    /// use kupaldiz::{Kind, LocalRef, LookUpError, Name, Registry, Settings};
     ///
     /// let (registry, cpus) = Registry::open(Settings::new(2, 1)).unwrap();
     /// let wm = Name::parse("wm").unwrap();
@@ -136,30 +134,24 @@ impl<T> LocalRef<T> {
     /// let two = LocalRef::try_clone(&one, &cpus[1]).unwrap();
     /// registry.retire(&cpus[0], Kind::Driver, &wm).unwrap();
     /// assert_eq!((*one, *two), (7, 7));
-    /// assert_eq!(LocalRef::try_clone(&one, &cpus[1]).unwrap_err(), Refusal::NotFound);
+    /// assert_eq!(LocalRef::try_clone(&one, &cpus[1]).unwrap_err(), LookUpError::NotFound);
     /// ```
     ///
     /// # Errors
     ///
     /// `OtherRegistry`, `TooDeep`, `SectionsSpent`, `NotFound` once the entry is detached, `LocalFull`, `NoMemory`.
     #[track_caller]
-    pub fn try_clone(reference: &Self, cpu: &Cpu<T>) -> Result<LocalRef<T>, Refusal> {
+    pub fn try_clone(reference: &Self, cpu: &Cpu<T>) -> Result<LocalRef<T>, LookUpError> {
         if !reference.is_of(cpu.shared()) {
-            return Err(Refusal::OtherRegistry);
+            return Err(LookUpError::OtherRegistry);
         }
         let Entry { number, kind, name, .. } = LocalRef::entry(reference);
         let found = cpu.read(kind, &name)?;
         if ReadGuard::entry(&found).number == number {
             ReadGuard::acquire_local(&found)
         } else {
-            Err(Refusal::NotFound)
+            Err(LookUpError::NotFound)
         }
-    }
-
-    /// The reference to a part of what the entry carries.
-    #[inline]
-    pub fn map<U: ?Sized>(reference: Self, part: impl FnOnce(&T) -> &U) -> Mapped<Self, U> {
-        Mapped::new(reference, part)
     }
 }
 
@@ -173,9 +165,6 @@ fn release_on<T>(cpu: &Cpu<T>, slot: usize, local: ffi::Local, lease: Option<Arc
     }
     cpu.release_to(slot);
 }
-
-// SAFETY: the entry keeps its value until the reference is released.
-unsafe impl<T> Stays for LocalRef<T> {}
 
 impl<T> Deref for LocalRef<T> {
     type Target = T;
@@ -196,22 +185,8 @@ impl<T> Drop for LocalRef<T> {
             if self.record.ticket() != 0 {
                 lease.shared.released(self.record.ticket());
             }
-            lease.shared.baskets().lay(self.record.slot(), handle);
+            lease.shared.baskets.lay(self.record.slot(), handle);
+            lease.shared.tasks.wake();
         }
-    }
-}
-
-impl<T: fmt::Display> fmt::Display for LocalRef<T> {
-    fn fmt(&self, f: &mut fmt::Formatter<'_>) -> fmt::Result {
-        (**self).fmt(f)
-    }
-}
-
-impl<T: fmt::Debug> fmt::Debug for LocalRef<T> {
-    fn fmt(&self, f: &mut fmt::Formatter<'_>) -> fmt::Result {
-        f.debug_struct("LocalRef")
-            .field("entry", &self.record)
-            .field("value", &**self)
-            .finish()
     }
 }

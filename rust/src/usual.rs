@@ -4,14 +4,12 @@ use crate::carried::Record;
 use crate::cpu::Cpu;
 use crate::ffi;
 use crate::local::LocalRef;
-use crate::mapped::{Mapped, Stays};
 use crate::passive::{PassiveRc, PassiveRef};
 use crate::places::Hold;
-use crate::refusal::{refusal_of, Refusal};
+use crate::refusal::LookUpError;
 use crate::section::{Found, Section};
 use crate::values::{Entry, Kind};
 use crate::Name;
-use std::fmt;
 use std::ops::Deref;
 use std::panic::Location;
 use std::rc::Rc;
@@ -22,26 +20,12 @@ impl<T> Cpu<T> {
     /// section the call is nested in it. Outside it opens none and writes only the word that counts the reference, if the CPU remembers
     /// the entry.
     ///
-    /// ```
-    /// use kupaldiz::{Kind, Name, PassiveRef, Refusal, Registry, Settings};
-    ///
-    /// let (registry, cpus) = Registry::open(Settings::new(1, 1)).unwrap();
-    /// let wm = Name::parse("wm").unwrap();
-    /// registry.attach(&cpus[0], &wm, 7).unwrap();
-    /// let reference = cpus[0].get(Kind::Driver, &wm).unwrap();
-    /// registry.retire(&cpus[0], Kind::Driver, &wm).unwrap();
-    /// assert_eq!((*reference, registry.collect().len()), (7, 0));
-    /// PassiveRef::release(reference);
-    /// assert_eq!(registry.collect().len(), 1);
-    /// assert_eq!(cpus[0].get(Kind::Driver, &wm).unwrap_err(), Refusal::NotFound);
-    /// ```
-    ///
     /// # Errors
     ///
     /// `TooDeep`, `SectionsSpent`, `NotFound`, `PassiveFull`.
     #[inline]
     #[track_caller]
-    pub fn get(&self, kind: Kind, name: &Name) -> Result<PassiveRef<'_, T>, Refusal> {
+    pub fn get(&self, kind: Kind, name: &Name) -> Result<PassiveRef<'_, T>, LookUpError> {
         let record = self.get_record(kind, name)?;
         // SAFETY: that has acquired it.
         Ok(unsafe { PassiveRef::new(self, record) })
@@ -71,7 +55,7 @@ impl<T> Cpu<T> {
     /// `TooDeep`, `SectionsSpent`, `NotFound`, `PassiveFull`.
     #[inline]
     #[track_caller]
-    pub fn get_rc(self: &Rc<Self>, kind: Kind, name: &Name) -> Result<PassiveRc<T>, Refusal> {
+    pub fn get_rc(self: &Rc<Self>, kind: Kind, name: &Name) -> Result<PassiveRc<T>, LookUpError> {
         let record = self.get_record(kind, name)?;
         // SAFETY: that has acquired it.
         Ok(unsafe { PassiveRc::new(Rc::clone(self), record) })
@@ -96,7 +80,7 @@ impl<T> Cpu<T> {
     /// `TooDeep`, `SectionsSpent`, `NotFound`, `LocalFull`, `NoMemory`.
     #[inline]
     #[track_caller]
-    pub fn get_local(&self, kind: Kind, name: &Name) -> Result<LocalRef<T>, Refusal> {
+    pub fn get_local(&self, kind: Kind, name: &Name) -> Result<LocalRef<T>, LookUpError> {
         ReadGuard::acquire_local(&self.read(kind, name)?)
     }
 
@@ -104,13 +88,13 @@ impl<T> Cpu<T> {
     /// [`find`](crate::Section::find) give together. In an open section the call is nested in it.
     ///
     /// ```
-    /// use kupaldiz::{Kind, Name, Refusal, Registry, Settings};
+    /// use kupaldiz::{Kind, LookUpError, Name, Registry, Settings};
     ///
     /// let (registry, cpus) = Registry::open(Settings::new(1, 1)).unwrap();
     /// let wm = Name::parse("wm").unwrap();
     /// registry.attach(&cpus[0], &wm, vec![1500, 9000]).unwrap();
     /// assert_eq!(cpus[0].read(Kind::Driver, &wm).map(|driver| driver[1]), Ok(9000));
-    /// assert_eq!(cpus[0].read(Kind::Iface, &wm).unwrap_err(), Refusal::NotFound);
+    /// assert_eq!(cpus[0].read(Kind::Iface, &wm).unwrap_err(), LookUpError::NotFound);
     /// assert!(!cpus[0].is_inside());
     /// ```
     ///
@@ -119,7 +103,7 @@ impl<T> Cpu<T> {
     /// `TooDeep`, `SectionsSpent`, `NotFound`. The CPU is then as deep inside as before.
     #[inline]
     #[track_caller]
-    pub fn read(&self, kind: Kind, name: &Name) -> Result<ReadGuard<'_, T>, Refusal> {
+    pub fn read(&self, kind: Kind, name: &Name) -> Result<ReadGuard<'_, T>, LookUpError> {
         // SAFETY: this thread alone has the CPU, whose handle isn't empty.
         let call = |found: *mut ffi::Entry| unsafe { ffi::registry_enter_find(self.handle(), kind.number(), &name.words, found) };
         self.enters(Location::caller());
@@ -143,41 +127,46 @@ impl<T> Cpu<T> {
     /// CPU remembers the entry, or that there is none.
     ///
     /// ```
-    /// use kupaldiz::{Kind, Name, Refusal, Registry, Settings};
+    /// use kupaldiz::{Kind, LookUpError, Name, Registry, Settings};
     ///
     /// let (registry, cpus) = Registry::open(Settings::new(1, 1)).unwrap();
     /// let wm = Name::parse("wm").unwrap();
     /// let made = registry.attach(&cpus[0], &wm, 7).unwrap();
     /// assert_eq!(cpus[0].look_up(Kind::Driver, &wm), Ok(made));
-    /// assert_eq!(cpus[0].look_up(Kind::Iface, &wm), Err(Refusal::NotFound));
+    /// assert_eq!(cpus[0].look_up(Kind::Iface, &wm), Err(LookUpError::NotFound));
     /// ```
     ///
     /// # Errors
     ///
     /// `TooDeep`, `SectionsSpent`, `NotFound`.
     #[inline]
-    pub fn look_up(&self, kind: Kind, name: &Name) -> Result<Entry, Refusal> {
+    pub fn look_up(&self, kind: Kind, name: &Name) -> Result<Entry, LookUpError> {
+        let tasks = self.tasks();
         // SAFETY: as for `read`.
         let call = |found: *mut ffi::Entry| unsafe { ffi::registry_look_up(self.handle(), kind.number(), &name.words, found) };
         // SAFETY: as for `read`.
-        Ok(self.found_by(unsafe { Record::written(call) })?.entry())
+        let record = self.found_by(unsafe { Record::written(call) })?;
+        tasks.wake();
+        Ok(record.entry())
     }
 
     /// Acquires a passive reference, and returns the record of its entry.
     #[inline]
     #[track_caller]
-    fn get_record(&self, kind: Kind, name: &Name) -> Result<Record<T>, Refusal> {
+    fn get_record(&self, kind: Kind, name: &Name) -> Result<Record<T>, LookUpError> {
+        let tasks = self.tasks();
         // SAFETY: as for `read`.
         let call = |found: *mut ffi::Entry| unsafe { ffi::registry_get(self.handle(), kind.number(), &name.words, found) };
         // SAFETY: as for `read`.
         let record = self.found_by(unsafe { Record::written(call) })?;
+        tasks.wake();
         Ok(self.noted(Hold::Passive, record, Location::caller()))
     }
 
     /// What such a call returned, whose find has changed the last found entry of an open section. Refused, the CPU may have found an entry that
     /// isn't told, so none counts as found; but `TooDeep` comes before the find.
     #[inline]
-    fn found_by(&self, answer: Result<Record<T>, u32>) -> Result<Record<T>, Refusal> {
+    fn found_by(&self, answer: Result<Record<T>, u32>) -> Result<Record<T>, LookUpError> {
         match answer {
             Ok(record) => {
                 self.last.set(record.number());
@@ -187,7 +176,8 @@ impl<T> Cpu<T> {
                 if answer != ffi::TOO_DEEP {
                     self.last.set(0);
                 }
-                Err(refusal_of(answer))
+                self.tasks().wake();
+                Err(LookUpError::of(answer))
             }
         }
     }
@@ -199,23 +189,6 @@ impl<T> Cpu<T> {
 /// It stays with its thread, as a [`Section`] does. If it is forgotten, its section stays open, as with a forgotten [`Section`].
 ///
 /// All its functions are called by the type's name, so that none hides a method of `T`.
-///
-/// ```
-/// use kupaldiz::{Kind, LocalRef, Name, ReadGuard, Registry, Settings};
-///
-/// let (registry, cpus) = Registry::open(Settings::new(2, 1)).unwrap();
-/// let wm = Name::parse("wm").unwrap();
-/// let made = registry.attach(&cpus[1], &wm, vec![1500, 9000]).unwrap();
-/// let driver = cpus[0].read(Kind::Driver, &wm).unwrap();
-/// assert_eq!((ReadGuard::entry(&driver), driver[1]), (made, 9000));
-/// registry.retire(&cpus[1], Kind::Driver, &wm).unwrap();
-/// assert_eq!(registry.collect().len(), 0);
-/// let local = ReadGuard::acquire_local(&driver).unwrap();
-/// drop(driver);
-/// assert_eq!((local.len(), registry.collect().len()), (2, 0));
-/// LocalRef::release(local, &cpus[0]).unwrap();
-/// assert_eq!(registry.collect().len(), 1);
-/// ```
 #[must_use = "a section that is dropped at once protects nothing"]
 pub struct ReadGuard<'cpu, T> {
     /// It is lent no longer than the guard lives, which has its section.
@@ -244,7 +217,7 @@ impl<'cpu, T> ReadGuard<'cpu, T> {
     /// As for [`Found::acquire`]: `NotFound`, `PassiveFull`.
     #[inline]
     #[track_caller]
-    pub fn acquire(guard: &Self) -> Result<PassiveRef<'cpu, T>, Refusal> {
+    pub fn acquire(guard: &Self) -> Result<PassiveRef<'cpu, T>, LookUpError> {
         Found::acquire(&guard.found)
     }
 
@@ -255,24 +228,8 @@ impl<'cpu, T> ReadGuard<'cpu, T> {
     /// As for [`Found::acquire_local`]: `NotFound`, `LocalFull`, `NoMemory`.
     #[inline]
     #[track_caller]
-    pub fn acquire_local(guard: &Self) -> Result<LocalRef<T>, Refusal> {
+    pub fn acquire_local(guard: &Self) -> Result<LocalRef<T>, LookUpError> {
         Found::acquire_local(&guard.found)
-    }
-
-    /// The guard of a part of what the entry carries.
-    ///
-    /// ```
-    /// use kupaldiz::{Kind, Name, ReadGuard, Registry, Settings};
-    ///
-    /// let (registry, cpus) = Registry::open(Settings::new(1, 1)).unwrap();
-    /// let wm = Name::parse("wm").unwrap();
-    /// registry.attach(&cpus[0], &wm, (1000, String::from("gigabit"))).unwrap();
-    /// let text = ReadGuard::map(cpus[0].read(Kind::Driver, &wm).unwrap(), |driver| driver.1.as_str());
-    /// assert_eq!(&*text, "gigabit");
-    /// ```
-    #[inline]
-    pub fn map<U: ?Sized>(guard: Self, part: impl FnOnce(&T) -> &U) -> Mapped<Self, U> {
-        Mapped::new(guard, part)
     }
 
     /// Exits, as dropping it does.
@@ -282,29 +239,11 @@ impl<'cpu, T> ReadGuard<'cpu, T> {
     }
 }
 
-// SAFETY: the entry keeps its value until the guard is dropped.
-unsafe impl<T> Stays for ReadGuard<'_, T> {}
-
 impl<T> Deref for ReadGuard<'_, T> {
     type Target = T;
 
     #[inline]
     fn deref(&self) -> &T {
         &self.found
-    }
-}
-
-impl<T: fmt::Display> fmt::Display for ReadGuard<'_, T> {
-    fn fmt(&self, f: &mut fmt::Formatter<'_>) -> fmt::Result {
-        (**self).fmt(f)
-    }
-}
-
-impl<T: fmt::Debug> fmt::Debug for ReadGuard<'_, T> {
-    fn fmt(&self, f: &mut fmt::Formatter<'_>) -> fmt::Result {
-        f.debug_struct("ReadGuard")
-            .field("entry", &ReadGuard::entry(self))
-            .field("value", &**self)
-            .finish()
     }
 }

@@ -3,7 +3,7 @@
 mod common;
 
 use common::{balance, balances, detach, local, name, patience, with_driver};
-use kupaldiz::{Cpu, Holder, Kind, LocalRef, Patience, Refusal, Registry, Settings};
+use kupaldiz::{Cpu, DestroyError, Holder, Kind, LocalRef, Patience, Refusal, Registry, Settings};
 use std::thread;
 
 /// So many references to the driver, acquired on this CPU.
@@ -144,7 +144,10 @@ fn a_destroy_that_waits_releases_others_too() {
     let retired = registry.detach(&cpus[0], Kind::Driver, &name("vga")).unwrap();
     lay(&cpus[1], "wm", 200);
     let refused = retired.destroy(&cpus[0], Patience::Turns(3)).unwrap_err();
-    assert_eq!((refused.refusal, registry.dropped()), (Refusal::StillHeld(Holder::Local(1)), 0));
+    assert_eq!(
+        (refused.refusal, registry.dropped()),
+        (DestroyError::StillHeld(Holder::Local(1)), 0)
+    );
     drop(kept);
 }
 

@@ -3,7 +3,7 @@
 mod common;
 
 use common::{balances, detach, local, name, passive, patience, with_driver, Drops, Tracked, LONG};
-use kupaldiz::{Cpu, Holder, Kind, LocalRef, Patience, Refusal, Refused, Registry, Settings};
+use kupaldiz::{AttachError, Cpu, DetachError, Holder, Kind, LocalRef, Patience, Refusal, Refused, Registry, Settings};
 use std::cell::{Cell, RefCell};
 use std::mem;
 use std::panic::{catch_unwind, AssertUnwindSafe};
@@ -42,7 +42,7 @@ fn a_value_that_is_refused_comes_back() {
     let (registry, cpus) = with_driver(drops.make(0));
     let Refused { refusal, given } = registry.attach(&cpus[0], &name("wm"), drops.make(1)).unwrap_err();
     given.check();
-    assert_eq!((refusal, given.label, drops.dropped()), (Refusal::NameTaken, 1, 0));
+    assert_eq!((refusal, given.label, drops.dropped()), (AttachError::NameTaken, 1, 0));
     let driver = local(&cpus[0], "wm");
     registry.attach_iface(&cpus[0], &name("wm0"), driver, given).unwrap();
     let again = registry.attach_iface(&cpus[0], &name("wm0"), local(&cpus[0], "wm"), drops.make(2));
@@ -89,7 +89,7 @@ fn a_drain_frees_all_that_nobody_holds() {
     drop((held, drained));
     assert_eq!(drops.dropped(), 3);
     let section = cpu.enter().unwrap();
-    assert_eq!(registry.drain(cpu, Patience::Turns(1)).map(drop), Err(Refusal::Inside));
+    assert_eq!(registry.drain(cpu, Patience::Turns(1)).map(drop), Err(DetachError::Inside));
     section.exit();
     assert_eq!(registry.audit(&cpus).unwrap(), []);
 }

@@ -3,7 +3,7 @@
 mod common;
 
 use common::{detach, name, patience, Drops, Stops, Tracked};
-use kupaldiz::{Cpu, Found, Kind, LocalRef, Refusal, Registry, Settings, LIMITS};
+use kupaldiz::{Cpu, Found, Kind, LocalRef, LookUpError, Registry, Settings, LIMITS};
 use std::collections::BTreeSet;
 use std::env;
 use std::sync::atomic::{AtomicBool, Ordering};
@@ -87,8 +87,8 @@ fn what_was_detached_since_is_read_but_not_acquired() {
     for (listed, label) in listed.iter().zip([2, 1]) {
         listed.check();
         assert_eq!(listed.label, label);
-        assert_eq!(Found::acquire(listed).err(), Some(Refusal::NotFound));
-        assert_eq!(Found::acquire_local(listed).err(), Some(Refusal::NotFound));
+        assert_eq!(Found::acquire(listed).err(), Some(LookUpError::NotFound));
+        assert_eq!(Found::acquire_local(listed).err(), Some(LookUpError::NotFound));
         assert!(gone.holder().is_some() && other.holder().is_some());
     }
     section.exit();

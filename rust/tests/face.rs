@@ -3,7 +3,10 @@
 mod common;
 
 use common::{balance, balances, detach, detach_any, local, name, passive, patience, with_driver};
-use kupaldiz::{Found, Holder, Kind, LocalRef, Name, NameFault, PassiveRef, Patience, Refusal, Refused, Registry, Settings, LIMITS};
+use kupaldiz::{
+    AttachError, DetachError, Found, Holder, Kind, LocalRef, Name, NameFault, PassiveRef, Patience, Refusal, Refused, Registry, Settings,
+    LIMITS,
+};
 use std::collections::{BTreeSet, HashSet};
 use std::error::Error;
 use std::thread;
@@ -91,12 +94,12 @@ fn bad_settings_are_refused() {
 fn refusals_say_why() {
     let (registry, cpus) = with_driver(7);
     let refused = registry.attach(&cpus[0], &WM, 8).unwrap_err();
-    assert_eq!((refused.refusal, refused.given), (Refusal::NameTaken, 8));
+    assert_eq!((refused.refusal, refused.given), (AttachError::NameTaken, 8));
     assert_eq!(
         (refused, Refusal::from(refused)),
         (
             Refused {
-                refusal: Refusal::NameTaken,
+                refusal: AttachError::NameTaken,
                 given: 8
             },
             Refusal::NameTaken
@@ -172,9 +175,9 @@ fn changes_inside_a_section_are_refused() {
     let section = cpu.enter().unwrap();
     assert_eq!(registry.attach(cpu, &name("usb"), 9).unwrap_err().refusal, Refusal::Inside);
     let Refused { refusal, given } = registry.attach_iface(cpu, &name("wm0"), driver, 1500).unwrap_err();
-    assert_eq!((refusal, LocalRef::entry(&given.0).number, given.1), (Refusal::Inside, 1, 1500));
+    assert_eq!((refusal, LocalRef::entry(&given.0).number, given.1), (AttachError::Inside, 1, 1500));
     assert_eq!(registry.detach(cpu, Kind::Driver, &WM).unwrap_err(), Refusal::Inside);
-    assert_eq!(registry.retire(cpu, Kind::Driver, &WM), Err(Refusal::Inside));
+    assert_eq!(registry.retire(cpu, Kind::Driver, &WM), Err(DetachError::Inside));
     assert_eq!(registry.detach_entry(cpu, &LocalRef::entry(&given.0)).unwrap_err(), Refusal::Inside);
     let refused = gone.token().destroy(cpu, patience()).unwrap_err();
     assert_eq!(refused.refusal, Refusal::Inside);
@@ -249,7 +252,7 @@ fn each_limit_is_met() {
     registry.attach(cpu, &WM, 7).unwrap();
     // Room is kept for the detach of each live entry.
     let refused = registry.attach(cpu, &name("vga"), 8).unwrap_err();
-    assert_eq!((refused.refusal, refused.given), (Refusal::HistoryFull, 8));
+    assert_eq!((refused.refusal, refused.given), (AttachError::HistoryFull, 8));
     let held = local(cpu, "wm");
     let section = cpu.enter().unwrap();
     let found = section.find(Kind::Driver, &WM).unwrap();
@@ -312,7 +315,10 @@ fn a_kept_driver_outlives_its_interface() {
     assert_eq!((made.number, made.slot, made.kind, made.name), (2, 1, Kind::Iface, name("wm0")));
     assert_eq!(made.to_string(), "iface wm0 2 slot 1");
     let Refused { refusal, given } = registry.attach_iface(cpu, &name("wm0"), local(cpu, "wm"), 9000).unwrap_err();
-    assert_eq!((refusal, LocalRef::entry(&given.0).number, given.1), (Refusal::NameTaken, 1, 9000));
+    assert_eq!(
+        (refusal, LocalRef::entry(&given.0).number, given.1),
+        (AttachError::NameTaken, 1, 9000)
+    );
     LocalRef::release(given.0, cpu).unwrap();
     let driver = detach(&registry, cpu, "wm");
     assert_eq!(driver.holder(), Some(Holder::Local(1)));
@@ -357,7 +363,7 @@ fn a_driver_is_replaced_under_one_hold_of_the_interlock() {
     let (cpu, vga) = (&cpus[0], name("vga"));
     let refused = |value| registry.replace(cpu, &WM, value).map(drop).unwrap_err();
     let Refused { refusal, given } = refused(1);
-    assert_eq!((refusal, given), (Refusal::NotFound, 1));
+    assert_eq!((refusal, given), (AttachError::NotFound, 1));
     registry.attach(cpu, &WM, 7).unwrap();
     let held = passive(&cpus[1], "wm");
     let (made, old) = registry.replace(cpu, &WM, 8).unwrap();
@@ -379,7 +385,7 @@ fn a_replacement_keeps_room_for_its_own_detach() {
     registry.attach(&cpus[0], &WM, 7).unwrap();
     drop(registry.replace(&cpus[0], &WM, 8).unwrap());
     let Refused { refusal, given } = registry.replace(&cpus[0], &WM, 9).map(drop).unwrap_err();
-    assert_eq!((refusal, given, *passive(&cpus[0], "wm")), (Refusal::HistoryFull, 9, 8));
+    assert_eq!((refusal, given, *passive(&cpus[0], "wm")), (AttachError::HistoryFull, 9, 8));
     assert_eq!(registry.retire(&cpus[0], Kind::Driver, &WM).unwrap()[0].value, 8);
 }
 
@@ -387,7 +393,7 @@ fn a_replacement_keeps_room_for_its_own_detach() {
 fn what_is_not_there_is_not_found() {
     let (registry, cpus) = with_driver(7);
     assert_eq!(registry.detach(&cpus[0], Kind::Iface, &WM).unwrap_err(), Refusal::NotFound);
-    assert_eq!(registry.retire(&cpus[0], Kind::Driver, &name("vga")), Err(Refusal::NotFound));
+    assert_eq!(registry.retire(&cpus[0], Kind::Driver, &name("vga")), Err(DetachError::NotFound));
 }
 
 #[test]

@@ -4,8 +4,8 @@ mod common;
 
 use common::{name, scaled, Dice, Drops, Tracked};
 use kupaldiz::{
-    Cpu, DestroyError, Entry, Found, Freed, Holder, Kind, LocalRef, Name, PassiveRef, Patience, Refusal, Registry, Retired, Section,
-    Settings,
+    Cpu, Entry, Found, Freed, Holder, Kind, LocalRef, LookUpError, Name, PassiveRef, Patience, Refusal, Refused, Registry, Retired,
+    Section, Settings,
 };
 
 const CPUS: usize = 3;
@@ -211,7 +211,7 @@ impl<'cpu> Bench<'cpu> {
         let (at, cpu) = self.any_cpu();
         let (kind, name) = self.any_key();
         self.begun[at] += u64::from(!self.is_inside(at));
-        let expected = self.live(kind, &name).map(|one| one.entry).ok_or(Refusal::NotFound);
+        let expected = self.live(kind, &name).map(|one| one.entry).ok_or(LookUpError::NotFound);
         match self.dice.below(4) {
             0 => assert_eq!(cpu.look_up(kind, &name), expected),
             1 => assert_eq!(cpu.read(kind, &name).map(|guard| kupaldiz::ReadGuard::entry(&guard)), expected),
@@ -257,7 +257,7 @@ impl<'cpu> Bench<'cpu> {
         let live = self.live(entry.kind, &entry.name).map_or(false, |one| one.entry == entry);
         match LocalRef::try_clone(&held, cpu) {
             Ok(more) if live && LocalRef::entry(&more) == entry => self.locals.push(more),
-            Err(Refusal::NotFound) if !live => (),
+            Err(LookUpError::NotFound) if !live => (),
             other => panic!("{other:?}"),
         }
         self.locals.push(held);
@@ -284,7 +284,7 @@ impl<'cpu> Bench<'cpu> {
             let driver = self.locals.swap_remove(place);
             self.registry.attach_iface(cpu, &name, driver, value).map_err(|refused| {
                 self.locals.push(refused.given.0);
-                refused.refusal
+                refused.refusal.into()
             })
         };
         assert_eq!(made.map(|entry| entry.slot), expected);
@@ -312,7 +312,7 @@ impl<'cpu> Bench<'cpu> {
             (1, Ok(entry)) => self.registry.detach_entry(cpu, &entry).map(|token| (Some(token), Vec::new())),
             _ => self.registry.detach(cpu, kind, &name).map(|token| (Some(token), Vec::new())),
         };
-        assert_eq!(gone.as_ref().err(), expected.as_ref().err());
+        assert_eq!(gone.as_ref().map(drop).map_err(|error| Refusal::from(*error)), expected.map(drop));
         if let (Ok((token, freed)), Ok(entry)) = (gone, expected) {
             self.changes += 1;
             let open = [0, 1, 2].map(|cpu| self.is_inside(cpu).then(|| self.begun[cpu]));
@@ -359,8 +359,8 @@ impl<'cpu> Bench<'cpu> {
                 self.taken.retain(|other| *other != number);
                 self.forget(number);
             }
-            Err(DestroyError { refusal, given }) => {
-                assert_eq!(Some(refusal), expected);
+            Err(Refused { refusal, given }) => {
+                assert_eq!(Some(refusal.into()), expected);
                 self.tokens.push(given);
             }
         }

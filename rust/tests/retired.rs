@@ -3,7 +3,7 @@
 mod common;
 
 use common::{local, name, passive, patience, with_driver, Drops, LONG};
-use kupaldiz::{CpuPool, DestroyError, Holder, Kind, Patience, Refusal, Registry, Retired, Settings};
+use kupaldiz::{CpuPool, DestroyError, Holder, Kind, Patience, Refusal, Refused, Registry, Retired, Settings};
 use std::error::Error;
 use std::mem;
 use std::rc::Rc;
@@ -157,7 +157,7 @@ fn a_token_in_a_boxed_error_keeps_no_slot() {
     section.exit();
     assert_eq!(registry.attach(&cpus[0], &name("vga"), 8).unwrap().slot, 0);
     assert_eq!((registry.collect().len(), registry.retired()), (0, 0));
-    let kept = kept.downcast::<DestroyError<i32>>().unwrap();
+    let kept = kept.downcast::<Refused<DestroyError, Retired<i32>>>().unwrap();
     assert_eq!(kept.given.destroy(&cpus[0], Patience::Turns(1)).unwrap().value, 7);
 }
 

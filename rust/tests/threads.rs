@@ -3,7 +3,7 @@
 mod common;
 
 use common::{name, patience, Drops, Stops, Tracked};
-use kupaldiz::{Cpu, CpuPool, Found, Kind, LocalRef, Name, PassiveRef, Patience, Refusal, Registry, Settings};
+use kupaldiz::{AttachError, Cpu, CpuPool, DetachError, Found, Kind, LocalRef, Name, PassiveRef, Patience, Refusal, Registry, Settings};
 use std::env;
 use std::sync::atomic::{AtomicBool, AtomicU64, Ordering};
 use std::sync::mpsc::{sync_channel, Receiver, SyncSender};
@@ -165,10 +165,10 @@ fn several_writers_change_one_registry() {
                     let name = &names[(turn % NAMES) as usize];
                     match registry.attach(&cpu, name, drops.make(turn)) {
                         Ok(_) => (),
-                        Err(refused) => assert!(matches!(refused.refusal, Refusal::NameTaken | Refusal::NoSlot)),
+                        Err(refused) => assert!(matches!(refused.refusal, AttachError::NameTaken | AttachError::NoSlot)),
                     }
                     match registry.retire(&cpu, Kind::Driver, name) {
-                        Ok(_) | Err(Refusal::NotFound) => (),
+                        Ok(_) | Err(DetachError::NotFound) => (),
                         Err(refusal) => panic!("{refusal}"),
                     }
                 }

@@ -3,7 +3,7 @@
 mod common;
 
 use common::{balance, balances, detach, local, name, patience, with_driver};
-use kupaldiz::{CpuPool, Kind, LocalRef, Refusal, Refused};
+use kupaldiz::{AttachError, CpuPool, DetachError, Kind, LocalRef, Refusal, Refused};
 use std::collections::hash_map::DefaultHasher;
 use std::hash::{Hash, Hasher};
 
@@ -19,15 +19,15 @@ fn changes_by_a_cpu_of_another_registry_are_refused() {
     let (other, others) = with_driver(8);
     let foreign = &others[0];
     let Refused { refusal, given } = registry.attach(foreign, &name("vga"), 9).unwrap_err();
-    assert_eq!((refusal, given), (Refusal::OtherRegistry, 9));
+    assert_eq!((refusal, given), (AttachError::OtherRegistry, 9));
     assert_eq!(
         registry.detach(foreign, Kind::Driver, &name("wm")).unwrap_err(),
         Refusal::OtherRegistry
     );
-    assert_eq!(registry.retire(foreign, Kind::Driver, &name("wm")), Err(Refusal::OtherRegistry));
-    assert_eq!(registry.drain(foreign, patience()).map(drop), Err(Refusal::OtherRegistry));
+    assert_eq!(registry.retire(foreign, Kind::Driver, &name("wm")), Err(DetachError::OtherRegistry));
+    assert_eq!(registry.drain(foreign, patience()).map(drop), Err(DetachError::OtherRegistry));
     let refused = registry.replace(foreign, &name("wm"), 9).map(drop).unwrap_err();
-    assert_eq!((refused.refusal, refused.given), (Refusal::OtherRegistry, 9));
+    assert_eq!((refused.refusal, refused.given), (AttachError::OtherRegistry, 9));
     let entry = cpus[0].look_up(Kind::Driver, &name("wm")).unwrap();
     assert_eq!(registry.detach_entry(foreign, &entry).unwrap_err(), Refusal::OtherRegistry);
     for all in [balances(&registry, &cpus), balances(&other, &others)] {
@@ -45,11 +45,11 @@ fn an_interface_on_handles_of_two_registries_is_refused() {
     let Refused { refusal, given } = registry.attach_iface(&others[0], &name("wm0"), own, 1500).unwrap_err();
     assert_eq!(
         (refusal, LocalRef::entry(&given.0).number, given.1),
-        (Refusal::OtherRegistry, 1, 1500)
+        (AttachError::OtherRegistry, 1, 1500)
     );
     let foreign = local(&others[0], "wm");
     let Refused { refusal, given: back } = registry.attach_iface(&cpus[0], &name("wm0"), foreign, 1500).unwrap_err();
-    assert_eq!((refusal, *back.0), (Refusal::OtherRegistry, 8));
+    assert_eq!((refusal, *back.0), (AttachError::OtherRegistry, 8));
     LocalRef::release(back.0, &others[0]).unwrap();
     LocalRef::release(given.0, &cpus[0]).unwrap();
     assert_eq!(registry.audit(&cpus).unwrap().len(), 1);

@@ -3,7 +3,9 @@
 mod common;
 
 use common::{detach, local, name, patience, with_driver, Drops, Stops, Tracked};
-use kupaldiz::{Cpu, CpuPool, Found, Holder, Kind, LocalRef, Name, PassiveRef, ReadGuard, Refusal, Registry, Settings, LIMITS};
+use kupaldiz::{
+    Cpu, CpuPool, Found, Holder, Kind, LocalRef, LookUpError, Name, PassiveRef, ReadGuard, Refusal, Registry, Settings, LIMITS,
+};
 use std::mem;
 use std::panic::{catch_unwind, AssertUnwindSafe};
 use std::sync::atomic::{AtomicBool, Ordering};
@@ -183,7 +185,7 @@ fn what_is_not_there_is_refused() {
     let (_registry, cpus) = with_driver(7);
     for (kind, text) in [(Kind::Iface, "wm"), (Kind::Driver, "vga")] {
         assert_eq!(cpus[0].get(kind, &name(text)).unwrap_err(), Refusal::NotFound);
-        assert_eq!(cpus[0].look_up(kind, &name(text)), Err(Refusal::NotFound));
+        assert_eq!(cpus[0].look_up(kind, &name(text)), Err(LookUpError::NotFound));
         assert_eq!(cpus[0].read(kind, &name(text)).unwrap_err(), Refusal::NotFound);
     }
     assert_eq!(cpus[0].depth(), 0);
@@ -198,7 +200,7 @@ fn a_call_is_nested_as_deep_as_a_section() {
     let mut guards: Vec<_> = (0..deepest).map(|_| cpu.enter().unwrap()).collect();
     let found = guards[guards.len() - 1].find(Kind::Driver, &wm).unwrap();
     assert_eq!(cpu.get(Kind::Driver, &wm).unwrap_err(), Refusal::TooDeep);
-    assert_eq!(cpu.look_up(Kind::Driver, &wm), Err(Refusal::TooDeep));
+    assert_eq!(cpu.look_up(Kind::Driver, &wm), Err(LookUpError::TooDeep));
     assert_eq!(cpu.read(Kind::Driver, &wm).unwrap_err(), Refusal::TooDeep);
     assert_eq!((*Found::acquire(&found).unwrap(), cpu.depth()), (7, deepest));
     guards.pop();
@@ -223,10 +225,10 @@ fn a_call_outside_counts_as_a_section_except_of_an_entry_that_its_cpu_remembers(
         assert_eq!(cpu.look_up(Kind::Driver, &wm).unwrap().number, 1);
         assert_eq!(*cpu.get(Kind::Driver, &wm).unwrap(), 7);
     }
-    assert_eq!(cpu.look_up(Kind::Iface, &wm), Err(Refusal::NotFound));
+    assert_eq!(cpu.look_up(Kind::Iface, &wm), Err(LookUpError::NotFound));
     assert_eq!(cpu.get(Kind::Iface, &wm).unwrap_err(), Refusal::NotFound);
     assert_eq!(cpu.read(Kind::Driver, &wm).unwrap_err(), Refusal::SectionsSpent);
-    assert_eq!(cpu.look_up(Kind::Driver, &wm), Err(Refusal::SectionsSpent));
+    assert_eq!(cpu.look_up(Kind::Driver, &wm), Err(LookUpError::SectionsSpent));
     assert_eq!(cpu.get(Kind::Driver, &wm).unwrap_err(), Refusal::SectionsSpent);
 }
 
