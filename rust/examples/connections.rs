@@ -24,12 +24,6 @@ struct Server {
 }
 
 impl Server {
-    fn accept(&self, id: u64) -> Result<(), Refusal> {
-        self.pool
-            .with(|cpu| self.registry.attach(cpu, &Name::from_id(id), Connection::default()))?;
-        Ok(())
-    }
-
     /// Sends by a connection, if it is open. Looking it up takes a CPU, and sending takes none.
     fn send(&self, id: u64) -> Result<(), Refusal> {
         let connection = self.pool.get_local(Kind::Driver, &Name::from_id(id))?;
@@ -55,7 +49,8 @@ impl Server {
     fn serve(&self) -> Result<u64, Refusal> {
         (0..CONNECTIONS + OPEN).try_fold(0, |sum, id| {
             if id < CONNECTIONS {
-                self.accept(id)?;
+                let (name, connection) = (Name::from_id(id), Connection::default());
+                self.pool.with(|cpu| self.registry.attach(cpu, &name, connection))?;
             }
             thread::sleep(Duration::from_micros(200));
             Ok(sum + if id < OPEN { 0 } else { self.close(id - OPEN)? })

@@ -13,6 +13,11 @@ pub fn name(text: &str) -> Name {
     Name::parse(text).unwrap()
 }
 
+/// Why a call was refused, of any error.
+pub fn why(error: impl Into<Refusal>) -> Refusal {
+    error.into()
+}
+
 /// Longer than anything takes that these tests wait for.
 pub const LONG: Duration = Duration::from_secs(20);
 
