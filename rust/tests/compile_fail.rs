@@ -1,12 +1,12 @@
-//! The compiler takes each function of compile_fail/cases.rs as it stands, and refuses it with its wrong line. The crate is compiled for it as metadata
-//! alone, so no archive is needed.
+//! The compiler takes compile_fail/cases.rs as it stands, and refuses it with each of its wrong lines. The crate is compiled for it as metadata alone, so no
+//! archive is needed.
 
 use std::env;
 use std::fs;
 use std::path::{Path, PathBuf};
 use std::process::{Command, Output};
 
-/// How many functions there are.
+/// How many wrong lines there are.
 const CASES: usize = 34;
 
 /// Where the crate's metadata goes, and the sources are.
@@ -45,12 +45,12 @@ fn errors_in(message: &str) -> Vec<String> {
     heads.filter(|text| !text.starts_with("aborting due to")).collect()
 }
 
-/// The name of each function, and how each error with its wrong line begins.
+/// The name of each case, and how each error of it begins.
 fn cases(text: &str) -> Vec<(&str, &str)> {
-    let named = |place: usize| text[place..].split("pub fn ").nth(1)?.split(['(', '<']).next();
-    let errors = text.match_indices("\n// ");
-    errors
-        .filter_map(|(place, mark)| Some((named(place)?, text[place + mark.len()..].lines().next()?)))
+    let lines = text.lines().filter_map(|line| line.trim().strip_prefix("#[cfg("));
+    lines
+        .filter_map(|line| line.trim_start_matches("not(").split_once("] // "))
+        .map(|(name, error)| (name.trim_end_matches(')'), error))
         .collect()
 }
 
@@ -68,7 +68,7 @@ fn what_is_wrong_is_refused_for_just_that_reason() {
     assert!(right.status.success(), "{}", text_of(&right));
     let text = fs::read_to_string(root.join("tests/compile_fail/cases.rs")).unwrap();
     let cases = cases(&text);
-    assert_eq!((cases.len(), text.matches("\npub fn ").count()), (CASES, CASES));
+    assert_eq!((cases.len(), text.matches("#[cfg(").count()), (CASES, CASES));
     let judged = cases
         .into_iter()
         .map(|(name, expected)| (name, expected, text_of(&bench.fails(name))));

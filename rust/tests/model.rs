@@ -6,12 +6,11 @@ mod common;
 
 use common::{name, scaled, why, Dice, Drops, Tracked};
 use kupaldiz::{
-    Cpu, CpuPool, DestroyError, Entry, Found, Freed, Hold, Holder, Kind, Lent, LocalRef, Name, PassiveRc, PassiveRef, Patience, ReadGuard,
-    Refusal, Refused, Registry, Retired, Section, Settings, LIMITS,
+    Cpu, CpuPool, DestroyError, Entry, Found, Freed, Hold, Holder, Kind, Lent, LocalRef, Name, PassiveRef, Patience, ReadGuard, Refusal,
+    Registry, Retired, Section, Settings, LIMITS,
 };
 use std::future::Future;
 use std::mem;
-use std::rc::Rc;
 use std::sync::Arc;
 use std::task::{Context, Poll, Wake, Waker};
 use std::time::Instant;
@@ -40,49 +39,25 @@ struct Known {
     dropped: usize,
 }
 
-/// What keeps a section open.
-enum Open<'cpu> {
-    Section(Section<'cpu, Tracked>),
-    Guard(ReadGuard<'cpu, Tracked>),
+/// What keeps a section open: a guard, or a section without one.
+type Open<'cpu> = Result<ReadGuard<'cpu, Tracked>, Section<'cpu, Tracked>>;
+
+type Told<R> = Result<R, Refusal>;
+
+fn section<'open, 'cpu>(open: &'open Open<'cpu>) -> &'open Section<'cpu, Tracked> {
+    open.as_ref().map_or_else(|section| section, ReadGuard::section)
 }
 
-impl<'cpu> Open<'cpu> {
-    fn section(&self) -> &Section<'cpu, Tracked> {
-        match self {
-            Open::Section(section) => section,
-            Open::Guard(guard) => ReadGuard::section(guard),
-        }
-    }
-}
-
-enum Passive<'cpu> {
-    Borrowed(PassiveRef<'cpu, Tracked>),
-    Owned(PassiveRc<Tracked>),
-}
-
-impl<'cpu> Passive<'cpu> {
-    /// The CPU and the number, once its value was looked at.
-    fn place(&self) -> (usize, u64) {
-        let (cpu, entry, value): (&Cpu<Tracked>, _, &Tracked) = match self {
-            Passive::Borrowed(held) => (PassiveRef::cpu(held), PassiveRef::entry(held), held),
-            Passive::Owned(held) => (PassiveRc::cpu(held), PassiveRc::entry(held), held),
-        };
-        value.check();
-        (usize::from(cpu.id()), entry.number)
-    }
-
-    fn try_clone(&self) -> Result<Passive<'cpu>, Refusal> {
-        match self {
-            Passive::Borrowed(held) => PassiveRef::try_clone(held).map(Passive::Borrowed).map_err(why),
-            Passive::Owned(held) => PassiveRc::try_clone(held).map(Passive::Owned).map_err(why),
-        }
-    }
+/// The CPU and the number.
+fn place(held: &PassiveRef<'_, Tracked>) -> (usize, u64) {
+    held.check();
+    (usize::from(PassiveRef::cpu(held).id()), PassiveRef::entry(held).number)
 }
 
 /// The registry, what is held in it, and what the model knows.
 struct Bench<'cpu> {
     registry: &'cpu Registry<Tracked>,
-    cpus: &'cpu [Rc<Cpu<Tracked>>],
+    cpus: &'cpu [Cpu<Tracked>],
     pool: &'cpu CpuPool<Tracked>,
     /// A CPU of another registry, which has the driver `d0`.
     foreign: &'cpu Cpu<Tracked>,
@@ -94,8 +69,8 @@ struct Bench<'cpu> {
     begun: [u64; CPUS],
     spent: [(u64, u64); CPUS],
     /// What each CPU has found last.
-    last: [Option<u64>; CPUS],
-    passives: Vec<Passive<'cpu>>,
+    last: [Option<u64>; ALL],
+    passives: Vec<PassiveRef<'cpu, Tracked>>,
     /// Each with the CPU that acquired it.
     locals: Vec<(LocalRef<Tracked>, usize)>,
     loans: Vec<Lent<'cpu, Tracked>>,
@@ -119,8 +94,15 @@ impl<'cpu> Bench<'cpu> {
     }
 
     /// What a lookup returns.
-    fn found(&self, kind: Kind, name: &Name) -> Result<Entry, Refusal> {
+    fn found(&self, kind: Kind, name: &Name) -> Told<Entry> {
         self.live(kind, name).map(|one| one.entry).ok_or(Refusal::NotFound)
+    }
+
+    /// The same, which the CPU notes as its last.
+    fn look(&mut self, cpu: usize, kind: Kind, name: &Name) -> Told<Entry> {
+        let found = self.found(kind, name);
+        self.last[cpu] = found.ok().map(|entry| entry.number);
+        found
     }
 
     fn known(&mut self, number: u64) -> &mut Known {
@@ -132,7 +114,7 @@ impl<'cpu> Bench<'cpu> {
     }
 
     fn passives_on(&self, cpu: usize, number: u64) -> usize {
-        self.passives.iter().filter(|held| held.place() == (cpu, number)).count()
+        self.passives.iter().filter(|held| place(held) == (cpu, number)).count()
     }
 
     /// Whether this CPU is still in a section that may have found the entry.
@@ -188,17 +170,14 @@ impl<'cpu> Bench<'cpu> {
 
     /// The CPU releases what was dropped, of this entry or of all.
     fn release_dropped(&mut self, cpu: usize, number: Option<u64>) {
-        for one in self
-            .known
-            .iter_mut()
-            .filter(|one| number.map_or(true, |number| one.entry.number == number))
-        {
+        let is_meant = |one: &&mut Known| number.map_or(true, |number| one.entry.number == number);
+        for one in self.known.iter_mut().filter(is_meant) {
             one.net[cpu] -= mem::take(&mut one.dropped) as i64;
         }
     }
 
     /// What comes before a change.
-    fn before_change(&mut self, cpu: usize) -> Result<(), Refusal> {
+    fn before_change(&mut self, cpu: usize) -> Told<()> {
         if self.is_inside(cpu) {
             return Err(Refusal::Inside);
         }
@@ -207,7 +186,7 @@ impl<'cpu> Bench<'cpu> {
     }
 
     /// The slot that an attach gets. If none is vacant, one turn is made for each retired entry, the youngest first.
-    fn slot(&mut self) -> Result<u8, Refusal> {
+    fn slot(&mut self) -> Told<u8> {
         let vacant = |bench: &Self| (0..SLOTS as u8).find(|slot| bench.known.iter().all(|one| one.entry.slot != *slot));
         if vacant(self).is_none() {
             let mut retired: Vec<u64> = self.known.iter().filter(|one| !one.live).map(|one| one.entry.number).collect();
@@ -270,43 +249,43 @@ impl<'cpu> Bench<'cpu> {
     }
 
     /// The CPU looks an entry up once more that it found before, if it has found something else since.
-    fn seek(&mut self, cpu: usize, entry: Entry) -> Result<(), Refusal> {
+    fn seek(&mut self, cpu: usize, entry: Entry) -> Told<()> {
         if self.last[cpu] == Some(entry.number) {
             return Ok(());
         }
-        let again = self.found(entry.kind, &entry.name);
-        self.last[cpu] = again.ok().map(|again| again.number);
-        again.and_then(|again| if again == entry { Ok(()) } else { Err(Refusal::NotFound) })
+        match self.look(cpu, entry.kind, &entry.name) {
+            Ok(again) if again == entry => Ok(()),
+            _ => Err(Refusal::NotFound),
+        }
     }
 
     /// What an acquire of a found entry returns: a passive reference,
-    fn passively(&mut self, cpu: usize, entry: Entry) -> Result<(), Refusal> {
+    fn passively(&mut self, cpu: usize, entry: Entry) -> Told<(usize, u64)> {
         match self.passives_on(cpu, entry.number) as u64 {
-            0 => self.seek(cpu, entry),
-            count if count == self.settings.passives => Err(Refusal::PassiveFull),
-            _ => Ok(()),
+            0 => self.seek(cpu, entry)?,
+            count if count == self.settings.passives => return Err(Refusal::PassiveFull),
+            _ => (),
         }
+        Ok((cpu, entry.number))
     }
 
     /// or a local one, after those to it that were dropped are released.
-    fn locally(&mut self, cpu: usize, entry: Entry) -> Result<(), Refusal> {
+    fn locally(&mut self, cpu: usize, entry: Entry) -> Told<Entry> {
         self.release_dropped(cpu, Some(entry.number));
-        if cpu < CPUS {
-            self.seek(cpu, entry)?;
-        }
+        self.seek(cpu, entry)?;
         let most = self.settings.locals as i64;
         let net = &mut self.known(entry.number).net[cpu];
         if *net == most {
             return Err(Refusal::LocalFull);
         }
         *net += 1;
-        Ok(())
+        Ok(entry)
     }
 }
 
 /// Lookups and references.
 impl<'cpu> Bench<'cpu> {
-    fn any_cpu(&mut self) -> (usize, &'cpu Rc<Cpu<Tracked>>) {
+    fn any_cpu(&mut self) -> (usize, &'cpu Cpu<Tracked>) {
         let cpu = self.dice.below(CPUS);
         (cpu, &self.cpus[cpu])
     }
@@ -316,34 +295,31 @@ impl<'cpu> Bench<'cpu> {
     }
 
     /// A passive reference, or the refusal that was expected.
-    fn keep(&mut self, got: Result<Passive<'cpu>, Refusal>, place: (usize, u64), expected: Result<(), Refusal>) {
-        assert_eq!(got.as_ref().map(Passive::place).map_err(|why| *why), expected.map(|()| place));
+    fn keep(&mut self, got: Told<PassiveRef<'cpu, Tracked>>, expected: Told<(usize, u64)>) {
+        assert_eq!(got.as_ref().map(place).map_err(|why| *why), expected);
         self.passives.extend(got);
     }
 
-    fn keep_local(&mut self, got: Result<LocalRef<Tracked>, Refusal>, cpu: usize, expected: Result<Entry, Refusal>) {
+    fn keep_local(&mut self, got: Told<LocalRef<Tracked>>, cpu: usize, expected: Told<Entry>) {
         assert_eq!(got.as_ref().map(LocalRef::entry).map_err(|why| *why), expected);
         self.locals.extend(got.map(|held| (held, cpu)));
     }
 
     /// Any guard may go first: the section ends with the last.
     fn enter_or_exit(&mut self) {
-        let (at, cpu) = self.any_cpu();
+        let ((at, cpu), (kind, name)) = (self.any_cpu(), self.any_key());
         if self.open[at].len() == DEEPEST || self.dice.below(2) == 0 {
             drop(self.dice.take(&mut self.open[at]));
         } else if self.dice.below(2) == 0 {
             let section = cpu.enter().map_err(why);
             if !self.is_spent(at, true, &section) {
-                self.open[at].push(Open::Section(section.unwrap()));
+                self.open[at].push(Err(section.unwrap()));
             }
         } else {
-            let (kind, name) = self.any_key();
             let guard = cpu.read(kind, &name).map_err(why);
             if !self.is_spent(at, true, &guard) {
-                let expected = self.found(kind, &name);
-                assert_eq!(guard.as_ref().map(ReadGuard::entry).map_err(|why| *why), expected);
-                self.last[at] = expected.ok().map(|entry| entry.number);
-                self.open[at].extend(guard.map(Open::Guard));
+                assert_eq!(guard.as_ref().map(ReadGuard::entry).map_err(|why| *why), self.look(at, kind, &name));
+                self.open[at].extend(guard.map(Ok));
             }
         }
         assert_eq!(usize::from(cpu.depth()), self.open[at].len());
@@ -353,7 +329,7 @@ impl<'cpu> Bench<'cpu> {
     fn find_two(&mut self) {
         let ((at, _), keys, passively) = (self.any_cpu(), [self.any_key(), self.any_key()], self.dice.below(2) == 0);
         let section = match self.open[at].last() {
-            Some(open) => open.section(),
+            Some(open) => section(open),
             None => return,
         };
         let found = keys.map(|(kind, name)| section.find(kind, &name));
@@ -361,41 +337,40 @@ impl<'cpu> Bench<'cpu> {
             let expected = self.live(*kind, name).map(|one| (one.entry, one.label));
             assert_eq!(found.as_ref().map(|found| (Found::entry(found), found.label)), expected);
         }
-        let last = found[1].as_ref().map(|found| Found::entry(found).number);
-        let got = found.iter().flatten().next().map(|first| match passively {
-            true => (Found::entry(first), Ok(Found::acquire(first).map_err(why))),
-            false => (Found::entry(first), Err(Found::acquire_local(first).map_err(why))),
-        });
-        self.last[at] = last;
-        match got {
-            Some((entry, Ok(passive))) => {
-                let expected = self.passively(at, entry);
-                self.keep(passive.map(Passive::Borrowed), (at, entry.number), expected);
-            }
-            Some((entry, Err(local))) => {
-                let expected = self.locally(at, entry);
-                self.keep_local(local, at, expected.map(|()| entry));
-            }
-            None => (),
+        let first = found.iter().flatten().next();
+        let passive = first
+            .filter(|_| passively)
+            .map(|first| (Found::entry(first), Found::acquire(first)));
+        let local = first
+            .filter(|_| !passively)
+            .map(|first| (Found::entry(first), Found::acquire_local(first)));
+        self.last[at] = found[1].as_ref().map(|found| Found::entry(found).number);
+        if let Some((entry, passive)) = passive {
+            let expected = self.passively(at, entry);
+            self.keep(passive.map_err(why), expected);
+        }
+        if let Some((entry, local)) = local {
+            let expected = self.locally(at, entry);
+            self.keep_local(local.map_err(why), at, expected);
         }
     }
 
-    /// Acquires what a guard found that is open for longer. Other entries were found since, or it was detached.
+    /// Acquires what a guard has found that is open for longer. Other entries were found since, or it was detached.
     fn acquire_by_guard(&mut self) {
         let ((at, _), passively) = (self.any_cpu(), self.dice.below(2) == 0);
         let place = self.dice.below(self.open[at].len().max(1));
-        let (entry, passive, local) = match self.open[at].get(place) {
-            Some(Open::Guard(guard)) if passively => (ReadGuard::entry(guard), Some(ReadGuard::acquire(guard)), None),
-            Some(Open::Guard(guard)) => (ReadGuard::entry(guard), None, Some(ReadGuard::acquire_local(guard))),
-            _ => return,
-        };
-        if let Some(passive) = passive {
-            let expected = self.passively(at, entry);
-            self.keep(passive.map(Passive::Borrowed).map_err(why), (at, entry.number), expected);
-        }
-        if let Some(local) = local {
-            let expected = self.locally(at, entry);
-            self.keep_local(local.map_err(why), at, expected.map(|()| entry));
+        match self.open[at].get(place) {
+            Some(Ok(guard)) if passively => {
+                let (entry, got) = (ReadGuard::entry(guard), ReadGuard::acquire(guard).map_err(why));
+                let expected = self.passively(at, entry);
+                self.keep(got, expected);
+            }
+            Some(Ok(guard)) => {
+                let (entry, got) = (ReadGuard::entry(guard), ReadGuard::acquire_local(guard).map_err(why));
+                let expected = self.locally(at, entry);
+                self.keep_local(got, at, expected);
+            }
+            _ => (),
         }
     }
 
@@ -404,49 +379,43 @@ impl<'cpu> Bench<'cpu> {
         if let Some(open) = self.open[at].first() {
             let mut expected: Vec<_> = self.known.iter().filter(|one| one.live).map(|one| (one.entry, one.label)).collect();
             expected.sort_by_key(|one| u64::MAX - one.0.number);
-            let walked: Vec<_> = open.section().entries().map(|found| (Found::entry(&found), found.label)).collect();
-            assert_eq!((walked, open.section().entries().len()), (expected.clone(), expected.len()));
+            let walk = section(open).entries();
+            assert_eq!(walk.len(), expected.len());
+            assert_eq!(walk.map(|found| (Found::entry(&found), found.label)).collect::<Vec<_>>(), expected);
             self.last[at] = None;
         }
     }
 
-    /// By one call.
+    /// By one call, or by a table's.
     fn refer(&mut self) {
-        let ((at, cpu), (kind, name), is_plain) = (self.any_cpu(), self.any_key(), self.dice.below(2) == 0);
-        let (expected, table) = (self.found(kind, &name), (kind == Kind::Driver && is_plain).then(|| cpu.table()));
-        let number = expected.ok().map(|entry| entry.number);
-        match self.dice.below(3) {
+        let ((at, cpu), (kind, name), way) = (self.any_cpu(), self.any_key(), self.dice.below(6));
+        let (is_table, table) = (kind == Kind::Driver && way < 3, cpu.table());
+        match way % 3 {
             0 => {
-                let entry = table
-                    .map_or_else(|| cpu.look_up(kind, &name), |table| table.look_up(&name))
-                    .map_err(why);
+                let entry = if is_table { table.look_up(&name) } else { cpu.look_up(kind, &name) };
+                let entry = entry.map_err(why);
                 if !self.is_spent(at, false, &entry) {
-                    assert_eq!(entry, expected);
-                    self.last[at] = number;
+                    assert_eq!(entry, self.look(at, kind, &name));
                 }
             }
             1 => {
-                let got = match (table, is_plain) {
-                    (Some(table), _) => table.get(&name).map(Passive::Borrowed),
-                    (None, true) => cpu.get(kind, &name).map(Passive::Borrowed),
-                    (None, false) => cpu.get_rc(kind, &name).map(Passive::Owned),
-                };
+                let got = if is_table { table.get(&name) } else { cpu.get(kind, &name) };
                 let got = got.map_err(why);
                 if !self.is_spent(at, false, &got) {
-                    self.last[at] = number;
-                    let place = (at, number.unwrap_or(0));
-                    let expected = expected.and_then(|entry| self.passively(at, entry));
-                    self.last[at] = expected.ok().and(number);
-                    self.keep(got, place, expected);
+                    let expected = self.look(at, kind, &name).and_then(|entry| self.passively(at, entry));
+                    self.last[at] = expected.ok().map(|place| place.1);
+                    self.keep(got, expected);
                 }
             }
             _ => {
-                let got = table
-                    .map_or_else(|| cpu.get_local(kind, &name), |table| table.get_local(&name))
-                    .map_err(why);
+                let got = if is_table {
+                    table.get_local(&name)
+                } else {
+                    cpu.get_local(kind, &name)
+                };
+                let got = got.map_err(why);
                 if !self.is_spent(at, true, &got) {
-                    self.last[at] = number;
-                    let expected = expected.and_then(|entry| self.locally(at, entry).map(|()| entry));
+                    let expected = self.look(at, kind, &name).and_then(|entry| self.locally(at, entry));
                     self.keep_local(got, at, expected);
                 }
             }
@@ -454,21 +423,18 @@ impl<'cpu> Bench<'cpu> {
     }
 
     fn release(&mut self) {
-        if self.dice.below(2) == 0 {
-            match self.dice.take(&mut self.passives) {
-                Some(held) if self.dice.below(3) == 0 => {
-                    let (place, more) = (held.place(), held.try_clone());
-                    self.passives.push(held);
-                    let is_full = self.passives_on(place.0, place.1) as u64 == self.settings.passives;
-                    self.keep(more, place, if is_full { Err(Refusal::PassiveFull) } else { Ok(()) });
-                }
-                Some(Passive::Borrowed(held)) => PassiveRef::release(held),
-                Some(Passive::Owned(held)) => PassiveRc::release(held),
-                None => (),
+        let way = self.dice.below(8);
+        if let (0..=3, Some(held)) = (way, self.dice.take(&mut self.passives)) {
+            if way > 0 {
+                return PassiveRef::release(held);
             }
+            let (entry, at, more) = (PassiveRef::entry(&held), place(&held).0, PassiveRef::try_clone(&held).map_err(why));
+            self.passives.push(held);
+            let expected = self.passively(at, entry);
+            self.keep(more, expected);
         } else if let Some(held) = self.dice.take(&mut self.locals) {
             held.0.check();
-            match self.dice.below(4) {
+            match way % 4 {
                 0 | 1 => self.release_local(held.0),
                 2 => self.clone_local(held),
                 _ => {
@@ -479,33 +445,23 @@ impl<'cpu> Bench<'cpu> {
         }
     }
 
-    /// On a CPU of its own, or on one that is lent.
+    /// On a CPU that is lent, if any is.
     fn release_local(&mut self, held: LocalRef<Tracked>) {
-        let (number, (at, cpu)) = (LocalRef::entry(&held).number, self.any_cpu());
-        let at = match self.loans.last() {
-            Some(loan) => {
-                LocalRef::release(held, loan).map_err(why).unwrap();
-                usize::from(loan.id())
-            }
-            None => {
-                LocalRef::release(held, cpu).map_err(why).unwrap();
-                at
-            }
-        };
+        let (number, (_, cpu)) = (LocalRef::entry(&held).number, self.any_cpu());
+        let cpu = self.loans.last().map_or(cpu, |loan| loan);
+        let at = usize::from(cpu.id());
+        told(LocalRef::release(held, cpu)).unwrap();
         self.known(number).net[at] -= 1;
         self.release_dropped(at, Some(number));
     }
 
     fn clone_local(&mut self, held: (LocalRef<Tracked>, usize)) {
-        let (at, cpu) = self.any_cpu();
-        let entry = LocalRef::entry(&held.0);
+        let ((at, cpu), entry) = (self.any_cpu(), LocalRef::entry(&held.0));
         let more = LocalRef::try_clone(&held.0, cpu).map_err(why);
         self.locals.push(held);
         if !self.is_spent(at, true, &more) {
-            let found = self.found(entry.kind, &entry.name);
-            self.last[at] = found.ok().map(|found| found.number);
-            let expected = match found {
-                Ok(found) if found == entry => self.locally(at, entry).map(|()| entry),
+            let expected = match self.look(at, entry.kind, &entry.name) {
+                Ok(found) if found == entry => self.locally(at, entry),
                 _ => Err(Refusal::NotFound),
             };
             self.keep_local(more, at, expected);
@@ -516,55 +472,54 @@ impl<'cpu> Bench<'cpu> {
 /// Changes, and the work on what is retired.
 impl<'cpu> Bench<'cpu> {
     fn attach(&mut self) {
-        let ((at, cpu), (kind, name), is_plain) = (self.any_cpu(), self.any_key(), self.dice.below(2) == 0);
+        let ((at, cpu), (kind, name), is_table) = (self.any_cpu(), self.any_key(), self.dice.below(2) == 0);
         let place = self.dice.below(self.locals.len().max(1));
         let kept = match (kind, self.locals.get(place)) {
             (Kind::Driver, _) => None,
-            (Kind::Iface, Some((driver, _))) => Some(LocalRef::entry(driver)),
+            (Kind::Iface, Some((driver, of))) => Some((LocalRef::entry(driver), *of)),
             (Kind::Iface, None) => return,
         };
         let expected = self.before_change(at).and_then(|()| match (kept, self.live(kind, &name)) {
-            (Some(kept), _) if kept.kind == Kind::Iface => Err(Refusal::NeedsDriver),
+            (Some((driver, _)), _) if driver.kind == Kind::Iface => Err(Refusal::NeedsDriver),
             (_, Some(_)) => Err(Refusal::NameTaken),
             _ => self.slot(),
         });
-        self.labels += 1;
-        let (label, value) = (self.labels, self.drops.make(self.labels));
-        let (made, driver) = if kept.is_none() {
-            let made = match is_plain {
-                true => cpu.table().attach(&name, value),
-                false => self.registry.attach(cpu, &name, value),
-            };
-            (made.map_err(|refused| back(refused, |given| given.label == label)), None)
-        } else {
-            let (driver, of) = self.locals.swap_remove(place);
-            let number = LocalRef::entry(&driver).number;
-            let made = self.registry.attach_iface(cpu, &name, driver, value).map_err(|refused| {
-                let Refused { refusal, given } = refused;
-                assert_eq!((LocalRef::entry(&given.0).number, given.1.label), (number, label));
-                self.locals.push((given.0, of));
-                refusal
-            });
-            (made, Some((number, of)))
+        let value = self.value();
+        let made = match kept {
+            None if is_table => cpu.table().attach(&name, value).map_err(why),
+            None => self.registry.attach(cpu, &name, value).map_err(why),
+            Some((_, of)) => {
+                let driver = self.locals.swap_remove(place).0;
+                let made = self.registry.attach_iface(cpu, &name, driver, value);
+                made.map_err(|refused| {
+                    self.locals.push((refused.given.0, of));
+                    refused.refusal
+                })
+            }
         };
         assert_eq!(made.map(|entry| entry.slot), expected);
         if let Ok(entry) = made {
-            self.attached(entry, (kind, name), driver);
+            self.attached(entry, (kind, name), kept.map(|(driver, of)| (driver.number, of)));
         }
+    }
+
+    fn value(&mut self) -> Tracked {
+        self.labels += 1;
+        self.drops.make(self.labels)
     }
 
     /// What holds the old one keeps it, and on an error it stays.
     fn replace(&mut self) {
-        let ((at, cpu), (_, name), is_plain) = (self.any_cpu(), self.any_key(), self.dice.below(2) == 0);
+        let ((at, cpu), (_, name), is_table) = (self.any_cpu(), self.any_key(), self.dice.below(2) == 0);
         let expected = self.before_change(at).and_then(|()| self.found(Kind::Driver, &name));
         let expected = expected.and_then(|old| Ok((old, self.slot()?)));
-        self.labels += 1;
-        let (label, value) = (self.labels, self.drops.make(self.labels));
-        let made = match is_plain {
-            true => cpu.table().replace(&name, value),
-            false => self.registry.replace(cpu, &name, value),
+        let (table, value) = (cpu.table(), self.value());
+        let made = if is_table {
+            table.replace(&name, value)
+        } else {
+            self.registry.replace(cpu, &name, value)
         };
-        let made = made.map_err(|refused| back(refused, |given| given.label == label));
+        let made = made.map_err(why);
         assert_eq!(
             made.as_ref().map(|(new, old)| (old.entry(), new.slot)).map_err(|why| *why),
             expected
@@ -579,25 +534,26 @@ impl<'cpu> Bench<'cpu> {
     fn detach(&mut self) {
         let ((at, cpu), (kind, name)) = (self.any_cpu(), self.any_key());
         let expected = self.before_change(at).and_then(|()| self.found(kind, &name));
-        let table = (kind == Kind::Driver).then(|| cpu.table());
-        let token = |token: Retired<Tracked>| (Some(token), Vec::new());
-        let gone = match (self.dice.below(5), expected, table) {
-            (0, _, _) => self.registry.retire(cpu, kind, &name).map(|freed| (None, freed)).map_err(why),
-            (1, _, Some(table)) => table.retire(&name).map(|freed| (None, freed)).map_err(why),
-            (2, _, Some(table)) => table.detach(&name).map(token).map_err(why),
-            (3, Ok(entry), _) => self.registry.detach_entry(cpu, &entry).map(token).map_err(why),
-            _ => self.registry.detach(cpu, kind, &name).map(token).map_err(why),
+        let table = Some(cpu.table()).filter(|_| kind == Kind::Driver);
+        let (mut freed, retires) = (Vec::new(), self.dice.below(2) == 0);
+        let token = match (table, expected, self.dice.below(3)) {
+            (Some(table), _, 0) if retires => table.retire(&name).map(|all| freed = all).map(|()| None).map_err(why),
+            _ if retires => self
+                .registry
+                .retire(cpu, kind, &name)
+                .map(|all| freed = all)
+                .map(|()| None)
+                .map_err(why),
+            (Some(table), _, 0) => table.detach(&name).map(Some).map_err(why),
+            (_, Ok(entry), 1) => self.registry.detach_entry(cpu, &entry).map(Some).map_err(why),
+            _ => self.registry.detach(cpu, kind, &name).map(Some).map_err(why),
         };
-        assert_eq!(gone.as_ref().err(), expected.as_ref().err());
-        if let (Ok((token, freed)), Ok(entry)) = (gone, expected) {
+        assert_eq!(token.as_ref().err(), expected.as_ref().err());
+        if let (Ok(token), Ok(entry)) = (token, expected) {
             self.detached(entry.number);
-            match token {
-                Some(token) => self.tokens.push(token),
-                None => {
-                    self.deferred.push(entry.number);
-                    assert_eq!(numbers(&freed), self.collect());
-                }
-            }
+            self.deferred.extend(token.is_none().then_some(entry.number));
+            self.tokens.extend(token);
+            assert_eq!(numbers(&freed), if retires { self.collect() } else { Vec::new() });
         }
     }
 
@@ -703,10 +659,7 @@ impl<'cpu> Bench<'cpu> {
     fn audit(&mut self) {
         let rest: Vec<Lent<'_, Tracked>> = std::iter::from_fn(|| self.pool.try_lend()).collect();
         let lent = self.loans.iter().chain(&rest).map(|loan| -> &Cpu<Tracked> { loan });
-        let audited = self
-            .registry
-            .audit(self.cpus.iter().map(|cpu| -> &Cpu<Tracked> { cpu }).chain(lent))
-            .unwrap();
+        let audited = self.registry.audit(self.cpus.iter().chain(lent)).unwrap();
         self.release_dropped(0, None);
         self.known.sort_by_key(|one| one.entry.slot);
         assert_eq!(audited.len(), self.known.len());
@@ -729,7 +682,7 @@ impl<'cpu> Bench<'cpu> {
             let sections = (0..CPUS)
                 .filter(|cpu| self.is_in_grace(*cpu, one))
                 .map(|cpu| (Hold::Section, cpu, None));
-            let passives = self.passives.iter().map(Passive::place).filter(|place| place.1 == number);
+            let passives = self.passives.iter().map(place).filter(|place| place.1 == number);
             let locals = self.locals_to(number).into_iter().map(|(cpu, iface)| (Hold::Local, cpu, iface));
             let passives = passives.map(|place| (Hold::Passive, place.0, None));
             let mut expected: Vec<_> = sections.chain(passives).chain(locals).collect();
@@ -759,7 +712,7 @@ impl<'cpu> Bench<'cpu> {
             _ => is_idle.then(|| pool.lend()),
         };
         assert_eq!(lent.is_some(), is_idle);
-        for lent in lent {
+        if let Some(lent) = lent {
             let id = usize::from(lent.id());
             assert!((CPUS..ALL).contains(&id) && self.loans.iter().all(|loan| loan.id() != lent.id()) && !lent.is_inside());
             self.loans.push(lent);
@@ -791,7 +744,7 @@ impl<'cpu> Bench<'cpu> {
                 self.loans.extend(others);
                 rest.clear();
                 let expected = self.found(kind, &name);
-                let expected = expected.and_then(|entry| self.locally(at, entry).map(|()| entry));
+                let expected = expected.and_then(|entry| self.locally(at, entry));
                 self.keep_local(got, at, expected);
             }
             _ => drop(loan),
@@ -800,69 +753,43 @@ impl<'cpu> Bench<'cpu> {
 
     /// Each call that takes two handles is refused where they are of two registries, and gives back what it was given.
     fn mix(&mut self) {
-        let (other, (kind, name), label) = (self.foreign, self.any_key(), self.labels);
+        let (registry, other, (kind, name)) = (self.registry, self.foreign, self.any_key());
         let refused = match self.dice.below(10) {
-            0 => self
-                .registry
-                .attach(other, &name, self.drops.make(label))
-                .map(drop)
-                .map_err(|refused| back(refused, |given| given.label == label)),
-            1 => self
-                .registry
-                .replace(other, &name, self.drops.make(label))
-                .map(drop)
-                .map_err(|refused| back(refused, |given| given.label == label)),
-            2 => self.registry.detach(other, kind, &name).map(drop).map_err(why),
-            3 => self.registry.retire(other, kind, &name).map(drop).map_err(why),
-            4 => self.registry.drain(other, Patience::Forever).map(drop).map_err(why),
-            5 => self.registry.perform(other, Patience::Forever).map_err(why),
-            6 => {
-                let last = self.cpus.iter().take(CPUS - 1).map(|cpu| -> &Cpu<Tracked> { cpu });
-                self.registry.audit(last.chain([other])).map(drop).map_err(why)
+            0 => told(registry.attach(other, &name, self.drops.make(0))),
+            1 => told(registry.replace(other, &name, self.drops.make(0))),
+            2 => told(registry.detach(other, kind, &name)),
+            3 => told(registry.retire(other, kind, &name)),
+            4 => told(registry.drain(other, Patience::Forever)),
+            5 => told(registry.perform(other, Patience::Forever)),
+            6 => match self.known.first() {
+                Some(one) => told(registry.detach_entry(other, &one.entry)),
+                None => return,
+            },
+            7 => match self.tokens.pop() {
+                Some(token) => {
+                    let error = token.destroy(other, Patience::Forever).unwrap_err();
+                    self.tokens.push(error.given);
+                    Err(error.refusal)
+                }
+                None => return,
+            },
+            8 => match self.locals.pop() {
+                Some((held, of)) => {
+                    let cloned = told(LocalRef::try_clone(&held, other));
+                    let released = LocalRef::release(held, other).unwrap_err();
+                    let attached = registry.attach_iface(other, &name, released.given, self.drops.make(0)).unwrap_err();
+                    self.locals.push((attached.given.0, of));
+                    assert_eq!([cloned, Err(released.refusal)], [Err(Refusal::OtherRegistry); 2]);
+                    Err(attached.refusal)
+                }
+                None => return,
+            },
+            _ => {
+                let driver = common::local(other, "d0");
+                told(registry.attach_iface(&self.cpus[0], &name, driver, self.drops.make(0)))
             }
-            7 => self.mix_entries(),
-            8 => self.mix_locals(),
-            _ => self.attach_on_foreign(&name),
         };
         assert_eq!(refused, Err(Refusal::OtherRegistry));
-    }
-
-    fn mix_entries(&mut self) -> Result<(), Refusal> {
-        if let Some(one) = self.known.first() {
-            let refused = self.registry.detach_entry(self.foreign, &one.entry).map(drop).map_err(why);
-            assert_eq!(refused, Err(Refusal::OtherRegistry));
-        }
-        if let Some(token) = self.tokens.pop() {
-            let DestroyError { refusal, given } = token.destroy(self.foreign, Patience::Forever).unwrap_err();
-            self.tokens.push(given);
-            return Err(refusal);
-        }
-        Err(Refusal::OtherRegistry)
-    }
-
-    fn mix_locals(&mut self) -> Result<(), Refusal> {
-        let (held, of) = self.locals.pop().ok_or(Refusal::OtherRegistry)?;
-        let cloned = LocalRef::try_clone(&held, self.foreign).map(drop).map_err(why);
-        assert_eq!(cloned, Err(Refusal::OtherRegistry));
-        let Refused { refusal, given } = LocalRef::release(held, self.foreign).unwrap_err();
-        self.locals.push((given, of));
-        Err(refusal)
-    }
-
-    /// The reference is of another registry, or the CPU is.
-    fn attach_on_foreign(&mut self, name: &Name) -> Result<(), Refusal> {
-        let theirs = common::local(self.foreign, "d0");
-        let (driver, cpu, of) = match self.locals.pop() {
-            Some((own, of)) if self.dice.below(2) == 0 => (own, self.foreign, Some(of)),
-            own => {
-                self.locals.extend(own);
-                (theirs, &*self.cpus[0], None)
-            }
-        };
-        let Refused { refusal, given } = self.registry.attach_iface(cpu, name, driver, self.drops.make(7)).unwrap_err();
-        assert_eq!(given.1.label, 7);
-        self.locals.extend(of.map(|of| (given.0, of)));
-        Err(refusal)
     }
 }
 
@@ -899,15 +826,13 @@ impl Bench<'_> {
     }
 }
 
-/// What a call gave back is what it was given.
-fn back<G>(refused: Refused<G>, is_given: impl FnOnce(&G) -> bool) -> Refusal {
-    assert!(is_given(&refused.given));
-    refused.refusal
+fn told<R>(answer: Result<R, impl Into<Refusal>>) -> Told<()> {
+    answer.map(drop).map_err(why)
 }
 
 /// The numbers of what was freed, in its order.
 fn numbers(freed: &[Freed<Tracked>]) -> Vec<u64> {
-    freed.iter().map(|freed| freed.value.check()).for_each(drop);
+    freed.iter().for_each(|freed| freed.value.check());
     freed.iter().map(|freed| freed.entry.number).collect()
 }
 
@@ -950,7 +875,6 @@ fn run(seed: u64, steps: usize) {
     };
     let (registry, mut cpus) = opened.unwrap();
     let pool = CpuPool::new(cpus.drain(CPUS..)).unwrap();
-    let cpus: Vec<_> = cpus.into_iter().map(Rc::new).collect();
     let mut bench = Bench {
         registry: &registry,
         cpus: &cpus,
@@ -962,7 +886,7 @@ fn run(seed: u64, steps: usize) {
         open: (0..CPUS).map(|_| Vec::new()).collect(),
         begun: [0; CPUS],
         spent: [(0, 0); CPUS],
-        last: [None; CPUS],
+        last: [None; ALL],
         passives: Vec::new(),
         locals: Vec::new(),
         loans: Vec::new(),

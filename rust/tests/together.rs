@@ -1,9 +1,9 @@
-//! Random calls of threads that share a registry. Each thread alone changes its own names, so of these each answer is known; of the others' what
-//! is found is whole and has the name that was asked for.
+//! Threads that share a registry. Their calls are random. Each thread alone changes its own names, so of these each answer is known; of the others' what is
+//! found is whole and has the name that was asked for.
 
 mod common;
 
-use common::{name, scaled, Dice, Drops, Tracked};
+use common::{name, scaled, why, Dice, Drops, Tracked};
 use kupaldiz::{
     Cpu, DestroyError, Found, Holder, Kind, LocalRef, Name, PassiveRef, Patience, ReadGuard, Refusal, Registry, Retired, Settings, LIMITS,
 };
@@ -53,13 +53,36 @@ impl<'all, const CPUS: usize, const OWN: usize> Worker<'all, CPUS, OWN> {
                 }
             }
             Some((number, label)) => {
-                let retired = self.registry.detach(self.cpu, Kind::Driver, name).unwrap();
-                assert_eq!(retired.entry().number, number);
-                self.live[own] = None;
-                match self.dice.below(2) {
-                    0 => self.tokens.push((retired, label)),
-                    _ => retired.defer(),
+                let retired = match self.dice.below(3) {
+                    0 => self.replace(own, place),
+                    _ => {
+                        self.live[own] = None;
+                        Some(self.registry.detach(self.cpu, Kind::Driver, name).unwrap())
+                    }
+                };
+                if let Some(retired) = retired {
+                    assert_eq!(retired.entry().number, number);
+                    match self.dice.below(3) {
+                        0 | 1 => self.tokens.push((retired, label)),
+                        _ => retired.defer(),
+                    }
                 }
+            }
+        }
+    }
+
+    /// Puts another one in the place of one of its own, if a slot is left.
+    fn replace(&mut self, own: usize, place: usize) -> Option<Retired<Tracked>> {
+        self.labels += 1;
+        let label = self.labels * Self::NAMES as u64 + place as u64;
+        match self.cpu.table().replace(&self.names[place], self.drops.make(label)) {
+            Ok((entry, retired)) => {
+                self.live[own] = Some((entry.number, label));
+                Some(retired)
+            }
+            Err(refused) => {
+                assert_eq!((refused.refusal, refused.given.label), (Refusal::NoSlot, label));
+                None
             }
         }
     }
@@ -109,6 +132,8 @@ impl<'all, const CPUS: usize, const OWN: usize> Worker<'all, CPUS, OWN> {
                 assert!(entries
                     .iter()
                     .all(|found| self.names[Self::name_of(found.label)] == Found::entry(found).name));
+                let is_met = |number| entries.iter().any(|found| Found::entry(found).number == number);
+                assert!(self.live.iter().flatten().all(|live| is_met(live.0)));
             }
         }
     }
@@ -242,4 +267,30 @@ fn all_cpus_share_all_slots() {
     const SLOTS: usize = LIMITS.slots as usize;
     const OWN: usize = 2 * SLOTS / CPUS + 1;
     run::<CPUS, OWN>(SLOTS, 1000, scaled(2000));
+}
+
+/// All threads change the same names.
+#[test]
+fn several_writers_change_one_registry() {
+    let (drops, turns) = (Drops::default(), scaled(40_000) as u64 / 100);
+    let (registry, cpus) = Registry::open(Settings::new(3, 16)).unwrap();
+    thread::scope(|scope| {
+        for cpu in cpus {
+            let (registry, drops) = (&registry, &drops);
+            scope.spawn(move || {
+                for turn in 0..turns {
+                    let name = name(&format!("d{}", turn % 6));
+                    if let Err(refused) = registry.attach(&cpu, &name, drops.make(turn)) {
+                        assert!(matches!(refused.refusal, Refusal::NameTaken | Refusal::NoSlot));
+                    }
+                    let retired = registry.retire(&cpu, Kind::Driver, &name).map(drop).map_err(why);
+                    assert!(matches!(retired, Ok(()) | Err(Refusal::NotFound)));
+                }
+            });
+        }
+    });
+    drop(registry.collect());
+    assert_eq!(registry.retired(), 0);
+    drop(registry);
+    assert_eq!((drops.made() as u64, drops.dropped() as u64), (3 * turns, 3 * turns));
 }
