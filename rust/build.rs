@@ -9,8 +9,6 @@
 //!
 //! The limits that the archive was built for are in registry_limits.h: beside it, with the installed headers, or else in this crate. They are constants of
 //! the crate. The header also names the archive's version: over one of another version the crate doesn't compile.
-//!
-//! The calls of the archive that tests/common/watched.rs names are led there in the programs of the tests, which watch who is in which call.
 
 use std::env;
 use std::fs;
@@ -58,7 +56,6 @@ fn main() {
     println!("cargo:rerun-if-env-changed=REGISTRY_LIB_DIR");
     println!("cargo:rerun-if-changed={}", found.path().display());
     write_limits(&found.limits(&here));
-    lead_calls(&here.join("tests/common/watched.rs"));
 }
 
 /// The first archive that is there, else the one that the repository would have.
@@ -156,17 +153,4 @@ fn write_limits(header: &Path) {
     limits += &format!("extern \"C\" {{\n    #[link_name = \"{built_for}\"]\n    {call}\n}}\n");
     let to = Path::new(&env::var_os("OUT_DIR").unwrap()).join("limits.rs");
     fs::write(&to, limits).unwrap_or_else(|fault| panic!("{}: {fault}", to.display()));
-}
-
-/// Has the linker lead each call that the file wraps there.
-fn lead_calls(watched: &Path) {
-    println!("cargo:rerun-if-changed={}", watched.display());
-    if let Ok(text) = fs::read_to_string(watched) {
-        let calls = text
-            .lines()
-            .filter_map(|line| line.trim_start().strip_prefix("__wrap_")?.split('(').next());
-        for call in calls {
-            println!("cargo:rustc-link-arg-tests=-Wl,--wrap={call}");
-        }
-    }
 }

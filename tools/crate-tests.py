@@ -45,8 +45,9 @@ def words_of(name):
 
 
 def built(words):
-    """The program that cargo built, if it did."""
-    ended = subprocess.run(words, env={**os.environ, **QUICK}, stdout=subprocess.PIPE, text=True)
+    """The program that cargo built, if it did. The linker leads the archive's calls to the tests' own eyes, which the crate alone doesn't have."""
+    watched = {} if "--lib" in words else {"RUSTFLAGS": subprocess.run([CRATE / "tests/watching.sh"], stdout=subprocess.PIPE, text=True).stdout.strip()}
+    ended = subprocess.run(words, env={**os.environ, **QUICK, **watched}, stdout=subprocess.PIPE, text=True)
     found = [it.get("executable") for it in map(json.loads, ended.stdout.splitlines()) if it["reason"] == "compiler-artifact"]
     return next(filter(None, found), None) if ended.returncode == 0 else None
 

@@ -158,13 +158,18 @@ fetch_rust() {
 
 # The crate's tests over the archive for the processor, each program under the emulator: but not those that call the compiler, nor what is seen of a
 # program that ends by a signal. The stress makes fewer changes.
-rust_tests() {
+rust_tests() (
     local room=$PWD/$out/debian
-    (cd rust && REGISTRY_CHANGES=60 LD_LIBRARY_PATH=$room/usr/lib/x86_64-linux-gnu RUSTC=$room/usr/bin/rustc CARGO_TARGET_DIR=$PWD/../out/$processor/rust \
-        CARGO_TARGET_AARCH64_UNKNOWN_LINUX_GNU_LINKER=${cross}gcc CARGO_TARGET_AARCH64_UNKNOWN_LINUX_GNU_RUNNER="env -u LD_LIBRARY_PATH $emulator" \
-        RUSTFLAGS='-C target-feature=+crt-static' "$room/usr/bin/cargo" test --offline --no-fail-fast --target $processor-unknown-linux-gnu --lib \
-        $(find tests -maxdepth 1 -name '*.rs' ! -name compile_fail.rs ! -name watching.rs -printf '--test %f ' | sed 's/\.rs / /g'))
-}
+    cd rust || return
+    local -x REGISTRY_CHANGES=60 LD_LIBRARY_PATH=$room/usr/lib/x86_64-linux-gnu RUSTC=$room/usr/bin/rustc CARGO_TARGET_DIR=$PWD/../out/$processor/rust
+    local -x CARGO_TARGET_AARCH64_UNKNOWN_LINUX_GNU_LINKER=${cross}gcc CARGO_TARGET_AARCH64_UNKNOWN_LINUX_GNU_RUNNER="env -u LD_LIBRARY_PATH $emulator"
+    local -x RUSTFLAGS='-C target-feature=+crt-static'
+    local words=("$room/usr/bin/cargo" test --offline --no-fail-fast --target "$processor-unknown-linux-gnu")
+    "${words[@]}" --lib || return 1
+    RUSTFLAGS+=" $(tests/watching.sh)"
+    # shellcheck disable=SC2046
+    "${words[@]}" $(find tests -maxdepth 1 -name '*.rs' ! -name compile_fail.rs ! -name watching.rs -printf '--test %f ' | sed 's/\.rs / /g')
+)
 
 test_order() {
     check "the tests of one thread are built to be looked at" make_for . ordered

@@ -122,14 +122,14 @@ guarded_rust() {
 
 # The programs of the crate's tests, as cargo names them where it isn't told to be quiet; except those that run the compiler or themselves, or look at types.
 rust_tests() {
-    (cd rust && CARGO_TERM_QUIET=false cargo test --offline --no-run --tests 2>&1) | grep -oE '/[^ ()]*/(carried|edges|face|memory|model|pool|together)-[0-9a-f]+'
+    (cd rust && CARGO_TERM_QUIET=false RUSTFLAGS=$(tests/watching.sh) cargo test --offline --no-run --test '*' 2>&1) | grep -oE '/[^ ()]*/(carried|edges|face|leaving|memory|model|pool|together)-[0-9a-f]+'
 }
 
 # Each of them under valgrind, except what forgets on purpose; the stress with fewer changes.
 guarded_tests() {
     local program programs
     programs=$(rust_tests)
-    [ "$(wc -w <<<"$programs")" -eq 7 ] || return 1
+    [ "$(wc -w <<<"$programs")" -eq 8 ] || return 1
     for program in $programs; do
         REGISTRY_CHANGES=60 guarded_rust "$program" --test-threads=1 --skip forgotten --skip had_again --skip static || return 1
     done
@@ -355,7 +355,8 @@ test_rust() {
     fi
     check "Rust: the documents, no warning" env RUSTDOCFLAGS="-D warnings" cargo doc --offline --no-deps
     check "Rust: a package of it is verified" cargo package --allow-dirty --offline
-    counted "Rust: tests" cargo test --offline --no-fail-fast --lib --tests
+    counted "Rust: the tests within" cargo test --offline --lib
+    counted "Rust: tests, where each call is watched" env RUSTFLAGS="$(tests/watching.sh)" cargo test --offline --no-fail-fast --test '*'
     counted "Rust: the docs' examples" cargo test --offline --doc
     check "Rust: the examples are built" cargo build --offline --release --examples
     cd .. || return

@@ -3,7 +3,7 @@
 //! The calls and their order are those of `registry_bench changes`; `bench/README.md` of the repository says what one is. It prints a line as that
 //! program does.
 
-use kupaldiz::{Cpu, DestroyError, Freed, Holder, Kind, LocalRef, Name, Patience, Refusal, Registry, Settings, LIMITS};
+use kupaldiz::{Cpu, Freed, Holder, Kind, LocalRef, Name, Patience, Refusal, Refused, Registry, Settings, LIMITS};
 use std::error::Error;
 use std::time::Instant;
 
@@ -71,7 +71,7 @@ fn meet_all(registry: &Registry<u64>, cpus: &[Cpu<u64>], name: &Name, count: u32
     let reference = cpus[1].get_local(Kind::Driver, name)?;
     let mut retired = Some(registry.detach(&cpus[0], Kind::Driver, name)?);
     let mut turn = |met| {
-        let DestroyError { refusal, given } = retired.take().expect("it comes back").advance().expect_err("it is held");
+        let Refused { refusal, given } = retired.take().expect("it comes back").advance().expect_err("it is held");
         assert!(refusal == Refusal::StillHeld(met));
         retired = Some(given);
         Ok(())

@@ -6,7 +6,7 @@
 //! releases what is left. It prints nanoseconds, those of `only` of processor time, the most that ever waited, and by how many KiB the process has
 //! grown.
 
-use kupaldiz::{Cpu, DestroyError, Found, Holder, Kind, LocalRef, Name, Refusal, Registry, Retired, Settings};
+use kupaldiz::{Cpu, Found, Holder, Kind, LocalRef, Name, Refusal, Refused, Registry, Retired, Settings};
 use std::error::Error;
 use std::fs;
 use std::thread;
@@ -91,7 +91,7 @@ fn only_on(registry: &Registry<u64>, cpus: &mut [Cpu<u64>], count: u64) -> Resul
 
 /// A turn on a retired entry that something holds.
 fn turn(retired: &mut Option<Retired<u64>>, met: Holder) -> Result<(), Refusal> {
-    let DestroyError { refusal, given } = retired.take().expect("it comes back").advance().expect_err("it is held");
+    let Refused { refusal, given } = retired.take().expect("it comes back").advance().expect_err("it is held");
     assert_eq!(refusal, Refusal::StillHeld(met));
     *retired = Some(given);
     Ok(())

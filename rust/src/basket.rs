@@ -49,7 +49,8 @@ impl Baskets {
         }
         dropped.push(local);
         if dropped.len() == 1 {
-            self.filled.words[slot / 64].fetch_or(1 << (slot % 64), Ordering::Relaxed);
+            // As `Tasks::note` needs it.
+            self.filled.words[slot / 64].fetch_or(1 << (slot % 64), Ordering::SeqCst);
         }
     }
 

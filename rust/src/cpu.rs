@@ -3,7 +3,7 @@
 use crate::carried::Record;
 use crate::ffi;
 use crate::places::Hold;
-use crate::refusal::{checked, Refusal};
+use crate::refusal::{checked, LookUpError};
 use crate::registry::Registry;
 use crate::section::Section;
 use crate::shared::{Lease, Shared};
@@ -140,7 +140,7 @@ impl<T> Cpu<T> {
     /// `TooDeep`, `SectionsSpent`.
     #[inline]
     #[track_caller]
-    pub fn enter(&self) -> Result<Section<'_, T>, Refusal> {
+    pub fn enter(&self) -> Result<Section<'_, T>, LookUpError> {
         self.enters(Location::caller());
         // SAFETY: as for `depth`.
         let entered = checked(unsafe { ffi::registry_enter(self.handle()) });
@@ -148,7 +148,7 @@ impl<T> Cpu<T> {
             self.left();
         }
         // SAFETY: that was the enter.
-        entered.map(|()| unsafe { Section::new(self) })
+        entered.map(|()| unsafe { Section::new(self) }).map_err(LookUpError::of)
     }
 
     /// Exits all sections that are still open. Their guards were forgotten: a guard that lives borrows the CPU.
@@ -166,6 +166,7 @@ impl<T> Cpu<T> {
         // SAFETY: as for `depth`. No guard lives, so nothing that was found in these sections is in use.
         while unsafe { ffi::registry_exit(self.handle()) } == ffi::DONE {}
         self.left();
+        self.wakes();
     }
 
     /// Whether this CPU has a passive reference to the entry with that number: `psref_held`.
@@ -174,6 +175,14 @@ impl<T> Cpu<T> {
         // SAFETY: as for `depth`.
         unsafe { ffi::registry_held(self.handle(), number, &mut held) };
         held
+    }
+}
+
+impl<T> Cpu<T> {
+    /// Wakes the tasks that wait for retired entries. It follows each call that may have let one go.
+    #[inline]
+    pub(crate) fn wakes(&self) {
+        self.shared().tasks().wake();
     }
 }
 

@@ -2,9 +2,9 @@
 
 use crate::cpu::Cpu;
 use crate::patience::{Patience, Pauses};
-use crate::refusal::Refusal;
+use crate::refusal::{DestroyError, DetachError, Refused};
 use crate::registry::Registry;
-use crate::retired::{DestroyError, Retired};
+use crate::retired::Retired;
 use crate::values::Freed;
 use std::error::Error;
 use std::fmt;
@@ -28,10 +28,10 @@ impl<T> Registry<T> {
     /// # Errors
     ///
     /// `OtherRegistry`, `Inside`: nothing is detached then.
-    pub fn drain(&self, cpu: &Cpu<T>, patience: Patience) -> Result<Drained<T>, Refusal> {
+    pub fn drain(&self, cpu: &Cpu<T>, patience: Patience) -> Result<Drained<T>, DetachError> {
         self.tidy(cpu)?;
         if cpu.is_inside() {
-            return Err(Refusal::Inside);
+            return Err(DetachError::Inside);
         }
         let live = self.shared.kept().all_live();
         // Another thread may have detached one meanwhile.
@@ -89,7 +89,7 @@ pub struct Drained<T> {
     /// What is freed.
     pub freed: Vec<Freed<T>>,
     /// What is still held, with what holds it.
-    pub held: Vec<DestroyError<T>>,
+    pub held: Vec<Refused<DestroyError, Retired<T>>>,
 }
 
 /// The error of [`Registry::close`], together with the registry: another handle of it exists.

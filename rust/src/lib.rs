@@ -54,7 +54,7 @@
 //! readers still hold the old entry. A lookup between the two finds nothing.
 //!
 //! ```
-//! use kupaldiz::{Found, Holder, Kind, Name, Refusal, Registry, Settings};
+//! use kupaldiz::{DestroyError, Found, Holder, Kind, Name, Registry, Settings};
 //!
 //! #[derive(Debug)]
 //! struct Driver {
@@ -69,13 +69,13 @@
 //! let found = section.find(Kind::Driver, &wm).unwrap();
 //! let retired = registry.detach(&cpus[1], Kind::Driver, &wm).unwrap();
 //! let held = retired.advance().unwrap_err();
-//! assert_eq!(held.refusal, Refusal::StillHeld(Holder::Grace(0)));
+//! assert_eq!(held.refusal, DestroyError::StillHeld(Holder::Grace(0)));
 //! assert_eq!(found.speed, 1000);
 //! let reference = Found::acquire(&found).unwrap();
 //! section.exit();
 //!
 //! let held = held.given.advance().unwrap_err();
-//! assert_eq!(held.refusal, Refusal::StillHeld(Holder::Passive(0)));
+//! assert_eq!(held.refusal, DestroyError::StillHeld(Holder::Passive(0)));
 //! assert_eq!(reference.speed, 1000);
 //! drop(reference);
 //! let driver: Driver = held.given.advance().unwrap().value;
@@ -243,10 +243,12 @@
 
 mod basket;
 mod carried;
+mod changes;
 mod cpu;
 mod ending;
 mod entries;
 mod ffi;
+mod generations;
 mod limits;
 mod local;
 mod lock;
@@ -263,6 +265,7 @@ mod section;
 mod settings;
 mod shared;
 mod table;
+mod tasks;
 mod usual;
 mod values;
 
@@ -270,6 +273,7 @@ pub use self::registry::Registry;
 pub use cpu::Cpu;
 pub use ending::{Drained, StillOpen};
 pub use entries::Entries;
+pub use generations::{Generations, Leaving, Reader};
 pub use limits::{limits, version, Limits, LIMITS};
 pub use local::LocalRef;
 pub use mapped::Mapped;
@@ -278,8 +282,8 @@ pub use passive::{PassiveRc, PassiveRef};
 pub use patience::Patience;
 pub use places::{Hold, Holders, Place};
 pub use pool::{CpuPool, Lent};
-pub use refusal::{Refusal, Refused};
-pub use retired::{DestroyError, Retired};
+pub use refusal::{AttachError, DestroyError, DetachError, LookUpError, Refusal, Refused};
+pub use retired::Retired;
 pub use section::{Found, Section};
 pub use settings::Settings;
 pub use table::Table;

@@ -125,7 +125,11 @@ mod tests {
             },
         ];
         for other in others {
-            assert_eq!(checked(other.compared()), Err(Refusal::OtherLimits), "{other:?}");
+            assert_eq!(
+                checked(other.compared()).map_err(Refusal::of),
+                Err(Refusal::OtherLimits),
+                "{other:?}"
+            );
         }
     }
 }

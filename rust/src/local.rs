@@ -4,7 +4,7 @@ use crate::carried::Record;
 use crate::cpu::Cpu;
 use crate::ffi;
 use crate::mapped::{Mapped, Stays};
-use crate::refusal::{Refusal, Refused};
+use crate::refusal::{LookUpError, Refusal, Refused};
 use crate::shared::{Lease, Shared};
 use crate::usual::ReadGuard;
 use crate::values::Entry;
@@ -106,7 +106,7 @@ impl<T> LocalRef<T> {
     /// `OtherRegistry` if the CPU is of another one. The reference is returned.
     // Inlined, it is never moved as a whole: a pair of an acquire and a release takes an eighth less.
     #[inline(always)]
-    pub fn release(mut reference: Self, cpu: &Cpu<T>) -> Result<(), Refused<Self>> {
+    pub fn release(mut reference: Self, cpu: &Cpu<T>) -> Result<(), Refused<Refusal, Self>> {
         if !reference.is_of(cpu.shared()) {
             let refusal = Refusal::OtherRegistry;
             return Err(Refused { refusal, given: reference });
@@ -127,7 +127,7 @@ impl<T> LocalRef<T> {
     /// that a section found.
     ///
     /// ```
-    /// use kupaldiz::{Kind, LocalRef, Name, Refusal, Registry, Settings};
+    /// use kupaldiz::{Kind, LocalRef, LookUpError, Name, Registry, Settings};
     ///
     /// let (registry, cpus) = Registry::open(Settings::new(2, 1)).unwrap();
     /// let wm = Name::parse("wm").unwrap();
@@ -136,23 +136,23 @@ impl<T> LocalRef<T> {
     /// let two = LocalRef::try_clone(&one, &cpus[1]).unwrap();
     /// registry.retire(&cpus[0], Kind::Driver, &wm).unwrap();
     /// assert_eq!((*one, *two), (7, 7));
-    /// assert_eq!(LocalRef::try_clone(&one, &cpus[1]).unwrap_err(), Refusal::NotFound);
+    /// assert_eq!(LocalRef::try_clone(&one, &cpus[1]).unwrap_err(), LookUpError::NotFound);
     /// ```
     ///
     /// # Errors
     ///
     /// `OtherRegistry`, `TooDeep`, `SectionsSpent`, `NotFound` once the entry is detached, `LocalFull`, `NoMemory`.
     #[track_caller]
-    pub fn try_clone(reference: &Self, cpu: &Cpu<T>) -> Result<LocalRef<T>, Refusal> {
+    pub fn try_clone(reference: &Self, cpu: &Cpu<T>) -> Result<LocalRef<T>, LookUpError> {
         if !reference.is_of(cpu.shared()) {
-            return Err(Refusal::OtherRegistry);
+            return Err(LookUpError::OtherRegistry);
         }
         let Entry { number, kind, name, .. } = LocalRef::entry(reference);
         let found = cpu.read(kind, &name)?;
         if ReadGuard::entry(&found).number == number {
             ReadGuard::acquire_local(&found)
         } else {
-            Err(Refusal::NotFound)
+            Err(LookUpError::NotFound)
         }
     }
 
@@ -197,6 +197,7 @@ impl<T> Drop for LocalRef<T> {
                 lease.shared.released(self.record.ticket());
             }
             lease.shared.baskets().lay(self.record.slot(), handle);
+            lease.shared.tasks().wake();
         }
     }
 }

@@ -5,7 +5,7 @@ use crate::cpu::Cpu;
 use crate::ffi;
 use crate::mapped::{Mapped, Stays};
 use crate::places::Hold;
-use crate::refusal::{checked, Refusal};
+use crate::refusal::{checked, LookUpError};
 use crate::values::Entry;
 use std::fmt;
 use std::ops::Deref;
@@ -40,9 +40,9 @@ pub struct PassiveRef<'cpu, T> {
 /// Acquires one more on a CPU that has one: `psref_copy`.
 #[inline]
 #[track_caller]
-fn copy<T>(cpu: &Cpu<T>, record: Record<T>) -> Result<Record<T>, Refusal> {
+fn copy<T>(cpu: &Cpu<T>, record: Record<T>) -> Result<Record<T>, LookUpError> {
     // SAFETY: this thread alone has the CPU, whose handle isn't empty.
-    checked(unsafe { ffi::registry_copy(cpu.handle(), record.number()) })?;
+    checked(unsafe { ffi::registry_copy(cpu.handle(), record.number()) }).map_err(LookUpError::of)?;
     Ok(cpu.noted(Hold::Passive, record, Location::caller()))
 }
 
@@ -55,6 +55,7 @@ fn release<T>(cpu: &Cpu<T>, record: &Record<T>) {
     if record.ticket() != 0 {
         cpu.shared().released(record.ticket());
     }
+    cpu.wakes();
 }
 
 impl<'cpu, T> PassiveRef<'cpu, T> {
@@ -87,7 +88,7 @@ impl<'cpu, T> PassiveRef<'cpu, T> {
     /// `PassiveFull`.
     #[inline]
     #[track_caller]
-    pub fn try_clone(reference: &Self) -> Result<PassiveRef<'cpu, T>, Refusal> {
+    pub fn try_clone(reference: &Self) -> Result<PassiveRef<'cpu, T>, LookUpError> {
         let record = copy(reference.cpu, reference.record)?;
         // SAFETY: it was acquired above.
         Ok(unsafe { PassiveRef::new(reference.cpu, record) })
@@ -185,7 +186,7 @@ impl<T> PassiveRc<T> {
     /// `PassiveFull`.
     #[inline]
     #[track_caller]
-    pub fn try_clone(reference: &Self) -> Result<PassiveRc<T>, Refusal> {
+    pub fn try_clone(reference: &Self) -> Result<PassiveRc<T>, LookUpError> {
         let record = copy(&reference.cpu, reference.record)?;
         // SAFETY: it was acquired above.
         Ok(unsafe { PassiveRc::new(Rc::clone(&reference.cpu), record) })

@@ -13,7 +13,7 @@ use std::time::{Duration, Instant};
 /// 3. It sleeps, for 16 microseconds at first, twice as long each time, 8 milliseconds at most.
 ///
 /// ```
-/// use kupaldiz::{Holder, Kind, Name, Patience, Refusal, Registry, Settings};
+/// use kupaldiz::{DestroyError, Holder, Kind, Name, Patience, Registry, Settings};
 /// use std::time::Duration;
 ///
 /// let (registry, cpus) = Registry::open(Settings::new(2, 4)).unwrap();
@@ -23,7 +23,7 @@ use std::time::{Duration, Instant};
 /// let found = section.find(Kind::Driver, &wm).unwrap();
 /// let retired = registry.detach(&cpus[0], Kind::Driver, &wm).unwrap();
 /// let refused = retired.destroy(&cpus[0], Patience::at_most(Duration::from_millis(1))).unwrap_err();
-/// assert_eq!(refused.refusal, Refusal::StillHeld(Holder::Grace(1)));
+/// assert_eq!(refused.refusal, DestroyError::StillHeld(Holder::Grace(1)));
 /// assert_eq!(*found, 7);
 /// section.exit();
 /// assert_eq!(refused.given.destroy(&cpus[0], Patience::Forever).unwrap().value, 7);

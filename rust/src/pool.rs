@@ -2,7 +2,7 @@
 
 use crate::cpu::Cpu;
 use crate::local::LocalRef;
-use crate::refusal::Refusal;
+use crate::refusal::{LookUpError, Refusal};
 use crate::values::Kind;
 use crate::Name;
 use std::fmt;
@@ -190,7 +190,7 @@ impl<T> CpuPool<T> {
     ///
     /// As for [`lend`](CpuPool::lend).
     #[track_caller]
-    pub fn get_local(&self, kind: Kind, name: &Name) -> Result<LocalRef<T>, Refusal> {
+    pub fn get_local(&self, kind: Kind, name: &Name) -> Result<LocalRef<T>, LookUpError> {
         self.lend().get_local(kind, name)
     }
 

@@ -1,17 +1,13 @@
 //! The registry: its opening, and the calls behind the interlock.
 
-use crate::carried::{Carried, Plain, Record};
 use crate::cpu::Cpu;
 use crate::ffi;
-use crate::local::LocalRef;
 use crate::patience::{Patience, Pauses};
 use crate::places::{Holders, Places};
-use crate::refusal::{checked, refusal_of, Refusal, Refused};
-use crate::retired::Retired;
+use crate::refusal::{checked, Foreign, Refusal};
 use crate::settings::Settings;
-use crate::shared::{Kept, Shared, NO_CPUS};
-use crate::values::{Balance, Entry, Freed, Kind};
-use crate::Name;
+use crate::shared::{Shared, NO_CPUS};
+use crate::values::{Balance, Entry, Freed};
 use std::fmt;
 use std::hash::{Hash, Hasher};
 use std::sync::Arc;
@@ -147,265 +143,21 @@ impl<T> Registry<T> {
 
     /// The CPU is of this registry, else `OtherRegistry`.
     #[inline]
-    fn check(&self, cpu: &Cpu<T>) -> Result<(), Refusal> {
+    fn check(&self, cpu: &Cpu<T>) -> Result<(), Foreign> {
         if cpu.is_of(&self.shared) {
             Ok(())
         } else {
-            Err(Refusal::OtherRegistry)
+            Err(Foreign)
         }
     }
 
     /// What comes before a change: the CPU releases what was dropped. A CPU that is inside doesn't, since the change will be refused.
-    pub(crate) fn tidy(&self, cpu: &Cpu<T>) -> Result<(), Refusal> {
+    pub(crate) fn tidy(&self, cpu: &Cpu<T>) -> Result<(), Foreign> {
         self.check(cpu)?;
         if self.shared.baskets().has_any() && !cpu.is_inside() {
             cpu.release_dropped();
         }
         Ok(())
-    }
-}
-
-/// Changes. An attach and a detach drop no `T`, so a caller may hold a lock that the drop of a `T` takes.
-impl<T> Registry<T> {
-    /// Attaches a driver that carries this value. Lookups that begin after this call has returned find it, until it is detached.
-    ///
-    /// If no slot is vacant, the call releases the local references that were dropped, makes one turn on each retired entry, and tries again. So it fails
-    /// with `NoSlot` only if each slot has an entry that is live or held. A value that is freed by that goes to its [`Retired`], or to the next call that
-    /// [returns or drops](crate#what-is-dropped) what is freed.
-    ///
-    /// # Errors
-    ///
-    /// `OtherRegistry`, `Inside`, `NameTaken`, `NoSlot`, `HistoryFull`. The value is returned.
-    pub fn attach(&self, cpu: &Cpu<T>, name: &Name, value: T) -> Result<Entry, Refused<T>> {
-        if let Err(refusal) = self.tidy(cpu) {
-            return Err(Refused { refusal, given: value });
-        }
-        self.attach_by(cpu, value, |keeper, word, made| {
-            // SAFETY: the keeper is locked, the CPU is this thread's, both are of one registry, and their handles aren't empty.
-            unsafe { ffi::registry_attach(keeper, cpu.handle(), &name.words, word, made) }
-        })
-    }
-
-    /// Attaches an interface that carries this value, on the driver that the reference is to. The interface's slot keeps the reference, so the driver
-    /// outlives the interface. If no slot is vacant, the call does what [`attach`](Registry::attach) does then.
-    ///
-    /// ```
-    /// use kupaldiz::{Kind, Name, Registry, Settings};
-    ///
-    /// let (registry, cpus) = Registry::open(Settings::new(1, 4)).unwrap();
-    /// let (wm, wm0) = (Name::parse("wm").unwrap(), Name::parse("wm0").unwrap());
-    /// registry.attach(&cpus[0], &wm, 7).unwrap();
-    /// let driver = cpus[0].get_local(Kind::Driver, &wm).unwrap();
-    /// let made = registry.attach_iface(&cpus[0], &wm0, driver, 1500).unwrap();
-    /// assert_eq!((made.number, made.kind), (2, Kind::Iface));
-    /// ```
-    ///
-    /// # Errors
-    ///
-    /// `OtherRegistry` for the CPU or the reference, `Inside`, `NeedsDriver` if the reference is to an interface, `NameTaken`, `NoSlot`,
-    /// `HistoryFull`. The reference and the value are returned.
-    pub fn attach_iface(&self, cpu: &Cpu<T>, name: &Name, mut driver: LocalRef<T>, value: T) -> Result<Entry, Refused<(LocalRef<T>, T)>> {
-        let other = if driver.is_of(&self.shared) {
-            self.tidy(cpu).err()
-        } else {
-            Some(Refusal::OtherRegistry)
-        };
-        if let Some(refusal) = other {
-            let given = (driver, value);
-            return Err(Refused { refusal, given });
-        }
-        let made = self.attach_by(cpu, value, |keeper, word, made| {
-            let local = driver.handle();
-            // SAFETY: as for `attach`; the reference is of the same registry, and this is the only use of its handle. It is empty afterwards
-            // where the call is done, so that dropping the reference releases nothing.
-            unsafe { ffi::registry_attach_iface(keeper, cpu.handle(), local, &name.words, word, made) }
-        });
-        if let (Ok(entry), Some(places)) = (&made, self.shared.places()) {
-            places.kept(driver.ticket(), entry.number);
-        }
-        made.map_err(|Refused { refusal, given }| Refused {
-            refusal,
-            given: (driver, given),
-        })
-    }
-
-    /// Attaches what the call attaches, under the interlock. Where no slot is vacant, once more after what nobody holds was freed.
-    fn attach_by<C>(&self, cpu: &Cpu<T>, value: T, mut call: C) -> Result<Entry, Refused<T>>
-    where
-        C: FnMut(&mut ffi::Keeper, u64, *mut ffi::Entry) -> u32,
-    {
-        let carried = Carried::new(value);
-        let mut attached = Registry::attach_once(&mut self.shared.kept(), carried, &mut call);
-        if attached == Err(ffi::NO_SLOT) {
-            cpu.release_dropped();
-            if self.shared.make_room() {
-                attached = Registry::attach_once(&mut self.shared.kept(), carried, &mut call);
-            }
-        }
-        attached.map_err(|answer| {
-            // SAFETY: registry.h says of a call that is refused that it changes nothing, so no entry has the address.
-            let given = unsafe { carried.take() };
-            let refusal = refusal_of(answer);
-            Refused { refusal, given }
-        })
-    }
-
-    fn attach_once<C>(kept: &mut Kept<T>, carried: Carried<T>, mut call: C) -> Result<Entry, u32>
-    where
-        C: FnMut(&mut ffi::Keeper, u64, *mut ffi::Entry) -> u32,
-    {
-        // SAFETY: the call is an attach, which registry.h says writes the entry, to this registry.
-        let record = unsafe { Record::<T>::written(|made| call(&mut kept.keeper, carried.word(), made)) }?;
-        // SAFETY: the call has attached the entry with the value's address.
-        unsafe { kept.note(record.plain(), carried) };
-        Ok(record.entry())
-    }
-
-    /// Detaches the live entry with this kind and name. Lookups that begin after this call has returned don't find it. It keeps its value until the
-    /// returned [`Retired`] has taken that, and its slot as long as something holds it.
-    ///
-    /// ```
-    /// use kupaldiz::{Kind, Name, Patience, Registry, Settings};
-    ///
-    /// let (registry, cpus) = Registry::open(Settings::new(1, 4)).unwrap();
-    /// let wm = Name::parse("wm").unwrap();
-    /// registry.attach(&cpus[0], &wm, 7).unwrap();
-    /// let retired = registry.detach(&cpus[0], Kind::Driver, &wm).unwrap();
-    /// assert_eq!(retired.destroy(&cpus[0], Patience::Forever).unwrap().value, 7);
-    /// ```
-    ///
-    /// # Errors
-    ///
-    /// `OtherRegistry`, `Inside`, `NotFound`.
-    pub fn detach(&self, cpu: &Cpu<T>, kind: Kind, name: &Name) -> Result<Retired<T>, Refusal> {
-        self.tidy(cpu)?;
-        self.detach_by(&mut self.shared.kept(), cpu, kind, name)
-    }
-
-    /// Detaches this entry, as [`detach`](Registry::detach) does, if it is still live. Another entry that has its kind and name by now stays.
-    ///
-    /// ```
-    /// use kupaldiz::{Found, Kind, Name, Refusal, Registry, Settings};
-    ///
-    /// let (registry, cpus) = Registry::open(Settings::new(1, 4)).unwrap();
-    /// let wm = Name::parse("wm").unwrap();
-    /// registry.attach(&cpus[0], &wm, 7).unwrap();
-    /// let section = cpus[0].enter().unwrap();
-    /// let listed: Vec<_> = section.entries().map(|found| Found::entry(&found)).collect();
-    /// section.exit();
-    /// registry.retire(&cpus[0], Kind::Driver, &wm).unwrap();
-    /// registry.attach(&cpus[0], &wm, 8).unwrap();
-    /// assert_eq!(registry.detach_entry(&cpus[0], &listed[0]).unwrap_err(), Refusal::NotFound);
-    /// assert_eq!(*cpus[0].get(Kind::Driver, &wm).unwrap(), 8);
-    /// ```
-    ///
-    /// # Errors
-    ///
-    /// `OtherRegistry` for the CPU, `Inside`, `NotFound` if no live entry is this one.
-    pub fn detach_entry(&self, cpu: &Cpu<T>, entry: &Entry) -> Result<Retired<T>, Refusal> {
-        self.tidy(cpu)?;
-        let mut kept = self.shared.kept();
-        let is_live = kept.live(entry.number).map(|live| live.entry()) == Some(*entry);
-        if cpu.is_inside() || is_live {
-            self.detach_by(&mut kept, cpu, entry.kind, &entry.name)
-        } else {
-            Err(Refusal::NotFound)
-        }
-    }
-
-    /// Detaches under the interlock.
-    fn detach_by(&self, kept: &mut Kept<T>, cpu: &Cpu<T>, kind: Kind, name: &Name) -> Result<Retired<T>, Refusal> {
-        let keeper = &mut kept.keeper;
-        // SAFETY: as for `attach`.
-        let call = |gone: *mut ffi::Entry| unsafe { ffi::registry_detach(keeper, cpu.handle(), kind.number(), &name.words, gone) };
-        // SAFETY: registry.h says of a detach that it writes the entry.
-        let gone = unsafe { Record::<T>::written(call) }.map_err(refusal_of)?;
-        kept.retire(gone.number());
-        if let Some(places) = self.shared.places() {
-            places.detached(gone.number());
-        }
-        // SAFETY: the entry was just detached.
-        Ok(unsafe { Retired::new(Arc::clone(&self.shared), gone.carried()) })
-    }
-
-    /// Replaces what the live driver with this name carries: detaches it, and attaches another one with this value, under one hold of the interlock. A
-    /// lookup between the two finds nothing. Whoever holds the old entry keeps that. The new one needs a slot of its own: if none is vacant, the call does
-    /// what [`attach`](Registry::attach) does then. On an error the old entry stays.
-    ///
-    /// ```
-    /// use kupaldiz::{Kind, Name, Patience, Registry, Settings};
-    ///
-    /// let (registry, cpus) = Registry::open(Settings::new(2, 4)).unwrap();
-    /// let wm = Name::parse("wm").unwrap();
-    /// registry.attach(&cpus[0], &wm, 7).unwrap();
-    /// let (made, old) = registry.replace(&cpus[0], &wm, 8).unwrap();
-    /// assert_eq!((made.number, old.destroy(&cpus[0], Patience::Forever).unwrap().value), (3, 7));
-    /// assert_eq!(*cpus[1].get(Kind::Driver, &wm).unwrap(), 8);
-    /// ```
-    ///
-    /// # Errors
-    ///
-    /// `OtherRegistry`, `Inside`, `NotFound`, `NoSlot`, `HistoryFull`. The value is returned.
-    pub fn replace(&self, cpu: &Cpu<T>, name: &Name, value: T) -> Result<(Entry, Retired<T>), Refused<T>> {
-        if let Err(refusal) = self.tidy(cpu) {
-            return Err(Refused { refusal, given: value });
-        }
-        let carried = Carried::new(value);
-        let mut replaced = self.replace_once(cpu, name, carried);
-        if matches!(replaced, Err(Refusal::NoSlot)) {
-            cpu.release_dropped();
-            if self.shared.make_room() {
-                replaced = self.replace_once(cpu, name, carried);
-            }
-        }
-        replaced.map_err(|refusal| {
-            // SAFETY: nothing was attached, so no entry has the address.
-            let given = unsafe { carried.take() };
-            Refused { refusal, given }
-        })
-    }
-
-    fn replace_once(&self, cpu: &Cpu<T>, name: &Name, carried: Carried<T>) -> Result<(Entry, Retired<T>), Refusal> {
-        let mut kept = self.shared.kept();
-        let is_there = kept
-            .all_live()
-            .iter()
-            .map(Plain::entry)
-            .any(|live| (live.kind, live.name) == (Kind::Driver, *name));
-        if is_there && !cpu.is_inside() {
-            kept.check_room(&self.settings())?;
-        }
-        let retired = self.detach_by(&mut kept, cpu, Kind::Driver, name)?;
-        let call = |keeper: &mut ffi::Keeper, word, made: *mut ffi::Entry| {
-            // SAFETY: as for `attach`.
-            unsafe { ffi::registry_attach(keeper, cpu.handle(), &name.words, word, made) }
-        };
-        let attached = Registry::attach_once(&mut kept, carried, call);
-        // The token may be dropped, which takes the interlock.
-        drop(kept);
-        Ok((attached.map_err(refusal_of)?, retired))
-    }
-
-    /// Detaches the live entry with this kind and name, [defers](Retired::defer) it, and returns what is free already: this entry, if nothing holds it,
-    /// and those that were retired before. What is still held a later retire or [`Registry::collect`] returns.
-    ///
-    /// ```
-    /// use kupaldiz::{Kind, Name, Registry, Settings};
-    ///
-    /// let (registry, cpus) = Registry::open(Settings::new(2, 4)).unwrap();
-    /// let wm = Name::parse("wm").unwrap();
-    /// for value in [7, 8] {
-    ///     registry.attach(&cpus[0], &wm, value).unwrap();
-    ///     let freed = registry.retire(&cpus[0], Kind::Driver, &wm).unwrap();
-    ///     assert_eq!(freed[0].value, value);
-    /// }
-    /// ```
-    ///
-    /// # Errors
-    ///
-    /// `OtherRegistry`, `Inside`, `NotFound`.
-    pub fn retire(&self, cpu: &Cpu<T>, kind: Kind, name: &Name) -> Result<Vec<Freed<T>>, Refusal> {
-        Ok(self.detach(cpu, kind, name)?.deferred())
     }
 }
 
@@ -463,8 +215,8 @@ impl<T> Registry<T> {
     pub fn perform(&self, cpu: &Cpu<T>, patience: Patience) -> Result<(), Refusal> {
         self.check(cpu)?;
         let mut wait = ffi::Wait::EMPTY;
-        // SAFETY: as for `attach`.
-        checked(unsafe { ffi::registry_perform_begin(&mut self.shared.kept().keeper, cpu.handle(), &mut wait) })?;
+        // SAFETY: the keeper is locked, the CPU is this thread's, both are of one registry, and their handles aren't empty.
+        checked(unsafe { ffi::registry_perform_begin(&mut self.shared.kept().keeper, cpu.handle(), &mut wait) }).map_err(Refusal::of)?;
         cpu.release_dropped();
         let mut pauses = Pauses::new(patience);
         loop {
@@ -478,11 +230,11 @@ impl<T> Registry<T> {
     /// One turn of the wait.
     fn perform_turn(&self, cpu: &Cpu<T>, wait: &mut ffi::Wait) -> Result<(), Refusal> {
         let mut waited = 0;
-        // SAFETY: as for `attach`; the wait is one that `perform` began, and only these turns write it.
+        // SAFETY: as for `perform`; the wait is one that `perform` began, and only these turns write it.
         let answer = unsafe { ffi::registry_perform_turn(&mut self.shared.kept().keeper, cpu.handle(), wait, &mut waited) };
         match answer {
             ffi::WAITING => Err(Refusal::Waiting(waited as u8)),
-            other => checked(other),
+            other => checked(other).map_err(Refusal::of),
         }
     }
 
@@ -535,13 +287,13 @@ impl<T> Registry<T> {
             *place = cpu.take_out();
         }
         let row = handles.as_mut_ptr();
-        // SAFETY: as for `attach`, of so many CPUs; their handles are put back before anything else is done with them.
+        // SAFETY: as for `perform`, of so many CPUs; their handles are put back before anything else is done with them.
         let answer = unsafe { ffi::registry_audit(&mut kept.keeper, row, cpus.len(), list.as_mut_ptr(), list.len(), &mut length) };
         for (handle, cpu) in IntoIterator::into_iter(handles).zip(cpus) {
             // SAFETY: it was taken out of this CPU above.
             unsafe { cpu.put_back(handle) };
         }
-        checked(answer)?;
+        checked(answer).map_err(Refusal::of)?;
         Ok(length)
     }
 }

@@ -3,19 +3,19 @@
 use crate::carried::{Carried, Plain};
 use crate::cpu::Cpu;
 use crate::patience::{Patience, Pauses};
-use crate::refusal::Refusal;
+use crate::refusal::{DestroyError, Refused, ShownWith};
 use crate::registry::Registry;
 use crate::shared::Shared;
 use crate::values::{Entry, Freed, Holder, Met};
-use std::error::Error;
 use std::fmt;
-use std::mem::ManuallyDrop;
-use std::ptr;
+use std::future::Future;
+use std::pin::Pin;
 use std::sync::Arc;
+use std::task::{Context, Poll};
 
 /// An entry that was detached: [`Registry::detach`] returns it. Lookups that begin afterwards don't find it. It keeps its value until nothing holds it and
-/// it is freed. [`destroy`](Retired::destroy) waits for that, and [`advance`](Retired::advance) doesn't. Dropping it is the same as
-/// [`defer`](Retired::defer): it drops the value if nothing holds it, or leaves it to later calls. That waits for no reader.
+/// it is freed. [`destroy`](Retired::destroy) and [`wait`](Retired::wait) wait for that, and so does an `.await`; [`advance`](Retired::advance) doesn't.
+/// Dropping it is the same as [`defer`](Retired::defer): it drops the value if nothing holds it, or leaves it to later calls. That waits for no reader.
 ///
 /// As long as it exists its value waits for it. But it keeps no slot from others, as where it lies in a boxed error: an attach that needs the slot frees
 /// the entry, if nothing holds it.
@@ -23,7 +23,7 @@ use std::sync::Arc;
 /// It co-owns its registry. It may be stored, and go to other threads.
 ///
 /// ```
-/// use kupaldiz::{Holder, Kind, Name, Refusal, Registry, Settings};
+/// use kupaldiz::{DestroyError, Holder, Kind, Name, Registry, Settings};
 ///
 /// let (registry, cpus) = Registry::open(Settings::new(2, 4)).unwrap();
 /// let wm = Name::parse("wm").unwrap();
@@ -31,13 +31,33 @@ use std::sync::Arc;
 /// let section = cpus[1].enter().unwrap();
 /// let retired = registry.detach(&cpus[0], Kind::Driver, &wm).unwrap();
 /// let held = retired.advance().unwrap_err();
-/// assert_eq!(held.refusal, Refusal::StillHeld(Holder::Grace(1)));
+/// assert_eq!(held.refusal, DestroyError::StillHeld(Holder::Grace(1)));
 /// section.exit();
 /// assert_eq!(held.given.advance().unwrap().value, 7);
 /// ```
+///
+/// # As a future
+///
+/// An `.await` returns the [`Freed`], and needs no CPU, no runtime and no thread. A poll makes one turn. If something holds the entry, the poll notes the
+/// task and makes a second turn. The tasks of a registry are woken by each call that lets something go: a section's exit, a release or a drop of a
+/// reference, a lookup's end, and a turn that frees an entry. That call takes a short lock and calls the wakers; where no task waits, it does neither.
+///
+/// So readers make the progress, and the poll frees the entry: nobody else makes turns on it, except an attach that needs its slot. A task whose entry is
+/// held by what was forgotten, or by what the task itself keeps, isn't woken. A future that is dropped [defers](Retired::defer) its entry.
+///
+/// ```
+/// use kupaldiz::{Cpu, Kind, Name, Refusal, Registry};
+///
+/// async fn unplug(registry: Registry<String>, cpu: Cpu<String>, name: Name) -> Result<String, Refusal> {
+///     let retired = registry.detach(&cpu, Kind::Driver, &name)?;
+///     drop(cpu);
+///     Ok(retired.await.value)
+/// }
+/// ```
 #[must_use = "an entry that nobody destroys or defers by name is deferred as this is dropped"]
 pub struct Retired<T> {
-    shared: Arc<Shared<T>>,
+    /// None once its value was taken, which a future may outlive.
+    shared: Option<Arc<Shared<T>>>,
     /// What the entry carries, with the entry beside it. A token is no longer than this: it is moved at each turn.
     carried: Carried<T>,
 }
@@ -47,17 +67,28 @@ impl<T> Retired<T> {
     ///
     /// The entry that carries this was just detached, and no other token is of it.
     pub(crate) unsafe fn new(shared: Arc<Shared<T>>, carried: Carried<T>) -> Retired<T> {
+        let shared = Some(shared);
         Retired { shared, carried }
     }
 
     #[inline]
+    fn shared(&self) -> &Arc<Shared<T>> {
+        self.shared.as_ref().expect("a future whose value wasn't returned")
+    }
+
+    #[inline]
     fn plain(&self) -> Plain {
+        self.shared();
         // SAFETY: an attach noted the entry, under the interlock, before the detach. Its value is taken by this token, or after this token has deferred
-        // it, and each of these is the token's end.
+        // it, and each of these takes `shared` away.
         unsafe { self.carried.plain() }
     }
 
     /// The entry, as it was attached.
+    ///
+    /// # Panics
+    ///
+    /// This and all other calls panic, if the future has returned the value.
     #[must_use]
     pub fn entry(&self) -> Entry {
         self.plain().entry()
@@ -66,7 +97,7 @@ impl<T> Retired<T> {
     /// The registry that it is of.
     #[must_use]
     pub fn registry(&self) -> Registry<T> {
-        Registry::of(Arc::clone(&self.shared))
+        Registry::of(Arc::clone(self.shared()))
     }
 
     /// Tries once to free it, and waits only for the interlock. If nothing holds it, it is freed and what it carried is returned. Nothing holds a freed
@@ -77,17 +108,25 @@ impl<T> Retired<T> {
     /// `StillHeld` with the first thing that holds it. The `Retired` is returned.
     // Inlined, the token isn't moved: a turn that meets something takes a tenth less.
     #[inline(always)]
-    pub fn advance(self) -> Result<Freed<T>, DestroyError<T>> {
-        let (entry, mut kept) = (self.plain(), self.shared.kept());
+    pub fn advance(self) -> Result<Freed<T>, Refused<DestroyError, Retired<T>>> {
+        let done = self.turn();
+        self.after(done)
+    }
+
+    /// One turn without a CPU. Once it is done, `after` or the like follows.
+    #[inline(always)]
+    fn turn(&self) -> Result<Freed<T>, DestroyError> {
+        let (entry, shared) = (self.plain(), self.shared());
+        let mut kept = shared.kept();
         // SAFETY: no CPU is given.
         let met = unsafe { kept.turn(None, entry.number) };
-        if self.shared.goes_on(met) {
+        if shared.goes_on(met) {
             // SAFETY: the turn was just made.
-            let done = unsafe { self.shared.go_on(kept, None, entry.number, entry.slot(), met.locals()) };
-            return self.after(done.map_err(Met::refusal));
+            let done = unsafe { shared.go_on(kept, None, entry.number, entry.slot(), met.locals()) };
+            return done.map_err(Met::refusal);
         }
         drop(kept);
-        self.after(Err(met.refusal()))
+        Err(met.refusal())
     }
 
     /// Waits until nothing holds it, and frees it: `psref_target_destroy`, `localcount_drain`. What it carried is returned, and nothing holds it, now or
@@ -98,7 +137,7 @@ impl<T> Retired<T> {
     /// [`Patience::Forever`] it waits for these for ever.
     ///
     /// ```
-    /// use kupaldiz::{Holder, Kind, Name, Patience, PassiveRef, Refusal, Registry, Settings};
+    /// use kupaldiz::{DestroyError, Holder, Kind, Name, Patience, PassiveRef, Registry, Settings};
     ///
     /// let (registry, cpus) = Registry::open(Settings::new(2, 4)).unwrap();
     /// let wm = Name::parse("wm").unwrap();
@@ -106,7 +145,7 @@ impl<T> Retired<T> {
     /// let reference = cpus[0].get(Kind::Driver, &wm).unwrap();
     /// let retired = registry.detach(&cpus[0], Kind::Driver, &wm).unwrap();
     /// let refused = retired.destroy(&cpus[0], Patience::Forever).unwrap_err();
-    /// assert_eq!(refused.refusal, Refusal::StillHeld(Holder::Passive(0)));
+    /// assert_eq!(refused.refusal, DestroyError::StillHeld(Holder::Passive(0)));
     /// PassiveRef::release(reference);
     /// assert_eq!(refused.given.destroy(&cpus[0], Patience::Forever).unwrap().value, 7);
     /// ```
@@ -115,22 +154,24 @@ impl<T> Retired<T> {
     ///
     /// `OtherRegistry`, `Inside`, `StillHeld` with this CPU's passive reference, otherwise with what the last try met. The `Retired` is
     /// returned.
-    pub fn destroy(self, cpu: &Cpu<T>, patience: Patience) -> Result<Freed<T>, DestroyError<T>> {
+    pub fn destroy(self, cpu: &Cpu<T>, patience: Patience) -> Result<Freed<T>, Refused<DestroyError, Retired<T>>> {
         let done = self.destroy_by(cpu, patience);
         self.after(done)
     }
 
-    fn destroy_by(&self, cpu: &Cpu<T>, patience: Patience) -> Result<Freed<T>, Refusal> {
-        if !cpu.is_of(&self.shared) {
-            return Err(Refusal::OtherRegistry);
+    fn destroy_by(&self, cpu: &Cpu<T>, patience: Patience) -> Result<Freed<T>, DestroyError> {
+        if !cpu.is_of(self.shared()) {
+            return Err(DestroyError::OtherRegistry);
         }
         let (mut pauses, entry) = (Pauses::new(patience), self.plain());
         loop {
             // SAFETY: the CPU is this thread's and of this registry, and its handle isn't empty.
-            let turned = unsafe { self.shared.turn(Some(cpu.handle()), entry) };
+            let turned = unsafe { self.shared().turn(Some(cpu.handle()), entry) };
             let refusal = match turned.map_err(Met::refusal) {
-                Err(Refusal::StillHeld(_)) if cpu.holds(entry.number) => return Err(Refusal::StillHeld(Holder::Passive(cpu.id()))),
-                Err(refusal @ Refusal::StillHeld(_)) => refusal,
+                Err(DestroyError::StillHeld(_)) if cpu.holds(entry.number) => {
+                    return Err(DestroyError::StillHeld(Holder::Passive(cpu.id())));
+                }
+                Err(refusal @ DestroyError::StillHeld(_)) => refusal,
                 done => return done,
             };
             if !pauses.another() {
@@ -159,7 +200,7 @@ impl<T> Retired<T> {
     /// # Errors
     ///
     /// `StillHeld` with what the last try met. The `Retired` is returned.
-    pub fn wait(mut self, patience: Patience) -> Result<Freed<T>, DestroyError<T>> {
+    pub fn wait(mut self, patience: Patience) -> Result<Freed<T>, Refused<DestroyError, Retired<T>>> {
         let mut pauses = Pauses::new(patience);
         loop {
             match self.advance() {
@@ -171,21 +212,14 @@ impl<T> Retired<T> {
 
     /// What a call returns that ended so.
     #[inline]
-    fn after(self, done: Result<Freed<T>, Refusal>) -> Result<Freed<T>, DestroyError<T>> {
+    fn after(mut self, done: Result<Freed<T>, DestroyError>) -> Result<Freed<T>, Refused<DestroyError, Retired<T>>> {
         match done {
             Ok(freed) => {
-                self.spend();
+                self.shared = None;
                 Ok(freed)
             }
-            Err(refusal) => Err(DestroyError { refusal, given: self }),
+            Err(refusal) => Err(Refused { refusal, given: self }),
         }
-    }
-
-    /// The token's end, where its value is taken or the entry deferred.
-    fn spend(self) {
-        let token = ManuallyDrop::new(self);
-        // SAFETY: nobody drops the token, so this is the only share that is taken out of it.
-        drop(unsafe { ptr::read(&token.shared) });
     }
 
     /// Leaves it to later calls, as dropping it does. It makes one turn on each entry that was deferred, and drops what they carried that nothing holds
@@ -194,64 +228,61 @@ impl<T> Retired<T> {
     pub fn defer(self) {}
 
     /// Defers it, and returns what is free.
-    pub(crate) fn deferred(self) -> Vec<Freed<T>> {
-        let freed = self.shared.defer(self.plain());
-        self.spend();
+    pub(crate) fn deferred(mut self) -> Vec<Freed<T>> {
+        let freed = self.shared().defer(self.plain());
+        self.shared = None;
         freed
     }
 }
 
+impl<T> Future for Retired<T> {
+    type Output = Freed<T>;
+
+    /// # Panics
+    ///
+    /// If it has returned the value before.
+    fn poll(self: Pin<&mut Self>, context: &mut Context<'_>) -> Poll<Freed<T>> {
+        let token = self.get_mut();
+        let mut done = token.turn();
+        if done.is_err() {
+            token.shared().tasks().note(context.waker());
+            done = token.turn();
+        }
+        match done {
+            Ok(freed) => {
+                token.shared = None;
+                Poll::Ready(freed)
+            }
+            Err(_) => Poll::Pending,
+        }
+    }
+}
+
 impl<T> Drop for Retired<T> {
-    /// Defers it: a token whose value was taken isn't dropped.
+    /// Defers it, unless its value was taken.
     fn drop(&mut self) {
-        drop(self.shared.defer(self.plain()));
+        if let Some(shared) = &self.shared {
+            drop(shared.defer(self.plain()));
+        }
     }
 }
 
 impl<T> fmt::Debug for Retired<T> {
     fn fmt(&self, f: &mut fmt::Formatter<'_>) -> fmt::Result {
-        f.debug_struct("Retired").field("entry", &self.entry()).finish_non_exhaustive()
+        let mut shown = f.debug_struct("Retired");
+        if self.shared.is_some() {
+            shown.field("entry", &self.entry());
+        }
+        shown.finish_non_exhaustive()
     }
 }
 
-/// The error of a try to free an entry, together with its [`Retired`]. Its text names the first thing that holds the entry, and in a registry that was
-/// opened by [`Registry::open_tracked`] each line that does. It will have no other field, so a caller may take it apart.
-///
-/// In a function that returns a [`Refusal`], `?` converts it, and drops the `Retired`.
-pub struct DestroyError<T> {
-    /// The error.
-    pub refusal: Refusal,
-    /// The entry, which isn't freed.
-    pub given: Retired<T>,
-}
-
-impl<T> fmt::Debug for DestroyError<T> {
-    fn fmt(&self, f: &mut fmt::Formatter<'_>) -> fmt::Result {
-        f.debug_struct("DestroyError")
-            .field("refusal", &self.refusal)
-            .finish_non_exhaustive()
-    }
-}
-
-impl<T> fmt::Display for DestroyError<T> {
-    fn fmt(&self, f: &mut fmt::Formatter<'_>) -> fmt::Result {
-        self.refusal.fmt(f)?;
-        match (self.refusal, self.given.shared.places()) {
-            (Refusal::StillHeld(_), Some(places)) => write!(f, "; {}", places.holders(&self.given.entry())),
+impl<T> ShownWith<Retired<T>> for DestroyError {
+    fn show(&self, retired: &Retired<T>, f: &mut fmt::Formatter<'_>) -> fmt::Result {
+        fmt::Display::fmt(self, f)?;
+        match (self, retired.shared().places()) {
+            (DestroyError::StillHeld(_), Some(places)) => write!(f, "; {}", places.holders(&retired.entry())),
             _ => Ok(()),
         }
-    }
-}
-
-impl<T> Error for DestroyError<T> {
-    fn source(&self) -> Option<&(dyn Error + 'static)> {
-        Some(&self.refusal)
-    }
-}
-
-impl<T> From<DestroyError<T>> for Refusal {
-    /// Drops the [`Retired`].
-    fn from(error: DestroyError<T>) -> Refusal {
-        error.refusal
     }
 }

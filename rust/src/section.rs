@@ -7,7 +7,7 @@ use crate::ffi;
 use crate::local::LocalRef;
 use crate::passive::PassiveRef;
 use crate::places::Hold;
-use crate::refusal::{checked, Refusal};
+use crate::refusal::{checked, LookUpError};
 use crate::values::{Entry, Kind};
 use crate::Name;
 use std::fmt;
@@ -123,6 +123,7 @@ impl<T> Drop for Section<'_, T> {
         // SAFETY: as for `find`. One exit for the one enter that made the guard, so the CPU is inside.
         unsafe { ffi::registry_exit(self.cpu.handle()) };
         self.cpu.left();
+        self.cpu.wakes();
     }
 }
 
@@ -195,7 +196,7 @@ impl<'section, 'cpu, T> Found<'section, 'cpu, T> {
     /// `NotFound` if this CPU has looked up something else since and the entry was detached, `PassiveFull`.
     #[inline]
     #[track_caller]
-    pub fn acquire(found: &Self) -> Result<PassiveRef<'cpu, T>, Refusal> {
+    pub fn acquire(found: &Self) -> Result<PassiveRef<'cpu, T>, LookUpError> {
         if !found.is_last() || !acquire_last(found.cpu, found.record.number()) {
             acquire_again(found.cpu, found.record)?;
         }
@@ -214,7 +215,7 @@ impl<'section, 'cpu, T> Found<'section, 'cpu, T> {
     // Inlined, the reference is never moved as a whole.
     #[inline(always)]
     #[track_caller]
-    pub fn acquire_local(found: &Self) -> Result<LocalRef<T>, Refusal> {
+    pub fn acquire_local(found: &Self) -> Result<LocalRef<T>, LookUpError> {
         found.cpu.release_to(found.record.slot());
         let local = match acquire_local_last(found) {
             Some(local) => local,
@@ -247,6 +248,7 @@ fn acquire_last<T>(cpu: &Cpu<T>, number: u64) -> bool {
     if answer == ffi::DONE && acquired != number {
         // SAFETY: as above. It is the reference that was just acquired.
         unsafe { ffi::registry_release(cpu.handle(), acquired) };
+        cpu.wakes();
     }
     answer == ffi::DONE && acquired == number
 }
@@ -283,34 +285,34 @@ fn of_entry<T>(cpu: &Cpu<T>, number: u64, mut local: ffi::Local) -> Option<ffi::
 
 /// Acquires a passive reference where the CPU has looked up something else since: one more by the number if the CPU has any.
 #[cold]
-fn acquire_again<T>(cpu: &Cpu<T>, record: Record<T>) -> Result<(), Refusal> {
+fn acquire_again<T>(cpu: &Cpu<T>, record: Record<T>) -> Result<(), LookUpError> {
     // SAFETY: this thread alone has the CPU, whose handle isn't empty.
     match unsafe { ffi::registry_copy(cpu.handle(), record.number()) } {
         ffi::NOT_HELD => {
             find_again(cpu, record)?;
             let mut number = 0;
             // SAFETY: as above.
-            checked(unsafe { ffi::registry_acquire(cpu.handle(), &mut number) })?;
+            checked(unsafe { ffi::registry_acquire(cpu.handle(), &mut number) }).map_err(LookUpError::of)?;
             assert_eq!(number, record.number(), "the archive's last found entry");
             Ok(())
         }
-        answer => checked(answer),
+        answer => checked(answer).map_err(LookUpError::of),
     }
 }
 
 /// Makes the entry the last one that the CPU found, by its kind and name, or is refused `NotFound`.
 #[cold]
-fn find_again<T>(cpu: &Cpu<T>, record: Record<T>) -> Result<(), Refusal> {
+fn find_again<T>(cpu: &Cpu<T>, record: Record<T>) -> Result<(), LookUpError> {
     let (kind, name) = record.key();
     match look_up::<T>(cpu, kind, name) {
         Some(again) if again.number() == record.number() => Ok(()),
-        _ => Err(Refusal::NotFound),
+        _ => Err(LookUpError::NotFound),
     }
 }
 
 /// Acquires a local reference where the last found entry was another one or the acquire failed.
 #[cold]
-fn acquire_local_again<T>(cpu: &Cpu<T>, record: Record<T>) -> Result<ffi::Local, Refusal> {
+fn acquire_local_again<T>(cpu: &Cpu<T>, record: Record<T>) -> Result<ffi::Local, LookUpError> {
     let mut is_sought = cpu.last.get() != record.number();
     if is_sought {
         find_again(cpu, record)?;
@@ -325,7 +327,7 @@ fn acquire_local_again<T>(cpu: &Cpu<T>, record: Record<T>) -> Result<ffi::Local,
                 }
             }
             ffi::NOTHING_FOUND => {}
-            answer => checked(answer)?,
+            answer => return Err(LookUpError::of(answer)),
         }
         assert!(!is_sought, "the archive's last found entry");
         find_again(cpu, record)?;

@@ -8,8 +8,9 @@ use crate::ffi;
 use crate::limits::{check_version, version, LIMITS};
 use crate::lock::{locked, locked_mut, Mutex, MutexGuard};
 use crate::places::Places;
-use crate::refusal::{checked, Refusal};
+use crate::refusal::{checked, AttachError, Refusal};
 use crate::settings::Settings;
+use crate::tasks::Tasks;
 use crate::values::{Freed, Met};
 use std::cmp::Reverse;
 use std::mem;
@@ -60,6 +61,7 @@ pub struct Shared<T> {
     /// The handle of each CPU that nobody has; the others are empty.
     spare: Mutex<[ffi::Cpu; ffi::MOST_CPUS]>,
     baskets: Baskets,
+    tasks: Tasks,
     /// Who holds what, if that is noted.
     places: Option<Places>,
     settings: Settings,
@@ -111,13 +113,13 @@ impl<T> Kept<T> {
     }
 
     /// Whether an entry can be attached after a detach.
-    pub fn check_room(&self, settings: &Settings) -> Result<(), Refusal> {
+    pub fn check_room(&self, settings: &Settings) -> Result<(), AttachError> {
         let taken = self.rows.iter().filter(|row| row.state != State::Freed).count();
         let live = self.rows.iter().filter(|row| row.state == State::Live).count();
         if taken >= usize::from(settings.slots) {
-            Err(Refusal::NoSlot)
+            Err(AttachError::NoSlot)
         } else if settings.changes - self.changes < live as u64 + 2 {
-            Err(Refusal::HistoryFull)
+            Err(AttachError::HistoryFull)
         } else {
             Ok(())
         }
@@ -188,13 +190,13 @@ impl<T> Shared<T> {
     /// `NoMemory`.
     pub fn open(settings: Settings, places: Option<Places>) -> Result<Shared<T>, Refusal> {
         check_version(version())?;
-        checked(LIMITS.compared())?;
+        checked(LIMITS.compared()).map_err(Refusal::of)?;
         let mut keeper = ffi::Keeper::EMPTY;
         let mut cpus = NO_CPUS;
         let count = usize::from(settings.cpus).min(ffi::MOST_CPUS);
         // SAFETY: all handles are empty, and the array has room for so many CPUs. More than `MOST_CPUS` are bad settings, which is tested first.
         let answer = unsafe { ffi::registry_open(&settings.to_c(), &mut keeper, cpus.as_mut_ptr(), count) };
-        checked(answer)?;
+        checked(answer).map_err(Refusal::of)?;
         Ok(Shared {
             kept: Mutex::new(Kept {
                 keeper,
@@ -206,6 +208,7 @@ impl<T> Shared<T> {
             waiting: AtomicUsize::new(0),
             spare: Mutex::new(cpus),
             baskets: Baskets::default(),
+            tasks: Tasks::default(),
             places,
             settings,
         })
@@ -219,6 +222,11 @@ impl<T> Shared<T> {
         self.places.as_ref()
     }
 
+    #[inline]
+    pub fn tasks(&self) -> &Tasks {
+        &self.tasks
+    }
+
     /// A reference whose place is noted by this ticket is released.
     #[cold]
     pub fn released(&self, ticket: u32) {
@@ -227,10 +235,12 @@ impl<T> Shared<T> {
         }
     }
 
+    /// An entry is freed, and gives up the reference that it kept.
     fn note_freed(&self, number: u64) {
         if let Some(places) = &self.places {
             places.freed(number);
         }
+        self.tasks.wake();
     }
 
     /// What the interlock guards, for whoever asks first.
@@ -309,6 +319,7 @@ impl<T> Shared<T> {
         // SAFETY: the last turn freed it, or one before that.
         let taken = unsafe { kept.take(number) };
         self.note_waiting(&kept);
+        drop(kept);
         self.note_freed(number);
         // Only a deferred entry may have no row: another thread has freed and returned it.
         taken.ok_or(Met::NOTHING)
@@ -367,6 +378,7 @@ impl<T> Shared<T> {
             if kept.work_on(number) {
                 has_room = true;
                 self.note_waiting(&kept);
+                drop(kept);
                 self.note_freed(number);
             }
         }
@@ -396,6 +408,7 @@ impl<T> Shared<T> {
         if !local.is_empty() {
             self.baskets.lay(slot, local);
         }
+        self.tasks.wake();
     }
 
     /// Releases on a CPU what was dropped that is to the entry in this slot.

@@ -3,7 +3,7 @@
 use crate::cpu::Cpu;
 use crate::local::LocalRef;
 use crate::passive::PassiveRef;
-use crate::refusal::{Refusal, Refused};
+use crate::refusal::{AttachError, DetachError, LookUpError, Refused};
 use crate::retired::Retired;
 use crate::usual::ReadGuard;
 use crate::values::{Entry, Freed, Kind};
@@ -42,7 +42,7 @@ macro_rules! looks_up {
         #[doc = concat!("As [`Cpu::", stringify!($name), "`] with [`Kind::Driver`].\n\n# Errors\n\nAs there.")]
         #[inline]
         #[track_caller]
-        pub fn $name(&self, name: &Name) -> Result<$found, Refusal> {
+        pub fn $name(&self, name: &Name) -> Result<$found, LookUpError> {
             self.cpu.$name(Kind::Driver, name)
         }
     )*};
@@ -61,7 +61,7 @@ impl<'cpu, T> Table<'cpu, T> {
     /// # Errors
     ///
     /// As there.
-    pub fn attach(&self, name: &Name, value: T) -> Result<Entry, Refused<T>> {
+    pub fn attach(&self, name: &Name, value: T) -> Result<Entry, Refused<AttachError, T>> {
         self.cpu.registry().attach(self.cpu, name, value)
     }
 
@@ -70,7 +70,7 @@ impl<'cpu, T> Table<'cpu, T> {
     /// # Errors
     ///
     /// As there.
-    pub fn replace(&self, name: &Name, value: T) -> Result<(Entry, Retired<T>), Refused<T>> {
+    pub fn replace(&self, name: &Name, value: T) -> Result<(Entry, Retired<T>), Refused<AttachError, T>> {
         self.cpu.registry().replace(self.cpu, name, value)
     }
 
@@ -79,7 +79,7 @@ impl<'cpu, T> Table<'cpu, T> {
     /// # Errors
     ///
     /// As there.
-    pub fn detach(&self, name: &Name) -> Result<Retired<T>, Refusal> {
+    pub fn detach(&self, name: &Name) -> Result<Retired<T>, DetachError> {
         self.cpu.registry().detach(self.cpu, Kind::Driver, name)
     }
 
@@ -88,7 +88,7 @@ impl<'cpu, T> Table<'cpu, T> {
     /// # Errors
     ///
     /// As there.
-    pub fn retire(&self, name: &Name) -> Result<Vec<Freed<T>>, Refusal> {
+    pub fn retire(&self, name: &Name) -> Result<Vec<Freed<T>>, DetachError> {
         self.cpu.registry().retire(self.cpu, Kind::Driver, name)
     }
 }

@@ -7,7 +7,7 @@ use crate::local::LocalRef;
 use crate::mapped::{Mapped, Stays};
 use crate::passive::{PassiveRc, PassiveRef};
 use crate::places::Hold;
-use crate::refusal::{refusal_of, Refusal};
+use crate::refusal::LookUpError;
 use crate::section::{Found, Section};
 use crate::values::{Entry, Kind};
 use crate::Name;
@@ -23,7 +23,7 @@ impl<T> Cpu<T> {
     /// the entry.
     ///
     /// ```
-    /// use kupaldiz::{Kind, Name, PassiveRef, Refusal, Registry, Settings};
+    /// use kupaldiz::{Kind, LookUpError, Name, PassiveRef, Registry, Settings};
     ///
     /// let (registry, cpus) = Registry::open(Settings::new(1, 1)).unwrap();
     /// let wm = Name::parse("wm").unwrap();
@@ -33,7 +33,7 @@ impl<T> Cpu<T> {
     /// assert_eq!((*reference, registry.collect().len()), (7, 0));
     /// PassiveRef::release(reference);
     /// assert_eq!(registry.collect().len(), 1);
-    /// assert_eq!(cpus[0].get(Kind::Driver, &wm).unwrap_err(), Refusal::NotFound);
+    /// assert_eq!(cpus[0].get(Kind::Driver, &wm).unwrap_err(), LookUpError::NotFound);
     /// ```
     ///
     /// # Errors
@@ -41,7 +41,7 @@ impl<T> Cpu<T> {
     /// `TooDeep`, `SectionsSpent`, `NotFound`, `PassiveFull`.
     #[inline]
     #[track_caller]
-    pub fn get(&self, kind: Kind, name: &Name) -> Result<PassiveRef<'_, T>, Refusal> {
+    pub fn get(&self, kind: Kind, name: &Name) -> Result<PassiveRef<'_, T>, LookUpError> {
         let record = self.get_record(kind, name)?;
         // SAFETY: that has acquired it.
         Ok(unsafe { PassiveRef::new(self, record) })
@@ -71,7 +71,7 @@ impl<T> Cpu<T> {
     /// `TooDeep`, `SectionsSpent`, `NotFound`, `PassiveFull`.
     #[inline]
     #[track_caller]
-    pub fn get_rc(self: &Rc<Self>, kind: Kind, name: &Name) -> Result<PassiveRc<T>, Refusal> {
+    pub fn get_rc(self: &Rc<Self>, kind: Kind, name: &Name) -> Result<PassiveRc<T>, LookUpError> {
         let record = self.get_record(kind, name)?;
         // SAFETY: that has acquired it.
         Ok(unsafe { PassiveRc::new(Rc::clone(self), record) })
@@ -96,7 +96,7 @@ impl<T> Cpu<T> {
     /// `TooDeep`, `SectionsSpent`, `NotFound`, `LocalFull`, `NoMemory`.
     #[inline]
     #[track_caller]
-    pub fn get_local(&self, kind: Kind, name: &Name) -> Result<LocalRef<T>, Refusal> {
+    pub fn get_local(&self, kind: Kind, name: &Name) -> Result<LocalRef<T>, LookUpError> {
         ReadGuard::acquire_local(&self.read(kind, name)?)
     }
 
@@ -104,13 +104,13 @@ impl<T> Cpu<T> {
     /// [`find`](crate::Section::find) give together. In an open section the call is nested in it.
     ///
     /// ```
-    /// use kupaldiz::{Kind, Name, Refusal, Registry, Settings};
+    /// use kupaldiz::{Kind, LookUpError, Name, Registry, Settings};
     ///
     /// let (registry, cpus) = Registry::open(Settings::new(1, 1)).unwrap();
     /// let wm = Name::parse("wm").unwrap();
     /// registry.attach(&cpus[0], &wm, vec![1500, 9000]).unwrap();
     /// assert_eq!(cpus[0].read(Kind::Driver, &wm).map(|driver| driver[1]), Ok(9000));
-    /// assert_eq!(cpus[0].read(Kind::Iface, &wm).unwrap_err(), Refusal::NotFound);
+    /// assert_eq!(cpus[0].read(Kind::Iface, &wm).unwrap_err(), LookUpError::NotFound);
     /// assert!(!cpus[0].is_inside());
     /// ```
     ///
@@ -119,7 +119,7 @@ impl<T> Cpu<T> {
     /// `TooDeep`, `SectionsSpent`, `NotFound`. The CPU is then as deep inside as before.
     #[inline]
     #[track_caller]
-    pub fn read(&self, kind: Kind, name: &Name) -> Result<ReadGuard<'_, T>, Refusal> {
+    pub fn read(&self, kind: Kind, name: &Name) -> Result<ReadGuard<'_, T>, LookUpError> {
         // SAFETY: this thread alone has the CPU, whose handle isn't empty.
         let call = |found: *mut ffi::Entry| unsafe { ffi::registry_enter_find(self.handle(), kind.number(), &name.words, found) };
         self.enters(Location::caller());
@@ -143,41 +143,44 @@ impl<T> Cpu<T> {
     /// CPU remembers the entry, or that there is none.
     ///
     /// ```
-    /// use kupaldiz::{Kind, Name, Refusal, Registry, Settings};
+    /// use kupaldiz::{Kind, LookUpError, Name, Registry, Settings};
     ///
     /// let (registry, cpus) = Registry::open(Settings::new(1, 1)).unwrap();
     /// let wm = Name::parse("wm").unwrap();
     /// let made = registry.attach(&cpus[0], &wm, 7).unwrap();
     /// assert_eq!(cpus[0].look_up(Kind::Driver, &wm), Ok(made));
-    /// assert_eq!(cpus[0].look_up(Kind::Iface, &wm), Err(Refusal::NotFound));
+    /// assert_eq!(cpus[0].look_up(Kind::Iface, &wm), Err(LookUpError::NotFound));
     /// ```
     ///
     /// # Errors
     ///
     /// `TooDeep`, `SectionsSpent`, `NotFound`.
     #[inline]
-    pub fn look_up(&self, kind: Kind, name: &Name) -> Result<Entry, Refusal> {
+    pub fn look_up(&self, kind: Kind, name: &Name) -> Result<Entry, LookUpError> {
         // SAFETY: as for `read`.
         let call = |found: *mut ffi::Entry| unsafe { ffi::registry_look_up(self.handle(), kind.number(), &name.words, found) };
         // SAFETY: as for `read`.
-        Ok(self.found_by(unsafe { Record::written(call) })?.entry())
+        let record = self.found_by(unsafe { Record::written(call) })?;
+        self.wakes();
+        Ok(record.entry())
     }
 
     /// Acquires a passive reference, and returns the record of its entry.
     #[inline]
     #[track_caller]
-    fn get_record(&self, kind: Kind, name: &Name) -> Result<Record<T>, Refusal> {
+    fn get_record(&self, kind: Kind, name: &Name) -> Result<Record<T>, LookUpError> {
         // SAFETY: as for `read`.
         let call = |found: *mut ffi::Entry| unsafe { ffi::registry_get(self.handle(), kind.number(), &name.words, found) };
         // SAFETY: as for `read`.
         let record = self.found_by(unsafe { Record::written(call) })?;
+        self.wakes();
         Ok(self.noted(Hold::Passive, record, Location::caller()))
     }
 
     /// What such a call returned, whose find has changed the last found entry of an open section. Refused, the CPU may have found an entry that
     /// isn't told, so none counts as found; but `TooDeep` comes before the find.
     #[inline]
-    fn found_by(&self, answer: Result<Record<T>, u32>) -> Result<Record<T>, Refusal> {
+    fn found_by(&self, answer: Result<Record<T>, u32>) -> Result<Record<T>, LookUpError> {
         match answer {
             Ok(record) => {
                 self.last.set(record.number());
@@ -187,7 +190,8 @@ impl<T> Cpu<T> {
                 if answer != ffi::TOO_DEEP {
                     self.last.set(0);
                 }
-                Err(refusal_of(answer))
+                self.wakes();
+                Err(LookUpError::of(answer))
             }
         }
     }
@@ -244,7 +248,7 @@ impl<'cpu, T> ReadGuard<'cpu, T> {
     /// As for [`Found::acquire`]: `NotFound`, `PassiveFull`.
     #[inline]
     #[track_caller]
-    pub fn acquire(guard: &Self) -> Result<PassiveRef<'cpu, T>, Refusal> {
+    pub fn acquire(guard: &Self) -> Result<PassiveRef<'cpu, T>, LookUpError> {
         Found::acquire(&guard.found)
     }
 
@@ -255,7 +259,7 @@ impl<'cpu, T> ReadGuard<'cpu, T> {
     /// As for [`Found::acquire_local`]: `NotFound`, `LocalFull`, `NoMemory`.
     #[inline]
     #[track_caller]
-    pub fn acquire_local(guard: &Self) -> Result<LocalRef<T>, Refusal> {
+    pub fn acquire_local(guard: &Self) -> Result<LocalRef<T>, LookUpError> {
         Found::acquire_local(&guard.found)
     }
 

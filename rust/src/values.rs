@@ -2,7 +2,7 @@
 
 use crate::ffi;
 use crate::name::Name;
-use crate::refusal::Refusal;
+use crate::refusal::DestroyError;
 use std::fmt;
 use std::vec::Vec;
 
@@ -143,11 +143,10 @@ impl Met {
 
     /// Why the entry isn't freed, where it is retired.
     #[inline]
-    pub(crate) fn refusal(self) -> Refusal {
+    pub(crate) fn refusal(self) -> DestroyError {
         match self.answer {
-            ffi::DONE | ffi::STILL_HELD => Refusal::StillHeld(Holder::of(self.stage)),
-            ffi::INSIDE => Refusal::Inside,
-            other => panic!("the archive answered {other} to a turn on an entry that is retired"),
+            ffi::DONE | ffi::STILL_HELD => DestroyError::StillHeld(Holder::of(self.stage)),
+            other => DestroyError::of(other),
         }
     }
 }

@@ -5,9 +5,9 @@
 //! `RefUnwindSafe` and `Clone` with a `T` that is a plain number: `p`, `u`, `r`, `c`.
 
 use kupaldiz::{
-    Balance, Cpu, CpuPool, DestroyError, Drained, Entries, Entry, Found, Freed, Hold, Holder, Holders, Kind, Lent, Limits, LocalRef,
-    Mapped, Name, NameFault, PassiveRc, PassiveRef, Patience, Place, ReadGuard, Refusal, Refused, Registry, Retired, Section, Settings,
-    StillOpen, Table,
+    AttachError, Balance, Cpu, CpuPool, DestroyError, DetachError, Drained, Entries, Entry, Found, Freed, Generations, Hold, Holder,
+    Holders, Kind, Leaving, Lent, Limits, LocalRef, LookUpError, Mapped, Name, NameFault, PassiveRc, PassiveRef, Patience, Place,
+    ReadGuard, Reader, Refusal, Refused, Registry, Retired, Section, Settings, StillOpen, Table,
 };
 use std::collections::BTreeSet;
 use std::marker::PhantomData;
@@ -84,11 +84,18 @@ table! {
     Mapped: Mapped<PassiveRef<'static, T>, u8>,          "",     "",     "p";
     Mapped: Mapped<PassiveRc<T>, u8>,                    "",     "",     "p";
     Freed: Freed<T>,                                     "bs",   "by",   "purc";
-    Refused: Refused<T>,                                 "bs",   "by",   "purc";
+    Refused: Refused<AttachError, T>,                    "bs",   "by",   "purc";
     Drained: Drained<T>,                                 "b",    "b",    "pur";
     StillOpen: StillOpen<T>,                             "b",    "b",    "pur";
     Table: Table<'static, T>,                            "",     "",     "pc";
-    DestroyError: DestroyError<T>,                       "b",    "b",    "pur";
+    Refused: Refused<DestroyError, Retired<T>>,          "b",    "b",    "pur";
+    AttachError: AttachError,                            "bysn", "bysn", "purc";
+    DestroyError: DestroyError,                          "bysn", "bysn", "purc";
+    DetachError: DetachError,                            "bysn", "bysn", "purc";
+    LookUpError: LookUpError,                            "bysn", "bysn", "purc";
+    Generations: Generations<T>,                         "b",    "b",    "pur";
+    Leaving: Leaving<'static, T>,                        "b",    "b",    "pur";
+    Reader: Reader<'static, T>,                          "b",    "",     "pu";
     Hold: Hold,                                          "bysn", "bysn", "purc";
     Holders: Holders,                                    "bysn", "bysn", "purc";
     Place: Place,                                        "bysn", "bysn", "purc";

@@ -4,7 +4,7 @@
 mod common;
 
 use common::{balances, detach, local, name, passive, patience, why, with_driver, Drops, Tracked, LONG};
-use kupaldiz::{Cpu, DestroyError, Holder, Kind, LocalRef, Patience, Refusal, Registry, Settings};
+use kupaldiz::{Cpu, DestroyError, Holder, Kind, LocalRef, Patience, Refusal, Refused, Registry, Retired, Settings};
 use std::cell::{Cell, RefCell};
 use std::error::Error;
 use std::mem;
@@ -160,7 +160,7 @@ fn a_token_in_a_boxed_error_keeps_no_slot() {
     section.exit();
     assert_eq!(registry.attach(&cpus[0], &vga, 8).unwrap().slot, 0);
     assert_eq!((registry.collect().len(), registry.retired()), (0, 0));
-    let kept = kept.downcast::<DestroyError<i32>>().unwrap();
+    let kept = kept.downcast::<Refused<DestroyError, Retired<i32>>>().unwrap();
     assert_eq!(kept.given.destroy(&cpus[0], Patience::Turns(1)).unwrap().value, 7);
 }
 
@@ -268,5 +268,5 @@ fn any_value_is_carried() {
     drop((registry, cpus));
     assert_eq!(Rc::strong_count(&counted), 1);
     // A token is moved at each turn, and the interlock waits for what is stored before it.
-    assert_eq!(mem::size_of::<kupaldiz::Retired<[u64; 9]>>(), 2 * mem::size_of::<usize>());
+    assert_eq!(mem::size_of::<Retired<[u64; 9]>>(), 2 * mem::size_of::<usize>());
 }

@@ -326,7 +326,7 @@ fn a_destroy_fails_at_once_where_its_own_cpu_holds_the_entry() {
     let retired = registry.detach(&cpu, Kind::Driver, &WM).unwrap();
     let refused = |retired: Retired<i32>, patience| {
         let refused = retired.destroy(&cpu, patience).unwrap_err();
-        (refused.given, refused.refusal)
+        (refused.given, why(refused.refusal))
     };
     let section = cpus[0].enter().unwrap();
     let (retired, one) = refused(retired, Patience::Forever);

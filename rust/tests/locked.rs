@@ -2,6 +2,7 @@
 //!
 //! The turn is held by tests/common/watched.rs, which ends the program where the keeper is used meanwhile. It is the only test of this program, since any
 //! thread's turn may be the one that is held.
+#![allow(unknown_lints, unexpected_cfgs)]
 
 mod common;
 
@@ -138,6 +139,7 @@ fn waits_again(what: &str, call: impl FnOnce(&Registry<u32>, &Cpu<u32>) + Send) 
 }
 
 #[test]
+#[cfg_attr(not(registry_watched), ignore)]
 fn each_call_with_the_keeper_waits_for_the_interlock() {
     CALLS.into_iter().for_each(waits);
     waits_again("perform", |registry, cpu| {

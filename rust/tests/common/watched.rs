@@ -2,7 +2,7 @@
 //! Who is in which call of the archive. No sanitizer looks into it, so what registry.h asks of its caller is watched here: one call at a time uses
 //! a handle, and so a keeper is used under a lock, and a CPU by one thread at a time.
 //!
-//! The linker leads the calls here (`--wrap`, by build.rs). A call whose handle is in use ends the program.
+//! The linker leads the calls here, if RUSTFLAGS has what tests/watching.sh prints. Otherwise nothing is watched. A call whose handle is in use ends the program.
 
 use std::cell::Cell;
 use std::ffi::c_void;
@@ -130,7 +130,7 @@ fn count_closed(answer: u32) {
 /// The order of memory that a registry makes between its callers, told to the thread sanitizer, which sees no atomic step of the archive: what was
 /// written before an attach is seen by whoever finds the entry, and the last use before the exit or the release comes before the answer that it is
 /// freed. These two edges and no other; REGISTRY_WITHOUT says `find` or `freed`, and then that edge is left out. tests/sanitized.sh has the runs.
-#[cfg(registry_edges)]
+#[cfg(all(registry_watched, registry_edges))]
 mod edges {
     use super::{Handle, Word};
     use std::cell::RefCell;
@@ -213,6 +213,7 @@ mod edges {
 
 /// Wraps calls. Behind the handles stands the one of a local reference, if the call may fill or empty it, or that the call closes one, and what is told to
 /// the sanitizer.
+#[cfg(registry_watched)]
 macro_rules! wrapped {
     ($($wrap:ident($($name:ident: $type:ty),*) = $real:ident, [$($handle:ident),*] $(once [$($once:ident),*])? $(($local:ident))? $(closes $closed:ident)? $(before $before:block)? $(after $after:block)?;)*) => {$(
         extern "C" {
@@ -254,6 +255,7 @@ macro_rules! wrapped {
 }
 
 // SAFETY of what is told: the caller sees to the pointers, and a call that is done has written what it writes.
+#[cfg(registry_watched)]
 wrapped! {
     __wrap_registry_close_cpu(cpu: Handle) = __real_registry_close_cpu, [] once [cpu] closes cpu;
     __wrap_registry_close_keeper(keeper: Handle) = __real_registry_close_keeper, [] once [keeper] closes keeper;

@@ -1,0 +1,319 @@
+//! The changes: attach, detach, replace.
+
+use crate::carried::{Carried, Plain, Record};
+use crate::cpu::Cpu;
+use crate::ffi;
+use crate::local::LocalRef;
+use crate::lock::MutexGuard;
+use crate::refusal::{AttachError, DetachError, Foreign, Refused};
+use crate::registry::Registry;
+use crate::retired::Retired;
+use crate::shared::Kept;
+use crate::values::{Entry, Freed, Kind};
+use crate::Name;
+use std::sync::Arc;
+use std::vec::Vec;
+
+/// Changes. An attach and a detach drop no `T`, so a caller may hold a lock that the drop of a `T` takes.
+impl<T> Registry<T> {
+    /// Attaches a driver that carries this value. Lookups that begin after this call has returned find it, until it is detached.
+    ///
+    /// If no slot is vacant, the call releases the local references that were dropped, makes one turn on each retired entry, and tries again. So it fails
+    /// with `NoSlot` only if each slot has an entry that is live or held. A value that is freed by that goes to its [`Retired`], or to the next call that
+    /// [returns or drops](crate#what-is-dropped) what is freed.
+    ///
+    /// # Errors
+    ///
+    /// `OtherRegistry`, `Inside`, `NameTaken`, `NoSlot`, `HistoryFull`. The value is returned.
+    pub fn attach(&self, cpu: &Cpu<T>, name: &Name, value: T) -> Result<Entry, Refused<AttachError, T>> {
+        self.change(&mut New { cpu, name, driver: None }, value, attach)
+    }
+
+    /// Attaches an interface that carries this value, on the driver that the reference is to. The interface's slot keeps the reference, so the driver
+    /// outlives the interface. If no slot is vacant, the call does what [`attach`](Registry::attach) does then.
+    ///
+    /// ```
+    /// use kupaldiz::{Kind, Name, Registry, Settings};
+    ///
+    /// let (registry, cpus) = Registry::open(Settings::new(1, 4)).unwrap();
+    /// let (wm, wm0) = (Name::parse("wm").unwrap(), Name::parse("wm0").unwrap());
+    /// registry.attach(&cpus[0], &wm, 7).unwrap();
+    /// let driver = cpus[0].get_local(Kind::Driver, &wm).unwrap();
+    /// let made = registry.attach_iface(&cpus[0], &wm0, driver, 1500).unwrap();
+    /// assert_eq!((made.number, made.kind), (2, Kind::Iface));
+    /// ```
+    ///
+    /// # Errors
+    ///
+    /// `OtherRegistry` for the CPU or the reference, `Inside`, `NeedsDriver` if the reference is to an interface, `NameTaken`, `NoSlot`,
+    /// `HistoryFull`. The reference and the value are returned.
+    pub fn attach_iface(
+        &self,
+        cpu: &Cpu<T>,
+        name: &Name,
+        driver: LocalRef<T>,
+        value: T,
+    ) -> Result<Entry, Refused<AttachError, (LocalRef<T>, T)>> {
+        self.change_on(cpu, name, driver, value, attach)
+    }
+
+    /// Replaces what the live driver with this name carries: detaches it, and attaches another one with this value, under one hold of the interlock. A
+    /// lookup between the two finds nothing. Whoever holds the old entry keeps that. The new one needs a slot of its own: if none is vacant, the call does
+    /// what [`attach`](Registry::attach) does then. On an error the old entry stays.
+    ///
+    /// ```
+    /// use kupaldiz::{Kind, Name, Patience, Registry, Settings};
+    ///
+    /// let (registry, cpus) = Registry::open(Settings::new(2, 4)).unwrap();
+    /// let wm = Name::parse("wm").unwrap();
+    /// registry.attach(&cpus[0], &wm, 7).unwrap();
+    /// let (made, old) = registry.replace(&cpus[0], &wm, 8).unwrap();
+    /// assert_eq!((made.number, old.destroy(&cpus[0], Patience::Forever).unwrap().value), (3, 7));
+    /// assert_eq!(*cpus[1].get(Kind::Driver, &wm).unwrap(), 8);
+    /// ```
+    ///
+    /// # Errors
+    ///
+    /// `OtherRegistry`, `Inside`, `NotFound`, `NoSlot`, `HistoryFull`. The value is returned.
+    pub fn replace(&self, cpu: &Cpu<T>, name: &Name, value: T) -> Result<(Entry, Retired<T>), Refused<AttachError, T>> {
+        self.change(&mut New { cpu, name, driver: None }, value, replace)
+    }
+
+    /// Replaces what the live interface with this name carries, as [`replace`](Registry::replace) does for a driver. The new interface keeps this reference.
+    /// The old one keeps its own until it is freed.
+    ///
+    /// ```
+    /// use kupaldiz::{Kind, Name, Patience, Registry, Settings};
+    ///
+    /// let (registry, cpus) = Registry::open(Settings::new(1, 4)).unwrap();
+    /// let (wm, wm0) = (Name::parse("wm").unwrap(), Name::parse("wm0").unwrap());
+    /// registry.attach(&cpus[0], &wm, 7).unwrap();
+    /// let driver = || cpus[0].get_local(Kind::Driver, &wm).unwrap();
+    /// registry.attach_iface(&cpus[0], &wm0, driver(), 1500).unwrap();
+    /// let (_, old) = registry.replace_iface(&cpus[0], &wm0, driver(), 9000).unwrap();
+    /// assert_eq!(old.destroy(&cpus[0], Patience::Forever).unwrap().value, 1500);
+    /// assert_eq!(*cpus[0].get(Kind::Iface, &wm0).unwrap(), 9000);
+    /// ```
+    ///
+    /// # Errors
+    ///
+    /// `OtherRegistry` for the CPU or the reference, `Inside`, `NeedsDriver`, `NotFound`, `NoSlot`, `HistoryFull`. The reference and the value are returned.
+    pub fn replace_iface(
+        &self,
+        cpu: &Cpu<T>,
+        name: &Name,
+        driver: LocalRef<T>,
+        value: T,
+    ) -> Result<(Entry, Retired<T>), Refused<AttachError, (LocalRef<T>, T)>> {
+        self.change_on(cpu, name, driver, value, replace)
+    }
+
+    /// Detaches the live entry with this kind and name. Lookups that begin after this call has returned don't find it. It keeps its value until the
+    /// returned [`Retired`] has taken that, and its slot as long as something holds it.
+    ///
+    /// ```
+    /// use kupaldiz::{Kind, Name, Patience, Registry, Settings};
+    ///
+    /// let (registry, cpus) = Registry::open(Settings::new(1, 4)).unwrap();
+    /// let wm = Name::parse("wm").unwrap();
+    /// registry.attach(&cpus[0], &wm, 7).unwrap();
+    /// let retired = registry.detach(&cpus[0], Kind::Driver, &wm).unwrap();
+    /// assert_eq!(retired.destroy(&cpus[0], Patience::Forever).unwrap().value, 7);
+    /// ```
+    ///
+    /// # Errors
+    ///
+    /// `OtherRegistry`, `Inside`, `NotFound`.
+    pub fn detach(&self, cpu: &Cpu<T>, kind: Kind, name: &Name) -> Result<Retired<T>, DetachError> {
+        self.tidy(cpu)?;
+        self.detach_by(&mut self.shared.kept(), cpu, kind, name).map_err(DetachError::of)
+    }
+
+    /// Detaches this entry, as [`detach`](Registry::detach) does, if it is still live. Another entry that has its kind and name by now stays.
+    ///
+    /// ```
+    /// use kupaldiz::{DetachError, Found, Kind, Name, Registry, Settings};
+    ///
+    /// let (registry, cpus) = Registry::open(Settings::new(1, 4)).unwrap();
+    /// let wm = Name::parse("wm").unwrap();
+    /// registry.attach(&cpus[0], &wm, 7).unwrap();
+    /// let section = cpus[0].enter().unwrap();
+    /// let listed: Vec<_> = section.entries().map(|found| Found::entry(&found)).collect();
+    /// section.exit();
+    /// registry.retire(&cpus[0], Kind::Driver, &wm).unwrap();
+    /// registry.attach(&cpus[0], &wm, 8).unwrap();
+    /// assert_eq!(registry.detach_entry(&cpus[0], &listed[0]).unwrap_err(), DetachError::NotFound);
+    /// assert_eq!(*cpus[0].get(Kind::Driver, &wm).unwrap(), 8);
+    /// ```
+    ///
+    /// # Errors
+    ///
+    /// `OtherRegistry` for the CPU, `Inside`, `NotFound` if no live entry is this one.
+    pub fn detach_entry(&self, cpu: &Cpu<T>, entry: &Entry) -> Result<Retired<T>, DetachError> {
+        self.tidy(cpu)?;
+        let mut kept = self.shared.kept();
+        let is_live = kept.live(entry.number).map(|live| live.entry()) == Some(*entry);
+        if cpu.is_inside() || is_live {
+            self.detach_by(&mut kept, cpu, entry.kind, &entry.name).map_err(DetachError::of)
+        } else {
+            Err(DetachError::NotFound)
+        }
+    }
+
+    /// Detaches the live entry with this kind and name, [defers](Retired::defer) it, and returns what is free already: this entry, if nothing holds it,
+    /// and those that were retired before. What is still held a later retire or [`Registry::collect`] returns.
+    ///
+    /// ```
+    /// use kupaldiz::{Kind, Name, Registry, Settings};
+    ///
+    /// let (registry, cpus) = Registry::open(Settings::new(2, 4)).unwrap();
+    /// let wm = Name::parse("wm").unwrap();
+    /// for value in [7, 8] {
+    ///     registry.attach(&cpus[0], &wm, value).unwrap();
+    ///     let freed = registry.retire(&cpus[0], Kind::Driver, &wm).unwrap();
+    ///     assert_eq!(freed[0].value, value);
+    /// }
+    /// ```
+    ///
+    /// # Errors
+    ///
+    /// `OtherRegistry`, `Inside`, `NotFound`.
+    pub fn retire(&self, cpu: &Cpu<T>, kind: Kind, name: &Name) -> Result<Vec<Freed<T>>, DetachError> {
+        Ok(self.detach(cpu, kind, name)?.deferred())
+    }
+
+    /// Makes a change by which an entry gets this value. If no slot is vacant, once more after what nobody holds was freed.
+    fn change<R>(&self, new: &mut New<'_, T>, value: T, change: Change<T, R>) -> Result<R, Refused<AttachError, T>> {
+        if let Err(Foreign) = self.tidy(new.cpu) {
+            let refusal = AttachError::OtherRegistry;
+            return Err(Refused { refusal, given: value });
+        }
+        let carried = Carried::new(value);
+        let mut done = change(new, self, self.shared.kept(), carried);
+        if matches!(done, Err(AttachError::NoSlot)) {
+            new.cpu.release_dropped();
+            if self.shared.make_room() {
+                done = change(new, self, self.shared.kept(), carried);
+            }
+        }
+        done.map_err(|refusal| {
+            // SAFETY: registry.h says of a call that is refused that it changes nothing, so no entry has the address.
+            let given = unsafe { carried.take() };
+            Refused { refusal, given }
+        })
+    }
+
+    /// The same, for an interface on this driver.
+    fn change_on<R>(
+        &self,
+        cpu: &Cpu<T>,
+        name: &Name,
+        driver: LocalRef<T>,
+        value: T,
+        change: Change<T, R>,
+    ) -> Result<R, Refused<AttachError, (LocalRef<T>, T)>> {
+        if !driver.is_of(&self.shared) {
+            let refusal = AttachError::OtherRegistry;
+            let given = (driver, value);
+            return Err(Refused { refusal, given });
+        }
+        let mut driver = driver;
+        let driver_of = Some(&mut driver);
+        let made = self.change(
+            &mut New {
+                cpu,
+                name,
+                driver: driver_of,
+            },
+            value,
+            change,
+        );
+        made.map_err(|Refused { refusal, given }| Refused {
+            refusal,
+            given: (driver, given),
+        })
+    }
+
+    /// Detaches under the interlock.
+    fn detach_by(&self, kept: &mut Kept<T>, cpu: &Cpu<T>, kind: Kind, name: &Name) -> Result<Retired<T>, u32> {
+        let keeper = &mut kept.keeper;
+        // SAFETY: the keeper is locked, the CPU is this thread's, both are of one registry, and their handles aren't empty.
+        let call = |gone: *mut ffi::Entry| unsafe { ffi::registry_detach(keeper, cpu.handle(), kind.number(), &name.words, gone) };
+        // SAFETY: registry.h says of a detach that it writes the entry.
+        let gone = unsafe { Record::<T>::written(call) }?;
+        kept.retire(gone.number());
+        if let Some(places) = self.shared.places() {
+            places.detached(gone.number());
+        }
+        // SAFETY: the entry was just detached.
+        Ok(unsafe { Retired::new(Arc::clone(&self.shared), gone.carried()) })
+    }
+}
+
+/// An entry that is to be attached; an interface, if it has a driver.
+struct New<'a, T> {
+    cpu: &'a Cpu<T>,
+    name: &'a Name,
+    driver: Option<&'a mut LocalRef<T>>,
+}
+
+/// What is done under one hold of the interlock. If it is refused, nothing has changed.
+type Change<T, R> = fn(&mut New<'_, T>, &Registry<T>, MutexGuard<'_, Kept<T>>, Carried<T>) -> Result<R, AttachError>;
+
+/// Attaches it.
+fn attach<T>(
+    new: &mut New<'_, T>,
+    registry: &Registry<T>,
+    mut kept: MutexGuard<'_, Kept<T>>,
+    carried: Carried<T>,
+) -> Result<Entry, AttachError> {
+    new.attach(registry, &mut kept, carried)
+}
+
+/// Detaches the entry of the same kind and name, and attaches this one. All that may be refused is tested before.
+fn replace<T>(
+    new: &mut New<'_, T>,
+    registry: &Registry<T>,
+    mut kept: MutexGuard<'_, Kept<T>>,
+    carried: Carried<T>,
+) -> Result<(Entry, Retired<T>), AttachError> {
+    if new.cpu.is_inside() {
+        return Err(AttachError::Inside);
+    }
+    let kind = match &new.driver {
+        Some(driver) if LocalRef::entry(driver).kind != Kind::Driver => return Err(AttachError::NeedsDriver),
+        Some(_) => Kind::Iface,
+        None => Kind::Driver,
+    };
+    let (key, live) = ((kind, *new.name), kept.all_live());
+    if !live.iter().map(Plain::entry).any(|live| (live.kind, live.name) == key) {
+        return Err(AttachError::NotFound);
+    }
+    kept.check_room(&registry.settings())?;
+    let retired = registry.detach_by(&mut kept, new.cpu, kind, new.name).map_err(AttachError::of)?;
+    let made = new.attach(registry, &mut kept, carried);
+    // The token may be dropped, which takes the interlock.
+    drop(kept);
+    Ok((made?, retired))
+}
+
+impl<T> New<'_, T> {
+    fn attach(&mut self, registry: &Registry<T>, kept: &mut Kept<T>, carried: Carried<T>) -> Result<Entry, AttachError> {
+        let (keeper, cpu, name, word) = (&mut kept.keeper, self.cpu.handle(), &self.name.words, carried.word());
+        let call = |made: *mut ffi::Entry| match &mut self.driver {
+            // SAFETY: the keeper is locked, the CPU is this thread's, both are of one registry, and their handles aren't empty. The reference is of the same
+            // registry, and this is the only use of its handle. It is empty afterwards if the call is done, so dropping the reference releases nothing.
+            Some(driver) => unsafe { ffi::registry_attach_iface(keeper, cpu, driver.handle(), name, word, made) },
+            // SAFETY: as above, without a reference.
+            None => unsafe { ffi::registry_attach(keeper, cpu, name, word, made) },
+        };
+        // SAFETY: the call is an attach, which registry.h says writes the entry, to this registry.
+        let record = unsafe { Record::<T>::written(call) }.map_err(AttachError::of)?;
+        // SAFETY: the call has attached the entry with the value's address.
+        unsafe { kept.note(record.plain(), carried) };
+        if let (Some(driver), Some(places)) = (&self.driver, registry.shared.places()) {
+            places.kept(driver.ticket(), record.number());
+        }
+        Ok(record.entry())
+    }
+}

@@ -1,0 +1,355 @@
+//! Entries that leave: those that tasks wait for, interfaces that are replaced, and those that go on in the next registry.
+
+mod common;
+
+use common::{local, name, passive, patience, Drops, Stops, LONG};
+use kupaldiz::{
+    AttachError, Cpu, DestroyError, Generations, Holder, Kind, LocalRef, LookUpError, Name, PassiveRef, Patience, Refusal, Refused,
+    Registry, Retired, Settings,
+};
+use std::future::Future;
+use std::mem;
+use std::panic::{self, AssertUnwindSafe};
+use std::pin::Pin;
+use std::sync::atomic::{AtomicBool, AtomicUsize, Ordering};
+use std::sync::{mpsc, Arc, Mutex, Weak};
+use std::task::{Context, Poll, Wake, Waker};
+use std::thread::{self, Thread};
+use std::time::Instant;
+
+const WM: Name = Name::from_static("wm");
+const WM0: Name = Name::from_static("wm0");
+
+/// A task that is told how often it is woken, and the thread that runs it.
+struct Task {
+    woken: AtomicUsize,
+    thread: Thread,
+}
+
+impl Wake for Task {
+    fn wake(self: Arc<Self>) {
+        self.woken.fetch_add(1, Ordering::SeqCst);
+        self.thread.unpark();
+    }
+}
+
+impl Task {
+    fn here() -> Arc<Task> {
+        Arc::new(Task {
+            woken: AtomicUsize::new(0),
+            thread: thread::current(),
+        })
+    }
+
+    fn woken(&self) -> usize {
+        self.woken.load(Ordering::SeqCst)
+    }
+
+    fn poll<T>(self: &Arc<Self>, retired: &mut Retired<T>) -> Poll<T> {
+        let waker = Waker::from(Arc::clone(self));
+        Pin::new(retired).poll(&mut Context::from_waker(&waker)).map(|freed| freed.value)
+    }
+
+    /// Runs until the entry is freed. It polls only once it is woken, and fails if nobody wakes it.
+    fn run<T>(self: &Arc<Self>, mut retired: Retired<T>) -> T {
+        loop {
+            let before = self.woken();
+            if let Poll::Ready(value) = self.poll(&mut retired) {
+                return value;
+            }
+            let began = Instant::now();
+            while self.woken() == before {
+                assert!(began.elapsed() < LONG, "a task that nobody woke");
+                thread::park_timeout(LONG);
+            }
+        }
+    }
+}
+
+/// Two CPUs for the holders, and one for the changes.
+fn with_wm() -> (Registry<u32>, Vec<Cpu<u32>>) {
+    let (registry, cpus) = Registry::open(Settings::new(3, 4)).unwrap();
+    registry.attach(&cpus[2], &WM, 7).unwrap();
+    (registry, cpus)
+}
+
+/// The task isn't woken while this holds the entry, and is as it lets go.
+fn is_woken_as<H>(what: &str, registry: &Registry<u32>, cpu: &Cpu<u32>, held: H, let_go: impl FnOnce(H)) {
+    let mut retired = registry.detach(cpu, Kind::Driver, &WM).unwrap();
+    let task = Task::here();
+    assert!(task.poll(&mut retired).is_pending(), "{what}");
+    assert_eq!(task.woken(), 0, "{what}");
+    let_go(held);
+    assert!(task.woken() > 0, "nobody woke the task: {what}");
+    assert_eq!(task.poll(&mut retired), Poll::Ready(7), "{what}");
+    // Nothing is left in the registry of a task that isn't waiting.
+    let woken = task.woken();
+    drop(cpu.enter().unwrap());
+    drop(cpu.enter().unwrap());
+    assert_eq!(task.woken(), woken, "{what}");
+}
+
+#[test]
+fn each_call_that_lets_an_entry_go_wakes_the_task() {
+    let (registry, cpus) = with_wm();
+    is_woken_as("a section", &registry, &cpus[2], cpus[0].enter().unwrap(), drop);
+    let (registry, cpus) = with_wm();
+    let guard = cpus[0].read(Kind::Driver, &WM).unwrap();
+    is_woken_as("a guard", &registry, &cpus[2], guard, drop);
+    let (registry, cpus) = with_wm();
+    is_woken_as("a passive reference", &registry, &cpus[2], passive(&cpus[0], "wm"), drop);
+    let (registry, cpus) = with_wm();
+    let other = passive(&cpus[0], "wm");
+    let copy = PassiveRef::try_clone(&other).unwrap();
+    drop(other);
+    is_woken_as("a copy", &registry, &cpus[2], copy, PassiveRef::release);
+    let (registry, cpus) = with_wm();
+    is_woken_as("a dropped local reference", &registry, &cpus[2], local(&cpus[0], "wm"), drop);
+    let (registry, cpus) = with_wm();
+    is_woken_as("a released one", &registry, &cpus[2], local(&cpus[0], "wm"), |reference| {
+        LocalRef::release(reference, &cpus[1]).unwrap();
+    });
+    let (registry, mut cpus) = with_wm();
+    let mut cpu = cpus.remove(0);
+    mem::forget(cpu.enter().unwrap());
+    is_woken_as("a CPU that leaves", &registry, &cpus[1], &mut cpu, Cpu::leave);
+    let (registry, mut cpus) = with_wm();
+    let cpu = cpus.remove(0);
+    mem::forget(cpu.enter().unwrap());
+    is_woken_as("a CPU that is dropped", &registry, &cpus[1], cpu, drop);
+}
+
+#[test]
+fn an_interface_that_is_freed_wakes_the_task_of_its_driver() {
+    let (registry, cpus) = with_wm();
+    registry.attach_iface(&cpus[2], &WM0, local(&cpus[2], "wm"), 8).unwrap();
+    let iface = registry.detach(&cpus[2], Kind::Iface, &WM0).unwrap();
+    is_woken_as("an interface", &registry, &cpus[2], iface, |iface| {
+        assert_eq!(iface.wait(Patience::Turns(1)).unwrap().value, 8);
+    });
+    // Also where an attach frees it, for its slot.
+    let (registry, cpus) = Registry::open(Settings::new(3, 2)).unwrap();
+    registry.attach(&cpus[2], &WM, 7).unwrap();
+    registry.attach_iface(&cpus[2], &WM0, local(&cpus[2], "wm"), 8).unwrap();
+    let iface = registry.detach(&cpus[2], Kind::Iface, &WM0).unwrap();
+    is_woken_as("an attach", &registry, &cpus[2], iface, |_iface| {
+        registry.attach(&cpus[0], &name("vga"), 9).unwrap();
+    });
+}
+
+/// Three threads hold the entry in each way while a task waits for it, again and again. A wake that is lost ends the test.
+#[test]
+fn no_wake_is_lost_between_threads() {
+    let (registry, mut cpus) = Registry::open(Settings::new(4, 8)).unwrap();
+    let mine = cpus.pop().unwrap();
+    let stop = AtomicBool::new(false);
+    thread::scope(|scope| {
+        let _stops = Stops(&stop);
+        for (cpu, way) in cpus.into_iter().zip(0..) {
+            let stop = &stop;
+            scope.spawn(move || {
+                for turn in 0.. {
+                    if stop.load(Ordering::Relaxed) {
+                        break;
+                    }
+                    match (way + turn) % 4 {
+                        0 => drop(cpu.read(Kind::Driver, &WM)),
+                        1 => drop(cpu.get(Kind::Driver, &WM)),
+                        2 => drop(cpu.get_local(Kind::Driver, &WM)),
+                        _ => cpu
+                            .get_local(Kind::Driver, &WM)
+                            .map_or((), |reference| LocalRef::release(reference, &cpu).unwrap()),
+                    }
+                }
+            });
+        }
+        let task = Task::here();
+        for value in 0..common::scaled(2_000) {
+            registry.attach(&mine, &WM, value).unwrap();
+            thread::yield_now();
+            let retired = registry.detach(&mine, Kind::Driver, &WM).unwrap();
+            assert_eq!(task.run(retired), value);
+        }
+    });
+}
+
+#[test]
+fn a_future_that_is_dropped_or_done_leaves_nothing_behind() {
+    let (registry, cpus) = with_wm();
+    let reference = local(&cpus[0], "wm");
+    let mut retired = registry.detach(&cpus[2], Kind::Driver, &WM).unwrap();
+    let task = Task::here();
+    assert!(task.poll(&mut retired).is_pending());
+    drop(retired);
+    assert_eq!(registry.retired(), 1);
+    drop(reference);
+    assert_eq!(registry.collect()[0].value, 7);
+
+    registry.attach(&cpus[2], &WM, 8).unwrap();
+    let mut retired = registry.detach(&cpus[2], Kind::Driver, &WM).unwrap();
+    assert_eq!(task.poll(&mut retired), Poll::Ready(8));
+    assert!(!format!("{retired:?}").contains("entry"));
+    assert!(panic::catch_unwind(AssertUnwindSafe(|| retired.entry())).is_err());
+    assert!(panic::catch_unwind(AssertUnwindSafe(|| task.poll(&mut retired))).is_err());
+    drop((retired, cpus));
+    registry.close(Patience::Turns(1)).unwrap();
+}
+
+#[test]
+fn an_interface_is_replaced_in_one_step_and_keeps_the_new_driver() {
+    let (registry, cpus) = with_wm();
+    let cpu = &cpus[2];
+    registry.attach_iface(cpu, &WM0, local(cpu, "wm"), 8).unwrap();
+    registry.attach(cpu, &name("vga"), 9).unwrap();
+    let held = local(cpu, "wm");
+    let (made, old) = registry.replace_iface(cpu, &WM0, local(cpu, "vga"), 10).unwrap();
+    assert_eq!((made.kind, made.name, *cpu.get(Kind::Iface, &WM0).unwrap()), (Kind::Iface, WM0, 10));
+    assert_eq!(old.wait(patience()).unwrap().value, 8);
+    // The old driver is free but for one reference, and the new one is kept.
+    let wm = registry.detach(cpu, Kind::Driver, &WM).unwrap();
+    let refused = wm.advance().unwrap_err();
+    assert_eq!(refused.refusal, DestroyError::StillHeld(Holder::Local(1)));
+    drop(held);
+    assert_eq!(refused.given.advance().unwrap().value, 7);
+    let vga = registry.detach(cpu, Kind::Driver, &name("vga")).unwrap();
+    assert_eq!(vga.advance().unwrap_err().refusal, DestroyError::StillHeld(Holder::Local(1)));
+}
+
+/// The old interface stays, and the reference and the value come back.
+#[test]
+fn a_replace_that_is_refused_leaves_the_old_interface() {
+    let (registry, cpus) = Registry::open(Settings::new(2, 3).changes(6)).unwrap();
+    let cpu = &cpus[0];
+    let refused = |name: &Name, driver: LocalRef<u32>| {
+        let Refused { refusal, given } = registry.replace_iface(cpu, name, driver, 9).map(drop).unwrap_err();
+        assert_eq!(given.1, 9);
+        LocalRef::release(given.0, cpu).unwrap();
+        refusal
+    };
+    registry.attach(cpu, &WM, 7).unwrap();
+    registry.attach_iface(cpu, &WM0, local(cpu, "wm"), 8).unwrap();
+    let made = cpu.look_up(Kind::Iface, &WM0).unwrap();
+    assert_eq!(refused(&WM, local(cpu, "wm")), AttachError::NotFound);
+    let of_iface = cpu.get_local(Kind::Iface, &WM0).unwrap();
+    assert_eq!(refused(&WM0, of_iface), AttachError::NeedsDriver);
+    let section = cpu.enter().unwrap();
+    let reference = local(cpu, "wm");
+    let inside = registry.replace_iface(cpu, &WM0, reference, 9).map(drop).unwrap_err();
+    assert_eq!(inside.refusal, AttachError::Inside);
+    section.exit();
+    let (_other, others) = with_wm();
+    let Refused { refusal, given } = registry.replace_iface(cpu, &WM0, local(&others[0], "wm"), 9).map(drop).unwrap_err();
+    assert_eq!(refusal, AttachError::OtherRegistry);
+    drop((given, inside));
+    // The third slot has an entry that is held, so none is vacant.
+    let held = registry
+        .attach(cpu, &name("vga"), 1)
+        .map(|_| cpus[1].get(Kind::Driver, &name("vga")).unwrap())
+        .unwrap();
+    assert_eq!(refused(&WM0, local(cpu, "wm")), AttachError::NoSlot);
+    registry.retire(cpu, Kind::Driver, &name("vga")).unwrap();
+    drop(held);
+    assert_eq!(refused(&WM0, local(cpu, "wm")), AttachError::HistoryFull);
+    assert_eq!(
+        (cpu.look_up(Kind::Iface, &WM0), *cpu.get(Kind::Iface, &WM0).unwrap()),
+        (Ok(made), 8)
+    );
+}
+
+/// A reference to an entry of a registry that was left is one to the value.
+#[test]
+fn a_value_comes_back_once_no_registry_has_it() {
+    let drops = Drops::default();
+    let table = Generations::open(Settings::new(2, 3).changes(8)).unwrap();
+    let mut reader = table.reader().unwrap();
+    table.attach(&WM, drops.make(1)).unwrap();
+    let reference = reader.get_local(&WM).unwrap();
+    while table.generation() < 3 {
+        table.attach(&WM0, drops.make(2)).unwrap();
+        drop(table.detach(&WM0).unwrap().wait(Patience::Turns(1)).unwrap());
+    }
+    reader.read(&WM, |value| value.check()).unwrap();
+    let leaving = table.detach(&WM).unwrap();
+    assert_eq!(reader.read(&WM, |_| ()), Err(LookUpError::NotFound));
+    let leaving = leaving.wait(Patience::Turns(3)).unwrap_err();
+    reference.check();
+    drop(reference);
+    leaving.wait(Patience::Turns(1)).unwrap().check();
+    assert_eq!(drops.dropped(), drops.made());
+}
+
+#[test]
+fn the_next_registry_takes_over_as_sections_are_spent() {
+    let table = Generations::open(Settings::new(3, 2).sections(4)).unwrap();
+    table.attach(&WM, 7).unwrap();
+    let (mut one, mut two) = (table.reader().unwrap(), table.reader().unwrap());
+    for _ in 0..10 {
+        assert_eq!((one.read(&WM, |value| *value), two.read(&WM, |value| *value)), (Ok(7), Ok(7)));
+        drop(one.get_local(&WM).unwrap());
+    }
+    assert!(table.generation() > 0);
+}
+
+#[test]
+fn what_a_table_refuses_comes_back() {
+    let table = Generations::open(Settings::new(2, 2).changes(4)).unwrap();
+    table.attach(&WM, Box::new(7)).unwrap();
+    let refused = table.attach(&WM, Box::new(8)).unwrap_err();
+    assert_eq!((refused.refusal, *refused.given), (AttachError::NameTaken, 8));
+    table.attach(&WM0, Box::new(8)).unwrap();
+    let refused = table.attach(&name("vga"), Box::new(9)).unwrap_err();
+    assert_eq!((refused.refusal, *refused.given), (AttachError::NoSlot, 9));
+    assert_eq!(table.detach(&name("vga")).unwrap_err(), Refusal::NotFound);
+    // Each registry has room for two entries, but not for a third.
+    let table = Generations::open(Settings::new(2, 3).changes(4)).unwrap();
+    for (name, value) in [(WM, 7), (WM0, 8)] {
+        table.attach(&name, value).unwrap();
+    }
+    let refused = table.attach(&name("vga"), 9).unwrap_err();
+    assert_eq!((refused.refusal, refused.given), (AttachError::HistoryFull, 9));
+    assert_eq!(table.reader().unwrap().read(&WM0, |value| *value), Ok(8));
+    assert_eq!(Generations::<u8>::open(Settings::new(0, 1)).unwrap_err(), Refusal::BadSettings);
+}
+
+#[test]
+fn a_table_has_as_many_readers_as_cpus_for_them() {
+    let table = Generations::<u32>::open(Settings::new(3, 2).changes(2)).unwrap();
+    let (one, two) = (table.reader().unwrap(), table.reader().unwrap());
+    assert!(table.reader().is_none());
+    drop(one);
+    let three = table.reader().unwrap();
+    assert!(table.reader().is_none());
+    drop((two, three));
+    assert!(Generations::<u32>::open(Settings::new(1, 1)).unwrap().reader().is_none());
+}
+
+/// Changes its table as it is dropped.
+struct Last(Weak<Generations<Mutex<Last>>>);
+
+impl Drop for Last {
+    fn drop(&mut self) {
+        if let Some(table) = self.0.upgrade() {
+            table.attach(&name("dropped"), Mutex::new(Last(Weak::new()))).unwrap();
+        }
+    }
+}
+
+/// So its lock is free while a value is dropped, also one that a registry had which was left.
+#[test]
+fn the_drop_of_a_value_may_change_the_table() {
+    let (tell, told) = mpsc::channel();
+    thread::spawn(move || {
+        let table = Arc::new(Generations::open(Settings::new(2, 4).changes(8)).unwrap());
+        let mut reader = table.reader().unwrap();
+        table.attach(&WM, Mutex::new(Last(Arc::downgrade(&table)))).unwrap();
+        let reference = reader.get_local(&WM).unwrap();
+        drop(table.detach(&WM).unwrap());
+        drop(reference);
+        for _ in 0..4 {
+            table.attach(&WM0, Mutex::new(Last(Weak::new()))).unwrap();
+            drop(table.detach(&WM0).unwrap());
+        }
+        tell.send(table.detach(&name("dropped")).is_ok()).unwrap();
+    });
+    assert_eq!(told.recv_timeout(LONG), Ok(true));
+}
