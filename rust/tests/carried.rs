@@ -140,7 +140,8 @@ fn a_retired_entry_that_a_panic_loses_is_freed() {
     assert!(catch_unwind(AssertUnwindSafe(lost)).is_err());
     assert_eq!((registry.retired(), drops.dropped()), (1, 0));
     section.exit();
-    assert_eq!((registry.collect().len(), registry.retired(), drops.dropped()), (1, 0, 1));
+    drop(registry.collect());
+    assert_eq!((registry.retired(), drops.dropped()), (0, 1));
 }
 
 /// An error that is boxed and kept has the token in it. Its entry's slot is vacant all the same once an attach needs it, and its value waits for it.
@@ -252,15 +253,11 @@ fn a_drop_may_call_the_registry() {
 #[test]
 fn any_value_is_carried() {
     let (registry, cpus) = with_driver([7u8; 4096]);
-    assert_eq!(
-        (local(&cpus[0], "wm")[4095], detach(&registry, &cpus[0], "wm").freed().value),
-        (7, [7; 4096])
-    );
+    assert_eq!(passive(&cpus[0], "wm")[4095], 7);
+    assert_eq!(detach(&registry, &cpus[0], "wm").freed().value, [7; 4096]);
     let (registry, cpus) = with_driver(());
-    assert_eq!(
-        (*passive(&cpus[0], "wm"), detach(&registry, &cpus[0], "wm").freed().value),
-        ((), ())
-    );
+    assert_eq!(*passive(&cpus[0], "wm"), ());
+    assert_eq!(detach(&registry, &cpus[0], "wm").freed().value, ());
     let (counted, text) = (Rc::new(Cell::new(0)), String::from("borrowed"));
     let (registry, cpus) = with_driver((Rc::clone(&counted), text.as_str()));
     passive(&cpus[0], "wm").0.set(3);

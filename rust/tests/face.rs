@@ -217,7 +217,7 @@ fn a_dropped_cpu_may_be_had_again() {
     assert!(registry.cpu(1).is_none() && registry.cpu(2).is_none() && registry.cpu(255).is_none() && registry.any_cpu().is_none());
     mem::forget(passive(&cpus[1], "wm"));
     drop((local(&cpus[1], "wm"), local(&cpus[1], "wm")));
-    assert_eq!(registry.dropped(), 1);
+    assert_eq!(registry.dropped(), 2);
     drop(cpus.remove(1));
     assert_eq!((registry.dropped(), registry.audit(&cpus)), (0, Err(Refusal::MissingCpu)));
     let again = registry.any_cpu().unwrap();

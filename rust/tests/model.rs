@@ -4,11 +4,13 @@
 
 mod common;
 
-use common::{name, scaled, why, Dice, Drops, Tracked};
+use common::{name, scaled, Dice, Drops, Tracked};
 use kupaldiz::{
     Cpu, CpuPool, Entry, Found, Freed, Hold, Holder, Kind, Lent, LocalRef, Name, PassiveRef, Patience, ReadGuard, Refusal, Refused,
     Registry, Retired, Section, Settings, LIMITS,
 };
+use std::cell::RefCell;
+use std::collections::BTreeSet;
 use std::future::Future;
 use std::mem;
 use std::sync::Arc;
@@ -816,6 +818,17 @@ impl Bench<'_> {
     }
 }
 
+thread_local! {
+    /// The numbers of the refusals that came.
+    static CAME: RefCell<BTreeSet<u32>> = const { RefCell::new(BTreeSet::new()) };
+}
+
+fn why(error: impl Into<Refusal>) -> Refusal {
+    let refusal = common::why(error);
+    CAME.with(|came| came.borrow_mut().insert(refusal.number()));
+    refusal
+}
+
 fn told<R>(answer: Result<R, impl Into<Refusal>>) -> Told<()> {
     answer.map(drop).map_err(why)
 }
@@ -844,7 +857,7 @@ fn ready<R>(asked: Poll<R>) -> Option<R> {
 fn settings(seed: u64) -> Settings {
     let count = |divisor: u64| [1, 2, 3, LIMITS.count][(seed / divisor % 4) as usize];
     let changes = if seed % 5 == 0 { 60 } else { LIMITS.changes };
-    let sections = if seed % 3 == 0 { 200 } else { LIMITS.sections };
+    let sections = if seed % 3 == 0 { 60 } else { LIMITS.sections };
     Settings::new(ALL as u8, SLOTS as u8)
         .changes(changes)
         .sections(sections)
@@ -901,6 +914,12 @@ fn each_answer_is_the_models() {
     for seed in 1..=20u64 {
         run(seed, scaled(3000));
     }
+    let came = CAME.with(|came| came.borrow().iter().copied().collect::<Vec<_>>());
+    assert_eq!(
+        came,
+        [0, 3, 4, 5, 6, 7, 8, 10, 13, 16, 17, 19],
+        "each refusal that isn't of the opening or the audit"
+    );
 }
 
 /// Registries on threads beside each other have nothing in common.
