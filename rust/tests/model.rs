@@ -68,8 +68,8 @@ struct Bench<'cpu> {
     dice: Dice,
     open: Vec<Vec<Open<'cpu>>>,
     /// How many sections each CPU has begun, and of these how many at least, and at most, the archive counts.
-    begun: [u64; CPUS],
-    spent: [(u64, u64); CPUS],
+    begun: [u64; ALL],
+    spent: [(u64, u64); ALL],
     /// What each CPU has found last.
     last: [Option<u64>; ALL],
     passives: Vec<PassiveRef<'cpu, Tracked>>,
@@ -721,24 +721,29 @@ impl<'cpu> Bench<'cpu> {
         };
         let at = usize::from(loan.id());
         match self.dice.below(4) {
-            0 => (0..2).for_each(|_| mem::forget(loan.enter())),
-            1 => {
-                mem::forget(loan.enter());
-                loan.leave();
-                assert_eq!(loan.depth(), 0);
-                self.loans.push(loan);
+            way @ 0..=1 => {
+                let entered = loan.enter().map_err(why);
+                let is_spent = self.is_spent(at, true, &entered);
+                mem::forget(entered);
+                assert_eq!(loan.is_inside(), !is_spent);
+                if way == 0 {
+                    loan.leave();
+                    assert_eq!(loan.depth(), 0);
+                    self.loans.push(loan);
+                }
             }
             2 => {
                 // The other CPU is lent, so this one alone is there.
                 let (others, pool) = (mem::take(&mut self.loans), self.pool);
-                let mut rest: Vec<_> = std::iter::from_fn(|| pool.try_lend()).collect();
+                let rest: Vec<_> = std::iter::from_fn(|| pool.try_lend()).collect();
                 drop(loan);
                 let got = pool.get_local(kind, &name).map_err(why);
+                drop(rest);
                 self.loans.extend(others);
-                rest.clear();
-                let expected = self.found(kind, &name);
-                let expected = expected.and_then(|entry| self.locally(at, entry));
-                self.keep_local(got, at, expected);
+                if !self.is_spent(at, true, &got) {
+                    let expected = self.look(at, kind, &name).and_then(|entry| self.locally(at, entry));
+                    self.keep_local(got, at, expected);
+                }
             }
             _ => drop(loan),
         }
@@ -886,9 +891,9 @@ fn run(seed: u64, steps: usize) {
         drops: &drops,
         settings,
         dice: Dice::of(seed),
-        open: (0..CPUS).map(|_| Vec::new()).collect(),
-        begun: [0; CPUS],
-        spent: [(0, 0); CPUS],
+        open: (0..ALL).map(|_| Vec::new()).collect(),
+        begun: [0; ALL],
+        spent: [(0, 0); ALL],
         last: [None; ALL],
         passives: Vec::new(),
         locals: Vec::new(),
