@@ -114,12 +114,6 @@ impl<T> Carried<T> {
     }
 }
 
-impl<T> fmt::Debug for Carried<T> {
-    fn fmt(&self, f: &mut fmt::Formatter<'_>) -> fmt::Result {
-        write!(f, "Carried({:p})", self.at)
-    }
-}
-
 /// An entry as C has it, without what it carries. It is shorter than an [`Entry`], whose name has its text as well.
 #[derive(Clone, Copy)]
 pub struct Plain {

@@ -98,6 +98,7 @@ impl<T> Registry<T> {
     /// # Errors
     ///
     /// `OtherRegistry` for the CPU or the reference, `Inside`, `NeedsDriver`, `NotFound`, `NoSlot`, `HistoryFull`. The reference and the value are returned.
+    #[allow(clippy::type_complexity)]
     pub fn replace_iface(
         &self,
         cpu: &Cpu<T>,
@@ -110,16 +111,6 @@ impl<T> Registry<T> {
 
     /// Detaches the live entry with this kind and name. Lookups that begin after this call has returned don't find it. It keeps its value until the
     /// returned [`Retired`] has taken that, and its slot as long as something holds it.
-    ///
-    /// ```
-    /// use kupaldiz::{Kind, Name, Patience, Registry, Settings};
-    ///
-    /// let (registry, cpus) = Registry::open(Settings::new(1, 4)).unwrap();
-    /// let wm = Name::parse("wm").unwrap();
-    /// registry.attach(&cpus[0], &wm, 7).unwrap();
-    /// let retired = registry.detach(&cpus[0], Kind::Driver, &wm).unwrap();
-    /// assert_eq!(retired.destroy(&cpus[0], Patience::Forever).unwrap().value, 7);
-    /// ```
     ///
     /// # Errors
     ///
@@ -152,7 +143,7 @@ impl<T> Registry<T> {
     pub fn detach_entry(&self, cpu: &Cpu<T>, entry: &Entry) -> Result<Retired<T>, DetachError> {
         self.tidy(cpu)?;
         let mut kept = self.shared.kept();
-        let is_live = kept.live(entry.number).map(|live| live.entry()) == Some(*entry);
+        let is_live = kept.all_live().iter().any(|live| live.entry() == *entry);
         if cpu.is_inside() || is_live {
             self.detach_by(&mut kept, cpu, entry.kind, &entry.name).map_err(DetachError::of)
         } else {

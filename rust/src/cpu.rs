@@ -152,16 +152,6 @@ impl<T> Cpu<T> {
     }
 
     /// Exits all sections that are still open. Their guards were forgotten: a guard that lives borrows the CPU.
-    ///
-    /// ```
-    /// use kupaldiz::{Registry, Settings};
-    ///
-    /// let (_, mut cpus) = Registry::<()>::open(Settings::new(1, 1)).unwrap();
-    /// std::mem::forget(cpus[0].enter().unwrap());
-    /// assert_eq!(cpus[0].depth(), 1);
-    /// cpus[0].leave();
-    /// assert_eq!(cpus[0].depth(), 0);
-    /// ```
     pub fn leave(&mut self) {
         // SAFETY: as for `depth`. No guard lives, so nothing that was found in these sections is in use.
         while unsafe { ffi::registry_exit(self.handle()) } == ffi::DONE {}

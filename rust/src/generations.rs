@@ -53,10 +53,15 @@ struct Newest<T> {
 }
 
 impl<T> Newest<T> {
-    fn open(settings: Settings) -> Result<(Registry<Arc<T>>, Cpu<Arc<T>>), Refusal> {
+    fn open(settings: Settings) -> Result<Newest<T>, Refusal> {
         let (registry, mut cpus) = Registry::open(settings)?;
-        let cpu = cpus.pop().ok_or(Refusal::MissingCpu)?;
-        Ok((registry, cpu))
+        Ok(Newest {
+            registry,
+            cpu: cpus.pop().ok_or(Refusal::MissingCpu)?,
+            live: Vec::new(),
+            readers: 0,
+            left: Vec::new(),
+        })
     }
 
     fn attach(&mut self, name: &Name, value: Arc<T>) -> Result<(), Refused<AttachError, Arc<T>>> {
@@ -87,16 +92,9 @@ impl<T> Generations<T> {
     ///
     /// As for [`Registry::open`].
     pub fn open(settings: Settings) -> Result<Generations<T>, Refusal> {
-        let (registry, cpu) = Newest::open(settings)?;
         Ok(Generations {
             settings,
-            newest: Mutex::new(Newest {
-                registry,
-                cpu,
-                live: Vec::new(),
-                readers: 0,
-                left: Vec::new(),
-            }),
+            newest: Mutex::new(Newest::open(settings)?),
             generation: AtomicU64::new(0),
         })
     }
@@ -169,19 +167,19 @@ impl<T> Generations<T> {
 
     /// Opens the next registry, attaches what is live, and takes it out of the one that is left. Returns what is freed by that.
     fn take_over(&self, newest: &mut Newest<T>) -> Result<Vec<Freed<Arc<T>>>, Refusal> {
-        let (registry, cpu) = Newest::open(self.settings)?;
+        let mut next = Newest::open(self.settings)?;
         for (name, value) in &newest.live {
-            registry.attach(&cpu, name, Arc::clone(value))?;
+            next.attach(name, Arc::clone(value))?;
         }
-        let left = mem::replace(&mut newest.registry, registry);
-        let cpu = mem::replace(&mut newest.cpu, cpu);
+        mem::swap(newest, &mut next);
         // A reader that finds nothing in the one that is left looks at this.
         self.generation.fetch_add(1, Ordering::SeqCst);
         let mut freed = Vec::new();
-        for (name, _) in &newest.live {
-            freed.extend(left.retire(&cpu, Kind::Driver, name)?);
+        for (name, _) in &next.live {
+            freed.extend(next.registry.retire(&next.cpu, Kind::Driver, name)?);
         }
-        newest.left.push(left);
+        (newest.readers, newest.left) = (next.readers, next.left);
+        newest.left.push(next.registry);
         Ok(freed)
     }
 }

@@ -98,31 +98,18 @@ mod tests {
     #[test]
     fn other_limits_than_the_librarys_are_refused() {
         assert_eq!(LIMITS.compared(), ffi::DONE);
+        let other = |change: fn(&mut Limits)| {
+            let mut limits = LIMITS;
+            change(&mut limits);
+            limits
+        };
         let others = [
-            Limits {
-                cpus: LIMITS.cpus + 1,
-                ..LIMITS
-            },
-            Limits {
-                slots: LIMITS.slots - 1,
-                ..LIMITS
-            },
-            Limits {
-                changes: LIMITS.changes + 1,
-                ..LIMITS
-            },
-            Limits {
-                sections: LIMITS.sections - 1,
-                ..LIMITS
-            },
-            Limits {
-                count: LIMITS.count + 1,
-                ..LIMITS
-            },
-            Limits {
-                depth: LIMITS.depth - 1,
-                ..LIMITS
-            },
+            other(|limits| limits.cpus += 1),
+            other(|limits| limits.slots -= 1),
+            other(|limits| limits.changes += 1),
+            other(|limits| limits.sections -= 1),
+            other(|limits| limits.count += 1),
+            other(|limits| limits.depth -= 1),
         ];
         for other in others {
             assert_eq!(

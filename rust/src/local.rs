@@ -3,12 +3,10 @@
 use crate::carried::Record;
 use crate::cpu::Cpu;
 use crate::ffi;
-use crate::mapped::{Mapped, Stays};
 use crate::refusal::{LookUpError, Refusal, Refused};
 use crate::shared::{Lease, Shared};
 use crate::usual::ReadGuard;
 use crate::values::Entry;
-use std::fmt;
 use std::mem;
 use std::ops::Deref;
 use std::sync::Arc;
@@ -155,12 +153,6 @@ impl<T> LocalRef<T> {
             Err(LookUpError::NotFound)
         }
     }
-
-    /// The reference to a part of what the entry carries.
-    #[inline]
-    pub fn map<U: ?Sized>(reference: Self, part: impl FnOnce(&T) -> &U) -> Mapped<Self, U> {
-        Mapped::new(reference, part)
-    }
 }
 
 /// Releases a reference on a CPU of its registry.
@@ -173,9 +165,6 @@ fn release_on<T>(cpu: &Cpu<T>, slot: usize, local: ffi::Local, lease: Option<Arc
     }
     cpu.release_to(slot);
 }
-
-// SAFETY: the entry keeps its value until the reference is released.
-unsafe impl<T> Stays for LocalRef<T> {}
 
 impl<T> Deref for LocalRef<T> {
     type Target = T;
@@ -199,20 +188,5 @@ impl<T> Drop for LocalRef<T> {
             lease.shared.baskets().lay(self.record.slot(), handle);
             lease.shared.tasks().wake();
         }
-    }
-}
-
-impl<T: fmt::Display> fmt::Display for LocalRef<T> {
-    fn fmt(&self, f: &mut fmt::Formatter<'_>) -> fmt::Result {
-        (**self).fmt(f)
-    }
-}
-
-impl<T: fmt::Debug> fmt::Debug for LocalRef<T> {
-    fn fmt(&self, f: &mut fmt::Formatter<'_>) -> fmt::Result {
-        f.debug_struct("LocalRef")
-            .field("entry", &self.record)
-            .field("value", &**self)
-            .finish()
     }
 }

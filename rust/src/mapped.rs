@@ -61,3 +61,53 @@ impl<G, U: ?Sized + fmt::Display> fmt::Display for Mapped<G, U> {
         (**self).fmt(f)
     }
 }
+
+/// Defines how the types are shown that deref to what an entry carries.
+macro_rules! shown {
+    ($($name:ident<$($life:lifetime),*> $($cpu:ident)?;)*) => {$(
+        impl<$($life,)* T: fmt::Display> fmt::Display for crate::$name<$($life,)* T> {
+            fn fmt(&self, f: &mut fmt::Formatter<'_>) -> fmt::Result {
+                (**self).fmt(f)
+            }
+        }
+
+        impl<$($life,)* T: fmt::Debug> fmt::Debug for crate::$name<$($life,)* T> {
+            fn fmt(&self, f: &mut fmt::Formatter<'_>) -> fmt::Result {
+                let mut shown = f.debug_struct(stringify!($name));
+                $(shown.field("cpu", &self.$cpu.id());)?
+                shown.field("entry", &Self::entry(self)).field("value", &**self).finish()
+            }
+        }
+    )*};
+}
+
+/// Defines `map`.
+macro_rules! mapped {
+    ($($name:ident<$($life:lifetime)?>;)*) => {$(
+        impl<$($life,)? T> crate::$name<$($life,)? T> {
+            /// The same of a part of what the entry carries.
+            #[inline]
+            pub fn map<U: ?Sized>(guard: Self, part: impl FnOnce(&T) -> &U) -> Mapped<Self, U> {
+                Mapped::new(guard, part)
+            }
+        }
+
+        // SAFETY: the entry keeps its value until the guard is dropped or the reference released.
+        unsafe impl<$($life,)? T> Stays for crate::$name<$($life,)? T> {}
+    )*};
+}
+
+shown! {
+    Found<'section, 'cpu>;
+    ReadGuard<'cpu>;
+    PassiveRef<'cpu> cpu;
+    PassiveRc<> cpu;
+    LocalRef<>;
+}
+
+mapped! {
+    ReadGuard<'cpu>;
+    PassiveRef<'cpu>;
+    PassiveRc<>;
+    LocalRef<>;
+}

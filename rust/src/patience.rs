@@ -11,23 +11,6 @@ use std::time::{Duration, Instant};
 ///    section is over by then.
 /// 2. It yields 8 times: the reader's thread may wait for this processor.
 /// 3. It sleeps, for 16 microseconds at first, twice as long each time, 8 milliseconds at most.
-///
-/// ```
-/// use kupaldiz::{DestroyError, Holder, Kind, Name, Patience, Registry, Settings};
-/// use std::time::Duration;
-///
-/// let (registry, cpus) = Registry::open(Settings::new(2, 4)).unwrap();
-/// let wm = Name::parse("wm").unwrap();
-/// registry.attach(&cpus[0], &wm, 7).unwrap();
-/// let section = cpus[1].enter().unwrap();
-/// let found = section.find(Kind::Driver, &wm).unwrap();
-/// let retired = registry.detach(&cpus[0], Kind::Driver, &wm).unwrap();
-/// let refused = retired.destroy(&cpus[0], Patience::at_most(Duration::from_millis(1))).unwrap_err();
-/// assert_eq!(refused.refusal, DestroyError::StillHeld(Holder::Grace(1)));
-/// assert_eq!(*found, 7);
-/// section.exit();
-/// assert_eq!(refused.given.destroy(&cpus[0], Patience::Forever).unwrap().value, 7);
-/// ```
 #[derive(Clone, Copy, Debug, PartialEq, Eq, Hash)]
 #[non_exhaustive]
 pub enum Patience {

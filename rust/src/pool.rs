@@ -171,17 +171,6 @@ impl<T> CpuPool<T> {
 
     /// A local reference, as [`Cpu::get_local`] returns it, by a CPU that is lent for this call alone.
     ///
-    /// ```
-    /// use kupaldiz::{CpuPool, Kind, Name, Registry, Settings};
-    ///
-    /// let (registry, cpus) = Registry::open(Settings::new(1, 4)).unwrap();
-    /// let wm = Name::parse("wm").unwrap();
-    /// registry.attach(&cpus[0], &wm, 7).unwrap();
-    /// let pool = CpuPool::new(cpus).unwrap();
-    /// let reference = pool.get_local(Kind::Driver, &wm).unwrap();
-    /// assert_eq!((*reference, pool.try_lend().is_some()), (7, true));
-    /// ```
-    ///
     /// # Errors
     ///
     /// As for [`Cpu::get_local`].
@@ -261,17 +250,6 @@ impl<'pool, T> Future for LendFuture<'pool, T> {
 
 /// A CPU that is lent, for the thread that has borrowed it. Dropping it returns the CPU, outside of any section. If it is forgotten, the CPU is lost to the
 /// pool and to its registry.
-///
-/// ```
-/// use kupaldiz::{CpuPool, Registry, Settings};
-///
-/// let (_, cpus) = Registry::<()>::open(Settings::new(1, 1)).unwrap();
-/// let pool = CpuPool::new(cpus).unwrap();
-/// let cpu = pool.lend();
-/// assert!(cpu.id() == 0 && pool.try_lend().is_none());
-/// drop(cpu);
-/// assert!(pool.try_lend().is_some());
-/// ```
 #[must_use = "a CPU that is dropped at once is back in its pool"]
 pub struct Lent<'pool, T> {
     pool: &'pool CpuPool<T>,
@@ -283,17 +261,6 @@ pub struct Lent<'pool, T> {
 
 impl<T> Lent<'_, T> {
     /// Exits all sections that are still open, as [`Cpu::leave`] does: their guards were forgotten.
-    ///
-    /// ```
-    /// use kupaldiz::{CpuPool, Registry, Settings};
-    ///
-    /// let (_, cpus) = Registry::<()>::open(Settings::new(1, 1)).unwrap();
-    /// let pool = CpuPool::new(cpus).unwrap();
-    /// let mut cpu = pool.lend();
-    /// std::mem::forget(cpu.enter().unwrap());
-    /// cpu.leave();
-    /// assert!(!cpu.is_inside());
-    /// ```
     pub fn leave(&mut self) {
         if let Some(cpu) = &mut self.cpu {
             cpu.leave();

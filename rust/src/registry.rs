@@ -17,23 +17,12 @@ use std::vec::Vec;
 /// An open registry. Each entry carries a `T` of the caller's. A clone is one more handle of the same registry. Any thread may use a handle, and a
 /// `static` may have one.
 ///
-/// The registry is open as long as a handle of it exists: a `Registry`, a [`Cpu`], a [`LocalRef`] or a [`Retired`]. Dropping the last one closes it,
+/// The registry is open as long as a handle of it exists: a `Registry`, a [`Cpu`], a [`LocalRef`](crate::LocalRef) or a [`Retired`](crate::Retired). Dropping the last one closes it,
 /// and drops the values that its entries still carry. A handle that is forgotten keeps it open for ever. So does a handle that an entry of the same
 /// registry carries.
 ///
 /// Changes, and each try to free an entry, are made under a lock, the interlock. No call holds it while it waits for a reader, or while a `T` is dropped.
 /// So that drop may call the registry again.
-///
-/// ```
-/// use kupaldiz::{Kind, Name, Registry, Settings};
-/// use std::sync::Mutex;
-///
-/// static DEVICES: Mutex<Option<Registry<String>>> = Mutex::new(None);
-///
-/// let (registry, cpus) = Registry::open(Settings::new(2, 4)).unwrap();
-/// registry.attach(&cpus[0], &Name::parse("wm").unwrap(), "gigabit".to_string()).unwrap();
-/// *DEVICES.lock().unwrap() = Some(registry);
-/// ```
 pub struct Registry<T> {
     pub(crate) shared: Arc<Shared<T>>,
 }
@@ -44,13 +33,6 @@ impl<T> Registry<T> {
     }
 
     /// Opens a registry, with all its CPUs in order.
-    ///
-    /// ```
-    /// use kupaldiz::{Registry, Settings};
-    ///
-    /// let (registry, cpus) = Registry::<String>::open(Settings::new(2, 4)).unwrap();
-    /// assert_eq!((registry.settings().slots, cpus[1].id()), (4, 1));
-    /// ```
     ///
     /// # Errors
     ///
@@ -127,15 +109,6 @@ impl<T> Registry<T> {
     }
 
     /// The lowest-numbered CPU that has no handle.
-    ///
-    /// ```
-    /// use kupaldiz::{Registry, Settings};
-    ///
-    /// let (registry, cpus) = Registry::<()>::open(Settings::new(2, 4)).unwrap();
-    /// assert!(registry.any_cpu().is_none());
-    /// drop(cpus);
-    /// assert_eq!(registry.any_cpu().map(|cpu| cpu.id()), Some(0));
-    /// ```
     #[must_use]
     pub fn any_cpu(&self) -> Option<Cpu<T>> {
         (0..self.settings().cpus).find_map(|id| self.cpu(id))
@@ -163,13 +136,13 @@ impl<T> Registry<T> {
 
 /// The work on retired entries, and the counts.
 impl<T> Registry<T> {
-    /// The number of entries that were [retired](Registry::retire) or [deferred](Retired::defer) and wait to be freed.
+    /// The number of entries that were [retired](Registry::retire) or [deferred](crate::Retired::defer) and wait to be freed.
     #[must_use]
     pub fn retired(&self) -> usize {
         self.shared.deferred()
     }
 
-    /// The number of local references that were [dropped without a CPU](LocalRef#dropped-without-a-cpu) and aren't released yet.
+    /// The number of local references that were [dropped without a CPU](crate::LocalRef#dropped-without-a-cpu) and aren't released yet.
     #[must_use]
     pub fn dropped(&self) -> usize {
         self.shared.baskets().total()

@@ -22,20 +22,6 @@ use std::task::{Context, Poll};
 ///
 /// It co-owns its registry. It may be stored, and go to other threads.
 ///
-/// ```
-/// use kupaldiz::{DestroyError, Holder, Kind, Name, Registry, Settings};
-///
-/// let (registry, cpus) = Registry::open(Settings::new(2, 4)).unwrap();
-/// let wm = Name::parse("wm").unwrap();
-/// registry.attach(&cpus[0], &wm, 7).unwrap();
-/// let section = cpus[1].enter().unwrap();
-/// let retired = registry.detach(&cpus[0], Kind::Driver, &wm).unwrap();
-/// let held = retired.advance().unwrap_err();
-/// assert_eq!(held.refusal, DestroyError::StillHeld(Holder::Grace(1)));
-/// section.exit();
-/// assert_eq!(held.given.advance().unwrap().value, 7);
-/// ```
-///
 /// # As a future
 ///
 /// An `.await` returns the [`Freed`], and needs no CPU, no runtime and no thread. A poll makes one turn. If something holds the entry, the poll notes the

@@ -137,21 +137,6 @@ impl<T> fmt::Debug for Section<'_, T> {
 /// entry longer, acquire a reference.
 ///
 /// All its functions are called by the type's name, so that none hides a method of `T`.
-///
-/// ```
-/// use kupaldiz::{Found, Kind, Name, Registry, Settings};
-///
-/// let (registry, cpus) = Registry::open(Settings::new(1, 1)).unwrap();
-/// let wm = Name::parse("wm").unwrap();
-/// let made = registry.attach(&cpus[0], &wm, vec![1500, 9000]).unwrap();
-/// let section = cpus[0].enter().unwrap();
-/// let found = section.find(Kind::Driver, &wm).unwrap();
-/// assert_eq!((Found::entry(&found), found[1]), (made, 9000));
-/// let passive = Found::acquire(&found).unwrap();
-/// let local = Found::acquire_local(&found).unwrap();
-/// section.exit();
-/// assert_eq!(passive.len() + local.len(), 4);
-/// ```
 pub struct Found<'section, 'cpu, T> {
     record: Record<T>,
     cpu: &'cpu Cpu<T>,
@@ -341,21 +326,6 @@ impl<T> Deref for Found<'_, '_, T> {
     #[inline]
     fn deref(&self) -> &T {
         Found::value(self)
-    }
-}
-
-impl<T: fmt::Display> fmt::Display for Found<'_, '_, T> {
-    fn fmt(&self, f: &mut fmt::Formatter<'_>) -> fmt::Result {
-        (**self).fmt(f)
-    }
-}
-
-impl<T: fmt::Debug> fmt::Debug for Found<'_, '_, T> {
-    fn fmt(&self, f: &mut fmt::Formatter<'_>) -> fmt::Result {
-        f.debug_struct("Found")
-            .field("entry", &self.record)
-            .field("value", &**self)
-            .finish()
     }
 }
 

@@ -28,15 +28,15 @@ pub struct Settings {
     pub locals: u64,
 }
 
-/// Says one limit.
-macro_rules! limit {
-    ($(#[$doc:meta])* $name:ident: $type:ty) => {
-        $(#[$doc])*
+/// Defines the methods that set one limit.
+macro_rules! limits {
+    ($($name:ident: $type:ty, $text:literal;)*) => {$(
+        #[doc = $text]
         #[must_use]
         pub const fn $name(self, most: $type) -> Settings {
             Settings { $name: most, ..self }
         }
-    };
+    )*};
 }
 
 impl Settings {
@@ -66,29 +66,13 @@ impl Settings {
         Settings::new(ffi::MOST_CPUS as u8, ffi::MOST_SLOTS as u8)
     }
 
-    limit! {
-        /// This many CPUs.
-        cpus: u8
-    }
-    limit! {
-        /// This many slots.
-        slots: u8
-    }
-    limit! {
-        /// At most this many attaches and detaches in all.
-        changes: u64
-    }
-    limit! {
-        /// At most this many outermost sections of each CPU.
-        sections: u64
-    }
-    limit! {
-        /// At most this many passive references of each CPU to an entry.
-        passives: u64
-    }
-    limit! {
-        /// At most this net count of each CPU's local references to an entry.
-        locals: u64
+    limits! {
+        cpus: u8, "This many CPUs.";
+        slots: u8, "This many slots.";
+        changes: u64, "At most this many attaches and detaches in all.";
+        sections: u64, "At most this many outermost sections of each CPU.";
+        passives: u64, "At most this many passive references of each CPU to an entry.";
+        locals: u64, "At most this net count of each CPU's local references to an entry.";
     }
 
     pub(crate) fn to_c(self) -> ffi::Settings {

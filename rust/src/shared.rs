@@ -96,17 +96,10 @@ impl<T> Kept<T> {
         self.rows.iter_mut().find(|row| row.number == number)
     }
 
-    /// The live entry with this number, as it was attached.
-    pub fn live(&mut self, number: u64) -> Option<Plain> {
-        let row = self.row(number).filter(|row| row.state == State::Live)?;
-        // SAFETY: the interlock is held, and an attach noted the entry under it. Its value is taken once it is freed.
-        Some(unsafe { row.carried.plain() })
-    }
-
     /// All live entries, the youngest first: an interface comes before its driver.
     pub fn all_live(&self) -> Vec<Plain> {
         let live = self.rows.iter().filter(|row| row.state == State::Live);
-        // SAFETY: as for `live`.
+        // SAFETY: the interlock is held, and an attach noted each entry under it. Its value is taken once it is freed.
         let mut entries: Vec<Plain> = live.map(|row| unsafe { row.carried.plain() }).collect();
         entries.sort_by_key(|entry| Reverse(entry.number));
         entries

@@ -36,8 +36,8 @@ impl<T> Cpu<T> {
     }
 }
 
-/// Says the calls that look an entry up.
-macro_rules! looks_up {
+/// Defines the calls that look an entry up.
+macro_rules! lookups {
     ($($name:ident -> $found:ty;)*) => {$(
         #[doc = concat!("As [`Cpu::", stringify!($name), "`] with [`Kind::Driver`].\n\n# Errors\n\nAs there.")]
         #[inline]
@@ -48,48 +48,29 @@ macro_rules! looks_up {
     )*};
 }
 
+/// Defines the changes.
+macro_rules! changes {
+    ($($name:ident($([$kind:expr])? $($given:ident: $type:ty),*) -> $done:ty;)*) => {$(
+        #[doc = concat!("As [`Registry::", stringify!($name), "`](crate::Registry::", stringify!($name), ").\n\n# Errors\n\nAs there.")]
+        pub fn $name(&self, $($given: $type),*) -> $done {
+            self.cpu.registry().$name(self.cpu, $($kind,)? $($given),*)
+        }
+    )*};
+}
+
 impl<'cpu, T> Table<'cpu, T> {
-    looks_up! {
+    lookups! {
         get -> PassiveRef<'cpu, T>;
         get_local -> LocalRef<T>;
         read -> ReadGuard<'cpu, T>;
         look_up -> Entry;
     }
 
-    /// As [`Registry::attach`](crate::Registry::attach).
-    ///
-    /// # Errors
-    ///
-    /// As there.
-    pub fn attach(&self, name: &Name, value: T) -> Result<Entry, Refused<AttachError, T>> {
-        self.cpu.registry().attach(self.cpu, name, value)
-    }
-
-    /// As [`Registry::replace`](crate::Registry::replace).
-    ///
-    /// # Errors
-    ///
-    /// As there.
-    pub fn replace(&self, name: &Name, value: T) -> Result<(Entry, Retired<T>), Refused<AttachError, T>> {
-        self.cpu.registry().replace(self.cpu, name, value)
-    }
-
-    /// As [`Registry::detach`](crate::Registry::detach) with [`Kind::Driver`].
-    ///
-    /// # Errors
-    ///
-    /// As there.
-    pub fn detach(&self, name: &Name) -> Result<Retired<T>, DetachError> {
-        self.cpu.registry().detach(self.cpu, Kind::Driver, name)
-    }
-
-    /// As [`Registry::retire`](crate::Registry::retire) with [`Kind::Driver`].
-    ///
-    /// # Errors
-    ///
-    /// As there.
-    pub fn retire(&self, name: &Name) -> Result<Vec<Freed<T>>, DetachError> {
-        self.cpu.registry().retire(self.cpu, Kind::Driver, name)
+    changes! {
+        attach(name: &Name, value: T) -> Result<Entry, Refused<AttachError, T>>;
+        replace(name: &Name, value: T) -> Result<(Entry, Retired<T>), Refused<AttachError, T>>;
+        detach([Kind::Driver] name: &Name) -> Result<Retired<T>, DetachError>;
+        retire([Kind::Driver] name: &Name) -> Result<Vec<Freed<T>>, DetachError>;
     }
 }
 

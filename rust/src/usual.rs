@@ -4,14 +4,12 @@ use crate::carried::Record;
 use crate::cpu::Cpu;
 use crate::ffi;
 use crate::local::LocalRef;
-use crate::mapped::{Mapped, Stays};
 use crate::passive::{PassiveRc, PassiveRef};
 use crate::places::Hold;
 use crate::refusal::LookUpError;
 use crate::section::{Found, Section};
 use crate::values::{Entry, Kind};
 use crate::Name;
-use std::fmt;
 use std::ops::Deref;
 use std::panic::Location;
 use std::rc::Rc;
@@ -21,20 +19,6 @@ impl<T> Cpu<T> {
     /// [`find`](crate::Section::find), [`acquire`](crate::Found::acquire) and [`exit`](crate::Section::exit) give together. In an open
     /// section the call is nested in it. Outside it opens none and writes only the word that counts the reference, if the CPU remembers
     /// the entry.
-    ///
-    /// ```
-    /// use kupaldiz::{Kind, LookUpError, Name, PassiveRef, Registry, Settings};
-    ///
-    /// let (registry, cpus) = Registry::open(Settings::new(1, 1)).unwrap();
-    /// let wm = Name::parse("wm").unwrap();
-    /// registry.attach(&cpus[0], &wm, 7).unwrap();
-    /// let reference = cpus[0].get(Kind::Driver, &wm).unwrap();
-    /// registry.retire(&cpus[0], Kind::Driver, &wm).unwrap();
-    /// assert_eq!((*reference, registry.collect().len()), (7, 0));
-    /// PassiveRef::release(reference);
-    /// assert_eq!(registry.collect().len(), 1);
-    /// assert_eq!(cpus[0].get(Kind::Driver, &wm).unwrap_err(), LookUpError::NotFound);
-    /// ```
     ///
     /// # Errors
     ///
@@ -203,23 +187,6 @@ impl<T> Cpu<T> {
 /// It stays with its thread, as a [`Section`] does. If it is forgotten, its section stays open, as with a forgotten [`Section`].
 ///
 /// All its functions are called by the type's name, so that none hides a method of `T`.
-///
-/// ```
-/// use kupaldiz::{Kind, LocalRef, Name, ReadGuard, Registry, Settings};
-///
-/// let (registry, cpus) = Registry::open(Settings::new(2, 1)).unwrap();
-/// let wm = Name::parse("wm").unwrap();
-/// let made = registry.attach(&cpus[1], &wm, vec![1500, 9000]).unwrap();
-/// let driver = cpus[0].read(Kind::Driver, &wm).unwrap();
-/// assert_eq!((ReadGuard::entry(&driver), driver[1]), (made, 9000));
-/// registry.retire(&cpus[1], Kind::Driver, &wm).unwrap();
-/// assert_eq!(registry.collect().len(), 0);
-/// let local = ReadGuard::acquire_local(&driver).unwrap();
-/// drop(driver);
-/// assert_eq!((local.len(), registry.collect().len()), (2, 0));
-/// LocalRef::release(local, &cpus[0]).unwrap();
-/// assert_eq!(registry.collect().len(), 1);
-/// ```
 #[must_use = "a section that is dropped at once protects nothing"]
 pub struct ReadGuard<'cpu, T> {
     /// It is lent no longer than the guard lives, which has its section.
@@ -263,22 +230,6 @@ impl<'cpu, T> ReadGuard<'cpu, T> {
         Found::acquire_local(&guard.found)
     }
 
-    /// The guard of a part of what the entry carries.
-    ///
-    /// ```
-    /// use kupaldiz::{Kind, Name, ReadGuard, Registry, Settings};
-    ///
-    /// let (registry, cpus) = Registry::open(Settings::new(1, 1)).unwrap();
-    /// let wm = Name::parse("wm").unwrap();
-    /// registry.attach(&cpus[0], &wm, (1000, String::from("gigabit"))).unwrap();
-    /// let text = ReadGuard::map(cpus[0].read(Kind::Driver, &wm).unwrap(), |driver| driver.1.as_str());
-    /// assert_eq!(&*text, "gigabit");
-    /// ```
-    #[inline]
-    pub fn map<U: ?Sized>(guard: Self, part: impl FnOnce(&T) -> &U) -> Mapped<Self, U> {
-        Mapped::new(guard, part)
-    }
-
     /// Exits, as dropping it does.
     #[inline]
     pub fn exit(guard: Self) {
@@ -286,29 +237,11 @@ impl<'cpu, T> ReadGuard<'cpu, T> {
     }
 }
 
-// SAFETY: the entry keeps its value until the guard is dropped.
-unsafe impl<T> Stays for ReadGuard<'_, T> {}
-
 impl<T> Deref for ReadGuard<'_, T> {
     type Target = T;
 
     #[inline]
     fn deref(&self) -> &T {
         &self.found
-    }
-}
-
-impl<T: fmt::Display> fmt::Display for ReadGuard<'_, T> {
-    fn fmt(&self, f: &mut fmt::Formatter<'_>) -> fmt::Result {
-        (**self).fmt(f)
-    }
-}
-
-impl<T: fmt::Debug> fmt::Debug for ReadGuard<'_, T> {
-    fn fmt(&self, f: &mut fmt::Formatter<'_>) -> fmt::Result {
-        f.debug_struct("ReadGuard")
-            .field("entry", &ReadGuard::entry(self))
-            .field("value", &**self)
-            .finish()
     }
 }
