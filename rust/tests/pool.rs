@@ -66,7 +66,7 @@ fn a_loan_that_its_thread_has_is_told() {
     let (text, id) = from.recv_timeout(LONG).expect("it doesn't wait for ever");
     let text = text.unwrap();
     let begins = "no CPU is idle, and this thread has CPU 0 of the pool since ";
-    assert!(id == 0 && text.starts_with(begins) && text.contains("pool.rs:"), "{text}");
+    assert!(id == 0 && text.starts_with(begins) && text.contains(file!()), "{text}");
 }
 
 #[test]
