@@ -66,10 +66,7 @@ fn main() -> Result<(), Box<dyn Error>> {
         let senders: Vec<_> = (0..SENDERS).map(|first| scope.spawn(move || server.send_on(first))).collect();
         let closed = server.serve();
         server.stop.store(true, Ordering::SeqCst);
-        (
-            closed,
-            senders.into_iter().map(|sender| sender.join().expect("no panic")).sum::<usize>(),
-        )
+        (closed, senders.into_iter().map(|sender| sender.join().expect("no panic")).sum::<usize>())
     });
     assert_eq!(closed?, sent as u64);
     println!("{CONNECTIONS} connections were closed, and each after its last packet");

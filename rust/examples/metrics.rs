@@ -17,12 +17,7 @@ struct Counter(AtomicU64);
 fn count(cpu: &Cpu<Counter>, stop: &AtomicBool) -> u64 {
     let names = NAMES.iter().cycle().take_while(|_| !stop.load(Ordering::Relaxed));
     // A guard of `read` ends with its line: it is the cheapest way to use an entry and keep nothing.
-    let counted = names.filter(|name| {
-        cpu.table()
-            .read(name)
-            .map(|counter| counter.0.fetch_add(1, Ordering::Relaxed))
-            .is_ok()
-    });
+    let counted = names.filter(|name| cpu.table().read(name).map(|counter| counter.0.fetch_add(1, Ordering::Relaxed)).is_ok());
     counted.count() as u64
 }
 

@@ -39,9 +39,7 @@ fn main() -> Result<(), Box<dyn Error>> {
     drop(written);
     let (theirs, mine) = (cpus.remove(1), cpus.remove(0));
     let (end, ended) = channel();
-    let worker = thread::Builder::new()
-        .name("job-1".to_string())
-        .spawn(move || work(theirs, &ended))?;
+    let worker = thread::Builder::new().name("job-1".to_string()).spawn(move || work(theirs, &ended))?;
     while registry.cpu(1).is_none() {
         thread::yield_now(); // until the job has its device
     }

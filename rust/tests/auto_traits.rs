@@ -123,9 +123,7 @@ fn each_public_type_is_in_the_table() {
     let root = include_str!("../src/lib.rs");
     let lines = root.lines().filter_map(|line| line.strip_prefix("pub use ")?.rsplit("::").next());
     let names = lines.flat_map(|line| line.split(|c: char| !c.is_alphanumeric()));
-    let exported: BTreeSet<&str> = names
-        .filter(|name| name.starts_with(char::is_uppercase) && name.contains(char::is_lowercase))
-        .collect();
+    let exported: BTreeSet<&str> = names.filter(|name| name.starts_with(char::is_uppercase) && name.contains(char::is_lowercase)).collect();
     assert_eq!(exported, table().iter().map(|row| row.0).collect());
     assert!(!root.contains("pub mod ") && !root.contains("pub struct ") && !root.contains("pub enum "));
 }

@@ -3,7 +3,7 @@
 
 mod common;
 
-use common::{balances, detach, local, name, passive, patience, why, with_driver, Drops, Tracked, LONG};
+use common::{detach, local, name, passive, patience, why, with_driver, Drops, Tracked, LONG};
 use kupaldiz::{Cpu, DestroyError, Holder, Kind, LocalRef, Patience, Refusal, Refused, Registry, Retired, Settings};
 use std::cell::{Cell, RefCell};
 use std::error::Error;
@@ -21,10 +21,7 @@ fn what_is_left_is_dropped_at_the_closing() {
     let drops = Drops::default();
     let (registry, mut cpus) = with_driver(drops.make(0));
     registry.attach(&cpus[0], &name("vga"), drops.make(1)).unwrap();
-    let (held, retired) = (
-        local(&cpus[0], "wm"),
-        registry.detach(&cpus[0], Kind::Driver, &name("vga")).unwrap(),
-    );
+    let (held, retired) = (local(&cpus[0], "wm"), registry.detach(&cpus[0], Kind::Driver, &name("vga")).unwrap());
     let registry = registry.close(Patience::Turns(2)).unwrap_err().registry;
     assert!(registry == retired.registry() && registry == cpus[1].registry());
     drop((registry, cpus.pop()));
@@ -117,7 +114,7 @@ fn a_panic_gives_all_back() {
         panic!("the body's own");
     };
     assert!(catch_unwind(AssertUnwindSafe(|| held(&cpus[1]))).is_err());
-    assert!(!cpus[1].is_inside() && !cpus[1].holds(1) && balances(&registry, &cpus)[0].0 == 0);
+    assert!(!cpus[1].is_inside() && !cpus[1].holds(1) && registry.audit(&cpus).unwrap()[0].held == 0);
     let mut cpus = cpus;
     let cpu = cpus.remove(1);
     assert!(thread::spawn(move || held(&cpu)).join().is_err());
@@ -182,10 +179,7 @@ impl Drop for Fragile {
 #[test]
 fn a_panic_of_a_drop_leaves_the_registry_whole() {
     let drops = Drops::default();
-    let fragile = |panics| Fragile {
-        _tracked: drops.make(0),
-        panics,
-    };
+    let fragile = |panics| Fragile { _tracked: drops.make(0), panics };
     let (registry, cpus) = Registry::open(Settings::new(1, 4)).unwrap();
     for (text, panics) in [("d0", false), ("d1", true), ("d2", false)] {
         registry.attach(&cpus[0], &name(text), fragile(panics)).unwrap();

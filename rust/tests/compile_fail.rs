@@ -56,10 +56,7 @@ fn cases(text: &str) -> Vec<(&str, &str)> {
 
 #[test]
 fn what_is_wrong_is_refused_for_just_that_reason() {
-    let (out, root) = (
-        Path::new(env!("CARGO_TARGET_TMPDIR")).join("compile_fail"),
-        Path::new(env!("CARGO_MANIFEST_DIR")),
-    );
+    let (out, root) = (Path::new(env!("CARGO_TARGET_TMPDIR")).join("compile_fail"), Path::new(env!("CARGO_MANIFEST_DIR")));
     fs::create_dir_all(&out).unwrap();
     let bench = Bench { out, root };
     let made = bench.compile("src/lib.rs", &["--crate-name", "kupaldiz"]);
@@ -69,15 +66,10 @@ fn what_is_wrong_is_refused_for_just_that_reason() {
     let text = fs::read_to_string(root.join("tests/compile_fail/cases.rs")).unwrap();
     let cases = cases(&text);
     assert_eq!((cases.len(), text.matches("#[cfg(").count()), (CASES, CASES));
-    let judged = cases
-        .into_iter()
-        .map(|(name, expected)| (name, expected, text_of(&bench.fails(name))));
+    let judged = cases.into_iter().map(|(name, expected)| (name, expected, text_of(&bench.fails(name))));
     let is_wrong = |errors: Vec<String>, expected| errors.is_empty() || !errors.iter().all(|error| error.starts_with(expected));
     let wrong: Vec<_> = judged.filter(|(_, expected, said)| is_wrong(errors_in(said), *expected)).collect();
-    let told: Vec<String> = wrong
-        .iter()
-        .map(|(name, expected, said)| format!("{name}: not {expected}\n{said}"))
-        .collect();
+    let told: Vec<String> = wrong.iter().map(|(name, expected, said)| format!("{name}: not {expected}\n{said}")).collect();
     assert!(told.is_empty(), "{}", told.join("\n"));
 }
 

@@ -78,10 +78,7 @@ impl Yard {
             }
             let section = cpu.enter()?;
             section.entries().for_each(|found| found.check(found.words[0] as usize % NAMES));
-            let local = section
-                .find(Kind::Driver, name)
-                .map(|found| Found::acquire_local(&found))
-                .transpose()?;
+            let local = section.find(Kind::Driver, name).map(|found| Found::acquire_local(&found)).transpose()?;
             section.exit();
             if let Some(local) = local {
                 local.check(place);

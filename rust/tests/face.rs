@@ -57,9 +57,7 @@ fn an_id_is_a_name_and_back() {
     for (id, text) in [(0, "n0"), (35, "nz"), (36, "n10"), (u64::MAX, "n3w5e11264sgsf")] {
         assert_eq!((Name::from_id(id).as_str(), name(text).id()), (text, Some(id)));
     }
-    assert!(["n", "n00", "wm", "n3w5e11264sgsg", "nzzzzzzzzzzzzzz"]
-        .iter()
-        .all(|text| name(text).id().is_none()));
+    assert!(["n", "n00", "wm", "n3w5e11264sgsg", "nzzzzzzzzzzzzzz"].iter().all(|text| name(text).id().is_none()));
 }
 
 #[test]
@@ -80,17 +78,10 @@ fn bad_settings_are_refused() {
         whole.locals(0),
         whole.locals(LIMITS.count + 1),
     ] {
-        assert_eq!(
-            Registry::<()>::open(settings).map(drop).map_err(why),
-            Err(Refusal::BadSettings),
-            "{settings:?}"
-        );
+        assert_eq!(Registry::<()>::open(settings).map(drop).map_err(why), Err(Refusal::BadSettings), "{settings:?}");
     }
     let (registry, cpus) = Registry::<()>::open(whole).unwrap();
-    assert_eq!(
-        (registry.settings(), cpus.len() as u64, whole),
-        (whole, LIMITS.cpus, Settings::default())
-    );
+    assert_eq!((registry.settings(), cpus.len() as u64, whole), (whole, LIMITS.cpus, Settings::default()));
     assert_eq!((kupaldiz::version(), kupaldiz::limits()), (env!("CARGO_PKG_VERSION"), LIMITS));
 }
 
@@ -117,21 +108,12 @@ fn refusals_have_the_numbers_of_the_header_and_say_why() {
         (Refusal::OtherLimits, 78),
     ];
     assert!(numbered.iter().all(|(refusal, number)| refusal.number() == *number));
-    assert_eq!(
-        numbered.iter().map(|one| one.0.to_string()).collect::<HashSet<_>>().len(),
-        numbered.len()
-    );
+    assert_eq!(numbered.iter().map(|one| one.0.to_string()).collect::<HashSet<_>>().len(), numbered.len());
     assert!(numbered[11].0.to_string().ends_with(": grace cpu 1") && numbered[12].0.to_string().ends_with(": cpu 3"));
-    assert_eq!(
-        [Holder::Passive(2).to_string(), Holder::Local(3).to_string()],
-        ["passive cpu 2", "local 3"]
-    );
+    assert_eq!([Holder::Passive(2).to_string(), Holder::Local(3).to_string()], ["passive cpu 2", "local 3"]);
     let (registry, cpus) = with_driver(7);
     let boxed: Box<dyn Error> = registry.attach(&cpus[0], &WM, 8).unwrap_err().into();
-    assert_eq!(
-        (boxed.to_string(), boxed.source().unwrap().to_string()),
-        (numbered[2].0.to_string(), boxed.to_string())
-    );
+    assert_eq!((boxed.to_string(), boxed.source().unwrap().to_string()), (numbered[2].0.to_string(), boxed.to_string()));
 }
 
 /// So are calls that enter; and all of them are left at once.
@@ -141,14 +123,8 @@ fn sections_nest_to_the_greatest_depth() {
     let (deepest, cpu) = (LIMITS.depth as u8, &cpus[0]);
     let mut guards: Vec<_> = (0..deepest).map(|_| cpu.enter().unwrap()).collect();
     let found = guards[guards.len() - 1].find(Kind::Driver, &WM).unwrap();
-    let deeper = [
-        cpu.enter().map(drop).map_err(why),
-        cpu.read(Kind::Driver, &WM).map(drop).map_err(why),
-    ];
-    let plain = [
-        cpu.get(Kind::Driver, &WM).map(drop).map_err(why),
-        cpu.look_up(Kind::Driver, &WM).map(drop).map_err(why),
-    ];
+    let deeper = [cpu.enter().map(drop).map_err(why), cpu.read(Kind::Driver, &WM).map(drop).map_err(why)];
+    let plain = [cpu.get(Kind::Driver, &WM).map(drop).map_err(why), cpu.look_up(Kind::Driver, &WM).map(drop).map_err(why)];
     assert_eq!((deeper, plain), ([Err(Refusal::TooDeep); 2], [Err(Refusal::TooDeep); 2]));
     assert_eq!((*Found::acquire(&found).unwrap(), cpu.depth()), (7, deepest));
     guards.pop();
@@ -171,17 +147,11 @@ fn a_call_outside_counts_as_a_section_except_of_an_entry_that_its_cpu_remembers(
     let cpu = &cpus[0];
     registry.attach(cpu, &WM, 7).unwrap();
     let section = cpu.enter().unwrap();
-    assert_eq!(
-        (cpu.look_up(Kind::Driver, &WM).unwrap().number, *cpu.get(Kind::Driver, &WM).unwrap()),
-        (1, 7)
-    );
+    assert_eq!((cpu.look_up(Kind::Driver, &WM).unwrap().number, *cpu.get(Kind::Driver, &WM).unwrap()), (1, 7));
     assert_eq!(*cpu.read(Kind::Driver, &WM).unwrap(), 7);
     section.exit();
     for _ in 0..9 {
-        assert_eq!(
-            (cpu.look_up(Kind::Driver, &WM).unwrap().number, *cpu.get(Kind::Driver, &WM).unwrap()),
-            (1, 7)
-        );
+        assert_eq!((cpu.look_up(Kind::Driver, &WM).unwrap().number, *cpu.get(Kind::Driver, &WM).unwrap()), (1, 7));
     }
     assert_eq!(cpu.look_up(Kind::Iface, &WM).map_err(why), Err(Refusal::NotFound));
     assert_eq!(cpu.get(Kind::Iface, &WM).map(drop).map_err(why), Err(Refusal::NotFound));
@@ -202,13 +172,8 @@ fn all_slots_and_names_are_told_apart() {
     assert!(section.entries().map(|listed| *listed).eq((0..LIMITS.slots).rev()));
     section.exit();
     drop((0..LIMITS.slots).map(|i| local(&cpus[0], &format!("d{i}"))).collect::<Vec<_>>());
-    assert_eq!(
-        (registry.dropped() as u64, registry.audit(&cpus).unwrap().len() as u64),
-        (LIMITS.slots, LIMITS.slots)
-    );
-    assert!((0..LIMITS.slots)
-        .rev()
-        .all(|i| detach(&registry, &cpus[0], &format!("d{i}")).freed().value == i));
+    assert_eq!((registry.dropped() as u64, registry.audit(&cpus).unwrap().len() as u64), (LIMITS.slots, LIMITS.slots));
+    assert!((0..LIMITS.slots).rev().all(|i| detach(&registry, &cpus[0], &format!("d{i}")).freed().value == i));
 }
 
 #[test]
@@ -276,10 +241,7 @@ fn a_wait_lasts_as_long_as_it_is_told() {
     assert!(performed == Err(Refusal::Waiting(1)) && began.elapsed() >= 3 * shortly);
     section.exit();
     let freed = refused.given.destroy(writer, Patience::Until(Instant::now())).unwrap();
-    assert_eq!(
-        (freed.to_string(), freed.entry.name, freed.value),
-        ("freed slot 0".to_string(), WM, 7)
-    );
+    assert_eq!((freed.to_string(), freed.entry.name, freed.value), ("freed slot 0".to_string(), WM, 7));
 }
 
 #[test]
@@ -377,15 +339,7 @@ fn each_line_that_holds_an_entry_is_named() {
     assert_eq!(lines(&registry, &made), all);
     drop((one, two, four, five, seven, eleven));
     LocalRef::release(six, &cpu).unwrap();
-    assert_eq!(
-        lines(&registry, &made),
-        [
-            at(Hold::Passive, 5),
-            at(Hold::Passive, 11),
-            at(Hold::Passive, 13),
-            at(Hold::Local, 12)
-        ]
-    );
+    assert_eq!(lines(&registry, &made), [at(Hold::Passive, 5), at(Hold::Passive, 11), at(Hold::Passive, 13), at(Hold::Local, 12)]);
     drop((three, eight, nine, ten));
     assert_eq!(registry.holders(&made).unwrap().to_string(), "nobody");
 }
@@ -425,10 +379,7 @@ fn a_part_is_held_by_what_it_was_made_of() {
     let passive = PassiveRef::map(passive(&cpu, "wm"), |port| &port.mtu);
     let plain = LocalRef::map(local(&cpu, "wm"), |port| &port.text[5..]);
     let gone = detach(&registry, &cpus[0], "wm");
-    assert_eq!(
-        (format!("{read} {passive}"), format!("{plain:?}")),
-        ("port 1500 1500".to_string(), "Mapped(\"1500\")".to_string())
-    );
+    assert_eq!((format!("{read} {passive}"), format!("{plain:?}")), ("port 1500 1500".to_string(), "Mapped(\"1500\")".to_string()));
     drop(read);
     assert_eq!(gone.holder(), Some(Holder::Passive(0)));
     let passive = Mapped::into_inner(passive);
@@ -438,16 +389,7 @@ fn a_part_is_held_by_what_it_was_made_of() {
     // A part of a local reference goes where the reference may.
     thread::spawn(move || assert_eq!(&*plain, "1500")).join().unwrap();
     assert_eq!(gone.freed().value.mtu, 1500);
-    registry
-        .attach(
-            &cpus[0],
-            &WM,
-            Port {
-                mtu: 9000,
-                text: String::new(),
-            },
-        )
-        .unwrap();
+    registry.attach(&cpus[0], &WM, Port { mtu: 9000, text: String::new() }).unwrap();
     let owned = PassiveRc::map(cpu.get_rc(Kind::Driver, &WM).unwrap(), |port| &port.mtu);
     drop(cpu);
     assert!(registry.cpu(0).is_none() && *owned == 9000);
@@ -455,38 +397,40 @@ fn a_part_is_held_by_what_it_was_made_of() {
     assert!(registry.cpu(0).is_some());
 }
 
-/// The type that an `impl` in this line is of, without a trait.
-fn inherent(line: &str) -> Option<&str> {
-    let head = line.strip_prefix("impl").filter(|head| !head.contains(" for "))?;
-    let name = head.rsplit("> ").find(|part| part.contains('<')).unwrap_or(head);
-    name.trim_start().split('<').next()
+/// Has a method with the name of each function of the guards and the references.
+struct Shadow;
+
+macro_rules! shadows {
+    ($($name:ident)*) => {
+        #[allow(clippy::wrong_self_convention)]
+        impl Shadow {
+            $(fn $name(&self) -> &'static str {
+                stringify!($name)
+            })*
+        }
+
+        macro_rules! are_its_own {
+            ($held:expr) => {
+                assert_eq!([$($held.$name()),*], [$(stringify!($name)),*])
+            };
+        }
+    };
 }
 
-/// None takes `self`, so none hides a method of what is carried.
+shadows!(acquire acquire_local cpu entry exit handle into_inner is_of map reference release section try_clone value);
+
 #[test]
-fn no_public_function_of_a_reference_is_a_method() {
-    let folder = concat!(env!("CARGO_MANIFEST_DIR"), "/src");
-    let files = std::fs::read_dir(folder).unwrap().map(|file| file.unwrap().path());
-    let text: String = files.map(|path| std::fs::read_to_string(path).unwrap()).collect();
-    let derefs: Vec<&str> = text
-        .lines()
-        .filter_map(|line| line.strip_prefix("impl")?.split(" Deref for ").nth(1)?.split('<').next())
-        .collect();
-    assert_eq!(derefs.len(), 7, "{derefs:?}");
-    let (mut of, mut functions) = ("", 0);
-    for line in text.lines() {
-        of = inherent(line).unwrap_or(of);
-        if line.starts_with("    pub fn ") && of != "Lent" && derefs.contains(&of) {
-            functions += 1;
-            assert!(
-                !["(self", "(mut self", "(&self", "(&mut self"]
-                    .iter()
-                    .any(|receiver| line.contains(receiver)),
-                "{of}: {line}"
-            );
-        }
-    }
-    assert!(functions > 20, "{functions} were looked at");
+fn no_function_hides_a_method_of_what_is_carried() {
+    let (_registry, mut cpus) = with_driver(Shadow);
+    let cpu = Rc::new(cpus.remove(0));
+    let section = cpu.enter().unwrap();
+    are_its_own!(section.find(Kind::Driver, &WM).unwrap());
+    are_its_own!(section.entries().next().unwrap());
+    are_its_own!(cpu.read(Kind::Driver, &WM).unwrap());
+    are_its_own!(passive(&cpu, "wm"));
+    are_its_own!(cpu.get_rc(Kind::Driver, &WM).unwrap());
+    are_its_own!(local(&cpu, "wm"));
+    are_its_own!(LocalRef::map(local(&cpu, "wm"), |shadow| shadow));
 }
 
 #[test]

@@ -1,11 +1,10 @@
-//! Entries that leave: those that tasks wait for, interfaces that are replaced, and those that go on in the next registry.
+//! Entries that leave: those that tasks wait for, and those that go on in the next registry.
 
 mod common;
 
-use common::{local, name, passive, patience, Drops, Stops, LONG};
+use common::{local, name, passive, Drops, Stops, LONG};
 use kupaldiz::{
-    AttachError, Cpu, DestroyError, Generations, Holder, Kind, LocalRef, LookUpError, Name, PassiveRef, Patience, Refusal, Refused,
-    Registry, Retired, Settings,
+    AttachError, Cpu, Generations, Kind, LocalRef, LookUpError, Name, PassiveRef, Patience, Refusal, Registry, Retired, Settings,
 };
 use std::future::Future;
 use std::mem;
@@ -35,10 +34,7 @@ impl Wake for Task {
 
 impl Task {
     fn here() -> Arc<Task> {
-        Arc::new(Task {
-            woken: AtomicUsize::new(0),
-            thread: thread::current(),
-        })
+        Arc::new(Task { woken: AtomicUsize::new(0), thread: thread::current() })
     }
 
     fn woken(&self) -> usize {
@@ -156,9 +152,7 @@ fn no_wake_is_lost_between_threads() {
                         0 => drop(cpu.read(Kind::Driver, &WM)),
                         1 => drop(cpu.get(Kind::Driver, &WM)),
                         2 => drop(cpu.get_local(Kind::Driver, &WM)),
-                        _ => cpu
-                            .get_local(Kind::Driver, &WM)
-                            .map_or((), |reference| LocalRef::release(reference, &cpu).unwrap()),
+                        _ => cpu.get_local(Kind::Driver, &WM).map_or((), |reference| LocalRef::release(reference, &cpu).unwrap()),
                     }
                 }
             });
@@ -193,67 +187,6 @@ fn a_future_that_is_dropped_or_done_leaves_nothing_behind() {
     assert!(panic::catch_unwind(AssertUnwindSafe(|| task.poll(&mut retired))).is_err());
     drop((retired, cpus));
     registry.close(Patience::Turns(1)).unwrap();
-}
-
-#[test]
-fn an_interface_is_replaced_in_one_step_and_keeps_the_new_driver() {
-    let (registry, cpus) = with_wm();
-    let cpu = &cpus[2];
-    registry.attach_iface(cpu, &WM0, local(cpu, "wm"), 8).unwrap();
-    registry.attach(cpu, &name("vga"), 9).unwrap();
-    let held = local(cpu, "wm");
-    let (made, old) = registry.replace_iface(cpu, &WM0, local(cpu, "vga"), 10).unwrap();
-    assert_eq!((made.kind, made.name, *cpu.get(Kind::Iface, &WM0).unwrap()), (Kind::Iface, WM0, 10));
-    assert_eq!(old.wait(patience()).unwrap().value, 8);
-    // The old driver is free but for one reference, and the new one is kept.
-    let wm = registry.detach(cpu, Kind::Driver, &WM).unwrap();
-    let refused = wm.advance().unwrap_err();
-    assert_eq!(refused.refusal, DestroyError::StillHeld(Holder::Local(1)));
-    drop(held);
-    assert_eq!(refused.given.advance().unwrap().value, 7);
-    let vga = registry.detach(cpu, Kind::Driver, &name("vga")).unwrap();
-    assert_eq!(vga.advance().unwrap_err().refusal, DestroyError::StillHeld(Holder::Local(1)));
-}
-
-/// The old interface stays, and the reference and the value come back.
-#[test]
-fn a_replace_that_is_refused_leaves_the_old_interface() {
-    let (registry, cpus) = Registry::open(Settings::new(2, 3).changes(6)).unwrap();
-    let cpu = &cpus[0];
-    let refused = |name: &Name, driver: LocalRef<u32>| {
-        let Refused { refusal, given } = registry.replace_iface(cpu, name, driver, 9).map(drop).unwrap_err();
-        assert_eq!(given.1, 9);
-        LocalRef::release(given.0, cpu).unwrap();
-        refusal
-    };
-    registry.attach(cpu, &WM, 7).unwrap();
-    registry.attach_iface(cpu, &WM0, local(cpu, "wm"), 8).unwrap();
-    let made = cpu.look_up(Kind::Iface, &WM0).unwrap();
-    assert_eq!(refused(&WM, local(cpu, "wm")), AttachError::NotFound);
-    let of_iface = cpu.get_local(Kind::Iface, &WM0).unwrap();
-    assert_eq!(refused(&WM0, of_iface), AttachError::NeedsDriver);
-    let section = cpu.enter().unwrap();
-    let reference = local(cpu, "wm");
-    let inside = registry.replace_iface(cpu, &WM0, reference, 9).map(drop).unwrap_err();
-    assert_eq!(inside.refusal, AttachError::Inside);
-    section.exit();
-    let (_other, others) = with_wm();
-    let Refused { refusal, given } = registry.replace_iface(cpu, &WM0, local(&others[0], "wm"), 9).map(drop).unwrap_err();
-    assert_eq!(refusal, AttachError::OtherRegistry);
-    drop((given, inside));
-    // The third slot has an entry that is held, so none is vacant.
-    let held = registry
-        .attach(cpu, &name("vga"), 1)
-        .map(|_| cpus[1].get(Kind::Driver, &name("vga")).unwrap())
-        .unwrap();
-    assert_eq!(refused(&WM0, local(cpu, "wm")), AttachError::NoSlot);
-    registry.retire(cpu, Kind::Driver, &name("vga")).unwrap();
-    drop(held);
-    assert_eq!(refused(&WM0, local(cpu, "wm")), AttachError::HistoryFull);
-    assert_eq!(
-        (cpu.look_up(Kind::Iface, &WM0), *cpu.get(Kind::Iface, &WM0).unwrap()),
-        (Ok(made), 8)
-    );
 }
 
 /// A reference to an entry of a registry that was left is one to the value.

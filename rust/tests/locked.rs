@@ -34,15 +34,7 @@ fn opened() -> (Retired<u32>, Other) {
     let held = held.advance().unwrap_err().given;
     let retired = registry.detach(&cpus[0], Kind::Driver, &name("free")).unwrap();
     let (retired, collected) = (Some(retired), Some(collected));
-    (
-        held,
-        Other {
-            registry,
-            cpus,
-            retired,
-            collected,
-        },
-    )
+    (held, Other { registry, cpus, retired, collected })
 }
 
 /// One call, by its name.

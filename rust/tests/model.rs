@@ -11,10 +11,7 @@ use kupaldiz::{
 };
 use std::cell::RefCell;
 use std::collections::BTreeSet;
-use std::future::Future;
 use std::mem;
-use std::sync::Arc;
-use std::task::{Context, Poll, Wake, Waker};
 use std::time::Instant;
 
 /// So many CPUs have sections that stay open, and so many more are in the pool.
@@ -67,9 +64,8 @@ struct Bench<'cpu> {
     settings: Settings,
     dice: Dice,
     open: Vec<Vec<Open<'cpu>>>,
-    /// How many sections each CPU has begun, and of these how many at least, and at most, the archive counts.
+    /// How many sections each CPU has begun. A lookup of what it remembers is counted, too, and may begin none.
     begun: [u64; ALL],
-    spent: [(u64, u64); ALL],
     /// What each CPU has found last.
     last: [Option<u64>; ALL],
     passives: Vec<PassiveRef<'cpu, Tracked>>,
@@ -90,9 +86,7 @@ struct Bench<'cpu> {
 /// What the model says.
 impl<'cpu> Bench<'cpu> {
     fn live(&self, kind: Kind, name: &Name) -> Option<&Known> {
-        self.known
-            .iter()
-            .find(|one| one.live && (one.entry.kind, one.entry.name) == (kind, *name))
+        self.known.iter().find(|one| one.live && (one.entry.kind, one.entry.name) == (kind, *name))
     }
 
     /// What a lookup returns.
@@ -129,9 +123,7 @@ impl<'cpu> Bench<'cpu> {
         let held = self.locals.iter().filter(|held| LocalRef::entry(&held.0).number == number);
         let kept = self.known.iter().filter_map(|one| Some((one.driver?, one.entry.number)));
         let kept = kept.filter(|(driver, _)| driver.0 == number);
-        held.map(|held| (held.1, None))
-            .chain(kept.map(|((_, cpu), iface)| (cpu, Some(iface))))
-            .collect()
+        held.map(|held| (held.1, None)).chain(kept.map(|((_, cpu), iface)| (cpu, Some(iface)))).collect()
     }
 
     /// What holds a retired entry first.
@@ -212,15 +204,7 @@ impl<'cpu> Bench<'cpu> {
     fn attached(&mut self, entry: Entry, key: (Kind, Name), driver: Option<(u64, usize)>) {
         self.changes += 1;
         assert_eq!((entry.number, (entry.kind, entry.name)), (self.changes, key));
-        self.known.push(Known {
-            entry,
-            label: self.labels,
-            live: true,
-            driver,
-            open: [None; CPUS],
-            net: [0; ALL],
-            dropped: 0,
-        });
+        self.known.push(Known { entry, label: self.labels, live: true, driver, open: [None; CPUS], net: [0; ALL], dropped: 0 });
     }
 
     fn detached(&mut self, number: u64) {
@@ -230,23 +214,11 @@ impl<'cpu> Bench<'cpu> {
         (one.live, one.open) = (false, open);
     }
 
-    /// Whether the CPU has begun as many sections as it may, which this answer says. A lookup of what it remembers may begin none.
-    fn is_spent<R>(&mut self, cpu: usize, begins_one: bool, answer: &Result<R, Refusal>) -> bool {
-        let (most, is_refused) = (self.settings.sections, matches!(answer, Err(Refusal::SectionsSpent)));
-        if self.is_inside(cpu) {
-            assert!(!is_refused);
-            return false;
-        }
-        let (least, utmost) = &mut self.spent[cpu];
-        if is_refused {
-            assert!(*utmost >= most);
-            *least = most;
-        } else {
-            *least += u64::from(begins_one);
-            *utmost += 1;
-            assert!(*least <= most);
-            self.begun[cpu] += 1;
-        }
+    /// Whether the answer of a call that may begin a section says that the CPU has begun as many as it may.
+    fn is_spent<R>(&mut self, cpu: usize, answer: &Told<R>) -> bool {
+        let is_refused = matches!(answer, Err(Refusal::SectionsSpent));
+        assert!(!is_refused || !self.is_inside(cpu) && self.begun[cpu] >= self.settings.sections);
+        self.begun[cpu] += u64::from(!is_refused && !self.is_inside(cpu));
         is_refused
     }
 
@@ -314,12 +286,12 @@ impl<'cpu> Bench<'cpu> {
             drop(self.dice.take(&mut self.open[at]));
         } else if self.dice.below(2) == 0 {
             let section = cpu.enter().map_err(why);
-            if !self.is_spent(at, true, &section) {
+            if !self.is_spent(at, &section) {
                 self.open[at].push(Err(section.unwrap()));
             }
         } else {
             let guard = cpu.read(kind, &name).map_err(why);
-            if !self.is_spent(at, true, &guard) {
+            if !self.is_spent(at, &guard) {
                 assert_eq!(guard.as_ref().map(ReadGuard::entry).map_err(|why| *why), self.look(at, kind, &name));
                 self.open[at].extend(guard.map(Ok));
             }
@@ -340,12 +312,8 @@ impl<'cpu> Bench<'cpu> {
             assert_eq!(found.as_ref().map(|found| (Found::entry(found), found.label)), expected);
         }
         let first = found.iter().flatten().next();
-        let passive = first
-            .filter(|_| passively)
-            .map(|first| (Found::entry(first), Found::acquire(first)));
-        let local = first
-            .filter(|_| !passively)
-            .map(|first| (Found::entry(first), Found::acquire_local(first)));
+        let passive = first.filter(|_| passively).map(|first| (Found::entry(first), Found::acquire(first)));
+        let local = first.filter(|_| !passively).map(|first| (Found::entry(first), Found::acquire_local(first)));
         self.last[at] = found[1].as_ref().map(|found| Found::entry(found).number);
         if let Some((entry, passive)) = passive {
             let expected = self.passively(at, entry);
@@ -396,27 +364,23 @@ impl<'cpu> Bench<'cpu> {
             0 => {
                 let entry = if is_table { table.look_up(&name) } else { cpu.look_up(kind, &name) };
                 let entry = entry.map_err(why);
-                if !self.is_spent(at, false, &entry) {
+                if !self.is_spent(at, &entry) {
                     assert_eq!(entry, self.look(at, kind, &name));
                 }
             }
             1 => {
                 let got = if is_table { table.get(&name) } else { cpu.get(kind, &name) };
                 let got = got.map_err(why);
-                if !self.is_spent(at, false, &got) {
+                if !self.is_spent(at, &got) {
                     let expected = self.look(at, kind, &name).and_then(|entry| self.passively(at, entry));
                     self.last[at] = expected.ok().map(|place| place.1);
                     self.keep(got, expected);
                 }
             }
             _ => {
-                let got = if is_table {
-                    table.get_local(&name)
-                } else {
-                    cpu.get_local(kind, &name)
-                };
+                let got = if is_table { table.get_local(&name) } else { cpu.get_local(kind, &name) };
                 let got = got.map_err(why);
-                if !self.is_spent(at, true, &got) {
+                if !self.is_spent(at, &got) {
                     let expected = self.look(at, kind, &name).and_then(|entry| self.locally(at, entry));
                     self.keep_local(got, at, expected);
                 }
@@ -461,7 +425,7 @@ impl<'cpu> Bench<'cpu> {
         let ((at, cpu), entry) = (self.any_cpu(), LocalRef::entry(&held.0));
         let more = LocalRef::try_clone(&held.0, cpu).map_err(why);
         self.locals.push(held);
-        if !self.is_spent(at, true, &more) {
+        if !self.is_spent(at, &more) {
             let expected = match self.look(at, entry.kind, &entry.name) {
                 Ok(found) if found == entry => self.locally(at, entry),
                 _ => Err(Refusal::NotFound),
@@ -527,12 +491,7 @@ impl<'cpu> Bench<'cpu> {
         let (mut freed, retires) = (Vec::new(), self.dice.below(2) == 0);
         let token = match (table, expected, self.dice.below(3)) {
             (Some(table), _, 0) if retires => table.retire(&name).map(|all| freed = all).map(|()| None).map_err(why),
-            _ if retires => self
-                .registry
-                .retire(cpu, kind, &name)
-                .map(|all| freed = all)
-                .map(|()| None)
-                .map_err(why),
+            _ if retires => self.registry.retire(cpu, kind, &name).map(|all| freed = all).map(|()| None).map_err(why),
             (Some(table), _, 0) => table.detach(&name).map(Some).map_err(why),
             (_, Ok(entry), 1) => self.registry.detach_entry(cpu, &entry).map(Some).map_err(why),
             _ => self.registry.detach(cpu, kind, &name).map(Some).map_err(why),
@@ -575,11 +534,7 @@ impl<'cpu> Bench<'cpu> {
             }
             return drop(self.collect());
         }
-        let expected = if way == 2 && self.is_inside(at) {
-            Some(Refusal::Inside)
-        } else {
-            self.worked(number, (way == 2).then_some(at))
-        };
+        let expected = if way == 2 && self.is_inside(at) { Some(Refusal::Inside) } else { self.worked(number, (way == 2).then_some(at)) };
         let done = match way {
             0 => token.advance(),
             1 => token.wait(Patience::Turns(1)),
@@ -615,9 +570,7 @@ impl<'cpu> Bench<'cpu> {
             return assert_eq!(numbers(&self.registry.collect()), expected);
         }
         let waiting = (0..CPUS).find(|other| self.is_inside(*other));
-        let expected = self
-            .before_change(at)
-            .and_then(|()| waiting.map_or(Ok(()), |other| Err(Refusal::Waiting(other as u8))));
+        let expected = self.before_change(at).and_then(|()| waiting.map_or(Ok(()), |other| Err(Refusal::Waiting(other as u8))));
         assert_eq!(self.registry.perform(cpu, Patience::Turns(2)).map_err(why), expected);
     }
 
@@ -638,11 +591,7 @@ impl<'cpu> Bench<'cpu> {
                 }
             }
             freed.extend(self.collect());
-            let told: Vec<_> = drained
-                .held
-                .iter()
-                .map(|held| (held.given.entry().number, why(held.refusal)))
-                .collect();
+            let told: Vec<_> = drained.held.iter().map(|held| (held.given.entry().number, why(held.refusal))).collect();
             assert_eq!((numbers(&drained.freed), told), (freed, held));
             self.tokens.extend(drained.held.into_iter().map(|held| held.given));
         }
@@ -659,11 +608,7 @@ impl<'cpu> Bench<'cpu> {
         for (told, one) in audited.iter().zip(&self.known) {
             let held = self.locals_to(one.entry.number).len() as i64;
             assert_eq!((told.slot, told.number, told.held), (one.entry.slot, one.entry.number, held));
-            assert!(
-                told.locals == one.net || !one.live && told.locals == [0; ALL],
-                "{told:?}, not {:?}",
-                one.net
-            );
+            assert!(told.locals == one.net || !one.live && told.locals == [0; ALL], "{told:?}, not {:?}", one.net);
             assert_eq!(told.locals.iter().sum::<i64>() + told.total, held);
         }
     }
@@ -672,9 +617,7 @@ impl<'cpu> Bench<'cpu> {
     fn holders(&mut self) {
         for one in &self.known {
             let number = one.entry.number;
-            let sections = (0..CPUS)
-                .filter(|cpu| self.is_in_grace(*cpu, one))
-                .map(|cpu| (Hold::Section, cpu, None));
+            let sections = (0..CPUS).filter(|cpu| self.is_in_grace(*cpu, one)).map(|cpu| (Hold::Section, cpu, None));
             let passives = self.passives.iter().map(place).filter(|place| place.1 == number);
             let locals = self.locals_to(number).into_iter().map(|(cpu, iface)| (Hold::Local, cpu, iface));
             let passives = passives.map(|place| (Hold::Passive, place.0, None));
@@ -694,22 +637,16 @@ impl<'cpu> Bench<'cpu> {
 /// The pool, and handles of two registries.
 impl<'cpu> Bench<'cpu> {
     fn lend(&mut self) {
-        let (pool, waker) = (self.pool, Waker::from(Arc::new(Asleep)));
-        let mut context = Context::from_waker(&waker);
-        let is_idle = self.loans.len() < POOLED;
-        let lent = match self.dice.below(5) {
+        let (pool, is_idle) = (self.pool, self.loans.len() < POOLED);
+        let lent = match self.dice.below(3) {
             0 => pool.try_lend(),
             1 => pool.lend_until(Instant::now()),
-            2 => ready(pool.poll_lend(&mut context)),
-            3 => ready(Box::pin(pool.lend_async()).as_mut().poll(&mut context)),
             _ => is_idle.then(|| pool.lend()),
         };
         assert_eq!(lent.is_some(), is_idle);
-        if let Some(lent) = lent {
-            let id = usize::from(lent.id());
-            assert!((CPUS..ALL).contains(&id) && self.loans.iter().all(|loan| loan.id() != lent.id()) && !lent.is_inside());
-            self.loans.push(lent);
-        }
+        self.loans.extend(lent);
+        let ids: BTreeSet<u8> = self.loans.iter().filter(|loan| !loan.is_inside()).map(|loan| loan.id()).collect();
+        assert!(ids.len() == self.loans.len() && ids.iter().all(|id| (CPUS..ALL).contains(&usize::from(*id))));
     }
 
     /// A loan goes back outside, with a section that was forgotten, too.
@@ -723,7 +660,7 @@ impl<'cpu> Bench<'cpu> {
         match self.dice.below(4) {
             way @ 0..=1 => {
                 let entered = loan.enter().map_err(why);
-                let is_spent = self.is_spent(at, true, &entered);
+                let is_spent = self.is_spent(at, &entered);
                 mem::forget(entered);
                 assert_eq!(loan.is_inside(), !is_spent);
                 if way == 0 {
@@ -740,7 +677,7 @@ impl<'cpu> Bench<'cpu> {
                 let got = pool.get_local(kind, &name).map_err(why);
                 drop(rest);
                 self.loans.extend(others);
-                if !self.is_spent(at, true, &got) {
+                if !self.is_spent(at, &got) {
                     let expected = self.look(at, kind, &name).and_then(|entry| self.locally(at, entry));
                     self.keep_local(got, at, expected);
                 }
@@ -844,30 +781,12 @@ fn numbers(freed: &[Freed<Tracked>]) -> Vec<u64> {
     freed.iter().map(|freed| freed.entry.number).collect()
 }
 
-/// Nobody is woken: each task is asked once.
-struct Asleep;
-
-impl Wake for Asleep {
-    fn wake(self: Arc<Self>) {}
-}
-
-fn ready<R>(asked: Poll<R>) -> Option<R> {
-    match asked {
-        Poll::Ready(answer) => Some(answer),
-        Poll::Pending => None,
-    }
-}
-
 /// Low limits, of which some are as high as they may be.
 fn settings(seed: u64) -> Settings {
     let count = |divisor: u64| [1, 2, 3, LIMITS.count][(seed / divisor % 4) as usize];
     let changes = if seed % 5 == 0 { 60 } else { LIMITS.changes };
     let sections = if seed % 3 == 0 { 60 } else { LIMITS.sections };
-    Settings::new(ALL as u8, SLOTS as u8)
-        .changes(changes)
-        .sections(sections)
-        .passives(count(1))
-        .locals(count(2))
+    Settings::new(ALL as u8, SLOTS as u8).changes(changes).sections(sections).passives(count(1)).locals(count(2))
 }
 
 /// So many random calls.
@@ -876,11 +795,7 @@ fn run(seed: u64, steps: usize) {
     let (other, others) = Registry::open(Settings::new(1, 1)).unwrap();
     other.attach(&others[0], &name("d0"), of_others.make(0)).unwrap();
     let settings = settings(seed);
-    let opened = if seed % 2 == 0 {
-        Registry::open_tracked(settings)
-    } else {
-        Registry::open(settings)
-    };
+    let opened = if seed % 2 == 0 { Registry::open_tracked(settings) } else { Registry::open(settings) };
     let (registry, mut cpus) = opened.unwrap();
     let pool = CpuPool::new(cpus.drain(CPUS..)).unwrap();
     let mut bench = Bench {
@@ -893,7 +808,6 @@ fn run(seed: u64, steps: usize) {
         dice: Dice::of(seed),
         open: (0..ALL).map(|_| Vec::new()).collect(),
         begun: [0; ALL],
-        spent: [(0, 0); ALL],
         last: [None; ALL],
         passives: Vec::new(),
         locals: Vec::new(),
@@ -920,11 +834,7 @@ fn each_answer_is_the_models() {
         run(seed, scaled(3000));
     }
     let came = CAME.with(|came| came.borrow().iter().copied().collect::<Vec<_>>());
-    assert_eq!(
-        came,
-        [0, 3, 4, 5, 6, 7, 8, 10, 13, 16, 17, 19],
-        "each refusal that isn't of the opening or the audit"
-    );
+    assert_eq!(came, [0, 3, 4, 5, 6, 7, 8, 10, 13, 16, 17, 19], "each refusal that isn't of the opening or the audit");
 }
 
 /// Registries on threads beside each other have nothing in common.

@@ -93,10 +93,7 @@ fn waiting(pool: &Arc<CpuPool<u32>>, lend: impl FnOnce(&CpuPool<u32>) -> Option<
 /// One way to wait for a loan: which CPU it is.
 type Way = fn(&CpuPool<u32>) -> Option<u8>;
 
-const WAYS: [Way; 2] = [
-    |pool| Some(pool.lend().id()),
-    |pool| pool.lend_until(Instant::now() + 2 * LONG).map(|cpu| cpu.id()),
-];
+const WAYS: [Way; 2] = [|pool| Some(pool.lend().id()), |pool| pool.lend_until(Instant::now() + 2 * LONG).map(|cpu| cpu.id())];
 
 /// All who wait, by each way to wait; and also where the thread that has it panics.
 #[test]

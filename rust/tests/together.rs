@@ -115,11 +115,7 @@ impl<'all, const CPUS: usize, const OWN: usize> Worker<'all, CPUS, OWN> {
         let place = self.dice.below(Self::NAMES);
         let name = &self.names[place];
         match self.dice.below(3) {
-            0 => drop(
-                self.cpu
-                    .get(Kind::Driver, name)
-                    .map(|held| assert!(Self::name_of(held.label) == place)),
-            ),
+            0 => drop(self.cpu.get(Kind::Driver, name).map(|held| assert!(Self::name_of(held.label) == place))),
             1 => drop(self.cpu.read(Kind::Driver, name).map(|guard| {
                 guard.check();
                 assert_eq!((Self::name_of(guard.label), ReadGuard::entry(&guard).name), (place, *name));
@@ -127,12 +123,8 @@ impl<'all, const CPUS: usize, const OWN: usize> Worker<'all, CPUS, OWN> {
             _ => {
                 let section = self.cpu.enter().unwrap();
                 let entries: Vec<_> = section.entries().collect();
-                assert!(entries
-                    .windows(2)
-                    .all(|pair| Found::entry(&pair[0]).number > Found::entry(&pair[1]).number));
-                assert!(entries
-                    .iter()
-                    .all(|found| self.names[Self::name_of(found.label)] == Found::entry(found).name));
+                assert!(entries.windows(2).all(|pair| Found::entry(&pair[0]).number > Found::entry(&pair[1]).number));
+                assert!(entries.iter().all(|found| self.names[Self::name_of(found.label)] == Found::entry(found).name));
                 let is_met = |number| entries.iter().any(|found| Found::entry(found).number == number);
                 assert!(self.live.iter().flatten().all(|live| is_met(live.0)));
             }

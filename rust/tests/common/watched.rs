@@ -83,11 +83,7 @@ impl InUse {
     /// Takes them, or ends the program where one is in use.
     pub fn take(call: &str, places: &[Handle]) -> InUse {
         // SAFETY: each is the place of a handle, which this thread uses.
-        let handles: Vec<usize> = places
-            .iter()
-            .map(|place| unsafe { **place } as usize)
-            .filter(|at| *at != 0)
-            .collect();
+        let handles: Vec<usize> = places.iter().map(|place| unsafe { **place } as usize).filter(|at| *at != 0).collect();
         let mut busy = BUSY.lock().unwrap_or_else(PoisonError::into_inner);
         for handle in &handles {
             if busy.contains(handle) {
