@@ -85,6 +85,9 @@ impl InUse {
         // SAFETY: each is the place of a handle, which this thread uses.
         let handles: Vec<usize> = places.iter().map(|place| unsafe { **place } as usize).filter(|at| *at != 0).collect();
         let mut busy = BUSY.lock().unwrap_or_else(PoisonError::into_inner);
+        if busy.capacity() == 0 {
+            busy.reserve(64); // Once, so that it grows while no test counts its memory.
+        }
         for handle in &handles {
             if busy.contains(handle) {
                 // Not by a macro, whose text a test keeps to itself.
