@@ -5,7 +5,7 @@ pub mod watched;
 
 use kupaldiz::{Cpu, DestroyError, Entry, Freed, Holder, Kind, LocalRef, Name, PassiveRef, Refusal, Refused, Registry, Retired, Settings};
 use std::cell::RefCell;
-use std::sync::atomic::{AtomicBool, AtomicU64, AtomicUsize, Ordering};
+use std::sync::atomic::{AtomicBool, AtomicUsize, Ordering};
 use std::sync::Arc;
 use std::time::Duration;
 
@@ -126,41 +126,41 @@ pub struct Drops {
     dropped: Arc<AtomicUsize>,
 }
 
-const ALIVE: u64 = 0x616c_6976_6561_6c69;
-
-/// A value in a block of its own, which is poisoned as it is dropped.
+/// A value in a block of its own, which is spoilt as it is dropped. No atomic is in it: the thread sanitizer looks at each load and store.
 #[derive(Debug)]
 pub struct Tracked {
-    state: Box<AtomicU64>,
+    words: Vec<u64>,
     dropped: Arc<AtomicUsize>,
     pub label: u64,
 }
 
 impl Drops {
     pub fn make(&self, label: u64) -> Tracked {
-        self.made.fetch_add(1, Ordering::SeqCst);
-        Tracked { state: Box::new(AtomicU64::new(ALIVE)), dropped: Arc::clone(&self.dropped), label }
+        self.made.fetch_add(1, Ordering::Relaxed);
+        Tracked { words: vec![label; 8], dropped: Arc::clone(&self.dropped), label }
     }
 
     pub fn made(&self) -> usize {
-        self.made.load(Ordering::SeqCst)
+        self.made.load(Ordering::Relaxed)
     }
 
     pub fn dropped(&self) -> usize {
-        self.dropped.load(Ordering::SeqCst)
+        self.dropped.load(Ordering::Relaxed)
     }
 }
 
 impl Tracked {
-    /// Fails where the value was dropped.
+    /// Fails if the value was dropped, or isn't all there yet.
     pub fn check(&self) {
-        assert_eq!(self.state.load(Ordering::Relaxed), ALIVE, "a value that was dropped");
+        assert!(self.words.iter().all(|word| *word == self.label), "a value that is spoilt");
     }
 }
 
 impl Drop for Tracked {
     fn drop(&mut self) {
-        assert_eq!(self.state.swap(!ALIVE, Ordering::Relaxed), ALIVE, "a value that was dropped before");
-        self.dropped.fetch_add(1, Ordering::SeqCst);
+        self.check();
+        self.words.iter_mut().for_each(|word| *word = !self.label);
+        assert_eq!(self.words[7], !self.label);
+        self.dropped.fetch_add(1, Ordering::Relaxed);
     }
 }
