@@ -304,19 +304,17 @@ fn a_destroy_fails_at_once_where_its_own_cpu_holds_the_entry() {
     assert_eq!(retired.destroy(&cpu, patience()).unwrap().value, 7);
 }
 
-/// The lines of this file that hold an entry, with what each has.
-fn lines(registry: &Registry<i32>, entry: &kupaldiz::Entry) -> Vec<(Hold, u32)> {
-    let places = registry.holders(entry).unwrap().places;
-    assert!(places.iter().all(|place| place.location.file() == file!()));
-    places.iter().map(|place| (place.hold, place.location.line())).collect()
-}
-
 /// Each kind in the order of its lines, until it ends.
 #[test]
 fn each_line_that_holds_an_entry_is_named() {
     let (registry, mut cpus) = Registry::open_tracked(Settings::new(2, 4)).unwrap();
     let cpu = Rc::new(cpus.remove(0));
     let made = registry.attach(&cpu, &WM, 7).unwrap();
+    let lines = || {
+        let places = registry.holders(&made).unwrap().places;
+        assert!(places.iter().all(|place| place.location.file() == file!() && place.thread.as_deref() == thread::current().name()));
+        places.iter().map(|place| (place.hold, place.location.line())).collect::<Vec<_>>()
+    };
     let first = line!();
     let section = cpu.enter().unwrap();
     let found = section.find(Kind::Driver, &WM).unwrap();
@@ -332,36 +330,24 @@ fn each_line_that_holds_an_entry_is_named() {
     let nine = ReadGuard::acquire_local(&seven).unwrap();
     let ten = cpu.get_rc(Kind::Driver, &WM).unwrap();
     let eleven = PassiveRc::try_clone(&ten).unwrap();
-    let at = |hold, line| (hold, first + line);
-    let passives = [3, 5, 6, 11, 13, 14].map(|line| at(Hold::Passive, line));
-    let locals = [4, 7, 8, 12].map(|line| at(Hold::Local, line));
-    let all: Vec<_> = [at(Hold::Section, 10)].into_iter().chain(passives).chain(locals).collect();
-    assert_eq!(lines(&registry, &made), all);
+    let at = |hold| move |line| (hold, first + line);
+    let all = [
+        [10].map(at(Hold::Section)).to_vec(),
+        [3, 5, 6, 11, 13, 14].map(at(Hold::Passive)).to_vec(),
+        [4, 7, 8, 12].map(at(Hold::Local)).to_vec(),
+    ];
+    assert_eq!(lines(), all.concat());
     drop((one, two, four, five, seven, eleven));
     LocalRef::release(six, &cpu).unwrap();
-    assert_eq!(lines(&registry, &made), [at(Hold::Passive, 5), at(Hold::Passive, 11), at(Hold::Passive, 13), at(Hold::Local, 12)]);
-    drop((three, eight, nine, ten));
-    assert_eq!(registry.holders(&made).unwrap().to_string(), "nobody");
-}
-
-/// By the error of a destroy, with the thread's name; and a reference that an interface keeps.
-#[test]
-fn a_destroy_that_gives_up_says_who_holds_the_entry() {
-    let (registry, mut cpus) = Registry::open_tracked(Settings::new(2, 4)).unwrap();
-    registry.attach(&cpus[0], &WM, 7).unwrap();
-    let cpu = cpus.remove(1);
-    let acquired = move || (local(&cpu, "wm"), cpu.get_local(Kind::Driver, &WM).unwrap(), line!());
-    let worker = thread::Builder::new().name("rx-1".to_string()).spawn(acquired).unwrap();
-    let (kept, held, line) = worker.join().unwrap();
-    registry.attach_iface(&cpus[0], &name("wm0"), kept, 1500).unwrap();
-    let retired = registry.detach(&cpus[0], Kind::Driver, &WM).unwrap();
-    let refused = retired.destroy(&cpus[0], Patience::Turns(1)).unwrap_err();
-    let (text, file) = (refused.to_string(), file!());
-    let ends = format!("(thread \"rx-1\") (kept by iface 2), {file}:{line} (thread \"rx-1\")");
-    assert!(text.contains(": local 2; 2 local references: ") && text.ends_with(&ends), "{text}");
-    drop((held, registry.retire(&cpus[0], Kind::Iface, &name("wm0")).unwrap()));
-    let freed = refused.given.destroy(&cpus[0], patience()).unwrap();
-    assert_eq!(registry.holders(&freed.entry).unwrap().places, []);
+    assert_eq!(lines(), [[5, 11, 13].map(at(Hold::Passive)).to_vec(), vec![at(Hold::Local)(12)]].concat());
+    drop((three, eight, ten));
+    let retired = registry.detach(&cpu, Kind::Driver, &WM).unwrap();
+    let refused = retired.destroy(&cpu, Patience::Turns(1)).unwrap_err();
+    let expected = format!("local 1; 1 local reference: {}:{} (thread {:?})", file!(), first + 12, thread::current().name().unwrap());
+    assert!(refused.to_string().ends_with(&expected), "{refused}");
+    drop(nine);
+    let freed = refused.given.destroy(&cpu, patience()).unwrap();
+    assert_eq!(registry.holders(&freed.entry).unwrap().to_string(), "nobody");
 }
 
 struct Port {
