@@ -7,6 +7,7 @@ use crate::refusal::{checked, LookUpError};
 use crate::registry::Registry;
 use crate::section::Section;
 use crate::shared::{Lease, Shared};
+use crate::tasks::Tasks;
 use std::cell::{Cell, UnsafeCell};
 use std::fmt;
 use std::mem;
@@ -156,7 +157,7 @@ impl<T> Cpu<T> {
         // SAFETY: as for `depth`. No guard lives, so nothing that was found in these sections is in use.
         while unsafe { ffi::registry_exit(self.handle()) } == ffi::DONE {}
         self.left();
-        self.wakes();
+        self.tasks().wake();
     }
 
     /// Whether this CPU has a passive reference to the entry with that number: `psref_held`.
@@ -169,10 +170,11 @@ impl<T> Cpu<T> {
 }
 
 impl<T> Cpu<T> {
-    /// Wakes the tasks that wait for retired entries. It follows each call that may have let one go.
+    /// The tasks that wait for retired entries: each call that may have let one go wakes them. Where it counts, they are looked for before that call, so
+    /// that this doesn't wait for the call's atomic steps.
     #[inline]
-    pub(crate) fn wakes(&self) {
-        self.shared().tasks().wake();
+    pub(crate) fn tasks(&self) -> &Tasks {
+        &self.shared().tasks
     }
 }
 
@@ -226,7 +228,7 @@ impl<T> Cpu<T> {
     /// as [`LocalRef::release`](crate::LocalRef::release) does. No program needs this call: [other
     /// calls](crate::LocalRef#dropped-without-a-cpu) do it.
     pub fn release_dropped(&self) {
-        if self.shared().baskets().has_any() {
+        if self.shared().baskets.has_any() {
             // SAFETY: this thread alone has the CPU, and no code of a caller ever holds the interlock.
             unsafe { self.shared().release_dropped(self.handle()) };
         }
@@ -235,7 +237,7 @@ impl<T> Cpu<T> {
     /// Releases those that are to the entry in this slot.
     #[inline]
     pub(crate) fn release_to(&self, slot: usize) {
-        if self.shared().baskets().has(slot) {
+        if self.shared().baskets.has(slot) {
             // SAFETY: as for `release_dropped`.
             unsafe { self.shared().release_of(self.handle(), slot) };
         }

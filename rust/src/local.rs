@@ -185,8 +185,8 @@ impl<T> Drop for LocalRef<T> {
             if self.record.ticket() != 0 {
                 lease.shared.released(self.record.ticket());
             }
-            lease.shared.baskets().lay(self.record.slot(), handle);
-            lease.shared.tasks().wake();
+            lease.shared.baskets.lay(self.record.slot(), handle);
+            lease.shared.tasks.wake();
         }
     }
 }

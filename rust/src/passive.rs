@@ -115,11 +115,12 @@ passive!(PassiveRc, Rc<Cpu<T>>);
 /// Releases one.
 #[inline]
 fn release<T>(cpu: &Cpu<T>, record: &Record<T>) {
+    let tasks = cpu.tasks();
     // SAFETY: this thread alone has the CPU, whose handle isn't empty. One release for the one acquire that made the reference.
     let answer = unsafe { ffi::registry_release(cpu.handle(), record.number()) };
     debug_assert_eq!(answer, ffi::DONE, "the CPU has the reference");
     if record.ticket() != 0 {
         cpu.shared().released(record.ticket());
     }
-    cpu.wakes();
+    tasks.wake();
 }

@@ -158,35 +158,21 @@ errors_of_calls! {
     /// assert_eq!(speed, 0);
     /// ```
     LookUpError {
-        NotFound = NOT_FOUND,
-        TooDeep = TOO_DEEP,
-        SectionsSpent = SECTIONS_SPENT,
-        PassiveFull = PASSIVE_FULL,
-        LocalFull = LOCAL_FULL,
-        NoMemory = NO_MEMORY,
+        NotFound = NOT_FOUND, TooDeep = TOO_DEEP, SectionsSpent = SECTIONS_SPENT,
+        PassiveFull = PASSIVE_FULL, LocalFull = LOCAL_FULL, NoMemory = NO_MEMORY,
     }
 
     /// The error of an attach or a replace. It comes with what the call was given: [`Refused`].
     AttachError {
-        Inside = INSIDE,
-        NeedsDriver = NEEDS_DRIVER,
-        NameTaken = NAME_TAKEN,
-        NotFound = NOT_FOUND,
-        NoSlot = NO_SLOT,
-        HistoryFull = HISTORY_FULL,
+        Inside = INSIDE, NeedsDriver = NEEDS_DRIVER, NameTaken = NAME_TAKEN,
+        NotFound = NOT_FOUND, NoSlot = NO_SLOT, HistoryFull = HISTORY_FULL,
     }
 
     /// The error of a detach.
-    DetachError {
-        Inside = INSIDE,
-        NotFound = NOT_FOUND,
-    }
+    DetachError { Inside = INSIDE, NotFound = NOT_FOUND, }
 
     /// The error of a try to free a detached entry. It comes with the [`Retired`](crate::Retired): [`Refused`].
-    DestroyError {
-        Inside = INSIDE,
-        StillHeld(holder: Holder),
-    }
+    DestroyError { Inside = INSIDE, StillHeld(holder: Holder), }
 }
 
 /// A CPU or a reference is of another registry.
@@ -270,20 +256,13 @@ pub struct Refused<E, G> {
 /// An error's text, beside what was given.
 pub trait ShownWith<G>: Error {
     /// Writes it.
-    fn show(&self, given: &G, f: &mut fmt::Formatter<'_>) -> fmt::Result;
-}
-
-impl<G> ShownWith<G> for Refusal {
-    fn show(&self, _: &G, f: &mut fmt::Formatter<'_>) -> fmt::Result {
+    fn show(&self, _given: &G, f: &mut fmt::Formatter<'_>) -> fmt::Result {
         fmt::Display::fmt(self, f)
     }
 }
 
-impl<G> ShownWith<G> for AttachError {
-    fn show(&self, _: &G, f: &mut fmt::Formatter<'_>) -> fmt::Result {
-        fmt::Display::fmt(self, f)
-    }
-}
+impl<G> ShownWith<G> for Refusal {}
+impl<G> ShownWith<G> for AttachError {}
 
 impl<E: fmt::Debug, G> fmt::Debug for Refused<E, G> {
     fn fmt(&self, f: &mut fmt::Formatter<'_>) -> fmt::Result {

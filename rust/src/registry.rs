@@ -96,7 +96,7 @@ impl<T> Registry<T> {
     /// The settings that it was opened with.
     #[must_use]
     pub fn settings(&self) -> Settings {
-        self.shared.settings()
+        self.shared.settings
     }
 
     /// The CPU with this number, if no handle of it exists. One that was dropped may be taken again. It still holds the passive
@@ -127,7 +127,7 @@ impl<T> Registry<T> {
     /// What comes before a change: the CPU releases what was dropped. A CPU that is inside doesn't, since the change will be refused.
     pub(crate) fn tidy(&self, cpu: &Cpu<T>) -> Result<(), Foreign> {
         self.check(cpu)?;
-        if self.shared.baskets().has_any() && !cpu.is_inside() {
+        if self.shared.baskets.has_any() && !cpu.is_inside() {
             cpu.release_dropped();
         }
         Ok(())
@@ -145,7 +145,7 @@ impl<T> Registry<T> {
     /// The number of local references that were [dropped without a CPU](crate::LocalRef#dropped-without-a-cpu) and aren't released yet.
     #[must_use]
     pub fn dropped(&self) -> usize {
-        self.shared.baskets().total()
+        self.shared.baskets.total()
     }
 
     /// Frees what was [retired](Registry::retire) and nothing holds any more, the oldest first, and returns what was freed. It tries once for each entry

@@ -231,7 +231,7 @@ impl<T> Future for Retired<T> {
         let token = self.get_mut();
         let mut done = token.turn();
         if done.is_err() {
-            token.shared().tasks().note(context.waker());
+            token.shared().tasks.note(context.waker());
             done = token.turn();
         }
         match done {

@@ -120,10 +120,11 @@ fn look_up<T>(cpu: &Cpu<T>, kind: u64, name: &ffi::Name) -> Option<Record<T>> {
 impl<T> Drop for Section<'_, T> {
     #[inline]
     fn drop(&mut self) {
+        let tasks = self.cpu.tasks();
         // SAFETY: as for `find`. One exit for the one enter that made the guard, so the CPU is inside.
         unsafe { ffi::registry_exit(self.cpu.handle()) };
         self.cpu.left();
-        self.cpu.wakes();
+        tasks.wake();
     }
 }
 
@@ -233,7 +234,7 @@ fn acquire_last<T>(cpu: &Cpu<T>, number: u64) -> bool {
     if answer == ffi::DONE && acquired != number {
         // SAFETY: as above. It is the reference that was just acquired.
         unsafe { ffi::registry_release(cpu.handle(), acquired) };
-        cpu.wakes();
+        cpu.tasks().wake();
     }
     answer == ffi::DONE && acquired == number
 }

@@ -60,11 +60,11 @@ pub struct Shared<T> {
     waiting: AtomicUsize,
     /// The handle of each CPU that nobody has; the others are empty.
     spare: Mutex<[ffi::Cpu; ffi::MOST_CPUS]>,
-    baskets: Baskets,
-    tasks: Tasks,
+    pub baskets: Baskets,
+    pub tasks: Tasks,
     /// Who holds what, if that is noted.
     places: Option<Places>,
-    settings: Settings,
+    pub settings: Settings,
 }
 
 /// A share in a registry, for the local references that a CPU acquires: each takes a share in the share, whose count no other CPU writes
@@ -207,17 +207,8 @@ impl<T> Shared<T> {
         })
     }
 
-    pub fn settings(&self) -> Settings {
-        self.settings
-    }
-
     pub fn places(&self) -> Option<&Places> {
         self.places.as_ref()
-    }
-
-    #[inline]
-    pub fn tasks(&self) -> &Tasks {
-        &self.tasks
     }
 
     /// A reference whose place is noted by this ticket is released.
@@ -381,10 +372,6 @@ impl<T> Shared<T> {
 
 /// Local references that were dropped.
 impl<T> Shared<T> {
-    pub fn baskets(&self) -> &Baskets {
-        &self.baskets
-    }
-
     /// Releases a reference to the entry in this slot on a CPU, or under the interlock where that CPU's count was collected.
     ///
     /// # Safety

@@ -141,11 +141,12 @@ impl<T> Cpu<T> {
     /// `TooDeep`, `SectionsSpent`, `NotFound`.
     #[inline]
     pub fn look_up(&self, kind: Kind, name: &Name) -> Result<Entry, LookUpError> {
+        let tasks = self.tasks();
         // SAFETY: as for `read`.
         let call = |found: *mut ffi::Entry| unsafe { ffi::registry_look_up(self.handle(), kind.number(), &name.words, found) };
         // SAFETY: as for `read`.
         let record = self.found_by(unsafe { Record::written(call) })?;
-        self.wakes();
+        tasks.wake();
         Ok(record.entry())
     }
 
@@ -153,11 +154,12 @@ impl<T> Cpu<T> {
     #[inline]
     #[track_caller]
     fn get_record(&self, kind: Kind, name: &Name) -> Result<Record<T>, LookUpError> {
+        let tasks = self.tasks();
         // SAFETY: as for `read`.
         let call = |found: *mut ffi::Entry| unsafe { ffi::registry_get(self.handle(), kind.number(), &name.words, found) };
         // SAFETY: as for `read`.
         let record = self.found_by(unsafe { Record::written(call) })?;
-        self.wakes();
+        tasks.wake();
         Ok(self.noted(Hold::Passive, record, Location::caller()))
     }
 
@@ -174,7 +176,7 @@ impl<T> Cpu<T> {
                 if answer != ffi::TOO_DEEP {
                     self.last.set(0);
                 }
-                self.wakes();
+                self.tasks().wake();
                 Err(LookUpError::of(answer))
             }
         }

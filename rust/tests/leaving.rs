@@ -2,7 +2,7 @@
 
 mod common;
 
-use common::{local, name, passive, Drops, Stops, LONG};
+use common::{local, name, passive, patience, Drops, Stops, LONG};
 use kupaldiz::{
     AttachError, Cpu, Generations, Kind, LocalRef, LookUpError, Name, PassiveRef, Patience, Refusal, Registry, Retired, Settings,
 };
@@ -10,8 +10,9 @@ use std::future::Future;
 use std::mem;
 use std::panic::{self, AssertUnwindSafe};
 use std::pin::Pin;
+use std::process;
 use std::sync::atomic::{AtomicBool, AtomicUsize, Ordering};
-use std::sync::{mpsc, Arc, Mutex, Weak};
+use std::sync::{mpsc, Arc, Barrier, Mutex, Weak};
 use std::task::{Context, Poll, Wake, Waker};
 use std::thread::{self, Thread};
 use std::time::Instant;
@@ -55,7 +56,11 @@ impl Task {
             }
             let began = Instant::now();
             while self.woken() == before {
-                assert!(began.elapsed() < LONG, "a task that nobody woke");
+                if began.elapsed() >= LONG {
+                    // A panic would leave the other threads where they meet.
+                    eprintln!("a task that nobody woke");
+                    process::abort();
+                }
                 thread::park_timeout(LONG);
             }
         }
@@ -133,36 +138,38 @@ fn an_interface_that_is_freed_wakes_the_task_of_its_driver() {
     });
 }
 
-/// Three threads hold the entry in each way while a task waits for it, again and again. A wake that is lost ends the test.
+/// In each round three threads hold the entry once, each in its way, and a task waits for it. Nobody does anything else then, so a wake that is lost ends
+/// the test.
 #[test]
 fn no_wake_is_lost_between_threads() {
     let (registry, mut cpus) = Registry::open(Settings::new(4, 8)).unwrap();
     let mine = cpus.pop().unwrap();
-    let stop = AtomicBool::new(false);
+    let rounds = common::scaled(2_000);
+    let meeting = Barrier::new(4);
     thread::scope(|scope| {
-        let _stops = Stops(&stop);
-        for (cpu, way) in cpus.into_iter().zip(0..) {
-            let stop = &stop;
+        for (way, cpu) in cpus.into_iter().enumerate() {
+            let meeting = &meeting;
             scope.spawn(move || {
-                for turn in 0.. {
-                    if stop.load(Ordering::Relaxed) {
-                        break;
-                    }
-                    match (way + turn) % 4 {
+                for round in 0..rounds {
+                    meeting.wait();
+                    match (way + round) % 5 {
                         0 => drop(cpu.read(Kind::Driver, &WM)),
                         1 => drop(cpu.get(Kind::Driver, &WM)),
                         2 => drop(cpu.get_local(Kind::Driver, &WM)),
+                        3 => drop(cpu.look_up(Kind::Driver, &WM)),
                         _ => cpu.get_local(Kind::Driver, &WM).map_or((), |reference| LocalRef::release(reference, &cpu).unwrap()),
                     }
+                    meeting.wait();
                 }
             });
         }
         let task = Task::here();
-        for value in 0..common::scaled(2_000) {
+        for value in 0..rounds {
             registry.attach(&mine, &WM, value).unwrap();
-            thread::yield_now();
+            meeting.wait();
             let retired = registry.detach(&mine, Kind::Driver, &WM).unwrap();
             assert_eq!(task.run(retired), value);
+            meeting.wait();
         }
     });
 }
@@ -189,12 +196,12 @@ fn a_future_that_is_dropped_or_done_leaves_nothing_behind() {
     registry.close(Patience::Turns(1)).unwrap();
 }
 
-/// A reference to an entry of a registry that was left is one to the value.
+/// A reference to an entry of a registry that was left is one to the value. A reader that looks nothing up keeps that registry open, but no value.
 #[test]
 fn a_value_comes_back_once_no_registry_has_it() {
     let drops = Drops::default();
-    let table = Generations::open(Settings::new(2, 3).changes(8)).unwrap();
-    let mut reader = table.reader().unwrap();
+    let table = Generations::open(Settings::new(3, 3).changes(8)).unwrap();
+    let (mut reader, _idle) = (table.reader().unwrap(), table.reader().unwrap());
     table.attach(&WM, drops.make(1)).unwrap();
     let reference = reader.get_local(&WM).unwrap();
     while table.generation() < 3 {
@@ -209,6 +216,29 @@ fn a_value_comes_back_once_no_registry_has_it() {
     drop(reference);
     leaving.wait(Patience::Turns(1)).unwrap().check();
     assert_eq!(drops.dropped(), drops.made());
+}
+
+/// Also between the moment at which it looks for the newest registry and its lookup.
+#[test]
+fn a_reader_finds_what_stays_while_registries_are_left() {
+    let table = Generations::open(Settings::new(4, 4).changes(4)).unwrap();
+    table.attach(&WM, 7).unwrap();
+    let stop = AtomicBool::new(false);
+    thread::scope(|scope| {
+        let _stops = Stops(&stop);
+        for _ in 0..3 {
+            scope.spawn(|| {
+                let mut reader = table.reader().unwrap();
+                while !stop.load(Ordering::Relaxed) {
+                    assert_eq!(reader.read(&WM, |value| *value), Ok(7));
+                }
+            });
+        }
+        for _ in 0..common::scaled(5_000) {
+            table.attach(&WM0, 8).unwrap();
+            assert_eq!(table.detach(&WM0).unwrap().wait(patience()).unwrap(), 8);
+        }
+    });
 }
 
 #[test]
