@@ -149,7 +149,7 @@ rust_examples=(
     "connections: 40 connections were closed, and each after its last packet"
     "threads: wm is gone, its speed was 1000"
     "shutdown: closed, and 3 devices were written"
-    "tasks: 400 tasks, and 1 driver is free"
+    "tasks: 400 tasks, and the driver came back: 1000"
     "metrics: no count was lost"
 )
 

@@ -70,7 +70,8 @@ fn main() -> Result<(), Box<dyn Error>> {
         let threads: Vec<_> = (0..THREADS).map(|_| scope.spawn(on_thread)).collect();
         threads.into_iter().try_for_each(|thread| thread.join().expect("it doesn't panic"))
     })?;
-    let freed = pool.with(|cpu| registry.retire(cpu, Kind::Driver, &WM))?;
-    println!("{} tasks, and {} driver is free", THREADS * TASKS, freed.len());
+    let retired = pool.with(|cpu| registry.detach(cpu, Kind::Driver, &WM))?;
+    let freed = run(retired); // what is detached is a future, too
+    println!("{} tasks, and the driver came back: {}", THREADS * TASKS, freed.value);
     Ok(())
 }

@@ -6,14 +6,15 @@ use common::{local, name, passive, patience, Drops, Stops, LONG};
 use kupaldiz::{
     AttachError, Cpu, Generations, Kind, LocalRef, LookUpError, Name, PassiveRef, Patience, Refusal, Registry, Retired, Settings,
 };
+use std::cell::RefCell;
 use std::future::Future;
 use std::mem;
 use std::panic::{self, AssertUnwindSafe};
 use std::pin::Pin;
 use std::process;
 use std::sync::atomic::{AtomicBool, AtomicUsize, Ordering};
-use std::sync::{mpsc, Arc, Barrier, Mutex, Weak};
-use std::task::{Context, Poll, Wake, Waker};
+use std::sync::{mpsc, Arc, Mutex, Weak};
+use std::task::{Context, Poll, RawWaker, RawWakerVTable, Wake, Waker};
 use std::thread::{self, Thread};
 use std::time::Instant;
 
@@ -138,40 +139,87 @@ fn an_interface_that_is_freed_wakes_the_task_of_its_driver() {
     });
 }
 
-/// In each round three threads hold the entry once, each in its way, and a task waits for it. Nobody does anything else then, so a wake that is lost ends
-/// the test.
+/// A call that holds an entry for a moment.
+type Way = fn(&Cpu<usize>);
+
+const WAYS: [Way; 7] = [
+    |cpu| drop(cpu.read(Kind::Driver, &WM)),
+    |cpu| drop(cpu.get(Kind::Driver, &WM)),
+    |cpu| drop(cpu.get_local(Kind::Driver, &WM)),
+    |cpu| {
+        if let Ok(reference) = cpu.get_local(Kind::Driver, &WM) {
+            LocalRef::release(reference, cpu).unwrap();
+        }
+    },
+    // These open a section within the archive.
+    |cpu| {
+        let _ = cpu.look_up(Kind::Driver, &WM);
+    },
+    |cpu| {
+        let _ = cpu.look_up(Kind::Driver, &WM0);
+    },
+    |cpu| drop(cpu.read(Kind::Driver, &WM0)),
+];
+
+/// In each round a thread makes the call once, while a task waits for the entry. Nobody does anything else then, so a wake that is lost ends the test.
 #[test]
 fn no_wake_is_lost_between_threads() {
-    let (registry, mut cpus) = Registry::open(Settings::new(4, 8)).unwrap();
-    let mine = cpus.pop().unwrap();
-    let rounds = common::scaled(2_000);
-    let meeting = Barrier::new(4);
-    thread::scope(|scope| {
-        for (way, cpu) in cpus.into_iter().enumerate() {
-            let meeting = &meeting;
-            scope.spawn(move || {
-                for round in 0..rounds {
-                    meeting.wait();
-                    match (way + round) % 5 {
-                        0 => drop(cpu.read(Kind::Driver, &WM)),
-                        1 => drop(cpu.get(Kind::Driver, &WM)),
-                        2 => drop(cpu.get_local(Kind::Driver, &WM)),
-                        3 => drop(cpu.look_up(Kind::Driver, &WM)),
-                        _ => cpu.get_local(Kind::Driver, &WM).map_or((), |reference| LocalRef::release(reference, &cpu).unwrap()),
-                    }
-                    meeting.wait();
+    for way in WAYS {
+        let (registry, mut cpus) = Registry::open(Settings::new(2, 8)).unwrap();
+        let (mine, other) = (cpus.pop().unwrap(), cpus.pop().unwrap());
+        let (rounds, begun, ended) = (common::scaled(400), AtomicUsize::new(0), AtomicUsize::new(0));
+        let wait_for = |count: &AtomicUsize, round| {
+            while count.load(Ordering::SeqCst) != round {
+                thread::yield_now();
+            }
+        };
+        thread::scope(|scope| {
+            scope.spawn(|| {
+                let cpu = other;
+                for round in 1..=rounds {
+                    wait_for(&begun, round);
+                    way(&cpu);
+                    ended.store(round, Ordering::SeqCst);
                 }
             });
-        }
-        let task = Task::here();
-        for value in 0..rounds {
-            registry.attach(&mine, &WM, value).unwrap();
-            meeting.wait();
-            let retired = registry.detach(&mine, Kind::Driver, &WM).unwrap();
-            assert_eq!(task.run(retired), value);
-            meeting.wait();
-        }
-    });
+            let task = Task::here();
+            for round in 1..=rounds {
+                registry.attach(&mine, &WM, round).unwrap();
+                begun.store(round, Ordering::SeqCst);
+                let retired = registry.detach(&mine, Kind::Driver, &WM).unwrap();
+                assert_eq!(task.run(retired), round);
+                wait_for(&ended, round);
+            }
+        });
+    }
+}
+
+/// Lets the reference go that it has, as it is cloned: after the poll's first turn, and before anybody knows of the task.
+fn lets_go_as_it_is_cloned(held: &RefCell<Option<LocalRef<u32>>>) -> RawWaker {
+    const NONE: RawWakerVTable = RawWakerVTable::new(|data| RawWaker::new(data, &NONE), |_| {}, |_| {}, |_| {});
+    const CLONED: RawWakerVTable = RawWakerVTable::new(
+        |data| {
+            // SAFETY: the cell outlives the first waker, which this thread alone has.
+            drop(unsafe { &*data.cast::<RefCell<Option<LocalRef<u32>>>>() }.take());
+            RawWaker::new(data, &NONE)
+        },
+        |_| {},
+        |_| {},
+        |_| {},
+    );
+    RawWaker::new(std::ptr::addr_of!(*held).cast(), &CLONED)
+}
+
+#[test]
+fn what_is_let_go_before_the_task_is_known_is_seen_by_the_same_poll() {
+    let (registry, cpus) = with_wm();
+    let held = RefCell::new(Some(local(&cpus[0], "wm")));
+    let mut retired = registry.detach(&cpus[2], Kind::Driver, &WM).unwrap();
+    // SAFETY: its functions keep to what a waker is, and the cell outlives it.
+    let waker = unsafe { Waker::from_raw(lets_go_as_it_is_cloned(&held)) };
+    let done = Pin::new(&mut retired).poll(&mut Context::from_waker(&waker));
+    assert_eq!(done.map(|freed| freed.value), Poll::Ready(7));
+    assert!(held.take().is_none());
 }
 
 #[test]

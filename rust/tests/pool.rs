@@ -77,8 +77,13 @@ fn a_loan_waits_until_its_deadline() {
     assert!(began.elapsed() >= Duration::from_millis(20));
     drop(held);
     assert!(pool.lend_until(began).is_some());
+}
+
+#[test]
+fn a_forgotten_loan_is_lost() {
+    let (_registry, pool) = with_pool();
     mem::forget(pool.lend());
-    assert!(pool.lend_until(began).is_none());
+    assert!(pool.try_lend().is_none());
     assert_eq!(Arc::try_unwrap(pool).unwrap().into_cpus().len(), 0);
 }
 
