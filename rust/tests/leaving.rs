@@ -16,7 +16,7 @@ use std::sync::atomic::{AtomicBool, AtomicUsize, Ordering};
 use std::sync::{mpsc, Arc, Mutex, Weak};
 use std::task::{Context, Poll, RawWaker, RawWakerVTable, Wake, Waker};
 use std::thread::{self, Thread};
-use std::time::Instant;
+use std::time::{Duration, Instant};
 
 const WM: Name = Name::from_static("wm");
 const WM0: Name = Name::from_static("wm0");
@@ -261,8 +261,12 @@ fn a_value_comes_back_once_no_registry_has_it() {
     assert_eq!(reader.read(&WM, |_| ()), Err(LookUpError::NotFound));
     let leaving = leaving.wait(Patience::Turns(3)).unwrap_err();
     reference.check();
-    drop(reference);
-    leaving.wait(Patience::Turns(1)).unwrap().check();
+    let releasing = thread::spawn(move || {
+        thread::sleep(Duration::from_millis(5));
+        drop(reference);
+    });
+    leaving.wait(patience()).unwrap().check();
+    releasing.join().unwrap();
     assert_eq!(drops.dropped(), drops.made());
 }
 
