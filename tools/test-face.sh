@@ -113,14 +113,14 @@ guarded_rust() {
 
 # The programs of the crate's tests, as cargo names them where it isn't told to be quiet; except those that run the compiler or themselves, or look at types.
 rust_tests() {
-    (cd rust && CARGO_TERM_QUIET=false RUSTFLAGS=$(tests/watching.sh) cargo test --offline --no-run --test '*' 2>&1) | grep -oE '/[^ ()]*/(basket|carried|edges|entries|face|leaving|memory|model|owned|places|pool|retired|sections|threads|together|two|usual)-[0-9a-f]+'
+    (cd rust && CARGO_TERM_QUIET=false RUSTFLAGS=$(tests/watching.sh) cargo test --offline --no-run --test '*' 2>&1) | grep -oE '/[^ ()]*/(carried|face|leaving|memory|model|pool|together)-[0-9a-f]+'
 }
 
 # Each of them under valgrind, except what forgets on purpose; the stress with fewer changes.
 guarded_tests() {
     local program programs
     programs=$(rust_tests)
-    [ "$(wc -w <<<"$programs")" -eq 17 ] || return 1
+    [ "$(wc -w <<<"$programs")" -eq 7 ] || return 1
     for program in $programs; do
         REGISTRY_CHANGES=60 guarded_rust "$program" --test-threads=1 --skip forgotten --skip had_again --skip static || return 1
     done
@@ -129,13 +129,26 @@ guarded_tests() {
 # The stress ends also on a system where a yield lets nobody on: so nothing of it grows while one waits for another.
 ends_without_yields() {
     echo 'int sched_yield(void) { return 0; }' | gcc -shared -fPIC -o "$out/no_yield.so" -xc - || return 1
-    LD_PRELOAD=$PWD/$out/no_yield.so timeout 600 "$(rust_tests | grep /threads-)"
+    LD_PRELOAD=$PWD/$out/no_yield.so timeout 600 "$(rust_tests | grep /together-)"
 }
 
-# A program over the crate ends with 'wrong 0', and has made so many changes.
-threads_say() {
-    echo 'wm is gone, its speed was 1000' >"$log.wanted"
-    says "$log.wanted" "$@"
+# The crate's examples, and what each prints last. Each asserts what it is about.
+rust_examples=(
+    "packet: nobody sent by wm0 once it was taken out"
+    "plugins: 11 plug-ins were unloaded, and no call was lost"
+    "configuration: 100 versions, 0 left"
+    "connections: 40 connections were closed, and each after its last packet"
+    "threads: wm is gone, its speed was 1000"
+    "shutdown: closed, and 3 devices were written"
+    "tasks: 400 tasks, and the driver came back: 1000"
+    "metrics: no count was lost"
+)
+
+# says_last TEXT COMMAND..: the command ends well, and its last line is this.
+says_last() {
+    local text=$1
+    shift
+    limited "$@" >"$log.said" && [ "$(tail -n 1 "$log.said")" = "$text" ]
 }
 
 # It prints the line that the page shows.
@@ -262,7 +275,7 @@ refuses_other_limits() {
     local room=$PWD/$out/other-limits
     mkdir -p "$room" && cp "$out/libregistry.a" "$room" &&
         sed -E 's/^(#define REGISTRY_MOST_CHANGES[[:blank:]]+)(.*)/\1(\2 + 1)/' "${header%.h}_limits.h" >"$room/registry_limits.h" || return 1
-    ! (cd rust && REGISTRY_LIB_DIR=$room CARGO_TARGET_DIR=$room/target cargo run -q --offline --example row) >"$log.said" 2>&1 &&
+    ! (cd rust && REGISTRY_LIB_DIR=$room CARGO_TARGET_DIR=$room/target cargo run -q --offline --example smallest) >"$log.said" 2>&1 &&
         grep -q OtherLimits "$log.said"
 }
 
@@ -272,13 +285,12 @@ refuses_other_version() {
     name=$(sed -nE 's/^#define REGISTRY_BUILT_FOR[[:blank:]]+//p' "${header%.h}_limits.h")
     mkdir -p "$room" && objcopy --redefine-sym "$name=${name%_v*}_v0_99" "$out/libregistry.a" "$room/libregistry.a" &&
         sed "s/$name/${name%_v*}_v0_99/" "${header%.h}_limits.h" >"$room/registry_limits.h" || return 1
-    ! (cd rust && REGISTRY_LIB_DIR=$room CARGO_TARGET_DIR=$room/target cargo run -q --offline --example row) >"$log.said" 2>&1 &&
+    ! (cd rust && REGISTRY_LIB_DIR=$room CARGO_TARGET_DIR=$room/target cargo run -q --offline --example smallest) >"$log.said" 2>&1 &&
         grep -q "${name%_v*}_v0_99, of another version than this crate" "$log.said"
 }
 
 test_rust() {
-    local storm cpus
-    cpus=$(most_cpus)
+    local example
     cd rust || return
     check "Rust: no warning" env RUSTFLAGS="-D warnings" cargo check --offline --all-targets
     if cargo clippy --version >/dev/null 2>&1; then
@@ -295,20 +307,12 @@ test_rust() {
     check "Rust: the examples are built" cargo build --offline --release --examples
     cd .. || return
     check "Rust: smallest" smallest_says "$examples/smallest"
-    check "Rust: packet" "$examples/packet"
+    for example in "${rust_examples[@]}"; do
+        check "Rust: ${example%%:*}" says_last "${example#*: }" "$examples/${example%%:*}"
+    done
     check "Rust: compiled for other limits, nothing is opened" refuses_other_limits
     check "Rust: over an archive of another version, nothing is compiled" refuses_other_version
-    check "Rust: row" row_says "$examples/row"
-    for storm in "1 1000" "2 3" "4 20000" "$cpus $((40000 / cpus))"; do
-        # shellcheck disable=SC2086
-        check "Rust: storm $storm" storm_says $storm "$examples/storm"
-    done
-    check "Rust: forwarder" changes_say 2000 "$examples/forwarder"
-    check "Rust: device_switch" changes_say 600 "$examples/device_switch"
-    check "Rust: routing" changes_say 100 "$examples/routing"
-    check "Rust: handles" changes_say 200 "$examples/handles"
     check "Rust: changeover" changes_say 50 "$examples/changeover"
-    check "Rust: threads" threads_say "$examples/threads"
     check "Rust: who_holds says what the README shows" who_holds_says "$examples/who_holds"
     check "Rust: speed, briefly" "$examples/speed" 2 8 1000
     check "Rust: changes, briefly" "$examples/changes" 20
@@ -318,13 +322,11 @@ test_rust() {
 
 test_rust_watched() {
     (cd rust && cargo build --offline --release --examples) >"$log" 2>&1 || judge "Rust: the examples are built" 1
-    check "Rust: forwarder under valgrind" changes_say 20 guarded_rust "$examples/forwarder"
-    check "Rust: device_switch under valgrind" changes_say 20 guarded_rust "$examples/device_switch"
-    check "Rust: routing under valgrind" changes_say 10 guarded_rust "$examples/routing"
-    check "Rust: handles under valgrind" changes_say 20 guarded_rust "$examples/handles"
-    check "Rust: packet under valgrind" guarded_rust "$examples/packet"
-    check "Rust: row under valgrind" row_says guarded_rust "$examples/row"
-    check "Rust: storm 4 100 under valgrind" storm_says 4 100 guarded_rust "$examples/storm"
+    local example
+    for example in "${rust_examples[@]}"; do
+        check "Rust: ${example%%:*} under valgrind" says_last "${example#*: }" guarded_rust "$examples/${example%%:*}"
+    done
+    check "Rust: changeover under valgrind" changes_say 5 guarded_rust "$examples/changeover"
     check "Rust: tests under valgrind, but for those that forget" guarded_tests
 }
 

@@ -98,12 +98,7 @@ fn run(count: u32) -> Result<(), Box<dyn Error>> {
     })?;
     let (each, many) = (f64::from(count), f64::from(count) * changing.len() as f64);
     let Replaced { attach, detach, freed } = replaced;
-    print!(
-        "changes {count} attach {:.1} detach {:.1} freed {:.1}",
-        attach / many,
-        detach / many,
-        freed / many
-    );
+    print!("changes {count} attach {:.1} detach {:.1} freed {:.1}", attach / many, detach / many, freed / many);
     print!(" grace {:.1} local {:.1}", grace / each, local / each);
     println!(" perform {:.1} audit {:.1}", perform / each, audit / each);
     Ok(())

@@ -46,11 +46,7 @@ fn time_each(mut call: impl FnMut() -> Result<(), Refusal>) -> Result<Vec<u128>,
 
 /// The nanoseconds that half of them took at most, and 99 of 100.
 fn say(what: &str, times: &[u128]) {
-    println!(
-        "{what}: half at most {} ns, 99 of 100 at most {} ns",
-        times[TIMED / 2],
-        times[TIMED * 99 / 100]
-    );
+    println!("{what}: half at most {} ns, 99 of 100 at most {} ns", times[TIMED / 2], times[TIMED * 99 / 100]);
 }
 
 /// Acquires and drops, so often. The most that waited, as it was looked at now and then, and the nanoseconds that it took.
@@ -71,21 +67,12 @@ fn only_drop(registry: &Registry<u64>, cpu: &Cpu<u64>, count: u64) -> Result<(us
 fn only_on(registry: &Registry<u64>, cpus: &mut [Cpu<u64>], count: u64) -> Result<(), Box<dyn Error>> {
     let (before, threads) = (resident()?, cpus.len());
     let told: Vec<(usize, u64)> = thread::scope(|scope| {
-        let started: Vec<_> = cpus
-            .iter_mut()
-            .map(|cpu| scope.spawn(move || only_drop(registry, cpu, count)))
-            .collect();
-        started
-            .into_iter()
-            .map(|worker| worker.join().expect("it doesn't panic"))
-            .collect::<Result<_, Refusal>>()
+        let started: Vec<_> = cpus.iter_mut().map(|cpu| scope.spawn(move || only_drop(registry, cpu, count))).collect();
+        started.into_iter().map(|worker| worker.join().expect("it doesn't panic")).collect::<Result<_, Refusal>>()
     })?;
     let most = told.iter().map(|one| one.0).max().unwrap_or(0);
     let each = told.iter().map(|one| one.1).sum::<u64>() as f64 / (count * threads as u64) as f64;
-    println!(
-        "only: threads {threads} each {each:.1} ns, at most {most} wait, {} KiB more",
-        resident()?.saturating_sub(before)
-    );
+    println!("only: threads {threads} each {each:.1} ns, at most {most} wait, {} KiB more", resident()?.saturating_sub(before));
     Ok(())
 }
 

@@ -1,7 +1,7 @@
-//! Three CPUs send packets by an interface until a fourth takes it out.
+//! An interface table: three CPUs send packets by an interface until a fourth takes it out.
 //!
-//! A sender looks the interface up for each packet and keeps it while it sends, which may sleep. The fourth CPU detaches the interface and
-//! waits until nobody holds it: from then on nobody sends by it, though no sender took a lock.
+//! A sender looks the interface up for each packet, and keeps it while it sends, which may sleep. The fourth CPU detaches the interface and waits until
+//! nobody holds it. From then on nobody sends by it, though no sender took a lock.
 
 use kupaldiz::{Cpu, Found, Kind, Name, Patience, Refusal, Registry, Settings};
 use std::error::Error;
@@ -13,7 +13,6 @@ struct Port {
     mtu: u32,
 }
 
-/// What is known of the sending.
 #[derive(Default)]
 struct Wire {
     sent: AtomicU32,
@@ -21,7 +20,6 @@ struct Wire {
 }
 
 impl Wire {
-    /// Sends a packet by the interface.
     fn send(&self, port: &Port) {
         assert!(!self.gone.load(Ordering::SeqCst) && port.mtu == 1500);
         thread::yield_now();
@@ -49,20 +47,14 @@ fn take_out(registry: &Registry<Port>, cpu: &Cpu<Port>, name: &Name) -> Result<P
     Ok(freed.value)
 }
 
-/// Attaches the driver, and the interface on it.
-fn attach_both(registry: &Registry<Port>, cpu: &Cpu<Port>, wm: &Name, wm0: &Name) -> Result<(), Refusal> {
-    registry.attach(cpu, wm, Port { mtu: 0 })?;
-    let driver = cpu.get_local(Kind::Driver, wm)?;
-    registry.attach_iface(cpu, wm0, driver, Port { mtu: 1500 })?;
-    Ok(())
-}
-
 fn main() -> Result<(), Box<dyn Error>> {
     let (wm, wm0) = (Name::parse("wm")?, Name::parse("wm0")?);
     let wire = Wire::default();
     let (registry, mut cpus) = Registry::open(Settings::new(4, 4))?;
     let fourth = cpus.remove(3);
-    attach_both(&registry, &fourth, &wm, &wm0)?;
+    registry.attach(&fourth, &wm, Port { mtu: 0 })?;
+    let driver = fourth.get_local(Kind::Driver, &wm)?;
+    registry.attach_iface(&fourth, &wm0, driver, Port { mtu: 1500 })?;
     thread::scope(|scope| {
         let (wire, wm0) = (&wire, &wm0);
         let send = |cpu| scope.spawn(move || while send_by(&cpu, wm0, wire).expect("no limit is met") {});
@@ -73,9 +65,6 @@ fn main() -> Result<(), Box<dyn Error>> {
         let port = take_out(&registry, &fourth, wm0)?;
         wire.gone.store(true, Ordering::SeqCst);
         assert_eq!(port.mtu, 1500);
-        for sender in senders {
-            sender.join().expect("it doesn't panic");
-        }
         Ok::<_, Refusal>(())
     })?;
     println!("nobody sent by wm0 once it was taken out");

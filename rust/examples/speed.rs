@@ -157,10 +157,7 @@ fn nanoseconds_each(cpus: &mut [Cpu<u64>], names: &[Name], make: Operations, cou
                 })
             })
             .collect();
-        workers
-            .into_iter()
-            .map(|worker| worker.join().expect("it doesn't panic"))
-            .collect::<Result<_, Refusal>>()
+        workers.into_iter().map(|worker| worker.join().expect("it doesn't panic")).collect::<Result<_, Refusal>>()
     })?;
     let began = spans.iter().map(|span| span.0).min().expect("a thread");
     let ended = spans.iter().map(|span| span.1).max().expect("a thread");

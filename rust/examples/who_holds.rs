@@ -12,10 +12,7 @@ fn main() -> Result<(), Box<dyn Error>> {
     registry.attach(&cpus[0], &ETH0, 1500)?;
     let cpu = cpus.pop().ok_or(Refusal::MissingCpu)?;
     let worker = thread::Builder::new().name("rx-1".to_string());
-    let one = worker
-        .spawn(move || cpu.get_local(Kind::Driver, &ETH0))?
-        .join()
-        .expect("no panic")?;
+    let one = worker.spawn(move || cpu.get_local(Kind::Driver, &ETH0))?.join().expect("no panic")?;
     let two = cpus[0].get_local(Kind::Driver, &ETH0)?;
 
     let retired = registry.detach(&cpus[0], Kind::Driver, &ETH0)?;

@@ -1,7 +1,8 @@
 //! Which types may go to another thread, which may be shared with one, and which may be cloned: a table of all public types, which a test walks.
 //!
 //! Each type is looked at with four kinds of `T`. What a column lists are the kinds for which the type has the trait: `b` a `T` that is both `Send`
-//! and `Sync`, `y` one that is `Sync` alone, `s` one that is `Send` alone, `n` one that is neither.
+//! and `Sync`, `y` one that is `Sync` alone, `s` one that is `Send` alone, `n` one that is neither. The last column has `Unpin`, `UnwindSafe`,
+//! `RefUnwindSafe` and `Clone` with a `T` that is a plain number: `p`, `u`, `r`, `c`.
 
 use kupaldiz::{
     AttachError, Balance, Cpu, CpuPool, DestroyError, DetachError, Drained, Entries, Entry, Found, Freed, Generations, Hold, Holder,
@@ -11,16 +12,6 @@ use kupaldiz::{
 use std::collections::BTreeSet;
 use std::marker::PhantomData;
 use std::panic::{RefUnwindSafe, UnwindSafe};
-
-/// One row: what the compiler says of the type.
-struct Row {
-    name: &'static str,
-    text: &'static str,
-    send: String,
-    sync: String,
-    /// `Unpin`, `UnwindSafe`, `RefUnwindSafe` and `Clone` with a `T` that is a plain number: `p`, `u`, `r`, `c`.
-    others: String,
-}
 
 /// Whether a type has a trait: an inherent constant is found before one of a trait, where its bound holds.
 macro_rules! has {
@@ -39,62 +30,36 @@ macro_rules! has {
     }};
 }
 
-/// The letters of those that are so.
-fn letters(all: &[(char, bool)]) -> String {
-    all.iter().filter(|one| one.1).map(|one| one.0).collect()
-}
-
-/// The kinds of `T` for which a type has a trait.
+/// For which kinds of `T` a type has a trait, by their letters.
 macro_rules! kinds {
     ($type:ty, $trait:path) => {
-        letters(&[
-            ('b', {
-                #[allow(dead_code)]
-                type T = u64;
-                has!($type, $trait)
-            }),
-            ('y', {
-                #[allow(dead_code)]
-                type T = std::sync::MutexGuard<'static, u8>;
-                has!($type, $trait)
-            }),
-            ('s', {
-                #[allow(dead_code)]
-                type T = std::cell::Cell<u8>;
-                has!($type, $trait)
-            }),
-            ('n', {
-                #[allow(dead_code)]
-                type T = std::rc::Rc<u8>;
-                has!($type, $trait)
-            }),
-        ])
+        kinds!($type, $trait, b: u64, y: std::sync::MutexGuard<'static, u8>, s: std::cell::Cell<u8>, n: std::rc::Rc<u8>)
     };
+    ($type:ty, $trait:path, $($letter:ident: $kind:ty),*) => {{
+        let mut letters = String::new();
+        $({
+            #[allow(dead_code)]
+            type T = $kind;
+            if has!($type, $trait) {
+                letters += stringify!($letter);
+            }
+        })*
+        letters
+    }};
 }
 
+/// Of each type its name, what the compiler says of it, and what it should say.
 macro_rules! table {
     ($($name:ident: $type:ty, $send:literal, $sync:literal, $others:literal;)*) => {
-        /// What the compiler says of each type, and what it should say.
-        fn table() -> Vec<(Row, [&'static str; 3])> {
-            vec![$((
-                Row {
-                    name: stringify!($name),
-                    text: stringify!($type),
-                    send: kinds!($type, Send),
-                    sync: kinds!($type, Sync),
-                    others: {
-                        #[allow(dead_code)]
-                        type T = u64;
-                        letters(&[
-                            ('p', has!($type, Unpin)),
-                            ('u', has!($type, UnwindSafe)),
-                            ('r', has!($type, RefUnwindSafe)),
-                            ('c', has!($type, Clone)),
-                        ])
-                    },
-                },
-                [$send, $sync, $others],
-            )),*]
+        fn table() -> Vec<(&'static str, [String; 3], [&'static str; 3])> {
+            vec![$({
+                let (send, sync) = (kinds!($type, Send), kinds!($type, Sync));
+                #[allow(dead_code)]
+                type T = u64;
+                let others = [("p", has!($type, Unpin)), ("u", has!($type, UnwindSafe)), ("r", has!($type, RefUnwindSafe)), ("c", has!($type, Clone))];
+                let others = others.iter().filter(|one| one.1).map(|one| one.0).collect();
+                (stringify!($name), [send, sync, others], [$send, $sync, $others])
+            }),*]
         }
     };
 }
@@ -148,35 +113,18 @@ table! {
 
 #[test]
 fn each_type_has_the_auto_traits_that_the_table_says() {
-    let wrong: Vec<String> = table()
-        .iter()
-        .filter(|(row, should)| [&row.send[..], &row.sync, &row.others] != *should)
-        .map(|(row, should)| format!("{}: {:?}, {:?}, {:?} and not {should:?}", row.text, row.send, row.sync, row.others))
-        .collect();
-    assert!(wrong.is_empty(), "{}", wrong.join("\n"));
+    let wrong: Vec<_> = table().into_iter().filter(|(_, told, should)| told != should).collect();
+    assert!(wrong.is_empty(), "{wrong:#?}");
 }
 
-/// Whether a name is a type's: those of functions have no capitals, and those of constants nothing else.
-fn is_type(name: &str) -> bool {
-    name.starts_with(char::is_uppercase) && name.contains(char::is_lowercase)
-}
-
-/// The types that `pub use` of the crate's root has.
-fn exported() -> BTreeSet<String> {
-    let root = include_str!("../src/lib.rs");
-    let lines = root.lines().filter_map(|line| line.strip_prefix("pub use "));
-    lines
-        .flat_map(|line| line.rsplit("::").next().unwrap().split(|c: char| !c.is_alphanumeric()))
-        .filter(|name| is_type(name))
-        .map(str::to_string)
-        .collect()
-}
-
+/// `pub use` of the crate's root has no other types. Functions have no capitals, and constants nothing else.
 #[test]
 fn each_public_type_is_in_the_table() {
-    let listed: BTreeSet<String> = table().iter().map(|(row, _)| row.name.to_string()).collect();
-    assert_eq!(exported(), listed);
     let root = include_str!("../src/lib.rs");
+    let lines = root.lines().filter_map(|line| line.strip_prefix("pub use ")?.rsplit("::").next());
+    let names = lines.flat_map(|line| line.split(|c: char| !c.is_alphanumeric()));
+    let exported: BTreeSet<&str> = names.filter(|name| name.starts_with(char::is_uppercase) && name.contains(char::is_lowercase)).collect();
+    assert_eq!(exported, table().iter().map(|row| row.0).collect());
     assert!(!root.contains("pub mod ") && !root.contains("pub struct ") && !root.contains("pub enum "));
 }
 

@@ -1,14 +1,19 @@
-//! The calls: what each does, and each of its refusals.
+//! What the random model doesn't reach: texts, numbers, the greatest limits, waits that last, and what is shown.
 
 mod common;
 
-use common::{balance, balances, detach, detach_any, local, name, passive, patience, with_driver};
+use common::{detach, local, name, passive, patience, why, with_driver, LONG};
 use kupaldiz::{
-    AttachError, DetachError, Found, Holder, Kind, LocalRef, Name, NameFault, PassiveRef, Patience, Refusal, Refused, Registry, Settings,
-    LIMITS,
+    CpuPool, Found, Hold, Holder, Kind, LocalRef, Mapped, Name, NameFault, PassiveRc, PassiveRef, Patience, ReadGuard, Refusal, Registry,
+    Retired, Settings, LIMITS,
 };
+use std::collections::hash_map::DefaultHasher;
 use std::collections::{BTreeSet, HashSet};
 use std::error::Error;
+use std::hash::{Hash, Hasher};
+use std::mem;
+use std::rc::Rc;
+use std::sync::mpsc::channel;
 use std::thread;
 use std::time::{Duration, Instant};
 
@@ -16,7 +21,6 @@ const WM: Name = Name::from_static("wm");
 
 #[test]
 fn names_are_judged() {
-    assert_eq!(name("wm0").to_string(), "wm0");
     assert_eq!("abcdefghijklmno".parse::<Name>().unwrap().to_string(), "abcdefghijklmno");
     assert_eq!(Name::parse(""), Err(NameFault::Empty));
     assert_eq!(Name::parse("abcdefghijklmnop"), Err(NameFault::TooLong));
@@ -30,19 +34,11 @@ fn names_are_judged() {
 #[test]
 fn names_are_told_apart_and_ordered_as_their_texts() {
     let texts = ["a", "a0", "aa", "abcdefgh", "abcdefgha", "abcdefghb", "abcdefghijklmno", "b"];
-    let names: Vec<Name> = texts.iter().map(|text| name(text)).collect();
+    let names = texts.map(name);
     assert!(names.windows(2).all(|pair| pair[0] < pair[1]));
     assert_eq!(names.iter().collect::<HashSet<_>>().len(), names.len());
-    assert_eq!(
-        names
-            .iter()
-            .rev()
-            .collect::<BTreeSet<_>>()
-            .into_iter()
-            .map(Name::as_str)
-            .collect::<Vec<_>>(),
-        texts
-    );
+    let ordered: Vec<&str> = names.iter().rev().collect::<BTreeSet<_>>().into_iter().map(Name::as_str).collect();
+    assert_eq!(ordered, texts);
     assert!(names.iter().zip(texts).all(|(name, text)| *name == text && *name == *text));
     assert!(WM != "wm0" && WM != *"vm");
     let (registry, cpus) = Registry::open(Settings::new(1, 8)).unwrap();
@@ -57,65 +53,40 @@ fn names_are_told_apart_and_ordered_as_their_texts() {
 }
 
 #[test]
-fn the_library_tells_its_version_and_its_limits() {
-    assert_eq!((kupaldiz::version(), kupaldiz::limits()), (env!("CARGO_PKG_VERSION"), LIMITS));
+fn an_id_is_a_name_and_back() {
+    for (id, text) in [(0, "n0"), (35, "nz"), (36, "n10"), (u64::MAX, "n3w5e11264sgsf")] {
+        assert_eq!((Name::from_id(id).as_str(), name(text).id()), (text, Some(id)));
+    }
+    assert!(["n", "n00", "wm", "n3w5e11264sgsg", "nzzzzzzzzzzzzzz"].iter().all(|text| name(text).id().is_none()));
 }
 
 #[test]
 fn bad_settings_are_refused() {
-    let (cpus, slots) = (LIMITS.cpus as u8, LIMITS.slots as u8);
-    let whole = Settings::new(cpus, slots);
-    let over = LIMITS.count + 1;
+    let whole = Settings::new(LIMITS.cpus as u8, LIMITS.slots as u8);
     for settings in [
-        Settings::new(0, 1),
-        Settings::new(cpus + 1, 1),
-        Settings::new(200, 1),
-        Settings::new(1, 0),
-        Settings::new(1, slots.wrapping_add(1)),
+        whole.cpus(0),
+        whole.cpus(LIMITS.cpus as u8 + 1),
+        whole.cpus(200),
+        whole.slots(0),
+        whole.slots((LIMITS.slots as u8).wrapping_add(1)),
         whole.changes(0),
         whole.changes(LIMITS.changes + 1),
         whole.sections(0),
         whole.sections(LIMITS.sections + 1),
         whole.passives(0),
-        whole.passives(over),
+        whole.passives(LIMITS.count + 1),
         whole.locals(0),
-        whole.locals(over),
+        whole.locals(LIMITS.count + 1),
     ] {
-        assert_eq!(Registry::<()>::open(settings).unwrap_err(), Refusal::BadSettings, "{settings:?}");
+        assert_eq!(Registry::<()>::open(settings).map(drop).map_err(why), Err(Refusal::BadSettings), "{settings:?}");
     }
     let (registry, cpus) = Registry::<()>::open(whole).unwrap();
-    assert_eq!(
-        (registry.settings(), cpus.len() as u64, whole),
-        (whole, LIMITS.cpus, Settings::default())
-    );
+    assert_eq!((registry.settings(), cpus.len() as u64, whole), (whole, LIMITS.cpus, Settings::default()));
+    assert_eq!((kupaldiz::version(), kupaldiz::limits()), (env!("CARGO_PKG_VERSION"), LIMITS));
 }
 
 #[test]
-fn refusals_say_why() {
-    let (registry, cpus) = with_driver(7);
-    let refused = registry.attach(&cpus[0], &WM, 8).unwrap_err();
-    assert_eq!((refused.refusal, refused.given), (AttachError::NameTaken, 8));
-    assert_eq!(
-        (refused, Refusal::from(refused)),
-        (
-            Refused {
-                refusal: AttachError::NameTaken,
-                given: 8
-            },
-            Refusal::NameTaken
-        )
-    );
-    assert!(!refused.to_string().is_empty());
-    let boxed: Box<dyn Error> = Box::new(refused);
-    assert_eq!(boxed.to_string(), Refusal::NameTaken.to_string());
-    assert_eq!(boxed.source().unwrap().to_string(), boxed.to_string());
-    assert!(Refusal::StillHeld(Holder::Grace(1)).to_string().ends_with(": grace cpu 1"));
-    assert!(Refusal::Waiting(3).to_string().ends_with(": cpu 3"));
-    assert_eq!(Refusal::OtherRegistry.to_string(), "a CPU or a reference is of another registry");
-}
-
-#[test]
-fn refusals_have_the_numbers_of_the_header() {
+fn refusals_have_the_numbers_of_the_header_and_say_why() {
     let numbered = [
         (Refusal::NoMemory, 1),
         (Refusal::BadSettings, 2),
@@ -128,335 +99,64 @@ fn refusals_have_the_numbers_of_the_header() {
         (Refusal::PassiveFull, 10),
         (Refusal::LocalFull, 13),
         (Refusal::MissingCpu, 15),
-        (Refusal::StillHeld(Holder::Local(1)), 16),
-        (Refusal::Waiting(0), 17),
+        (Refusal::StillHeld(Holder::Grace(1)), 16),
+        (Refusal::Waiting(3), 17),
         (Refusal::TooDeep, 18),
         (Refusal::NeedsDriver, 19),
         (Refusal::OtherRegistry, 0),
         (Refusal::OtherVersion, 0),
         (Refusal::OtherLimits, 78),
     ];
-    for (refusal, number) in numbered {
-        assert_eq!(refusal.number(), number, "{refusal}");
-        assert!(!refusal.to_string().is_empty());
-    }
-}
-
-#[test]
-fn a_section_ends_at_its_outermost_guard() {
+    assert!(numbered.iter().all(|(refusal, number)| refusal.number() == *number));
+    assert_eq!(numbered.iter().map(|one| one.0.to_string()).collect::<HashSet<_>>().len(), numbered.len());
+    assert!(numbered[11].0.to_string().ends_with(": grace cpu 1") && numbered[12].0.to_string().ends_with(": cpu 3"));
+    assert_eq!([Holder::Passive(2).to_string(), Holder::Local(3).to_string()], ["passive cpu 2", "local 3"]);
     let (registry, cpus) = with_driver(7);
-    let cpu = &cpus[0];
-    let outer = cpu.enter().unwrap();
-    let inner = cpu.enter().unwrap();
-    assert_eq!(cpu.depth(), 2);
-    // Guards may be dropped in any order: the one that is left keeps the section open.
-    drop(outer);
-    let found = inner.find(Kind::Driver, &WM).unwrap();
-    let gone = detach(&registry, &cpus[1], "wm");
-    assert_eq!((gone.holder(), gone.entry), (Some(Holder::Grace(0)), Found::entry(&found)));
-    assert_eq!(*found, 7);
-    inner.exit();
-    assert!(!cpu.is_inside());
-    assert_eq!(gone.freed().value, 7);
+    let boxed: Box<dyn Error> = registry.attach(&cpus[0], &WM, 8).unwrap_err().into();
+    assert_eq!((boxed.to_string(), boxed.source().unwrap().to_string()), (numbered[2].0.to_string(), boxed.to_string()));
 }
 
-/// And nothing else is done by a call that is refused so.
-#[test]
-fn changes_inside_a_section_are_refused() {
-    let (registry, cpus) = with_driver(7);
-    let cpu = &cpus[0];
-    let driver = local(cpu, "wm");
-    registry.attach(cpu, &name("vga"), 8).unwrap();
-    let gone = detach(&registry, cpu, "vga");
-    registry.attach(cpu, &name("pci"), 9).unwrap();
-    let pci = local(cpu, "pci");
-    registry.retire(cpu, Kind::Driver, &name("pci")).unwrap();
-    drop((local(&cpus[1], "wm"), pci));
-    let section = cpu.enter().unwrap();
-    assert_eq!(registry.attach(cpu, &name("usb"), 9).unwrap_err().refusal, Refusal::Inside);
-    let Refused { refusal, given } = registry.attach_iface(cpu, &name("wm0"), driver, 1500).unwrap_err();
-    assert_eq!((refusal, LocalRef::entry(&given.0).number, given.1), (AttachError::Inside, 1, 1500));
-    assert_eq!(registry.detach(cpu, Kind::Driver, &WM).unwrap_err(), Refusal::Inside);
-    assert_eq!(registry.retire(cpu, Kind::Driver, &WM), Err(DetachError::Inside));
-    assert_eq!(registry.detach_entry(cpu, &LocalRef::entry(&given.0)).unwrap_err(), Refusal::Inside);
-    let refused = gone.token().destroy(cpu, patience()).unwrap_err();
-    assert_eq!(refused.refusal, Refusal::Inside);
-    assert_eq!(registry.perform(cpu, patience()), Err(Refusal::Inside));
-    assert_eq!((registry.retired(), registry.dropped()), (1, 2));
-    section.exit();
-    assert_eq!(refused.given.destroy(cpu, patience()).unwrap().value, 8);
-    LocalRef::release(given.0, cpu).unwrap();
-    assert_eq!(registry.collect().len(), 1);
-}
-
+/// So are calls that enter; and all of them are left at once.
 #[test]
 fn sections_nest_to_the_greatest_depth() {
-    let (_registry, cpus) = with_driver(7);
-    let guards: Vec<_> = (0..LIMITS.depth).map(|_| cpus[0].enter().unwrap()).collect();
-    assert_eq!(cpus[0].enter().unwrap_err(), Refusal::TooDeep);
+    let (registry, mut cpus) = with_driver(7);
+    let (deepest, cpu) = (LIMITS.depth as u8, &cpus[0]);
+    let mut guards: Vec<_> = (0..deepest).map(|_| cpu.enter().unwrap()).collect();
+    let found = guards[guards.len() - 1].find(Kind::Driver, &WM).unwrap();
+    let deeper = [cpu.enter().map(drop).map_err(why), cpu.read(Kind::Driver, &WM).map(drop).map_err(why)];
+    let plain = [cpu.get(Kind::Driver, &WM).map(drop).map_err(why), cpu.look_up(Kind::Driver, &WM).map(drop).map_err(why)];
+    assert_eq!((deeper, plain), ([Err(Refusal::TooDeep); 2], [Err(Refusal::TooDeep); 2]));
+    assert_eq!((*Found::acquire(&found).unwrap(), cpu.depth()), (7, deepest));
+    guards.pop();
+    assert_eq!((*cpu.read(Kind::Driver, &WM).unwrap(), cpu.depth()), (7, deepest));
     drop(guards);
-    assert_eq!(cpus[0].depth(), 0);
-}
-
-#[test]
-fn passive_references_are_counted() {
-    let (registry, cpus) = Registry::open(Settings::new(2, 4).passives(2)).unwrap();
-    let made = registry.attach(&cpus[0], &WM, 7).unwrap();
-    let first = passive(&cpus[0], "wm");
-    let second = PassiveRef::try_clone(&first).unwrap();
-    assert_eq!(PassiveRef::try_clone(&second).unwrap_err(), Refusal::PassiveFull);
-    let section = cpus[0].enter().unwrap();
-    let found = section.find(Kind::Driver, &WM).unwrap();
-    assert_eq!(Found::acquire(&found).unwrap_err(), Refusal::PassiveFull);
-    section.exit();
-    assert!(cpus[0].holds(1) && !cpus[1].holds(1));
-    let gone = detach(&registry, &cpus[0], "wm");
-    PassiveRef::release(first);
-    assert_eq!(gone.holder(), Some(Holder::Passive(0)));
-    assert_eq!((PassiveRef::entry(&second), *second, PassiveRef::cpu(&second).id()), (made, 7, 0));
-    drop(second);
-    assert_eq!(gone.freed().entry, made);
-}
-
-/// Of entries whose numbers are as far apart as a registry has slots, too.
-#[test]
-fn passive_references_are_released_in_any_order() {
-    let (registry, cpus) = Registry::open(Settings::new(1, 4)).unwrap();
-    let cpu = &cpus[0];
-    let near = registry.attach(cpu, &WM, 10).unwrap();
-    registry.attach(cpu, &name("bge"), 20).unwrap();
-    while registry.attach(cpu, &name("ixl"), 30).unwrap().number < near.number + LIMITS.slots {
-        detach(&registry, cpu, "ixl").freed();
+    for count in [1, 2, 100, deepest] {
+        (0..count).for_each(|_| mem::forget(cpus[0].enter().unwrap()));
+        assert_eq!(cpus[0].depth(), count);
+        cpus[0].leave();
+        assert!(!cpus[0].is_inside());
     }
-    let mut held: Vec<_> = ["wm", "ixl", "ixl", "bge", "wm", "wm", "ixl"].map(|text| passive(cpu, text)).into();
-    let gone = ["wm", "bge", "ixl"].map(|text| detach(&registry, cpu, text));
-    assert_eq!(gone[2].number, near.number + LIMITS.slots);
-    for (place, left) in [(1, 6), (3, 5), (0, 4), (3, 3), (0, 2), (1, 1), (0, 0)] {
-        PassiveRef::release(held.remove(place));
-        assert_eq!(held.len(), left);
-        for one in &gone {
-            assert_eq!(
-                cpu.holds(one.number),
-                held.iter().any(|held| PassiveRef::entry(held).number == one.number)
-            );
-        }
-    }
-    assert!(gone.iter().all(|one| one.holder().is_none()));
-}
-
-#[test]
-fn each_limit_is_met() {
-    let settings = Settings::new(1, 4).changes(3).sections(4).locals(1);
-    let (registry, cpus) = Registry::open(settings).unwrap();
-    let cpu = &cpus[0];
-    registry.attach(cpu, &WM, 7).unwrap();
-    // Room is kept for the detach of each live entry.
-    let refused = registry.attach(cpu, &name("vga"), 8).unwrap_err();
-    assert_eq!((refused.refusal, refused.given), (AttachError::HistoryFull, 8));
-    let held = local(cpu, "wm");
-    let section = cpu.enter().unwrap();
-    let found = section.find(Kind::Driver, &WM).unwrap();
-    assert_eq!(Found::acquire_local(&found).unwrap_err(), Refusal::LocalFull);
-    LocalRef::release(held, cpu).unwrap();
-    LocalRef::release(Found::acquire_local(&found).unwrap(), cpu).unwrap();
-    section.exit();
-    cpu.enter().unwrap().exit();
-    cpu.enter().unwrap().exit();
-    assert_eq!(cpu.enter().unwrap_err(), Refusal::SectionsSpent);
-    assert_eq!(detach(&registry, cpu, "wm").number, 1);
-}
-
-#[test]
-fn a_local_reference_travels() {
-    let (registry, cpus) = with_driver(7);
-    let reference = local(&cpus[0], "wm");
-    assert_eq!(balances(&registry, &cpus), [balance(1, &[1, 0], 0)]);
-    let reader = thread::spawn(move || {
-        assert_eq!(*reference, 7);
-        reference
-    });
-    LocalRef::release(reader.join().unwrap(), &cpus[1]).unwrap();
-    assert_eq!(balances(&registry, &cpus), [balance(0, &[1, -1], 0)]);
-}
-
-#[test]
-fn a_local_reference_is_cloned_while_its_entry_is_live() {
-    let (registry, cpus) = with_driver(7);
-    let one = local(&cpus[0], "wm");
-    let two = LocalRef::try_clone(&one, &cpus[1]).unwrap();
-    assert_eq!((*two, LocalRef::entry(&one), cpus[1].depth()), (7, LocalRef::entry(&two), 0));
-    assert_eq!(balances(&registry, &cpus), [balance(2, &[1, 1], 0)]);
-    let gone = detach(&registry, &cpus[0], "wm");
-    assert_eq!(LocalRef::try_clone(&one, &cpus[1]).unwrap_err(), Refusal::NotFound);
-    registry.attach(&cpus[0], &WM, 8).unwrap();
-    // Another entry with its name isn't the one that is meant.
-    assert_eq!(LocalRef::try_clone(&one, &cpus[1]).unwrap_err(), Refusal::NotFound);
-    drop((one, two));
-    assert_eq!(gone.freed().value, 7);
-}
-
-#[test]
-fn a_collected_release_goes_under_the_interlock() {
-    let (registry, cpus) = with_driver(7);
-    let reference = local(&cpus[0], "wm");
-    let gone = detach(&registry, &cpus[0], "wm");
-    assert_eq!(gone.holder(), Some(Holder::Local(1)));
-    assert_eq!(balances(&registry, &cpus), [balance(1, &[0, 0], 1)]);
-    LocalRef::release(reference, &cpus[1]).unwrap();
-    assert_eq!(balances(&registry, &cpus), [balance(0, &[0, 0], 0)]);
-    assert_eq!(gone.freed().value, 7);
-}
-
-#[test]
-fn a_kept_driver_outlives_its_interface() {
-    let (registry, cpus) = with_driver(7);
-    let cpu = &cpus[0];
-    let made = registry.attach_iface(cpu, &name("wm0"), local(cpu, "wm"), 1500).unwrap();
-    assert_eq!((made.number, made.slot, made.kind, made.name), (2, 1, Kind::Iface, name("wm0")));
-    assert_eq!(made.to_string(), "iface wm0 2 slot 1");
-    let Refused { refusal, given } = registry.attach_iface(cpu, &name("wm0"), local(cpu, "wm"), 9000).unwrap_err();
-    assert_eq!(
-        (refusal, LocalRef::entry(&given.0).number, given.1),
-        (AttachError::NameTaken, 1, 9000)
-    );
-    LocalRef::release(given.0, cpu).unwrap();
-    let driver = detach(&registry, cpu, "wm");
-    assert_eq!(driver.holder(), Some(Holder::Local(1)));
-    assert_eq!(detach_any(&registry, cpu, Kind::Iface, "wm0").freed().value, 1500);
-    assert_eq!(driver.freed().value, 7);
-}
-
-#[test]
-fn an_interface_is_no_driver() {
-    let (registry, cpus) = with_driver(7);
-    let cpu = &cpus[0];
-    registry.attach_iface(cpu, &name("wm0"), local(cpu, "wm"), 1500).unwrap();
-    let iface = cpu.get_local(Kind::Iface, &name("wm0")).unwrap();
-    let refused = registry.attach_iface(cpu, &name("wm1"), iface, 1).unwrap_err();
-    assert_eq!(refused.to_string(), Refusal::NeedsDriver.to_string());
-    assert_eq!(Refusal::from(refused), Refusal::NeedsDriver);
-    assert_eq!(balances(&registry, &cpus)[1].0, 0);
-}
-
-/// What was listed, and another one replaced meanwhile, isn't taken out by its name; nor is an entry that differs in anything.
-#[test]
-fn the_entry_that_is_meant_is_detached() {
-    let (registry, cpus) = with_driver(7);
-    let listed = cpus[0].look_up(Kind::Driver, &WM).unwrap();
-    registry.retire(&cpus[0], Kind::Driver, &WM).unwrap();
-    let newer = registry.attach(&cpus[0], &WM, 8).unwrap();
-    let mut other = newer;
-    other.slot += 1;
-    for wrong in [listed, other] {
-        assert_eq!(registry.detach_entry(&cpus[0], &wrong).unwrap_err(), Refusal::NotFound);
-    }
-    assert_eq!(*passive(&cpus[0], "wm"), 8);
-    let retired = registry.detach_entry(&cpus[0], &newer).unwrap();
-    assert_eq!(registry.detach_entry(&cpus[0], &newer).unwrap_err(), Refusal::NotFound);
-    assert_eq!((retired.entry(), retired.destroy(&cpus[0], patience()).unwrap().value), (newer, 8));
-}
-
-/// The old entry stays with whoever holds it; on an error it stays attached.
-#[test]
-fn a_driver_is_replaced_under_one_hold_of_the_interlock() {
-    let (registry, cpus) = Registry::open(Settings::new(2, 2).changes(5)).unwrap();
-    let (cpu, vga) = (&cpus[0], name("vga"));
-    let refused = |value| registry.replace(cpu, &WM, value).map(drop).unwrap_err();
-    let Refused { refusal, given } = refused(1);
-    assert_eq!((refusal, given), (AttachError::NotFound, 1));
-    registry.attach(cpu, &WM, 7).unwrap();
-    let held = passive(&cpus[1], "wm");
-    let (made, old) = registry.replace(cpu, &WM, 8).unwrap();
-    assert_eq!((made.number, *held, *passive(&cpus[1], "wm")), (3, 7, 8));
-    // Both slots are taken, one by what is held.
-    assert_eq!(refused(9).refusal, Refusal::NoSlot);
-    drop(held);
-    // Its slot is vacant then, though it has a token; but no room is left for an attach after the detach.
-    assert_eq!(registry.attach(cpu, &vga, 1).unwrap_err().refusal, Refusal::HistoryFull);
-    let section = cpu.enter().unwrap();
-    assert_eq!(refused(9).refusal, Refusal::Inside);
-    section.exit();
-    assert_eq!((*passive(cpu, "wm"), old.wait(patience()).unwrap().value), (8, 7));
-}
-
-#[test]
-fn a_replacement_keeps_room_for_its_own_detach() {
-    let (registry, cpus) = Registry::open(Settings::new(1, 4).changes(5)).unwrap();
-    registry.attach(&cpus[0], &WM, 7).unwrap();
-    drop(registry.replace(&cpus[0], &WM, 8).unwrap());
-    let Refused { refusal, given } = registry.replace(&cpus[0], &WM, 9).map(drop).unwrap_err();
-    assert_eq!((refusal, given, *passive(&cpus[0], "wm")), (AttachError::HistoryFull, 9, 8));
-    assert_eq!(registry.retire(&cpus[0], Kind::Driver, &WM).unwrap()[0].value, 8);
-}
-
-#[test]
-fn what_is_not_there_is_not_found() {
-    let (registry, cpus) = with_driver(7);
-    assert_eq!(registry.detach(&cpus[0], Kind::Iface, &WM).unwrap_err(), Refusal::NotFound);
-    assert_eq!(registry.retire(&cpus[0], Kind::Driver, &name("vga")), Err(DetachError::NotFound));
-}
-
-#[test]
-fn perform_waits_for_the_sections_that_are_open() {
-    let (registry, cpus) = with_driver(7);
-    let section = cpus[1].enter().unwrap();
-    assert_eq!(registry.perform(&cpus[0], Patience::Turns(3)), Err(Refusal::Waiting(1)));
-    let began = Instant::now();
-    let patience = Patience::at_most(Duration::from_millis(5));
-    assert_eq!(registry.perform(&cpus[0], patience), Err(Refusal::Waiting(1)));
-    assert!(began.elapsed() >= Duration::from_millis(5));
-    section.exit();
-    assert_eq!(registry.perform(&cpus[0], Patience::Turns(1)), Ok(()));
-}
-
-#[test]
-fn perform_is_done_once_another_thread_has_left() {
-    let (registry, mut cpus) = with_driver(7);
-    let reader = cpus.remove(1);
-    let reading = thread::spawn(move || {
-        for _ in 0..1000 {
-            reader.enter().unwrap().exit();
-        }
-    });
-    registry.perform(&cpus[0], patience()).unwrap();
-    reading.join().unwrap();
-}
-
-#[test]
-fn a_dropped_cpu_may_be_had_again() {
-    let (registry, mut cpus) = with_driver(7);
-    assert!(registry.cpu(1).is_none() && registry.cpu(2).is_none() && registry.cpu(255).is_none());
-    assert!(registry.any_cpu().is_none());
-    std::mem::forget(passive(&cpus[1], "wm"));
-    drop(cpus.remove(1));
-    assert_eq!(registry.audit(&cpus), Err(Refusal::MissingCpu));
-    let again = registry.any_cpu().unwrap();
-    assert!(again.id() == 1 && again.holds(1) && registry.cpu(1).is_none());
-    cpus.push(again);
-    assert!(registry.audit(&cpus).is_ok());
+    (0..5).for_each(|_| mem::forget(cpus[1].enter().unwrap()));
     drop(cpus);
-    assert_eq!(registry.any_cpu().unwrap().id(), 0);
+    assert_eq!(registry.cpu(1).unwrap().depth(), 0);
 }
 
 #[test]
-fn an_audit_takes_all_cpus_in_any_order() {
-    let (registry, mut cpus) = with_driver(7);
-    let _held = (local(&cpus[1], "wm"), local(&cpus[1], "wm"));
-    cpus.swap(0, 1);
-    assert_eq!(balances(&registry, &cpus), [balance(2, &[0, 2], 0)]);
-    let audited = registry.audit(&cpus).unwrap();
-    assert_eq!(registry.audit([&cpus[1], &cpus[0]]).unwrap(), audited);
-    for wrong in [&cpus[..0], &cpus[..1]] {
-        assert_eq!(registry.audit(wrong), Err(Refusal::MissingCpu));
+fn a_call_outside_counts_as_a_section_except_of_an_entry_that_its_cpu_remembers() {
+    let (registry, cpus) = Registry::open(Settings::new(1, 1).sections(2)).unwrap();
+    let cpu = &cpus[0];
+    registry.attach(cpu, &WM, 7).unwrap();
+    let section = cpu.enter().unwrap();
+    assert_eq!((cpu.look_up(Kind::Driver, &WM).unwrap().number, *cpu.get(Kind::Driver, &WM).unwrap()), (1, 7));
+    assert_eq!(*cpu.read(Kind::Driver, &WM).unwrap(), 7);
+    section.exit();
+    for _ in 0..9 {
+        assert_eq!((cpu.look_up(Kind::Driver, &WM).unwrap().number, *cpu.get(Kind::Driver, &WM).unwrap()), (1, 7));
     }
-    // One of them twice, also beside the other.
-    for wrong in [vec![&cpus[0], &cpus[0]], vec![&cpus[0], &cpus[1], &cpus[0]]] {
-        assert_eq!(registry.audit(wrong), Err(Refusal::MissingCpu));
-    }
-    let pool = kupaldiz::CpuPool::new(cpus).unwrap();
-    let loans = [pool.lend(), pool.lend()];
-    assert_eq!((registry.audit(&loans), registry.audit(loans)), (Ok(audited.clone()), Ok(audited)));
-    assert_eq!(pool.into_cpus().len(), 2);
+    assert_eq!(*cpu.read(Kind::Driver, &WM).unwrap(), 7);
+    let spent = [cpu.enter().map(drop), cpu.read(Kind::Driver, &WM).map(drop), cpu.get_local(Kind::Driver, &WM).map(drop)];
+    let of_others = [cpu.look_up(Kind::Iface, &WM).map(drop), cpu.get(Kind::Iface, &WM).map(drop)];
+    assert!(spent.iter().chain(&of_others).all(|told| told.map_err(why) == Err(Refusal::SectionsSpent)));
 }
 
 #[test]
@@ -466,16 +166,279 @@ fn all_slots_and_names_are_told_apart() {
         let made = registry.attach(&cpus[0], &name(&format!("d{i}")), i).unwrap();
         assert_eq!((u64::from(made.slot), made.number), (i, i + 1));
     }
-    assert_eq!(registry.attach(&cpus[0], &name("more"), 1).unwrap_err().refusal, Refusal::NoSlot);
     let section = cpus[0].enter().unwrap();
-    for i in 0..LIMITS.slots {
-        assert_eq!(*section.find(Kind::Driver, &name(&format!("d{i}"))).unwrap(), i);
-    }
-    assert!(section.find(Kind::Driver, &name(&format!("d{}", LIMITS.slots))).is_none());
-    assert!(section.find(Kind::Iface, &name("d1")).is_none());
+    assert!((0..LIMITS.slots).all(|i| *section.find(Kind::Driver, &name(&format!("d{i}"))).unwrap() == i));
+    assert!(section.entries().map(|listed| *listed).eq((0..LIMITS.slots).rev()));
     section.exit();
-    assert_eq!(registry.audit(&cpus).unwrap().len() as u64, LIMITS.slots);
-    for i in (0..LIMITS.slots).rev() {
-        assert_eq!(detach(&registry, &cpus[0], &format!("d{i}")).freed().value, i);
+    drop((0..LIMITS.slots).map(|i| local(&cpus[0], &format!("d{i}"))).collect::<Vec<_>>());
+    assert_eq!((registry.dropped() as u64, registry.audit(&cpus).unwrap().len() as u64), (LIMITS.slots, LIMITS.slots));
+    assert!((0..LIMITS.slots).rev().all(|i| detach(&registry, &cpus[0], &format!("d{i}")).freed().value == i));
+}
+
+#[test]
+fn a_dropped_cpu_may_be_had_again() {
+    let (registry, mut cpus) = with_driver(7);
+    assert!(registry.cpu(1).is_none() && registry.cpu(2).is_none() && registry.cpu(255).is_none() && registry.any_cpu().is_none());
+    mem::forget(passive(&cpus[1], "wm"));
+    drop((local(&cpus[1], "wm"), local(&cpus[1], "wm")));
+    assert_eq!(registry.dropped(), 2);
+    drop(cpus.remove(1));
+    assert_eq!((registry.dropped(), registry.audit(&cpus)), (0, Err(Refusal::MissingCpu)));
+    let again = registry.any_cpu().unwrap();
+    assert!(again.id() == 1 && again.holds(1) && registry.cpu(1).is_none());
+    // A reference may outlive all CPUs.
+    let reference = local(&again, "wm");
+    drop((cpus, again));
+    assert_eq!((*reference, registry.any_cpu().unwrap().id()), (7, 0));
+}
+
+/// Each once, in any order, and of one registry.
+#[test]
+fn an_audit_takes_all_cpus() {
+    let ((registry, mut cpus), (other, mut others)) = (with_driver(7), with_driver(8));
+    let audited = registry.audit([&cpus[1], &cpus[0]]).unwrap();
+    assert_eq!((audited.len(), audited[0].held), (1, 0));
+    for wrong in [&[][..], &[0], &[0, 0], &[0, 1, 0]] {
+        let missing = registry.audit(wrong.iter().map(|place| &cpus[*place]));
+        assert_eq!(missing.map_err(why), Err(Refusal::MissingCpu));
     }
+    mem::swap(&mut cpus[1], &mut others[1]);
+    assert_eq!(registry.audit(&cpus).map(drop).map_err(why), Err(Refusal::OtherRegistry));
+    assert_eq!(other.audit(&others).map(drop).map_err(why), Err(Refusal::OtherRegistry));
+    cpus.append(&mut others);
+    assert_eq!(CpuPool::new(cpus).map(drop).map_err(why), Err(Refusal::OtherRegistry));
+    assert!(registry.cpu(0).is_some() && other.cpu(1).is_some());
+    assert_eq!(CpuPool::<u8>::new(Vec::new()).map(drop).map_err(why), Err(Refusal::MissingCpu));
+}
+
+#[test]
+fn handles_of_one_registry_are_equal() {
+    let ((registry, cpus), (other, _)) = (with_driver(7), with_driver(7));
+    let hash_of = |registry: &Registry<i32>| {
+        let mut hasher = DefaultHasher::new();
+        registry.hash(&mut hasher);
+        hasher.finish()
+    };
+    assert!(registry != other && registry == registry.clone() && registry == cpus[0].registry());
+    assert!(hash_of(&registry) == hash_of(&cpus[0].registry()) && hash_of(&registry) != hash_of(&other));
+}
+
+/// With a CPU or without one. A bound that has passed allows one try.
+#[test]
+fn a_wait_lasts_as_long_as_it_is_told() {
+    let (registry, cpus) = with_driver(7);
+    let (writer, shortly, section) = (&cpus[0], Duration::from_millis(5), cpus[1].enter().unwrap());
+    let retired = registry.detach(writer, Kind::Driver, &WM).unwrap();
+    let refused = retired.destroy(writer, Patience::Until(Instant::now())).unwrap_err();
+    assert_eq!(refused.refusal, Refusal::StillHeld(Holder::Grace(1)));
+    let began = Instant::now();
+    let refused = refused.given.destroy(writer, Patience::at_most(shortly)).unwrap_err();
+    assert!(began.elapsed() >= shortly);
+    let refused = refused.given.wait(Patience::at_most(shortly)).unwrap_err();
+    assert!(began.elapsed() >= 2 * shortly);
+    let performed = registry.perform(writer, Patience::at_most(shortly)).map_err(why);
+    assert!(performed == Err(Refusal::Waiting(1)) && began.elapsed() >= 3 * shortly);
+    section.exit();
+    let freed = refused.given.destroy(writer, Patience::Until(Instant::now())).unwrap();
+    assert_eq!((freed.to_string(), freed.entry.name, freed.value), ("freed slot 0".to_string(), WM, 7));
+}
+
+#[test]
+fn a_wait_ends_once_the_reader_has_left() {
+    for way in 0..4 {
+        let (registry, mut cpus) = with_driver(7);
+        let (writer, reader) = (cpus.remove(0), cpus.remove(0));
+        let (inside, is_inside) = channel();
+        let reading = thread::spawn(move || {
+            let guard = reader.read(Kind::Driver, &WM).unwrap();
+            inside.send(()).unwrap();
+            thread::sleep(Duration::from_millis(5));
+            *guard
+        });
+        is_inside.recv().unwrap();
+        let retired = registry.detach(&writer, Kind::Driver, &WM).unwrap();
+        let freed = match way {
+            0 => retired.destroy(&writer, patience()),
+            1 => {
+                drop(writer);
+                retired.wait(patience())
+            }
+            2 => {
+                registry.perform(&writer, patience()).unwrap();
+                retired.advance()
+            }
+            // Also on another thread, with a CPU that it borrows.
+            _ => {
+                let pool = CpuPool::new([writer]).unwrap();
+                thread::spawn(move || retired.destroy(&pool.lend(), patience())).join().unwrap()
+            }
+        };
+        assert_eq!((freed.unwrap().value, reading.join().unwrap()), (7, 7));
+    }
+}
+
+/// Nobody can release that meanwhile, so no patience helps. It is said first. A local reference may be released elsewhere, so the call waits.
+#[test]
+fn a_destroy_fails_at_once_where_its_own_cpu_holds_the_entry() {
+    let began = Instant::now();
+    let (registry, mut cpus) = with_driver(7);
+    let cpu = Rc::new(cpus.remove(0));
+    let (borrowed, owned, held) = (passive(&cpu, "wm"), cpu.get_rc(Kind::Driver, &WM).unwrap(), local(&cpu, "wm"));
+    let retired = registry.detach(&cpu, Kind::Driver, &WM).unwrap();
+    let refused = |retired: Retired<i32>, patience| {
+        let refused = retired.destroy(&cpu, patience).unwrap_err();
+        (refused.given, why(refused.refusal))
+    };
+    let section = cpus[0].enter().unwrap();
+    let (retired, one) = refused(retired, Patience::Forever);
+    drop(borrowed);
+    let (retired, two) = refused(retired, Patience::at_most(LONG));
+    drop((owned, section));
+    assert_eq!([one, two], [Refusal::StillHeld(Holder::Passive(0)); 2]);
+    assert!(began.elapsed() < LONG);
+    let (began, shortly) = (Instant::now(), Duration::from_millis(5));
+    let (retired, three) = refused(retired, Patience::at_most(shortly));
+    assert!(three == Refusal::StillHeld(Holder::Local(1)) && began.elapsed() >= shortly);
+    drop(held);
+    assert_eq!(retired.destroy(&cpu, patience()).unwrap().value, 7);
+}
+
+/// Each kind in the order of its lines, until it ends.
+#[test]
+fn each_line_that_holds_an_entry_is_named() {
+    let (registry, mut cpus) = Registry::open_tracked(Settings::new(2, 4)).unwrap();
+    let cpu = Rc::new(cpus.remove(0));
+    let made = registry.attach(&cpu, &WM, 7).unwrap();
+    let lines = || {
+        let places = registry.holders(&made).unwrap().places;
+        assert!(places.iter().all(|place| place.location.file() == file!() && place.thread.as_deref() == thread::current().name()));
+        places.iter().map(|place| (place.hold, place.location.line())).collect::<Vec<_>>()
+    };
+    let first = line!();
+    let section = cpu.enter().unwrap();
+    let found = section.find(Kind::Driver, &WM).unwrap();
+    let one = Found::acquire(&found).unwrap();
+    let two = Found::acquire_local(&found).unwrap();
+    let three = cpu.get(Kind::Driver, &WM).unwrap();
+    let four = PassiveRef::try_clone(&three).unwrap();
+    let five = cpu.get_local(Kind::Driver, &WM).unwrap();
+    let six = LocalRef::try_clone(&five, &cpu).unwrap();
+    section.exit();
+    let seven = cpu.read(Kind::Driver, &WM).unwrap();
+    let eight = ReadGuard::acquire(&seven).unwrap();
+    let nine = ReadGuard::acquire_local(&seven).unwrap();
+    let ten = cpu.get_rc(Kind::Driver, &WM).unwrap();
+    let eleven = PassiveRc::try_clone(&ten).unwrap();
+    let at = |hold| move |line| (hold, first + line);
+    let all = [
+        [10].map(at(Hold::Section)).to_vec(),
+        [3, 5, 6, 11, 13, 14].map(at(Hold::Passive)).to_vec(),
+        [4, 7, 8, 12].map(at(Hold::Local)).to_vec(),
+    ];
+    assert_eq!(lines(), all.concat());
+    drop((one, two, four, five, seven, eleven));
+    LocalRef::release(six, &cpu).unwrap();
+    assert_eq!(lines(), [[5, 11, 13].map(at(Hold::Passive)).to_vec(), vec![at(Hold::Local)(12)]].concat());
+    drop((three, eight, ten));
+    let retired = registry.detach(&cpu, Kind::Driver, &WM).unwrap();
+    let refused = retired.destroy(&cpu, Patience::Turns(1)).unwrap_err();
+    let expected = format!("local 1; 1 local reference: {}:{} (thread {:?})", file!(), first + 12, thread::current().name().unwrap());
+    assert!(refused.to_string().ends_with(&expected), "{refused}");
+    drop(nine);
+    let freed = refused.given.destroy(&cpu, patience()).unwrap();
+    assert_eq!(registry.holders(&freed.entry).unwrap().to_string(), "nobody");
+}
+
+struct Port {
+    mtu: u32,
+    text: String,
+}
+
+/// Also one that was mapped: what it was made of comes back. References keep the CPU that they share.
+#[test]
+fn a_part_is_held_by_what_it_was_made_of() {
+    let (text, mtu) = ("port 1500".to_string(), 1500);
+    let (registry, mut cpus) = with_driver(Port { mtu, text });
+    let cpu = Rc::new(cpus.remove(0));
+    let read = ReadGuard::map(cpu.read(Kind::Driver, &WM).unwrap(), |port| port.text.as_str());
+    let passive = PassiveRef::map(passive(&cpu, "wm"), |port| &port.mtu);
+    let plain = LocalRef::map(local(&cpu, "wm"), |port| &port.text[5..]);
+    let gone = detach(&registry, &cpus[0], "wm");
+    assert_eq!((format!("{read} {passive}"), format!("{plain:?}")), ("port 1500 1500".to_string(), "Mapped(\"1500\")".to_string()));
+    drop(read);
+    assert_eq!(gone.holder(), Some(Holder::Passive(0)));
+    let passive = Mapped::into_inner(passive);
+    assert_eq!((passive.mtu, PassiveRef::entry(&passive)), (1500, gone.entry));
+    drop(passive);
+    assert_eq!(gone.holder(), Some(Holder::Local(1)));
+    // A part of a local reference goes where the reference may.
+    thread::spawn(move || assert_eq!(&*plain, "1500")).join().unwrap();
+    assert_eq!(gone.freed().value.mtu, 1500);
+    registry.attach(&cpus[0], &WM, Port { mtu: 9000, text: String::new() }).unwrap();
+    let owned = PassiveRc::map(cpu.get_rc(Kind::Driver, &WM).unwrap(), |port| &port.mtu);
+    drop(cpu);
+    assert!(registry.cpu(0).is_none() && *owned == 9000);
+    drop(owned);
+    assert!(registry.cpu(0).is_some());
+}
+
+/// Has a method with the name of each function of the guards and the references.
+struct Shadow;
+
+macro_rules! shadows {
+    ($($name:ident)*) => {
+        #[allow(clippy::wrong_self_convention)]
+        impl Shadow {
+            $(fn $name(&self) -> &'static str {
+                stringify!($name)
+            })*
+        }
+
+        macro_rules! are_its_own {
+            ($held:expr) => {
+                assert_eq!([$($held.$name()),*], [$(stringify!($name)),*])
+            };
+        }
+    };
+}
+
+shadows!(acquire acquire_local cpu entry exit handle into_inner is_of map reference release section try_clone value);
+
+#[test]
+fn no_function_hides_a_method_of_what_is_carried() {
+    let (_registry, mut cpus) = with_driver(Shadow);
+    let cpu = Rc::new(cpus.remove(0));
+    let section = cpu.enter().unwrap();
+    are_its_own!(section.find(Kind::Driver, &WM).unwrap());
+    are_its_own!(section.entries().next().unwrap());
+    are_its_own!(cpu.read(Kind::Driver, &WM).unwrap());
+    are_its_own!(passive(&cpu, "wm"));
+    are_its_own!(cpu.get_rc(Kind::Driver, &WM).unwrap());
+    are_its_own!(local(&cpu, "wm"));
+    are_its_own!(LocalRef::map(local(&cpu, "wm"), |shadow| shadow));
+}
+
+#[test]
+fn guards_show_what_they_hold() {
+    let (registry, mut cpus) = with_driver("gigabit");
+    let cpu = Rc::new(cpus.remove(0));
+    let (section, guard) = (cpu.enter().unwrap(), cpu.read(Kind::Driver, &WM).unwrap());
+    let found = section.find(Kind::Driver, &WM).unwrap();
+    let (passive, local, owned) = (passive(&cpu, "wm"), local(&cpu, "wm"), cpu.get_rc(Kind::Driver, &WM).unwrap());
+    let entry = format!("{:?}", Found::entry(&found));
+    let shown = [
+        (format!("{found:?}"), "Found { entry: _, value: \"gigabit\" }"),
+        (format!("{guard:?}"), "ReadGuard { entry: _, value: \"gigabit\" }"),
+        (format!("{local:?}"), "LocalRef { entry: _, value: \"gigabit\" }"),
+        (format!("{passive:?}"), "PassiveRef { cpu: 0, entry: _, value: \"gigabit\" }"),
+        (format!("{owned:?}"), "PassiveRc { cpu: 0, entry: _, value: \"gigabit\" }"),
+        (format!("{:?}", section.entries()), "[_]"),
+    ];
+    for (told, expected) in shown {
+        assert_eq!(told, expected.replace('_', &entry));
+    }
+    assert_eq!(format!("{found} {guard} {local} {passive} {owned}"), ["gigabit"; 5].join(" "));
+    assert!(entry.contains("Name(wm)"));
+    let iface = registry.attach_iface(&cpus[0], &name("wm0"), local, "port").unwrap();
+    assert_eq!(iface.to_string(), "iface wm0 2 slot 1");
 }

@@ -1,11 +1,10 @@
-//! Entries that leave: those that tasks wait for, interfaces that are replaced, and those that go on in the next registry.
+//! Entries that leave: those that tasks wait for, and those that go on in the next registry.
 
 mod common;
 
 use common::{local, name, passive, patience, Drops, Stops, LONG};
 use kupaldiz::{
-    AttachError, Cpu, DestroyError, Generations, Holder, Kind, LocalRef, LookUpError, Name, PassiveRef, Patience, Refusal, Refused,
-    Registry, Retired, Settings,
+    AttachError, Cpu, Generations, Kind, LocalRef, LookUpError, Name, PassiveRef, Patience, Refusal, Registry, Retired, Settings,
 };
 use std::cell::RefCell;
 use std::future::Future;
@@ -17,7 +16,7 @@ use std::sync::atomic::{AtomicBool, AtomicUsize, Ordering};
 use std::sync::{mpsc, Arc, Mutex, Weak};
 use std::task::{Context, Poll, RawWaker, RawWakerVTable, Wake, Waker};
 use std::thread::{self, Thread};
-use std::time::Instant;
+use std::time::{Duration, Instant};
 
 const WM: Name = Name::from_static("wm");
 const WM0: Name = Name::from_static("wm0");
@@ -37,10 +36,7 @@ impl Wake for Task {
 
 impl Task {
     fn here() -> Arc<Task> {
-        Arc::new(Task {
-            woken: AtomicUsize::new(0),
-            thread: thread::current(),
-        })
+        Arc::new(Task { woken: AtomicUsize::new(0), thread: thread::current() })
     }
 
     fn woken(&self) -> usize {
@@ -248,68 +244,6 @@ fn a_future_that_is_dropped_or_done_leaves_nothing_behind() {
     registry.close(Patience::Turns(1)).unwrap();
 }
 
-#[test]
-fn an_interface_is_replaced_in_one_step_and_keeps_the_new_driver() {
-    let (registry, cpus) = with_wm();
-    let cpu = &cpus[2];
-    registry.attach_iface(cpu, &WM0, local(cpu, "wm"), 8).unwrap();
-    registry.attach(cpu, &name("vga"), 9).unwrap();
-    let held = local(cpu, "wm");
-    let (made, old) = registry.replace_iface(cpu, &WM0, local(cpu, "vga"), 10).unwrap();
-    assert_eq!((made.kind, made.name, *cpu.get(Kind::Iface, &WM0).unwrap()), (Kind::Iface, WM0, 10));
-    assert_eq!(old.wait(patience()).unwrap().value, 8);
-    // The old driver is free but for one reference, and the new one is kept.
-    let wm = registry.detach(cpu, Kind::Driver, &WM).unwrap();
-    let refused = wm.advance().unwrap_err();
-    assert_eq!(refused.refusal, DestroyError::StillHeld(Holder::Local(1)));
-    drop(held);
-    assert_eq!(refused.given.advance().unwrap().value, 7);
-    let vga = registry.detach(cpu, Kind::Driver, &name("vga")).unwrap();
-    assert_eq!(vga.advance().unwrap_err().refusal, DestroyError::StillHeld(Holder::Local(1)));
-}
-
-/// The old interface stays, and the reference and the value come back.
-#[test]
-fn a_replace_that_is_refused_leaves_the_old_interface() {
-    let (registry, cpus) = Registry::open(Settings::new(2, 3).changes(6)).unwrap();
-    let cpu = &cpus[0];
-    let refused = |name: &Name, driver: LocalRef<u32>| {
-        let Refused { refusal, given } = registry.replace_iface(cpu, name, driver, 9).map(drop).unwrap_err();
-        assert_eq!(given.1, 9);
-        LocalRef::release(given.0, cpu).unwrap();
-        refusal
-    };
-    registry.attach(cpu, &WM, 7).unwrap();
-    registry.attach_iface(cpu, &WM0, local(cpu, "wm"), 8).unwrap();
-    let made = cpu.look_up(Kind::Iface, &WM0).unwrap();
-    assert_eq!(refused(&WM, local(cpu, "wm")), AttachError::NotFound);
-    let of_iface = cpu.get_local(Kind::Iface, &WM0).unwrap();
-    assert_eq!(refused(&WM0, of_iface), AttachError::NeedsDriver);
-    let section = cpu.enter().unwrap();
-    let reference = local(cpu, "wm");
-    let inside = registry.replace_iface(cpu, &WM, reference, 9).map(drop).unwrap_err();
-    assert_eq!(inside.refusal, AttachError::Inside);
-    section.exit();
-    let (_other, others) = with_wm();
-    let Refused { refusal, given } = registry.replace_iface(cpu, &WM0, local(&others[0], "wm"), 9).map(drop).unwrap_err();
-    assert_eq!(refusal, AttachError::OtherRegistry);
-    drop((given, inside));
-    // The third slot has an entry that is held, so none is vacant.
-    let held = registry
-        .attach(cpu, &name("vga"), 1)
-        .map(|_| cpus[1].get(Kind::Driver, &name("vga")).unwrap())
-        .unwrap();
-    assert_eq!(refused(&WM, local(cpu, "wm")), AttachError::NotFound);
-    assert_eq!(refused(&WM0, local(cpu, "wm")), AttachError::NoSlot);
-    registry.retire(cpu, Kind::Driver, &name("vga")).unwrap();
-    drop(held);
-    assert_eq!(refused(&WM0, local(cpu, "wm")), AttachError::HistoryFull);
-    assert_eq!(
-        (cpu.look_up(Kind::Iface, &WM0), *cpu.get(Kind::Iface, &WM0).unwrap()),
-        (Ok(made), 8)
-    );
-}
-
 /// A reference to an entry of a registry that was left is one to the value. A reader that looks nothing up keeps that registry open, but no value.
 #[test]
 fn a_value_comes_back_once_no_registry_has_it() {
@@ -327,8 +261,12 @@ fn a_value_comes_back_once_no_registry_has_it() {
     assert_eq!(reader.read(&WM, |_| ()), Err(LookUpError::NotFound));
     let leaving = leaving.wait(Patience::Turns(3)).unwrap_err();
     reference.check();
-    drop(reference);
-    leaving.wait(Patience::Turns(1)).unwrap().check();
+    let releasing = thread::spawn(move || {
+        thread::sleep(Duration::from_millis(5));
+        drop(reference);
+    });
+    leaving.wait(patience()).unwrap().check();
+    releasing.join().unwrap();
     assert_eq!(drops.dropped(), drops.made());
 }
 

@@ -4,7 +4,7 @@
 mod common;
 
 use common::{local, name, scaled, watched, with_driver};
-use kupaldiz::{Found, Holder, Kind, LocalRef, Patience, Refusal, Refused, Registry, Settings};
+use kupaldiz::{Found, Holder, Kind, Patience, Refusal, Registry, Settings};
 use std::alloc::{GlobalAlloc, Layout, System};
 use std::cell::Cell;
 use std::mem;
@@ -60,41 +60,29 @@ fn with_blocks_of(longest: usize, deed: impl FnOnce()) {
     LONGEST.with(|most| most.set(usize::MAX));
 }
 
+/// Neither what was refused, destroyed, retired or dropped, nor what is left at the closing, whose dropped references are released.
 #[test]
-fn a_refused_attach_keeps_no_memory() {
-    let (registry, cpus) = with_driver(String::from("driver"));
-    let (_other, others) = with_driver(String::new());
-    let (wm, wm0) = (name("wm"), name("wm0"));
-    registry.attach_iface(&cpus[0], &wm0, local(&cpus[0], "wm"), String::new()).unwrap();
-    let refused = || {
-        let section = cpus[0].enter().unwrap();
-        drop(registry.attach(&cpus[0], &wm, "inside".to_string()).unwrap_err());
+fn what_is_gone_keeps_no_memory() {
+    let (wm, wm0, locals) = (name("wm"), name("wm0"), watched::locals());
+    let come_and_go = || {
+        let (registry, cpus) = with_driver("driver".to_string());
+        let (cpu, (_other, others)) = (&cpus[0], with_driver(String::new()));
+        registry.attach_iface(cpu, &wm0, local(cpu, "wm"), "port".to_string()).unwrap();
+        let section = cpu.enter().unwrap();
+        drop(registry.attach(cpu, &wm, "inside".to_string()).unwrap_err());
         section.exit();
-        drop(registry.attach(&cpus[0], &wm, "taken".to_string()).unwrap_err());
+        drop(registry.attach(cpu, &wm, "taken".to_string()).unwrap_err());
         drop(registry.attach(&others[0], &wm, "elsewhere".to_string()).unwrap_err());
-        let driver = local(&cpus[0], "wm");
-        let Refused { given, .. } = registry.attach_iface(&cpus[0], &wm0, driver, "taken".to_string()).unwrap_err();
-        LocalRef::release(given.0, &cpus[0]).unwrap();
-    };
-    refused();
-    assert_eq!(left(|| (0..100).for_each(|_| refused())), 0);
-}
-
-#[test]
-fn a_closing_keeps_no_memory_and_releases_what_was_dropped() {
-    let locals = watched::locals();
-    let closed = || {
-        let (registry, cpus) = with_driver(vec![1, 2, 3]);
-        registry.attach(&cpus[0], &name("pci"), vec![4]).unwrap();
-        let retired = registry.detach(&cpus[0], Kind::Driver, &name("pci")).unwrap();
-        assert_eq!(retired.advance().unwrap().value, [4]);
-        registry.attach(&cpus[0], &name("vga"), Vec::new()).unwrap();
-        registry.retire(&cpus[0], Kind::Driver, &name("vga")).unwrap();
+        drop(registry.attach_iface(cpu, &wm0, local(cpu, "wm"), "taken".to_string()).unwrap_err());
+        let retired = registry.detach(cpu, Kind::Iface, &wm0).unwrap();
+        assert_eq!(retired.destroy(cpu, Patience::Turns(1)).unwrap().value, "port");
+        registry.attach(cpu, &wm0, "two".to_string()).unwrap();
+        registry.retire(cpu, Kind::Driver, &wm0).unwrap();
         drop((0..200).map(|_| local(&cpus[1], "wm")).collect::<Vec<_>>());
         assert_eq!(registry.dropped(), 200);
     };
-    closed();
-    assert_eq!((left(closed), watched::locals()), (0, locals));
+    come_and_go();
+    assert_eq!((left(|| (0..10).for_each(|_| come_and_go())), watched::locals()), (0, locals));
 }
 
 /// So the archive's memory goes, too.
@@ -123,22 +111,6 @@ fn a_reference_that_is_dropped_without_memory_stays_held() {
     let retired = registry.detach(cpu, Kind::Driver, &name("wm")).unwrap();
     assert_eq!((registry.dropped(), watched::locals()), (0, locals));
     assert_eq!(retired.advance().unwrap_err().refusal, Refusal::StillHeld(Holder::Local(36)));
-}
-
-#[test]
-fn a_destroyed_value_keeps_no_memory() {
-    let (registry, cpus) = with_driver(String::from("driver"));
-    let (cpu, vga) = (&cpus[0], name("vga"));
-    let come_and_go = || {
-        registry.attach(cpu, &vga, "one".to_string()).unwrap();
-        let retired = registry.detach(cpu, Kind::Driver, &vga).unwrap();
-        drop(retired.destroy(cpu, Patience::Turns(1)).unwrap());
-        registry.attach(cpu, &vga, "two".to_string()).unwrap();
-        registry.retire(cpu, Kind::Driver, &vga).unwrap();
-        drop(registry.collect());
-    };
-    come_and_go();
-    assert_eq!(left(|| (0..100).for_each(|_| come_and_go())), 0);
 }
 
 /// After 100,000 references are dropped at once, no room stays for them. It is given back in one step.

@@ -1,5 +1,5 @@
 #!/bin/sh
-# Runs tests/edges.rs under the thread sanitizer: it reports no race; and without either of the two edges of the memory order, of which nobody tells it
+# Runs tests/together.rs under the thread sanitizer: it reports no race; and without either of the two edges of the memory order, of which nobody tells it
 # then, it reports one. So it would see a value that is read before its attach, or after it was freed. The crate has locks
 # of its own then: the sanitizer doesn't see into the standard library's. It wants a nightly rustc, and the archive in the folder that REGISTRY_LIB_DIR names. By hand.
 set -u
@@ -13,9 +13,9 @@ export TSAN_OPTIONS="suppressions=$CARGO_TARGET_DIR/suppressed"
 
 # races EDGE: whether a run without this edge reports a race of a value.
 races() {
-    REGISTRY_WITHOUT=$1 cargo +nightly test -q --offline --target x86_64-unknown-linux-gnu --test edges >"$CARGO_TARGET_DIR/said" 2>&1
+    REGISTRY_WITHOUT=$1 cargo +nightly test -q --offline --target x86_64-unknown-linux-gnu --test together >"$CARGO_TARGET_DIR/said" 2>&1
     status=$?
-    grep -q 'data race.*edges::Plain' "$CARGO_TARGET_DIR/said"
+    grep -q 'data race.*Tracked' "$CARGO_TARGET_DIR/said"
 }
 
 # Whether a run with both edges reports nothing.

@@ -1,15 +1,42 @@
-//! Random calls of threads that share a registry. Each thread alone changes its own names, so of these each answer is known; of the others' what
-//! is found is whole and has the name that was asked for.
+//! Threads that share a registry. Their calls are random. Each thread alone changes its own names, so of these each answer is known; of the others' what is
+//! found is whole and has the name that was asked for.
+//!
+//! tests/sanitized.sh runs it under the thread sanitizer, which doesn't see what the standard library's locks hand from thread to thread. So the lock is one
+//! of its own, and threads are joined one by one.
 
 mod common;
 
-use common::{name, scaled, Dice, Drops, Tracked};
+use common::{name, scaled, why, Dice, Drops, Tracked};
 use kupaldiz::{
     AttachError, Cpu, DestroyError, Found, Holder, Kind, LocalRef, Name, PassiveRef, Patience, ReadGuard, Refusal, Refused, Registry,
     Retired, Settings, LIMITS,
 };
-use std::sync::Mutex;
+use std::cell::UnsafeCell;
+use std::sync::atomic::{AtomicBool, Ordering};
 use std::thread;
+use std::time::Duration;
+
+/// References that any thread may take.
+#[derive(Default)]
+struct Handed {
+    taken: AtomicBool,
+    held: UnsafeCell<Vec<LocalRef<Tracked>>>,
+}
+
+// SAFETY: `with` alone uses the cell, one thread at a time.
+unsafe impl Sync for Handed {}
+
+impl Handed {
+    fn with<R>(&self, deed: impl FnOnce(&mut Vec<LocalRef<Tracked>>) -> R) -> R {
+        while self.taken.swap(true, Ordering::Acquire) {
+            thread::sleep(Duration::from_micros(10));
+        }
+        // SAFETY: this thread has taken it.
+        let done = deed(unsafe { &mut *self.held.get() });
+        self.taken.store(false, Ordering::Release);
+        done
+    }
+}
 
 /// What one of so many threads has, each with so many names of its own.
 struct Worker<'all, const CPUS: usize, const OWN: usize> {
@@ -17,8 +44,7 @@ struct Worker<'all, const CPUS: usize, const OWN: usize> {
     cpu: &'all Cpu<Tracked>,
     drops: &'all Drops,
     names: &'all [Name],
-    /// References that any thread may take.
-    handed: &'all Mutex<Vec<LocalRef<Tracked>>>,
+    handed: &'all Handed,
     id: usize,
     dice: Dice,
     /// The number and the label of each of its own entries that is live.
@@ -54,13 +80,36 @@ impl<'all, const CPUS: usize, const OWN: usize> Worker<'all, CPUS, OWN> {
                 }
             }
             Some((number, label)) => {
-                let retired = self.registry.detach(self.cpu, Kind::Driver, name).unwrap();
-                assert_eq!(retired.entry().number, number);
-                self.live[own] = None;
-                match self.dice.below(2) {
-                    0 => self.tokens.push((retired, label)),
-                    _ => retired.defer(),
+                let retired = match self.dice.below(3) {
+                    0 => self.replace(own, place),
+                    _ => {
+                        self.live[own] = None;
+                        Some(self.registry.detach(self.cpu, Kind::Driver, name).unwrap())
+                    }
+                };
+                if let Some(retired) = retired {
+                    assert_eq!(retired.entry().number, number);
+                    match self.dice.below(3) {
+                        0 | 1 => self.tokens.push((retired, label)),
+                        _ => retired.defer(),
+                    }
                 }
+            }
+        }
+    }
+
+    /// Puts another one in the place of one of its own, if a slot is left.
+    fn replace(&mut self, own: usize, place: usize) -> Option<Retired<Tracked>> {
+        self.labels += 1;
+        let label = self.labels * Self::NAMES as u64 + place as u64;
+        match self.cpu.table().replace(&self.names[place], self.drops.make(label)) {
+            Ok((entry, retired)) => {
+                self.live[own] = Some((entry.number, label));
+                Some(retired)
+            }
+            Err(refused) => {
+                assert_eq!((refused.refusal, refused.given.label), (AttachError::NoSlot, label));
+                None
             }
         }
     }
@@ -81,7 +130,7 @@ impl<'all, const CPUS: usize, const OWN: usize> Worker<'all, CPUS, OWN> {
             others.check();
             assert_eq!(Self::name_of(others.label), other);
             match Found::acquire_local(others) {
-                Ok(local) => self.handed.lock().unwrap().push(local),
+                Ok(local) => self.handed.with(|held| held.push(local)),
                 Err(refusal) => assert!(refusal == Refusal::NotFound && other / OWN != self.id),
             }
             others.check();
@@ -92,11 +141,7 @@ impl<'all, const CPUS: usize, const OWN: usize> Worker<'all, CPUS, OWN> {
         let place = self.dice.below(Self::NAMES);
         let name = &self.names[place];
         match self.dice.below(3) {
-            0 => drop(
-                self.cpu
-                    .get(Kind::Driver, name)
-                    .map(|held| assert!(Self::name_of(held.label) == place)),
-            ),
+            0 => drop(self.cpu.get(Kind::Driver, name).map(|held| assert!(Self::name_of(held.label) == place))),
             1 => drop(self.cpu.read(Kind::Driver, name).map(|guard| {
                 guard.check();
                 assert_eq!((Self::name_of(guard.label), ReadGuard::entry(&guard).name), (place, *name));
@@ -104,12 +149,10 @@ impl<'all, const CPUS: usize, const OWN: usize> Worker<'all, CPUS, OWN> {
             _ => {
                 let section = self.cpu.enter().unwrap();
                 let entries: Vec<_> = section.entries().collect();
-                assert!(entries
-                    .windows(2)
-                    .all(|pair| Found::entry(&pair[0]).number > Found::entry(&pair[1]).number));
-                assert!(entries
-                    .iter()
-                    .all(|found| self.names[Self::name_of(found.label)] == Found::entry(found).name));
+                assert!(entries.windows(2).all(|pair| Found::entry(&pair[0]).number > Found::entry(&pair[1]).number));
+                assert!(entries.iter().all(|found| self.names[Self::name_of(found.label)] == Found::entry(found).name));
+                let is_met = |number| entries.iter().any(|found| Found::entry(found).number == number);
+                assert!(self.live.iter().flatten().all(|live| is_met(live.0)));
             }
         }
     }
@@ -120,7 +163,7 @@ impl<'all, const CPUS: usize, const OWN: usize> Worker<'all, CPUS, OWN> {
                 passive.check();
             }
         }
-        let handed = self.handed.lock().unwrap().pop();
+        let handed = self.handed.with(Vec::pop);
         if let Some(local) = handed {
             local.check();
             match self.dice.below(4) {
@@ -197,14 +240,15 @@ fn fill(registry: &Registry<Tracked>, cpu: &Cpu<Tracked>, drops: &Drops, names: 
 
 /// So many random calls of each thread, once as many slots are filled as there are names for.
 fn run<const CPUS: usize, const OWN: usize>(slots: usize, seed: u64, steps: usize) {
-    let (drops, handed) = (Drops::default(), Mutex::new(Vec::new()));
+    let (drops, handed) = (Drops::default(), Handed::default());
     let names: Vec<Name> = (0..CPUS * OWN).map(|place| name(&format!("d{place}"))).collect();
     let (registry, cpus) = Registry::open(Settings::new(CPUS as u8, slots as u8)).unwrap();
     let live = fill(&registry, &cpus[0], &drops, &names);
     assert_eq!(live.iter().flatten().count(), slots.min(names.len()));
     thread::scope(|scope| {
-        for (cpu, live) in cpus.into_iter().zip(live.chunks(OWN)) {
-            let (registry, drops, names, handed) = (&registry, &drops, &names, &handed);
+        let (registry, drops, names, handed) = (&registry, &drops, &names, &handed);
+        let work = |(cpu, live): (Cpu<Tracked>, &[Live])| {
+            let live = live.try_into().unwrap();
             scope.spawn(move || {
                 let id = usize::from(cpu.id());
                 let mut worker = Worker::<CPUS, OWN> {
@@ -215,14 +259,16 @@ fn run<const CPUS: usize, const OWN: usize>(slots: usize, seed: u64, steps: usiz
                     handed,
                     id,
                     dice: Dice::of(seed + id as u64),
-                    live: live.try_into().unwrap(),
+                    live,
                     passives: Vec::new(),
                     tokens: Vec::new(),
                     labels: 0,
                 };
                 (0..steps).for_each(|_| worker.step());
-            });
-        }
+            })
+        };
+        let workers: Vec<_> = cpus.into_iter().zip(live.chunks(OWN)).map(work).collect();
+        workers.into_iter().for_each(|worker| worker.join().unwrap());
     });
     drop(handed);
     drop(registry);
@@ -243,4 +289,32 @@ fn all_cpus_share_all_slots() {
     const SLOTS: usize = LIMITS.slots as usize;
     const OWN: usize = 2 * SLOTS / CPUS + 1;
     run::<CPUS, OWN>(SLOTS, 1000, scaled(2000));
+}
+
+/// All threads change the same names.
+#[test]
+fn several_writers_change_one_registry() {
+    let (drops, turns) = (Drops::default(), scaled(40_000) as u64 / 100);
+    let (registry, cpus) = Registry::open(Settings::new(3, 16)).unwrap();
+    thread::scope(|scope| {
+        let (registry, drops) = (&registry, &drops);
+        let work = |cpu| {
+            scope.spawn(move || {
+                for turn in 0..turns {
+                    let name = name(&format!("d{}", turn % 6));
+                    if let Err(refused) = registry.attach(&cpu, &name, drops.make(turn)) {
+                        assert!(matches!(refused.refusal, AttachError::NameTaken | AttachError::NoSlot));
+                    }
+                    let retired = registry.retire(&cpu, Kind::Driver, &name).map(drop).map_err(why);
+                    assert!(matches!(retired, Ok(()) | Err(Refusal::NotFound)));
+                }
+            })
+        };
+        let writers: Vec<_> = cpus.into_iter().map(work).collect();
+        writers.into_iter().for_each(|writer| writer.join().unwrap());
+    });
+    drop(registry.collect());
+    assert_eq!(registry.retired(), 0);
+    drop(registry);
+    assert_eq!((drops.made() as u64, drops.dropped() as u64), (3 * turns, 3 * turns));
 }

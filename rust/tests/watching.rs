@@ -17,13 +17,7 @@ fn calls(text: &str, before: &str) -> BTreeSet<String> {
 #[test]
 fn each_call_with_a_handle_is_watched() {
     let mut made = calls(include_str!("../src/ffi.rs"), "pub fn ");
-    for without in [
-        "registry_name_parse",
-        "registry_strerror",
-        "registry_version",
-        "registry_limits",
-        "registry_open",
-    ] {
+    for without in ["registry_name_parse", "registry_strerror", "registry_version", "registry_limits", "registry_open"] {
         assert!(made.remove(without), "{without}");
     }
     made.retain(|call| call.starts_with("registry_"));
@@ -54,10 +48,7 @@ fn two_calls_with_one_handle_are_seen() {
         .output()
         .unwrap();
     let said = String::from_utf8_lossy(&ended.stderr);
-    assert!(
-        !ended.status.success() && said.contains("a handle is in use by another call"),
-        "{said}"
-    );
+    assert!(!ended.status.success() && said.contains("a handle is in use by another call"), "{said}");
 }
 
 /// Takes one handle on two threads again and again, until they meet.

@@ -3,14 +3,19 @@
 
 pub mod watched;
 
-use kupaldiz::{Cpu, DestroyError, Entry, Freed, Holder, Kind, LocalRef, Name, PassiveRef, Refused, Registry, Retired, Settings};
+use kupaldiz::{Cpu, DestroyError, Entry, Freed, Holder, Kind, LocalRef, Name, PassiveRef, Refusal, Refused, Registry, Retired, Settings};
 use std::cell::RefCell;
-use std::sync::atomic::{AtomicBool, AtomicU64, AtomicUsize, Ordering};
+use std::sync::atomic::{AtomicBool, AtomicUsize, Ordering};
 use std::sync::Arc;
 use std::time::Duration;
 
 pub fn name(text: &str) -> Name {
     Name::parse(text).unwrap()
+}
+
+/// Why a call was refused, of any error.
+pub fn why(error: impl Into<Refusal>) -> Refusal {
+    error.into()
 }
 
 /// Longer than anything takes that these tests wait for.
@@ -54,18 +59,12 @@ impl Dice {
 
 /// A local reference to a driver.
 pub fn local<T>(cpu: &Cpu<T>, text: &str) -> LocalRef<T> {
-    cpu.get_local(Kind::Driver, &name(text))
-        .map_err(|refusal| panic!("{refusal}"))
-        .ok()
-        .unwrap()
+    cpu.get_local(Kind::Driver, &name(text)).map_err(|refusal| panic!("{refusal}")).ok().unwrap()
 }
 
 /// A passive one.
 pub fn passive<'cpu, T>(cpu: &'cpu Cpu<T>, text: &str) -> PassiveRef<'cpu, T> {
-    cpu.get(Kind::Driver, &name(text))
-        .map_err(|refusal| panic!("{refusal}"))
-        .ok()
-        .unwrap()
+    cpu.get(Kind::Driver, &name(text)).map_err(|refusal| panic!("{refusal}")).ok().unwrap()
 }
 
 /// A registry with two CPUs and the driver `wm`, which is number 1 in slot 0 and carries this.
@@ -79,23 +78,12 @@ pub fn with_driver<T>(value: T) -> (Registry<T>, Vec<Cpu<T>>) {
 pub struct Gone<T> {
     retired: RefCell<Option<Retired<T>>>,
     pub entry: Entry,
-    pub number: u64,
 }
 
 /// Detaches the driver.
 pub fn detach<T>(registry: &Registry<T>, cpu: &Cpu<T>, text: &str) -> Gone<T> {
-    detach_any(registry, cpu, Kind::Driver, text)
-}
-
-/// Detaches an entry.
-pub fn detach_any<T>(registry: &Registry<T>, cpu: &Cpu<T>, kind: Kind, text: &str) -> Gone<T> {
-    let retired = registry.detach(cpu, kind, &name(text)).unwrap();
-    let entry = retired.entry();
-    Gone {
-        retired: RefCell::new(Some(retired)),
-        entry,
-        number: entry.number,
-    }
+    let retired = registry.detach(cpu, Kind::Driver, &name(text)).unwrap();
+    Gone { entry: retired.entry(), retired: RefCell::new(Some(retired)) }
 }
 
 impl<T> Gone<T> {
@@ -108,10 +96,7 @@ impl<T> Gone<T> {
     pub fn holder(&self) -> Option<Holder> {
         match self.token().advance() {
             Ok(_) => None,
-            Err(Refused {
-                refusal: DestroyError::StillHeld(holder),
-                given,
-            }) => {
+            Err(Refused { refusal: DestroyError::StillHeld(holder), given }) => {
                 self.retired.replace(Some(given));
                 Some(holder)
             }
@@ -123,17 +108,6 @@ impl<T> Gone<T> {
     pub fn freed(&self) -> Freed<T> {
         self.token().advance().unwrap_or_else(|held| panic!("{held}"))
     }
-}
-
-/// What an audit says of each entry: what is held, the count of each CPU, and the total.
-pub fn balances<T>(registry: &Registry<T>, cpus: &[Cpu<T>]) -> Vec<(i64, Vec<i64>, i64)> {
-    let all = registry.audit(cpus).unwrap();
-    all.into_iter().map(|one| (one.held, one.locals, one.total)).collect()
-}
-
-/// What an audit says where a driver alone is there.
-pub fn balance(held: i64, locals: &[i64], total: i64) -> (i64, Vec<i64>, i64) {
-    (held, locals.to_vec(), total)
 }
 
 /// Tells threads to stop as it is dropped, so also where the test fails: else a scope would wait for them for ever.
@@ -152,45 +126,41 @@ pub struct Drops {
     dropped: Arc<AtomicUsize>,
 }
 
-const ALIVE: u64 = 0x616c_6976_6561_6c69;
-
-/// A value in a block of its own, which is poisoned as it is dropped.
+/// A value in a block of its own, which is spoilt as it is dropped. No atomic is in it: the thread sanitizer looks at each load and store.
 #[derive(Debug)]
 pub struct Tracked {
-    state: Box<AtomicU64>,
+    words: Vec<u64>,
     dropped: Arc<AtomicUsize>,
     pub label: u64,
 }
 
 impl Drops {
     pub fn make(&self, label: u64) -> Tracked {
-        self.made.fetch_add(1, Ordering::SeqCst);
-        Tracked {
-            state: Box::new(AtomicU64::new(ALIVE)),
-            dropped: Arc::clone(&self.dropped),
-            label,
-        }
+        self.made.fetch_add(1, Ordering::Relaxed);
+        Tracked { words: vec![label; 8], dropped: Arc::clone(&self.dropped), label }
     }
 
     pub fn made(&self) -> usize {
-        self.made.load(Ordering::SeqCst)
+        self.made.load(Ordering::Relaxed)
     }
 
     pub fn dropped(&self) -> usize {
-        self.dropped.load(Ordering::SeqCst)
+        self.dropped.load(Ordering::Relaxed)
     }
 }
 
 impl Tracked {
-    /// Fails where the value was dropped.
+    /// Fails if the value was dropped, or isn't all there yet.
     pub fn check(&self) {
-        assert_eq!(self.state.load(Ordering::Relaxed), ALIVE, "a value that was dropped");
+        assert!(self.words.iter().all(|word| *word == self.label), "a value that is spoilt");
     }
 }
 
 impl Drop for Tracked {
     fn drop(&mut self) {
-        assert_eq!(self.state.swap(!ALIVE, Ordering::Relaxed), ALIVE, "a value that was dropped before");
-        self.dropped.fetch_add(1, Ordering::SeqCst);
+        self.check();
+        self.words.iter_mut().for_each(|word| *word = !self.label);
+        assert_eq!(self.words[7], !self.label);
+        self.dropped.fetch_add(1, Ordering::Relaxed);
     }
 }

@@ -33,39 +33,6 @@ pub fn locals() -> i64 {
     LOCALS.with(Cell::get)
 }
 
-/// Whether the next advance is to last, and then whether it does.
-static HOLD: AtomicU32 = AtomicU32::new(NONE);
-const NONE: u32 = 0;
-const NEXT: u32 = 1;
-const LASTS: u32 = 2;
-
-/// Has the next advance of any thread last, with the keeper in use, until `let_go`.
-pub fn hold_next_advance() {
-    HOLD.store(NEXT, Ordering::SeqCst);
-}
-
-/// Waits until it is made.
-pub fn wait_for_advance() {
-    while HOLD.load(Ordering::SeqCst) != LASTS {
-        thread::sleep(Duration::from_micros(100));
-    }
-}
-
-/// Lets it end.
-pub fn let_go() {
-    HOLD.store(NONE, Ordering::SeqCst);
-}
-
-/// A call that is to last does so.
-fn last(call: &str) {
-    let is_advance = call == "__real_registry_advance";
-    if is_advance && HOLD.compare_exchange(NEXT, LASTS, Ordering::SeqCst, Ordering::SeqCst).is_ok() {
-        while HOLD.load(Ordering::SeqCst) == LASTS {
-            thread::sleep(Duration::from_micros(100));
-        }
-    }
-}
-
 /// How many CPUs and keepers this thread has closed.
 pub fn closed() -> usize {
     CLOSED.with(Cell::get)
@@ -83,12 +50,11 @@ impl InUse {
     /// Takes them, or ends the program where one is in use.
     pub fn take(call: &str, places: &[Handle]) -> InUse {
         // SAFETY: each is the place of a handle, which this thread uses.
-        let handles: Vec<usize> = places
-            .iter()
-            .map(|place| unsafe { **place } as usize)
-            .filter(|at| *at != 0)
-            .collect();
+        let handles: Vec<usize> = places.iter().map(|place| unsafe { **place } as usize).filter(|at| *at != 0).collect();
         let mut busy = BUSY.lock().unwrap_or_else(PoisonError::into_inner);
+        if busy.capacity() == 0 {
+            busy.reserve(64); // Once, so that it grows while no test counts its memory.
+        }
         for handle in &handles {
             if busy.contains(handle) {
                 // Not by a macro, whose text a test keeps to itself.
@@ -102,7 +68,6 @@ impl InUse {
         if CALLS.fetch_add(1, Ordering::Relaxed) % 128 == 0 {
             thread::sleep(Duration::from_micros(20));
         }
-        last(call);
         InUse { handles }
     }
 }

@@ -27,6 +27,6 @@ grep -E '^test result' "$room/said" | grep -v ' 0 failed' && exit 1
 echo "done: its tests: $(awk '/^test result/ { n += $4 } END { print n }' "$room/said") passed"
 cargo build --offline --release --examples
 target/release/examples/packet
-target/release/examples/storm 4 1000 | grep -x 'wrong 0'
-target/release/examples/routing 20 | grep -x 'wrong 0'
+target/release/examples/connections
+target/release/examples/changeover 5 | grep -x 'wrong 0'
 echo "done: its examples"
