@@ -41,6 +41,11 @@ version() {
     version_of "$header"
 }
 
+# abi [VERSION]: what the sonames have of it: below 1.0 the minor version too.
+abi() {
+    sed -E 's/^(0\.[0-9]+|[1-9][0-9]*)\..*/\1/' <<<"${1:-$(version)}"
+}
+
 # built NAME COMPILER LANGUAGE STANDARD LINK WORDS..: the program, built with the words that pkg-config gives for these of its own, and none beside them.
 # A path with blanks comes from it as a shell writes it. The linker looks for what a shared library asks for where the loader does.
 built() {
@@ -60,7 +65,7 @@ asks_for() {
     local name=$1 library
     shift
     for library; do
-        readelf -d "$room/$name" | grep -F "[$library.so.$(version | cut -d. -f1)]" || return 1
+        readelf -d "$room/$name" | grep -F "[$library.so.$(abi)]" || return 1
     done
 }
 
@@ -68,9 +73,9 @@ asks_for_none() {
     ! readelf -d "$room/$1" | grep -F kupaldiz
 }
 
-# has_soname LIBRARY: the shared library names itself without the lesser numbers.
+# has_soname LIBRARY: the shared library names itself without the least number.
 has_soname() {
-    readelf -d "$stage$libdir/$1.so" | grep -F "Library soname: [$1.so.$(version | cut -d. -f1)]"
+    readelf -d "$stage$libdir/$1.so" | grep -F "Library soname: [$1.so.$(abi)]"
 }
 
 # shown LIBRARY: the names that a shared library shows, without its version's own.
@@ -240,13 +245,13 @@ flags_are_taken() {
 
 # What is installed, except the manual pages: kind, mode, owner and path of each file, and where a link leads.
 wanted() {
-    local me major=${1%%.*} file library
-    me=$(id -un)
+    local me abi file library
+    me=$(id -un) abi=$(abi "$1")
     for library in libkupaldiz libkupaldiz_netbsd libkupaldiz_bench; do
         echo "f 644 $me $libdir/$library.a"
         echo "f 755 $me $libdir/$library.so.$1"
-        echo "l 777 $me $libdir/$library.so.$major -> $library.so.$1"
-        echo "l 777 $me $libdir/$library.so -> $library.so.$major"
+        echo "l 777 $me $libdir/$library.so.$abi -> $library.so.$1"
+        echo "l 777 $me $libdir/$library.so -> $library.so.$abi"
     done
     for file in "$libdir"/pkgconfig/kupaldiz{,-netbsd,-bench}.pc "$libdir"/cmake/kupaldiz/kupaldizConfig{,Version}.cmake \
         "$prefix"/include/kupaldiz/{registry,registry_limits,registry_waiting,bench}.h "$prefix"/share/doc/kupaldiz/{CHANGELOG,VERSIONS}.md; do
@@ -271,7 +276,7 @@ wanted_pages() {
         echo "${page##*/}"
         [ "${page%.3}" != "$page" ] || continue
         for name in $(sed -nE '/^\.Sh NAME/,/^\.Nd/s/^\.Nm ([A-Za-z_0-9]+).*/\1/p' "$page"); do
-            [ "$name.3" = "${page##*/}" ] || echo "$name.3 -> ${page##*/}"
+            [ "$name.3" = "${page##*/}" ] || echo "$name.3kupaldiz -> ${page##*/}"
         done
     done
 }

@@ -215,7 +215,7 @@ static uint64_t attach_some(struct registry_deferred *deferred, struct registry_
 	for (unsigned i = 0; i < count; i++) {
 		const char text[] = {(char)('a' + i), 0};
 		names[i] = name_of(text);
-		DONE(registry_deferred_attach(&keeper, &cpus[1], &names[i], i + 1, deferred, &entry));
+		DONE(registry_deferred_attach(deferred, &cpus[1], &names[i], i + 1, &entry));
 	}
 	DONE(registry_enter(&cpus[0]));
 	DONE(registry_find(&cpus[0], REGISTRY_DRIVER, &names[1], &entry));
@@ -228,26 +228,26 @@ static uint64_t attach_some(struct registry_deferred *deferred, struct registry_
 static void test_deferred(void)
 {
 	struct freed seen = {0};
-	struct registry_deferred deferred = {.freed = note, .of = &seen};
+	struct registry_deferred deferred = {.keeper = &keeper, .freed = note, .of = &seen};
 	struct registry_name names[4];
 	struct registry_entry entry;
 	size_t freed = 9;
 	uint64_t held = attach_some(&deferred, names, 4);
-	EXPECT(registry_deferred_detach(&keeper, &cpus[1], REGISTRY_DRIVER, &wm, &deferred, &entry) == REGISTRY_NOT_FOUND);
+	EXPECT(registry_deferred_detach(&deferred, &cpus[1], REGISTRY_DRIVER, &wm, &entry) == REGISTRY_NOT_FOUND);
 	EXPECT(registry_deferred_count(&deferred) == 0);
 	DONE(registry_enter(&cpus[0]));
 	for (unsigned i = 0; i < 3; i++)
-		DONE(registry_deferred_detach(&keeper, &cpus[1], REGISTRY_DRIVER, &names[i], &deferred, &entry));
+		DONE(registry_deferred_detach(&deferred, &cpus[1], REGISTRY_DRIVER, &names[i], &entry));
 	EXPECT(registry_deferred_count(&deferred) == 3 && seen.count == 0);
-	EXPECT(registry_deferred_attach(&keeper, &cpus[1], &wm, 9, &deferred, &entry) == REGISTRY_NO_SLOT);
+	EXPECT(registry_deferred_attach(&deferred, &cpus[1], &wm, 9, &entry) == REGISTRY_NO_SLOT);
 	DONE(registry_exit(&cpus[0]));
-	DONE(registry_deferred_free(&keeper, &deferred, &freed));
+	DONE(registry_deferred_free(&deferred, &freed));
 	EXPECT(freed == 2 && seen.count == 2 && seen.values[0] == 1 && seen.values[1] == 3);
 	EXPECT(registry_deferred_count(&deferred) == 1);
 	DONE(registry_release(&cpus[0], held));
-	DONE(registry_deferred_detach(&keeper, &cpus[1], REGISTRY_DRIVER, &names[3], &deferred, &entry));
+	DONE(registry_deferred_detach(&deferred, &cpus[1], REGISTRY_DRIVER, &names[3], &entry));
 	EXPECT(seen.count == 3 && seen.values[2] == 2 && registry_deferred_count(&deferred) == 1);
-	DONE(registry_deferred_attach(&keeper, &cpus[1], &wm, 9, &deferred, &entry));
+	DONE(registry_deferred_attach(&deferred, &cpus[1], &wm, 9, &entry));
 	EXPECT(seen.count == 4 && seen.values[3] == 4 && registry_deferred_count(&deferred) == 0);
 	detach_wm();
 }
@@ -255,25 +255,28 @@ static void test_deferred(void)
 static void test_empty(void)
 {
 	struct registry_keeper none = {0};
-	struct registry_deferred deferred = {.count = 0};
+	struct registry_deferred deferred = {.keeper = &none};
 	struct registry_stage met;
 	size_t freed;
 	uint64_t waited;
 	EXPECT(registry_destroy_wait(&lock, &none, &cpus[1], 1, NULL, &met) == REGISTRY_EMPTY_HANDLE && takes() == 1);
 	EXPECT(registry_perform_wait(&lock, &none, &cpus[1], NULL, &waited) == REGISTRY_EMPTY_HANDLE && takes() == 1);
-	EXPECT(registry_deferred_free(&none, &deferred, &freed) == REGISTRY_EMPTY_HANDLE);
+	EXPECT(registry_deferred_free(&deferred, &freed) == REGISTRY_EMPTY_HANDLE);
+	EXPECT(registry_deferred_barrier(&lock, &deferred, NULL) == REGISTRY_EMPTY_HANDLE && takes() == 1);
+	deferred.keeper = NULL;
+	EXPECT(registry_deferred_free(&deferred, &freed) == REGISTRY_EMPTY_HANDLE);
 }
 
 /* What the calls say isn't wanted. */
 static void test_nulls(void)
 {
-	struct registry_deferred deferred = {.count = 0};
+	struct registry_deferred deferred = {.keeper = &keeper};
 	uint64_t number = attached(&wm);
 	size_t freed = 9;
-	EXPECT(registry_deferred_detach(&keeper, &cpus[1], REGISTRY_DRIVER, NULL, &deferred, NULL) == REGISTRY_NULL && deferred.count == 0);
-	DONE(registry_deferred_detach(&keeper, &cpus[1], REGISTRY_DRIVER, &wm, &deferred, NULL));
+	EXPECT(registry_deferred_detach(&deferred, &cpus[1], REGISTRY_DRIVER, NULL, NULL) == REGISTRY_NULL && deferred.count == 0);
+	DONE(registry_deferred_detach(&deferred, &cpus[1], REGISTRY_DRIVER, &wm, NULL));
 	EXPECT(deferred.count == 1 && deferred.entries[0].number == number);
-	DONE(registry_deferred_free(&keeper, &deferred, &freed));
+	DONE(registry_deferred_free(&deferred, &freed));
 	EXPECT(freed == 1 && deferred.count == 0);
 	number = attached(&wm);
 	enter_and_find(&cpus[0]);

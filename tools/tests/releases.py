@@ -13,7 +13,7 @@ BASICS = ("sh bash echo env python3 git make ar awk basename cat chmod cp cut da
 COMMANDS = {"gcc": "gcc", "pkg-config": "pkg-config", "cargo": "cargo", "dpkg-buildpackage": "dpkg-dev", "dh": "debhelper", "lintian": "lintian"}
 DOES_NOTHING = "#!/bin/sh\n"
 CARGO = '#!/bin/sh\nmkdir -p "$CARGO_TARGET_DIR/package" && echo crate >"$CARGO_TARGET_DIR/package/kupaldiz-0.1.0.crate"\n'
-PACKAGES = "#!/bin/sh\necho deb >../libkupaldiz0.deb && echo changes >../kupaldiz.changes\n"
+PACKAGES = "#!/bin/sh\necho deb >../libkupaldiz0.1.deb && echo changes >../kupaldiz.changes\n"
 PARTS = ("heap", "composed", "strings", "limits")
 # tools/proof-record.py and what it takes.
 RECORDS = ("proof-record.py", "chosen.py", "limits.py", "kit.py")
