@@ -79,8 +79,8 @@ Library = collections.namedtuple("Library", "files tests compiled")
 
 def of_waiting(_):
     """The programs that waiting.c is compiled into."""
-    programs = ("turns", "deferred", "waits", "forwarder", "device_switch")
-    return [Test(it, ["make", "-s", C_FLAGS, f"out/{it}"], [f"out/{it}"]) for it in programs]
+    programs = {"turns": [], "reclaims": [], "lent": [], "deferred": [], "waits": [], "interrupted": [], "together": ["20"]}
+    return [Test(it, ["make", "-s", C_FLAGS, f"out/{it}"], [f"out/{it}", *words]) for it, words in programs.items()]
 
 
 def of_part(file):

@@ -209,6 +209,10 @@ test_c() {
     check "C: waits" "$out/waits"
     check "C: turns, each step of a wait" "$out/turns"
     check "C: deferred, beside a model" "$out/deferred"
+    check "C: together, many waits at once" "$out/together"
+    check "C: interrupted, each wait by signals and by a cancellation" "$out/interrupted"
+    check "C: reclaims, a list that frees by itself" "$out/reclaims"
+    check "C: lent, CPUs for threads" "$out/lent"
     check "C: history to its end, beside a model" "$out/history"
     check "C: history notices each fault that is planted" "$out/planted"
     check "C: walk" "$out/walk" 5000
@@ -232,6 +236,7 @@ test_c() {
         test_installed
     else
         counted "C: installed, used by pkg-config alone, and uninstalled" tools/test-install.sh
+        counted "C: built as users build" tools/test-builds.sh
     fi
 }
 
@@ -247,6 +252,10 @@ test_watched() {
     check "C: the build's limits under valgrind" guarded "$out/built"
     check "C: the layout of each struct under valgrind" guarded "$out/layout"
     check "C: waits under valgrind" guarded "$out/waits"
+    check "C: together under valgrind" guarded "$out/together" 5
+    check "C: interrupted under valgrind" guarded "$out/interrupted"
+    check "C: reclaims under valgrind" guarded "$out/reclaims"
+    check "C: lent under valgrind" guarded "$out/lent"
     check "C: walk under valgrind" guarded "$out/walk" 50
     check "C: entries under valgrind" guarded "$out/entries" 50
     check "C: names under valgrind" guarded "$out/names"
@@ -265,6 +274,9 @@ test_watched() {
     check "C: names with sanitizers" "$out/sanitized-names"
     check "C: usual with sanitizers" "$out/sanitized-usual" 300
     check "C: crowd with sanitizers" "$out/sanitized-crowd" 300
+    check "C: together with sanitizers" "$out/sanitized-together" 50
+    check "C: reclaims with sanitizers" "$out/sanitized-reclaims"
+    check "C: lent with sanitizers" "$out/sanitized-lent"
     check "C: forwarder with sanitizers" "$out/sanitized-forwarder"
     check "C: device_switch with sanitizers" "$out/sanitized-device_switch"
     check "C: storm $cpus $((8000 / cpus)) with sanitizers" storm_says "$cpus" $((8000 / cpus)) "$out/sanitized-storm"
@@ -279,6 +291,9 @@ test_heap() {
     local when
     check "C: heap_stress with the address sanitizer" "$out/heap_stress-address-right" 500
     check "C: heap_stress with the thread sanitizer" "$out/heap_stress-thread-right" 200
+    check "C: together with the thread sanitizer" "$out/raced-together" 50
+    check "C: reclaims with the thread sanitizer" "$out/raced-reclaims"
+    check "C: interrupted with the thread sanitizer" "$out/raced-interrupted"
     check "C: heap_stress under valgrind" guarded "$out/heap_stress-none-right" 20
     for when in early unperformed; do
         check "C: freed $when: the address sanitizer sees it" catches heap-use-after-free "$out/heap_stress-address-$when" 500

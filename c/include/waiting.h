@@ -69,9 +69,8 @@ registry_answer registry_destroy_wait(const struct registry_lock *lock, struct r
 /*
  * registry_perform_wait - wait until each section that is open now has ended: pserialize_perform, which waits
  *
- * The caller runs on the CPU, outside a section. The call takes the interlock once to begin, and then once a turn. Between
- * two turns it spins, yields and sleeps as registry_destroy_wait does, and `deadline` means the same. A later call begins anew, with the sections that are
- * open then.
+ * The caller runs on the CPU, outside a section. The call takes the interlock once to begin, and then once a turn. Between two turns it spins, yields
+ * and sleeps as registry_destroy_wait does, and `deadline` means the same. A later call begins anew, with the sections that are open then.
  * Returns the result of its last call.
  *
  * - REGISTRY_DONE, as registry_perform_turn.
@@ -98,11 +97,12 @@ registry_answer registry_local_drop(struct registry_cpu *cpu, struct registry_lo
 /*
  * The entries that were detached and aren't freed yet, oldest first. {0} is the empty list. The caller then sets `keeper`, `freed` and `of`. NULL for
  * `deferred`, or a list that was never set, is undefined behaviour. Only the list works on its entries: nothing else advances or destroys one. It has
- * room for all entries that a registry can have, and allocates no memory. It is empty before its keeper is closed: registry_deferred_barrier.
+ * room for all entries that a registry can have, and allocates no memory. It is empty before its keeper is closed: registry_deferred_barrier. `freed`
+ * throws no C++ exception.
  */
 struct registry_deferred {
 	struct registry_keeper *keeper;		/* of the list's registry */
-	/* Called under the interlock for each entry once it is gone permanently. It makes no call with the keeper or the list. It throws no exception. May be NULL. */
+	/* Called under the interlock for each entry once it is gone permanently. It makes no call with the keeper or the list. May be NULL. */
 	void (*freed)(void *of, const struct registry_entry *gone);
 	void *of;
 	void *reclaimer;	/* private, as is what follows */

