@@ -25,14 +25,15 @@ built() {
 
 # runs COMMAND..: the smallest program, and threads that wait together, built by this command.
 runs() {
-    built smallest "$@" && "$room/smallest" | grep -x 'eth0 has value 1500' && built together "$@" && "$room/together" 2 &&
-        built lent "$@" "${faults[@]}" && "$room/lent"
+    built smallest "$@" && "$room/smallest" | grep -x 'eth0 has value 1500' && built together "$@" && "$room/together" 2
 }
 
-# What the test of the pool leads to itself.
-faults=(-Wl,--wrap=malloc,--wrap=pthread_condattr_init,--wrap=pthread_cond_init,--wrap=pthread_key_create,--wrap=pthread_setspecific)
+# The same over musl, and waits that are interrupted, of which deadlines and cancellations are the C library's.
+runs_over_musl() {
+    runs musl-gcc "$@" && built interrupted musl-gcc "$@" && "$room/interrupted"
+}
 
-# runs_as_c++ COMMAND..: the headers, in C++20.
+# runs_as_cxx COMMAND..: the headers, in C++20.
 runs_as_cxx() {
     mkdir -p "$room/kupaldiz" && cp "$include"/*.h "$room/kupaldiz" && cp c/include/waiting.h "$room/kupaldiz/registry_waiting.h" &&
         gcc -O2 -std=c11 -D_POSIX_C_SOURCE=200809L -I"$include" -Ic/include -c -o "$room/waiting.o" c/src/waiting.c &&
@@ -80,7 +81,7 @@ if command -v ld.lld >/dev/null; then
     check "clang -O3 -flto=thin" runs clang -std=gnu17 -O3 -flto=thin -fuse-ld=lld
 fi
 if command -v musl-gcc >/dev/null; then
-    check "musl-gcc -static" runs musl-gcc -std=c11 -O2 -static
+    check "musl-gcc -static" runs_over_musl -std=c11 -O2 -static
 fi
 check "g++ -std=c++20" runs_as_cxx g++
 ! command -v clang++ >/dev/null || check "clang++ -std=c++20" runs_as_cxx clang++

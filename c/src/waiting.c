@@ -581,15 +581,23 @@ static void let_go(void *mutex)
 	pthread_mutex_unlock(mutex);
 }
 
+/* Waits until a place may be free; false once the deadline has passed. A C library may take one that is long past for one to come. */
+static bool wait_for_place(struct pool *pool, const struct timespec *deadline)
+{
+	if (deadline == NULL)
+		return pthread_cond_wait(&pool->given, &pool->mutex) == 0;
+	return time_left(deadline, 1) > 0 && pthread_cond_timedwait(&pool->given, &pool->mutex, deadline) == 0;
+}
+
 /* Takes a place, and waits for one until the deadline. NULL if none came free. A thread that is cancelled meanwhile has none. */
 static struct place *take_place(struct pool *pool, const struct timespec *deadline)
 {
 	struct place *place;
-	int error = 0;
+	bool waits = true;
 	pthread_mutex_lock(&pool->mutex);
 	pthread_cleanup_push(let_go, &pool->mutex);
-	while ((place = free_place(pool)) == NULL && error == 0)
-		error = deadline == NULL ? pthread_cond_wait(&pool->given, &pool->mutex) : pthread_cond_timedwait(&pool->given, &pool->mutex, deadline);
+	while ((place = free_place(pool)) == NULL && waits)
+		waits = wait_for_place(pool, deadline);
 	if (place != NULL)
 		place->taken = true;
 	pthread_cleanup_pop(1);
