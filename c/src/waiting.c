@@ -589,15 +589,25 @@ static bool wait_for_place(struct pool *pool, const struct timespec *deadline)
 	return time_left(deadline, 1) > 0 && pthread_cond_timedwait(&pool->given, &pool->mutex, deadline) == 0;
 }
 
+/* A free place, as soon as there is one. NULL if none came free by the deadline. The caller has the mutex. */
+static struct place *await_place(struct pool *pool, const struct timespec *deadline)
+{
+	struct place *place = free_place(pool);
+	bool waits = true;
+	while (place == NULL && waits) {
+		waits = wait_for_place(pool, deadline);
+		place = free_place(pool);
+	}
+	return place;
+}
+
 /* Takes a place, and waits for one until the deadline. NULL if none came free. A thread that is cancelled meanwhile has none. */
 static struct place *take_place(struct pool *pool, const struct timespec *deadline)
 {
 	struct place *place;
-	bool waits = true;
 	pthread_mutex_lock(&pool->mutex);
 	pthread_cleanup_push(let_go, &pool->mutex);
-	while ((place = free_place(pool)) == NULL && waits)
-		waits = wait_for_place(pool, deadline);
+	place = await_place(pool, deadline);
 	if (place != NULL)
 		place->taken = true;
 	pthread_cleanup_pop(1);
