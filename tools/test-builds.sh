@@ -66,7 +66,7 @@ refused() {
 
 # The archive has no landing pads. A linker that is asked to require them names it.
 landing_pads_are_refused() {
-    ! built smallest gcc -std=c11 -fcf-protection=full -Wl,-z,ibt,-z,cet-report=error >"$log.said" 2>&1 && grep 'registry.o.*IBT' "$log.said"
+    ! built smallest gcc -std=c11 -fcf-protection=full -Wl,-z,shstk,-z,cet-report=error >"$log.said" 2>&1 && grep 'registry.o.*missing IBT property' "$log.said"
 }
 
 for compiler in gcc clang; do

@@ -210,6 +210,7 @@ registry_answer registry_threads_open(struct registry_threads *threads, struct r
 /*
  * registry_threads_close - take the CPUs back, and empty the handle
  *
+ * No other thread is in a call with the pool, or makes one later.
  * Returns REGISTRY_EMPTY_HANDLE, REGISTRY_STILL_HELD if a thread has one of the CPUs.
  */
 registry_answer registry_threads_close(struct registry_threads *threads) REGISTRY_NONNULL(1);

@@ -88,16 +88,21 @@ static void free_object(struct object *object)
 	atomic_fetch_add(&freed, 1);
 }
 
-/* Uses an object, and again once a wait has noticed, or after a while. */
+static void look_at(const struct object *object)
+{
+	for (unsigned i = 0; i < WORDS; i++)
+		EXPECT(object->words[i] == (uintptr_t)object);
+}
+
+/* Uses an object, and again once some object was freed, or after a while. */
 static void use(struct object *object)
 {
 	unsigned before = atomic_load_explicit(&freed, memory_order_relaxed);
 	AFTER_FIND(object);
-	for (unsigned i = 0; i < PATIENCE && before == atomic_load_explicit(&freed, memory_order_relaxed); i++) {
-		for (unsigned word = 0; word < WORDS; word++)
-			EXPECT(object->words[word] == (uintptr_t)object);
+	look_at(object);
+	for (unsigned i = 0; i < PATIENCE && before == atomic_load_explicit(&freed, memory_order_relaxed); i++)
 		rest();
-	}
+	look_at(object);
 	BEFORE_LETTING_GO(object);
 	atomic_fetch_add(&uses, 1);
 }

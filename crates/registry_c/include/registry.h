@@ -45,7 +45,7 @@
  *
  * - REGISTRY_INSIDE, if it is inside: registry_close_cpu, registry_close, registry_attach, registry_attach_iface, registry_detach, registry_destroy,
  *   registry_perform_begin, registry_perform_turn, registry_destroy_wait, registry_perform_wait, registry_deferred_detach, registry_deferred_attach,
- *   registry_deferred_attach_iface.
+ *   registry_deferred_attach_iface, registry_thread_unregister.
  * - REGISTRY_OUTSIDE, if it is outside: registry_exit, registry_find, registry_walk, registry_acquire_entry.
  * - REGISTRY_NOTHING_FOUND, if it is outside, since the exit cleared the last found entry: registry_acquire, registry_local_acquire.
  *
