@@ -9,7 +9,9 @@ PLANTED = main $(addprefix registry_,open attach attach_iface detach advance des
 # Where the programs lie.
 vpath %.c c/examples c/tests
 
-PROGRAMS = smallest row packet shared storm misuse refuse blocks allocs changes built layout waits turns deferred history planted walk usual entries names crowd forwarder device_switch $(PROGRAMS_$(PROCESSOR)) $(BENCHED)
+PROGRAMS = smallest row packet shared storm misuse refuse blocks allocs changes built layout $(OVER_WAITING) turns history planted walk usual entries names crowd forwarder device_switch $(PROGRAMS_$(PROCESSOR)) $(BENCHED)
+# Tests of waiting.h: each is compiled with it.
+OVER_WAITING = waits deferred together interrupted reclaims lent
 # They read registers of x86-64.
 PROGRAMS_x86_64 = recalls
 # A release's source has no bench.
@@ -37,12 +39,21 @@ $(OUT)/usual: c/tests/usual.c
 $(OUT)/entries: c/tests/entries.c
 $(OUT)/names: c/tests/names.c
 $(OUT)/crowd: c/tests/crowd.c c/examples/basket.h
-$(OUT)/waits: c/tests/waits.c c/src/waiting.c c/include/waiting.h
+$(OUT)/together: c/tests/together.c
+$(OUT)/interrupted: c/tests/interrupted.c
+reclaims_LINK = -Wl,--wrap=malloc,--wrap=pthread_create,--wrap=pthread_cond_init,--wrap=pthread_cond_timedwait
+$(OUT)/reclaims $(OUT)/sanitized-reclaims: LINK = $(reclaims_LINK)
+$(OUT)/reclaims: c/tests/reclaims.c
+$(OUT)/lent $(OUT)/sanitized-lent: LINK = -Wl,--wrap=malloc,--wrap=pthread_condattr_init,--wrap=pthread_cond_init,--wrap=pthread_key_create,--wrap=pthread_setspecific
+$(OUT)/lent: c/tests/lent.c
+$(OVER_WAITING:%=$(OUT)/%): c/src/waiting.c c/include/waiting.h
+$(OUT)/waits: c/tests/waits.c
 $(OUT)/waits: LINK = -Wl,--wrap=nanosleep,--wrap=sched_yield
 $(OUT)/turns: c/tests/turns.c c/src/waiting.c c/include/waiting.h c/tests/pauses.h
 $(OUT)/turns: CFLAGS += -include c/tests/pauses.h
-$(OUT)/turns: LINK = -Wl,--wrap=registry_destroy,--wrap=registry_perform_begin,--wrap=registry_perform_turn,--wrap=clock_gettime,--wrap=nanosleep,--wrap=sched_yield
-$(OUT)/deferred: c/tests/deferred.c c/tests/model.c c/tests/model.h c/src/waiting.c c/include/waiting.h
+$(OUT)/turns: LINK = -Wl,--wrap=registry_destroy,--wrap=registry_perform_begin,--wrap=registry_perform_turn,--wrap=clock_gettime,--wrap=nanosleep,--wrap=sched_yield \
+    -Wl,--wrap=registry_local_release,--wrap=registry_local_give_up,--wrap=pthread_mutex_lock,--wrap=pthread_mutex_unlock
+$(OUT)/deferred: c/tests/deferred.c c/tests/model.c c/tests/model.h
 $(OUT)/history: c/tests/history.c c/tests/model.c c/tests/model.h c/tests/wrapped_heap.h
 $(OUT)/history: LINK = $(WRAP)
 $(OUT)/planted: c/tests/planted.c c/tests/history.c c/tests/model.c c/tests/model.h c/tests/wrapped_heap.h
@@ -63,13 +74,15 @@ $(PROGRAMS:%=$(OUT)/%): c/examples/client.h c/examples/expect.h c/examples/edges
 	$(CC) $(STRICT) $(CPPFLAGS) $(CFLAGS) $(INCLUDES) $(LDFLAGS) -o $@ $(filter %.c,$^) $(ARCHIVE) -pthread $(LINK)
 
 # refuse has an allocator of its own, which the sanitizers' would fight.
-SANITIZED = smallest row packet shared storm misuse built walk usual entries names crowd forwarder device_switch
+SANITIZED = smallest row packet shared storm misuse built walk usual entries names crowd forwarder device_switch $(WAITING_SANITIZED)
+# The address sanitizer takes the stack of a cancelled thread for one in use.
+WAITING_SANITIZED = together reclaims lent
 
 sanitized: $(SANITIZED:%=$(OUT)/sanitized-%)
 
 $(SANITIZED:%=$(OUT)/sanitized-%): $(OUT)/sanitized-%: %.c
 
-$(OUT)/sanitized-shared $(OUT)/sanitized-forwarder $(OUT)/sanitized-device_switch: c/src/waiting.c
+$(addprefix $(OUT)/sanitized-,shared forwarder device_switch $(WAITING_SANITIZED)): c/src/waiting.c
 
 # What is C of the archive is compiled with the test that sees it. It comes first, so the archive's own isn't called.
 $(OUT)/sanitized-names: c/src/strings.c
@@ -86,7 +99,15 @@ checker_thread = -fsanitize=thread
 when_early = -DFREE_TOO_EARLY
 when_unperformed = -DFREE_BEFORE_PERFORMED
 
-stresses: $(STRESSES)
+# The edges of the archive are told to the thread sanitizer by the program. It knows no thread after a fork.
+RACED = together reclaims interrupted
+
+stresses: $(STRESSES) $(RACED:%=$(OUT)/raced-%)
+
+$(OUT)/raced-reclaims: LINK = $(reclaims_LINK)
+
+$(RACED:%=$(OUT)/raced-%): $(OUT)/raced-%: c/tests/%.c c/src/waiting.c c/include/waiting.h c/examples/edges.h c/examples/client.h c/examples/expect.h $(FACE) $(ARCHIVE) | $(OUT)
+	$(CC) $(STRICT) -O1 -g -fsanitize=thread $(INCLUDES) $(LDFLAGS) -o $@ $(filter %.c,$^) $(ARCHIVE) -pthread $(LINK)
 
 $(STRESSES): c/tests/heap_stress.c c/examples/edges.h c/examples/client.h c/examples/expect.h $(FACE) $(ARCHIVE) | $(OUT)
 	$(CC) $(STRICT) -O1 -g $(checker_$(word 2,$(subst -, ,$@))) $(when_$(word 3,$(subst -, ,$@))) $(INCLUDES) $(LDFLAGS) -o $@ $< $(ARCHIVE) -pthread
@@ -103,7 +124,8 @@ $(ORDERED:%=$(OUT)/ordered-%): $(OUT)/ordered-%: %.c c/tests/ordered.c c/example
 	    -Wl,--wrap=malloc,--wrap=free,--wrap=registry_open
 
 # What ends with status 0 where it finds nothing wrong, with the words that make it brief; and the names of the pages, plain.
-CHECKED = smallest packet shared misuse refuse built layout waits turns deferred history walk usual crowd forwarder device_switch
+CHECKED = smallest packet shared misuse refuse built layout turns $(OVER_WAITING) history walk usual crowd forwarder device_switch
+words_together = 20
 words_walk = 200
 words_usual = 50
 words_crowd = 50
@@ -136,7 +158,7 @@ $(NETBSD_CHECKED:%=check-netbsd-%): check-netbsd-%: netbsd-programs
 	$(RUN) ./$(OUT)/netbsd/plain/$*
 
 clean:
-	rm -f $(PROGRAMS:%=$(OUT)/%) $(SANITIZED:%=$(OUT)/sanitized-%) $(STRESSES) $(ORDERED:%=$(OUT)/ordered-%) $(OUT)/waiting.o $(OUT)/libkupaldiz*
+	rm -f $(PROGRAMS:%=$(OUT)/%) $(SANITIZED:%=$(OUT)/sanitized-%) $(STRESSES) $(RACED:%=$(OUT)/raced-%) $(ORDERED:%=$(OUT)/ordered-%) $(OUT)/waiting.o $(OUT)/libkupaldiz*
 	rm -rf $(OUT)/installed-netbsd $(OUT)/installed-bench
 
 .PHONY: all sanitized stresses ordered clean check check-row check-storm check-limits netbsd-programs $(CHECKED:%=check-%) $(NETBSD_CHECKED:%=check-netbsd-%)

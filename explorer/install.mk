@@ -3,7 +3,7 @@
 
 include explorer/parts.mk
 
-BENCH_SONAME = libkupaldiz_bench$(BUILD).so.$(MAJOR)
+BENCH_SONAME = libkupaldiz_bench$(BUILD).so.$(ABI)
 BENCH_SHARED = libkupaldiz_bench$(BUILD).so.$(VERSION)
 BENCH_FOLDER = $(OUT)/installed-bench
 BENCH_HEADERS = explorer/bench.h $(wildcard explorer/src/*.h netbsd/src/*.h) $(addprefix netbsd/include/,$(NETBSD_HEADERS)) $(FACE)

@@ -70,6 +70,17 @@ fill() {
     rm "$1.in"
 }
 
+# mend_links FOLDER: the headers lie in another folder there, and a link to what isn't there becomes its text.
+mend_links() {
+    local page link
+    find "$1" -name '*.md' | while read -r page; do
+        sed -i -E 's|\]\(((\.\./)*)crates/registry_c/include|](\1include|g' "$page"
+        { grep -oE '\]\([^):#]+[)#]' "$page" || true; } | sed 's/^..//; s/.$//' | sort -u | while read -r link; do
+            [ -e "$(dirname "$page")/$link" ] || sed -z -i -E "s|\[([^]]*)\]\($link(#[^)]*)?\)|\1|g" "$page"
+        done
+    done
+}
+
 # lay TO: the whole source.
 lay() {
     local to=$1
@@ -91,6 +102,7 @@ lay() {
     if [ -n "$(make -s licence)" ]; then
         sed -i "s|^# tools/make-release.sh writes the licence.*|license = \"$(make -s licence)\"|" "$to/rust/Cargo.toml"
     fi
+    mend_links "$to"
     find "$to" -name __pycache__ -prune -exec rm -rf {} +
 }
 

@@ -13,8 +13,8 @@ EXAMPLESDIR = $(DOCDIR)/examples
 # libkupaldiz_netbsd finds libkupaldiz beside it.
 PC_PREFIX = $(PREFIX)
 RUNPATH =
-# What follows the 3 in the file's name of each page that leads to another one: a distribution may set it, so that no other package has that file.
-MANSUFFIX =
+# What follows the 3 in the file's name of each page that leads to another one, as panic.3kupaldiz: no other package has that file.
+MANSUFFIX = kupaldiz
 # The licence, as SPDX names it. It is the owner's to choose: until then it is empty, and whoever makes a release is told so.
 LICENCE =
 INSTALL = install
@@ -35,12 +35,15 @@ CMAKEDIR = $(LIBDIR)/cmake/kupaldiz
 
 version_part = $(shell sed -n 's/^\#define REGISTRY_VERSION_$(1)[[:blank:]]*//p' $(HEADER)/registry.h)
 MAJOR := $(call version_part,MAJOR)
-VERSION := $(MAJOR).$(call version_part,MINOR).$(call version_part,PATCH)
-# The shared libraries of a build with other CPUs or slots have these in their names, as libkupaldiz-64x128.so.0: no program for another build starts with them.
+MINOR := $(call version_part,MINOR)
+VERSION := $(MAJOR).$(MINOR).$(call version_part,PATCH)
+# A minor version below 1.0 may change structs: it is in the sonames.
+ABI := $(MAJOR)$(if $(filter 0,$(MAJOR)),.$(MINOR))
+# The shared libraries of a build with other CPUs or slots have these in their names, as libkupaldiz-64x128.so.0.1: no program for another build starts with them.
 BUILD := $(shell sed -n 's/^\#define REGISTRY_BUILD[[:blank:]]*"\(.*\)"/\1/p' $(HEADER)/registry_limits.h)
-SONAME = libkupaldiz$(BUILD).so.$(MAJOR)
+SONAME = libkupaldiz$(BUILD).so.$(ABI)
 SHARED = libkupaldiz$(BUILD).so.$(VERSION)
-NETBSD_SONAME = libkupaldiz_netbsd$(BUILD).so.$(MAJOR)
+NETBSD_SONAME = libkupaldiz_netbsd$(BUILD).so.$(ABI)
 NETBSD_SHARED = libkupaldiz_netbsd$(BUILD).so.$(VERSION)
 
 # The headers of the pages' names: those that the pages name, in sys and net, and what these are made of. What the layer is built from.
@@ -132,7 +135,7 @@ install: library pages
 in_sed = $(subst \,\\,$(1))
 filled = umask 022; sed -e 's|@LIBDIR@|$(call in_sed,$(LIBDIR))|' -e 's|@INCLUDEDIR@|$(call in_sed,$(INCLUDEDIR))|' \
     -e 's|^\([a-z]*dir\)=$(call in_sed,$(PREFIX))/|\1=$${prefix}/|' -e 's|@PREFIX@|$(call in_sed,$(PC_PREFIX))|' \
-    -e 's|@VERSION@|$(VERSION)|' -e 's|@BUILD@|$(BUILD)|' -e 's|@MAJOR@|$(MAJOR)|' -e 's|@LICENCE@|$(LICENCE)|' $(if $(LICENCE),,-e '/^License: *$$/d')
+    -e 's|@VERSION@|$(VERSION)|' -e 's|@BUILD@|$(BUILD)|' -e 's|@ABI@|$(ABI)|' -e 's|@LICENCE@|$(LICENCE)|' $(if $(LICENCE),,-e '/^License: *$$/d')
 
 # What an older version with the same soname has left: nothing asks for it by its whole number.
 install: without_older

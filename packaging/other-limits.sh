@@ -88,7 +88,7 @@ forged() {
 
 # The shared libraries of another build have its limits in their names.
 has_soname() {
-    other_headers CPUS && make -s version soname HEADER="$room/CPUS" | grep -x "libkupaldiz-$(($(limit CPUS) + 1))x$(limit SLOTS).so.[0-9]*"
+    other_headers CPUS && make -s version soname HEADER="$room/CPUS" | grep -x "libkupaldiz-$(($(limit CPUS) + 1))x$(limit SLOTS)\.so\.[0-9.]*"
 }
 
 # library FOLDER WORDS..: a shared library of the archive, with these words too.

@@ -40,14 +40,19 @@ version() {
     version_of "$header"
 }
 
+# abi [VERSION]: what the sonames have of it: below 1.0 the minor version too.
+abi() {
+    sed -E 's/^(0\.[0-9]+|[1-9][0-9]*)\..*/\1/' <<<"${1:-$(version)}"
+}
+
 # runs NAME LINE: the program ends with status 0 and this line.
 runs() {
     [ "$(LD_LIBRARY_PATH=$stage$libdir "$room/$1")" = "$2" ]
 }
 
-# has_soname LIBRARY: the shared library names itself without the lesser numbers.
+# has_soname LIBRARY: the shared library names itself without the least number.
 has_soname() {
-    readelf -d "$stage$libdir/$1.so" | grep -F "Library soname: [$1.so.$(version | cut -d. -f1)]"
+    readelf -d "$stage$libdir/$1.so" | grep -F "Library soname: [$1.so.$(abi)]"
 }
 
 calls_of_headers() {
@@ -154,13 +159,13 @@ flags_are_taken() {
 
 # What is installed, except the manual pages: kind, mode, owner and path of each file, and where a link leads.
 wanted() {
-    local me major=${1%%.*} file library
-    me=$(id -un)
+    local me abi file library
+    me=$(id -un) abi=$(abi "$1")
     for library in libkupaldiz libkupaldiz_netbsd libkupaldiz_bench; do
         echo "f 644 $me $libdir/$library.a"
         echo "f 755 $me $libdir/$library.so.$1"
-        echo "l 777 $me $libdir/$library.so.$major -> $library.so.$1"
-        echo "l 777 $me $libdir/$library.so -> $library.so.$major"
+        echo "l 777 $me $libdir/$library.so.$abi -> $library.so.$1"
+        echo "l 777 $me $libdir/$library.so -> $library.so.$abi"
     done
     for file in "$libdir"/pkgconfig/kupaldiz{,-netbsd,-bench}.pc "$libdir"/cmake/kupaldiz/kupaldizConfig{,Version}.cmake \
         "$prefix"/include/kupaldiz/{registry,registry_limits,registry_waiting,bench}.h "$prefix"/share/doc/kupaldiz/{CHANGELOG,VERSIONS}.md; do
@@ -185,7 +190,7 @@ wanted_pages() {
         echo "${page##*/}"
         [ "${page%.3}" != "$page" ] || continue
         for name in $(sed -nE '/^\.Sh NAME/,/^\.Nd/s/^\.Nm ([A-Za-z_0-9]+).*/\1/p' "$page"); do
-            [ "$name.3" = "${page##*/}" ] || echo "$name.3 -> ${page##*/}"
+            [ "$name.3" = "${page##*/}" ] || echo "$name.3kupaldiz -> ${page##*/}"
         done
     done
 }

@@ -82,13 +82,7 @@ static void close_file(struct registry_cpu *cpu, struct registry_local *file)
 	struct softc *softc = softc_of(file);
 	EXPECT(softc->read(softc) >= 1);
 	BEFORE_LETTING_GO(softc);
-	uint32_t answer = registry_local_release(cpu, file);
-	if (answer == REGISTRY_COLLECTED) {
-		pthread_mutex_lock(&interlock);
-		answer = registry_local_give_up(&keeper, file);
-		pthread_mutex_unlock(&interlock);
-	}
-	DONE(answer);
+	DONE(registry_local_drop(cpu, file, &interlock, &keeper));
 }
 
 /* Opens the device, works with it, and closes a file that another thread opened. Without a driver it closes what is still open. */

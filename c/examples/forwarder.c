@@ -120,7 +120,7 @@ static bool change(unsigned which, bool is_live, struct registry_deferred *defer
 	uint32_t answer;
 	if (is_live) {
 		pthread_mutex_lock(&interlock);
-		answer = registry_deferred_detach(&keeper, cpu, REGISTRY_INTERFACE, &ports[which], deferred, &entry);
+		answer = registry_deferred_detach(deferred, cpu, REGISTRY_INTERFACE, &ports[which], &entry);
 		pthread_mutex_unlock(&interlock);
 		DONE(answer);
 		return true;
@@ -128,7 +128,7 @@ static bool change(unsigned which, bool is_live, struct registry_deferred *defer
 	entry.value = (uint64_t)(uintptr_t)make_port();
 	refer_to_driver(cpu, &local);
 	pthread_mutex_lock(&interlock);
-	answer = registry_deferred_attach_iface(&keeper, cpu, &local, &ports[which], entry.value, deferred, &entry);
+	answer = registry_deferred_attach_iface(deferred, cpu, &local, &ports[which], entry.value, &entry);
 	pthread_mutex_unlock(&interlock);
 	if (answer == REGISTRY_DONE)
 		return true;
@@ -191,12 +191,12 @@ int main(void)
 {
 	static struct worker forwarders[FORWARDERS];
 	uint64_t in_ports = 0;
-	struct registry_deferred deferred = {.freed = free_port, .of = &in_ports};
+	struct registry_deferred deferred = {.keeper = &keeper, .freed = free_port, .of = &in_ports};
 	open_all();
 	start_workers(forwarders, FORWARDERS, forward_all);
 	uint64_t changes = change_all(&deferred);
 	const struct tally packets = end_workers(forwarders, FORWARDERS);
-	DONE(registry_deferred_free(&keeper, &deferred, NULL));
+	DONE(registry_deferred_free(&deferred, NULL));
 	EXPECT(registry_deferred_count(&deferred) == 0 && packets.done == in_ports && packets.done > 0);
 	close_all();
 	printf("packets %" PRIu64 "\nno port %" PRIu64 "\nchanges %" PRIu64 "\n", packets.done, packets.missed, changes);

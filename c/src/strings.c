@@ -38,6 +38,7 @@ static const char *const TEXTS[] = {
 	[REGISTRY_NOT_BEGUN] = "the wait was never begun",
 	[REGISTRY_NULL] = "a pointer is null to something that the call needs",
 	[REGISTRY_OTHER_LIMITS] = "the program was compiled for other limits than the library has",
+	[REGISTRY_NO_CPU] = "every CPU is another thread's",
 };
 
 const char *registry_strerror(registry_answer answer)

@@ -40,7 +40,7 @@ static void note(void *of, const struct registry_entry *gone)
 	told.entries[told.count++] = *gone;
 }
 
-static struct registry_deferred list = {.freed = note, .of = &told};
+static struct registry_deferred list = {.keeper = &keeper, .freed = note, .of = &told};
 
 /* Whether the model's list has to let the entry go now: it is free, which is added to `freed`, or it was freed by others. */
 static bool is_over(const struct registry_entry *entry, struct told *freed)
@@ -83,7 +83,7 @@ static void attach(void)
 {
 	struct registry_entry made = {0}, wanted = {0};
 	const struct registry_name *name = &names[below(NAMES)];
-	uint32_t answer = registry_deferred_attach(&keeper, &cpus[1], name, 7, &list, &made);
+	uint32_t answer = registry_deferred_attach(&list, &cpus[1], name, 7, &made);
 	struct told freed = freed_first();
 	EXPECT(answer == model_attach(&model, 1, 0, name, 7, &wanted) && same_entries(&made, &wanted, 1));
 	expect_list(&freed);
@@ -107,7 +107,7 @@ static void attach_iface(void)
 	DONE(model_local_acquire(&model, 1, &same_number));
 	DONE(model_exit(&model, 1));
 	made = wanted = (struct registry_entry){0};
-	uint32_t answer = registry_deferred_attach_iface(&keeper, &cpus[1], &driver, name, 8, &list, &made);
+	uint32_t answer = registry_deferred_attach_iface(&list, &cpus[1], &driver, name, 8, &made);
 	struct told freed = freed_first();
 	EXPECT(number == same_number && answer == model_attach(&model, 1, number, name, 8, &wanted) && same_entries(&made, &wanted, 1));
 	expect_list(&freed);
@@ -122,7 +122,7 @@ static void detach(void)
 	struct registry_entry gone = {0}, wanted = {0};
 	uint64_t kind = below(2) ? REGISTRY_DRIVER : REGISTRY_INTERFACE;
 	const struct registry_name *name = &names[below(NAMES)];
-	uint32_t answer = registry_deferred_detach(&keeper, &cpus[1], kind, name, &list, &gone);
+	uint32_t answer = registry_deferred_detach(&list, &cpus[1], kind, name, &gone);
 	struct told freed = freed_first();
 	EXPECT(answer == model_detach(&model, 1, kind, name, &wanted) && same_entries(&gone, &wanted, 1));
 	if (answer == REGISTRY_DONE)
@@ -133,7 +133,7 @@ static void detach(void)
 static void free_all(void)
 {
 	size_t count = 99;
-	DONE(registry_deferred_free(&keeper, &list, &count));
+	DONE(registry_deferred_free(&list, &count));
 	struct told freed = freed_first();
 	EXPECT(count == freed.count);
 	expect_list(&freed);
@@ -197,7 +197,7 @@ static void fill_and_free(void)
 	enter();
 	for (unsigned i = 0; i < 2 * NAMES; i++) {
 		uint64_t kind = i < NAMES ? REGISTRY_DRIVER : REGISTRY_INTERFACE;
-		uint32_t answer = registry_deferred_detach(&keeper, &cpus[1], kind, &names[i % NAMES], &list, &gone);
+		uint32_t answer = registry_deferred_detach(&list, &cpus[1], kind, &names[i % NAMES], &gone);
 		struct told freed = freed_first();
 		EXPECT(answer == model_detach(&model, 1, kind, &names[i % NAMES], &gone));
 		if (answer == REGISTRY_DONE)

@@ -85,6 +85,8 @@ static void misuse_names(void)
 /* What registry_strerror says of a number if registry_text writes nothing for it. */
 static const char *string_alone(registry_answer answer)
 {
+	if (answer == REGISTRY_NO_CPU)
+		return "every CPU is another thread's";
 	return answer == REGISTRY_OTHER_LIMITS ? "the program was compiled for other limits than the library has" : "no call returns this";
 }
 

@@ -1,10 +1,11 @@
 /*
  * turns - each step that the waits of waiting.h make: which calls, in which order, how long they sleep, and that they stop where they should
  *
- * The linker leads the registry's calls, the clock, nanosleep and sched_yield here (--wrap), and pauses.h the pause instruction. The calls return what the
- * test says, time is the test's own, and each step leaves a letter: t and g the interlock taken and given up, d a destroy's turn, b and p a perform's
- * begin and turn, y a yield, s a sleep.
+ * The linker leads the registry's calls, the clock, nanosleep, sched_yield and a mutex's calls here (--wrap), and pauses.h the pause instruction. The calls
+ * return what the test says, time is the test's own, and each step leaves a letter: t and g the interlock taken and given up, d a destroy's turn, b and p
+ * a perform's begin and turn, y a yield, s a sleep, r a local reference's release and c its being given up, l and u a mutex locked and unlocked.
  */
+#include <errno.h>
 #include <pthread.h>
 #include <sched.h>
 #include <signal.h>
@@ -42,6 +43,16 @@ int __wrap_sched_yield(void);
 uint32_t __wrap_registry_destroy(struct registry_keeper *of, struct registry_cpu *on, uint64_t number, struct registry_stage *stage);
 uint32_t __wrap_registry_perform_begin(struct registry_keeper *of, struct registry_cpu *on, struct registry_wait *wait);
 uint32_t __wrap_registry_perform_turn(struct registry_keeper *of, struct registry_cpu *on, struct registry_wait *wait, uint64_t *waited);
+
+uint32_t __wrap_registry_local_release(struct registry_cpu *on, struct registry_local *of);
+uint32_t __wrap_registry_local_give_up(struct registry_keeper *of, struct registry_local *local);
+int __real_pthread_mutex_lock(pthread_mutex_t *mutex);
+int __real_pthread_mutex_unlock(pthread_mutex_t *mutex);
+int __wrap_pthread_mutex_lock(pthread_mutex_t *mutex);
+int __wrap_pthread_mutex_unlock(pthread_mutex_t *mutex);
+
+/* What locking and unlocking a mutex fail with, unless it is 0. */
+static int lock_error, unlock_error;
 
 /* Whether no step is kept: of a wait of very many turns only their number is. */
 static bool unkept;
@@ -107,6 +118,34 @@ uint32_t __wrap_registry_perform_turn(struct registry_keeper *of, struct registr
 	EXPECT(of == &keeper && on == &cpu && wait == seen.wait);
 	*waited = 3;
 	return turn('p');
+}
+
+static struct registry_local local;
+
+uint32_t __wrap_registry_local_release(struct registry_cpu *on, struct registry_local *of)
+{
+	EXPECT(on == &cpu && of == &local);
+	step('r');
+	return said.begun;
+}
+
+uint32_t __wrap_registry_local_give_up(struct registry_keeper *of, struct registry_local *given_up)
+{
+	EXPECT(of == &keeper && given_up == &local);
+	step('c');
+	return said.last;
+}
+
+int __wrap_pthread_mutex_lock(pthread_mutex_t *mutex)
+{
+	step('l');
+	return lock_error != 0 ? lock_error : __real_pthread_mutex_lock(mutex);
+}
+
+int __wrap_pthread_mutex_unlock(pthread_mutex_t *mutex)
+{
+	step('u');
+	return unlock_error != 0 ? unlock_error : __real_pthread_mutex_unlock(mutex);
 }
 
 static void take(void *of)
@@ -260,37 +299,106 @@ static void test_deadlines(void)
 	expect_sleeps(60 - SPINS - YIELDS, 0);
 }
 
-/* A child that takes the interlock so often and gives it up so often is aborted. */
-static void expect_abort(const struct registry_lock *of_mutex, unsigned takes, unsigned gives)
+/* A child that takes the interlock so often and gives it up so often is aborted, and says that this call failed so. */
+static void expect_abort(const struct registry_lock *of_mutex, unsigned takes, unsigned gives, const char *call, int error)
 {
-	int status;
+	int status, ends[2];
+	char wanted[200], said_last[200] = "";
+	snprintf(wanted, sizeof wanted, "registry: %s of the interlock: %s\n", call, strerror(error));
+	EXPECT(pipe(ends) == 0);
 	pid_t child = fork();
 	EXPECT(child >= 0);
 	if (child == 0) {
+		EXPECT(dup2(ends[1], STDERR_FILENO) >= 0);
 		while (takes-- > 0)
 			of_mutex->take(of_mutex->of);
 		while (gives-- > 0)
 			of_mutex->give(of_mutex->of);
 		_exit(0);
 	}
+	EXPECT(close(ends[1]) == 0 && read(ends[0], said_last, sizeof said_last - 1) > 0 && close(ends[0]) == 0);
+	EXPECT(strcmp(said_last, wanted) == 0);
 	EXPECT(waitpid(child, &status, 0) == child && WIFSIGNALED(status) && WTERMSIG(status) == SIGABRT);
+}
+
+/* Makes a mutex of this type, and its interlock. */
+static struct registry_lock make_mutex(pthread_mutex_t *mutex, int type, int robust)
+{
+	pthread_mutexattr_t kind;
+	EXPECT(pthread_mutexattr_init(&kind) == 0 && pthread_mutexattr_settype(&kind, type) == 0);
+	EXPECT(pthread_mutexattr_setrobust(&kind, robust) == 0);
+	EXPECT(pthread_mutex_init(mutex, &kind) == 0 && pthread_mutexattr_destroy(&kind) == 0);
+	return registry_lock_of_mutex(mutex);
 }
 
 /* The interlock of a mutex takes it and gives it up; one that refuses either aborts the program. */
 static void test_mutex(void)
 {
-	pthread_mutexattr_t kind;
 	pthread_mutex_t mutex;
-	EXPECT(pthread_mutexattr_init(&kind) == 0 && pthread_mutexattr_settype(&kind, PTHREAD_MUTEX_ERRORCHECK) == 0);
-	EXPECT(pthread_mutex_init(&mutex, &kind) == 0);
-	const struct registry_lock of_mutex = registry_lock_of_mutex(&mutex);
-	expect_abort(&of_mutex, 0, 1);
-	expect_abort(&of_mutex, 2, 0);
-	expect_abort(&of_mutex, 1, 2);
+	const struct registry_lock of_mutex = make_mutex(&mutex, PTHREAD_MUTEX_ERRORCHECK, PTHREAD_MUTEX_STALLED);
+	expect_abort(&of_mutex, 0, 1, "pthread_mutex_unlock", EPERM);
+	expect_abort(&of_mutex, 2, 0, "pthread_mutex_lock", EDEADLK);
+	expect_abort(&of_mutex, 1, 2, "pthread_mutex_unlock", EPERM);
 	of_mutex.take(of_mutex.of);
 	EXPECT(pthread_mutex_trylock(&mutex) != 0);
 	of_mutex.give(of_mutex.of);
 	EXPECT(pthread_mutex_trylock(&mutex) == 0 && pthread_mutex_unlock(&mutex) == 0);
+}
+
+/* Whatever a mutex fails with, the program is aborted. */
+static void test_errors(void)
+{
+	static const int errors[] = {EINVAL, EAGAIN, EDEADLK, EBUSY, EPERM, ETIMEDOUT, EOWNERDEAD, ENOTRECOVERABLE};
+	pthread_mutex_t mutex;
+	const struct registry_lock of_mutex = make_mutex(&mutex, PTHREAD_MUTEX_NORMAL, PTHREAD_MUTEX_STALLED);
+	for (unsigned i = 0; i < sizeof errors / sizeof *errors; i++) {
+		lock_error = errors[i];
+		expect_abort(&of_mutex, 1, 0, "pthread_mutex_lock", errors[i]);
+		lock_error = 0;
+		unlock_error = errors[i];
+		expect_abort(&of_mutex, 1, 1, "pthread_mutex_unlock", errors[i]);
+		unlock_error = 0;
+	}
+}
+
+static void *take_and_end(void *of_mutex)
+{
+	const struct registry_lock *taken = of_mutex;
+	taken->take(taken->of);
+	return NULL;
+}
+
+/* A recursive mutex nests. A robust one whose owner has ended with it aborts the program. */
+static void test_types(void)
+{
+	pthread_mutex_t mutex, robust;
+	pthread_t owner;
+	const struct registry_lock nests = make_mutex(&mutex, PTHREAD_MUTEX_RECURSIVE, PTHREAD_MUTEX_STALLED);
+	struct registry_lock dies = make_mutex(&robust, PTHREAD_MUTEX_NORMAL, PTHREAD_MUTEX_ROBUST);
+	for (unsigned i = 0; i < 3; i++)
+		nests.take(nests.of);
+	for (unsigned i = 0; i < 3; i++)
+		nests.give(nests.of);
+	expect_abort(&nests, 0, 1, "pthread_mutex_unlock", EPERM);
+	EXPECT(pthread_create(&owner, NULL, take_and_end, &dies) == 0 && pthread_join(owner, NULL) == 0);
+	expect_abort(&dies, 1, 0, "pthread_mutex_lock", EOWNERDEAD);
+}
+
+/* A drop that releases a local reference so makes these steps, and returns the result of the last one. */
+static void expect_drop(uint32_t released, uint32_t given_up, const char *steps)
+{
+	pthread_mutex_t mutex = PTHREAD_MUTEX_INITIALIZER;
+	say(released, REGISTRY_DONE, 0, given_up);
+	EXPECT(registry_local_drop(&cpu, &local, &mutex, &keeper) == (released == REGISTRY_COLLECTED ? given_up : released));
+	EXPECT(strcmp(seen.steps, steps) == 0);
+}
+
+static void test_drop(void)
+{
+	expect_drop(REGISTRY_DONE, REGISTRY_DONE, "r");
+	expect_drop(REGISTRY_EMPTY_HANDLE, REGISTRY_DONE, "r");
+	expect_drop(REGISTRY_COLLECTED, REGISTRY_DONE, "rlcu");
+	expect_drop(REGISTRY_COLLECTED, REGISTRY_EMPTY_HANDLE, "rlcu");
 }
 
 int main(void)
@@ -300,6 +408,9 @@ int main(void)
 	test_deadlines();
 	test_many_turns();
 	test_mutex();
+	test_errors();
+	test_types();
+	test_drop();
 	puts("turns end");
 	return 0;
 }

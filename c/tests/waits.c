@@ -1,5 +1,5 @@
 /*
- * waits - the calls of waiting.h: they wait for a reader, give up at their deadline, and never sleep under the interlock; the list frees in order
+ * waits - the calls of waiting.h: they wait for a reader, give up at their deadline, and never sleep under the interlock
  *
  * The linker leads nanosleep and sched_yield here (--wrap), so that a sleep under the interlock is seen.
  */
@@ -195,85 +195,31 @@ static void test_perform(void)
 	EXPECT(takes() == 1);
 }
 
-/* What the list has freed, in its order. */
-struct freed {
-	unsigned count;
-	uint64_t values[8];
-};
-
-static void note(void *of, const struct registry_entry *gone)
-{
-	struct freed *freed = of;
-	freed->values[freed->count++] = gone->value;
-}
-
-/* Attaches drivers a, b, .. whose values are 1, 2, .., and refers passively to the second. */
-static uint64_t attach_some(struct registry_deferred *deferred, struct registry_name *names, unsigned count)
-{
-	struct registry_entry entry;
-	uint64_t number;
-	for (unsigned i = 0; i < count; i++) {
-		const char text[] = {(char)('a' + i), 0};
-		names[i] = name_of(text);
-		DONE(registry_deferred_attach(&keeper, &cpus[1], &names[i], i + 1, deferred, &entry));
-	}
-	DONE(registry_enter(&cpus[0]));
-	DONE(registry_find(&cpus[0], REGISTRY_DRIVER, &names[1], &entry));
-	DONE(registry_acquire(&cpus[0], &number));
-	DONE(registry_exit(&cpus[0]));
-	return number;
-}
-
-/* What is held waits on the list, and those behind it are freed before it, in their order; an attach frees what it can at first. */
-static void test_deferred(void)
-{
-	struct freed seen = {0};
-	struct registry_deferred deferred = {.freed = note, .of = &seen};
-	struct registry_name names[4];
-	struct registry_entry entry;
-	size_t freed = 9;
-	uint64_t held = attach_some(&deferred, names, 4);
-	EXPECT(registry_deferred_detach(&keeper, &cpus[1], REGISTRY_DRIVER, &wm, &deferred, &entry) == REGISTRY_NOT_FOUND);
-	EXPECT(registry_deferred_count(&deferred) == 0);
-	DONE(registry_enter(&cpus[0]));
-	for (unsigned i = 0; i < 3; i++)
-		DONE(registry_deferred_detach(&keeper, &cpus[1], REGISTRY_DRIVER, &names[i], &deferred, &entry));
-	EXPECT(registry_deferred_count(&deferred) == 3 && seen.count == 0);
-	EXPECT(registry_deferred_attach(&keeper, &cpus[1], &wm, 9, &deferred, &entry) == REGISTRY_NO_SLOT);
-	DONE(registry_exit(&cpus[0]));
-	DONE(registry_deferred_free(&keeper, &deferred, &freed));
-	EXPECT(freed == 2 && seen.count == 2 && seen.values[0] == 1 && seen.values[1] == 3);
-	EXPECT(registry_deferred_count(&deferred) == 1);
-	DONE(registry_release(&cpus[0], held));
-	DONE(registry_deferred_detach(&keeper, &cpus[1], REGISTRY_DRIVER, &names[3], &deferred, &entry));
-	EXPECT(seen.count == 3 && seen.values[2] == 2 && registry_deferred_count(&deferred) == 1);
-	DONE(registry_deferred_attach(&keeper, &cpus[1], &wm, 9, &deferred, &entry));
-	EXPECT(seen.count == 4 && seen.values[3] == 4 && registry_deferred_count(&deferred) == 0);
-	detach_wm();
-}
-
 static void test_empty(void)
 {
 	struct registry_keeper none = {0};
-	struct registry_deferred deferred = {.count = 0};
+	struct registry_deferred deferred = {.keeper = &none};
 	struct registry_stage met;
 	size_t freed;
 	uint64_t waited;
 	EXPECT(registry_destroy_wait(&lock, &none, &cpus[1], 1, NULL, &met) == REGISTRY_EMPTY_HANDLE && takes() == 1);
 	EXPECT(registry_perform_wait(&lock, &none, &cpus[1], NULL, &waited) == REGISTRY_EMPTY_HANDLE && takes() == 1);
-	EXPECT(registry_deferred_free(&none, &deferred, &freed) == REGISTRY_EMPTY_HANDLE);
+	EXPECT(registry_deferred_free(&deferred, &freed) == REGISTRY_EMPTY_HANDLE);
+	EXPECT(registry_deferred_barrier(&lock, &deferred, NULL) == REGISTRY_EMPTY_HANDLE && takes() == 1);
+	deferred.keeper = NULL;
+	EXPECT(registry_deferred_free(&deferred, &freed) == REGISTRY_EMPTY_HANDLE);
 }
 
 /* What the calls say isn't wanted. */
 static void test_nulls(void)
 {
-	struct registry_deferred deferred = {.count = 0};
+	struct registry_deferred deferred = {.keeper = &keeper};
 	uint64_t number = attached(&wm);
 	size_t freed = 9;
-	EXPECT(registry_deferred_detach(&keeper, &cpus[1], REGISTRY_DRIVER, NULL, &deferred, NULL) == REGISTRY_NULL && deferred.count == 0);
-	DONE(registry_deferred_detach(&keeper, &cpus[1], REGISTRY_DRIVER, &wm, &deferred, NULL));
+	EXPECT(registry_deferred_detach(&deferred, &cpus[1], REGISTRY_DRIVER, NULL, NULL) == REGISTRY_NULL && deferred.count == 0);
+	DONE(registry_deferred_detach(&deferred, &cpus[1], REGISTRY_DRIVER, &wm, NULL));
 	EXPECT(deferred.count == 1 && deferred.entries[0].number == number);
-	DONE(registry_deferred_free(&keeper, &deferred, &freed));
+	DONE(registry_deferred_free(&deferred, &freed));
 	EXPECT(freed == 1 && deferred.count == 0);
 	number = attached(&wm);
 	enter_and_find(&cpus[0]);
@@ -295,7 +241,6 @@ int main(void)
 	test_destroy_waits();
 	test_destroy_deadline();
 	test_perform();
-	test_deferred();
 	test_empty();
 	test_nulls();
 	DONE(registry_close_cpu(&cpus[0]));

@@ -13,7 +13,7 @@ BASICS = ("sh bash echo env python3 git make ar awk basename cat chmod cp cut da
 COMMANDS = {"gcc": "gcc", "pkg-config": "pkg-config", "cargo": "cargo", "dpkg-buildpackage": "dpkg-dev", "dh": "debhelper", "lintian": "lintian"}
 DOES_NOTHING = "#!/bin/sh\n"
 CARGO = '#!/bin/sh\nmkdir -p "$CARGO_TARGET_DIR/package" && echo crate >"$CARGO_TARGET_DIR/package/kupaldiz-0.1.0.crate"\n'
-PACKAGES = "#!/bin/sh\necho deb >../libkupaldiz0.deb && echo changes >../kupaldiz.changes\n"
+PACKAGES = "#!/bin/sh\necho deb >../libkupaldiz0.1.deb && echo changes >../kupaldiz.changes\n"
 PARTS = ("heap", "composed", "strings", "limits")
 # tools/proof-record.py and what it takes.
 RECORDS = ("proof-record.py", "chosen.py", "limits.py", "kit.py")
@@ -276,21 +276,30 @@ def without(name, *words):
     return ["sh", "-c", f'rm few/{name}; export PATH=$PWD/few; shift; exec "$@"', "sh", "sh", *refused(*words)]
 
 
+# Ends with status 1 if a page below laid/ links to what isn't there. A text may go from line to line.
+FOLLOWS = """import pathlib, re, sys
+links = [(page, it) for page in pathlib.Path("laid").rglob("*.md") for it in re.findall(r"\\]\\(([^):#]+)[)#]", page.read_text())]
+sys.exit(any(not (page.parent / it).exists() for page, it in links))
+"""
+
+
 def laid():
     """What the scripts of packaging/ say of bad input; the source of a release is laid out whole, or not at all."""
     tree = real("Makefile", "packaging/*.*", "c/programs.mk", "explorer/*.mk", "packaging/debian/*.in", "docs/C.md",
                 "c/examples/client.h", "netbsd/netbsd.map", "explorer/bench.h", "c/examples/Makefile", "man/registry.3",
-                "rust/*.*", "rust/*/packet.rs", "rust/*/lib.rs", "rust/tests/face.rs", "crates/registry_c/include/registry.h",
+                "rust/*.*", "rust/*/packet.rs", "rust/*/lib.rs", "rust/tests/face.rs", "crates/registry_c/include/*.h",
                 "examples/retire-under-section.*")
+    tree["follows.py"] = FOLLOWS
     tree["try"] = """#!/bin/sh
 sed -i 's/^LICENCE =.*/LICENCE = MIT/' packaging/install.mk
 packaging/dist.sh --lay "$PWD/laid" && [ -f laid/archive/x86_64/libregistry.proved ] && grep -qx 'License: MIT' laid/debian/copyright &&
-    grep -qx 'license = "MIT"' laid/rust/Cargo.toml && head -n 1 laid/debian/changelog | grep -q '^kupaldiz ([0-9.]*-1)'
+    grep -qx 'license = "MIT"' laid/rust/Cargo.toml && head -n 1 laid/debian/changelog | grep -q '^kupaldiz ([0-9.]*-1)' && python3 follows.py
 """
     script = "packaging/dist.sh"
     faults = [Fault(f"{name}.sh without words", f"usage: {name}.sh", command=refused(f"packaging/{name}.sh")) for name in ("pack", "symbols", "examples", "calls-of")]
     faults += [
         Fault("a licence that is lost", "NONE", (("packaging/dist.sh", "@LICENCE@", "@NONE@"),), command=["sh", "-c", "./try || { echo NONE; exit 1; }"]),
+        Fault("a link to what isn't there", "DEAD", (("packaging/dist.sh", '    mend_links "$to"', "    :"),), command=["sh", "-c", "./try || { echo DEAD; exit 1; }"]),
         Fault("no archive", "there is no out/libregistry.a: tools/build-archive.sh", command=["sh", "-c", 'rm out/*.a; exec "$@"', "sh", *refused(script, "out")]),
         Fault("no record", "there is no out/libregistry.proved", command=["sh", "-c", 'rm out/*.proved; exec "$@"', "sh", *refused(script, "out")]),
         Fault("no record of another processor", "tools/build-archive.sh --for aarch64 writes it",
@@ -302,7 +311,7 @@ packaging/dist.sh --lay "$PWD/laid" && [ -f laid/archive/x86_64/libregistry.prov
         Fault("no xz", "dist: there is no xz: apt-get install xz-utils", command=without("xz", script, "out")),
         Fault("nothing to pack", "there is no folder ./none", command=refused("packaging/pack.sh", ".", "none", "0")),
         Fault("no xz to pack with", "pack: there is no xz: apt-get install xz-utils", command=without("xz", "packaging/pack.sh", ".", "rust", "0")),
-        Fault("no library to compare", "make library builds the libraries", command=refused("packaging/symbols.sh", "crates/registry_c/include", "out", "0.1.0")),
+        Fault("no library to compare", "make library builds the libraries", command=refused("packaging/symbols.sh", "crates/registry_c/include", "out", "", "0.1.0")),
         Fault("nothing that is installed", "make install with the same words puts it there", command=refused("env", "CC=sh", "packaging/installcheck.sh", "/none", "0.1.0")),
         Fault("no compiler for what is installed", "there is no none: apt-get install", command=refused("env", "CC=none", "packaging/installcheck.sh", "/none", "0.1.0")),
         Fault("no compiler", "there is no compiler none: apt-get install gcc", command=refused("make", "-s", "CC=none", "library")),
@@ -329,4 +338,4 @@ def proving():
 
 
 def cases():
-    return [making(), building(), building_other(), trying()]
+    return [making(), building(), building_other(), trying(), laid(), installing(), proving()]

@@ -45,7 +45,7 @@
  *
  * - REGISTRY_INSIDE, if it is inside: registry_close_cpu, registry_close, registry_attach, registry_attach_iface, registry_detach, registry_destroy,
  *   registry_perform_begin, registry_perform_turn, registry_destroy_wait, registry_perform_wait, registry_deferred_detach, registry_deferred_attach,
- *   registry_deferred_attach_iface.
+ *   registry_deferred_attach_iface, registry_thread_unregister.
  * - REGISTRY_OUTSIDE, if it is outside: registry_exit, registry_find, registry_walk, registry_acquire_entry.
  * - REGISTRY_NOTHING_FOUND, if it is outside, since the exit cleared the last found entry: registry_acquire, registry_local_acquire.
  *
@@ -144,6 +144,11 @@
 
 #include "registry_limits.h"
 
+/* The library's words are of 64 bits, the lowest byte first, and pointers are words. */
+#if UINTPTR_MAX != UINT64_MAX || (defined(__BYTE_ORDER__) && __BYTE_ORDER__ != __ORDER_LITTLE_ENDIAN__)
+#error "registry.h is for x86-64 and aarch64: this target has pointers of other than 64 bits, or the highest byte first"
+#endif
+
 #ifdef __cplusplus
 extern "C" {
 #endif
@@ -207,7 +212,8 @@ enum {
 	REGISTRY_NO_ROOM = 75,		/* the list is too short for the result. */
 	REGISTRY_NOT_BEGUN = 76,	/* the wait was never begun. */
 	REGISTRY_NULL = 77,		/* a pointer to something that the call needs is NULL. */
-	REGISTRY_OTHER_LIMITS = 78	/* the program was compiled for other limits than the library's. */
+	REGISTRY_OTHER_LIMITS = 78,	/* the program was compiled for other limits than the library's. */
+	REGISTRY_NO_CPU = 79		/* every CPU is another thread's. Only registry_thread_register returns it. */
 };
 
 /* What an entry is. */
@@ -337,8 +343,8 @@ size_t registry_text(registry_answer answer, char *text, size_t room);
 /*
  * registry_strerror - the English text of a result, as a string that is never freed
  *
- * It is the text of registry_text. It is never NULL, and never written to. REGISTRY_OTHER_LIMITS has a text here alone. For any other number it is
- * "no call returns this". It is C: tested, not proved.
+ * It is the text of registry_text. It is never NULL, and never written to. REGISTRY_OTHER_LIMITS and REGISTRY_NO_CPU have a text here alone. For
+ * any other number it is "no call returns this". It is C: tested, not proved.
  */
 const char *registry_strerror(registry_answer answer);
 

@@ -27,7 +27,7 @@ printf '[package]\nname = "mine"\nversion = "0.0.0"\nedition = "2021"\n[dependen
 cp "/usr/share/cargo/registry/kupaldiz-$VERSION/examples/packet.rs" "$room/mine/src/main.rs"
 (cd "$room/mine" && cargo run --offline)
 echo "done: a program over librust-kupaldiz-dev"
-apt-get purge -y libkupaldiz0 libkupaldiz-dev kupaldiz-tools librust-kupaldiz-dev
+apt-get purge -y libkupaldiz0.1 libkupaldiz-dev kupaldiz-tools librust-kupaldiz-dev
 files >"$room/after"
 diff "$room/before" "$room/after"
 if dpkg -l | grep kupaldiz; then exit 1; fi

@@ -1,0 +1,312 @@
+/*
+ * together [ROUNDS] - many threads wait at once: in two registries, each with a keeper and a mutex of its own, for each type of mutex
+ *
+ * A registry has four changers. Two let an entry come and go by registry_destroy_wait, one puts objects behind a pointer by registry_perform_wait, and one
+ * detaches to a list, which a reclaimer frees. Three readers use the objects of both registries at once, in sections of both or by references. Objects lie on
+ * the heap, and are spoilt and freed as soon as the wait says so. Each pair of waits is seen between its turns at the same time.
+ */
+#include <pthread.h>
+#include <stdatomic.h>
+
+#include "client.h"
+#include "edges.h"
+#include "waiting.h"
+
+enum { REGISTRIES = 2, READERS = 3, DESTROYERS = 2, PERFORMER = DESTROYERS, DEFERRER, CHANGERS, CPUS = READERS + CHANGERS, WORDS = 8, PATIENCE = 20, MOST = 100 };
+
+struct object {
+	uint64_t words[WORDS];
+};
+
+struct world {
+	struct registry_keeper keeper;
+	struct registry_cpu cpus[CPUS];
+	pthread_mutex_t mutex;
+	struct registry_lock lock;
+	struct registry_deferred deferred;
+	_Atomic(struct object *) current;	/* behind no entry */
+};
+
+/* A changer of a registry. */
+struct changer {
+	struct world *world;
+	unsigned which;
+	pthread_t thread;
+};
+
+static struct world worlds[REGISTRIES];
+static struct registry_name names[CHANGERS];
+static unsigned long rounds;
+static atomic_bool over;
+static atomic_uint freed, uses;
+/* Which changers are between two turns of a wait, a bit for each of both registries, and which were so with which others. */
+static atomic_uint waiting, together[REGISTRIES * CHANGERS];
+static _Thread_local unsigned self;
+static _Thread_local bool waits;
+static _Thread_local unsigned turns;
+
+/* Notes who waits with whom: a wait that takes the interlock again isn't over. */
+static void take(void *of)
+{
+	if (waits && turns++ > 0)
+		atomic_fetch_or(&together[self], atomic_fetch_or(&waiting, 1U << self));
+	EXPECT(pthread_mutex_lock(of) == 0);
+}
+
+static void give(void *of)
+{
+	EXPECT(pthread_mutex_unlock(of) == 0);
+}
+
+static void begin_wait(void)
+{
+	waits = true;
+	turns = 0;
+}
+
+static void end_wait(void)
+{
+	waits = false;
+	atomic_fetch_and(&waiting, ~(1U << self));
+}
+
+static struct object *make_object(void)
+{
+	struct object *object = malloc(sizeof *object);
+	EXPECT(object != NULL);
+	for (unsigned i = 0; i < WORDS; i++)
+		object->words[i] = (uintptr_t)object;
+	BEFORE_ATTACH(object);
+	return object;
+}
+
+static void free_object(struct object *object)
+{
+	AFTER_FREED(object);
+	memset(object, 0xdb, sizeof *object);
+	free(object);
+	atomic_fetch_add(&freed, 1);
+}
+
+static void look_at(const struct object *object)
+{
+	for (unsigned i = 0; i < WORDS; i++)
+		EXPECT(object->words[i] == (uintptr_t)object);
+}
+
+/* Uses an object, and again once some object was freed, or after a while. */
+static void use(struct object *object)
+{
+	unsigned before = atomic_load_explicit(&freed, memory_order_relaxed);
+	AFTER_FIND(object);
+	look_at(object);
+	for (unsigned i = 0; i < PATIENCE && before == atomic_load_explicit(&freed, memory_order_relaxed); i++)
+		rest();
+	look_at(object);
+	BEFORE_LETTING_GO(object);
+	atomic_fetch_add(&uses, 1);
+}
+
+static struct object *object_of(const struct registry_entry *entry)
+{
+	return (struct object *)(uintptr_t)entry->value;
+}
+
+/* ---- Readers. ---- */
+
+static void read_passively(struct world *world, struct registry_cpu *cpu, const struct registry_name *name)
+{
+	struct registry_entry found;
+	(void)world;
+	if (registry_get(cpu, REGISTRY_DRIVER, name, &found) != REGISTRY_DONE)
+		return;
+	use(object_of(&found));
+	DONE(registry_release(cpu, found.number));
+}
+
+static void read_locally(struct world *world, struct registry_cpu *cpu, const struct registry_name *name)
+{
+	struct registry_entry found;
+	struct registry_local local = {0};
+	if (registry_enter_find(cpu, REGISTRY_DRIVER, name, &found) != REGISTRY_DONE)
+		return;
+	DONE(registry_local_acquire(cpu, &local));
+	DONE(registry_exit(cpu));
+	use(object_of(&found));
+	DONE(registry_local_drop(cpu, &local, &world->mutex, &world->keeper));
+}
+
+static void read_inside(struct world *world, struct registry_cpu *cpu, const struct registry_name *name)
+{
+	struct registry_entry found;
+	DONE(registry_enter(cpu));
+	if (registry_find(cpu, REGISTRY_DRIVER, name, &found) == REGISTRY_DONE)
+		use(object_of(&found));
+	use(atomic_load(&world->current));
+	DONE(registry_exit(cpu));
+}
+
+/* In sections of both registries at once, and in each registry in turn. */
+static void *read_all(void *of)
+{
+	static void (*const ways[])(struct world *, struct registry_cpu *, const struct registry_name *) = {read_inside, read_passively, read_locally};
+	unsigned reader = (unsigned)(uintptr_t)of;
+	for (unsigned i = reader; !atomic_load(&over); i++) {
+		struct world *one = &worlds[i % REGISTRIES], *other = &worlds[(i + 1) % REGISTRIES];
+		DONE(registry_enter(&other->cpus[reader]));
+		ways[i % 3](one, &one->cpus[reader], &names[i % CHANGERS]);
+		use(atomic_load(&other->current));
+		DONE(registry_exit(&other->cpus[reader]));
+		rest();
+	}
+	return NULL;
+}
+
+/* ---- Changers. ---- */
+
+static struct registry_entry attach(struct world *world, unsigned which)
+{
+	struct registry_entry made;
+	take(&world->mutex);
+	DONE(registry_attach(&world->keeper, &world->cpus[READERS + which], &names[which], (uintptr_t)make_object(), &made));
+	give(&world->mutex);
+	return made;
+}
+
+static void change_by_destroy(struct world *world, unsigned which)
+{
+	struct registry_cpu *cpu = &world->cpus[READERS + which];
+	struct registry_entry entry = attach(world, which);
+	rest();
+	take(&world->mutex);
+	DONE(registry_detach(&world->keeper, cpu, REGISTRY_DRIVER, &names[which], NULL));
+	give(&world->mutex);
+	begin_wait();
+	DONE(registry_destroy_wait(&world->lock, &world->keeper, cpu, entry.number, NULL, NULL));
+	end_wait();
+	free_object(object_of(&entry));
+}
+
+static void change_by_perform(struct world *world, unsigned which)
+{
+	struct object *before = atomic_exchange(&world->current, make_object());
+	begin_wait();
+	DONE(registry_perform_wait(&world->lock, &world->keeper, &world->cpus[READERS + which], NULL, NULL));
+	end_wait();
+	free_object(before);
+}
+
+static void change_by_list(struct world *world, unsigned which)
+{
+	attach(world, which);
+	rest();
+	take(&world->mutex);
+	DONE(registry_deferred_detach(&world->deferred, &world->cpus[READERS + which], REGISTRY_DRIVER, &names[which], NULL));
+	give(&world->mutex);
+	begin_wait();
+	DONE(registry_deferred_barrier(&world->lock, &world->deferred, NULL));
+	end_wait();
+}
+
+static void *change(void *of)
+{
+	static void (*const ways[])(struct world *, unsigned) = {change_by_destroy, change_by_destroy, change_by_perform, change_by_list};
+	const struct changer *changer = of;
+	self = (unsigned)(changer->world - worlds) * CHANGERS + changer->which;
+	for (unsigned long i = 0; i < rounds; i++)
+		ways[changer->which](changer->world, changer->which);
+	return NULL;
+}
+
+/* The list's: under the interlock, by whichever thread frees. */
+static void free_of(void *of, const struct registry_entry *gone)
+{
+	EXPECT(of == &freed);
+	free_object(object_of(gone));
+}
+
+/* ---- All of them. ---- */
+
+static void open_world(struct world *world, const pthread_mutexattr_t *type)
+{
+	const struct registry_settings settings = {
+	    CPUS, REGISTRY_MOST_SLOTS, REGISTRY_MOST_CHANGES, REGISTRY_MOST_SECTIONS, REGISTRY_MOST_COUNT, REGISTRY_MOST_COUNT};
+	DONE(registry_open(&settings, &world->keeper, world->cpus, CPUS));
+	EXPECT(pthread_mutex_init(&world->mutex, type) == 0);
+	world->lock = (struct registry_lock){take, give, &world->mutex};
+	world->deferred = (struct registry_deferred){.keeper = &world->keeper, .freed = free_of, .of = &freed};
+	atomic_store(&world->current, make_object());
+	DONE(registry_reclaimer_start(&world->lock, &world->deferred));
+}
+
+static void close_world(struct world *world)
+{
+	DONE(registry_reclaimer_stop(&world->lock, &world->deferred));
+	EXPECT(registry_deferred_count(&world->deferred) == 0);
+	DONE(registry_close(world->cpus, CPUS, &world->keeper));
+	free_object(atomic_load(&world->current));
+	EXPECT(pthread_mutex_destroy(&world->mutex) == 0);
+}
+
+static void run_threads(void)
+{
+	pthread_t readers[READERS];
+	struct changer changers[REGISTRIES * CHANGERS];
+	for (uintptr_t i = 0; i < READERS; i++)
+		EXPECT(pthread_create(&readers[i], NULL, read_all, (void *)i) == 0);
+	for (unsigned i = 0; i < REGISTRIES * CHANGERS; i++) {
+		changers[i] = (struct changer){&worlds[i / CHANGERS], i % CHANGERS, 0};
+		EXPECT(pthread_create(&changers[i].thread, NULL, change, &changers[i]) == 0);
+	}
+	for (unsigned i = 0; i < REGISTRIES * CHANGERS; i++)
+		EXPECT(pthread_join(changers[i].thread, NULL) == 0);
+	atomic_store(&over, true);
+	for (unsigned i = 0; i < READERS; i++)
+		EXPECT(pthread_join(readers[i], NULL) == 0);
+}
+
+/* All threads over two registries whose mutexes are of this type. Each object is freed once. */
+static void test_mutexes(int type, int robust)
+{
+	pthread_mutexattr_t attributes;
+	EXPECT(pthread_mutexattr_init(&attributes) == 0 && pthread_mutexattr_settype(&attributes, type) == 0);
+	EXPECT(pthread_mutexattr_setrobust(&attributes, robust) == 0);
+	atomic_store(&over, false);
+	atomic_store(&freed, 0);
+	for (unsigned i = 0; i < REGISTRIES; i++)
+		open_world(&worlds[i], &attributes);
+	run_threads();
+	for (unsigned i = 0; i < REGISTRIES; i++)
+		close_world(&worlds[i]);
+	EXPECT(atomic_load(&freed) == REGISTRIES * (CHANGERS * rounds + 1) && atomic_load(&uses) > 0);
+	EXPECT(pthread_mutexattr_destroy(&attributes) == 0);
+}
+
+/* Whether each changer has waited together with each other one, of its own registry and of the other. */
+static bool all_waited_together(void)
+{
+	unsigned pairs = 0;
+	for (unsigned pair = 0; pair < REGISTRIES * CHANGERS * REGISTRIES * CHANGERS; pair++) {
+		unsigned one = pair / (REGISTRIES * CHANGERS), other = pair % (REGISTRIES * CHANGERS);
+		pairs += one != other && (atomic_load(&together[one]) >> other | atomic_load(&together[other]) >> one) & 1;
+	}
+	return pairs == REGISTRIES * CHANGERS * (REGISTRIES * CHANGERS - 1);
+}
+
+int main(int argc, char **argv)
+{
+	rounds = argc > 1 ? strtoul(argv[1], NULL, 10) : 200;
+	for (unsigned i = 0; i < CHANGERS; i++) {
+		const char text[] = {(char)('a' + i), 0};
+		names[i] = name_of(text);
+	}
+	test_mutexes(PTHREAD_MUTEX_NORMAL, PTHREAD_MUTEX_STALLED);
+	test_mutexes(PTHREAD_MUTEX_RECURSIVE, PTHREAD_MUTEX_STALLED);
+	test_mutexes(PTHREAD_MUTEX_ERRORCHECK, PTHREAD_MUTEX_STALLED);
+	test_mutexes(PTHREAD_MUTEX_ERRORCHECK, PTHREAD_MUTEX_ROBUST);
+	for (unsigned i = 0; i < MOST && !all_waited_together(); i++)
+		test_mutexes(PTHREAD_MUTEX_NORMAL, PTHREAD_MUTEX_STALLED);
+	EXPECT(all_waited_together());
+	puts("together end");
+	return 0;
+}
