@@ -174,30 +174,17 @@ static void test_spent(void)
 
 static char acquires_full[160], copies_full[160];
 
-static void copy_one_more(void)
-{
-	struct psref copy;
-	fill(counted);
-	psref_copy(&copy, &counted[0], things);
-}
-
-static void acquire_one_more(void)
-{
-	struct psref psref;
-	fill(counted);
-	fill(elsewhere);
-	psref_acquire(&psref, &target, things);
-}
+STOPS(copies_full, struct psref copy; fill(counted); psref_copy(&copy, &counted[0], things))
+STOPS(acquires_full, struct psref psref; fill(counted); fill(elsewhere); psref_acquire(&psref, &target, things))
 
 static void test_stops(void)
 {
-	static const struct stop_case cases[] = {{acquire_one_more, acquires_full}, {copy_one_more, copies_full}};
 	char text[128];
 	registry_text(REGISTRY_PASSIVE_FULL, text, sizeof(text));
 	snprintf(acquires_full, sizeof(acquires_full), "psref_acquire: %s, at PLACE", text);
 	snprintf(copies_full, sizeof(copies_full), "psref_copy: %s, at PLACE", text);
-	for (unsigned at = 0; at < sizeof(cases) / sizeof(cases[0]); at++)
-		EXPECT(is_stopped(begin, &cases[at]));
+	judge_cases(begin);
+	EXPECT(failed == 0);
 }
 
 int main(void)

@@ -143,58 +143,24 @@ static void destroy_beside(struct holder *holders, unsigned count)
 
 /* ---- The cases. ---- */
 
-static void on_first(void)
-{
-	struct holder holders[] = {{"first", 0, true, true, FREES, 0}};
-	looked_at = 0;
-	destroy_beside(holders, 1);
-}
+#define BESIDE(...) \
+	struct holder holders[] = {__VA_ARGS__}; \
+	destroy_beside(holders, sizeof(holders) / sizeof(holders[0]))
+#define HOLDS_ONE(cpu, name)	"psref_target_destroy: waits for CPU " cpu ", whose thread \"" name "\" holds one reference, acquired at PLACE"
 
+WAITS(HOLDS_ONE("0", "first"), looked_at = 0; BESIDE({"first", 0, true, true, FREES, 0}))
 /* A CPU before it is another thread's all the time. */
-static void on_last(void)
-{
-	struct holder holders[] = {{"last", LAST, true, true, FREES, 0}, {"keeper", 0, false, false, KEEPS, 0}};
-	looked_at = LAST;
-	destroy_beside(holders, 2);
-}
-
-/* Whoever has the reference has its CPU, too. */
-static void on_kept(void)
-{
-	struct holder holders[] = {{"kept", 3, true, false, KEEPS, 0}, {"other", 4, true, false, FREES, 0}};
-	destroy_beside(holders, 2);
-}
-
-static void elsewhere_on_kept(void)
-{
-	struct holder holders[] = {{"kept", 3, true, true, KEEPS, 0}};
-	destroy_beside(holders, 1);
-}
-
-/* The CPU is free at the second look. */
-static void on_let_go(void)
-{
-	struct holder holders[] = {{"lets_go", 3, true, false, LETS_GO, 0}};
-	looked_at = 3;
-	destroy_beside(holders, 1);
-}
-
 static char of_last[160];
-
-static const struct stop_case cases[] = {
-    {on_first, "psref_target_destroy: waits for CPU 0, whose thread \"first\" holds one reference, acquired at PLACE"},
-    {on_last, of_last},
-    {on_kept, "psref_target_destroy: waits for CPU 3, which holds a reference"},
-    {elsewhere_on_kept, "psref_target_destroy: waits for a reference"},
-    {on_let_go, "psref_target_destroy: waits for CPU 3, whose thread \"lets_go\" holds one reference, acquired at PLACE"},
-};
+WAITS(of_last, looked_at = LAST; BESIDE({"last", LAST, true, true, FREES, 0}, {"keeper", 0, false, false, KEEPS, 0}))
+/* Whoever has the reference has its CPU, too. */
+WAITS("psref_target_destroy: waits for CPU 3, which holds a reference",
+    BESIDE({"kept", 3, true, false, KEEPS, 0}, {"other", 4, true, false, FREES, 0}))
+WAITS("psref_target_destroy: waits for a reference", BESIDE({"kept", 3, true, true, KEEPS, 0}))
+/* The CPU is free at the second look. */
+WAITS(HOLDS_ONE("3", "lets_go"), looked_at = 3; BESIDE({"lets_go", 3, true, false, LETS_GO, 0}))
 
 int main(void)
 {
-	size_t all = sizeof(cases) / sizeof(cases[0]), passed = 0;
-	snprintf(of_last, sizeof(of_last), "psref_target_destroy: waits for CPU %d, whose thread \"last\" holds one reference, acquired at PLACE", LAST);
-	for (size_t place = 0; place < all; place++)
-		passed += is_told(begin, &cases[place]);
-	printf("%zu passed, %zu failed\n", passed, all - passed);
-	return passed != all;
+	snprintf(of_last, sizeof(of_last), HOLDS_ONE("%d", "last"), LAST);
+	return run_cases(begin);
 }

@@ -724,18 +724,16 @@ static void run_beside(void (*what)(void))
 
 static void destroy_it(void) { callout_destroy(&timer.callout); }
 static void halt_it(void) { (void)callout_halt(&timer.callout, NULL); }
-static void destroy_beside(void) { run_beside(destroy_it); }
-static void halt_beside(void) { run_beside(halt_it); }
 static void nothing(void) { }
+STOPS("callout_destroy: the callout runs, at PLACE", run_beside(destroy_it))
+STOPS("callout_halt: in a soft interrupt, at PLACE", run_beside(halt_it))
 
 static void test_processes(void)
 {
-	static const struct stop_case stops[] = {{destroy_beside, "callout_destroy: the callout runs, at PLACE"},
-	    {halt_beside, "callout_halt: in a soft interrupt, at PLACE"}};
 	char text[256];
 	EXPECT(run_case(nothing, first_inside, text, sizeof(text)) == 0 && text[0] == '\0');
-	for (unsigned at = 0; at < 2; at++)
-		EXPECT(is_stopped(nothing, &stops[at]));
+	judge_cases(nothing);
+	EXPECT(failed == 0);
 }
 
 int main(void)

@@ -346,39 +346,15 @@ static void end_while(void (*what)(void))
 	softint_disestablish(first);
 }
 
-static void schedule_first(void)
-{
-	softint_schedule(first);
-	_exit(0);
-}
-
-static void end_first(void)
-{
-	softint_disestablish(first);
-	_exit(0);
-}
-
-static void schedule_ending(void)
-{
-	end_while(schedule_first);
-}
-
-static void end_twice(void)
-{
-	end_while(end_first);
-}
-
-static void test_processes(void)
-{
-	static const struct stop_case stops[] = {{schedule_ending, "softint_schedule: the soft interrupt is not established, at PLACE"},
-	    {end_twice, "softint_disestablish: the soft interrupt is not established, at PLACE"}};
-	for (unsigned at = 0; at < 2; at++)
-		EXPECT(is_stopped(nothing, &stops[at]));
-}
+static void schedule_first(void) { softint_schedule(first), _exit(0); }
+static void end_first(void) { softint_disestablish(first), _exit(0); }
+STOPS("softint_schedule: the soft interrupt is not established, at PLACE", end_while(schedule_first))
+STOPS("softint_disestablish: the soft interrupt is not established, at PLACE", end_while(end_first))
 
 int main(void)
 {
-	test_processes();
+	judge_cases(nothing);
+	EXPECT(failed == 0);
 	mutex_init(&lock, MUTEX_DEFAULT, IPL_SOFTNET);
 	find_list();
 	test_at_once();
