@@ -56,7 +56,7 @@ Mutant = collections.namedtuple("Mutant", "file line rule old new text")
 # The ways in which the layer's Makefile builds its programs, and whether without sanitizers.
 WAYS = {"plain": True, "small": False, "busy": True, "late": False, "sanitized": False, "raced": False}
 # What runs under valgrind, as tools/test-netbsd.sh runs it.
-WATCHED = {"destroyed": [], "drained": [], "model": ["1", "300"]}
+WATCHED = {"drained": [], "model": ["1", "300"]}
 VALGRIND = "valgrind -q --fair-sched=try --error-exitcode=99 --leak-check=full --show-leak-kinds=definite --errors-for-leak-kinds=definite".split()
 # What is C of the archive, and the programs that see each part, with their words.
 PARTS = {

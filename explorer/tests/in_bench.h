@@ -72,7 +72,7 @@ static inline void make_case(void)
 }
 
 /* Whether the bench says the case's line. */
-static inline bool is_right(void (*begin)(void), const struct stop_case *the_case)
+bool is_right(void (*begin)(void), const struct stop_case *the_case)
 {
 	struct bench_found found;
 	const struct bench_options options = {.quiet = true, .found = &found, .schedules = 20, .bounded = 20, .preemptions = 1, .random = 20};

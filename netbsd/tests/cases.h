@@ -74,7 +74,8 @@ static inline void hide_places(char *text)
 	}
 }
 
-static bool is_right(void (*begin)(void), const struct stop_case *the_case);
+/* Whether a case ends rightly. Whoever includes this file to run cases defines it. */
+bool is_right(void (*begin)(void), const struct stop_case *the_case);
 
 static unsigned passed, failed;
 

@@ -100,64 +100,7 @@ static void test_alignment(void)
 	pool_destroy(&small);
 }
 
-/* Zeros are asked for where others left something. */
-static void test_zeros(void)
-{
-	enum { SIZE = 100, BLOCKS = 8 };
-	static const unsigned char zeros[SIZE];
-	struct pool pool;
-	unsigned char *blocks[BLOCKS];
-	pool_init(&pool, SIZE, 0, 0, 0, "zeropl", NULL, IPL_NONE);
-	for (unsigned turn = 0; turn < BLOCKS; turn++) {
-		blocks[turn] = turn % 2 == 0 ? kmem_zalloc(SIZE, KM_SLEEP) : pool_get(&pool, PR_WAITOK | PR_ZERO);
-		EXPECT(memcmp(blocks[turn], zeros, SIZE) == 0);
-		memset(blocks[turn], 0xff, SIZE);
-		if (turn % 2 == 0)
-			kmem_free(blocks[turn], SIZE);
-		else
-			pool_put(&pool, blocks[turn]);
-	}
-	unsigned char *block = kmem_intr_zalloc(SIZE, KM_NOSLEEP);
-	EXPECT(memcmp(block, zeros, SIZE) == 0);
-	kmem_intr_free(block, SIZE);
-	pool_destroy(&pool);
-}
-
 /* ---- CPUs. ---- */
-
-static void want_zeros(void *own, void *size, struct cpu_info *cpu)
-{
-	EXPECT(cpu_index(cpu) < KUPALDIZ_CPUS);
-	for (size_t at = 0; at < *(size_t *)size; at++)
-		EXPECT(((unsigned char *)own)[at] == 0);
-}
-
-static void write_number(void *own, void *size, struct cpu_info *cpu)
-{
-	memset(own, (int)cpu_index(cpu) + 1, *(size_t *)size);
-}
-
-static uint64_t seen;
-
-static void want_number(void *own, void *size, struct cpu_info *cpu)
-{
-	for (size_t at = 0; at < *(size_t *)size; at++)
-		EXPECT(((unsigned char *)own)[at] == cpu_index(cpu) + 1);
-	seen |= UINT64_C(1) << cpu_index(cpu);
-}
-
-/* Of any size each CPU has its own, of zeros at first. At the end each is seen once more. */
-static void test_percpu_sizes(void)
-{
-	static size_t sizes[] = {1, 63, 64, 65, 65, 200, 200};
-	for (unsigned i = 0; i < sizeof(sizes) / sizeof(sizes[0]); i++) {
-		percpu_t *percpu = percpu_create(sizes[i], want_zeros, want_number, &sizes[i]);
-		percpu_foreach(percpu, write_number, &sizes[i]);
-		seen = 0;
-		percpu_free(percpu, sizes[i]);
-		EXPECT(seen == (UINT64_C(1) << KUPALDIZ_CPUS) - 1);
-	}
-}
 
 static void add_one(void *own, void *arg, struct cpu_info *cpu)
 {
@@ -234,47 +177,6 @@ static void test_back_from_calls(void)
 	splx(s);
 }
 
-static atomic_uint step;
-
-/* Keeps one CPU until the last step. */
-static void *keep_cpu(void *of)
-{
-	kupaldiz_bind(*(unsigned *)of);
-	int s = pserialize_read_enter();
-	atomic_store(&step, 1);
-	while (atomic_load(&step) != 3)
-		sleep_for(100);
-	pserialize_read_exit(s);
-	return of;
-}
-
-static void *pass_barrier(void *of)
-{
-	xc_barrier(0);
-	atomic_fetch_add((atomic_uint *)of, 1);
-	return of;
-}
-
-/* A barrier visits each CPU: it ends after the section on any of them. */
-static void test_barrier(void)
-{
-	pthread_t keeper, passer;
-	for (unsigned cpu = 0; cpu < KUPALDIZ_CPUS; cpu++) {
-		atomic_uint passed = 0;
-		atomic_store(&step, 0);
-		start_thread(&keeper, keep_cpu, &cpu);
-		while (atomic_load(&step) == 0)
-			sleep_for(100);
-		start_thread(&passer, pass_barrier, &passed);
-		sleep_for(3000);
-		EXPECT(atomic_load(&passed) == 0);
-		atomic_store(&step, 3);
-		end_thread(keeper);
-		end_thread(passer);
-		EXPECT(atomic_load(&passed) == 1);
-	}
-}
-
 /* Sections nest as deep as anybody likes, and counts and references are acquired in the deepest. */
 static void test_depth(void)
 {
@@ -309,30 +211,14 @@ static void fire(void *arg)
 	atomic_fetch_add(&fired, 1);
 }
 
-static int64_t nanoseconds(void)
-{
-	struct timespec time;
-	EXPECT(clock_gettime(CLOCK_MONOTONIC, &time) == 0);
-	return (int64_t)time.tv_sec * 1000000000 + time.tv_nsec;
-}
-
-/* It fires once its ticks are over, and not before. */
-static void test_callout_time(void)
-{
-	enum { TICKS = 8 };
-	int64_t began = nanoseconds();
-	callout_reset(&callout, TICKS, fire, &fired);
-	while (atomic_load(&fired) == 0)
-		sleep_for(100);
-	EXPECT(nanoseconds() - began >= TICKS * INT64_C(1000000000) / hz);
-}
-
 static void test_callouts(void)
 {
 	callout_init(&callout, CALLOUT_MPSAFE);
 	callout_reset(&callout, 100000, fire, &fired);
 	EXPECT(callout_pending(&callout) && callout_active(&callout));
-	test_callout_time();
+	callout_reset(&callout, 1, fire, &fired);
+	while (atomic_load(&fired) == 0)
+		sleep_for(100);
 	EXPECT(callout_expired(&callout) && !callout_pending(&callout) && !callout_invoking(&callout));
 	EXPECT(callout_stop(&callout) && !callout_expired(&callout));
 	callout_schedule(&callout, 100000);
@@ -414,97 +300,6 @@ static void test_many_callouts(void)
 	}
 }
 
-/* One that is due on a CPU that this thread keeps waits there. Another one fires meanwhile. */
-static void test_kept_callout(void)
-{
-	static struct timer kept, other;
-	callout_init(&kept.callout, CALLOUT_MPSAFE);
-	callout_init(&other.callout, CALLOUT_MPSAFE);
-	reset_on(3, &other, 5);
-	kupaldiz_bind(2);
-	kpreempt_disable();
-	callout_reset(&kept.callout, 1, note_run, &kept);
-	await_run(&other);
-	EXPECT(atomic_load(&other.runs) == 1 && atomic_load(&kept.runs) == 0 && callout_pending(&kept.callout));
-	kpreempt_enable();
-	await_run(&kept);
-	EXPECT(atomic_load(&kept.runs) == 1 && atomic_load(&kept.cpu) == 2);
-	kupaldiz_unbind();
-	callout_halt(&kept.callout, NULL);
-	callout_halt(&other.callout, NULL);
-	callout_destroy(&kept.callout);
-	callout_destroy(&other.callout);
-}
-
-enum { ORDERED = 4 };
-
-static unsigned run_order[ORDERED];	/* written by one CPU's soft interrupts, and read once all have run. */
-static atomic_uint run_count;
-
-static void note_order(void *ticks)
-{
-	run_order[atomic_load(&run_count)] = *(unsigned *)ticks;
-	atomic_fetch_add(&run_count, 1);
-}
-
-/* Callouts that get due while this thread keeps their CPU run in the order of their times, set in any order. */
-static void test_callout_order(void)
-{
-	static unsigned ticks[ORDERED] = {2, 1, 4, 3};
-	callout_t ordered[ORDERED];
-	kupaldiz_bind(5);
-	kpreempt_disable();
-	for (unsigned i = 0; i < ORDERED; i++) {
-		callout_init(&ordered[i], CALLOUT_MPSAFE);
-		callout_reset(&ordered[i], (int)ticks[i], note_order, &ticks[i]);
-	}
-	sleep_for(80000);
-	EXPECT(atomic_load(&run_count) == 0);
-	kpreempt_enable();
-	while (atomic_load(&run_count) < ORDERED)
-		sleep_for(100);
-	for (unsigned i = 0; i < ORDERED; i++) {
-		callout_halt(&ordered[i], NULL);
-		callout_destroy(&ordered[i]);
-		EXPECT(run_order[i] == i + 1);
-	}
-	kupaldiz_unbind();
-}
-
-/* Twenty that last two ticks each, one after another, are over long before each has waited for a second. */
-static void test_callouts_in_time(void)
-{
-	static struct timer timer;
-	int64_t began = nanoseconds();
-	callout_init(&timer.callout, CALLOUT_MPSAFE);
-	for (unsigned turn = 0; turn < 20; turn++) {
-		atomic_store(&timer.runs, 0);
-		callout_reset(&timer.callout, 2, note_run, &timer);
-		await_run(&timer);
-	}
-	EXPECT(nanoseconds() - began < INT64_C(10000000000));
-	callout_halt(&timer.callout, NULL);
-	callout_destroy(&timer.callout);
-}
-
-/* It runs what was set last. Without ticks that is after one. Set once more it is pending, and neither expired nor invoked. */
-static void test_set_callout(void)
-{
-	static struct timer set, other;
-	callout_init(&set.callout, CALLOUT_MPSAFE);
-	callout_setfunc(&set.callout, note_run, &other);
-	callout_setfunc(&set.callout, note_run, &set);
-	int64_t began = nanoseconds();
-	callout_schedule(&set.callout, 0);
-	await_run(&set);
-	EXPECT(atomic_load(&set.runs) == 1 && atomic_load(&other.runs) == 0 && nanoseconds() - began >= INT64_C(1000000000) / hz);
-	EXPECT(callout_expired(&set.callout) && callout_invoking(&set.callout) && callout_active(&set.callout));
-	callout_schedule(&set.callout, 100000);
-	EXPECT(callout_pending(&set.callout) && !callout_expired(&set.callout) && !callout_invoking(&set.callout));
-	EXPECT(!callout_halt(&set.callout, NULL) && !callout_active(&set.callout));
-	callout_destroy(&set.callout);
-}
-
 /* Halts its own callout without a wait, ends it, and frees it. */
 static void end_itself(void *of)
 {
@@ -525,33 +320,6 @@ static void test_callout_ends_itself(void)
 	callout_reset(&timer->callout, 1, end_itself, timer);
 	while (atomic_load(&fired) == before)
 		sleep_for(100);
-}
-
-/* Sets itself again, as it has run for a while. */
-static void set_again(void *of)
-{
-	struct timer *timer = of;
-	note_run(timer);
-	sleep_for(20000);
-	callout_schedule(&timer->callout, atomic_load(&timer->runs) < 3 ? 1 : 100000);
-}
-
-/* It runs again and again on its CPU. A halt that waits for its body ends what that has set, too. */
-static void test_halted_again(void)
-{
-	static struct timer again;
-	callout_init(&again.callout, CALLOUT_MPSAFE);
-	kupaldiz_bind(4);
-	callout_reset(&again.callout, 1, set_again, &again);
-	kupaldiz_unbind();
-	kupaldiz_bind(1);
-	while (atomic_load(&again.runs) < 3)
-		sleep_for(100);
-	EXPECT(atomic_load(&again.cpu) == 4);
-	callout_halt(&again.callout, NULL);
-	EXPECT(!callout_active(&again.callout) && atomic_load(&again.runs) == 3);
-	callout_destroy(&again.callout);
-	kupaldiz_unbind();
 }
 
 static void exit_at_once(void *arg)
@@ -583,31 +351,6 @@ static void test_joins(void)
 	}
 	for (unsigned i = 0; i < 4; i++)
 		EXPECT(kthread_join(workers[i]) == 0);
-}
-
-/* Nobody joins it, and nobody asks for it. */
-static void test_unjoined(void)
-{
-	static atomic_uint ran;
-	for (unsigned turn = 0; turn < 4; turn++) {
-		EXPECT(kthread_create(PRI_NONE, KTHREAD_MPSAFE, NULL, end_as, &ran, NULL, "free") == 0);
-		while (atomic_load(&ran) == turn)
-			sleep_for(100);
-	}
-}
-
-/* The ticks are those of the clock that nobody sets, and a delay is never shorter than it says. */
-static void test_clock(void)
-{
-	enum { TURNS_OF_CLOCK = 60, DELAY_FOR = 20000 };
-	for (unsigned turn = 0; turn < TURNS_OF_CLOCK; turn++) {
-		int64_t began = nanoseconds();
-		unsigned ticks = (unsigned)getticks() - (unsigned)(began / (1000000000 / hz));
-		EXPECT(ticks <= (unsigned)(nanoseconds() / (1000000000 / hz) - began / (1000000000 / hz)));
-		began = nanoseconds();
-		delay(DELAY_FOR);
-		EXPECT(nanoseconds() - began >= DELAY_FOR * INT64_C(1000));
-	}
 }
 
 static void test_threads(void)
@@ -718,23 +461,13 @@ int main(void)
 	cv_init(&cv, "kernel");
 	test_memory();
 	test_alignment();
-	test_zeros();
-	test_percpu_sizes();
 	test_cpus();
 	test_back_from_calls();
-	test_barrier();
 	test_depth();
 	test_callouts();
 	test_many_callouts();
-	test_kept_callout();
-	test_callout_order();
-	test_callouts_in_time();
-	test_set_callout();
 	test_callout_ends_itself();
-	test_halted_again();
 	test_threads();
-	test_unjoined();
-	test_clock();
 	test_joins();
 	test_lists();
 	test_atomics();

@@ -19,14 +19,13 @@
 #include <sys/systm.h>
 
 #include "stops.h"
+#include "wraps.h"
 
 /* What is refused from now on. */
 static enum { NOTHING_LACKS, CALLOC, MALLOC, REALLOC, ALIGNED, THREADS, KEY, VALUE, AT_FORK } lacks;
 
 /* A call that fails where it lacks. */
 #define LACKS(what, type, failed, name, parameters, arguments) \
-	type __real_##name parameters; \
-	type __wrap_##name parameters; \
 	type __wrap_##name parameters { return lacks == what ? (failed) : __real_##name arguments; }
 
 LACKS(CALLOC, void *, NULL, calloc, (size_t count, size_t size), (count, size))

@@ -7,6 +7,7 @@
  */
 #include <limits.h>
 #include <sys/cpu.h>
+#include <sys/intr.h>
 #include <sys/kthread.h>
 #include <sys/mutex.h>
 #include <sys/pserialize.h>
@@ -14,9 +15,7 @@
 #include <sys/systm.h>
 
 #include "stops.h"
-
-int __real_pthread_mutex_unlock(pthread_mutex_t *mutex);
-int __wrap_pthread_mutex_unlock(pthread_mutex_t *mutex);
+#include "wraps.h"
 
 /* What this thread does once it has given back the next lock of the layer's. */
 static _Thread_local void (*after)(void);
@@ -83,6 +82,30 @@ THREAD(join_second, join_at("the second call"))
 static void join_beside(void) { on_thread(join_second); }
 STOPS("kthread_join: no thread that was made with KTHREAD_MUSTJOIN, at the second call",
     EXPECT(kthread_create(PRI_NONE, KTHREAD_MUSTJOIN, NULL, exit_at_once, NULL, &worker, "worker") == 0); after = join_beside; join_at("the first call"))
+
+/* A soft interrupt whose end waits for its handler isn't established any more. */
+static void *cookie;
+static atomic_bool runs;
+HANDLER(run_long, atomic_store(&runs, true); sleep_for(20000000))
+static void run_on_4(void)
+{
+	cookie = softint_establish(SOFTINT_NET, run_long, NULL);
+	kupaldiz_unbind();
+	kupaldiz_bind(4);
+	softint_schedule(cookie);
+	kupaldiz_unbind();
+	while (!atomic_load(&runs))
+		sleep_for(100);
+}
+THREAD(end_softint, softint_disestablish(cookie))
+STOPS("softint_schedule: the soft interrupt is not established, at PLACE",
+    pthread_t ender; run_on_4(); start_thread(&ender, end_softint, NULL);
+    for (;;) {
+	    softint_schedule(cookie);
+	    sleep_for(100);
+    })
+STOPS("softint_disestablish: the soft interrupt is not established, at PLACE",
+    pthread_t ender; run_on_4(); start_thread(&ender, end_softint, NULL); on_thread(end_softint))
 
 /* There is room for six places. One more begins anew: the call after the next one has none. */
 STOPS("mutex_enter: the thread has the lock already, taken at the seventh place",

@@ -39,7 +39,7 @@ static inline int run_case(void (*begin)(void), void (*body)(void), char *said, 
 }
 
 /* Whether a case said exactly its line, and ended by abort or well. */
-static inline bool is_right(void (*begin)(void), const struct stop_case *the_case)
+bool is_right(void (*begin)(void), const struct stop_case *the_case)
 {
 	char said[1024], wanted[512];
 	int status = run_case(begin, the_case->body, said, sizeof(said));

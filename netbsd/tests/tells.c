@@ -20,6 +20,7 @@
 #include "stops.h"
 
 #include "registry.h"
+#include "wraps.h"
 
 static struct psref_class *things;
 static struct psref_target target;
@@ -29,9 +30,6 @@ static kmutex_t lock, countlock, spin;
 static kcondvar_t cv;
 static krwlock_t rw;
 static atomic_bool ready, told;
-
-ssize_t __real_write(int file, const void *bytes, size_t length);
-ssize_t __wrap_write(int file, const void *bytes, size_t length);
 
 ssize_t __wrap_write(int file, const void *bytes, size_t length)
 {
@@ -70,10 +68,6 @@ static void keep(void)
 }
 
 static atomic_bool lasts, lasts_inside;
-uint32_t __real_registry_local_acquire(struct registry_cpu *cpu, struct registry_local *reference);
-uint32_t __wrap_registry_local_acquire(struct registry_cpu *cpu, struct registry_local *reference);
-uint32_t __real_registry_local_release(struct registry_cpu *cpu, struct registry_local *reference);
-uint32_t __wrap_registry_local_release(struct registry_cpu *cpu, struct registry_local *reference);
 
 uint32_t __wrap_registry_local_acquire(struct registry_cpu *cpu, struct registry_local *reference)
 {

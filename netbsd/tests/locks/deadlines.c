@@ -12,21 +12,11 @@
 #include <unistd.h>
 
 #include "test.h"
+#include "wraps.h"
 
 #define SECOND	INT64_C(1000000000)
 #define TICK	(SECOND / 100)
 #define PATIENCE	(5 * SECOND)
-
-int __wrap_clock_gettime(clockid_t clock, struct timespec *time);
-int __real_clock_gettime(clockid_t clock, struct timespec *time);
-int __wrap_pthread_cond_timedwait(pthread_cond_t *cond, pthread_mutex_t *mutex, const struct timespec *end);
-int __real_pthread_cond_timedwait(pthread_cond_t *cond, pthread_mutex_t *mutex, const struct timespec *end);
-int __wrap_sched_yield(void);
-int __real_sched_yield(void);
-int __wrap_nanosleep(const struct timespec *time, struct timespec *rest);
-int __real_nanosleep(const struct timespec *time, struct timespec *rest);
-ssize_t __wrap_write(int file, const void *bytes, size_t length);
-ssize_t __real_write(int file, const void *bytes, size_t length);
 
 /* The thread whose clock this is, and whose waits are seen. */
 static _Thread_local bool is_seen;

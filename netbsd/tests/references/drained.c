@@ -11,12 +11,7 @@
 #include <sys/pserialize.h>
 
 #include "test.h"
-
-int __real_pthread_mutex_lock(pthread_mutex_t *mutex);
-int __wrap_pthread_mutex_lock(pthread_mutex_t *mutex);
-
-int __real_pthread_mutex_unlock(pthread_mutex_t *mutex);
-int __wrap_pthread_mutex_unlock(pthread_mutex_t *mutex);
+#include "wraps.h"
 
 enum { ROUNDS = 300, HOLDERS = 3, BESIDE = 8 };
 

@@ -11,19 +11,7 @@
 #include "stops.h"
 
 #include "registry.h"
-
-int __real_pthread_mutex_lock(pthread_mutex_t *mutex);
-int __wrap_pthread_mutex_lock(pthread_mutex_t *mutex);
-int __real_pthread_mutex_unlock(pthread_mutex_t *mutex);
-int __wrap_pthread_mutex_unlock(pthread_mutex_t *mutex);
-uint32_t __real_registry_get(struct registry_cpu *cpu, uint64_t kind, const struct registry_name *name, struct registry_entry *found);
-uint32_t __wrap_registry_get(struct registry_cpu *cpu, uint64_t kind, const struct registry_name *name, struct registry_entry *found);
-uint32_t __real_registry_copy(struct registry_cpu *cpu, uint64_t number);
-uint32_t __wrap_registry_copy(struct registry_cpu *cpu, uint64_t number);
-uint32_t __real_registry_held(const struct registry_cpu *cpu, uint64_t number, bool *held);
-uint32_t __wrap_registry_held(const struct registry_cpu *cpu, uint64_t number, bool *held);
-uint32_t __real_registry_release(struct registry_cpu *cpu, uint64_t number);
-uint32_t __wrap_registry_release(struct registry_cpu *cpu, uint64_t number);
+#include "wraps.h"
 
 enum { MOST = KUPALDIZ_REFERENCES, MOST_OWN = 8 };
 

@@ -13,15 +13,7 @@
 #include "stops.h"
 
 #include "registry.h"
-
-ssize_t __real_write(int file, const void *bytes, size_t length);
-ssize_t __wrap_write(int file, const void *bytes, size_t length);
-int __real_open(const char *path, int flags, ...);
-int __wrap_open(const char *path, int flags, ...);
-int __real_nanosleep(const struct timespec *time, struct timespec *left);
-int __wrap_nanosleep(const struct timespec *time, struct timespec *left);
-uint32_t __real_registry_get(struct registry_cpu *cpu, uint64_t kind, const struct registry_name *name, struct registry_entry *found);
-uint32_t __wrap_registry_get(struct registry_cpu *cpu, uint64_t kind, const struct registry_name *name, struct registry_entry *found);
+#include "wraps.h"
 
 enum { LAST = KUPALDIZ_CPUS - 1, NOBODY = KUPALDIZ_CPUS, A_LOOK = 1000000 };
 

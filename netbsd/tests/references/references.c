@@ -6,9 +6,7 @@
 #include <sys/psref.h>
 
 #include "test.h"
-
-void __real_free(void *block);
-void __wrap_free(void *block);
+#include "wraps.h"
 
 static const void *freed;
 

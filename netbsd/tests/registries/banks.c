@@ -7,12 +7,7 @@
 
 #include "registry.h"
 #include "test.h"
-
-#undef registry_open
-uint32_t __real_registry_open(const struct registry_settings *settings, struct registry_keeper *keeper, struct registry_cpu *cpus, size_t count);
-uint32_t __wrap_registry_open(const struct registry_settings *settings, struct registry_keeper *keeper, struct registry_cpu *cpus, size_t count);
-uint32_t __real_registry_close_keeper(struct registry_keeper *keeper);
-uint32_t __wrap_registry_close_keeper(struct registry_keeper *keeper);
+#include "wraps.h"
 
 enum { ROWS = 4, TARGETS = 2 * ROWS + 1, ROUNDS = 100 };
 

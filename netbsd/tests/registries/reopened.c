@@ -12,11 +12,7 @@
 
 #include "registry.h"
 #include "test.h"
-
-uint32_t __real_registry_release(struct registry_cpu *cpu, uint64_t number);
-uint32_t __wrap_registry_release(struct registry_cpu *cpu, uint64_t number);
-uint32_t __real_registry_close_cpu(struct registry_cpu *cpu);
-uint32_t __wrap_registry_close_cpu(struct registry_cpu *cpu);
+#include "wraps.h"
 
 enum { ROUNDS = 10, FIRST_ROWS = 4, PAIRS = 30 };
 
@@ -42,6 +38,22 @@ uint32_t __wrap_registry_close_cpu(struct registry_cpu *cpu)
 	EXPECT(!atomic_load(&returning));
 	atomic_fetch_add(&closed, 1);
 	return __real_registry_close_cpu(cpu);
+}
+
+static const struct registry_keeper *first_keeper;	/* of the first registry */
+static bool first_closed;
+
+uint32_t __wrap_registry_open(const struct registry_settings *settings, struct registry_keeper *keeper, struct registry_cpu *cpus, size_t count)
+{
+	if (first_keeper == NULL)
+		first_keeper = keeper;
+	return __real_registry_open(settings, keeper, cpus, count);
+}
+
+uint32_t __wrap_registry_close_keeper(struct registry_keeper *keeper)
+{
+	first_closed |= keeper == first_keeper;
+	return __real_registry_close_keeper(keeper);
 }
 
 static void *hold(void *arg)
@@ -99,6 +111,27 @@ static void end_counts(void)
 	EXPECT(atomic_load(&closed) > before);
 }
 
+/* Uses up the sections of a CPU in the registry that it takes for them. It goes on in another one. */
+static void use_up_sections(unsigned cpu)
+{
+	kupaldiz_bind(cpu);
+	for (unsigned turn = 0; turn <= KUPALDIZ_SECTIONS; turn++)
+		pserialize_read_exit(pserialize_read_enter());
+	kupaldiz_unbind();
+}
+
+/* The first registry has the sections of all CPUs. Once the last of them goes on elsewhere it is opened anew as any other one. */
+static void end_sections(void)
+{
+	for (unsigned cpu = 0; cpu < KUPALDIZ_CPUS - 1; cpu++)
+		use_up_sections(cpu);
+	end_counts();
+	EXPECT(!first_closed);
+	use_up_sections(KUPALDIZ_CPUS - 1);
+	end_counts();
+	EXPECT(first_closed);
+}
+
 int main(void)
 {
 	things = psref_class_create("thing", IPL_NONE);
@@ -111,6 +144,7 @@ int main(void)
 	for (unsigned i = 0; i < FIRST_ROWS; i++)
 		psref_target_destroy(&first[i], things);
 	EXPECT(atomic_load(&closed) >= ROUNDS);
+	end_sections();
 	psref_class_destroy(things);
 	printf("%u handles were closed, none while a call used it\n", atomic_load(&closed));
 	return 0;

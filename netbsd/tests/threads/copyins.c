@@ -7,9 +7,7 @@
 #include <sys/systm.h>
 
 #include "test.h"
-
-void *__real_memcpy(void *to, const void *from, size_t length);
-void *__wrap_memcpy(void *to, const void *from, size_t length);
+#include "wraps.h"
 
 /* C allows no NULL, of no bytes either. */
 void *__wrap_memcpy(void *to, const void *from, size_t length)

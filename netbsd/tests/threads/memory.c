@@ -13,6 +13,7 @@
 #include <sys/systm.h>
 
 #include "stops.h"
+#include "wraps.h"
 
 enum { OLD_BYTE = 0xa5, LINE = 64 };
 
@@ -20,15 +21,6 @@ static long blocks;	/* of the heap's that are in use */
 static size_t aligned;	/* what was asked for on whole lines last */
 static bool keeps;	/* free leaves what is freed as it is */
 static struct pool pool;
-
-void *__real_malloc(size_t size);
-void *__wrap_malloc(size_t size);
-void *__real_calloc(size_t count, size_t size);
-void *__wrap_calloc(size_t count, size_t size);
-int __real_posix_memalign(void **block, size_t align, size_t size);
-int __wrap_posix_memalign(void **block, size_t align, size_t size);
-void __real_free(void *block);
-void __wrap_free(void *block);
 
 void *__wrap_malloc(size_t size)
 {

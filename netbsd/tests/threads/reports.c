@@ -12,19 +12,13 @@
 #include <sys/systm.h>
 
 #include "stops.h"
+#include "wraps.h"
 
 static bool is_full;	/* nothing can be written */
 static int file = -1;	/* that the layer has open */
 static const char *instead;	/* the file that the layer gets for each; NULL where it gets its own */
 static kmutex_t lock;
 static atomic_bool ready;
-
-ssize_t __real_write(int to, const void *bytes, size_t length);
-ssize_t __wrap_write(int to, const void *bytes, size_t length);
-int __real_open(const char *path, int how, ...);
-int __wrap_open(const char *path, int how, ...);
-int __real_close(int old);
-int __wrap_close(int old);
 
 /* No file is open any more where the line is written. */
 ssize_t __wrap_write(int to, const void *bytes, size_t length)

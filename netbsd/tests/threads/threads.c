@@ -8,30 +8,15 @@
 #include <errno.h>
 #include <limits.h>
 #include <sys/cpu.h>
+#include <sys/intr.h>
 #include <sys/kthread.h>
+#include <sys/mutex.h>
 #include <sys/proc.h>
 #include <sys/pserialize.h>
 #include <sys/xcall.h>
 
 #include "test.h"
 #include "wraps.h"
-
-int __real_pthread_condattr_init(pthread_condattr_t *how);
-int __wrap_pthread_condattr_init(pthread_condattr_t *how);
-int __real_pthread_condattr_destroy(pthread_condattr_t *how);
-int __wrap_pthread_condattr_destroy(pthread_condattr_t *how);
-int __real_pthread_cond_init(pthread_cond_t *cond, const pthread_condattr_t *how);
-int __wrap_pthread_cond_init(pthread_cond_t *cond, const pthread_condattr_t *how);
-int __real_pthread_create(pthread_t *thread, const pthread_attr_t *how, void *(*body)(void *), void *arg);
-int __wrap_pthread_create(pthread_t *thread, const pthread_attr_t *how, void *(*body)(void *), void *arg);
-int __real_pthread_detach(pthread_t thread);
-int __wrap_pthread_detach(pthread_t thread);
-int __real_nanosleep(const struct timespec *time, struct timespec *rest);
-int __wrap_nanosleep(const struct timespec *time, struct timespec *rest);
-void *__real_calloc(size_t count, size_t size);
-void *__wrap_calloc(size_t count, size_t size);
-void __real_free(void *block);
-void __wrap_free(void *block);
 
 /* ---- What is watched. ---- */
 
@@ -166,14 +151,6 @@ int __wrap_pthread_detach(pthread_t thread)
 {
 	atomic_fetch_add(&detached, 1);
 	return __real_pthread_detach(thread);
-}
-
-static bool is_cancellable(void)
-{
-	int state;
-	pthread_setcancelstate(PTHREAD_CANCEL_DISABLE, &state);
-	pthread_setcancelstate(state, NULL);
-	return state == PTHREAD_CANCEL_ENABLE;
 }
 
 /* Whether this thread is in kthread_join, and whether such a one has slept. */
@@ -497,6 +474,49 @@ static void test_joined_early(void)
 	EXPECT(worker == atomic_load(&itself));
 }
 
+/* ---- A lock that goes with its object. ---- */
+
+static atomic_bool gone;
+
+/* Waits for the lock, and ends it: nobody else comes to it any more. */
+static void *take_and_end(void *of)
+{
+	kmutex_t *lock = of;
+	mutex_enter(lock);
+	mutex_exit(lock);
+	mutex_destroy(lock);
+	spoil(lock, sizeof(*lock));
+	atomic_store(&gone, true);
+	return of;
+}
+
+static void await_gone(void)
+{
+	while (!atomic_load(&gone))
+		sleep_for(50);
+}
+
+/* Whoever gives the lock back loses its processor at once, until the lock is gone. No level is left behind. */
+static void test_gone(int level)
+{
+	pthread_t thread;
+	kmutex_t lock;
+	atomic_store(&gone, false);
+	atomic_store(&waited, false);
+	mutex_init(&lock, MUTEX_DEFAULT, level);
+	mutex_enter(&lock);
+	start_thread(&thread, take_and_end, &lock);
+	while (!atomic_load(&waited))
+		sleep_for(50);
+	after = await_gone;
+	mutex_exit(&lock);
+	EXPECT(after == NULL && atomic_load(&gone));
+	end_thread(thread);
+	int s = splhigh();
+	EXPECT(s == IPL_NONE);
+	splx(s);
+}
+
 /* ---- CPUs. ---- */
 
 enum { FREE, KEPT, OVER };
@@ -657,6 +677,8 @@ int main(void)
 	test_refused();
 	test_cancelled();
 	test_joined_early();
+	test_gone(IPL_NONE);
+	test_gone(IPL_VM);
 	test_cpus();
 	test_call_after_end();
 	puts("each thread had memory and a CPU of its own");

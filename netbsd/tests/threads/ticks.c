@@ -10,10 +10,7 @@
 #include <sys/systm.h>
 
 #include "test.h"
-
-int __wrap_clock_gettime(clockid_t clock, struct timespec *time);
-int __wrap_sched_yield(void);
-int __wrap_nanosleep(const struct timespec *time, struct timespec *rest);
+#include "wraps.h"
 
 enum { SECOND = 1000000000, MOST_YIELDS = 10000, MOST_READINGS = 2, MOST_SLEEPS = 4 };
 
@@ -47,14 +44,6 @@ int __wrap_sched_yield(void)
 	now.tv_sec += (now.tv_nsec + step) / SECOND;
 	now.tv_nsec = (now.tv_nsec + step) % SECOND;
 	return 0;
-}
-
-static bool is_cancellable(void)
-{
-	int state;
-	pthread_setcancelstate(PTHREAD_CANCEL_DISABLE, &state);
-	pthread_setcancelstate(state, NULL);
-	return state == PTHREAD_CANCEL_ENABLE;
 }
 
 /* Nobody has the lock of the pause meanwhile, and the thread isn't cancelled. */
