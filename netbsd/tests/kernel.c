@@ -1,12 +1,10 @@
 /*
- * kernel - the calls beside the three pages, except locks: memory, counters of each CPU, cross-calls, callouts, threads, lists, atomics, copies
+ * kernel - the calls beside the three pages, except locks: memory, counters of each CPU, cross-calls, callouts, threads, lists, copies
  */
 #include <sys/param.h>
 #include <sys/systm.h>
-#include <sys/atomic.h>
 #include <sys/callout.h>
 #include <sys/condvar.h>
-#include <sys/evcnt.h>
 #include <sys/intr.h>
 #include <sys/kmem.h>
 #include <sys/kthread.h>
@@ -366,7 +364,7 @@ static void test_threads(void)
 	EXPECT(getticks() - before >= 1 && hz == 100);
 }
 
-/* ---- Lists, atomics, copies. ---- */
+/* ---- Lists, copies. ---- */
 
 struct item {
 	struct pslist_entry link;
@@ -408,31 +406,6 @@ static void test_lists(void)
 	EXPECT(TAILQ_EMPTY(&queue));
 }
 
-static void test_atomics(void)
-{
-	unsigned number = 5;
-	uint64_t wide = 1;
-	void *pointer = &number;
-	struct evcnt counter = EVCNT_INITIALIZER(EVCNT_TYPE_MISC, NULL, "group", "name");
-	EXPECT(atomic_inc_uint_nv(&number) == 6 && atomic_dec_uint_nv(&number) == 5 && atomic_add_int_nv(&number, -2) == 3);
-	atomic_or_uint(&number, 12);
-	atomic_and_uint(&number, 6);
-	EXPECT(number == 6 && atomic_cas_uint(&number, 5, 9) == 6 && atomic_cas_uint(&number, 6, 9) == 6 && number == 9);
-	EXPECT(atomic_swap_uint(&number, 4) == 9 && atomic_cas_ptr(&pointer, &number, NULL) == &number && pointer == NULL);
-	EXPECT(atomic_swap_ptr(&pointer, &wide) == NULL && atomic_load_consume(&pointer) == &wide);
-	atomic_add_64(&wide, 41);
-	EXPECT(atomic_load_relaxed(&wide) == 42 && atomic_load_acquire(&wide) == 42 && atomic_or_64_nv(&wide, 1) == 43);
-	atomic_store_relaxed(&wide, 1);
-	atomic_store_release(&number, 7);
-	membar_producer();
-	membar_consumer();
-	membar_sync();
-	evcnt_attach_dynamic(&counter, EVCNT_TYPE_INTR, NULL, "group", "other");
-	counter.ev_count++;
-	EXPECT(wide == 1 && number == 7 && counter.ev_count == 1);
-	evcnt_detach(&counter);
-}
-
 static void test_copies(void)
 {
 	char user[8] = "abcdefg", there[8] = "";
@@ -470,7 +443,6 @@ int main(void)
 	test_threads();
 	test_joins();
 	test_lists();
-	test_atomics();
 	test_copies();
 	test_strings();
 	cv_destroy(&cv);

@@ -74,6 +74,10 @@ test_pointers(void)
 	atomic_dec_ptr(&at);
 	EXPECT(at == bytes + 3 && atomic_dec_ptr_nv(&at) == bytes + 2);
 	EXPECT(atomic_cas_ptr_ni(&at, bytes, NULL) == bytes + 2 && atomic_cas_ptr_ni(&at, bytes + 2, NULL) == bytes + 2 && at == NULL);
+	EXPECT(atomic_swap_ptr(&at, bytes) == NULL && atomic_cas_ptr(&at, NULL, NULL) == bytes && atomic_cas_ptr(&at, bytes, NULL) == bytes && at == NULL);
+	membar_producer();
+	membar_consumer();
+	membar_sync();
 	membar_acquire();
 	membar_enter();
 	membar_exit();
@@ -387,6 +391,9 @@ test_events(void)
 	evcnt_attach_static(&events[1]);
 	events[1].ev_count += 2;
 	EXPECT(events[1].ev_count == 2 && strcmp(events[1].ev_name, "second") == 0 && events[1].ev_parent == &events[0]);
+	evcnt_detach(&events[1]);
+	evcnt_attach_dynamic(&events[1], EVCNT_TYPE_INTR, NULL, "group", "other");
+	EXPECT(events[1].ev_count == 0 && strcmp(events[1].ev_group, "group") == 0 && strcmp(events[1].ev_name, "other") == 0);
 	evcnt_detach(&events[1]);
 }
 

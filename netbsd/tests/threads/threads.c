@@ -2,8 +2,8 @@
  * threads - what the layer keeps of threads, and the CPU that a thread gets: memory that is used again, and never by two at once; a thread of
  * kthread_create's until its join; the CPU that is free, or has the fewest bound threads
  *
- * The linker leads locks, condition variables, memory, pthread_create, pthread_detach and nanosleep here (--wrap). Each thread notes the locks that it
- * has. It may do something once it has given one back, while its call goes on.
+ * The linker leads locks, condition variables, memory, pthread_create, pthread_detach and nanosleep here (--wrap). A thread may do something once it has
+ * given a lock back, while its call goes on.
  */
 #include <errno.h>
 #include <limits.h>
@@ -20,41 +20,13 @@
 
 /* ---- What is watched. ---- */
 
-enum { MOST_LOCKS = 8 };
-
-/* The locks that this thread has, and what it does once it has given back the next one. */
-static _Thread_local pthread_mutex_t *locks[MOST_LOCKS];
-static _Thread_local unsigned lock_count;
+/* What this thread does once it has given back its next lock. */
 static _Thread_local void (*after)(void);
-
-static void note_lock(pthread_mutex_t *mutex)
-{
-	EXPECT(lock_count < MOST_LOCKS);
-	locks[lock_count++] = mutex;
-}
-
-/* It must have it. */
-static void forget_lock(const pthread_mutex_t *mutex)
-{
-	unsigned place = 0;
-	while (place < lock_count && locks[place] != mutex)
-		place++;
-	EXPECT(place < lock_count);
-	locks[place] = locks[--lock_count];
-}
-
-int __wrap_pthread_mutex_lock(pthread_mutex_t *mutex)
-{
-	int answer = __real_pthread_mutex_lock(mutex);
-	note_lock(mutex);
-	return answer;
-}
 
 int __wrap_pthread_mutex_unlock(pthread_mutex_t *mutex)
 {
 	void (*does)(void) = after;
 	after = NULL;
-	forget_lock(mutex);
 	int answer = __real_pthread_mutex_unlock(mutex);
 	if (does != NULL)
 		does();
@@ -67,21 +39,15 @@ static _Thread_local bool goes_on;	/* this thread has nothing to wait for */
 int __wrap_pthread_cond_wait(pthread_cond_t *cond, pthread_mutex_t *mutex)
 {
 	EXPECT(!goes_on);
-	forget_lock(mutex);
 	atomic_store(&waited, true);
-	int answer = __real_pthread_cond_wait(cond, mutex);
-	note_lock(mutex);
-	return answer;
+	return __real_pthread_cond_wait(cond, mutex);
 }
 
 int __wrap_pthread_cond_timedwait(pthread_cond_t *cond, pthread_mutex_t *mutex, const struct timespec *end)
 {
 	EXPECT(!goes_on);
-	forget_lock(mutex);
 	atomic_store(&waited, true);
-	int answer = __real_pthread_cond_timedwait(cond, mutex, end);
-	note_lock(mutex);
-	return answer;
+	return __real_pthread_cond_timedwait(cond, mutex, end);
 }
 
 /* Those that this thread has initialised, and not destroyed yet. */
@@ -182,7 +148,6 @@ static void judge_end(void *of)
 		EXPECT(pthread_setspecific(late, of) == 0);
 		return;
 	}
-	EXPECT(lock_count == 0);
 	if (at_end != NULL)
 		at_end();
 }
@@ -199,7 +164,7 @@ static void *stay(void *of)
 	struct guest *guest = of;
 	EXPECT(pthread_setspecific(late, of) == 0);
 	lwp_t *lwp = curlwp;
-	EXPECT(lwp == curlwp && lock_count == 0 && attributes == NULL);
+	EXPECT(lwp == curlwp && attributes == NULL);
 	atomic_store(&guest->lwp, lwp);
 	while (!atomic_load(&guest->leaves))
 		sleep_for(50);
@@ -243,7 +208,7 @@ static void crowd(void)
 
 static void have_nothing(void *arg)
 {
-	EXPECT(arg == NULL && lock_count == 0);
+	EXPECT(arg == NULL);
 	kthread_exit(0);
 }
 
@@ -256,8 +221,8 @@ static void test_memory(void)
 	for (unsigned turn = 0; turn < 3; turn++)
 		crowd();
 	EXPECT(atomic_load(&blocks_taken) == before);
-	EXPECT(kthread_create(PRI_NONE, KTHREAD_MUSTJOIN, NULL, have_nothing, NULL, &worker, "worker") == 0 && lock_count == 0);
-	EXPECT(kthread_join(worker) == 0 && lock_count == 0);
+	EXPECT(kthread_create(PRI_NONE, KTHREAD_MUSTJOIN, NULL, have_nothing, NULL, &worker, "worker") == 0);
+	EXPECT(kthread_join(worker) == 0);
 	before = atomic_load(&blocks_taken);
 	for (unsigned turn = 0; turn < 3; turn++)
 		crowd();
@@ -360,7 +325,7 @@ static _Atomic(lwp_t *) itself;
 
 static void work(void *arg)
 {
-	EXPECT(arg == &itself && lock_count == 0 && attributes == NULL);
+	EXPECT(arg == &itself && attributes == NULL);
 	EXPECT(pthread_setspecific(late, arg) == 0);
 	atomic_store(&itself, curlwp);
 	kthread_exit(0);
@@ -380,7 +345,7 @@ static void test_unjoined(void)
 	begins = AWAITED;
 	EXPECT(create(KTHREAD_MPSAFE, &worker) == 0 && worker != NULL);
 	begins = AT_ONCE;
-	EXPECT(lock_count == 0 && blocks == before && atomic_load(&detached) == detached_before + 1);
+	EXPECT(blocks == before && atomic_load(&detached) == detached_before + 1);
 	while (atomic_load(&itself) == NULL)
 		sleep_for(50);
 	EXPECT(atomic_load(&itself) == worker);
@@ -393,8 +358,8 @@ static void test_joined(void)
 	begins = AWAITED;
 	EXPECT(create(KTHREAD_MUSTJOIN, &worker) == 0 && worker != NULL);
 	begins = AT_ONCE;
-	EXPECT(lock_count == 0 && blocks == before + 1 && atomic_load(&detached) == detached_before);
-	EXPECT(kthread_join(worker) == 0 && lock_count == 0 && blocks == before && atomic_load(&itself) == worker);
+	EXPECT(blocks == before + 1 && atomic_load(&detached) == detached_before);
+	EXPECT(kthread_join(worker) == 0 && blocks == before && atomic_load(&itself) == worker);
 }
 
 static void work_long(void *arg)
@@ -423,7 +388,7 @@ static void test_refused(void)
 	begins = REFUSED;
 	EXPECT(create(0, &worker) == EAGAIN && create(KTHREAD_MUSTJOIN, &worker) == EAGAIN);
 	begins = AT_ONCE;
-	EXPECT(lock_count == 0 && blocks == before && worker == NULL);
+	EXPECT(blocks == before && worker == NULL);
 }
 
 static atomic_bool created;
@@ -666,7 +631,7 @@ static void test_cpus(void)
 
 int main(void)
 {
-	EXPECT(curlwp != NULL && lock_count == 0);
+	EXPECT(curlwp != NULL);
 	EXPECT(pthread_key_create(&late, judge_end) == 0);
 	test_memory();
 	test_begin_beside();
