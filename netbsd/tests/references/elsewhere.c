@@ -8,7 +8,7 @@
 #include <sys/pserialize.h>
 #include <sys/psref.h>
 
-#include "stops.h"
+#include "test.h"
 
 #include "registry.h"
 #include "wraps.h"
@@ -158,26 +158,8 @@ static void test_spent(void)
 	psref_target_destroy(&next, things);
 }
 
-/* ---- Both counts are used up. ---- */
-
-static char acquires_full[160], copies_full[160];
-
-STOPS(copies_full, struct psref copy; fill(counted); psref_copy(&copy, &counted[0], things))
-STOPS(acquires_full, struct psref psref; fill(counted); fill(elsewhere); psref_acquire(&psref, &target, things))
-
-static void test_stops(void)
-{
-	char text[128];
-	registry_text(REGISTRY_PASSIVE_FULL, text, sizeof(text));
-	snprintf(acquires_full, sizeof(acquires_full), "psref_acquire: %s, at PLACE", text);
-	snprintf(copies_full, sizeof(copies_full), "psref_copy: %s, at PLACE", text);
-	judge_cases(begin);
-	EXPECT(failed == 0);
-}
-
 int main(void)
 {
-	test_stops();
 	begin();
 	looks = true;
 	test_full();
