@@ -231,91 +231,23 @@ static void test_callouts(void)
 	callout_destroy(&callout);
 }
 
-/* A callout with what it did: how often it ran, and where last. */
-struct timer {
-	callout_t callout;
-	atomic_uint runs, cpu;
-};
-
-enum { TIMERS = 3 * KUPALDIZ_CPUS };
-
-static struct timer timers[TIMERS];
-
-static void note_run(void *of)
-{
-	struct timer *timer = of;
-	atomic_store(&timer->cpu, cpu_number());
-	atomic_fetch_add(&timer->runs, 1);
-}
-
-static void reset_on(unsigned cpu, struct timer *timer, int ticks)
-{
-	kupaldiz_bind(cpu);
-	callout_reset(&timer->callout, ticks, note_run, timer);
-	kupaldiz_unbind();
-}
-
-/* Waits until it ran, for some ten seconds at most. */
-static void await_run(struct timer *timer)
-{
-	for (unsigned turn = 0; turn < 100000 && atomic_load(&timer->runs) == 0; turn++)
-		sleep_for(100);
-}
-
-static bool is_stopped(unsigned timer)
-{
-	return timer % 3 == 1;
-}
-
-/* Some pending callouts are stopped, among others, and others are set anew, on another CPU. */
-static void set_timers(void)
-{
-	for (unsigned i = 0; i < TIMERS; i++) {
-		callout_init(&timers[i].callout, CALLOUT_MPSAFE);
-		reset_on(0, &timers[i], 100000);
-	}
-	for (unsigned i = 0; i < TIMERS; i++) {
-		if (is_stopped(i))
-			EXPECT(!callout_stop(&timers[i].callout) && !callout_active(&timers[i].callout));
-		else
-			reset_on(i % KUPALDIZ_CPUS, &timers[i], 2);
-	}
-}
-
-/* What was stopped doesn't run. The others run once each, on the CPU that set them last. */
-static void test_many_callouts(void)
-{
-	set_timers();
-	for (unsigned i = 0; i < TIMERS; i++)
-		if (!is_stopped(i))
-			await_run(&timers[i]);
-	sleep_for(30000);
-	for (unsigned i = 0; i < TIMERS; i++) {
-		EXPECT(atomic_load(&timers[i].runs) == !is_stopped(i));
-		EXPECT(is_stopped(i) || atomic_load(&timers[i].cpu) == i % KUPALDIZ_CPUS);
-		EXPECT(callout_halt(&timers[i].callout, NULL) == !is_stopped(i));
-		callout_destroy(&timers[i].callout);
-	}
-}
-
 /* Halts its own callout without a wait, ends it, and frees it. */
 static void end_itself(void *of)
 {
-	struct timer *timer = of;
-	EXPECT(callout_halt(&timer->callout, NULL));
-	callout_destroy(&timer->callout);
-	spoil(timer, sizeof(*timer));
-	free(timer);
+	EXPECT(callout_halt(of, NULL));
+	callout_destroy(of);
+	spoil(of, sizeof(callout_t));
+	free(of);
 	atomic_fetch_add(&fired, 1);
 }
 
 static void test_callout_ends_itself(void)
 {
-	struct timer *timer = calloc(1, sizeof(*timer));
+	callout_t *own = calloc(1, sizeof(*own));
 	unsigned before = atomic_load(&fired);
-	EXPECT(timer != NULL);
-	callout_init(&timer->callout, CALLOUT_MPSAFE);
-	callout_reset(&timer->callout, 1, end_itself, timer);
+	EXPECT(own != NULL);
+	callout_init(own, CALLOUT_MPSAFE);
+	callout_reset(own, 1, end_itself, own);
 	while (atomic_load(&fired) == before)
 		sleep_for(100);
 }
@@ -438,7 +370,6 @@ int main(void)
 	test_back_from_calls();
 	test_depth();
 	test_callouts();
-	test_many_callouts();
 	test_callout_ends_itself();
 	test_threads();
 	test_joins();

@@ -231,58 +231,6 @@ static void test_memory(void)
 
 static struct guest beside;
 
-static void begin_beside(void)
-{
-	call_in(&beside);
-}
-
-/* Another thread begins as soon as this one has its memory. */
-static void *begin_slowly(void *of)
-{
-	after = begin_beside;
-	*(lwp_t **)of = curlwp;
-	EXPECT(after == NULL);
-	return of;
-}
-
-/* Another thread begins as soon as this one has given its memory back. */
-static void *end_slowly(void *of)
-{
-	*(lwp_t **)of = curlwp;
-	after = begin_beside;
-	return of;
-}
-
-static void test_begin_beside(void)
-{
-	pthread_t thread;
-	lwp_t *slow = NULL;
-	start_thread(&thread, begin_slowly, &slow);
-	end_thread(thread);
-	EXPECT(is_other(&beside, slow));
-	send_off(&beside);
-}
-
-/* What the thread beside has is no other's, whoever comes then. */
-static void test_end_beside(void)
-{
-	pthread_t thread;
-	struct guest others[2];
-	lwp_t *slow = NULL;
-	atomic_store(&beside.lwp, NULL);
-	start_thread(&thread, end_slowly, &slow);
-	end_thread(thread);
-	EXPECT(slow != NULL && atomic_load(&beside.lwp) != NULL);
-	for (unsigned i = 0; i < 2; i++) {
-		call_in(&others[i]);
-		EXPECT(is_other(&beside, atomic_load(&others[i].lwp)));
-	}
-	EXPECT(is_other(&others[0], atomic_load(&others[1].lwp)));
-	for (unsigned i = 0; i < 2; i++)
-		send_off(&others[i]);
-	send_off(&beside);
-}
-
 /* The thread sanitizer is gone before what the layer keeps of such a thread. */
 #ifndef __SANITIZE_THREAD__
 
@@ -634,8 +582,6 @@ int main(void)
 	EXPECT(curlwp != NULL);
 	EXPECT(pthread_key_create(&late, judge_end) == 0);
 	test_memory();
-	test_begin_beside();
-	test_end_beside();
 	test_unjoined();
 	test_joined();
 	test_join_waits();
