@@ -247,8 +247,7 @@ static void test_rxintr(void)
 	rx_init();
 	void *listener = rx_listen(input_all, &received);
 	run_beside(interrupt_all, change_listeners);
-	while (atomic_load(&received) < THREADS * PACKETS)
-		sleep_for(50);
+	await_least(&received, THREADS * PACKETS);
 	rx_unlisten(listener);
 	rx_fini();
 	EXPECT(atomic_load(&received) == THREADS * PACKETS);

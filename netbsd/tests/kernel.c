@@ -215,8 +215,7 @@ static void test_callouts(void)
 	callout_reset(&callout, 100000, fire, &fired);
 	EXPECT(callout_pending(&callout) && callout_active(&callout));
 	callout_reset(&callout, 1, fire, &fired);
-	while (atomic_load(&fired) == 0)
-		sleep_for(100);
+	await_least(&fired, 1);
 	EXPECT(callout_expired(&callout) && !callout_pending(&callout) && !callout_invoking(&callout));
 	EXPECT(callout_stop(&callout) && !callout_expired(&callout));
 	callout_schedule(&callout, 100000);
@@ -273,8 +272,7 @@ static void test_joins(void)
 	lwp_t *workers[4];
 	for (unsigned i = 0; i < 4; i++) {
 		EXPECT(kthread_create(PRI_NONE, KTHREAD_MUSTJOIN, NULL, end_as, &ran[i], &workers[i], "worker%u", i) == 0);
-		while (atomic_load(&ran[i]) == 0)
-			sleep_for(100);
+		await_least(&ran[i], 1);
 		sleep_for(1000);
 		for (unsigned other = 0; other < i; other++)
 			EXPECT(workers[other] != workers[i]);
@@ -351,6 +349,17 @@ static void test_copies(void)
 	EXPECT(copyoutstr("xy", user, sizeof(user), NULL) == 0 && strcmp(user, "xy") == 0 && copyoutstr("xy", NULL, 3, NULL) == EFAULT);
 }
 
+/* The first address that may be the user's. Of no bytes nothing is copied, so that what lies there isn't touched, and NULL is right. */
+static void test_empty_copies(void)
+{
+	char *const first = (char *)(uintptr_t)4096, *const last = (char *)(uintptr_t)4095, here = 'a';
+	size_t copied = 7;
+	EXPECT(copyoutstr("text", last, 0, &copied) == EFAULT && copied == 7);
+	EXPECT(copyoutstr("text", first, 0, &copied) == ENAMETOOLONG && copied == 0);
+	EXPECT(copyoutstr("text", NULL, 0, NULL) == EFAULT && copyoutstr("text", first, 0, NULL) == ENAMETOOLONG);
+	EXPECT(copyin(NULL, first, 0) == 0 && copyout(&here, NULL, 0) == 0 && copyin(&here, NULL, 0) == 0 && copyout(NULL, first, 0) == 0);
+}
+
 static void test_strings(void)
 {
 	char text[5] = "";
@@ -375,6 +384,7 @@ int main(void)
 	test_joins();
 	test_lists();
 	test_copies();
+	test_empty_copies();
 	test_strings();
 	cv_destroy(&cv);
 	mutex_destroy(&lock);

@@ -94,8 +94,7 @@ static void run_on_4(void)
 	kupaldiz_bind(4);
 	softint_schedule(cookie);
 	kupaldiz_unbind();
-	while (!atomic_load(&runs))
-		sleep_for(100);
+	await_flag(&runs);
 }
 THREAD(end_softint, softint_disestablish(cookie))
 STOPS("softint_schedule: the soft interrupt is not established, at PLACE",

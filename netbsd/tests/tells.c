@@ -47,8 +47,7 @@ static int64_t milliseconds(void)
 
 static void await_ready(void)
 {
-	while (!atomic_load(&ready))
-		sleep_for(100);
+	await_flag(&ready);
 }
 
 static void await_told(void)
@@ -176,8 +175,7 @@ THREAD(refer_beside,
 HOLDER(refer_to_two,
     pthread_t beside; psref_target_init(&next, things); psref_acquire(&first, &target, things); psref_acquire(&second, &next, things);
     start_thread(&beside, refer_beside, NULL);
-    while (!atomic_load(&joined))
-	    sleep_for(100);
+    await_flag(&joined);
     keep(); psref_release(&first, &target, things); psref_release(&second, &next, things); end_thread(beside))
 WAITS("psref_target_destroy: waits for CPU 3, whose thread \"bridge_ioctl\" holds one reference, acquired at PLACE",
     BESIDE("bridge_ioctl", refer_to_two, psref_target_destroy(&target, things)))
@@ -196,8 +194,7 @@ WAITS("psref_target_destroy: waits for CPU 3, whose thread \"ifconfig\" holds on
 THREAD(keep_first, kupaldiz_bind(0); kpreempt_disable(); atomic_store(&taken, true); await_told(); kpreempt_enable())
 WAITS("psref_target_destroy: waits for CPU 3, whose thread \"ifconfig\" holds one reference, acquired at PLACE",
     pthread_t keeper; start_thread(&keeper, keep_first, NULL);
-    while (!atomic_load(&taken))
-	    sleep_for(100);
+    await_flag(&taken);
     BESIDE("ifconfig", refer_elsewhere, psref_target_destroy(&target, things)); end_thread(keeper))
 
 HOLDER(count_long, localcount_acquire(&count); keep(); release_count())

@@ -20,6 +20,18 @@ static inline void sleep_for(long microseconds)
 	nanosleep(&time, NULL);
 }
 
+static inline void await_flag(atomic_bool *flag)
+{
+	while (!atomic_load(flag))
+		sleep_for(50);
+}
+
+static inline void await_least(atomic_uint *number, unsigned least)
+{
+	while (atomic_load(number) < least)
+		sleep_for(50);
+}
+
 /* Writes over a block that is given back next. The compiler would leave out a plain memset before a free. */
 static inline void spoil(void *block, size_t size)
 {

@@ -225,8 +225,7 @@ static void test_condvars(void)
 	plain = 0;
 	for (unsigned i = 0; i < THREADS; i++)
 		start_thread(&threads[i], wait_and_count, NULL);
-	while (atomic_load(&waiting) < THREADS)
-		sleep_for(50);
+	await_least(&waiting, THREADS);
 	mutex_enter(&lock);
 	EXPECT(cv_has_waiters(&cv) && cv_is_valid(&cv));
 	cv_signal(&cv);
@@ -375,8 +374,7 @@ static void call_member(struct member *member)
 	member->called = true;
 	cv_signal(&member->cv);
 	mutex_exit(&member->lock);
-	while (!atomic_load(&member->gone))
-		sleep_for(50);
+	await_flag(&member->gone);
 	while (atomic_load(&left) == before)
 		sleep_for(50);
 	EXPECT(atomic_load(&left) == before + 1);
@@ -391,8 +389,7 @@ static void test_crowd(void)
 		mutex_enter(&crowd[i].lock);
 		start_thread(&threads[i], wait_in_crowd, &crowd[i]);
 	}
-	while (atomic_load(&came) < CROWD)
-		sleep_for(100);
+	await_least(&came, CROWD);
 	sleep_for(20000);
 	for (unsigned i = 0; i < CROWD; i++)
 		mutex_exit(&crowd[i * 7 % CROWD].lock);

@@ -211,8 +211,7 @@ static atomic_bool goes;
 static void stay(void *arg)
 {
 	atomic_fetch_add(&runs, 1);
-	while (!atomic_load(&goes))
-		sleep_for(100);
+	await_flag(&goes);
 	(void)arg;
 }
 

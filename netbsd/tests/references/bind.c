@@ -46,6 +46,7 @@ static void refer(unsigned round)
 	psref_release(round % 2 == 0 ? &first : &second, &target, things);
 	EXPECT(psref_held(&target, things));
 	psref_release(round % 2 == 0 ? &second : &first, &target, things);
+	EXPECT(first.psref_target == NULL && second.psref_target == NULL && target.prt_class == things);
 }
 
 /* Bound, once all are. */
@@ -55,8 +56,7 @@ static void *work_bound(void *arg)
 	unsigned cpu = cpu_number();
 	EXPECT(before == 0 && cpu < KUPALDIZ_CPUS && cpu_index(curcpu()) == cpu);
 	atomic_fetch_add(&bound, 1);
-	while (atomic_load(&bound) < THREADS)
-		sleep_for(100);
+	await_least(&bound, THREADS);
 	for (unsigned round = 0; round < ROUNDS; round++) {
 		int again = curlwp_bind();
 		EXPECT(again == 1 && cpu_number() == cpu);
@@ -145,6 +145,7 @@ int main(void)
 	}
 	test_locked();
 	psref_target_destroy(&target, things);
+	EXPECT(target.prt_class == NULL);
 	psref_class_destroy(things);
 	EXPECT(atomic_load(&unbound_sections) == 4 * ROUNDS);
 	printf("%d bound threads shared %d CPUs\n", THREADS, KUPALDIZ_CPUS);

@@ -169,8 +169,7 @@ static void drain_under_section(void)
 	atomic_store(&inside, false);
 	mutex_enter(&object->lock);
 	start_thread(&reader, leave_section, object);
-	while (!atomic_load(&inside))
-		sleep_for(50);
+	await_flag(&inside);
 	localcount_drain(&object->count, &object->cv, &object->lock);
 	mutex_exit(&object->lock);
 	end_thread(reader);

@@ -6,16 +6,38 @@
  */
 #include <fcntl.h>
 #include <stdarg.h>
+#include <sys/cpu.h>
 #include <sys/prctl.h>
 #include <sys/psref.h>
+#include <sys/systm.h>
 
-#include "free_cpus.h"
 #include "stops.h"
 
 #include "registry.h"
 #include "wraps.h"
 
 enum { LAST = KUPALDIZ_CPUS - 1, NOBODY = KUPALDIZ_CPUS, A_LOOK = 1000000 };
+
+/* Whether a CPU is free: a thread that isn't bound takes a CPU that is, first that where it was last. */
+static void *take_one(void *of)
+{
+	unsigned cpu = *(unsigned *)of;
+	kupaldiz_bind(cpu);
+	kupaldiz_unbind();
+	kpreempt_disable();
+	*(unsigned *)of = cpu_number();
+	kpreempt_enable();
+	return of;
+}
+
+static bool is_free(unsigned cpu)
+{
+	pthread_t other;
+	unsigned got = cpu;
+	start_thread(&other, take_one, &got);
+	end_thread(other);
+	return got == cpu;
+}
 
 static struct psref_class *things;
 static struct psref_target target;

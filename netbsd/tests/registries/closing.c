@@ -106,8 +106,7 @@ static void leave_all(void)
 			localcount_acquire(&counts[i]);
 	}
 	start_thread(&thread, stay_inside, NULL);
-	while (!atomic_load(&inside))
-		sleep_for(100);
+	await_flag(&inside);
 	for (unsigned turn = 0; turn < 2; turn++)
 		EXPECT(registry_enter(&cpus[0].bank->cpus[0].cpu) == REGISTRY_DONE);
 }

@@ -213,8 +213,7 @@ static void test_moved(void)
 {
 	pthread_t reader, performer;
 	start_thread(&reader, read_moved, NULL);
-	while (atomic_load(&step) == 0)
-		sleep_for(100);
+	await_least(&step, 1);
 	start_thread(&performer, perform_it, NULL);
 	sleep_for(20000);
 	EXPECT(atomic_load(&performed) == 0);

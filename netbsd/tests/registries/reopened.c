@@ -1,5 +1,6 @@
 /*
- * reopened - a registry whose changes are used up is opened anew once it is empty, and no earlier than the last call on it has returned
+ * reopened - a target goes into a registry that has room; one whose changes are used up is opened anew once it is empty, and no earlier than the last call on
+ * it has returned
  *
  * Over a layer whose registries have four rows and forty changes. A release of the last reference loses its processor just before it returns. The linker leads
  * registry_release and registry_close_cpu here (--wrap).
@@ -42,17 +43,20 @@ uint32_t __wrap_registry_close_cpu(struct registry_cpu *cpu)
 
 static const struct registry_keeper *first_keeper;	/* of the first registry */
 static bool first_closed;
+static unsigned registries;	/* that are open */
 
 uint32_t __wrap_registry_open(const struct registry_settings *settings, struct registry_keeper *keeper, struct registry_cpu *cpus, size_t count)
 {
 	if (first_keeper == NULL)
 		first_keeper = keeper;
+	registries++;
 	return __real_registry_open(settings, keeper, cpus, count);
 }
 
 uint32_t __wrap_registry_close_keeper(struct registry_keeper *keeper)
 {
 	first_closed |= keeper == first_keeper;
+	registries--;
 	return __real_registry_close_keeper(keeper);
 }
 
@@ -62,8 +66,7 @@ static void *hold(void *arg)
 	kupaldiz_bind(3);
 	psref_acquire(&psref, &last, things);
 	atomic_store(&held, true);
-	while (!atomic_load(&destroying))
-		sleep_for(50);
+	await_flag(&destroying);
 	sleep_for(2000);
 	is_slow = true;
 	psref_release(&psref, &last, things);
@@ -83,8 +86,7 @@ static void end_last(void)
 	atomic_store(&held, false);
 	atomic_store(&destroying, false);
 	start_thread(&holder, hold, NULL);
-	while (!atomic_load(&held))
-		sleep_for(50);
+	await_flag(&held);
 	atomic_store(&destroying, true);
 	psref_target_destroy(&last, things);
 	end_thread(holder);
@@ -132,9 +134,26 @@ static void end_sections(void)
 	EXPECT(first_closed);
 }
 
+/* So many targets begin, and end: after each one there are as many registries as they fill. Rooms come free in each, and are taken again. A registry whose
+ * changes are used up may have one beside it meanwhile. */
+static void fill_registries(void)
+{
+	enum { TARGETS = 2 * FIRST_ROWS + 1 };
+	static struct psref_target targets[TARGETS];
+	for (unsigned round = 0; round < 100; round++) {
+		for (unsigned i = 0; i < TARGETS; i++) {
+			psref_target_init(&targets[i], things);
+			EXPECT(round == 0 ? registries == i / FIRST_ROWS + 1 : registries <= 2 * (TARGETS / FIRST_ROWS + 1));
+		}
+		for (unsigned i = 0; i < TARGETS; i++)
+			psref_target_destroy(&targets[i], things);
+	}
+}
+
 int main(void)
 {
 	things = psref_class_create("thing", IPL_NONE);
+	fill_registries();
 	/* The first registry has the sections of all CPUs, and stays. */
 	for (unsigned i = 0; i < FIRST_ROWS; i++)
 		psref_target_init(&first[i], things);

@@ -125,8 +125,7 @@ static void *hold_all(void *arg)
 	mutex_enter(&lock);
 	int s = pserialize_read_enter();
 	atomic_store(&ready, true);
-	while (!atomic_load(&over))
-		sleep_for(100);
+	await_flag(&over);
 	pserialize_read_exit(s);
 	cv_broadcast(&cv);
 	mutex_exit(&lock);
@@ -156,8 +155,7 @@ static void await_runs(void)
 static void await_over(void)
 {
 	atomic_store(&runs, true);
-	while (!atomic_load(&over))
-		sleep_for(100);
+	await_flag(&over);
 }
 
 static void add_one(void *count_of, void *other)
@@ -212,8 +210,7 @@ static void test_cancelled(void (**wait)(void))
 	atomic_store(&runs, false);
 	atomic_store(&has_waited, false);
 	start_thread(&holder, hold_all, NULL);
-	while (!atomic_load(&ready))
-		sleep_for(100);
+	await_flag(&ready);
 	EXPECT(pthread_create(&waiter, NULL, wait_in, wait) == 0);
 	while (!atomic_load(&has_waited) && atomic_load(&given_back) == before)
 		sleep_for(100);
@@ -263,8 +260,7 @@ static void test_cancelled_early(void)
 	start_thread(&thread, schedule_cancelled, cookie);
 	EXPECT(pthread_join(thread, &answer) == 0 && answer == PTHREAD_CANCELED && atomic_load(&given_back) == before + 1);
 	softint_schedule(cookie);
-	while (atomic_load(&ran) < 2)
-		sleep_for(100);
+	await_least(&ran, 2);
 	softint_disestablish(cookie);
 }
 

@@ -10,6 +10,7 @@
 #include <sys/percpu.h>
 #include <sys/pool.h>
 #include <sys/pserialize.h>
+#include <sys/psref.h>
 #include <sys/systm.h>
 
 #include "stops.h"
@@ -69,6 +70,9 @@ static void give_back_blocks(void)
 	EXPECT(blocks == before);
 	kmem_strfree(kmem_strdup("bridge", KM_SLEEP));
 	kmem_strfree(NULL);
+	EXPECT(blocks == before);
+	psref_class_destroy(psref_class_create("thing", IPL_NONE));
+	pserialize_destroy(pserialize_create());
 	EXPECT(blocks == before);
 }
 STOPS("panic: each block was given back, at PLACE", give_back_blocks(); panic("each block was given back"))

@@ -90,8 +90,7 @@ THREAD(name_and_keep, EXPECT(prctl(PR_SET_NAME, arg) == 0); keep_lock(NULL))
 
 static void destroy_taken(void)
 {
-	while (!atomic_load(&ready))
-		sleep_for(100);
+	await_flag(&ready);
 	mutex_destroy(&lock);
 }
 

@@ -95,8 +95,7 @@ static void *(*awaited)(void *);
 
 static void *begin_awaited(void *arg)
 {
-	while (!atomic_load(&waited))
-		sleep_for(50);
+	await_flag(&waited);
 	return awaited(arg);
 }
 
@@ -166,8 +165,7 @@ static void *stay(void *of)
 	lwp_t *lwp = curlwp;
 	EXPECT(lwp == curlwp && attributes == NULL);
 	atomic_store(&guest->lwp, lwp);
-	while (!atomic_load(&guest->leaves))
-		sleep_for(50);
+	await_flag(&guest->leaves);
 	return of;
 }
 
@@ -313,8 +311,7 @@ static void test_joined(void)
 static void work_long(void *arg)
 {
 	EXPECT(arg == NULL);
-	while (!atomic_load(&has_slept))
-		sleep_for(50);
+	await_flag(&has_slept);
 	kthread_exit(0);
 }
 
@@ -405,8 +402,7 @@ static void *take_and_end(void *of)
 
 static void await_gone(void)
 {
-	while (!atomic_load(&gone))
-		sleep_for(50);
+	await_flag(&gone);
 }
 
 /* Whoever gives the lock back loses its processor at once, until the lock is gone. No level is left behind. */
@@ -419,8 +415,7 @@ static void test_gone(int level)
 	mutex_init(&lock, MUTEX_DEFAULT, level);
 	mutex_enter(&lock);
 	start_thread(&thread, take_and_end, &lock);
-	while (!atomic_load(&waited))
-		sleep_for(50);
+	await_flag(&waited);
 	after = await_gone;
 	mutex_exit(&lock);
 	EXPECT(after == NULL && atomic_load(&gone));
