@@ -15,7 +15,6 @@
 #include <sys/proc.h>
 #include <sys/pserialize.h>
 #include <sys/pslist.h>
-#include <sys/queue.h>
 #include <sys/xcall.h>
 
 #include "test.h"
@@ -298,20 +297,17 @@ static void test_threads(void)
 
 struct item {
 	struct pslist_entry link;
-	TAILQ_ENTRY(item) queue;
 	unsigned value;
 };
 
 static void test_lists(void)
 {
 	struct pslist_head head = PSLIST_INITIALIZER;
-	TAILQ_HEAD(items, item) queue = TAILQ_HEAD_INITIALIZER(queue);
-	struct item items[4], *at, *after;
+	struct item items[4], *at;
 	unsigned order = 0;
 	for (unsigned i = 0; i < 4; i++) {
 		items[i].value = i + 1;
 		PSLIST_ENTRY_INIT(&items[i], link);
-		TAILQ_INSERT_TAIL(&queue, &items[i], queue);
 	}
 	EXPECT(PSLIST_READER_EMPTY(&head) && PSLIST_WRITER_EMPTY(&head) && PSLIST_READER_FIRST(&head, struct item, link) == NULL);
 	PSLIST_WRITER_INSERT_HEAD(&head, &items[1], link);
@@ -331,9 +327,6 @@ static void test_lists(void)
 	while ((at = PSLIST_WRITER_FIRST(&head, struct item, link)) != NULL)
 		PSLIST_WRITER_REMOVE(at, link);
 	PSLIST_DESTROY(&head);
-	TAILQ_FOREACH_SAFE(at, &queue, queue, after)
-		TAILQ_REMOVE(&queue, at, queue);
-	EXPECT(TAILQ_EMPTY(&queue));
 }
 
 static void test_copies(void)

@@ -113,19 +113,18 @@ static void await_ready(void)
 		sleep_for(100);
 }
 
-/* Starts a thread that doesn't end, and waits until it is ready. */
-static void start(void *(*body)(void *))
-{
-	pthread_t thread;
-	start_thread(&thread, body, NULL);
-	await_ready();
-}
-
-/* The same, of one that doesn't say when it is ready. */
+/* Starts a thread that doesn't end. */
 static void start_alone(void *(*body)(void *))
 {
 	pthread_t thread;
 	start_thread(&thread, body, NULL);
+}
+
+/* The same, until it is ready. */
+static void start(void *(*body)(void *))
+{
+	start_alone(body);
+	await_ready();
 }
 
 static void on_two_threads(void *(*body)(void *))

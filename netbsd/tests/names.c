@@ -215,6 +215,9 @@ static void test_tailq(void)
 	ORDER(order, at, TAILQ_FOREACH_REVERSE(at, &head, tails, tail));
 	EXPECT(order == 5341 && TAILQ_NEXT(&elements[0], tail) == &elements[3] && TAILQ_PREV(&elements[3], tails, tail) == &elements[0]);
 	TAILQ_FOREACH_REVERSE_SAFE(at, &head, tails, tail, before)
+		if (at != &elements[0])
+			TAILQ_REMOVE(&head, at, tail);
+	TAILQ_FOREACH_SAFE(at, &head, tail, before)
 		TAILQ_REMOVE(&head, at, tail);
 	EXPECT(TAILQ_EMPTY(&head));
 }

@@ -45,11 +45,6 @@ static int64_t milliseconds(void)
 	return (int64_t)now.tv_sec * 1000 + now.tv_nsec / 1000000;
 }
 
-static void await_ready(void)
-{
-	await_flag(&ready);
-}
-
 static void await_told(void)
 {
 	for (unsigned turn = 0; turn < 10000 && !atomic_load(&told); turn++)
@@ -102,7 +97,7 @@ static pthread_t hold(const char *name, void *(*body)(void *))
 	pthread_t thread;
 	given = name;
 	start_thread(&thread, body, &given);
-	await_ready();
+	await_flag(&ready);
 	return thread;
 }
 
@@ -235,10 +230,10 @@ WAITS("percpu_getref: waits for CPU 3, whose thread \"raised\" keeps it",
 	percpu_free(percpu, 8)))
 HANDLER(handle_long, keep())
 WAITS("softint_disestablish: waits for its handler",
-    void *cookie = softint_establish(SOFTINT_NET, handle_long, NULL); softint_schedule(cookie); await_ready(); softint_disestablish(cookie))
+    void *cookie = softint_establish(SOFTINT_NET, handle_long, NULL); softint_schedule(cookie); await_flag(&ready); softint_disestablish(cookie))
 static callout_t callout;
 WAITS("callout_halt: waits for CPU 4, which runs it",
-    kupaldiz_bind(4); callout_init(&callout, CALLOUT_MPSAFE); callout_reset(&callout, 1, handle_long, NULL); kupaldiz_unbind(); await_ready();
+    kupaldiz_bind(4); callout_init(&callout, CALLOUT_MPSAFE); callout_reset(&callout, 1, handle_long, NULL); kupaldiz_unbind(); await_flag(&ready);
     callout_halt(&callout, NULL))
 HANDLER(exit_after_long, keep(); kthread_exit(0))
 WAITS("kthread_join: waits for thread \"worker\" to end",

@@ -2,10 +2,9 @@
  * threads - what the layer keeps of threads, and the CPU that a thread gets: memory that is used again, and never by two at once; a thread of
  * kthread_create's until its join; the CPU that is free, or has the fewest bound threads
  *
- * The linker leads locks, condition variables, memory, pthread_create, pthread_detach and nanosleep here (--wrap). A thread may do something once it has
+ * The linker leads locks, condition variables, memory, pthread_create and pthread_detach here (--wrap). A thread may do something once it has
  * given a lock back, while its call goes on.
  */
-#include <errno.h>
 #include <limits.h>
 #include <sys/cpu.h>
 #include <sys/intr.h>
@@ -89,8 +88,8 @@ void __wrap_free(void *block)
 	__real_free(block);
 }
 
-/* How a thread begins that this one starts: at once, only when somebody waits, or not at all. */
-static _Thread_local enum { AT_ONCE, AWAITED, REFUSED } begins;
+/* How a thread begins that this one starts: at once, or only when somebody waits. */
+static _Thread_local enum { AT_ONCE, AWAITED } begins;
 static void *(*awaited)(void *);
 
 static void *begin_awaited(void *arg)
@@ -101,8 +100,6 @@ static void *begin_awaited(void *arg)
 
 int __wrap_pthread_create(pthread_t *thread, const pthread_attr_t *how, void *(*body)(void *), void *arg)
 {
-	if (begins == REFUSED)
-		return EAGAIN;
 	if (begins == AT_ONCE)
 		return __real_pthread_create(thread, how, body, arg);
 	atomic_store(&waited, false);
@@ -116,19 +113,6 @@ int __wrap_pthread_detach(pthread_t thread)
 {
 	atomic_fetch_add(&detached, 1);
 	return __real_pthread_detach(thread);
-}
-
-/* Whether this thread is in kthread_join, and whether such a one has slept. */
-static _Thread_local bool joins;
-static atomic_bool has_slept;
-
-int __wrap_nanosleep(const struct timespec *time, struct timespec *rest)
-{
-	if (joins) {
-		EXPECT(!is_cancellable());
-		atomic_store(&has_slept, true);
-	}
-	return __real_nanosleep(time, rest);
 }
 
 /* ---- Memory of threads. ---- */
@@ -306,34 +290,6 @@ static void test_joined(void)
 	begins = AT_ONCE;
 	EXPECT(blocks == before + 1 && atomic_load(&detached) == detached_before);
 	EXPECT(kthread_join(worker) == 0 && blocks == before && atomic_load(&itself) == worker);
-}
-
-static void work_long(void *arg)
-{
-	EXPECT(arg == NULL);
-	await_flag(&has_slept);
-	kthread_exit(0);
-}
-
-/* It goes on until the thread that joins it sleeps. That one can't be cancelled meanwhile. */
-static void test_join_waits(void)
-{
-	lwp_t *worker = NULL;
-	EXPECT(kthread_create(PRI_NONE, KTHREAD_MUSTJOIN, NULL, work_long, NULL, &worker, "worker") == 0 && is_cancellable());
-	joins = true;
-	EXPECT(kthread_join(worker) == 0 && atomic_load(&has_slept));
-	joins = false;
-	EXPECT(is_cancellable());
-}
-
-static void test_refused(void)
-{
-	lwp_t *worker = NULL;
-	unsigned before = blocks;
-	begins = REFUSED;
-	EXPECT(create(0, &worker) == EAGAIN && create(KTHREAD_MUSTJOIN, &worker) == EAGAIN);
-	begins = AT_ONCE;
-	EXPECT(blocks == before && worker == NULL);
 }
 
 static atomic_bool created;
@@ -579,8 +535,6 @@ int main(void)
 	test_memory();
 	test_unjoined();
 	test_joined();
-	test_join_waits();
-	test_refused();
 	test_cancelled();
 	test_joined_early();
 	test_gone(IPL_NONE);
