@@ -146,6 +146,9 @@ static void (*waits[MOST_WAITS])(void);
 static unsigned wait_count;
 static atomic_bool runs;
 
+/* Without a sleep, which would be taken for one of the call's. */
+static void await_runs(void) { while (!atomic_load(&runs)) { } }
+
 static void await_over(void)
 {
 	atomic_store(&runs, true);
@@ -178,9 +181,9 @@ IN(unsigned calls = 0; xc_wait(xc_broadcast(0, add_one, &calls, NULL)); xc_wait(
 IN(while (!atomic_load(&over)) EXPECT(kpause("wait", false, 1, NULL) == EWOULDBLOCK))
 IN(lwp_t *worker; EXPECT(kthread_create(PRI_NONE, KTHREAD_MUSTJOIN, NULL, exit_when_over, NULL, &worker, "worker") == 0);
     EXPECT(kthread_join(worker) == 0))
-IN(void *cookie = softint_establish(SOFTINT_NET, run_until_over, NULL); kupaldiz_bind(4); softint_schedule(cookie); await_flag(&runs);
+IN(void *cookie = softint_establish(SOFTINT_NET, run_until_over, NULL); kupaldiz_bind(4); softint_schedule(cookie); await_runs();
     softint_disestablish(cookie))
-IN(static callout_t callout; kupaldiz_bind(4); callout_init(&callout, CALLOUT_MPSAFE); callout_reset(&callout, 1, run_until_over, NULL); await_flag(&runs);
+IN(static callout_t callout; kupaldiz_bind(4); callout_init(&callout, CALLOUT_MPSAFE); callout_reset(&callout, 1, run_until_over, NULL); await_runs();
     callout_halt(&callout, NULL); callout_destroy(&callout))
 
 /* Waits in one of the calls while it is cancelled: the call ends as without, and then the thread does. */
