@@ -86,7 +86,7 @@ static void test_levels_of_locks(void)
 	for (unsigned i = 0; i < sizeof(each) / sizeof(each[0]); i++) {
 		kmutex_t of_level;
 		mutex_init(&of_level, each[i].type, each[i].level);
-		EXPECT(mutex_tryenter(&of_level) && kpreempt_disabled() == (each[i].raised != IPL_NONE));
+		EXPECT(mutex_tryenter(&of_level) == 1 && kpreempt_disabled() == (each[i].raised != IPL_NONE));
 		int s = splsoftclock();
 		EXPECT(s == each[i].raised);
 		splx(s);

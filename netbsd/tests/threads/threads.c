@@ -211,11 +211,10 @@ static void test_memory(void)
 	EXPECT(atomic_load(&blocks_taken) == before);
 }
 
-static struct guest beside;
-
 /* The thread sanitizer is gone before what the layer keeps of such a thread. */
 #ifndef __SANITIZE_THREAD__
 
+static struct guest beside;
 static lwp_t *again;	/* what the layer kept of the thread: it isn't given back */
 
 /* It calls once more after the layer has ended it. What it had is another's by then. */
